@@ -1,8 +1,6 @@
 -- The forms of kernels and scripts that the program runs today. Each part of the program that is built widens them, until they are all forms.
 use Rattle.std.specs.Prelude.{ℕ, ◌+◌, ◌≡◌, ◌≤◌, Bool, true, false, ◌&&◌, ◌||◌, not, nat_eq, IsTrue, List, [], ◌∷◌, map, length, sum, Option, None, Some}
 use Rattle.std.specs.List.{list_all}
-use Rattle.frame_ast.specs.declared.kernel.ParamKind.{ParamKind}
-use Rattle.frame_ast.specs.declared.kernel.ParamKind.TheVariants.{Int, Array, List as KindList, Ref, Map, Stream}
 use Rattle.frame_ast.specs.declared.kernel.Param.{Param}
 use Rattle.frame_ast.specs.declared.kernel.Kernel.{Kernel}
 use Rattle.frame_ast.specs.declared.kernel.Operator.{Operator}
@@ -128,5 +126,7 @@ pub record IsPlain (script : Script) : Type 0 where
   pub orders : IsTrue (plain_orders (map (λ x. x.act) script.statements.items))
   -- so that there is room for every array
   pub lengths : sum (map (λ x. array_length x.act) script.statements.items) ≤ 1048576
-  -- the job doesn't trap
-  pub traps : (final (setting script no_table) script.statements.items).traps ≡ []
+
+-- no job of the script traps
+abbrev pub HasNoTrap : Script → Type 0
+HasNoTrap script = (final (setting script no_table) script.statements.items).traps ≡ []
