@@ -10,9 +10,9 @@ use Rattle.frame_ast.specs.declared.kernel.Stmt.{Stmt}
 use Rattle.frame_ast.specs.declared.kernel.Stmt.TheOpen.{Stmt-F, Assign, SetValue, Store, Add, AddPair, TryAdd, RemoveAt, RemoveKey, Clear, Write, Begin, If, For, While}
 use Rattle.frame_ast.specs.declared.kernel.Stmt.TheViews.{roll-Stmt}
 use Rattle.frame_ast.specs.declared.kernel.Stmt.TheFolds.{map-Stmt, fold-roll-Stmt, ind-Stmt}
-use Rattle.frame_ast.specs.JobSets.{member}
+use Rattle.frame_ast.specs.Lists.{member, all_true}
 use Rattle.frame_ast.specs.Checked.{Demand, written_value, written_elements, written_list, written_map, changed_map, clearable, written_stream, kind_meets, access_meets, param_meets, meets, expr_fits, all_fit, statement_fits, stmt_fits, is_read, may_write, written_param, IsChecked}
-use Rattle.frame_ast.specs.Simulation.{all_true, changes_within, stmt_within, body_within}
+use Rattle.frame_ast.specs.Simulation.{changes_within, stmt_within, body_within}
 use Rattle.frame_ast.proofs.Simulation.{and_left, and_right}
 
 both_true : (a b : Bool) → a ≡ true → b ≡ true → (a && b) ≡ true

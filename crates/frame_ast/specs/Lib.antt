@@ -1,9 +1,11 @@
+pub mod Lists
 pub mod Contents
 pub mod Expressions
 pub mod Kernels
 pub mod Arguments
 pub mod JobRuns
-pub mod JobSets
+pub mod Jobs
+pub mod Conflicts
 pub mod States
 pub mod Schedules
 pub mod Texts

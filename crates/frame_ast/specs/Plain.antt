@@ -17,11 +17,10 @@ use Rattle.frame_ast.specs.declared.script.Arg.TheVariants.{Name, Number as ArgN
 use Rattle.frame_ast.specs.declared.script.Order.{Order}
 use Rattle.frame_ast.specs.declared.script.Order.TheVariants.{Array as NewArray, Schedule, Complete, Print}
 use Rattle.frame_ast.specs.declared.script.Script.{Script}
-use Rattle.frame_ast.specs.JobSets.{member}
+use Rattle.frame_ast.specs.Lists.{member, all_true}
 use Rattle.frame_ast.specs.Schedules.{is_array}
 use Rattle.frame_ast.specs.Orders.{setting, no_table}
 use Rattle.frame_ast.specs.Scripts.{final}
-use Rattle.frame_ast.specs.Simulation.{all_true}
 
 -- KERNELS: `job` kernels over arrays; `x[e] = f` and `for`; Numbers, loop variables, `x[e]`, `len(x)` and products
 

@@ -1,9 +1,10 @@
 -- Two ways to keep arguments, related by R.
-use Rattle.std.specs.Prelude.{◌≡◌, ℕ, ℤ, Bool, true, ◌&&◌, IsTrue, List, [], ◌∷◌, map, Result, Ok, Err}
+use Rattle.std.specs.Prelude.{◌≡◌, ℕ, ℤ, Bool, true, ◌&&◌, IsTrue, List, map, Result, Ok, Err}
 use Rattle.job_base.specs.declared.Trap.{Trap}
 use Rattle.frame_ast.specs.declared.kernel.Stmt.{Stmt}
 use Rattle.frame_ast.specs.declared.kernel.Stmt.TheOpen.{Stmt-F, Assign, SetValue, Store, Add, AddPair, TryAdd, RemoveAt, RemoveKey, Clear, Write, Begin, If, For, While}
 use Rattle.frame_ast.specs.declared.kernel.Stmt.TheFolds.{fold-Stmt}
+use Rattle.frame_ast.specs.Lists.{all_true}
 use Rattle.frame_ast.specs.Expressions.{Operations}
 use Rattle.frame_ast.specs.Kernels.{State, Outcome, Action, Goes, Traps}
 
@@ -33,10 +34,6 @@ pub record Simulates {S T : Type 0} (R : S → T → Type 0) (writes : ℕ → B
   pub write : (x : ℕ) (i v : ℤ) (s : S) (t : T) → IsTrue (writes x) → R s t → AlikeResults R (p.write x i v s) (q.write x i v t)
 
 -- whether a statement changes only parameters that may be written
-abbrev pub all_true : List Bool → Bool
-all_true [] = true
-all_true (b ∷ more) = b && all_true more
-
 abbrev pub changes_within : (ℕ → Bool) → Stmt-F Bool → Bool
 changes_within writes (Assign k e) = true
 changes_within writes (SetValue x e) = writes x
