@@ -1,0 +1,54 @@
+-- The tokens of a file: from left to right, the longest first.
+use Rattle.std.specs.Prelude.{◌==◌, ℕ, ◌+◌, ◌-◌, max, zero, suc, List, [], ◌∷◌, ◌++◌, length, take, Option, Some, None, nat_eq, if◌then◌else◌, slice_range}
+use Rattle.std.specs.List.{starts_with}
+use Rattle.frame_grammar.specs.declared.TokenKind.{TokenKind}
+use Rattle.frame_grammar.specs.declared.TokenKind.TheVariants.{End, Bad}
+use Rattle.kernel_code.specs.declared.token.Token.{Token}
+use Rattle.kernel_code.specs.Words.{is_word, kind_of}
+
+-- the greatest number up to n of first bytes that are a word, or 0 where there is none
+unfoldable pub longest_up_to : ℕ → List ℕ → ℕ
+longest_up_to zero bytes = 0
+longest_up_to (suc n) bytes = if is_word (take (suc n) bytes) then suc n else longest_up_to n bytes
+
+-- the number of bytes of the longest word that the bytes begin with
+abbrev pub longest : List ℕ → ℕ
+longest bytes = longest_up_to (length bytes) bytes
+
+-- the number of bytes of what the bytes begin with: the longest word, else one byte
+unfoldable pub front_len : List ℕ → ℕ
+front_len bytes = max 1 (longest bytes)
+
+-- the kind of the token that the bytes begin with: Bad where no word begins there, none for what stands between tokens
+unfoldable pub front_kind : List ℕ → Option TokenKind
+front_kind bytes = if longest bytes == 0 then Some Bad else kind_of (take (longest bytes) bytes)
+
+-- the token that stands from a place on, if one does
+abbrev pub token_at : Option TokenKind → (start end line : ℕ) → List Token
+token_at None start end line = []
+token_at (Some kind) start end line = record { kind = kind; start = start; end = end; line = line } ∷ []
+
+-- the line after a byte of this line
+abbrev pub line_after : ℕ → ℕ → ℕ
+line_after byte line = if byte == 10 then line + 1 else line
+
+-- The tokens from a place and a line on, where the first of these bytes, so many as the first number says, belong to a word that began
+-- before them.
+unfoldable pub tokens_from : (begun place line : ℕ) → List ℕ → List Token
+tokens_from begun place line [] = token_at (Some End) place place line
+tokens_from (suc begun) place line (byte ∷ bytes) = tokens_from begun (place + 1) line bytes
+tokens_from zero place line (byte ∷ bytes) =
+    token_at (front_kind (byte ∷ bytes)) place (place + front_len (byte ∷ bytes)) line
+    ++ tokens_from (front_len (byte ∷ bytes) - 1) (place + 1) (line_after byte line) bytes
+
+-- the length of the byte-order mark that a file begins with, if it does
+abbrev pub mark_len : List ℕ → ℕ
+mark_len source = if starts_with nat_eq source (0xEF ∷ 0xBB ∷ 0xBF ∷ []) then 3 else 0
+
+-- the tokens of a file
+unfoldable pub tokens_of : List ℕ → List Token
+tokens_of source = tokens_from (mark_len source) 0 1 source
+
+-- the bytes of a token
+abbrev pub text_of : List ℕ → Token → List ℕ
+text_of source token = slice_range source token.start token.end

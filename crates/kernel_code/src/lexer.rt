@@ -1,0 +1,59 @@
+ghost use Rattle.std.specs.Prelude.{◌≡◌, ◌≤◌, length, IfOk};
+ghost use Rattle.std.specs.List.{starts_with};
+ghost use Rattle.kernel_code.specs.Tokens.{tokens_of, mark_len};
+
+use crate::token::Token;
+use crate::word::front_of;
+use frame_grammar::TokenKind;
+use job_base::NoMemory;
+use std::alloc::Global;
+
+/// What some editors write at the head of a file; it is no part of the text.
+const BYTE_ORDER_MARK: [u8; 3] = [0xEF, 0xBB, 0xBF];
+
+fn mark_len(source: &[u8]) -> usize
+    ensures { result ≡ mark_len source.now }
+{
+    if source.starts_with(&BYTE_ORDER_MARK) {
+        3
+    } else {
+        0
+    }
+}
+
+/// The tokens of a file, from its first byte to the `End` behind its last one.
+///
+/// Names, numbers, texts, symbols and reserved words are found from left to right, the longest
+/// first. Spaces, tabs, carriage returns and comments separate them; a comment is `#` and what
+/// follows it in its line. A byte that begins no token is a `Bad` token, so lexing itself finds no
+/// fault.
+pub fn lex(alloc: Global, source: &[u8]) -> Result<Vec<Token>, NoMemory>
+    requires { length source.now ≤ 16777216 }
+{
+    let mut tokens = Vec::new(alloc);
+    let mut place = mark_len(source);
+    let mut line = 1;
+    while place < source.len() {
+        let word = front_of(&source[place..]);
+        let end = place + word.len;
+        if let Some(kind) = word.kind {
+            tokens.push(Token {
+                kind,
+                start: place as u32,
+                end: end as u32,
+                line,
+            })?;
+        }
+        if source[place] == b'\n' {
+            line += 1;
+        }
+        place = end;
+    }
+    tokens.push(Token {
+        kind: TokenKind::End,
+        start: place as u32,
+        end: place as u32,
+        line,
+    })?;
+    Ok(tokens)
+}

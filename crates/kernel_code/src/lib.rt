@@ -1,0 +1,11 @@
+//! Kernels as texts: the tokens of a file.
+#![tactic(auto)]
+
+mod lexer;
+mod spelling;
+mod token;
+mod word;
+
+pub use frame_grammar::TokenKind;
+pub use lexer::lex;
+pub use token::Token;
