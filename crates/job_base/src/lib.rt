@@ -9,6 +9,8 @@ pub mod files;
 pub mod gate;
 pub mod mem;
 pub mod sink;
+#[cfg(test)]
+mod tests;
 
 pub use files::{FileFault, Files, MemFiles};
 pub use gate::{Gate, OpenGate};

@@ -1,0 +1,100 @@
+use crate::*;
+use std::alloc::Global;
+use std::test::Fail;
+
+fn numbers(alloc: Global, of: &[u64]) -> Result<Vec<u64>, AllocError> {
+    of.to_vec(alloc)
+}
+
+#[test]
+fn flat_cells(rt: HostRuntime) -> Result<(), Fail> {
+    let mut mem = FlatMem::new(rt.alloc(), 3)?;
+    assert_eq!(rt;
+        (mem.load(Word(0)), mem.load(Word(1)), mem.load(Word(2))),
+        (0, 0, 0)
+    );
+    mem.store(Word(1), -7);
+    assert_eq!(rt;
+        (mem.load(Word(0)), mem.load(Word(1)), mem.load(Word(2))),
+        (0, -7, 0)
+    );
+    Ok(())
+}
+
+// Read 2 is named as one that fails, and the second `a` is never seen.
+#[test]
+fn files_in_memory(rt: HostRuntime) -> Result<(), Fail> {
+    let alloc = rt.alloc();
+    let names = vec![in alloc;
+        String::from_str(alloc, "a")?,
+        String::from_str(alloc, "b")?,
+        String::from_str(alloc, "a")?,
+    ]?;
+    let contents = vec![in alloc;
+        b"first".to_vec(alloc)?,
+        b"".to_vec(alloc)?,
+        b"third".to_vec(alloc)?,
+    ]?;
+    let mut files = MemFiles::new(alloc, names, contents, numbers(alloc, &[2])?)?;
+    let table = [
+        ("a", 5, Ok(b"first".as_slice())),
+        ("a", 4, Err(FileFault::TooLong)),
+        ("a", 5, Err(FileFault::Failed)),
+        ("c", 5, Err(FileFault::Failed)),
+        ("b", 0, Ok(b"".as_slice())),
+    ];
+    for (name, limit, want) in table {
+        let answer = files.read(alloc, name, limit);
+        let got = match &answer {
+            Ok(bytes) => Ok(bytes.as_slice()),
+            Err(fault) => Err(*fault),
+        };
+        assert_eq!(rt; got, want, "{name} within {limit}");
+    }
+    Ok(())
+}
+
+// The text `t = 30` and its line feed through sinks of some room and step, of which some writes fail.
+#[test]
+fn sinks_in_memory(rt: HostRuntime) -> Result<(), Fail> {
+    let alloc = rt.alloc();
+    let table = [
+        (100, 1, [].as_slice(), "t = 30\n", 0),
+        (100, 1, [2].as_slice(), "t ", 1),
+        (100, 100, [0].as_slice(), "", 1),
+        (100, 3, [3].as_slice(), "t = 30\n", 0),
+        (0, 1, [].as_slice(), "", 1),
+        (5, 2, [].as_slice(), "t = 3", 1),
+        (7, 7, [].as_slice(), "t = 30\n", 0),
+    ];
+    for (room, step, failing, taken, faults) in table {
+        let mut sink = MemSink::new(alloc, room, step, numbers(alloc, failing)?)?;
+        let written = write_text(b"t = 30\n", &mut sink);
+        assert_eq!(rt; written.is_err(), faults == 1, "room {room}, step {step}");
+        assert_eq!(rt; sink.bytes(), taken.as_bytes(), "room {room}, step {step}");
+        assert_eq!(rt; sink.faults(), faults, "room {room}, step {step}");
+    }
+    Ok(())
+}
+
+#[test]
+fn nothing_is_kept(rt: HostRuntime) {
+    let mut sink = NullSink::new();
+    assert_eq!(rt; sink.write(b"t = 30\n"), Ok(7));
+    assert_eq!(rt; write_text(b"t = 30\n", &mut sink), Ok(()));
+    OpenGate.enter(0, PieceId(0));
+    OpenGate.leave(0, PieceId(0));
+}
+
+fn may_move<T: Send>(_: &T) {}
+
+fn may_be_shared<T: Sync>(_: &T) {}
+
+// Workers share a gate, and the one that runs the script takes the sink.
+#[test]
+fn threads_may_have_them(rt: HostRuntime) -> Result<(), Fail> {
+    may_be_shared(&OpenGate);
+    may_move(&NullSink::new());
+    may_move(&MemSink::new(rt.alloc(), 1, 1, Vec::new(rt.alloc()))?);
+    Ok(())
+}
