@@ -2,7 +2,7 @@
 use Rattle.std.specs.Prelude.{ℕ, zero, ◌+◌, ◌*◌, Bool, true, false, ◌&&◌, nat_lt, nat_le, if◌then◌else◌, ℤ, pos, negsuc, List, [], length, get_or, set, Result, Ok, Err}
 use Rattle.job_base.specs.declared.Trap.{Trap}
 use Rattle.job_base.specs.declared.Trap.TheVariants.{Range, OwnIndex}
-use Rattle.frame_ast.specs.Contents.{Contents, Cells, Single, Items, Pairs, Entries, then_value, place_in, item_at, set_at, add_item, swap_back, value_of_key, has_key, without_key, present_value, put_key, add_key, index_items, begin_index, write_index, cleared}
+use Rattle.frame_ast.specs.Contents.{Contents, Cells, Single, Items, Pairs, Entries, with_single, then_value, place_in, item_at, set_at, add_item, swap_back, value_of_key, has_key, without_key, present_value, put_key, add_key, index_items, begin_index, write_index, cleared}
 use Rattle.frame_ast.specs.Expressions.{Operations}
 
 -- An index owns `width` places, and all of them where no rule holds, which is width 0.
@@ -113,7 +113,7 @@ width_of widths x = get_or widths x 0
 abbrev pub arguments : List ℕ → ℕ → Operations (List Contents)
 arguments widths index = record {
   value = λ x args. value_in (argument args x);
-  set_value = λ x v args. set args x (Single v);
+  set_value = λ x v args. set args x (with_single v (argument args x));
   len = λ x args. length_of (argument args x);
   get = λ x i args. get_in (width_of widths x) index i (argument args x);
   put = λ x i v args. changed args x (put_in (width_of widths x) index i v (argument args x));
