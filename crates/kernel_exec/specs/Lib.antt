@@ -1,0 +1,4 @@
+pub mod Words
+pub mod Layout
+pub mod Conditions
+pub mod Runs
