@@ -22,3 +22,4 @@ pub mod Answers
 pub mod Accepted
 pub mod Simulation
 pub mod Plain
+pub mod Kinds

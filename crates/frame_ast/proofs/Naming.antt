@@ -1,0 +1,60 @@
+-- What an accepted script says of the names of a statement.
+use Rattle.std.proofs.Common.{◌≡◌, refl, sym, ap, ◌∙◌, subst, ℕ, true, false, ◌⊎◌, inl, inr, ⊎_elim, List, [], ◌∷◌, get_or, Option, None, Some, slice_get}
+use Rattle.std.specs.Prelude.{nat_lt, nat_le}
+use Rattle.std.specs.List.{list_any}
+use Rattle.std.proofs.lemmas.Bool.{eqb-true, and_parts, or_cases, false≢true}
+use Rattle.frame_ast.specs.declared.kernel.Kernel.{Kernel}
+use Rattle.frame_ast.specs.declared.script.Arg.{Arg}
+use Rattle.frame_ast.specs.Orders.{kernel_params}
+use Rattle.frame_ast.specs.Accepted.{NameKind, ArrayName, SliceName, ViewName, ListName, RefName, MapName, StreamName, HandleName, number_of, same_kind, Names, kind_in, uses, makes, copies, args_fit, schedule_fits}
+
+-- the kind of a number
+abbrev kind_at : ℕ → NameKind
+kind_at n = get_or (ArrayName ∷ SliceName ∷ ViewName ∷ ListName ∷ RefName ∷ MapName ∷ StreamName ∷ HandleName ∷ []) n ArrayName
+
+kind_back : (k : NameKind) → kind_at (number_of k) ≡ k
+kind_back ArrayName = refl
+kind_back SliceName = refl
+kind_back ViewName = refl
+kind_back ListName = refl
+kind_back RefName = refl
+kind_back MapName = refl
+kind_back StreamName = refl
+kind_back HandleName = refl
+
+kinds_equal : (a b : NameKind) → same_kind a b ≡ true → a ≡ b
+kinds_equal a b h = sym (kind_back a) ∙ ap kind_at (eqb-true (number_of a) (number_of b) h) ∙ kind_back b
+
+pub one_kind : (kind k : NameKind) → list_any (same_kind kind) (k ∷ []) ≡ true → kind ≡ k
+one_kind kind k h = ⊎_elim (λ e. kinds_equal kind k e) (λ e. absurd (false≢true e)) (or_cases (same_kind kind k) false h)
+
+pub two_kinds : (kind j k : NameKind) → list_any (same_kind kind) (j ∷ k ∷ []) ≡ true → (kind ≡ j) ⊎ (kind ≡ k)
+two_kinds kind j k h =
+    ⊎_elim (λ e. inl (kinds_equal kind j e)) (λ e. inr (one_kind kind k e)) (or_cases (same_kind kind j) (list_any (same_kind kind) (k ∷ [])) h)
+
+-- a name that is made has that kind
+pub makes_kind : (ns : Names) (n : ℕ) (k : NameKind) → makes ns n k ≡ true → (kind : NameKind) → slice_get ns.kinds n ≡ Some kind → kind ≡ k
+makes_kind ns n k h kind at =
+    one_kind kind k (subst (λ o. kind_in o (k ∷ []) ≡ true) at (and_parts (nat_le n ns.made) (kind_in (slice_get ns.kinds n) (k ∷ [])) h).1)
+
+-- a name that is used has one of the kinds
+pub record IsUsed (ns : Names) (n : ℕ) (kinds : List NameKind) : Type 0 where
+  pub kind : NameKind
+  pub at : slice_get ns.kinds n ≡ Some kind
+  pub fits : list_any (same_kind kind) kinds ≡ true
+
+pub is_used : (ns : Names) (n : ℕ) (kinds : List NameKind) → uses ns n kinds ≡ true → IsUsed ns n kinds
+is_used ns n kinds h = from (slice_get ns.kinds n) refl (and_parts (nat_lt n ns.made) (kind_in (slice_get ns.kinds n) kinds) h).1
+  where
+    from : (o : Option NameKind) → slice_get ns.kinds n ≡ o → kind_in o kinds ≡ true → IsUsed ns n kinds
+    from None at fits = absurd (false≢true fits)
+    from (Some kind) at fits = record { kind = kind; at = at; fits = fits }
+
+-- `copy` makes a name of the kind of its source
+pub copies_kind : (ns : Names) (n of : ℕ) (k : NameKind) → slice_get ns.kinds of ≡ Some k → copies ns n (slice_get ns.kinds of) ≡ true → (kind : NameKind) → slice_get ns.kinds n ≡ Some kind → kind ≡ k
+copies_kind ns n of k is h kind at = makes_kind ns n k (subst (λ o. copies ns n o ≡ true) is h) kind at
+
+-- the arguments of a schedule fit the parameters of its kernel
+pub args_of : (ns : Names) (k : Option Kernel) (args : List Arg) (cut defer : Option (ℕ × ℕ)) (waive after : List ℕ) → schedule_fits ns k args cut defer waive after ≡ true → args_fit ns defer (kernel_params k) args ≡ true
+args_of ns None args cut defer waive after h = absurd (false≢true h)
+args_of ns (Some k) args cut defer waive after h = (and_parts (args_fit ns defer k.params.items args) _ (and_parts _ _ h).0).0
