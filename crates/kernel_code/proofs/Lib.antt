@@ -1,1 +1,9 @@
 mod Examples
+pub mod Longest
+pub mod Runs
+pub mod FirstBytes
+pub mod Others
+pub mod Texts
+pub mod Fronts
+pub mod Reserved
+pub mod Steps

@@ -1,3 +1,4 @@
 pub mod Spellings
 pub mod Words
 pub mod Tokens
+pub mod Fronts

@@ -1,6 +1,6 @@
-ghost use Rattle.std.specs.Prelude.{◌≡◌, ◌≤◌, length, IfOk};
+ghost use Rattle.std.specs.Prelude.{◌≡◌, ◌<◌, ◌≤◌, length, IfOk};
 ghost use Rattle.std.specs.List.{starts_with};
-ghost use Rattle.kernel_code.specs.Tokens.{tokens_of, mark_len};
+ghost use Rattle.kernel_code.specs.Tokens.{tokens_of, mark_len, line_after};
 
 use crate::token::Token;
 use crate::word::front_of;
@@ -21,6 +21,13 @@ fn mark_len(source: &[u8]) -> usize
     }
 }
 
+fn line_after(byte: u8, line: u32) -> u32
+    requires { line < u32.MAX }
+    ensures { result ≡ line_after byte line }
+{
+    if byte == b'\n' { line + 1 } else { line }
+}
+
 /// The tokens of a file, from its first byte to the `End` behind its last one.
 ///
 /// Names, numbers, texts, symbols and reserved words are found from left to right, the longest
@@ -29,6 +36,7 @@ fn mark_len(source: &[u8]) -> usize
 /// fault.
 pub fn lex(alloc: Global, source: &[u8]) -> Result<Vec<Token>, NoMemory>
     requires { length source.now ≤ 16777216 }
+    ensures { IfOk result (λ tokens. tokens.items ≡ tokens_of source.now) }
 {
     let mut tokens = Vec::new(alloc);
     let mut place = mark_len(source);
@@ -44,9 +52,7 @@ pub fn lex(alloc: Global, source: &[u8]) -> Result<Vec<Token>, NoMemory>
                 line,
             })?;
         }
-        if source[place] == b'\n' {
-            line += 1;
-        }
+        line = line_after(source[place], line);
         place = end;
     }
     tokens.push(Token {

@@ -1,5 +1,6 @@
-ghost use Rattle.std.specs.Prelude.{◌≡◌, ◌<◌, ◌∷◌, [], length, unwrap_or};
-ghost use Rattle.kernel_code.specs.Spellings.{spelling_of, spelled, symbols, reserved_words};
+ghost use Rattle.std.specs.Prelude.{◌≡◌, ◌<◌, ◌∷◌, [], length, filter, unwrap_or};
+ghost use Rattle.kernel_code.specs.Spellings.{spelling_of, spelled, symbols, reserved_words, is_first_of};
+ghost use Rattle.frame_grammar.specs.declared.TokenKind.TheVariants.{Name};
 
 use TokenKind as K;
 use frame_grammar::TokenKind;
@@ -95,7 +96,10 @@ fn spelling(kind: K) -> &'static [u8]
 }
 
 /// The reserved words that begin with this byte.
-fn reserved_with(first: u8) -> &'static [K] {
+#[tactic(auto, unfolding(crate::specs::Spellings::spelling_of, crate::specs::Spellings::reserved_words))]
+fn reserved_with(first: u8) -> &'static [K]
+    ensures { result.now ≡ filter (is_first_of first) reserved_words }
+{
     match first {
         b'a' => &[K::Array, K::Add, K::At, K::After, K::As, K::Auto],
         b'b' => &[K::By, K::Begin],
@@ -125,16 +129,19 @@ fn reserved_with(first: u8) -> &'static [K] {
     }
 }
 
+/// The first of these kinds that is spelled so.
+fn spelled(kinds: &[K], word: &[u8]) -> Option<K>
+    ensures { result ≡ spelled kinds.now word.now }
+{
+    kinds.iter().copied().find(|kind| spelling(*kind) == word)
+}
+
 /// The reserved word that is spelled so, or `Name`.
 pub fn word_kind(word: &[u8]) -> K
     requires { 0 < length word.now }
+    ensures { result ≡ unwrap_or (spelled reserved_words word.now) Name }
 {
-    for kind in reserved_with(word[0]) {
-        if spelling(*kind) == word {
-            return *kind;
-        }
-    }
-    K::Name
+    spelled(reserved_with(word[0]), word).unwrap_or(K::Name)
 }
 
 /// The symbol of this one byte.

@@ -1,9 +1,11 @@
 //! The word that a text begins with.
 
-ghost use Rattle.std.specs.Prelude.{◌≡◌, ◌<◌, ◌≤◌, length};
+ghost use Rattle.std.specs.Prelude.{◌≡◌, ◌<◌, ◌≤◌, length, slice_index};
 ghost use Rattle.std.specs.List.{prefix_len};
 ghost use Rattle.std.specs.Char.{is_ascii_digit};
-ghost use Rattle.kernel_code.specs.Words.{continues_name, stands_in_text, stays_in_line};
+ghost use Rattle.kernel_code.specs.Words.{begins_name, continues_name, stands_in_text, stays_in_line};
+ghost use Rattle.kernel_code.specs.Tokens.{front_kind, front_len};
+ghost use Rattle.kernel_code.specs.Fronts.{IsOther};
 
 use crate::spelling::{pair_symbol, single_symbol, word_kind};
 use frame_grammar::TokenKind;
@@ -17,13 +19,19 @@ pub struct Front {
     pub len: usize,
 }
 
-fn is_name_byte(byte: u8) -> bool
+fn begins_name(byte: u8) -> bool
+    ensures { result ≡ begins_name byte }
+{
+    byte.is_ascii_alphabetic() || byte == b'_'
+}
+
+fn continues_name(byte: u8) -> bool
     ensures { result ≡ continues_name byte }
 {
     byte.is_ascii_alphanumeric() || byte == b'_'
 }
 
-fn is_text_byte(byte: u8) -> bool
+fn stands_in_text(byte: u8) -> bool
     ensures { result ≡ stands_in_text byte }
 {
     0x20 <= byte && byte <= 0x7E && byte != b'"'
@@ -34,7 +42,10 @@ fn name_len(bytes: &[u8]) -> usize
     ensures within { result ≤ length bytes.now }
     ensures run { result ≡ prefix_len continues_name bytes.now }
 {
-    bytes.iter().take_while(|byte| is_name_byte(**byte)).count()
+    bytes
+        .iter()
+        .take_while(|byte| continues_name(**byte))
+        .count()
 }
 
 /// How many digits the bytes begin with.
@@ -61,14 +72,19 @@ fn text_len(bytes: &[u8]) -> usize
     ensures within { result ≤ length bytes.now }
     ensures run { result ≡ prefix_len stands_in_text bytes.now }
 {
-    bytes.iter().take_while(|byte| is_text_byte(**byte)).count()
+    bytes
+        .iter()
+        .take_while(|byte| stands_in_text(**byte))
+        .count()
 }
 
-/// The text that begins with this quote: its bytes and the quote that closes it; else the quote is a
-/// byte that begins no token.
+/// The text that this quote begins, or the quote alone where it begins none.
 fn text_front(text: &[u8]) -> Front
-    requires { 0 < length text.now }
-    ensures len { result.len ≤ length text.now }
+    requires some { 0 < length text.now }
+    requires quote { slice_index text.now 0 ≡ 34 }
+    ensures kind { result.kind ≡ front_kind text.now }
+    ensures len { result.len ≡ front_len text.now }
+    ensures within { result.len ≤ length text.now }
     ensures some { 0 < result.len }
 {
     let inside = text_len(&text[1..]);
@@ -85,33 +101,53 @@ fn text_front(text: &[u8]) -> Front
     }
 }
 
+/// The symbol that this byte begins, or the byte alone where it begins none.
 fn symbol_front(text: &[u8]) -> Front
-    requires { 0 < length text.now }
-    ensures len { result.len ≤ length text.now }
+    requires some { 0 < length text.now }
+    requires other { IsOther (slice_index text.now 0) }
+    ensures kind { result.kind ≡ front_kind text.now }
+    ensures len { result.len ≡ front_len text.now }
+    ensures within { result.len ≤ length text.now }
     ensures some { 0 < result.len }
 {
     if text.len() > 1
         && let Some(kind) = pair_symbol(text[0], text[1])
     {
-        Front {
+        return Front {
             kind: Some(kind),
             len: 2,
-        }
-    } else {
-        Front {
-            kind: Some(single_symbol(text[0]).unwrap_or(TokenKind::Bad)),
-            len: 1,
-        }
+        };
+    }
+    let kind = single_symbol(text[0]).unwrap_or(TokenKind::Bad);
+    Front {
+        kind: Some(kind),
+        len: 1,
     }
 }
 
 /// What a text begins with: the longest word, or a byte that begins none.
 pub fn front_of(text: &[u8]) -> Front
     requires { 0 < length text.now }
-    ensures len { result.len ≤ length text.now }
+    ensures kind { result.kind ≡ front_kind text.now }
+    ensures len { result.len ≡ front_len text.now }
+    ensures within { result.len ≤ length text.now }
     ensures some { 0 < result.len }
 {
-    match text[0] {
+    let first = text[0];
+    if begins_name(first) {
+        let len = 1 + name_len(&text[1..]);
+        return Front {
+            kind: Some(word_kind(&text[..len])),
+            len,
+        };
+    }
+    if first.is_ascii_digit() {
+        return Front {
+            kind: Some(TokenKind::Number),
+            len: 1 + digits_len(&text[1..]),
+        };
+    }
+    match first {
         b' ' | b'\t' | b'\r' => Front { kind: None, len: 1 },
         b'\n' => Front {
             kind: Some(TokenKind::Line),
@@ -122,17 +158,6 @@ pub fn front_of(text: &[u8]) -> Front
             len: 1 + line_len(&text[1..]),
         },
         b'"' => text_front(text),
-        b'0'..=b'9' => Front {
-            kind: Some(TokenKind::Number),
-            len: 1 + digits_len(&text[1..]),
-        },
-        b'A'..=b'Z' | b'a'..=b'z' | b'_' => {
-            let len = 1 + name_len(&text[1..]);
-            Front {
-                kind: Some(word_kind(&text[..len])),
-                len,
-            }
-        }
         _ => symbol_front(text),
     }
 }
