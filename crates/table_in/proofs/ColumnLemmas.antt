@@ -1,0 +1,107 @@
+-- What a table holds, name by name and value by value.
+use Rattle.std.proofs.Common.{refl, ap, ap₂, ◌≡◌, true, false, Some, None, List, [], ◌∷◌, ◌++◌, ◌∙◌, sym, ℕ, ℤ, ◌<◌, ◌≤◌, ◌+◌, arith, length, suc, zero, map, drop, take, pos}
+use Rattle.std.specs.Option.{unwrap_or}
+use Rattle.std.specs.List.{slice_set, slice_index_or}
+use Rattle.std.specs.Str.{bytes_eq}
+use Rattle.std.proofs.lemmas.List.{map-append}
+use Rattle.csv.specs.Records.{field_at}
+use Rattle.table_in.specs.Numbers.{Text, number_of}
+use Rattle.table_in.specs.Rows.{Fields}
+use Rattle.table_in.specs.Columns.{NamedColumn, empty_column, with_value, column_named, value_of, first_value, columns_from, with_row}
+use Rattle.table_in.specs.declared.columns.Column.{Column}
+use Rattle.table_in.proofs.RowLemmas.{take-field, field_at-none}
+
+-- ---- what the records say
+
+pub length-columns_from : (names : Fields) (rows : List Fields) → length (columns_from names rows) ≡ length names
+length-columns_from [] rows = refl
+length-columns_from (n ∷ names) rows = ap suc (length-columns_from names (map (drop 1) rows))
+
+pub columns_from-more : (names : Fields) (rows : List Fields) (fields : Fields) → length fields ≡ length names → columns_from names (rows ++ fields ∷ []) ≡ with_row (columns_from names rows) fields
+columns_from-more [] rows fields e = refl
+columns_from-more (n ∷ names) rows [] e = absurd (omega arith)
+columns_from-more (n ∷ names) rows (f ∷ fields) e =
+    ap₂ (λ (a : List ℤ) (l : List NamedColumn). record { name = n; values = a } ∷ l) (map-append first_value rows ((f ∷ fields) ∷ []))
+    (ap (columns_from names) (map-append (drop 1) rows ((f ∷ fields) ∷ [])) ∙ columns_from-more names (map (drop 1) rows) fields (omega arith))
+
+pub columns_from-name : (names : Fields) (n : Text) → columns_from (names ++ n ∷ []) [] ≡ columns_from names [] ++ empty_column n ∷ []
+columns_from-name [] n = refl
+columns_from-name (m ∷ names) n = ap (λ (l : List NamedColumn). empty_column m ∷ l) (columns_from-name names n)
+
+pub with_row-nil : (columns : List NamedColumn) → with_row columns [] ≡ columns
+with_row-nil [] = refl
+with_row-nil (c ∷ columns) = refl
+
+pub length-with_row : (columns : List NamedColumn) (fields : Fields) → length (with_row columns fields) ≡ length columns
+length-with_row [] fields = refl
+length-with_row (c ∷ columns) [] = refl
+length-with_row (c ∷ columns) (f ∷ fields) = ap suc (length-with_row columns fields)
+
+-- ---- one more name
+
+pub name_step : (held : List NamedColumn) (fields : Fields) (i : ℕ) (f : Text) → held ≡ columns_from (take i fields) [] → field_at fields i ≡ Some f → held ++ empty_column f ∷ [] ≡ columns_from (take (i + 1) fields) []
+name_step held fields i f is at =
+    ap (λ (l : List NamedColumn). l ++ empty_column f ∷ []) is
+    ∙ sym (ap (λ l. columns_from l []) (take-field fields i f at) ∙ columns_from-name (take i fields) f)
+
+-- ---- one more value
+
+-- the value of one more field goes to its column
+with_row-more : (columns : List NamedColumn) (fields : Fields) (i : ℕ) (f : Text) → i < length columns → field_at fields i ≡ Some f
+    → slice_set (with_row columns (take i fields)) i (with_value (slice_index_or (with_row columns (take i fields)) i (empty_column [])) (value_of f)) ≡ with_row columns (take (i + 1) fields)
+unfolding field_at
+with_row-more [] fields i f lt e = absurd (omega arith)
+with_row-more (c ∷ columns) [] i f lt e = absurd (let bad : None ≡ Some f = e in cc)
+with_row-more (c ∷ columns) (g ∷ fields) zero f lt e =
+    let same : g ≡ f = cc in
+    ap₂ (λ (x : Text) (l : List NamedColumn). with_value c (value_of x) ∷ l) (sym same) (sym (with_row-nil columns))
+with_row-more (c ∷ columns) (g ∷ fields) (suc i) f lt e =
+    let one_more : suc (i + 1) ≡ suc i + 1 = omega arith in
+    ap (λ (l : List NamedColumn). with_value c (value_of g) ∷ l) (with_row-more columns fields i f (omega arith) e)
+    ∙ ap (λ n. with_row (c ∷ columns) (take n (g ∷ fields))) one_more
+
+pub value_step : (init held new : List NamedColumn) (fields : Fields) (i : ℕ) (f : Text) (n : ℤ) → held ≡ with_row init (take i fields)
+    → new ≡ slice_set held i (with_value (slice_index_or held i (empty_column [])) n) → i < length init → field_at fields i ≡ Some f → Some n ≡ number_of f
+    → new ≡ with_row init (take (i + 1) fields)
+value_step init held new fields i f n is step lt at number =
+    let value : n ≡ value_of f = ap (λ o. unwrap_or o (pos 0)) number in
+    step ∙ ap₂ (λ l v. slice_set l i (with_value (slice_index_or l i (empty_column [])) v)) is value ∙ with_row-more init fields i f lt at
+
+-- a column with one more value, seen by its name and values
+pub pushed : {X : Type 0} (f : X → NamedColumn) (xs : List X) (i : ℕ) (old new : X) (v : ℤ) → i < length xs → old ≡ slice_index_or xs i old → f new ≡ with_value (f old) v
+    → map f (slice_set xs i new) ≡ slice_set (map f xs) i (with_value (slice_index_or (map f xs) i (empty_column [])) v)
+pushed f [] i old new v lt at e = absurd (omega arith)
+pushed f (x ∷ xs) zero old new v lt at e = ap (λ (c : NamedColumn). c ∷ map f xs) (e ∙ ap (λ y. with_value (f y) v) at)
+pushed f (x ∷ xs) (suc i) old new v lt at e = ap (λ (l : List NamedColumn). f x ∷ l) (pushed f xs i old new v (omega arith) at e)
+
+pub within : (fields : Fields) (i : ℕ) → None ≡ field_at fields i → i < length fields → ⊥
+within fields i none lt =
+    let past : length fields ≤ i = field_at-none fields i (sym none) in
+    absurd (omega arith)
+
+-- ---- a look-up
+
+abbrev pub seen : Column → NamedColumn
+seen c = record { name = c.name.items; values = c.values.items }
+
+pub column_hit : (name : Text) (columns : List Column) (i : ℕ) (c : Column) → i < length columns → c ≡ slice_index_or columns i c → bytes_eq c.name.items name ≡ true
+    → column_named name (map seen (drop i columns)) ≡ Some c.values.items
+column_hit name [] i c lt at e = absurd (omega arith)
+column_hit name (x ∷ columns) zero c lt at e =
+    let same : bytes_eq x.name.items name ≡ true = ap (λ (y : Column). bytes_eq y.name.items name) (sym at) ∙ e in
+    rw same (ap (λ (y : Column). Some y.values.items) (sym at))
+column_hit name (x ∷ columns) (suc i) c lt at e = column_hit name columns i c (omega arith) at e
+
+pub column_miss : (name : Text) (columns : List Column) (i : ℕ) (c : Column) → i < length columns → c ≡ slice_index_or columns i c → bytes_eq c.name.items name ≡ false
+    → column_named name (map seen (drop (i + 1) columns)) ≡ column_named name (map seen (drop i columns))
+column_miss name [] i c lt at e = absurd (omega arith)
+column_miss name (x ∷ columns) zero c lt at e =
+    let other : bytes_eq x.name.items name ≡ false = ap (λ (y : Column). bytes_eq y.name.items name) (sym at) ∙ e in
+    rw other refl
+column_miss name (x ∷ columns) (suc i) c lt at e =
+    let one_more : suc i + 1 ≡ suc (i + 1) = omega arith in
+    ap (λ k. column_named name (map seen (drop k (x ∷ columns)))) one_more ∙ column_miss name columns i c (omega arith) at e
+
+pub length-seen : (columns : List Column) → length (map seen columns) ≡ length columns
+length-seen [] = refl
+length-seen (c ∷ columns) = ap suc (length-seen columns)

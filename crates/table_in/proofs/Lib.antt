@@ -1,0 +1,4 @@
+pub mod NumberLemmas
+pub mod RowLemmas
+pub mod ColumnLemmas
+pub mod ReadLemmas

@@ -1,0 +1,34 @@
+//! Reads a table of numbers, with a row of column names first.
+//!
+//! A table is a text of comma-separated values, as the crate `csv` reads it with its default settings: a byte-order mark at
+//! the head is skipped, and empty lines give no record. The first record holds the names of the columns, and every later
+//! one has a number for each column.
+#![tactic(auto)]
+
+mod columns;
+mod numbers;
+mod reading;
+
+pub use columns::Table;
+pub use reading::read_table;
+use thiserror::Error;
+
+/// Why a text is no table. Records are numbered from 1, the record of the names included.
+#[derive(Clone, Copy, Debug, PartialEq, Eq, Error)]
+pub enum TableFault {
+    /// There is no record at all.
+    #[error("empty")]
+    Empty,
+    /// The first faulty record has another number of fields than the first record.
+    #[error("row {row}: unequal row")]
+    Unequal { row: u32 },
+    /// The first faulty record has as many fields, and one of them is no number.
+    #[error("row {row}: not a number")]
+    NotNumber { row: u32 },
+    /// Memory was not found.
+    #[error("out of memory")]
+    NoMemory,
+}
+
+#[cfg(test)]
+mod tests;
