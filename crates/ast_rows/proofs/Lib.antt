@@ -1,0 +1,16 @@
+mod Trees
+mod Kernel
+mod Kernels
+mod Script
+mod RowsKernels
+mod RowsConflicts
+mod RowsContainers
+mod RowsLifetimes
+mod RowsParallel
+mod RowsAutomatic
+mod RowsTraps
+mod CheckedKernels
+mod Steps
+mod Limits
+mod Spans
+mod AcceptedScripts
