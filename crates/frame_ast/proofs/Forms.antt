@@ -1,5 +1,5 @@
 -- Each operation on contents keeps their form, and leaves what can be held.
-use Rattle.std.proofs.Common.{◌≡◌, refl, sym, ap, ◌∙◌, subst, ℕ, zero, suc, ◌+◌, ◌-◌, ◌<◌, ◌≤◌, Bool, true, false, IsTrue, T, cond, ℤ, pos, List, [], ◌∷◌, length, get_or, set, take, replicate, Option, None, Some, Result, Ok, Err, arith}
+use Rattle.std.proofs.Common.{◌≡◌, refl, sym, ap, ◌∙◌, subst, ℕ, zero, suc, ◌+◌, ◌*◌, ◌-◌, ◌<◌, ◌≤◌, Bool, true, false, IsTrue, T, cond, ℤ, pos, List, [], ◌∷◌, length, get_or, set, take, replicate, Option, None, Some, Result, Ok, Err, arith}
 use Rattle.std.specs.Prelude.{not, nat_lt, is_some, IfOk, if◌then◌else◌}
 use Rattle.std.specs.Ordering.{int_cmp, int_eq}
 use Rattle.std.specs.FinMap.Entries.{where_key, is_sorted, is_sorted-put, is_sorted-where_key, length-put}
@@ -8,10 +8,10 @@ use Rattle.std.proofs.lemmas.Bool.{ltb-true}
 use Rattle.std.proofs.lemmas.List.{length-set, length-take, length_push, length-replicate}
 use Rattle.job_base.specs.declared.Trap.{Trap}
 use Rattle.job_base.specs.declared.Trap.TheVariants.{OwnIndex, Full, PresentKey, MissingKey, Written}
-use Rattle.frame_ast.specs.Contents.{Contents, Cells, Single, Items, Pairs, Entries, FitsRoom, FitRoom, IsHeld, then_value, place_in, with_single, set_at, add_item, swap_back, has_key, with_key, without_key, put_key, add_key, remove_key, items_of, begin_index, write_index, cleared}
+use Rattle.frame_ast.specs.Contents.{Contents, Cells, Single, Items, Pairs, Entries, FitsRoom, FitRoom, IsHeld, then_value, place_in, with_single, set_at, add_item, swap_back, has_key, with_key, without_key, put_key, add_key, remove_key, items_of, begin_index, write_index, cleared, words_of}
 use Rattle.frame_ast.specs.Arguments.{owns, if_owned, put_in, on_items, on_pairs, without, begin_in, write_place}
 use Rattle.frame_ast.specs.Orders.{remove_in}
-use Rattle.frame_ast.specs.Kinds.{IsKept}
+use Rattle.frame_ast.specs.Forms.{form_of, IsKept}
 
 -- RESULTS
 
@@ -233,3 +233,11 @@ remove_kept at (Single z) held = tt
 remove_kept at (Items cap xs) held = then_ok (λ ys. length ys ≤ cap) (IsKept (Items cap xs)) (swap_back xs at) _ (swap_back_length cap xs at held) (λ ys h. kept_items cap xs ys h)
 remove_kept at (Pairs cap ps) held = then_ok (AreHeldPairs cap) (IsKept (Pairs cap ps)) (remove_key ps at) _ (remove_key_held cap ps at held) (λ qs h. kept_pairs cap ps qs h)
 remove_kept at (Entries room es) held = tt
+
+-- The words of a container follow from its form.
+pub words_by_form : (c : Contents) → words_of (form_of c) ≡ words_of c
+words_by_form (Cells xs) = length-replicate (length xs) (pos 0)
+words_by_form (Single z) = refl
+words_by_form (Items cap xs) = refl
+words_by_form (Pairs cap ps) = refl
+words_by_form (Entries room es) = ap (λ n. n * (room + 1)) (length-replicate (length es) None)

@@ -4,7 +4,8 @@ use Rattle.std.proofs.lemmas.List.{length-append, length-take, length-drop, leng
 use Rattle.frame_ast.specs.Contents.{Contents, Cells, Single, Items, Pairs, Entries, IsHeld, elements, with_elements}
 use Rattle.frame_ast.specs.States.{Value, ScriptState, container_of, value_elements, with_value_elements}
 use Rattle.frame_ast.specs.Accepted.{NameKind, ArrayName}
-use Rattle.frame_ast.specs.Kinds.{form_of, IsKept, kind_of, IsOfKind}
+use Rattle.frame_ast.specs.Forms.{form_of, IsKept}
+use Rattle.frame_ast.specs.Kinds.{kind_of, IsOfKind}
 use Rattle.frame_ast.proofs.Forms.{kept_cells, kept_items, same_kept}
 
 -- WHAT THE FORM TELLS

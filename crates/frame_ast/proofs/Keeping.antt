@@ -6,10 +6,11 @@ use Rattle.frame_ast.specs.declared.kernel.Kernel.{Kernel}
 use Rattle.frame_ast.specs.Contents.{Contents, IsHeld, add_item, swap_back, add_key, cleared, with_single}
 use Rattle.frame_ast.specs.Arguments.{argument, changed, width_of, put_in, on_items, on_pairs, without, begin_in, write_place, arguments}
 use Rattle.frame_ast.specs.Checked.{may_write, IsChecked}
+use Rattle.frame_ast.specs.Kernels.{execution, store_after}
 use Rattle.frame_ast.specs.JobRuns.{Run, run_of, no_run}
 use Rattle.frame_ast.specs.Simulation.{AlikeResults, Simulates}
-use Rattle.frame_ast.specs.Kinds.{IsKept, AreHeld, AreKept, JobsKeepForms}
-use Rattle.frame_ast.proofs.Simulation.{job_alike}
+use Rattle.frame_ast.specs.Forms.{form_of, IsKept, AreHeld, AreKept, JobsKeepForms}
+use Rattle.frame_ast.proofs.Simulation.{execution_alike, ends_alike, job_alike}
 use Rattle.frame_ast.proofs.Within.{checked_within}
 use Rattle.frame_ast.proofs.Forms.{Keeps, same_kept, then_kept, put_kept, add_kept, remove_at_kept, add_pair_kept, without_kept, cleared_kept, single_kept, begin_kept, write_kept}
 
@@ -17,7 +18,7 @@ pub all_kept : (args : List Contents) → AreHeld args → AreKept args args
 all_kept [] held = tt
 all_kept (c ∷ args) held = (same_kept c held.0, all_kept args held.1)
 
-argument_held : (first args : List Contents) (x : ℕ) → AreKept first args → IsHeld (argument args x)
+pub argument_held : (first args : List Contents) (x : ℕ) → AreKept first args → IsHeld (argument args x)
 argument_held [] [] x k = tt
 argument_held [] (b ∷ args) x k = absurd k
 argument_held (a ∷ first) [] x k = absurd k
@@ -77,6 +78,19 @@ module _ (first : List Contents) where
 pub jobs_keep_forms : JobsKeepForms
 jobs_keep_forms k is widths steps n args held =
     (job_alike (Both args) (may_write k.params.items) (arguments widths) (arguments widths) (λ index. keeping args (may_write k.params.items) widths index) k.parallel k.body.statements.items (checked_within k is) steps n args args (refl, all_kept args held)).store.1
+
+-- one Execute
+pub execution_kept : (k : Kernel) → IsChecked k → (widths : List ℕ) (steps index : ℕ) (args : List Contents) → AreHeld args → AreKept args (store_after (execution (arguments widths index) k.body.statements.items steps index args))
+execution_kept k is widths steps index args held =
+    (ends_alike (Both args) _ _ (execution_alike (Both args) (may_write k.params.items) (arguments widths index) (arguments widths index) (keeping args (may_write k.params.items) widths index) index k.body.statements.items steps (checked_within k is) args args (refl, all_kept args held))).store.1
+
+-- parameter by parameter
+pub argument_form : (olds news : List Contents) (x : ℕ) → AreKept olds news → form_of (argument news x) ≡ form_of (argument olds x)
+argument_form [] [] x k = refl
+argument_form [] (b ∷ news) x k = absurd k
+argument_form (a ∷ olds) [] x k = absurd k
+argument_form (a ∷ olds) (b ∷ news) zero k = k.0.form
+argument_form (a ∷ olds) (b ∷ news) (suc x) k = argument_form olds news x k.1
 
 -- the runs of checked kernels
 abbrev pub RunsKeep : List Run → Type 0

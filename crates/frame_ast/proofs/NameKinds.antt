@@ -26,7 +26,8 @@ use Rattle.frame_ast.specs.Effects.{lost, effect, make, accept, changed, dispose
 use Rattle.frame_ast.specs.Scripts.{decided, act_or_pass, act, act_all}
 use Rattle.frame_ast.specs.Accepted.{NameKind, ArrayName, SliceName, ViewName, ListName, RefName, MapName, StreamName, HandleName, Names, sliceable, container, set_kinds, args_fit, order_fits, made_after, block_of, statements_fit, uses, makes, copies}
 use Rattle.frame_ast.specs.Orders.{made_by}
-use Rattle.frame_ast.specs.Kinds.{IsKept, AreHeld, AreKept, kind_of, IsOfKind, HoldsKinds, NamesKeepTheirKinds}
+use Rattle.frame_ast.specs.Forms.{IsKept, AreHeld, AreKept}
+use Rattle.frame_ast.specs.Kinds.{kind_of, IsOfKind, HoldsKinds, NamesKeepTheirKinds}
 use Rattle.frame_ast.proofs.Forms.{Keeps, then_ok, set_at_length, same_kept, then_kept, add_kept, add_pair_kept, put_pair_kept, remove_kept, cleared_kept, single_kept}
 use Rattle.frame_ast.proofs.Keeping.{RunsKeep, runs_keep}
 use Rattle.frame_ast.proofs.Growing.{IsLike, same_like, kept_like, capacity_like, Grows, kind_after, part_length, same_fits, fits_after, elements_kept}
@@ -127,7 +128,7 @@ unwritten room (suc n) = (tt, unwritten room n)
 
 -- SLICES AND VIEWS
 
-first_none : (o : Option Refused) (more : List (Option Refused)) → first_cause (o ∷ more) ≡ None → (o ≡ None) × (first_cause more ≡ None)
+pub first_none : (o : Option Refused) (more : List (Option Refused)) → first_cause (o ∷ more) ≡ None → (o ≡ None) × (first_cause more ≡ None)
 first_none None more h = (refl, h)
 first_none (Some r) more h = absurd cc
 
@@ -136,7 +137,7 @@ if_so_none true cause name h = absurd cc
 if_so_none false cause name h = refl
 
 -- a name that isn't refused as disposed stands for a container
-lives : (s : ScriptState) (name : ℕ) → disposed s (name ∷ []) ≡ None → is_alive s (s.values name) ≡ true
+pub lives : (s : ScriptState) (name : ℕ) → disposed s (name ∷ []) ≡ None → is_alive s (s.values name) ≡ true
 lives s name = elim (is_alive s (s.values name)) as (λ b. naming Disposed (cond (not b) (Some name) None) ≡ None → b ≡ true) [ true ↦ λ h. refl | false ↦ λ h. absurd cc ]
 
 -- and a slice that isn't refused lies within what it is of
@@ -175,13 +176,13 @@ view_kind s (Value.Handle jobs) alive h = absurd (false≢true alive)
 
 -- CHANGES
 
-set_stays : (s : ScriptState) (kind : NameKind) (v : Value) (at : Option ℤ) (n : ℤ) → IsOfKind s kind v → IsHeld (s.contents (container_of v)) → Keeps (s.contents (container_of v)) (set_in v (s.contents (container_of v)) at n)
+pub set_stays : (s : ScriptState) (kind : NameKind) (v : Value) (at : Option ℤ) (n : ℤ) → IsOfKind s kind v → IsHeld (s.contents (container_of v)) → Keeps (s.contents (container_of v)) (set_in v (s.contents (container_of v)) at n)
 set_stays s kind v None n h held = single_kept n (s.contents (container_of v)) held
 set_stays s kind v (Some i) n h held =
     let c = s.contents (container_of v) in
     then_ok (λ ys. length ys ≡ length (value_elements v c)) (IsKept c) (set_at (value_elements v c) i n) _ (set_at_length (value_elements v c) i n) (λ ys e. elements_kept v ys c held (same_fits s kind v ys h held e))
 
-add_stays : (c : Contents) (first : ℤ) (second : Option ℤ) → IsHeld c → Keeps c (add_in c first second)
+pub add_stays : (c : Contents) (first : ℤ) (second : Option ℤ) → IsHeld c → Keeps c (add_in c first second)
 add_stays c first None held = add_kept first c held
 add_stays c first (Some second) held = add_pair_kept first second c held
 
@@ -199,9 +200,9 @@ capacity_stays n (Entries room es) held = tt
 -- A SCHEDULE
 
 -- the same containers, with contents that keep theirs
-record After (s t : ScriptState) : Type 0 where
-  made : t.made ≡ s.made
-  contents : (c : ℕ) → IsKept (s.contents c) (t.contents c)
+pub record After (s t : ScriptState) : Type 0 where
+  pub made : t.made ≡ s.made
+  pub contents : (c : ℕ) → IsKept (s.contents c) (t.contents c)
 
 seen_held : (kind : ParamKind) (v : Value) (c : Contents) → IsHeld c → IsHeld (seen_as kind v c)
 seen_held Int v c held = held
@@ -260,12 +261,18 @@ broken_after s (g ∷ more) t a =
       | false ↦ broken_after s more t a
     ]
 
-accept_kinds : (g : Setting) → RunsKeep g.runs → (ns : Names) (s : ScriptState) (auto : Bool) (handle kernel : ℕ) (args : List Arg) (cut defer : Option (ℕ × ℕ)) (waive after : List ℕ) → makes ns handle HandleName ≡ true → args_fit ns defer (params_of g kernel) args ≡ true → HoldsKinds ns.kinds s → HoldsKinds ns.kinds (accept g s auto handle kernel args cut defer waive after)
-accept_kinds g keep ns s auto handle kernel args cut defer waive after made fits k =
+-- what an accepted schedule leaves of the containers
+pub accept_after : (g : Setting) → RunsKeep g.runs → (ns : Names) (s : ScriptState) (auto : Bool) (handle kernel : ℕ) (args : List Arg) (cut defer : Option (ℕ × ℕ)) (waive after : List ℕ) → args_fit ns defer (params_of g kernel) args ≡ true → HoldsKinds ns.kinds s → After s (accept g s auto handle kernel args cut defer waive after)
+accept_after g keep ns s auto handle kernel args cut defer waive after fits k =
     let params : List Param = params_of g kernel in
     let kept = keep kernel _ _ _ (arguments_of s params args) (arguments_held s k.containers params args) in
     let left = broken_after s (givens s params args defer) _ (leave_after ns s k defer params args _ fits kept s.contents (λ c. same_kept (s.contents c) (k.containers c))) in
+    record { made = left.made; contents = left.contents }
+
+accept_kinds : (g : Setting) → RunsKeep g.runs → (ns : Names) (s : ScriptState) (auto : Bool) (handle kernel : ℕ) (args : List Arg) (cut defer : Option (ℕ × ℕ)) (waive after : List ℕ) → makes ns handle HandleName ≡ true → args_fit ns defer (params_of g kernel) args ≡ true → HoldsKinds ns.kinds s → HoldsKinds ns.kinds (accept g s auto handle kernel args cut defer waive after)
+accept_kinds g keep ns s auto handle kernel args cut defer waive after made fits k =
     let done : ScriptState = accept g s auto handle kernel args cut defer waive after in
+    let left = accept_after g keep ns s auto handle kernel args cut defer waive after fits k in
     let grows : Grows s done = record { made = omega (arith, left.made); like = λ c below. kept_like (s.contents c) _ (left.contents c) } in
     record {
       names = names_with ns.kinds done s.values handle (Value.Handle (only (s.book.count + 1))) (λ kind at. makes_kind ns handle HandleName made kind at) (names_after ns.kinds s done grows s.values k.names);

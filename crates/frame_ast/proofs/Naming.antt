@@ -1,12 +1,14 @@
 -- What an accepted script says of the names of a statement.
-use Rattle.std.proofs.Common.{◌≡◌, refl, sym, ap, ◌∙◌, subst, ℕ, true, false, ◌⊎◌, inl, inr, ⊎_elim, List, [], ◌∷◌, get_or, Option, None, Some, slice_get}
+use Rattle.std.proofs.Common.{◌≡◌, refl, sym, ap, ◌∙◌, subst, ℕ, zero, suc, true, false, ◌⊎◌, inl, inr, length, ⊎_elim, List, [], ◌∷◌, get_or, Option, None, Some, slice_get}
 use Rattle.std.specs.Prelude.{nat_lt, nat_le}
 use Rattle.std.specs.List.{list_any}
 use Rattle.std.proofs.lemmas.Bool.{eqb-true, and_parts, or_cases, false≢true}
 use Rattle.frame_ast.specs.declared.kernel.Kernel.{Kernel}
 use Rattle.frame_ast.specs.declared.script.Arg.{Arg}
-use Rattle.frame_ast.specs.Orders.{kernel_params}
-use Rattle.frame_ast.specs.Accepted.{NameKind, ArrayName, SliceName, ViewName, ListName, RefName, MapName, StreamName, HandleName, number_of, same_kind, Names, kind_in, uses, makes, copies, args_fit, schedule_fits}
+use Rattle.frame_ast.specs.declared.script.Order.{Order}
+use Rattle.frame_ast.specs.declared.script.Statement.{Statement}
+use Rattle.frame_ast.specs.Orders.{Setting, kernel_params, made_by}
+use Rattle.frame_ast.specs.Accepted.{NameKind, ArrayName, SliceName, ViewName, ListName, RefName, MapName, StreamName, HandleName, number_of, same_kind, Names, kind_in, uses, makes, copies, args_fit, schedule_fits, order_fits, made_after, block_of, statements_fit}
 
 -- the kind of a number
 abbrev kind_at : ℕ → NameKind
@@ -58,3 +60,18 @@ copies_kind ns n of k is h kind at = makes_kind ns n k (subst (λ o. copies ns n
 pub args_of : (ns : Names) (k : Option Kernel) (args : List Arg) (cut defer : Option (ℕ × ℕ)) (waive after : List ℕ) → schedule_fits ns k args cut defer waive after ≡ true → args_fit ns defer (kernel_params k) args ≡ true
 args_of ns None args cut defer waive after h = absurd (false≢true h)
 args_of ns (Some k) args cut defer waive after h = (and_parts (args_fit ns defer k.params.items args) _ (and_parts _ _ h).0).0
+
+-- a statement of an accepted script fits where it stands
+pub record FitsThere (g : Setting) (kinds : List NameKind) (x : Order) : Type 0 where
+  pub made : ℕ
+  pub rest : ℕ
+  pub inside : ℕ
+  pub fits : order_fits (record { kinds = kinds; made = made }) g.literals g.kernels rest inside x ≡ true
+
+pub fits_there : (g : Setting) (kinds : List NameKind) (made inside : ℕ) (xs : List Statement) (n : ℕ) (x : Statement) → statements_fit (record { kinds = kinds; made = made }) g.literals g.kernels inside xs ≡ true → slice_get xs n ≡ Some x → FitsThere g kinds x.act
+fits_there g kinds made inside [] n x fits at = absurd cc
+fits_there g kinds made inside (y ∷ ys) zero x fits at =
+    let same : y ≡ x = cc in
+    subst (λ z. FitsThere g kinds z.act) same (record { made = made; rest = length ys; inside = inside; fits = (and_parts (order_fits (record { kinds = kinds; made = made }) g.literals g.kernels (length ys) inside y.act) (statements_fit (record { kinds = kinds; made = made_after made (made_by y.act) }) g.literals g.kernels (block_of y.act inside) ys) fits).0 })
+fits_there g kinds made inside (y ∷ ys) (suc n) x fits at =
+    fits_there g kinds (made_after made (made_by y.act)) (block_of y.act inside) ys n x (and_parts (order_fits (record { kinds = kinds; made = made }) g.literals g.kernels (length ys) inside y.act) (statements_fit (record { kinds = kinds; made = made_after made (made_by y.act) }) g.literals g.kernels (block_of y.act inside) ys) fits).1 at

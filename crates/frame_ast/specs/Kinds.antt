@@ -1,45 +1,19 @@
--- What stays of a container along a script, and what its names stand for.
-use Rattle.std.specs.Prelude.{◌≡◌, ℕ, ◌+◌, ◌<◌, ◌≤◌, pos, List, [], ◌∷◌, length, replicate, take, None, Some, slice_get}
-use Rattle.frame_ast.specs.declared.kernel.Kernel.{Kernel}
+-- The kinds of what names stand for along a script.
+use Rattle.std.specs.Prelude.{◌≡◌, ℕ, ◌+◌, ◌<◌, ◌≤◌, List, [], ◌∷◌, length, take, None, Some, slice_get}
+use Rattle.frame_ast.specs.declared.kernel.ParamKind.{ParamKind}
+use Rattle.frame_ast.specs.declared.kernel.ParamKind.TheVariants.{Int, Array, List as KindList, Ref, Map, Stream}
+use Rattle.frame_ast.specs.declared.kernel.Param.{Param}
+use Rattle.frame_ast.specs.declared.script.Order.{Order}
+use Rattle.frame_ast.specs.declared.script.Order.TheVariants.{Schedule}
+use Rattle.frame_ast.specs.declared.script.Statement.{Statement}
 use Rattle.frame_ast.specs.declared.script.Script.{Script}
 use Rattle.frame_ast.specs.Contents.{Contents, Cells, Single, Items, Pairs, Entries, IsHeld, elements}
-use Rattle.frame_ast.specs.JobRuns.{run_of}
 use Rattle.frame_ast.specs.States.{Value, ScriptState}
-use Rattle.frame_ast.specs.Orders.{Table, setting}
+use Rattle.frame_ast.specs.Schedules.{arguments_of}
+use Rattle.frame_ast.specs.Orders.{Table, Setting, setting, params_of}
+use Rattle.frame_ast.specs.Checks.{refusal}
 use Rattle.frame_ast.specs.Scripts.{final}
-use Rattle.frame_ast.specs.Checked.{IsChecked}
 use Rattle.frame_ast.specs.Accepted.{NameKind, ArrayName, SliceName, ViewName, ListName, RefName, MapName, StreamName, HandleName, IsAccepted}
-
--- A JOB KEEPS THE FORM OF WHAT IT IS GIVEN
-
--- The form of contents is what a new container of their length, capacity or room holds.
-abbrev pub form_of : Contents → Contents
-form_of (Cells xs) = Cells (replicate (length xs) (pos 0))
-form_of (Single z) = Single (pos 0)
-form_of (Items cap xs) = Items cap []
-form_of (Pairs cap ps) = Pairs cap []
-form_of (Entries room es) = Entries room (replicate (length es) None)
-
--- the form stays, and the new contents can be held
-pub record IsKept (old new : Contents) : Type 0 where
-  pub form : form_of new ≡ form_of old
-  pub held : IsHeld new
-
-abbrev pub AreHeld : List Contents → Type 0
-AreHeld [] = Unit {0}
-AreHeld (c ∷ more) = IsHeld c × AreHeld more
-
--- as many contents, each of which is kept
-abbrev pub AreKept : List Contents → List Contents → Type 0
-AreKept [] [] = Unit {0}
-AreKept [] (new ∷ news) = ⊥
-AreKept (old ∷ olds) [] = ⊥
-AreKept (old ∷ olds) (new ∷ news) = IsKept old new × AreKept olds news
-
-abbrev pub JobsKeepForms : Type 0
-JobsKeepForms = (k : Kernel) → IsChecked k → (widths : List ℕ) (steps n : ℕ) (args : List Contents) → AreHeld args → AreKept args (run_of k widths steps n args).store
-
--- ALONG AN ACCEPTED SCRIPT EACH NAME HOLDS A VALUE OF ITS KIND, AND EACH CONTAINER WHAT IT CAN HOLD
 
 -- the kind of the names that stand for a whole container
 abbrev pub kind_of : Contents → NameKind
@@ -49,7 +23,9 @@ kind_of (Items cap xs) = ListName
 kind_of (Pairs cap ps) = MapName
 kind_of (Entries room es) = StreamName
 
--- A name of each kind may stand for a dead value. Beside that, a slice lies within an array, a view is one of a list, a handle name stands for
+-- ALONG AN ACCEPTED SCRIPT EACH NAME HOLDS A VALUE OF ITS KIND, AND EACH CONTAINER WHAT IT CAN HOLD
+
+-- A name of any kind may stand for a dead value. Beside that, a slice lies within an array, a view is one of a list, a handle name stands for
 -- jobs, and a name of any other kind for a whole container of that kind.
 abbrev pub IsOfKind : ScriptState → NameKind → Value → Type 0
 IsOfKind s kind Value.Dead = Unit {0}
@@ -66,3 +42,31 @@ pub record HoldsKinds (kinds : List NameKind) (s : ScriptState) : Type 0 where
 -- after each of its statements
 abbrev pub NamesKeepTheirKinds : Type 0
 NamesKeepTheirKinds = (script : Script) (is : IsAccepted script) (table : Table) (n : ℕ) → HoldsKinds is.kinds (final (setting script table) (take n script.statements.items))
+
+-- THE ARGUMENTS OF AN ACCEPTED SCHEDULE FIT THE PARAMETERS
+
+-- Each kind of parameter is given contents of one kind: an array its elements, whatever they are elements of, and an `int` a single value.
+abbrev pub kind_given : ParamKind → NameKind
+kind_given Int = RefName
+kind_given Array = ArrayName
+kind_given KindList = ListName
+kind_given Ref = RefName
+kind_given Map = MapName
+kind_given Stream = StreamName
+
+abbrev pub FitKinds : List Param → List Contents → Type 0
+FitKinds [] [] = Unit {0}
+FitKinds [] (c ∷ cs) = ⊥
+FitKinds (p ∷ ps) [] = ⊥
+FitKinds (p ∷ ps) (c ∷ cs) = (kind_of c ≡ kind_given p.kind) × FitKinds ps cs
+
+-- of a statement that is a schedule
+abbrev pub ArgumentsFit : Setting → ScriptState → Order → Type 0
+ArgumentsFit g s (Schedule auto handle kernel args cut defer waive after) = FitKinds (params_of g kernel) (arguments_of s (params_of g kernel) args.items)
+ArgumentsFit g s _ = Unit {0}
+
+abbrev pub SchedulesFit : Type 0
+SchedulesFit = (script : Script) → IsAccepted script → (table : Table) (n : ℕ) (x : Statement) → slice_get script.statements.items n ≡ Some x →
+    let g = setting script table in
+    let s = final g (take n script.statements.items) in
+    refusal g s x.act ≡ None → ArgumentsFit g s x.act

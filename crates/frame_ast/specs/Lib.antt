@@ -22,4 +22,5 @@ pub mod Answers
 pub mod Accepted
 pub mod Simulation
 pub mod Plain
+pub mod Forms
 pub mod Kinds
