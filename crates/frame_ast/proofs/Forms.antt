@@ -112,7 +112,7 @@ set_room room [] i e fits held = held
 set_room room (f ∷ es) zero e fits held = (fits, held.1)
 set_room room (f ∷ es) (suc i) e fits held = (held.0, set_room room es i e fits held.1)
 
-unwritten_room : (room n : ℕ) → FitRoom room (replicate n None)
+pub unwritten_room : (room n : ℕ) → FitRoom room (replicate n None)
 unwritten_room room zero = tt
 unwritten_room room (suc n) = (tt, unwritten_room room n)
 

@@ -1,5 +1,5 @@
 -- The arguments of an accepted schedule fit the parameters.
-use Rattle.std.proofs.Common.{◌≡◌, refl, sym, ap, ◌∙◌, subst, ℕ, Bool, true, false, ◌&&◌, ℤ, List, [], ◌∷◌, ◌++◌, map, Option, None, Some, slice_get, arith}
+use Rattle.std.proofs.Common.{◌≡◌, refl, ◌∙◌, ℕ, Bool, true, false, List, [], ◌∷◌, ◌++◌, map, Option, None, Some, slice_get}
 use Rattle.std.specs.Prelude.{not, cond, find}
 use Rattle.std.specs.List.{list_any}
 use Rattle.std.proofs.lemmas.Bool.{and_parts, not-false, false≢true}
@@ -12,16 +12,15 @@ use Rattle.frame_ast.specs.declared.script.Arg.{Arg}
 use Rattle.frame_ast.specs.declared.script.Arg.TheVariants.{Name, Number}
 use Rattle.frame_ast.specs.declared.script.Order.{Order}
 use Rattle.frame_ast.specs.declared.script.Order.TheVariants.{Schedule}
-use Rattle.frame_ast.specs.States.{Value, ScriptState, container_of, contents_at, is_alive}
+use Rattle.frame_ast.specs.States.{Value, ScriptState, container_of, is_alive}
 use Rattle.frame_ast.specs.Schedules.{Given, given_args, given_length, givens, seen_as, arguments_of}
-use Rattle.frame_ast.specs.Refusals.{Refused, naming, disposed}
+use Rattle.frame_ast.specs.Refusals.{naming, disposed}
 use Rattle.frame_ast.specs.Orders.{Setting, setting, params_of}
 use Rattle.frame_ast.specs.Checks.{refusal}
-use Rattle.frame_ast.specs.Accepted.{NameKind, same_kind, SliceName, ViewName, ListName, RefName, MapName, StreamName, HandleName, Names, kinds_for, is_int, is_deferred, uses, makes, arg_fits, args_fit, order_fits}
+use Rattle.frame_ast.specs.Accepted.{NameKind, same_kind, ListName, RefName, MapName, StreamName, HandleName, Names, kinds_for, is_int, is_deferred, makes, arg_fits, args_fit, order_fits}
 use Rattle.frame_ast.specs.Kinds.{kind_of, IsOfKind, HoldsKinds, kind_given, FitKinds, ArgumentsFit, SchedulesFit}
 use Rattle.frame_ast.proofs.Naming.{one_kind, is_used, args_of, fits_there}
-use Rattle.frame_ast.proofs.NameKinds.{first_none, names_keep_their_kinds}
-use Rattle.frame_ast.proofs.StatementForms.{whole_kind}
+use Rattle.frame_ast.proofs.NameKinds.{first_none, whole_kind, names_keep_their_kinds}
 
 -- what a name stands for, where it lives, fits the kinds of a parameter
 seen_kind : (kind : ParamKind) (deferred : Bool) (s : ScriptState) (k : NameKind) (v : Value) → list_any (same_kind k) (kinds_for kind deferred) ≡ true → is_alive s v ≡ true → IsOfKind s k v → kind_of (seen_as kind v (s.contents (container_of v))) ≡ kind_given kind

@@ -1,36 +1,32 @@
 -- Along an accepted script each name holds a value of its kind, and each container what it can hold.
-use Rattle.std.proofs.Common.{◌≡◌, refl, sym, ap, ◌∙◌, subst, ℕ, zero, suc, ◌+◌, ◌≤◌, Bool, true, false, ◌&&◌, ◌⊎◌, ⊎_elim, ℤ, List, [], ◌∷◌, length, take, drop, replicate, Option, None, Some, slice_get, Result, Ok, Err, arith}
+use Rattle.std.proofs.Common.{◌≡◌, refl, sym, ap, ◌∙◌, subst, ℕ, zero, suc, ◌+◌, ◌≤◌, Bool, true, false, ◌&&◌, ◌⊎◌, ⊎_elim, ℤ, List, [], ◌∷◌, length, take, drop, Option, None, Some, slice_get, Result, Ok, Err, arith}
 use Rattle.std.specs.Prelude.{nat_eq, nat_lt, nat_le, not, IfOk, cond, if◌then◌else◌}
 use Rattle.std.proofs.lemmas.Bool.{eqb-true, eq-eqb, ltb-false, leb-true, not-false, and_parts, false≢true}
 use Rattle.job_base.specs.declared.Trap.{Trap}
 use Rattle.job_base.specs.declared.Trap.TheVariants.{Range}
 use Rattle.job_base.specs.declared.Refusal.{Refusal}
 use Rattle.job_base.specs.declared.Refusal.TheVariants.{Disposed, Range as PastRange}
-use Rattle.frame_ast.specs.declared.kernel.ParamKind.{ParamKind}
-use Rattle.frame_ast.specs.declared.kernel.ParamKind.TheVariants.{Int, Array as KindArray, List as KindList, Ref, Map as KindMap, Stream as KindStream}
-use Rattle.frame_ast.specs.declared.kernel.Param.{Param}
 use Rattle.frame_ast.specs.declared.script.Arg.{Arg}
-use Rattle.frame_ast.specs.declared.script.Arg.TheVariants.{Name, Number}
 use Rattle.frame_ast.specs.declared.script.Life.{Life}
 use Rattle.frame_ast.specs.declared.script.Order.{Order}
 use Rattle.frame_ast.specs.declared.script.Order.TheVariants.{Array, Column, List as NewList, Reference, Map, Stream, Slice, View, Copy, Set, Add, Put, Remove, Clear, SetCapacity, Schedule, Combine, Complete, CompleteAuto, Dispose, DisposeAuto, Print, Flush, Frame, When}
 use Rattle.frame_ast.specs.declared.script.Statement.{Statement}
-use Rattle.frame_ast.specs.Contents.{Contents, Cells, Single, Items, Pairs, Entries, IsHeld, FitRoom, elements, set_at, cleared}
+use Rattle.frame_ast.specs.Contents.{Contents, Cells, Single, Items, Pairs, Entries, IsHeld, elements, set_at, cleared}
 use Rattle.frame_ast.specs.Jobs.{only}
 use Rattle.frame_ast.specs.States.{Value, ScriptState, at_start, with_at, with_name, with_contents, container_of, container_at, contents_at, is_alive, value_elements}
-use Rattle.frame_ast.specs.Schedules.{Given, writes_to, is_list, givens, seen_as, arguments_of, left_in, leave_all}
 use Rattle.frame_ast.specs.Refusals.{Refused, first_cause, naming, if_so, disposed}
 use Rattle.frame_ast.specs.Orders.{Setting, setting, params_of, new_array, set_in, add_in, capacity_in, part_of}
 use Rattle.frame_ast.specs.Checks.{refusal}
-use Rattle.frame_ast.specs.Effects.{lost, effect, make, accept, changed, dispose, all_broken, breaks_views, broken_by, views_broken, list_broken}
+use Rattle.frame_ast.specs.Effects.{lost, effect, make, accept, changed, dispose, breaks_views, broken_by, views_broken, list_broken}
 use Rattle.frame_ast.specs.Scripts.{decided, act_or_pass, act, act_all}
 use Rattle.frame_ast.specs.Accepted.{NameKind, ArrayName, SliceName, ViewName, ListName, RefName, MapName, StreamName, HandleName, Names, sliceable, container, set_kinds, args_fit, order_fits, made_after, block_of, statements_fit, uses, makes, copies}
 use Rattle.frame_ast.specs.Orders.{made_by}
-use Rattle.frame_ast.specs.Forms.{IsKept, AreHeld, AreKept}
+use Rattle.frame_ast.specs.Forms.{IsKept}
 use Rattle.frame_ast.specs.Kinds.{kind_of, IsOfKind, HoldsKinds, NamesKeepTheirKinds}
-use Rattle.frame_ast.proofs.Forms.{Keeps, then_ok, set_at_length, same_kept, then_kept, add_kept, add_pair_kept, put_pair_kept, remove_kept, cleared_kept, single_kept}
+use Rattle.frame_ast.proofs.Forms.{unwritten_room, Keeps, then_ok, set_at_length, add_kept, add_pair_kept, put_pair_kept, remove_kept, cleared_kept, single_kept}
 use Rattle.frame_ast.proofs.Keeping.{RunsKeep, runs_keep}
-use Rattle.frame_ast.proofs.Growing.{IsLike, same_like, kept_like, capacity_like, Grows, kind_after, part_length, same_fits, fits_after, elements_kept}
+use Rattle.frame_ast.proofs.Growing.{IsLike, same_like, kept_like, capacity_like, Grows, kind_after, part_length, same_fits, elements_kept}
+use Rattle.frame_ast.proofs.Leaving.{accept_after}
 use Rattle.frame_ast.proofs.Naming.{one_kind, two_kinds, makes_kind, is_used, copies_kind, args_of}
 
 -- NAMES AND CONTAINERS
@@ -122,10 +118,6 @@ array_held : (g : Setting) (len : ℕ) (values : Option ℕ) → IsHeld (new_arr
 array_held g len None = tt
 array_held g len (Some n) = tt
 
-unwritten : (room n : ℕ) → FitRoom room (replicate n None)
-unwritten room zero = tt
-unwritten room (suc n) = (tt, unwritten room n)
-
 -- SLICES AND VIEWS
 
 pub first_none : (o : Option Refused) (more : List (Option Refused)) → first_cause (o ∷ more) ≡ None → (o ≡ None) × (first_cause more ≡ None)
@@ -140,7 +132,15 @@ if_so_none false cause name h = refl
 pub lives : (s : ScriptState) (name : ℕ) → disposed s (name ∷ []) ≡ None → is_alive s (s.values name) ≡ true
 lives s name = elim (is_alive s (s.values name)) as (λ b. naming Disposed (cond (not b) (Some name) None) ≡ None → b ≡ true) [ true ↦ λ h. refl | false ↦ λ h. absurd cc ]
 
--- and a slice that isn't refused lies within what it is of
+-- and where it is of none of the kinds that stand for a part or a view, for a whole container
+pub whole_kind : (s : ScriptState) (kind : NameKind) (v : Value) → is_alive s v ≡ true → IsOfKind s kind v → (kind ≡ SliceName → ⊥) → (kind ≡ ViewName → ⊥) → kind_of (s.contents (container_of v)) ≡ kind
+whole_kind s kind Value.Dead alive h slice view = absurd (false≢true alive)
+whole_kind s kind (Value.Whole c) alive h slice view = sym h.0
+whole_kind s kind (Value.Slice c start len) alive h slice view = absurd (slice h.0)
+whole_kind s kind (Value.View c number) alive h slice view = absurd (view h.0)
+whole_kind s kind (Value.Handle jobs) alive h slice view = absurd (false≢true alive)
+
+-- a slice that isn't refused lies within what it is of
 slice_within : (s : ScriptState) (of start len : ℕ) → first_cause (disposed s (of ∷ []) ∷ if_so (not (nat_le (start + len) (length (value_elements (s.values of) (contents_at s of))))) PastRange of ∷ []) ≡ None → start + len ≤ length (value_elements (s.values of) (contents_at s of))
 slice_within s of start len none =
     let fits : Bool = nat_le (start + len) (length (value_elements (s.values of) (contents_at s of))) in
@@ -199,76 +199,6 @@ capacity_stays n (Entries room es) held = tt
 
 -- A SCHEDULE
 
--- the same containers, with contents that keep theirs
-pub record After (s t : ScriptState) : Type 0 where
-  pub made : t.made ≡ s.made
-  pub contents : (c : ℕ) → IsKept (s.contents c) (t.contents c)
-
-seen_held : (kind : ParamKind) (v : Value) (c : Contents) → IsHeld c → IsHeld (seen_as kind v c)
-seen_held Int v c held = held
-seen_held KindArray v c held = tt
-seen_held KindList v c held = held
-seen_held Ref v c held = held
-seen_held KindMap v c held = held
-seen_held KindStream v c held = held
-
-arguments_held : (s : ScriptState) → ((c : ℕ) → IsHeld (s.contents c)) → (params : List Param) (args : List Arg) → AreHeld (arguments_of s params args)
-arguments_held s held [] args = tt
-arguments_held s held (p ∷ ps) [] = tt
-arguments_held s held (p ∷ ps) (Name n ∷ as_) = (seen_held p.kind (s.values n) (contents_at s n) (held (container_at s n)), arguments_held s held ps as_)
-arguments_held s held (p ∷ ps) (Number z ∷ as_) = (tt, arguments_held s held ps as_)
-
--- what a job leaves of an argument keeps what the container holds then
-left_kept : (kind : ParamKind) (s : ScriptState) (k : NameKind) (v : Value) → IsOfKind s k v → IsHeld (s.contents (container_of v)) → (new : Contents) → IsKept (seen_as kind v (s.contents (container_of v))) new → (now : Contents) → IsKept (s.contents (container_of v)) now → IsKept now (left_in kind v new now)
-left_kept Int s k v h held new kept now after = same_kept now after.held
-left_kept KindArray s k v h held new kept now after =
-    let c = s.contents (container_of v) in
-    let many : length (elements new) ≡ length (value_elements v c) = (kept_like (Cells (value_elements v c)) new kept).length refl in
-    elements_kept v (elements new) now after.held (fits_after v (elements new) c now after (same_fits s k v (elements new) h held many))
-left_kept KindList s k v h held new kept now after = record { form = kept.form ∙ sym after.form; held = kept.held }
-left_kept Ref s k v h held new kept now after = record { form = kept.form ∙ sym after.form; held = kept.held }
-left_kept KindMap s k v h held new kept now after = record { form = kept.form ∙ sym after.form; held = kept.held }
-left_kept KindStream s k v h held new kept now after = record { form = kept.form ∙ sym after.form; held = kept.held }
-
-with_kept : (old f : ℕ → Contents) (m : ℕ) (x : Contents) → ((c : ℕ) → IsKept (old c) (f c)) → IsKept (f m) x → (c : ℕ) → IsKept (old c) (with_at f m x c)
-with_kept old f m x kept h c =
-    elim (nat_eq c m) as (λ b. nat_eq c m ≡ b → IsKept (old c) (if b then x else f c)) [
-      | true ↦ λ e. subst (λ n. IsKept (old n) x) (sym (eqb-true c m e)) (then_kept (old m) (f m) x (kept m) h)
-      | false ↦ λ e. kept c
-    ] refl
-
-leave_after : (ns : Names) (s : ScriptState) → HoldsKinds ns.kinds s → (defer : Option (ℕ × ℕ)) (params : List Param) (args : List Arg) (news : List Contents) → args_fit ns defer params args ≡ true → AreKept (arguments_of s params args) news → (f : ℕ → Contents) → ((c : ℕ) → IsKept (s.contents c) (f c)) → After s (leave_all params args news (record s { contents = f }))
-leave_after ns s k defer [] args news fits are f kept = record { made = refl; contents = kept }
-leave_after ns s k defer (p ∷ ps) [] news fits are f kept = record { made = refl; contents = kept }
-leave_after ns s k defer (p ∷ ps) (a ∷ as_) [] fits are f kept = record { made = refl; contents = kept }
-leave_after ns s k defer (p ∷ ps) (Number z ∷ as_) (new ∷ news) fits are f kept = leave_after ns s k defer ps as_ news (and_parts _ _ fits).1 are.1 f kept
-leave_after ns s k defer (p ∷ ps) (Name n ∷ as_) (new ∷ news) fits are f kept =
-    let now : Contents = f (container_at s n) in
-    let left : Contents = left_in p.kind (s.values n) new now in
-    let rest = (and_parts _ _ fits).1 in
-    let used = is_used ns n _ (and_parts _ _ fits).0 in
-    let keeps : IsKept now left = left_kept p.kind s used.kind (s.values n) (k.names n used.kind used.at) (k.containers (container_at s n)) new are.0 now (kept (container_at s n)) in
-    elim (writes_to p.access) as (λ b. After s (leave_all ps as_ news (if b then record s { contents = with_at f (container_at s n) left } else record s { contents = f }))) [
-      | true ↦ leave_after ns s k defer ps as_ news rest are.1 (with_at f (container_at s n) left) (with_kept s.contents f (container_at s n) left kept keeps)
-      | false ↦ leave_after ns s k defer ps as_ news rest are.1 f kept
-    ]
-
-broken_after : (s : ScriptState) (gs : List Given) (t : ScriptState) → After s t → After s (all_broken gs t)
-broken_after s [] t a = a
-broken_after s (g ∷ more) t a =
-    elim (is_list g.kind && g.need.writes) as (λ b. After s (all_broken more (if b then record t { view = with_at t.view g.need.container (t.view g.need.container + 1) } else t))) [
-      | true ↦ broken_after s more (record t { view = with_at t.view g.need.container (t.view g.need.container + 1) }) (record { made = a.made; contents = a.contents })
-      | false ↦ broken_after s more t a
-    ]
-
--- what an accepted schedule leaves of the containers
-pub accept_after : (g : Setting) → RunsKeep g.runs → (ns : Names) (s : ScriptState) (auto : Bool) (handle kernel : ℕ) (args : List Arg) (cut defer : Option (ℕ × ℕ)) (waive after : List ℕ) → args_fit ns defer (params_of g kernel) args ≡ true → HoldsKinds ns.kinds s → After s (accept g s auto handle kernel args cut defer waive after)
-accept_after g keep ns s auto handle kernel args cut defer waive after fits k =
-    let params : List Param = params_of g kernel in
-    let kept = keep kernel _ _ _ (arguments_of s params args) (arguments_held s k.containers params args) in
-    let left = broken_after s (givens s params args defer) _ (leave_after ns s k defer params args _ fits kept s.contents (λ c. same_kept (s.contents c) (k.containers c))) in
-    record { made = left.made; contents = left.contents }
-
 accept_kinds : (g : Setting) → RunsKeep g.runs → (ns : Names) (s : ScriptState) (auto : Bool) (handle kernel : ℕ) (args : List Arg) (cut defer : Option (ℕ × ℕ)) (waive after : List ℕ) → makes ns handle HandleName ≡ true → args_fit ns defer (params_of g kernel) args ≡ true → HoldsKinds ns.kinds s → HoldsKinds ns.kinds (accept g s auto handle kernel args cut defer waive after)
 accept_kinds g keep ns s auto handle kernel args cut defer waive after made fits k =
     let done : ScriptState = accept g s auto handle kernel args cut defer waive after in
@@ -287,7 +217,7 @@ effect_kinds g keep line ns rest inside s (Column name column life) fits none k 
 effect_kinds g keep line ns rest inside s (NewList name cap life) fits none k = made_kinds ns.kinds line name life _ s (makes_kind ns name ListName (and_parts _ _ fits).0) (omega arith) k
 effect_kinds g keep line ns rest inside s (Reference name life value) fits none k = made_kinds ns.kinds line name life _ s (makes_kind ns name RefName fits) tt k
 effect_kinds g keep line ns rest inside s (Map name cap life) fits none k = made_kinds ns.kinds line name life _ s (makes_kind ns name MapName (and_parts _ _ fits).0) (omega arith, refl) k
-effect_kinds g keep line ns rest inside s (Stream name count room life) fits none k = made_kinds ns.kinds line name life _ s (makes_kind ns name StreamName (and_parts _ _ fits).0) (unwritten room count) k
+effect_kinds g keep line ns rest inside s (Stream name count room life) fits none k = made_kinds ns.kinds line name life _ s (makes_kind ns name StreamName (and_parts _ _ fits).0) (unwritten_room room count) k
 effect_kinds g keep line ns rest inside s (Slice name of start len) fits none k =
     let names = and_parts (makes ns name SliceName && uses ns of sliceable) _ fits in
     let both = and_parts (makes ns name SliceName) (uses ns of sliceable) names.0 in

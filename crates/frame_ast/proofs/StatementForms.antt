@@ -1,27 +1,27 @@
 -- A statement keeps the form of each container, but that `setcapacity` gives a list its new capacity.
-use Rattle.std.proofs.Common.{◌≡◌, refl, sym, ap, ◌∙◌, subst, ℕ, ◌+◌, ◌<◌, Bool, true, false, ◌&&◌, ℤ, List, [], ◌∷◌, Option, None, Some, slice_get, Result, Ok, Err, arith}
-use Rattle.std.specs.Prelude.{nat_eq, nat_lt, not, IfOk, if◌then◌else◌}
-use Rattle.std.proofs.lemmas.Bool.{eqb-true, and_parts, false≢true}
+use Rattle.std.proofs.Common.{◌≡◌, refl, sym, ap, ◌∙◌, ℕ, ◌+◌, ◌<◌, true, false, [], ◌∷◌, Option, None, Some, slice_get, Result, Ok, Err, arith}
+use Rattle.std.specs.Prelude.{nat_eq, nat_lt, if◌then◌else◌}
+use Rattle.std.proofs.lemmas.Bool.{eqb-true, and_parts}
 use Rattle.job_base.specs.declared.Trap.{Trap}
 use Rattle.job_base.specs.declared.Trap.TheVariants.{Range}
 use Rattle.frame_ast.specs.declared.script.Order.{Order}
-use Rattle.frame_ast.specs.declared.script.Order.TheVariants.{Array, Column, List as NewList, Reference, Map, Stream, Slice, View, Copy, Set, Add, Put, Remove, Clear, SetCapacity, Schedule, Combine, Complete, CompleteAuto, Dispose, DisposeAuto, Print, Flush, Frame, When}
-use Rattle.frame_ast.specs.declared.script.Statement.{Statement}
-use Rattle.frame_ast.specs.Contents.{Contents, Cells, Single, Items, Pairs, Entries, IsHeld, cleared}
+use Rattle.frame_ast.specs.declared.script.Order.TheVariants.{Array, Column, List as NewList, Reference, Map, Stream, Set, Add, Put, Remove, Clear, SetCapacity, Schedule, Dispose}
+use Rattle.frame_ast.specs.Contents.{Contents, Cells, Single, Items, Pairs, Entries, cleared}
 use Rattle.frame_ast.specs.Jobs.{nobody}
-use Rattle.frame_ast.specs.States.{Value, ScriptState, at_start, with_at, container_of, container_at, contents_at, is_alive}
+use Rattle.frame_ast.specs.States.{ScriptState, with_at, container_at, contents_at}
 use Rattle.frame_ast.specs.Schedules.{need_of}
-use Rattle.frame_ast.specs.Refusals.{Refused, first_cause, disposed, stale, pending, store_full, unchanged}
-use Rattle.frame_ast.specs.Orders.{Setting, setting, new_list, set_in, add_in, capacity_in}
+use Rattle.frame_ast.specs.Refusals.{Refused, disposed, stale, pending, store_full, unchanged}
+use Rattle.frame_ast.specs.Orders.{Setting, setting, new_list, add_in, capacity_in}
 use Rattle.frame_ast.specs.Checks.{refusal}
 use Rattle.frame_ast.specs.Effects.{effect, changed, views_broken, list_broken}
-use Rattle.frame_ast.specs.Accepted.{NameKind, SliceName, ViewName, ListName, HandleName, Names, set_kinds, makes, uses, order_fits}
+use Rattle.frame_ast.specs.Accepted.{NameKind, ListName, HandleName, Names, set_kinds, makes, uses, order_fits}
 use Rattle.frame_ast.specs.Forms.{form_of, form_after, StatementsKeepForms}
 use Rattle.frame_ast.specs.Kinds.{kind_of, IsOfKind, HoldsKinds}
-use Rattle.frame_ast.proofs.Forms.{Keeps, add_kept, add_pair_kept, put_pair_kept, remove_kept, cleared_kept}
+use Rattle.frame_ast.proofs.Forms.{Keeps, put_pair_kept, remove_kept, cleared_kept}
 use Rattle.frame_ast.proofs.Keeping.{RunsKeep, runs_keep}
 use Rattle.frame_ast.proofs.Naming.{one_kind, is_used, args_of, fits_there}
-use Rattle.frame_ast.proofs.NameKinds.{first_none, lives, set_stays, add_stays, accept_after, names_keep_their_kinds}
+use Rattle.frame_ast.proofs.Leaving.{accept_after}
+use Rattle.frame_ast.proofs.NameKinds.{first_none, lives, whole_kind, set_stays, add_stays, names_keep_their_kinds}
 
 made_form : (s : ScriptState) (contents : Contents) (c : ℕ) → c < s.made → form_of (with_at s.contents s.made contents c) ≡ form_of (s.contents c)
 made_form s contents c below =
@@ -50,13 +50,6 @@ views_form : (name : ℕ) (s : ScriptState) (c : ℕ) (form : Contents) → form
 views_form name s c form is = ap (λ f. form_of (f c)) (list_same (contents_at s name) (container_at s name) s) ∙ is
 
 -- `setcapacity`
-
-pub whole_kind : (s : ScriptState) (kind : NameKind) (v : Value) → is_alive s v ≡ true → IsOfKind s kind v → (kind ≡ SliceName → ⊥) → (kind ≡ ViewName → ⊥) → kind_of (s.contents (container_of v)) ≡ kind
-whole_kind s kind Value.Dead alive h slice view = absurd (false≢true alive)
-whole_kind s kind (Value.Whole c) alive h slice view = sym h.0
-whole_kind s kind (Value.Slice c start len) alive h slice view = absurd (slice h.0)
-whole_kind s kind (Value.View c number) alive h slice view = absurd (view h.0)
-whole_kind s kind (Value.Handle jobs) alive h slice view = absurd (false≢true alive)
 
 capacity_form : (name cap : ℕ) (held : Contents) (s : ScriptState) (c : ℕ) → kind_of held ≡ ListName → unchanged name (capacity_in held cap) ≡ None → form_of ((changed name (capacity_in held cap) s).contents c) ≡ (if nat_eq c (container_at s name) then new_list cap else form_of (s.contents c))
 capacity_form name cap (Cells xs) s c is none = absurd cc

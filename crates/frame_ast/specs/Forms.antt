@@ -25,6 +25,7 @@ form_of (Entries room es) = Entries room (replicate (length es) None)
 
 -- A JOB KEEPS THE FORM OF EACH ARGUMENT, AND LEAVES WHAT CAN BE HELD
 
+-- new contents of the same form, which the container can hold
 pub record IsKept (old new : Contents) : Type 0 where
   pub form : form_of new ≡ form_of old
   pub held : IsHeld new
@@ -45,7 +46,7 @@ JobsKeepForms = (k : Kernel) → IsChecked k → (widths : List ℕ) (steps n : 
 
 -- A STATEMENT KEEPS THE FORM OF EACH CONTAINER, BUT THAT `setcapacity` GIVES A LIST ITS NEW CAPACITY
 
--- the form of a container after an accepted statement
+-- The form of a container after an accepted statement. A refused one changes no contents.
 abbrev pub form_after : ScriptState → Order → ℕ → Contents
 form_after s (SetCapacity name cap) c = if nat_eq c (container_at s name) then new_list cap else form_of (s.contents c)
 form_after s _ c = form_of (s.contents c)

@@ -35,11 +35,12 @@ IsOfKind s kind (Value.Slice c start len) =
 IsOfKind s kind (Value.View c number) = (kind ≡ ViewName) × (c < s.made) × (kind_of (s.contents c) ≡ ListName)
 IsOfKind s kind (Value.Handle jobs) = kind ≡ HandleName
 
+-- each name a value of its kind, and each container what it can hold; a number that no container has yet stands for no elements
 pub record HoldsKinds (kinds : List NameKind) (s : ScriptState) : Type 0 where
   pub names : (n : ℕ) (kind : NameKind) → slice_get kinds n ≡ Some kind → IsOfKind s kind (s.values n)
   pub containers : (c : ℕ) → IsHeld (s.contents c)
 
--- after each of its statements
+-- at the start, and after each of its statements
 abbrev pub NamesKeepTheirKinds : Type 0
 NamesKeepTheirKinds = (script : Script) (is : IsAccepted script) (table : Table) (n : ℕ) → HoldsKinds is.kinds (final (setting script table) (take n script.statements.items))
 
@@ -54,6 +55,7 @@ kind_given Ref = RefName
 kind_given Map = MapName
 kind_given Stream = StreamName
 
+-- as many contents as parameters, each of the kind that its parameter is given
 abbrev pub FitKinds : List Param → List Contents → Type 0
 FitKinds [] [] = Unit {0}
 FitKinds [] (c ∷ cs) = ⊥
@@ -65,6 +67,7 @@ abbrev pub ArgumentsFit : Setting → ScriptState → Order → Type 0
 ArgumentsFit g s (Schedule auto handle kernel args cut defer waive after) = FitKinds (params_of g kernel) (arguments_of s (params_of g kernel) args.items)
 ArgumentsFit g s _ = Unit {0}
 
+-- where it isn't refused
 abbrev pub SchedulesFit : Type 0
 SchedulesFit = (script : Script) → IsAccepted script → (table : Table) (n : ℕ) (x : Statement) → slice_get script.statements.items n ≡ Some x →
     let g = setting script table in
