@@ -14,7 +14,7 @@ use Rattle.ast_rows.proofs.RowsConflicts.{total_names, total_said}
 use Rattle.ast_rows.proofs.RowsContainers.{keys_names, keys_said}
 use Rattle.ast_rows.proofs.RowsLifetimes.{reused_names, reused_said}
 use Rattle.ast_rows.proofs.RowsAutomatic.{block_names, block_said}
-use Rattle.ast_rows.proofs.CheckedKernels.{checked_scale, checked_total, checked_bump, checked_peek, checked_shift, checked_pair, checked_both, checked_emit, checked_slow, checked_quick, checked_keys, checked_push, checked_triple, checked_edge, checked_twice, checked_pairs, checked_over, checked_grow, checked_cap, checked_signs, checked_logic, checked_edit, checked_lookup, checked_again, checked_missed}
+use Rattle.ast_rows.proofs.CheckedKernels.{checked_scale, checked_total, checked_bump, checked_peek, checked_shift, checked_pair, checked_both, checked_emit, checked_slow, checked_quick, checked_keys, checked_push, checked_triple, checked_edge, checked_twice, checked_pairs, checked_over, checked_grow, checked_cap, checked_signs, checked_logic, checked_edit, checked_lookup, checked_again, checked_missed, checked_mark, checked_cross}
 
 -- each of some kernels is checked
 data AllChecked (at : Place) : List Text → Type 0 where
@@ -54,6 +54,8 @@ all_checked at =
     also checked_lookup.checked at
     also checked_again.checked at
     also checked_missed.checked at
+    also checked_mark.checked at
+    also checked_cross.checked at
     also none
 
 -- whether the statements of a script fit, where its names have these kinds

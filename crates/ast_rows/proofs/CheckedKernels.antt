@@ -5,7 +5,7 @@ use Rattle.frame_ast.specs.declared.kernel.Param.{Param}
 use Rattle.frame_ast.specs.Checked.{IsChecked, param_fits, all_fit, statement_fits, expr_fits, all_joined, measured, expr_nodes, expr_depth, body_nodes, body_depth}
 use Rattle.ast_rows.proofs.Trees.{Place}
 use Rattle.ast_rows.proofs.Kernel.{Text, kernel, all_folded, same_folds, taken}
-use Rattle.ast_rows.proofs.Kernels.{scale, total, bump, peek, shift, pair, both, emit, slow, quick, keys, push, triple, edge, twice, pairs, over, grow, cap, signs, logic, edit, lookup, again, missed, spin, loop}
+use Rattle.ast_rows.proofs.Kernels.{scale, total, bump, peek, shift, pair, both, emit, slow, quick, keys, push, triple, edge, twice, pairs, over, grow, cap, signs, logic, edit, lookup, again, missed, mark, cross, spin, loop}
 
 abbrev params : Place → Text → List Param
 params at k = (kernel at k).params.items
@@ -130,3 +130,9 @@ checked_again = passes (λ at. refl) (λ at. refl) (λ at. refl) refl refl refl
 
 pub checked_missed : Passes missed 3 3
 checked_missed = passes (λ at. refl) (λ at. refl) (λ at. refl) refl refl refl
+
+pub checked_mark : Passes mark 3 2
+checked_mark = passes (λ at. refl) (λ at. refl) (λ at. refl) refl refl refl
+
+pub checked_cross : Passes cross 2 2
+checked_cross = passes (λ at. refl) (λ at. refl) (λ at. refl) refl refl refl

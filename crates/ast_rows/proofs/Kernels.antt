@@ -160,6 +160,14 @@ again = job "again" (rw a_map "m" ∷ []) 0 (
 abbrev pub missed : Text
 missed = job "missed" (ro a_map "m" ∷ wo a_ref "t" ∷ []) 0 (set_value 1 (element 0 (number 4)) ⨾ end)
 
+-- parallel mark(b: rw array) { b[index] = index; }
+abbrev pub mark : Text
+mark = parallel "mark" (rw an_array "b" ∷ []) 0 (store 0 index index ⨾ end)
+
+-- parallel cross(s: wo stream) { begin s[0] { } }
+abbrev pub cross : Text
+cross = parallel "cross" (wo a_stream "s" ∷ []) 0 (begin 0 (number 0) end ⨾ end)
+
 -- job spin(a: rw array) { a[0] = 1; while 1 { } }
 abbrev pub spin : Text
 spin = job "spin" (rw an_array "a" ∷ []) 0 (store 0 (number 0) (number 1) ⨾ while (number 1) end ⨾ end)
@@ -170,4 +178,4 @@ loop = job "loop" (wo a_ref "t" ∷ []) 1 (for_ 0 (number 0) (number 5) end ⨾ 
 
 -- Scripts take their kernels from this one list, whether they use all of them or not.
 abbrev pub kernels : List Text
-kernels = scale ∷ total ∷ bump ∷ peek ∷ shift ∷ pair ∷ both ∷ emit ∷ slow ∷ quick ∷ keys ∷ push ∷ triple ∷ edge ∷ twice ∷ pairs ∷ over ∷ grow ∷ cap ∷ signs ∷ logic ∷ edit ∷ lookup ∷ again ∷ missed ∷ []
+kernels = scale ∷ total ∷ bump ∷ peek ∷ shift ∷ pair ∷ both ∷ emit ∷ slow ∷ quick ∷ keys ∷ push ∷ triple ∷ edge ∷ twice ∷ pairs ∷ over ∷ grow ∷ cap ∷ signs ∷ logic ∷ edit ∷ lookup ∷ again ∷ missed ∷ mark ∷ cross ∷ []

@@ -4,6 +4,7 @@ mod Kernels
 mod Script
 mod RowsKernels
 mod RowsConflicts
+mod RowsRefusals
 mod RowsContainers
 mod RowsLifetimes
 mod RowsParallel

@@ -6,7 +6,7 @@ use Rattle.frame_ast.specs.declared.script.Sign.{Sign}
 use Rattle.frame_ast.specs.Kernels.{fresh}
 use Rattle.frame_ast.specs.JobRuns.{full_steps, deferred_steps}
 use Rattle.frame_ast.specs.Orders.{no_table}
-use Rattle.ast_rows.proofs.Script.{Said, Gives, computed, lines, array, array_of, reference, set, print, plain, cut, schedule, schedule_auto, complete, complete_auto, dispose_auto, when}
+use Rattle.ast_rows.proofs.Script.{Said, Gives, computed, lines, array, array_of, reference, set, print, plain, cut, schedule, schedule_auto, complete, complete_auto, dispose_auto, when, reference_of}
 
 -- array x 4 = 1 2 3 4 / array y 4 / reference t / schedule auto h1 scale(x, y) 4 2 / schedule auto h2 total(y, t) / complete auto t / print t
 automatic_dependencies : Gives ("x" ∷ "y" ∷ "t" ∷ "h1" ∷ "h2" ∷ []) (lines 13 (
@@ -91,3 +91,24 @@ name_of_a_passed_block : Gives ("t" ∷ "b" ∷ []) (lines 13 (
     ∷ [])) no_table "refused 17: disposed b\n" 1
 unfolding fresh full_steps deferred_steps digits
 name_of_a_passed_block = computed (λ at. refl)
+
+-- reference t = 2 / when t <= 2 { / print t / } / when t >= 3 { / print t / } / when t != 2 { / print t / } / when t == 2 { / print t / }
+comparisons_of_when : Gives ("t" ∷ []) (lines 1 (
+    reference_of "t" 2
+    ∷ when "t" Sign.Le 2 1
+    ∷ print "t"
+    ∷ [])
+    ++ lines 5 (
+    when "t" Sign.Ge 3 1
+    ∷ print "t"
+    ∷ [])
+    ++ lines 8 (
+    when "t" Sign.Ne 2 1
+    ∷ print "t"
+    ∷ [])
+    ++ lines 11 (
+    when "t" Sign.Eq 2 1
+    ∷ print "t"
+    ∷ [])) no_table "t = 2\nt = 2\n" 0
+unfolding fresh full_steps deferred_steps digits
+comparisons_of_when = computed (λ at. refl)

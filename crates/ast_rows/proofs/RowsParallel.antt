@@ -4,7 +4,7 @@ use Rattle.std.specs.Fmt.{digits}
 use Rattle.frame_ast.specs.Kernels.{fresh}
 use Rattle.frame_ast.specs.JobRuns.{full_steps, deferred_steps}
 use Rattle.frame_ast.specs.Orders.{no_table}
-use Rattle.ast_rows.proofs.Script.{Gives, computed, lines, array, array_of, list, reference, add, print, plain, after, cut, defer, waive, schedule, complete}
+use Rattle.ast_rows.proofs.Script.{Gives, computed, lines, array, array_of, list, reference, add, print, plain, after, cut, defer, waive, schedule, complete, view, stream}
 
 -- array x 0 / array y 4 = 1 1 1 1 / reference t / schedule h1 scale(x, y) 0 4 / schedule h2 total(y, t) after h1 / complete h2 / print t
 no_index : Gives ("x" ∷ "y" ∷ "t" ∷ "h1" ∷ "h2" ∷ []) (lines 13 (
@@ -105,3 +105,38 @@ length_after_an_earlier_job : Gives ("l" ∷ "g" ∷ "y" ∷ "h" ∷ []) (lines 
     ∷ [])) no_table "refused 18: pending job 2 on l\ny = [21, 24, 0]\n" 1
 unfolding fresh full_steps deferred_steps digits
 length_after_an_earlier_job = computed (λ at. refl)
+
+-- list l 4 / add l 5 / add l 5 / view v l / schedule h mark(l) defer l 2 / complete h / print v / print l
+-- A list that is given for an array breaks no view.
+list_as_the_array_of_its_length : Gives ("l" ∷ "v" ∷ "h" ∷ []) (lines 1 (
+    list "l" 4
+    ∷ add "l" 5
+    ∷ add "l" 5
+    ∷ view "v" "l"
+    ∷ schedule "h" "mark" ("l" ∷ []) (defer "l" 2 plain)
+    ∷ complete "h"
+    ∷ print "v"
+    ∷ print "l"
+    ∷ [])) no_table "v = [0, 1]\nl = [0, 1]\n" 0
+unfolding fresh full_steps deferred_steps digits
+list_as_the_array_of_its_length = computed (λ at. refl)
+
+-- list l 4 / add l 5 / view v l / schedule h mark(v) defer l 2
+view_of_the_list_of_its_length : Gives ("l" ∷ "v" ∷ "h" ∷ []) (lines 1 (
+    list "l" 4
+    ∷ add "l" 5
+    ∷ view "v" "l"
+    ∷ schedule "h" "mark" ("v" ∷ []) (defer "l" 2 plain)
+    ∷ [])) no_table "refused 4: alias l\n" 1
+unfolding fresh full_steps deferred_steps digits
+view_of_the_list_of_its_length = computed (λ at. refl)
+
+-- stream s 2 1 / schedule h cross(s) 2 1 / complete h / print s
+index_owns_its_items : Gives ("s" ∷ "h" ∷ []) (lines 1 (
+    stream "s" 2 1
+    ∷ schedule "h" "cross" ("s" ∷ []) (cut 2 1 plain)
+    ∷ complete "h"
+    ∷ print "s"
+    ∷ [])) no_table "s = [[], []]\ntrap job 1 index 1: own-index\ntraps 1\n" 5
+unfolding fresh full_steps deferred_steps digits
+index_owns_its_items = computed (λ at. refl)
