@@ -1,0 +1,15 @@
+pub mod Ints
+pub mod Probing
+pub mod Tables
+pub mod Sizes
+pub mod Rising
+pub mod Claims
+pub mod Loops
+pub mod Laws
+pub mod Changes
+pub mod Removal
+pub mod Effects
+pub mod Nearest
+pub mod Standing
+pub mod Readings
+pub mod Forms

@@ -1,0 +1,4 @@
+pub mod Table
+pub mod Words
+pub mod Layout
+pub mod Effects

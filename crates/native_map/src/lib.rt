@@ -1,0 +1,38 @@
+//! A hash map from i64 to i64 in the words of a memory, as Unity's `NativeHashMap` is one in native memory.
+//!
+//! The first word has the count. Behind it stands a table of T places, each of three words (whether it holds a pair,
+//! its key, its value), where T is the least power of two that is at least 2 and at least twice the capacity. Words of
+//! 0 are the empty map.
+//!
+//! A key is searched for by linear probing: from its home place on, round the end of the table, up to the key or to a
+//! place that holds nothing. The places that it goes through hold pairs and form a cluster. A removal closes its gap by
+//! backward shift deletion, so there are no tombstones, and no key becomes hard to find by what was removed before it.
+//!
+//! The home place is the low bits of a fixed hash: the key's high half is folded into its low half by exclusive or,
+//! before and after one multiplication by 0xd6e8feb86659fd93 (the step of degski's 64-bit mixer). It spreads the usual
+//! patterns of keys: numbers in order, multiples of a power of two, high bits alone. At most half of the places hold a
+//! pair, so a call is expected to visit a few places at most, whatever the capacity. The hash is public and has no seed:
+//! keys that were chosen against it can all have one home place, and then a call visits as many places as there are
+//! keys. The answers stay the same.
+//!
+//! `specs/Layout` says which contents words stand for, `specs/Words` what each call does to the cells, and
+//! `specs/Effects` what it does to contents. Each call promises the first exactly, and that it is the word form of the
+//! second: it stands for the effect, and reads and changes words of the map alone. No call asks what words stand for.
+#![tactic(auto)]
+
+mod adding;
+mod listing;
+mod place;
+mod removing;
+mod search;
+
+pub use place::words_of;
+
+/// A map of at most `cap` keys, whose words begin at `start`. Which place of its table has which key is private.
+///
+/// <https://docs.unity3d.com/Packages/com.unity.collections@2.5/api/Unity.Collections.NativeHashMap-2.html>
+#[derive(Clone, Copy, Debug, PartialEq, Eq)]
+pub struct MapAt {
+    pub start: u32,
+    pub cap: u32,
+}
