@@ -7,3 +7,4 @@ pub mod Texts
 pub mod Fronts
 pub mod Reserved
 pub mod Steps
+pub mod TokenLemmas

@@ -75,3 +75,6 @@ turn source place line len kind before after all within kind_is len_is some room
 
 pub line_after-le : (byte line : ℕ) → line_after byte line ≤ line + 1
 line_after-le byte line = cond_both (byte == 10) (line + 1) line (λ next. next ≤ line + 1) (λ _. omega arith) (λ _. omega arith)
+
+pub line_after-ge : (byte line : ℕ) → line ≤ line_after byte line
+line_after-ge byte line = cond_both (byte == 10) (line + 1) line (λ next. line ≤ next) (λ _. omega arith) (λ _. omega arith)

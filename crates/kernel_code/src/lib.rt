@@ -3,6 +3,8 @@
 
 mod lexer;
 mod spelling;
+#[cfg(test)]
+mod tests;
 mod token;
 mod word;
 
