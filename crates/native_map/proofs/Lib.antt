@@ -13,3 +13,4 @@ pub mod Nearest
 pub mod Standing
 pub mod Readings
 pub mod Forms
+pub mod InOrder

@@ -63,11 +63,12 @@ probe stops t (suc n) p = if stops p then Some p else probe stops t n (next_plac
 
 -- ---- the hash
 
--- The bits of a key, mixed: the high half is folded into the low one before and after a multiplication.
+-- The bits of a key, mixed as SplitMix64 ends: twice the high bits are folded into the low ones and the number is multiplied.
 unfoldable pub mixed : ℕ → ℕ
 mixed x =
-    let y = (bit_xor x (x / 2 ^ 32) * 0xd6e8feb86659fd93) % 2 ^ 64 in
-    bit_xor y (y / 2 ^ 32)
+    let y = (bit_xor x (x / 2 ^ 30) * 0xbf58476d1ce4e5b9) % 2 ^ 64 in
+    let z = (bit_xor y (y / 2 ^ 27) * 0x94d049bb133111eb) % 2 ^ 64 in
+    bit_xor z (z / 2 ^ 31)
 
 -- the home place of a key among t, a power of two
 unfoldable pub home : ℕ → ℤ → ℕ

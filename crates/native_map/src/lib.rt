@@ -8,12 +8,12 @@
 //! place that holds nothing. The places that it goes through hold pairs and form a cluster. A removal closes its gap by
 //! backward shift deletion, so there are no tombstones, and no key becomes hard to find by what was removed before it.
 //!
-//! The home place is the low bits of a fixed hash: the key's high half is folded into its low half by exclusive or,
-//! before and after one multiplication by 0xd6e8feb86659fd93 (the step of degski's 64-bit mixer). It spreads the usual
-//! patterns of keys: numbers in order, multiples of a power of two, high bits alone. At most half of the places hold a
-//! pair, so a call is expected to visit a few places at most, whatever the capacity. The hash is public and has no seed:
-//! keys that were chosen against it can all have one home place, and then a call visits as many places as there are
-//! keys. The answers stay the same.
+//! The home place is the low bits of a fixed hash, the last steps of SplitMix64
+//! (<https://prng.di.unimi.it/splitmix64.c>). It spreads the usual patterns of keys: numbers in order, multiples of a
+//! number or of a power of two, two numbers packed into one. At most half of the places hold a pair, so a call is
+//! expected to visit one or two places, whatever the capacity. The hash is public and has no seed: keys that were chosen
+//! against it can all have one home place, and then a call visits as many places as there are keys. The answers stay
+//! the same.
 //!
 //! `specs/Layout` says which contents words stand for, `specs/Words` what each call does to the cells, and
 //! `specs/Effects` what it does to contents. Each call promises the first exactly, and that it is the word form of the
@@ -25,6 +25,8 @@ mod listing;
 mod place;
 mod removing;
 mod search;
+#[cfg(test)]
+mod tests;
 
 pub use place::words_of;
 

@@ -30,12 +30,14 @@ pub fn words_of(cap: u32) -> u64
     3 * places(cap) + 1
 }
 
+// The last steps of SplitMix64, <https://prng.di.unimi.it/splitmix64.c>.
 #[tactic(auto, unfolding(crate::specs::Table::mixed))]
 fn mixed(x: u64) -> u64
     ensures { result ≡ mixed x }
 {
-    let y = (x ^ (x >> 32)).wrapping_mul(0xd6e8_feb8_6659_fd93);
-    y ^ (y >> 32)
+    let y = (x ^ (x >> 30)).wrapping_mul(0xbf58_476d_1ce4_e5b9);
+    let z = (y ^ (y >> 27)).wrapping_mul(0x94d0_49bb_1331_11eb);
+    z ^ (z >> 31)
 }
 
 // The home place of a key, where the search for it begins.
