@@ -6,6 +6,8 @@ use Rattle.std.specs.FinMap.Entries.{same_entries}
 use Rattle.std.specs.Ordering.{int_cmp}
 use Rattle.frame_ast.specs.Contents.{Contents, Pairs, IsHeld}
 use Rattle.std.specs.Cmp.{int_cmp_total}
+use Rattle.frame_ast.specs.Arguments.{get_in, put_in}
+use Rattle.native_map.specs.Effects.{done, get_effect, put_effect}
 use Rattle.native_map.specs.declared.MapAt.{MapAt}
 use Rattle.native_map.specs.declared.search.Spot.TheVariants.{Held, Free}
 use Rattle.native_map.specs.Table.{places, flag_word, key_word, value_word, end_of, next_place, probe, home, holds, key_at, value_at, stops, place_of, spot_in, value_in, value_of}
@@ -71,3 +73,11 @@ stands_once at cells c d s r = s.1 ∙ ap (Pairs at.cap) (holds_once at cells s.
 -- what words stand for is what a map can hold
 pub stands_held : (at : MapAt) (cells : ℕ → ℤ) (c : Contents) → StandsFor at cells c → IsHeld c
 stands_held at cells c s = subst IsHeld (sym s.1) (s.2.within, s.2.rising)
+
+-- `x[e]` and `x[e] = f` of a map are these effects, whatever the index and the width that owns places of an array
+
+pub get_in-is : (at : MapAt) (cells : ℕ → ℤ) (c : Contents) → StandsFor at cells c → (width index : ℕ) (k : ℤ) → get_in width index k c ≡ (get_effect k c).0
+get_in-is at cells c s width index k = subst (λ c. get_in width index k c ≡ (get_effect k c).0) (sym s.1) refl
+
+pub put_in-is : (at : MapAt) (cells : ℕ → ℤ) (c : Contents) → StandsFor at cells c → (width index : ℕ) (k v : ℤ) → put_effect k v c ≡ done tt c (put_in width index k v c)
+put_in-is at cells c s width index k v = subst (λ c. put_effect k v c ≡ done tt c (put_in width index k v c)) (sym s.1) refl

@@ -5,8 +5,6 @@ use Rattle.std.specs.FinMap.Entries.{is_sorted}
 use Rattle.job_base.specs.Forms.{IsForm}
 use Rattle.frame_ast.specs.Contents.{Contents, Pairs, value_of_key}
 use Rattle.native_map.specs.declared.MapAt.{MapAt}
-use Rattle.native_map.specs.declared.search.Spot.{Spot}
-use Rattle.native_map.specs.declared.search.Spot.TheVariants.{Held, Free, Nowhere}
 use Rattle.native_map.specs.Table.{places, flag_word, key_at, holds, place_of, value_of, held_count, end_of}
 
 -- The table holds these pairs. They are listed by rising key; which place has which is the table's own choice.
@@ -21,15 +19,10 @@ pub record HoldsPairs (at : MapAt) (cells : ℕ → ℤ) (ps : List (ℤ × ℤ)
   pub count : cells at.start ≡ pos (length ps)
   pub within : length ps ≤ at.cap
 
+-- The words stand for a map of its capacity, with the pairs that its table holds.
 abbrev pub StandsFor : MapAt → (ℕ → ℤ) → Contents → Type 0
 StandsFor at cells contents = (ps : List (ℤ × ℤ)) × (contents ≡ Pairs at.cap ps) × HoldsPairs at cells ps
 
 -- the word form of an effect on a map's contents
 abbrev pub IsWordForm : {A : Type 0} → MapAt → ((ℕ → ℤ) → A × (ℕ → ℤ)) → (Contents → A × Contents) → Type 0
 IsWordForm at form effect = IsForm at.start (end_of at) (StandsFor at) form effect
-
--- a place where a search ended is one of t
-abbrev pub IsWithin : ℕ → Spot → Type 0
-IsWithin t (Held p) = p < t
-IsWithin t (Free p) = p < t
-IsWithin t Nowhere = Unit {0}

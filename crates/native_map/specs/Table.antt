@@ -1,5 +1,5 @@
 -- The table in a map's words: its places, the hash, and how a key is searched for.
-use Rattle.std.specs.Prelude.{ℕ, ℤ, pos, zero, suc, ◌+◌, ◌-◌, ◌*◌, ◌/◌, ◌%◌, ◌^◌, Bool, true, false, not, ◌==◌, ◌||◌, nat_le, if◌then◌else◌, Option, Some, None, bit_and, bit_xor}
+use Rattle.std.specs.Prelude.{ℕ, ℤ, pos, zero, suc, ◌+◌, ◌-◌, ◌*◌, ◌/◌, ◌%◌, ◌^◌, ◌<◌, Bool, true, false, not, ◌==◌, ◌||◌, nat_le, if◌then◌else◌, Option, Some, None, bit_and, bit_xor}
 use Rattle.std.specs.Ordering.{int_eq}
 use Rattle.std.specs.Int.{cast_unsigned, w64}
 use Rattle.frame_ast.specs.Contents.{map_places}
@@ -91,6 +91,12 @@ spot_in at cells (Some p) = if holds cells at.start p then Held p else Free p
 
 abbrev pub spot_of : MapAt → (ℕ → ℤ) → ℤ → Spot
 spot_of at cells k = spot_in at cells (place_of at cells k)
+
+-- a place where a search ended is one of t
+abbrev pub IsWithin : ℕ → Spot → Type 0
+IsWithin t (Held p) = p < t
+IsWithin t (Free p) = p < t
+IsWithin t Nowhere = Unit {0}
 
 -- the value that a search found
 abbrev pub value_in : MapAt → (ℕ → ℤ) → Spot → Option ℤ

