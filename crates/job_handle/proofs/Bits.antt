@@ -1,0 +1,121 @@
+-- Sets as bits.
+use Rattle.std.proofs.Common.{◌≡◌, ℕ, ◌+◌, ◌-◌, ◌*◌, ◌/◌, ◌%◌, ◌^◌, ◌<◌, ◌≤◌, ⊎_elim, max, Bool, true, false, ◌&&◌, ◌||◌, ne_eqb, List, length, replicate, slice_index, bit_or, refl, sym, ap, subst, ◌∙◌, arith}
+use Rattle.std.specs.Prelude.{nat_eq, nat_lt}
+use Rattle.std.specs.Int.{bit_at}
+use Rattle.std.proofs.lemmas.Bool.{cases_Bool, cases_eq, cases_lt, and_parts, and_from, and_right, eq-eqb, eqb-true, lt-ltb, ltb-true}
+use Rattle.std.proofs.lemmas.List.{length-replicate, get_or-replicate, get_or-set_same, get_or-set_other}
+use Rattle.std.proofs.lemmas.Nat.{one_shl}
+use Rattle.std.proofs.lemmas.Nat.Bits.{bit_at_or, bit_at-lt, bit_at-zero, bit_at-pow_same, bit_at-pow_other}
+use Rattle.std.proofs.Math.ListN.{set, get_or-eq_default}
+use Rattle.std.proofs.Math.Nat.{div-add-mod, div-eq_of_lt-le, mod-lt}
+use Rattle.frame_ast.specs.Jobs.{nobody, only, both}
+use Rattle.job_handle.specs.declared.handle.Handle.{Handle}
+use Rattle.job_handle.specs.Sets.{bit_of, jobs_of}
+use Rattle.job_handle.proofs.Tests.{not_both, same_test}
+
+-- WORDS THAT ARE JOINED
+
+or_bits : (x y : ℕ) → x < 2 → y < 2 → nat_eq (max x y) 1 ≡ (nat_eq x 1 || nat_eq y 1)
+or_bits x y a b = ⊎_elim
+    (λ p. eq-eqb (max x y) 1 (omega arith) ∙ sym (ap (λ (t : Bool). t || nat_eq y 1) (eq-eqb x 1 p)))
+    (λ p. ⊎_elim
+    (λ q. eq-eqb (max x y) 1 (omega arith) ∙ sym (ap (λ (t : Bool). t || nat_eq y 1) (ne_eqb x 1 p) ∙ eq-eqb y 1 q))
+    (λ q. ne_eqb (max x y) 1 (λ e. absurd (omega arith)) ∙ sym (ap (λ (t : Bool). t || nat_eq y 1) (ne_eqb x 1 p) ∙ ne_eqb y 1 q))
+    (cases_eq y 1))
+    (cases_eq x 1)
+
+bits_or : (a b r : List ℕ) (i : ℕ) → slice_index r (i / 64) ≡ bit_or (slice_index a (i / 64)) (slice_index b (i / 64)) → bit_of r i ≡ (bit_of a i || bit_of b i)
+bits_or a b r i h =
+    let x = slice_index a (i / 64) in
+    let y = slice_index b (i / 64) in
+    ap (λ w. nat_eq (bit_at w (i % 64)) 1) h
+    ∙ ap (λ w. nat_eq w 1) (bit_at_or x y (i % 64))
+    ∙ or_bits (bit_at x (i % 64)) (bit_at y (i % 64)) (bit_at-lt x (i % 64)) (bit_at-lt y (i % 64))
+
+and_or : (g x y : Bool) → (g && (x || y)) ≡ ((g && x) || (g && y))
+and_or true x y = refl
+and_or false x y = refl
+
+pub or_jobs : (a b r : Handle) → ((k : ℕ) → k < 64 → slice_index r.words k ≡ bit_or (slice_index a.words k) (slice_index b.words k)) → jobs_of r ≡ both (jobs_of a) (jobs_of b)
+or_jobs a b r h = λ i k. (one k) i
+  where
+    one : (k : ℕ) → jobs_of r k ≡ (jobs_of a k || jobs_of b k)
+    one k =
+        let known : Bool = nat_lt 0 k && nat_lt k 4097 in
+        let x : Bool = bit_of a.words (k - 1) in
+        let y : Bool = bit_of b.words (k - 1) in
+        ⊎_elim
+        (λ t. let p = and_parts (nat_lt 0 k) (nat_lt k 4097) t in
+        let low = ltb-true 0 k p.0 in let high = ltb-true k 4097 p.1 in
+        ap (λ z. known && z) (bits_or a.words b.words r.words (k - 1) (h ((k - 1) / 64) (omega arith))) ∙ and_or known x y)
+        (λ f. ap (λ (g : Bool). g && bit_of r.words (k - 1)) f ∙ sym (ap (λ (g : Bool). (g && x) || (g && y)) f))
+        (cases_Bool known)
+
+-- THE EMPTY SET, AND A SINGLE JOB
+
+zeros_read : (n k : ℕ) → slice_index (replicate n 0) k ≡ 0
+zeros_read n k = ⊎_elim
+    (λ lt. get_or-replicate n k 0 0 lt)
+    (λ ge. get_or-eq_default (replicate n 0) 0 (let l : length (replicate {A = ℕ} n 0) ≡ n = length-replicate {A = ℕ} n 0 in omega arith))
+    (cases_lt k n)
+
+zero_bit : (w i : ℕ) → w ≡ 0 → nat_eq (bit_at w i) 1 ≡ false
+zero_bit w i e = ap (λ x. nat_eq (bit_at x i) 1) e ∙ ap (λ x. nat_eq x 1) (bit_at-zero i)
+
+pub empty_jobs : (n : ℕ) (h : Handle) → h.words ≡ replicate n 0 → jobs_of h ≡ nobody
+empty_jobs n h e = λ i k. (none k) i
+  where
+    none : (k : ℕ) → jobs_of h k ≡ false
+    none k = and_right (nat_lt 0 k && nat_lt k 4097) (bit_of h.words (k - 1))
+        (zero_bit (slice_index h.words ((k - 1) / 64)) ((k - 1) % 64) (ap (λ ws. slice_index ws ((k - 1) / 64)) e ∙ zeros_read n ((k - 1) / 64)))
+
+pub of_jobs : (n j : ℕ) (h : Handle) → 0 < j → j ≤ 4096 → (j - 1) / 64 < n → h.words ≡ set (replicate n 0) ((j - 1) / 64) (1 * 2 ^ ((j - 1) % 64) % 2 ^ 64) → jobs_of h ≡ only j
+of_jobs n j h p le room e = λ i k. (same_test (jobs_of h k) (nat_eq k j) (λ t. to k t) (λ t. from k t)) i
+  where
+    mask : ℕ
+    mask = 1 * 2 ^ ((j - 1) % 64) % 2 ^ 64
+
+    word : slice_index h.words ((j - 1) / 64) ≡ 2 ^ ((j - 1) % 64)
+    word =
+        ap (λ ws. slice_index ws ((j - 1) / 64)) e
+        ∙ get_or-set_same (replicate n 0) ((j - 1) / 64) mask 0 (let l : length (replicate {A = ℕ} n 0) ≡ n = length-replicate {A = ℕ} n 0 in omega arith)
+        ∙ one_shl ((j - 1) % 64) 64 (mod-lt (j - 1) {m = 64} (omega arith))
+
+    to : (k : ℕ) → jobs_of h k ≡ true → nat_eq k j ≡ true
+    to k t =
+        let parts = and_parts (nat_lt 0 k && nat_lt k 4097) (bit_of h.words (k - 1)) t in
+        let low : 0 < k = ltb-true 0 k (and_parts (nat_lt 0 k) (nat_lt k 4097) parts.0).0 in
+        ⊎_elim
+        (λ q. let w : slice_index h.words ((k - 1) / 64) ≡ 2 ^ ((j - 1) % 64) = ap (λ x. slice_index h.words x) q ∙ word in
+        ⊎_elim
+        (λ r. let x = div-add-mod (k - 1) 64 in let y = div-add-mod (j - 1) 64 in
+        let u : k - 1 ≡ j - 1 = sym x ∙ (ap (λ z. 64 * z + (k - 1) % 64) q ∙ (ap (λ z. 64 * ((j - 1) / 64) + z) r ∙ y)) in eq-eqb k j (omega arith))
+        (λ ne. absurd (not_both parts.1 (ap (λ x. nat_eq (bit_at x ((k - 1) % 64)) 1) w ∙ ap (λ x. nat_eq x 1) (bit_at-pow_other ((j - 1) % 64) ((k - 1) % 64) ne))))
+        (cases_eq ((k - 1) % 64) ((j - 1) % 64)))
+        (λ ne. absurd (not_both parts.1 (zero_bit (slice_index h.words ((k - 1) / 64)) ((k - 1) % 64)
+        (ap (λ ws. slice_index ws ((k - 1) / 64)) e ∙ get_or-set_other (replicate n 0) ((j - 1) / 64) ((k - 1) / 64) mask 0 ne ∙ zeros_read n ((k - 1) / 64)))))
+        (cases_eq ((k - 1) / 64) ((j - 1) / 64))
+
+    from : (k : ℕ) → nat_eq k j ≡ true → jobs_of h k ≡ true
+    from k t = subst (λ x. jobs_of h x ≡ true) (sym (eqb-true k j t))
+        (and_from (nat_lt 0 j && nat_lt j 4097) (bit_of h.words (j - 1)) (and_from (nat_lt 0 j) (nat_lt j 4097) (lt-ltb 0 j p) (lt-ltb j 4097 (omega arith)))
+        (ap (λ x. nat_eq (bit_at x ((j - 1) % 64)) 1) word ∙ ap (λ x. nat_eq x 1) (bit_at-pow_same ((j - 1) % 64))))
+
+-- WORDS THAT HAVE WHAT OTHERS HAVE
+
+has_bits : (x y : ℕ) → bit_or x y ≡ x → (i : ℕ) → nat_eq (bit_at y i) 1 ≡ true → nat_eq (bit_at x i) 1 ≡ true
+has_bits x y e i t =
+    let a = bit_at-lt x i in
+    let m : max (bit_at x i) (bit_at y i) ≡ bit_at x i = sym (bit_at_or x y i) ∙ ap (λ w. bit_at w i) e in
+    let one : bit_at y i ≡ 1 = eqb-true (bit_at y i) 1 t in
+    eq-eqb (bit_at x i) 1 (omega arith)
+
+pub has_word : (x y : Handle) (at : ℕ) → nat_eq (bit_or (slice_index x.words at) (slice_index y.words at)) (slice_index x.words at) ≡ true
+    → (k : ℕ) → 64 * at < k → k ≤ 64 * at + 64 → jobs_of y k ≡ true → jobs_of x k ≡ true
+has_word x y at e k low high t =
+    let here : at ≡ (k - 1) / 64 = sym (div-eq_of_lt-le 64 {m = k - 1} (omega arith) (omega arith)) in
+    let p = and_parts (nat_lt 0 k && nat_lt k 4097) (bit_of y.words (k - 1)) t in
+    and_from (nat_lt 0 k && nat_lt k 4097) (bit_of x.words (k - 1)) p.0
+    (has_bits (slice_index x.words ((k - 1) / 64)) (slice_index y.words ((k - 1) / 64))
+    (subst (λ i. bit_or (slice_index x.words i) (slice_index y.words i) ≡ slice_index x.words i) here
+    (eqb-true (bit_or (slice_index x.words at) (slice_index y.words at)) (slice_index x.words at) e)) ((k - 1) % 64) p.1)

@@ -1,0 +1,4 @@
+pub mod Tests
+pub mod Bits
+pub mod Rows
+pub mod Among

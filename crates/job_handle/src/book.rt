@@ -1,0 +1,129 @@
+// The jobs of a script, each with all that it waits for.
+ghost use Rattle.std.specs.Prelude.{◌≡◌, ℕ, ◌+◌, ◌<◌, ◌≤◌, ◌↔◌, IfOk, OnOk, OnErr, IsErr, is_ok, if◌then◌else◌, vec_len, vec_capacity, true};
+
+use crate::MOST_JOBS;
+use crate::handle::Handle;
+use job_base::{JobId, NoMemory};
+use std::alloc::Global;
+
+/// The book has 4,096 jobs.
+#[derive(Clone, Copy, Debug, PartialEq, Eq)]
+pub struct BookFull;
+
+/// The jobs that were scheduled, with the dependency set of each, and those that the script thread has completed.
+///
+/// It keeps a row for each job: the job and all its ancestors. So one test of a bit answers whether a job waits for
+/// another, and the row of a new job is a union of rows.
+#[derive(Drop)]
+pub struct JobBook {
+    // Row j - 1 is that of job j.
+    rows: Vec<Handle>,
+    completed: Handle,
+    ghost room: { (vec_len rows ≤ 4096) × (4096 ≤ vec_capacity rows) },
+}
+
+impl JobBook {
+    ghost use Rattle.frame_ast.specs.Jobs.{Book, empty_book, ancestors_in, happens_before, with_job, with_completed};
+    ghost use Rattle.frame_ast.specs.Laws.{AreUpTo};
+    ghost use Rattle.job_handle.specs.Sets.{jobs_of};
+    ghost use Rattle.job_handle.specs.Books.{count_of, StandsFor};
+
+    /// No job. All memory of the book is taken here.
+    pub fn new(alloc: Global) -> Result<JobBook, NoMemory>
+        ensures { IfOk result (λ book. StandsFor book empty_book) }
+    {
+        Ok(JobBook {
+            rows: Vec::with_capacity(alloc, MOST_JOBS as usize)?,
+            completed: Handle::empty(),
+        })
+    }
+
+    /// How many jobs there are, at most 4,096.
+    pub fn count(&self) -> u32
+        ensures count { result ≡ count_of self.now }
+        ensures few { result ≤ MOST_JOBS }
+    {
+        self.rows.len() as u32
+    }
+
+    /// One more job, which waits for the jobs of `deps`. It has the next number.
+    pub fn add(&mut self, deps: &Handle) -> Result<JobId, BookFull>
+        requires { AreUpTo (count_of self.old) (jobs_of deps.now) }
+        ensures full { IsErr result ↔ count_of self.old ≡ 4096 }
+        ensures number { IfOk result (λ j. j.0 ≡ count_of self.old + 1) }
+        ensures count { count_of self.new ≡ (if is_ok result then count_of self.old + 1 else count_of self.old) }
+        ensures book { OnOk result ((b : Book) → StandsFor self.old b → StandsFor self.new (with_job b (jobs_of deps.now))) }
+        ensures same { OnErr result ((b : Book) → StandsFor self.old b → StandsFor self.new b) }
+    {
+        if self.rows.len() >= MOST_JOBS as usize {
+            return Err(BookFull);
+        }
+        let j = JobId(self.count() + 1);
+        let row = self.closure(deps).combine(&Handle::of(j));
+        match self.rows.push(row) {
+            Ok(()) => Ok(j),
+            Err(_) => unreachable!(),
+        }
+    }
+
+    /// The jobs of `h` and their ancestors become completed.
+    ///
+    /// <https://docs.unity3d.com/ScriptReference/Unity.Jobs.JobHandle.Complete.html>
+    pub fn complete(&mut self, h: &Handle)
+        requires { AreUpTo (count_of self.old) (jobs_of h.now) }
+        ensures count { count_of self.new ≡ count_of self.old }
+        ensures book { (b : Book) → StandsFor self.old b → StandsFor self.new (with_completed b (jobs_of h.now)) }
+    {
+        let all = self.closure(h);
+        self.completed = self.completed.combine(&all);
+    }
+
+    /// Whether a job of the book was completed.
+    pub fn is_completed(&self, j: JobId) -> bool
+        requires { (0 < j.0) × (j.0 ≤ count_of self.now) }
+        ensures { (b : Book) → StandsFor self.now b → result ≡ b.completed j.0 }
+    {
+        self.completed.has(j)
+    }
+
+    /// Whether a job of the book is in `h`, or an ancestor of a job of it.
+    pub fn depends(&self, h: &Handle, j: JobId) -> bool
+        requires jobs { AreUpTo (count_of self.now) (jobs_of h.now) }
+        requires job { (0 < j.0) × (j.0 ≤ count_of self.now) }
+        ensures { (b : Book) → StandsFor self.now b → result ≡ ancestors_in b (jobs_of h.now) j.0 }
+    {
+        self.closure(h).has(j)
+    }
+
+    /// The jobs of `h` and all their ancestors. For a statement, make it once.
+    pub fn closure(&self, h: &Handle) -> Handle
+        requires { AreUpTo (count_of self.now) (jobs_of h.now) }
+        ensures { (b : Book) → StandsFor self.now b → (k : ℕ) → jobs_of result k ≡ ancestors_in b (jobs_of h.now) k }
+    {
+        // From the newest job down: a row that is taken brings all that it leads to, so a job that is there already adds
+        // nothing, and neither does a word of 64 that are. A job that waits for all earlier ones then takes few rows.
+        let mut all = Handle::empty();
+        let mut left = self.rows.len();
+        while left > 0 {
+            let word = (left - 1) / 64;
+            if all.has_word_of(h, word) {
+                left = word * 64;
+            } else {
+                let j = JobId(left as u32);
+                if h.has(j) && !all.has(j) {
+                    all = all.combine(&self.rows[left - 1]);
+                }
+                left -= 1;
+            }
+        }
+        all
+    }
+
+    /// What happens before a statement that waits for `after`: what was completed, and `after` with its ancestors.
+    pub fn before(&self, after: &Handle) -> Handle
+        requires { AreUpTo (count_of self.now) (jobs_of after.now) }
+        ensures { (b : Book) → StandsFor self.now b → (k : ℕ) → jobs_of result k ≡ happens_before b (jobs_of after.now) k }
+    {
+        self.completed.combine(&self.closure(after))
+    }
+}
