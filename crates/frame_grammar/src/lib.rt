@@ -1,5 +1,35 @@
-//! What the kernels and the scripts of a file have in common as texts: the kinds of tokens.
+//! The grammar of files, kernels and scripts alike: the kinds of tokens, the productions, and a
+//! predictive parser that needs no call stack.
 #![tactic(auto)]
+
+pub mod bodies;
+pub mod choices;
+pub mod parser;
+pub mod symbols;
+pub mod table;
+
+ghost use Rattle.std.specs.Prelude.{◌≡◌};
+
+pub use parser::{ParseError, Sentence, parse};
+pub use symbols::{Action, Event, Nonterminal, Production, Symbol};
+
+/// A token, of which the parser asks its kind alone.
+pub trait HasKind {
+    ghost use Rattle.frame_grammar.specs.declared.TokenKind.{TokenKind};
+
+    ghost kind_of: { Self → TokenKind };
+
+    fn kind(&self) -> TokenKind
+        ensures { result ≡ kind_of self.now };
+}
+
+impl HasKind for TokenKind {
+    ghost kind_of = { λ kind. kind };
+
+    fn kind(&self) -> TokenKind {
+        *self
+    }
+}
 
 /// The kind of a token.
 ///

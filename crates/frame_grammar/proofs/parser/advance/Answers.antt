@@ -1,0 +1,51 @@
+use Rattle.std.proofs.Common.{reverse, ◌∷◌, ◌∙◌, sym, subst, ap}
+use Rattle.frame_grammar.proofs.Steps.{Leads, top, no_top, taken, stops_empty, goes_on_by, acts, stops_at, smaller, kinds_same, kinds_differ, body_on_top}
+use Rattle.frame_grammar.proofs.parser.advance.Goals as goal
+
+pub returns-in-Terminal : goal.returns-in-Terminal
+returns-in-Terminal c =
+    let seen = top c.loop-symbol.stack.items c.pop.new.self.items c.pop.result c.in-Some.symbol c.pop.ensures.items c.in-Some.is in
+    let first = seen ∙ ap (λ s. s ∷ reverse c.pop.new.self.items) c.in-Terminal.is in
+    taken c.args.ahead c.args.place c.args.events.now.items c.loop-symbol.events.items (reverse c.args.stack.now.items) (reverse c.pop.new.self.items) c.in-Terminal.kind c.eq.result
+    (subst (λ ss. Leads c.args.ahead c.args.place c.args.events.now.items (reverse c.args.stack.now.items) c.loop-symbol.events.items ss) first c.loop-symbol.invariant)
+    (λ e. kinds_same c.in-Terminal.kind c.args.ahead (sym c.eq.ensures ∙ e))
+    (λ e. kinds_differ c.in-Terminal.kind c.args.ahead (sym c.eq.ensures ∙ e))
+
+pub loop-symbol-preserved-in-Continue-1 : goal.loop-symbol-preserved-in-Continue-1
+loop-symbol-preserved-in-Continue-1 c =
+    let seen = top c.loop-symbol.stack.items c.pop.new.self.items c.pop.result c.in-Some.symbol c.pop.ensures.items c.in-Some.is in
+    let first = seen ∙ ap (λ s. s ∷ reverse c.pop.new.self.items) c.in-Action.is in
+    let led = acts c.args.ahead c.args.place c.args.events.now.items c.loop-symbol.events.items (reverse c.args.stack.now.items) (reverse c.pop.new.self.items) c.in-Action.action
+    (subst (λ ss. Leads c.args.ahead c.args.place c.args.events.now.items (reverse c.args.stack.now.items) c.loop-symbol.events.items ss) first c.loop-symbol.invariant) in
+    subst (λ es. Leads c.args.ahead c.args.place c.args.events.now.items (reverse c.args.stack.now.items) es (reverse c.pop.new.self.items)) (sym c.in_ok-push-in-Action.ensures.items) led
+
+pub returns-in-None : goal.returns-in-None
+returns-in-None c =
+    let seen = top c.loop-symbol.stack.items c.pop.new.self.items c.pop.result c.in-Some.symbol c.pop.ensures.items c.in-Some.is in
+    let first = seen ∙ ap (λ s. s ∷ reverse c.pop.new.self.items) c.in-Nonterminal.is in
+    stops_at c.args.ahead c.args.place c.args.events.now.items c.loop-symbol.events.items (reverse c.args.stack.now.items) (reverse c.pop.new.self.items) c.in-Nonterminal.nonterminal
+    (subst (λ ss. Leads c.args.ahead c.args.place c.args.events.now.items (reverse c.args.stack.now.items) c.loop-symbol.events.items ss) first c.loop-symbol.invariant)
+    (sym c.predict.ensures ∙ c.in-None.is)
+
+pub loop-symbol-preserved : goal.loop-symbol-preserved
+loop-symbol-preserved c =
+    let seen = top c.loop-symbol.stack.items c.pop.new.self.items c.pop.result c.in-Some.symbol c.pop.ensures.items c.in-Some.is in
+    let first = seen ∙ ap (λ s. s ∷ reverse c.pop.new.self.items) c.in-Nonterminal.is in
+    let on_top = body_on_top c.push_body.new.stack.items c.pop.new.self.items c.in-Some-predict.production c.in_ok-push_body-in-Some-predict.ensures in
+    let led = goes_on_by c.args.ahead c.args.place c.args.events.now.items c.loop-symbol.events.items (reverse c.args.stack.now.items) (reverse c.pop.new.self.items) c.in-Nonterminal.nonterminal c.in-Some-predict.production
+    (subst (λ ss. Leads c.args.ahead c.args.place c.args.events.now.items (reverse c.args.stack.now.items) c.loop-symbol.events.items ss) first c.loop-symbol.invariant)
+    (sym c.predict.ensures ∙ c.in-Some-predict.is) in
+    subst (λ ss. Leads c.args.ahead c.args.place c.args.events.now.items (reverse c.args.stack.now.items) c.loop-symbol.events.items ss) (sym on_top) led
+
+pub loop-symbol-smaller : goal.loop-symbol-smaller
+loop-symbol-smaller c =
+    let seen = top c.loop-symbol.stack.items c.pop.new.self.items c.pop.result c.in-Some.symbol c.pop.ensures.items c.in-Some.is in
+    let first = seen ∙ ap (λ s. s ∷ reverse c.pop.new.self.items) c.in-Nonterminal.is in
+    let on_top = body_on_top c.push_body.new.stack.items c.pop.new.self.items c.in-Some-predict.production c.in_ok-push_body-in-Some-predict.ensures in
+    rw (on_top, first) (smaller c.args.ahead c.in-Nonterminal.nonterminal c.in-Some-predict.production (reverse c.pop.new.self.items) (sym c.predict.ensures ∙ c.in-Some-predict.is))
+
+pub returns : goal.returns
+returns c =
+    let empty = no_top c.loop-symbol.stack.items _ c.pop.result (sym c.loop-symbol.stack.ok.0) c.pop.ensures.variant.1 c.in_default.not-Some in
+    stops_empty c.args.ahead c.args.place c.args.events.now.items c.loop-symbol.events.items (reverse c.args.stack.now.items)
+    (subst (λ ss. Leads c.args.ahead c.args.place c.args.events.now.items (reverse c.args.stack.now.items) c.loop-symbol.events.items ss) (ap reverse empty) c.loop-symbol.invariant)

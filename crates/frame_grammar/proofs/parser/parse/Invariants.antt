@@ -1,0 +1,6 @@
+use Rattle.std.proofs.Common.{reverse, map}
+use Rattle.frame_grammar.proofs.Steps.{Between}
+use Rattle.frame_grammar.proofs.parser.parse.Given as goal
+
+abbrev pub invariant-loop-place : goal.invariant-loop-place
+invariant-loop-place g l = Between l.fn.start (map g.T.HasKind.kind_of l.tokens) l.place l.events.items (reverse l.stack.items)

@@ -1,0 +1,6 @@
+pub mod Grammar
+pub mod Sentences
+pub mod Table
+pub mod Sets
+pub mod Predict
+pub mod Parser
