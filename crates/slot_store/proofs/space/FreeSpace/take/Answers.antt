@@ -1,0 +1,31 @@
+use Rattle.std.proofs.Common.{◌<◌, ◌≤◌, ◌+◌, length, vec_len, arith, subst}
+use Rattle.slot_store.specs.Spaces.{AreSmall, is_live}
+use Rattle.slot_store.proofs.Words.{raise}
+use Rattle.slot_store.proofs.Cuts.{fit_above, live_above, cut_of, cut_live_of, fit_of, end_below}
+use Rattle.slot_store.proofs.space.FreeSpace.take.Goals as goal
+
+pub cut-requires-clause-fits : goal.cut-requires-clause-fits
+cut-requires-clause-fits c =
+    let lt : c.in-Some.at < length c.args.self.now.holes.items = subst (λ l. c.in-Some.at < length l) c.as_slice.ensures.value c.in-Some.ensures.some.0 in
+    let e = end_below c.args.self.now.holes.items 0 c.in-Some.at c.args.self.now.top c.args.self.now.apart lt in
+    omega arith
+
+pub invariant_of-self : goal.invariant_of-self
+invariant_of-self c = record {
+  apart = cut_of c.args.self.now.holes.items c.as_slice.result.now c.cut.new.holes.items c.in-Some.at c.args.len c.args.self.now.top c.index-hole.result.now c.args.self.now.apart c.as_slice.ensures.value c.in-Some.ensures.some.0 (omega arith) c.in-Some.ensures.some.1 c.cut.ensures.items;
+}
+
+pub invariant_of-self-in-None : goal.invariant_of-self-in-None
+invariant_of-self-in-None c = record { apart = raise c.args.self.now.holes.items 0 c.args.self.now.top (c.args.self.now.top + c.args.len) c.args.self.now.apart (omega arith) }
+
+pub returns-in-Some-clause-fit : goal.returns-in-Some-clause-fit
+returns-in-Some-clause-fit c = fit_of c.args.self.now.holes.items c.as_slice.result.now c.in-Some.at c.args.len c.args.self.now.top c.index-hole.result.now c.args.self.now.apart c.as_slice.ensures.value c.in-Some.ensures.some.0 (omega arith) c.in-Some.ensures.some.1 c.in-Some.ensures.some.2 c.index-hole.ensures
+
+pub returns-in-Some-clause-live : goal.returns-in-Some-clause-live
+returns-in-Some-clause-live c = cut_live_of c.args.self.now.holes.items c.as_slice.result.now c.cut.new.holes.items c.in-Some.at c.args.len c.args.self.now.top c.index-hole.result.now c.args.self.now.apart c.as_slice.ensures.value c.in-Some.ensures.some.0 (omega arith) c.in-Some.ensures.some.1 c.index-hole.ensures c.cut.ensures.items
+
+pub returns-in-None-clause-fit : goal.returns-in-None-clause-fit
+returns-in-None-clause-fit c = fit_above c.args.self.now.holes.items c.args.self.now.top c.args.len c.args.self.now.apart (omega arith) (subst (λ l. AreSmall l c.args.len (length l)) c.as_slice.ensures.value c.in-None.ensures.none)
+
+pub returns-in-None-clause-live : goal.returns-in-None-clause-live
+returns-in-None-clause-live c = λ w. live_above c.args.self.now.holes.items c.args.self.now.top c.args.len w c.args.self.now.apart

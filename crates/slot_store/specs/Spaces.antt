@@ -1,0 +1,45 @@
+-- Which numbers are live, by the holes between them.
+use Rattle.std.specs.Prelude.{ℕ, suc, ◌+◌, ◌-◌, ◌<◌, ◌≤◌, Bool, false, ◌&&◌, ◌||◌, not, nat_lt, nat_le, nat_eq, if◌then◌else◌, List, [], ◌∷◌, length, slice_index_or}
+use Rattle.std.specs.Coded.{×_prop, le_prop}
+use Rattle.job_base.specs.declared.Span.{Span}
+
+abbrev pub no_span : Span
+no_span = record { start = 0; len = 0 }
+
+abbrev pub start_of : List Span → ℕ → ℕ
+start_of spans k = (slice_index_or spans k no_span).start
+
+abbrev pub len_of : List Span → ℕ → ℕ
+len_of spans k = (slice_index_or spans k no_span).len
+
+abbrev pub end_of : List Span → ℕ → ℕ
+end_of spans k = start_of spans k + len_of spans k
+
+abbrev pub has_word : Span → ℕ → Bool
+has_word span w = nat_le span.start w && nat_lt w (span.start + span.len)
+
+-- whether one of the ranges has a word
+abbrev pub some_has : List Span → ℕ → Bool
+some_has [] w = false
+some_has (x ∷ more) w = has_word x w || some_has more w
+
+-- below the top, and in no hole
+abbrev pub is_live : List Span → ℕ → ℕ → Bool
+is_live holes top w = nat_lt w top && not (some_has holes w)
+
+-- The holes lie in rising order from a number on, none is empty, and none touches the next one or the top.
+abbrev pub AreHoles : ℕ → List Span → ℕ → Type 0
+AreHoles low [] top = low ≤ top
+AreHoles low (x ∷ more) top = (low ≤ x.start) × ((0 < x.len) × AreHoles (suc (x.start + x.len)) more top)
+
+pub AreHoles-prop : (low : ℕ) (holes : List Span) (top : ℕ) → IsProp (AreHoles low holes top)
+AreHoles-prop low [] top = le_prop
+AreHoles-prop low (x ∷ more) top = ×_prop le_prop (×_prop le_prop (AreHoles-prop (suc (x.start + x.len)) more top))
+
+-- the first n holes have less than so many numbers
+abbrev pub AreSmall : List Span → ℕ → ℕ → Type 0
+AreSmall holes len n = (k : ℕ) → k < n → len_of holes k < len
+
+-- the words of a hole behind the first n, as a list of at most one hole
+abbrev pub rest_after : Span → ℕ → List Span
+rest_after x n = if nat_eq x.len n then [] else (record { start = x.start + n; len = x.len - n }) ∷ []

@@ -1,0 +1,107 @@
+// Which numbers are in use: a free list of the holes between them, for first fit.
+ghost use Rattle.std.specs.Prelude.{◌≡◌, ℕ, ◌+◌, ◌<◌, ◌≤◌, ◌^◌, ◌||◌, ◌∷◌, ◌++◌, [], max, length, take, drop, slice_index_or, slice_set, IfSome, IfNone, OnOk, vec_len, vec_capacity};
+ghost use Rattle.frame_ast.specs.Ranges.{IsFirstFit};
+ghost use Rattle.slot_store.specs.Spaces.{AreHoles, AreHoles-prop, AreSmall, has_word, is_live, len_of, start_of, end_of, no_span, rest_after};
+
+use job_base::{NoMemory, Span};
+use std::alloc::Global;
+
+/// Numbers from 0 on, each of them live or free.
+#[derive(Drop)]
+pub(crate) struct FreeSpace {
+    // The free numbers below `top`, as ranges: in rising order, none empty, and none that touches another or `top`.
+    holes: Vec<Span>,
+    // All numbers from here on are free.
+    top: u32,
+    ghost apart: { AreHoles 0 holes.items top } by { AreHoles-prop 0 holes.items top },
+}
+
+impl FreeSpace {
+    /// All numbers are free.
+    pub(crate) fn new(alloc: Global) -> FreeSpace
+        ensures holes { result.holes.items ≡ [] }
+        ensures top { result.top ≡ 0 }
+    {
+        FreeSpace {
+            holes: Vec::new(alloc),
+            top: 0,
+        }
+    }
+
+    /// From here on all numbers are free.
+    pub(crate) fn top(&self) -> u32
+        ensures { result ≡ self.now.top }
+    {
+        self.top
+    }
+
+    /// Makes room for so many calls of `give`, whatever is taken between them.
+    pub(crate) fn reserve(&mut self, gives: usize) -> Result<(), NoMemory>
+        ensures holes { self.new.holes.items ≡ self.old.holes.items }
+        ensures top { self.new.top ≡ self.old.top }
+        ensures capacity { vec_capacity self.old.holes ≤ vec_capacity self.new.holes }
+        ensures room { OnOk result (vec_len self.new.holes + gives ≤ vec_capacity self.new.holes) }
+    {
+        self.holes.reserve(gives)?;
+        Ok(())
+    }
+
+    /// Takes the lowest range of `len` numbers that are free. The range starts at the answer.
+    pub(crate) fn take(&mut self, len: u32) -> u32
+        requires { AreSmall self.old.holes.items len (vec_len self.old.holes) → self.old.top + len < 2 ^ 32 }
+        ensures fit { IsFirstFit (is_live self.old.holes.items self.old.top) len result }
+        ensures live { (w : ℕ) → is_live self.new.holes.items self.new.top w ≡ (is_live self.old.holes.items self.old.top w || has_word (record { start = result; len = len }) w) }
+        ensures top { self.new.top ≤ max self.old.top (result + len) }
+        ensures holes { vec_len self.new.holes ≤ vec_len self.old.holes }
+        ensures capacity { vec_capacity self.old.holes ≤ vec_capacity self.new.holes }
+    {
+        if len == 0 {
+            return 0;
+        }
+        let top = self.top;
+        match first_fit(self.holes.as_slice(), len) {
+            Some(at) => {
+                let hole = self.holes[at];
+                cut(&mut self.holes, at, len);
+                hole.start
+            }
+            None => {
+                self.top = top + len;
+                top
+            }
+        }
+    }
+}
+
+/// The first hole that has `len` numbers.
+fn first_fit(holes: &[Span], len: u32) -> Option<usize>
+    ensures some { IfSome result (λ i. (i < length holes.now) × (len ≤ len_of holes.now i) × AreSmall holes.now len i) }
+    ensures none { IfNone result (AreSmall holes.now len (length holes.now)) }
+{
+    for (i, hole) in holes.iter().enumerate() {
+        if len <= hole.len {
+            return Some(i);
+        }
+    }
+    None
+}
+
+/// Takes `len` numbers from the front of a hole. The hole is gone where it has no more.
+fn cut(holes: &mut Vec<Span>, at: usize, len: u32)
+    requires hole { at < vec_len holes.old }
+    requires enough { len ≤ len_of holes.old.items at }
+    requires fits { end_of holes.old.items at < 2 ^ 32 }
+    ensures items { holes.new.items ≡ take at holes.old.items ++ (rest_after (slice_index_or holes.old.items at no_span) len ++ drop (at + 1) holes.old.items) }
+    ensures len { vec_len holes.new ≤ vec_len holes.old }
+    ensures capacity { vec_capacity holes.old ≤ vec_capacity holes.new }
+{
+    let hole = holes[at];
+    if hole.len == len {
+        holes.remove(at);
+    } else {
+        holes[at] = Span {
+            start: hole.start + len,
+            len: hole.len - len,
+        };
+    }
+}
