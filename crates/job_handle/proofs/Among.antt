@@ -5,7 +5,7 @@ use Rattle.frame_ast.specs.Jobs.{nobody, only, both}
 use Rattle.frame_ast.specs.Laws.{AreUpTo}
 use Rattle.job_handle.specs.declared.handle.Handle.{Handle}
 use Rattle.job_handle.specs.Sets.{jobs_of}
-use Rattle.job_handle.proofs.Tests.{not_both}
+use Rattle.job_handle.proofs.Booleans.{not_both}
 
 pub empty_among : (n : ℕ) (h : Handle) → jobs_of h ≡ nobody → AreUpTo n (jobs_of h)
 empty_among n h e j t = absurd (not_both t (λ i. e i j))

@@ -11,7 +11,7 @@ use Rattle.std.proofs.Math.Nat.{div-add-mod, div-eq_of_lt-le, mod-lt}
 use Rattle.frame_ast.specs.Jobs.{nobody, only, both}
 use Rattle.job_handle.specs.declared.handle.Handle.{Handle}
 use Rattle.job_handle.specs.Sets.{bit_of, jobs_of}
-use Rattle.job_handle.proofs.Tests.{not_both, same_test}
+use Rattle.job_handle.proofs.Booleans.{not_both, same_test}
 
 -- WORDS THAT ARE JOINED
 

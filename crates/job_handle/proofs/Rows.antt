@@ -11,7 +11,7 @@ use Rattle.frame_ast.proofs.Known.{job_book, completed_book}
 use Rattle.job_handle.specs.declared.handle.Handle.{Handle}
 use Rattle.job_handle.specs.Sets.{bit_of, jobs_of}
 use Rattle.job_handle.specs.Books.{AreRowsOf, IsUnion}
-use Rattle.job_handle.proofs.Tests.{not_both, same_test}
+use Rattle.job_handle.proofs.Booleans.{not_both, same_test}
 
 -- ANCESTORS OF SETS AND OF SINGLE JOBS
 

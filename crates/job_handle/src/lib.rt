@@ -9,6 +9,8 @@
 
 mod book;
 mod handle;
+#[cfg(test)]
+mod tests;
 
 pub use book::{BookFull, JobBook};
 pub use handle::Handle;

@@ -2,7 +2,7 @@ use Rattle.std.proofs.Common.{◌≡◌, suc, true, ◌+◌, ◌-◌, ◌*◌, �
 use Rattle.std.proofs.Math.Nat.{div-add-mod, mod-lt}
 use Rattle.job_handle.specs.Sets.{jobs_of}
 use Rattle.job_handle.specs.Books.{IsUnion}
-use Rattle.job_handle.proofs.Tests.{not_both}
+use Rattle.job_handle.proofs.Booleans.{not_both}
 use Rattle.job_handle.proofs.Rows.{none_yet, one_more, passed_by, all_there}
 use Rattle.job_handle.proofs.book.JobBook.closure.Goals as goal
 use Rattle.job_handle.proofs.book.JobBook.closure.Goals.{then-has+then-not-has, else-has, else-has-via-then-has+else-not-has, else-has-via-else-has}
