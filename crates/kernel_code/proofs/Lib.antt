@@ -8,3 +8,4 @@ pub mod Fronts
 pub mod Reserved
 pub mod Steps
 pub mod TokenLemmas
+pub mod Sentences

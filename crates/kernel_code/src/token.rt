@@ -1,4 +1,4 @@
-use frame_grammar::TokenKind;
+use frame_grammar::{HasKind, TokenKind};
 
 /// A token of a file: its kind, the place of its first byte and of the byte after its last one,
 /// counted from 0, and its line, counted from 1.
@@ -8,4 +8,12 @@ pub struct Token {
     pub start: u32,
     pub end: u32,
     pub line: u32,
+}
+
+impl HasKind for Token {
+    ghost kind_of = { λ token. token.kind };
+
+    fn kind(&self) -> TokenKind {
+        self.kind
+    }
 }
