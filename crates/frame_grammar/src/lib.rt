@@ -7,6 +7,8 @@ pub mod choices;
 pub mod parser;
 pub mod symbols;
 pub mod table;
+#[cfg(test)]
+mod tests;
 
 ghost use Rattle.std.specs.Prelude.{◌≡◌};
 
