@@ -10,6 +10,8 @@ mod names;
 mod nodes;
 mod params;
 mod statements;
+#[cfg(test)]
+mod tests;
 mod words;
 
 ghost use Rattle.std.specs.Prelude.{◌≡◌, ◌≤◌, ◌<◌, ◌-◌, ℕ, None, length, slice_get, IfOk, IfSome};
