@@ -2,3 +2,4 @@ pub mod Booleans
 pub mod Bits
 pub mod Rows
 pub mod Among
+pub mod Greatest

@@ -1,6 +1,7 @@
 -- The set of jobs that a handle is.
-use Rattle.std.specs.Prelude.{ℕ, ◌-◌, ◌/◌, ◌%◌, Bool, ◌&&◌, nat_eq, nat_lt, List, slice_index}
+use Rattle.std.specs.Prelude.{ℕ, ◌-◌, ◌/◌, ◌%◌, Bool, ◌&&◌, not, nat_eq, nat_lt, List, slice_index, Option, None, Some}
 use Rattle.std.specs.Int.{bit_at}
+use Rattle.job_base.specs.declared.JobId.{JobId}
 use Rattle.frame_ast.specs.Jobs.{Jobs}
 use Rattle.job_handle.specs.declared.handle.Handle.{Handle}
 
@@ -11,3 +12,12 @@ bit_of words i = nat_eq (bit_at (slice_index words (i / 64)) (i % 64)) 1
 -- Job j, 1 to 4,096, is bit j - 1. The bound is said here, since an array has no length in a clause.
 abbrev pub jobs_of : Handle → Jobs
 jobs_of h j = (nat_lt 0 j && nat_lt j 4097) && bit_of h.words (j - 1)
+
+-- the jobs of a set that aren't in another one
+abbrev pub outside : Jobs → Jobs → Jobs
+outside a b j = a j && not (b j)
+
+-- the number of a job, or 0 where there is none
+abbrev pub number_of : Option JobId → ℕ
+number_of None = 0
+number_of (Some j) = j.0

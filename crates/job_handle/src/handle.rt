@@ -1,7 +1,8 @@
 // A set of jobs in a fixed array.
 ghost use Rattle.std.specs.Prelude.{◌≡◌, ℕ, ◌<◌, ◌≤◌, ◌+◌, ◌*◌, IsTrue, true};
-ghost use Rattle.frame_ast.specs.Jobs.{nobody, only, both};
-ghost use Rattle.job_handle.specs.Sets.{jobs_of};
+ghost use Rattle.frame_ast.specs.Jobs.{nobody, only, both, greatest};
+ghost use Rattle.frame_ast.specs.Laws.{AreUpTo};
+ghost use Rattle.job_handle.specs.Sets.{jobs_of, outside, number_of};
 
 use crate::MOST_JOBS;
 use job_base::JobId;
@@ -58,6 +59,26 @@ impl Handle {
             words[i] |= other.words[i];
         }
         Handle { words }
+    }
+
+    /// The greatest job that is in this set and not in another one, or none.
+    pub fn latest_outside(&self, other: &Handle) -> Option<JobId>
+        ensures { (n : ℕ) → AreUpTo n (jobs_of self.now) → number_of result ≡ greatest (outside (jobs_of self.now) (jobs_of other.now)) n }
+    {
+        let mut left = MOST_JOBS;
+        while left > 0 {
+            let word = (left - 1) / 64;
+            if other.has_word_of(self, word as usize) {
+                left = word * 64;
+            } else {
+                let j = JobId(left);
+                if self.has(j) && !other.has(j) {
+                    return Some(j);
+                }
+                left -= 1;
+            }
+        }
+        None
     }
 
     /// Whether this set has all that another has of the 64 jobs of word `at`. It is one step for all of them.

@@ -1,0 +1,44 @@
+-- The greatest of a set, where it has none of the upper jobs.
+use Rattle.std.proofs.Common.{◌≡◌, ℕ, zero, suc, ◌-◌, ◌<◌, ◌≤◌, ⊎_elim, true, false, ◌&&◌, refl, sym, subst, ◌∙◌, arith}
+use Rattle.std.specs.Prelude.{not, nat_lt}
+use Rattle.std.proofs.lemmas.Bool.{cases_eq, cases_lt, cond-true, cond-false, and_parts, and_from, and_left, and_right, le-ltb, not_from_true, not_from_false, false_from_ne_true}
+use Rattle.frame_ast.specs.Jobs.{Jobs, greatest}
+use Rattle.frame_ast.specs.Laws.{AreUpTo}
+use Rattle.job_handle.specs.declared.handle.Handle.{Handle}
+use Rattle.job_handle.specs.Sets.{bit_of, jobs_of, outside}
+use Rattle.job_handle.proofs.Booleans.{not_both}
+
+none_above : (set : Jobs) (n m : ℕ) → m ≤ n → ((k : ℕ) → m < k → set k ≡ false) → greatest set n ≡ greatest set m
+none_above set zero m le none = let z : 0 ≡ m = omega arith in subst (λ x. greatest set 0 ≡ greatest set x) z refl
+none_above set (suc n) m le none = ⊎_elim
+    (λ q. subst (λ x. greatest set (suc n) ≡ greatest set x) (sym q) refl)
+    (λ ne. cond-false (set (suc n)) (suc n) (greatest set n) (none (suc n) (omega arith)) ∙ none_above set n m (omega arith) none)
+    (cases_eq m (suc n))
+
+the_last : (set : Jobs) (n : ℕ) → 0 < n → set n ≡ true → greatest set n ≡ n
+the_last set zero low t = absurd (omega arith)
+the_last set (suc n) low t = cond-true (set (suc n)) (suc n) (greatest set n) t
+
+module _ (a b : Handle) where
+  pub none_high : (k : ℕ) → 4096 < k → outside (jobs_of a) (jobs_of b) k ≡ false
+  none_high k high = and_left (jobs_of a k) (not (jobs_of b k))
+      (and_left (nat_lt 0 k && nat_lt k 4097) (bit_of a.words (k - 1)) (and_right (nat_lt 0 k) (nat_lt k 4097) (le-ltb k 4097 (omega arith))))
+
+  -- the jobs from `less` + 1 to `left` that are in the one are in the other
+  pub none_between : (left less : ℕ) → ((k : ℕ) → left < k → outside (jobs_of a) (jobs_of b) k ≡ false) → ((k : ℕ) → less < k → k ≤ left → jobs_of a k ≡ true → jobs_of b k ≡ true)
+      → (k : ℕ) → less < k → outside (jobs_of a) (jobs_of b) k ≡ false
+  none_between left less none there k low = ⊎_elim
+      (λ above. none k above)
+      (λ here. false_from_ne_true (outside (jobs_of a) (jobs_of b) k) (λ t.
+      let p = and_parts (jobs_of a k) (not (jobs_of b k)) t in
+      not_both p.1 (not_from_true (jobs_of b k) (there k low here p.0))))
+      (cases_lt left k)
+
+  pub found_last : (j : ℕ) → 0 < j → jobs_of a j ≡ true → jobs_of b j ≡ false → ((k : ℕ) → j < k → outside (jobs_of a) (jobs_of b) k ≡ false)
+      → (n : ℕ) → AreUpTo n (jobs_of a) → j ≡ greatest (outside (jobs_of a) (jobs_of b)) n
+  found_last j low t f none n known =
+      let set : Jobs = outside (jobs_of a) (jobs_of b) in
+      sym (none_above set n j (known j t).1 none ∙ the_last set j low (and_from (jobs_of a j) (not (jobs_of b j)) t (not_from_false (jobs_of b j) f)))
+
+  pub found_none : ((k : ℕ) → 0 < k → outside (jobs_of a) (jobs_of b) k ≡ false) → (n : ℕ) → 0 ≡ greatest (outside (jobs_of a) (jobs_of b)) n
+  found_none none n = sym (none_above (outside (jobs_of a) (jobs_of b)) n 0 (omega arith) none)
