@@ -1,11 +1,11 @@
 -- The greatest of a set, where it has none of the upper jobs.
-use Rattle.std.proofs.Common.{◌≡◌, ℕ, zero, suc, ◌-◌, ◌<◌, ◌≤◌, ⊎_elim, true, false, ◌&&◌, refl, sym, subst, ◌∙◌, arith}
+use Rattle.std.proofs.Common.{◌≡◌, ℕ, zero, suc, ◌-◌, ◌<◌, ◌≤◌, ⊎_elim, true, false, ◌&&◌, Some, None, refl, sym, ap, subst, ◌∙◌, arith}
 use Rattle.std.specs.Prelude.{not, nat_lt}
 use Rattle.std.proofs.lemmas.Bool.{cases_eq, cases_lt, cond-true, cond-false, and_parts, and_from, and_left, and_right, le-ltb, not_from_true, not_from_false, false_from_ne_true}
 use Rattle.frame_ast.specs.Jobs.{Jobs, greatest}
 use Rattle.frame_ast.specs.Laws.{AreUpTo}
 use Rattle.job_handle.specs.declared.handle.Handle.{Handle}
-use Rattle.job_handle.specs.Sets.{bit_of, jobs_of, outside}
+use Rattle.job_handle.specs.Sets.{bit_of, jobs_of, outside, job_numbered}
 use Rattle.job_handle.proofs.Booleans.{not_both}
 
 none_above : (set : Jobs) (n m : ℕ) → m ≤ n → ((k : ℕ) → m < k → set k ≡ false) → greatest set n ≡ greatest set m
@@ -18,6 +18,10 @@ none_above set (suc n) m le none = ⊎_elim
 the_last : (set : Jobs) (n : ℕ) → 0 < n → set n ≡ true → greatest set n ≡ n
 the_last set zero low t = absurd (omega arith)
 the_last set (suc n) low t = cond-true (set (suc n)) (suc n) (greatest set n) t
+
+numbered : (j : ℕ) → 0 < j → Some (record { 0 = j }) ≡ job_numbered j
+numbered zero low = absurd (omega arith)
+numbered (suc j) low = refl
 
 module _ (a b : Handle) where
   pub none_high : (k : ℕ) → 4096 < k → outside (jobs_of a) (jobs_of b) k ≡ false
@@ -35,10 +39,10 @@ module _ (a b : Handle) where
       (cases_lt left k)
 
   pub found_last : (j : ℕ) → 0 < j → jobs_of a j ≡ true → jobs_of b j ≡ false → ((k : ℕ) → j < k → outside (jobs_of a) (jobs_of b) k ≡ false)
-      → (n : ℕ) → AreUpTo n (jobs_of a) → j ≡ greatest (outside (jobs_of a) (jobs_of b)) n
+      → (n : ℕ) → AreUpTo n (jobs_of a) → Some (record { 0 = j }) ≡ job_numbered (greatest (outside (jobs_of a) (jobs_of b)) n)
   found_last j low t f none n known =
       let set : Jobs = outside (jobs_of a) (jobs_of b) in
-      sym (none_above set n j (known j t).1 none ∙ the_last set j low (and_from (jobs_of a j) (not (jobs_of b j)) t (not_from_false (jobs_of b j) f)))
+      numbered j low ∙ ap (λ n. job_numbered n) (sym (none_above set n j (known j t).1 none ∙ the_last set j low (and_from (jobs_of a j) (not (jobs_of b j)) t (not_from_false (jobs_of b j) f))))
 
-  pub found_none : ((k : ℕ) → 0 < k → outside (jobs_of a) (jobs_of b) k ≡ false) → (n : ℕ) → 0 ≡ greatest (outside (jobs_of a) (jobs_of b)) n
-  found_none none n = sym (none_above (outside (jobs_of a) (jobs_of b)) n 0 (omega arith) none)
+  pub found_none : ((k : ℕ) → 0 < k → outside (jobs_of a) (jobs_of b) k ≡ false) → (n : ℕ) → None ≡ job_numbered (greatest (outside (jobs_of a) (jobs_of b)) n)
+  found_none none n = ap (λ n. job_numbered n) (sym (none_above (outside (jobs_of a) (jobs_of b)) n 0 (omega arith) none))

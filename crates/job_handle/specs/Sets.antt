@@ -1,5 +1,5 @@
 -- The set of jobs that a handle is.
-use Rattle.std.specs.Prelude.{ℕ, ◌-◌, ◌/◌, ◌%◌, Bool, ◌&&◌, not, nat_eq, nat_lt, List, slice_index, Option, None, Some}
+use Rattle.std.specs.Prelude.{ℕ, zero, suc, ◌-◌, ◌/◌, ◌%◌, Bool, ◌&&◌, not, nat_eq, nat_lt, List, slice_index, Option, None, Some}
 use Rattle.std.specs.Int.{bit_at}
 use Rattle.job_base.specs.declared.JobId.{JobId}
 use Rattle.frame_ast.specs.Jobs.{Jobs}
@@ -17,7 +17,7 @@ jobs_of h j = (nat_lt 0 j && nat_lt j 4097) && bit_of h.words (j - 1)
 abbrev pub outside : Jobs → Jobs → Jobs
 outside a b j = a j && not (b j)
 
--- the number of a job, or 0 where there is none
-abbrev pub number_of : Option JobId → ℕ
-number_of None = 0
-number_of (Some j) = j.0
+-- the job of a number, where 0 is none
+abbrev pub job_numbered : ℕ → Option JobId
+job_numbered zero = None
+job_numbered (suc j) = Some (record { 0 = suc j })

@@ -25,7 +25,7 @@ pub struct JobBook {
 impl JobBook {
     ghost use Rattle.frame_ast.specs.Jobs.{Book, empty_book, ancestors_in, happens_before, greatest, with_job, with_completed};
     ghost use Rattle.frame_ast.specs.Laws.{AreUpTo};
-    ghost use Rattle.job_handle.specs.Sets.{jobs_of, outside, number_of};
+    ghost use Rattle.job_handle.specs.Sets.{jobs_of, outside, job_numbered};
     ghost use Rattle.job_handle.specs.Books.{count_of, StandsFor};
 
     /// No job. All memory of the book is taken here.
@@ -89,7 +89,7 @@ impl JobBook {
     /// The greatest job of `h` that wasn't completed, or none.
     pub fn latest_pending(&self, h: &Handle) -> Option<JobId>
         requires { AreUpTo (count_of self.now) (jobs_of h.now) }
-        ensures { (b : Book) → StandsFor self.now b → number_of result ≡ greatest (outside (jobs_of h.now) b.completed) b.count }
+        ensures { (b : Book) → StandsFor self.now b → result ≡ job_numbered (greatest (outside (jobs_of h.now) b.completed) b.count) }
     {
         h.latest_outside(&self.completed)
     }

@@ -2,7 +2,7 @@
 ghost use Rattle.std.specs.Prelude.{◌≡◌, ℕ, ◌<◌, ◌≤◌, ◌+◌, ◌*◌, IsTrue, true};
 ghost use Rattle.frame_ast.specs.Jobs.{nobody, only, both, greatest};
 ghost use Rattle.frame_ast.specs.Laws.{AreUpTo};
-ghost use Rattle.job_handle.specs.Sets.{jobs_of, outside, number_of};
+ghost use Rattle.job_handle.specs.Sets.{jobs_of, outside, job_numbered};
 
 use crate::MOST_JOBS;
 use job_base::JobId;
@@ -63,7 +63,7 @@ impl Handle {
 
     /// The greatest job that is in this set and not in another one, or none.
     pub fn latest_outside(&self, other: &Handle) -> Option<JobId>
-        ensures { (n : ℕ) → AreUpTo n (jobs_of self.now) → number_of result ≡ greatest (outside (jobs_of self.now) (jobs_of other.now)) n }
+        ensures { (n : ℕ) → AreUpTo n (jobs_of self.now) → result ≡ job_numbered (greatest (outside (jobs_of self.now) (jobs_of other.now)) n) }
     {
         let mut left = MOST_JOBS;
         while left > 0 {
