@@ -2,7 +2,7 @@
 
 use crate::TokenKind;
 
-/// A nonterminal: what its productions make of tokens.
+/// A nonterminal: what its productions derive. `File` and `Kernel` are the start symbols.
 #[derive(Clone, Copy, Debug, PartialEq, Eq)]
 pub enum Nonterminal {
     File,
@@ -59,6 +59,12 @@ pub enum Nonterminal {
 }
 
 /// What is noted while a production is carried out, for whoever builds trees.
+///
+/// `Name`, `Number`, `Text` and `Operator` stand in front of the token of that kind, `StartStatement`
+/// and `StartAtom` in front of the first token. `Open..` begins a list or a block that the action of
+/// the statement, or a `Close..`, ends. `No..`, `Not..` and `..None` say that an optional part is
+/// missing. Any other action comes when the parts of what it names have been noted, so a chain of
+/// operators is noted from the left. The bodies show where each stands.
 #[derive(Clone, Copy, Debug, PartialEq, Eq)]
 pub enum Action {
     StartStatement,
@@ -185,7 +191,7 @@ pub struct Event {
     pub place: u32,
 }
 
-/// A production of the grammar: one of the ways in which its nonterminal, the head, makes tokens.
+/// A production of the grammar: one of the ways in which its nonterminal, the head, derives tokens.
 #[derive(Clone, Copy, Debug, PartialEq, Eq)]
 pub enum Production {
     File,
