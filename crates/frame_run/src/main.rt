@@ -5,6 +5,8 @@
 
 mod disk;
 mod stdout;
+#[cfg(test)]
+mod tests;
 
 use disk::DiskFiles;
 use frame_top::run_frame;
