@@ -1,0 +1,78 @@
+// Files of the disk.
+ghost use Rattle.std.specs.Prelude.{◌≡◌, ◌≤◌, ℕ, List, Option, None, option_map, string_bytes, length, vec_len, IfOk};
+
+use job_base::{FileFault, Files};
+use std::alloc::Global;
+use std::io::Read;
+use std::{fs, rt};
+
+/// Real files, by their paths. Their bytes are the system's, so none are told.
+#[derive(Drop)]
+pub struct DiskFiles<'a, R: rt::Files> {
+    system: &'a R,
+    faults: u64,
+    last_failed: Option<String>,
+}
+
+impl<'a, R: rt::Files> DiskFiles<'a, R> {
+    pub fn new(system: &'a R) -> DiskFiles<'a, R> {
+        DiskFiles {
+            system,
+            faults: 0,
+            last_failed: None,
+        }
+    }
+}
+
+impl<R: rt::Files> Files for DiskFiles<'_, R> {
+    ghost bytes = { λ f name. None };
+
+    ghost faults = { λ f. f.faults };
+
+    ghost last_failed = { λ f. option_map (λ name. string_bytes name) f.last_failed };
+
+    fn read(&mut self, alloc: Global, name: &str, limit: u64) -> Result<Vec<u8>, FileFault> {
+        let Ok(copy) = String::from_str(alloc, name) else {
+            return Err(FileFault::NoMemory);
+        };
+        match read_all(self.system, alloc, name, limit) {
+            Err(FileFault::Failed) => {
+                self.last_failed = Some(copy);
+                self.faults = self.faults.saturating_add(1);
+                Err(FileFault::Failed)
+            }
+            answer => answer,
+        }
+    }
+}
+
+// All the bytes of a file, read part by part until none are left.
+fn read_all<R: rt::Files>(
+    system: &R,
+    alloc: Global,
+    name: &str,
+    limit: u64,
+) -> Result<Vec<u8>, FileFault>
+    ensures { IfOk result (λ v. vec_len v ≤ limit) }
+{
+    let Ok(mut file) = fs::open(system, name) else {
+        return Err(FileFault::Failed);
+    };
+    let mut bytes = Vec::new(alloc);
+    let mut part = [0u8; 4096];
+    for _ in 0..u64::MAX {
+        let Ok(count) = file.read(&mut part) else {
+            return Err(FileFault::Failed);
+        };
+        if count == 0 {
+            return Ok(bytes);
+        }
+        if bytes.len() as u64 + count as u64 > limit {
+            return Err(FileFault::TooLong);
+        }
+        if bytes.extend_from_slice(&part[..count]).is_err() {
+            return Err(FileFault::NoMemory);
+        }
+    }
+    Err(FileFault::Failed)
+}

@@ -1,0 +1,17 @@
+pub mod Binding
+pub mod Args
+pub mod NextArray
+pub mod NextJob
+pub mod Facts
+pub mod Filling
+pub mod Jobs
+pub mod Known
+pub mod Leaving
+pub mod Loops
+pub mod Making
+pub mod Printing
+pub mod Ready
+pub mod Rows
+pub mod Scheduled
+pub mod Steps
+pub mod Tables

@@ -1,0 +1,18 @@
+//! The whole run of a frame script, from the words of the command line to the bytes that are written.
+//!
+//! `run_frame` reads the words and the file, reads the script with `plain_script`, makes its arrays and runs its job
+//! with `kernel_exec`, and then prints. Its contract says when each status comes and which bytes are written: those of
+//! a script that runs are `output_of`, the output of the script's meaning.
+#![tactic(auto)]
+
+mod arrays;
+mod job;
+mod lines;
+mod prepare;
+mod print;
+#[cfg(test)]
+mod tests;
+mod top;
+mod words;
+
+pub use top::run_frame;

@@ -1,0 +1,138 @@
+// The top call.
+ghost use Rattle.std.specs.Prelude.{◌⊎◌, ◌≡◌, ◌≢◌, ◌<◌, ◌≤◌, List, [], length, map, nat_lt, None, Some, IsSomeAnd, string_bytes};
+ghost use Rattle.std.specs.Io.KnownBytes.{Appends};
+ghost use Rattle.job_base.specs.Faults.{Rose};
+ghost use Rattle.frame_ast.specs.declared.script.Script.{Script as ScriptTree};
+ghost use Rattle.frame_top.specs.Progress.{CanPrint};
+ghost use Rattle.job_base.specs.Cells.{cells_of};
+ghost use Rattle.frame_ast.specs.Answers.{no_script_line, script_size_line};
+ghost use Rattle.frame_ast.specs.Orders.{no_table};
+ghost use Rattle.frame_ast.specs.Scripts.{status_of, output_of};
+ghost use Rattle.frame_top.specs.Answers.{Answers, Cause, IsDue, IsRefused, IsRun, IsStatus, IsTooLong, Means, RunsNone, ScriptHas, ScriptHasIfTold, TakesPart, Told, refused_text, usage_text};
+ghost use Rattle.frame_top.specs.Words.{script_word};
+
+use crate::job::Stop;
+use crate::lines::print_lines;
+use crate::prepare::{Prepared, prepare};
+use crate::words::script_name;
+use frame_ast::script::Script;
+use job_base::{FileFault, Files, Gate, Sink, write_text};
+use plain_script::{LoadFault, read_script};
+use std::alloc::Global;
+
+/// The greatest size of a script file, in bytes.
+const SCRIPT_LIMIT: u64 = 16_384;
+
+// Writes the text of a status.
+fn say<S: Sink>(status: u8, text: &[u8], sink: &mut S) -> u8
+    ensures status { (result ≡ status) ⊎ (result ≡ 7) }
+    ensures later { S.faults sink.old ≤ S.faults sink.new }
+    ensures told { Told (S.taken sink.old) (S.taken sink.new) (S.faults sink.old) (S.faults sink.new) status text.now result }
+{
+    match write_text(text, sink) {
+        Ok(()) => status,
+        Err(_) => 7,
+    }
+}
+
+// Prints what a prepared script prints.
+fn print_all<S: Sink>(script: &Script, prepared: &mut Prepared, sink: &mut S) -> u8
+    requires { CanPrint script.now prepared.old.prints prepared.old.arrays.items (cells_of prepared.old.mem) (λ w. nat_lt w (length prepared.old.mem)) }
+    ensures status { (result ≡ 0) ⊎ (result ≡ 7) }
+    ensures told { Told (S.taken sink.old) (S.taken sink.new) (S.faults sink.old) (S.faults sink.new) (status_of script.now no_table) (output_of script.now no_table) result }
+{
+    let from = prepared.prints;
+    match print_lines(script, from, &prepared.arrays, &mut prepared.mem, sink) {
+        Ok(()) => 0,
+        Err(_) => 7,
+    }
+}
+
+// The work of `run_frame`.
+fn answer<F: Files, S: Sink>(alloc: Global, words: &[String], files: &mut F, sink: &mut S) -> u8
+    ensures status { IsStatus result }
+    ensures same { F.bytes files.new ≡ F.bytes files.old }
+    ensures files_later { F.faults files.old ≤ F.faults files.new }
+    ensures answer { Answers (Cause (map (λ w. string_bytes w) words.now) (F.bytes files.old) (Rose (F.faults files.old) (F.faults files.new)) (F.last_failed files.new)) (S.taken sink.old) (S.taken sink.new) (S.faults sink.old) (S.faults sink.new) result }
+{
+    let Some(name) = script_name(words) else {
+        return say(2, b"usage: frame_run SCRIPT\n", sink);
+    };
+    let source = match files.read(alloc, name, SCRIPT_LIMIT) {
+        Ok(source) => source,
+        Err(FileFault::Failed) => return say(6, b"cannot read script\n", sink),
+        Err(FileFault::TooLong) => return say(9, b"limit: script size\n", sink),
+        Err(FileFault::NoMemory) => return 8,
+    };
+    let script = match read_script(alloc, &source) {
+        Ok(script) => script,
+        Err(LoadFault::Refused) => return say(3, b"script refused\n", sink),
+        Err(LoadFault::NoMemory) => return 8,
+    };
+    match prepare(alloc, &script) {
+        Ok(mut prepared) => print_all(&script, &mut prepared, sink),
+        Err(Stop::Trapped) => say(3, b"script refused\n", sink),
+        Err(Stop::NoMemory) => 8,
+    }
+}
+
+/// Reads the script that the words name, runs it, and answers the exit status of the program.
+///
+/// The words are exactly SCRIPT. A file of at most 16,384 bytes is run where it spells an accepted script of the forms
+/// that are built so far, and no job of it traps. `gate` is passed round each piece once there are workers.
+///
+/// | Status | Text |
+/// |---|---|
+/// | 0 | what the script prints |
+/// | 2 | the usage line: the words are no command |
+/// | 3 | `script refused` |
+/// | 6 | `cannot read script`: a read failed, which `files` counts |
+/// | 7 | some first bytes of another text: `sink` failed, which it counts |
+/// | 8 | nothing: memory was not found |
+/// | 9 | `limit: script size` |
+pub fn run_frame<F: Files, S: Sink, G: Gate>(
+    alloc: Global,
+    words: &[String],
+    files: &mut F,
+    sink: &mut S,
+    gate: &G,
+) -> u8
+    // THE HEADLINE. Where the words name a file whose bytes mean a script that runs, the status is that of the script's
+    // meaning, unless a read failed, the sink failed or memory was wanting; and then the bytes are its output.
+    ensures headline { (script : ScriptTree) → ScriptHas (map (λ w. string_bytes w) words.now) (F.bytes files.old) (Means script) →
+        IsDue result (status_of script no_table) (Rose (F.faults files.old) (F.faults files.new)) (Rose (S.faults sink.old) (S.faults sink.new)) }
+    ensures headline_bytes { (script : ScriptTree) → ScriptHas (map (λ w. string_bytes w) words.now) (F.bytes files.old) (Means script) →
+        result ≡ status_of script no_table → Appends (S.taken sink.old) (S.taken sink.new) (output_of script no_table) }
+
+    // Each status, and what is so where it comes.
+    ensures statuses { IsStatus result }
+    ensures ran { result ≡ 0 → ScriptHasIfTold (map (λ w. string_bytes w) words.now) (F.bytes files.old) (λ b. (script : ScriptTree) × IsRun script b
+        × (status_of script no_table ≡ 0) × Appends (S.taken sink.old) (S.taken sink.new) (output_of script no_table)) }
+    ensures usage { result ≡ 2 → script_word (map (λ w. string_bytes w) words.now) ≡ None }
+    ensures refused { result ≡ 3 → ScriptHasIfTold (map (λ w. string_bytes w) words.now) (F.bytes files.old) IsRefused }
+    ensures unread { result ≡ 6 → IsSomeAnd (script_word (map (λ w. string_bytes w) words.now)) (λ name. Rose (F.faults files.old) (F.faults files.new) × (F.last_failed files.new ≡ Some name)) }
+    ensures untaken { result ≡ 7 → Rose (S.faults sink.old) (S.faults sink.new) }
+    ensures no_memory { result ≡ 8 → Appends (S.taken sink.old) (S.taken sink.new) [] }
+    ensures too_long { result ≡ 9 → ScriptHasIfTold (map (λ w. string_bytes w) words.now) (F.bytes files.old) IsTooLong }
+
+    // The text that is written with it.
+    ensures usage_line { result ≡ 2 → Appends (S.taken sink.old) (S.taken sink.new) usage_text }
+    ensures refused_line { result ≡ 3 → Appends (S.taken sink.old) (S.taken sink.new) refused_text }
+    ensures unread_line { result ≡ 6 → Appends (S.taken sink.old) (S.taken sink.new) no_script_line }
+    ensures too_long_line { result ≡ 9 → Appends (S.taken sink.old) (S.taken sink.new) script_size_line }
+    ensures part { result ≡ 7 → TakesPart (Cause (map (λ w. string_bytes w) words.now) (F.bytes files.old) (Rose (F.faults files.old) (F.faults files.new)) (F.last_failed files.new)) (S.taken sink.old) (S.taken sink.new) }
+
+    // When a status is due.
+    ensures usage_due { script_word (map (λ w. string_bytes w) words.now) ≡ None → IsDue result 2 ⊥ (Rose (S.faults sink.old) (S.faults sink.new)) }
+    ensures refused_due { ScriptHas (map (λ w. string_bytes w) words.now) (F.bytes files.old) RunsNone →
+        IsDue result 3 (Rose (F.faults files.old) (F.faults files.new)) (Rose (S.faults sink.old) (S.faults sink.new)) }
+    ensures too_long_due { ScriptHas (map (λ w. string_bytes w) words.now) (F.bytes files.old) IsTooLong →
+        IsDue result 9 (Rose (F.faults files.old) (F.faults files.new)) (Rose (S.faults sink.old) (S.faults sink.new)) }
+
+    // What stays.
+    ensures same { F.bytes files.new ≡ F.bytes files.old }
+    ensures files_later { F.faults files.old ≤ F.faults files.new }
+{
+    let _ = gate;
+    answer(alloc, words, files, sink)
+}
