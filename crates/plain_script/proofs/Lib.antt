@@ -1,0 +1,14 @@
+pub mod KindTests
+pub mod RowLaws
+pub mod WordLaws
+pub mod ValueLaws
+pub mod FollowLaws
+pub mod NameLaws
+pub mod ArrayLaws
+pub mod PrintLaws
+pub mod BraceLaws
+pub mod KernelLaws
+pub mod PlaceLaws
+pub mod JobLaws
+pub mod WholeLaws
+pub mod ScriptLaws
