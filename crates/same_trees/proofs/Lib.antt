@@ -1,0 +1,4 @@
+pub mod Folds
+pub mod Runs
+pub mod Settings
+pub mod Scripts
