@@ -1,0 +1,4 @@
+pub mod Trees
+pub mod Exprs
+pub mod Stmts
+pub mod Kernels

@@ -1,0 +1,14 @@
+-- A text spells one tree, but for where its parts lie in memory.
+use Rattle.std.specs.Prelude.{◌≡◌, IsTrue, List, ◌++◌}
+use Rattle.frame_ast.specs.declared.kernel.Kernel.{Kernel}
+use Rattle.frame_ast.specs.Plain.{plain_kernel}
+use Rattle.plain_kernel.specs.Words.{Word}
+use Rattle.plain_kernel.specs.Spelling.{SpellsKernel}
+use Rattle.same_trees.specs.Same.{SameKernel}
+
+-- KERNELS: where the same words begin with one plain kernel and with another, what follows is the same and the kernels are
+
+abbrev pub KernelsAreSpelledOnce : Type 0
+KernelsAreSpelledOnce = (k l : Kernel) (words others rest more : List Word) →
+    SpellsKernel words k → IsTrue (plain_kernel k) → SpellsKernel others l → IsTrue (plain_kernel l) →
+    words ++ rest ≡ others ++ more → (rest ≡ more) × SameKernel k l

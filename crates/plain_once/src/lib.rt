@@ -1,0 +1,11 @@
+//! A text spells one kernel and one script of the plain forms, but for where their parts lie in memory.
+//!
+//! A function here does nothing: its contract is the law.
+#![tactic(auto)]
+
+ghost use Rattle.plain_once.specs.Once.{KernelsAreSpelledOnce};
+
+/// Words that begin with a plain kernel say where it ends, and which kernel it is.
+pub fn kernels_are_spelled_once()
+    ensures { KernelsAreSpelledOnce }
+{}
