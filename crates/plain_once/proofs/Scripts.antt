@@ -1,4 +1,4 @@
--- A text spells one plain script.
+-- A text spells at most one plain script.
 use Rattle.std.proofs.Common.{ℕ, ◌+◌, ◌≡◌, ◌&&◌, ◌||◌, not, nat_eq, IsTrue, List, [], ◌∷◌, map, length, refl, sym, ◌∙◌, ap, subst, arith, ℤ, string_bytes}
 use Rattle.std.specs.List.{list_all, range_with_len}
 use Rattle.kernel_code.specs.declared.token.Token.{Token}

@@ -1,4 +1,4 @@
--- A text spells one tree, but for where its parts lie in memory.
+-- A text spells at most one tree, but for where its parts lie in memory.
 use Rattle.std.specs.Prelude.{ℕ, ◌≡◌, IsTrue, List, ◌++◌}
 use Rattle.frame_ast.specs.declared.kernel.Kernel.{Kernel}
 use Rattle.frame_ast.specs.declared.script.Script.{Script}

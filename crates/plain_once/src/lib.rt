@@ -1,4 +1,5 @@
-//! A text spells one kernel and one script of the plain forms, but for where their parts lie in memory.
+//! A text spells at most one kernel and at most one script of the plain forms, but for where their
+//! parts lie in memory.
 //!
 //! A function here does nothing: its contract is the law.
 #![tactic(auto)]
@@ -10,7 +11,7 @@ pub fn kernels_are_spelled_once()
     ensures { KernelsAreSpelledOnce }
 {}
 
-/// A file spells one accepted plain script.
+/// Two accepted plain scripts that one file spells are the same, but for where their parts lie in memory.
 pub fn scripts_are_spelled_once()
     ensures { ScriptsAreSpelledOnce }
 {}
