@@ -1,15 +1,15 @@
 -- The last writer and the readers since decide over all uses, and a note keeps that.
-use Rattle.std.proofs.Common.{◌≡◌, ℕ, suc, ◌<◌, ◌≤◌, ⊎_elim, Bool, true, false, ◌&&◌, ◌||◌, refl, sym, ap, subst, ◌∙◌, arith}
+use Rattle.std.proofs.Common.{◌≡◌, ℕ, zero, suc, ◌<◌, ◌≤◌, ⊎_elim, Bool, true, false, ◌&&◌, ◌||◌, refl, sym, ap, subst, ◌∙◌, arith}
 use Rattle.std.specs.Prelude.{not, nat_eq, nat_lt}
 use Rattle.std.proofs.lemmas.Bool.{cases_eq, cases_Bool, cases_lt, or_left, or_right, or_cases, and_parts, and_from, eqb-true, eq-eqb, ltb-true, lt-ltb, not-true, not_from_false, false_from_ne_true, cond-true, cond-false}
-use Rattle.frame_ast.specs.Jobs.{Jobs, only, ancestors_in, greatest, Book, with_job, happens_before}
+use Rattle.frame_ast.specs.Jobs.{Jobs, nobody, only, ancestors_in, greatest, Book, with_job, happens_before}
 use Rattle.frame_ast.specs.Conflicts.{Uses, conflicts, blockers, blocker}
 use Rattle.frame_ast.specs.Laws.{AreUpTo, IsBook, AreUses}
 use Rattle.frame_ast.proofs.Ancestry.{contains, least, closes, grows, through, greatest_below, greatest_in, greatest_above, greatest_same, greatest_none}
 use Rattle.frame_ast.proofs.Blocking.{conflict_uses}
 use Rattle.frame_ast.proofs.Known.{job_book}
 use Rattle.job_handle.proofs.Booleans.{not_both, same_test}
-use Rattle.safety_handle.specs.Uses.{Latest, latest_blockers, with_use, LatestDecide, NotedWriteStands, NotedReadStands, UnusedStands, CompletedStands, UsersSuffice}
+use Rattle.safety_handle.specs.Uses.{Latest, latest_blockers, with_use, NewStands, LatestDecide, NotedWriteStands, NotedReadStands, UnusedStands, CompletedStands, UsersSuffice}
 
 -- WHAT HAPPENS BEFORE
 
@@ -196,3 +196,10 @@ users_suffice b l u B U S h j a =
     done j p (or_right (nat_eq j l.writer) (l.readers j) (S.readers j ∙ and_from (u.users j) (nat_lt l.writer j) a (lt-ltb l.writer j more))))
     (cases_lt j l.writer))
     (cases_eq j l.writer)
+
+none_of_nobody : (n : ℕ) → 0 ≡ greatest nobody n
+none_of_nobody zero = refl
+none_of_nobody (suc n) = none_of_nobody n
+
+pub new_stands : NewStands
+new_stands b = record { writer = none_of_nobody b.count; readers = λ j. refl; settled = λ j t. absurd (not_both t refl) }
