@@ -51,6 +51,7 @@ impl JobBook {
         requires { AreUpTo (count_of self.old) (jobs_of deps.now) }
         ensures full { IsErr result ↔ count_of self.old ≡ 4096 }
         ensures number { IfOk result (λ j. j.0 ≡ count_of self.old + 1) }
+        ensures few { IfOk result (λ j. j.0 ≤ MOST_JOBS) }
         ensures count { count_of self.new ≡ (if is_ok result then count_of self.old + 1 else count_of self.old) }
         ensures book { OnOk result ((b : Book) → StandsFor self.old b → StandsFor self.new (with_job b (jobs_of deps.now))) }
         ensures same { OnErr result ((b : Book) → StandsFor self.old b → StandsFor self.new b) }

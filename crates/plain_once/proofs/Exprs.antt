@@ -1,5 +1,5 @@
 -- The words of an expression say where it ends, and which it is.
-use Rattle.std.proofs.Common.{ℕ, ◌≡◌, ◌<◌, ◌^◌, pos, IsTrue, List, [], ◌∷◌, ◌++◌, Some, refl, ap, sym, ◌∙◌, subst, append_assoc}
+use Rattle.std.proofs.Common.{ℕ, ◌≡◌, pos, List, [], ◌∷◌, ◌++◌, Some, refl, ap, sym, ◌∙◌, subst, append_assoc}
 use Rattle.frame_grammar.specs.declared.TokenKind.TheVariants.{OpenParen, CloseParen, OpenBracket, CloseBracket, Star, Len}
 use Rattle.frame_ast.specs.declared.kernel.Param.{Param}
 use Rattle.frame_ast.specs.declared.kernel.Operator.TheVariants.{Times}
@@ -7,7 +7,7 @@ use Rattle.frame_ast.specs.declared.kernel.Expr.{Expr}
 use Rattle.frame_ast.specs.declared.kernel.Expr.TheVariants.{Number, Local, Element', Length, Binary'}
 use Rattle.plain_kernel.specs.Words.{Word, Called, Figure, Sign}
 use Rattle.plain_kernel.specs.Spelling.{Scope, param_named, local_named, Form, Atom, Factors, Product, Spells, number, variable, element, size, alone, times, product}
-use Rattle.plain_kernel.specs.Reading.{NotFirst, EndsAtom, EndsProduct}
+use Rattle.plain_kernel.specs.Reading.{EndsAtom, EndsProduct}
 use Rattle.plain_kernel.proofs.Exprs.{joined}
 use Rattle.same_trees.specs.Same.{SameExpr, binary}
 use Rattle.plain_once.proofs.Trees.{same_number, same_local, same_element, same_length}

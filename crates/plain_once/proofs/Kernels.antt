@@ -1,11 +1,11 @@
 -- The words of a kernel say where it ends, and which it is.
-use Rattle.std.proofs.Common.{ℕ, ◌+◌, ◌≡◌, Bool, true, false, not, ◌&&◌, nat_eq, IsTrue, List, [], ◌∷◌, ◌++◌, map, refl, ap, sym, ◌∙◌, subst, arith, append_assoc}
+use Rattle.std.proofs.Common.{ℕ, ◌≡◌, Bool, true, false, not, ◌&&◌, nat_eq, IsTrue, List, [], ◌∷◌, ◌++◌, map, refl, ap, sym, ◌∙◌, arith, append_assoc}
 use Rattle.std.specs.List.{list_all}
 use Rattle.std.specs.String.{string_bytes}
 use Rattle.std.proofs.lemmas.Bool.Decides.{nat_tests}
 use Rattle.job_base.specs.declared.Access.{Access}
 use Rattle.job_base.specs.declared.Access.TheVariants.{Read, Write as WriteOnly, Both}
-use Rattle.frame_grammar.specs.declared.TokenKind.TheVariants.{Job, OpenBrace, CloseBrace, OpenParen, CloseParen, Comma, Colon, Array as ArrayWord}
+use Rattle.frame_grammar.specs.declared.TokenKind.TheVariants.{Job, OpenBrace, CloseBrace, OpenParen, CloseParen, Comma}
 use Rattle.frame_ast.specs.declared.kernel.ParamKind.{ParamKind}
 use Rattle.frame_ast.specs.declared.kernel.ParamKind.TheVariants.{Int, Array, List as ListKind, Ref, Map, Stream}
 use Rattle.frame_ast.specs.declared.kernel.Param.{Param}
@@ -100,5 +100,5 @@ kernel_once k l ws vs r q s plain t plain_too h =
     let p = params_once k.params.items l.params.items (Sign OpenBrace ∷ s.body ++ (Sign CloseBrace ∷ r)) (Sign OpenBrace ∷ t.body ++ (Sign CloseBrace ∷ q)) a2.0 b2.0 (cc) in
     let rest = p.rest in
     let i = all_once k.params.items l.params.items (λ n. param_named-same k.params.items l.params.items n p.names) [] 0 s.body k.body.statements.items k.locals s.statements
-        l.body.statements.items l.locals t.body r q t.statements (cc) in
+    l.body.statements.items l.locals t.body r q t.statements (cc) in
     (i.rest, record { name = name; parallel = is_false k.parallel a.0 ∙ sym (is_false l.parallel b.0); params = p.same; locals = i.made; body = i.same })

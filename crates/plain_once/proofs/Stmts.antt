@@ -1,14 +1,14 @@
 -- The words of a block say where it ends, and which statements it has.
-use Rattle.std.proofs.Common.{ℕ, ◌+◌, ◌≡◌, Some, List, [], ◌∷◌, ◌++◌, refl, ap, sym, ◌∙◌, subst, append_assoc}
+use Rattle.std.proofs.Common.{ℕ, ◌+◌, ◌≡◌, Some, List, [], ◌∷◌, ◌++◌, refl, sym, ◌∙◌, subst, append_assoc}
 use Rattle.frame_grammar.specs.declared.TokenKind.{TokenKind}
-use Rattle.frame_grammar.specs.declared.TokenKind.TheVariants.{OpenBrace, CloseBrace, OpenBracket, CloseBracket, Semicolon, DotDot, Assign, Star, For as ForWord, In}
+use Rattle.frame_grammar.specs.declared.TokenKind.TheVariants.{OpenBrace, CloseBrace, OpenBracket, CloseBracket, Semicolon, DotDot, Assign, For as ForWord, In}
 use Rattle.frame_ast.specs.declared.kernel.Param.{Param}
 use Rattle.frame_ast.specs.declared.kernel.Expr.{Expr}
 use Rattle.frame_ast.specs.declared.kernel.Stmt.{Stmt, out-Stmt}
 use Rattle.frame_ast.specs.declared.kernel.Stmt.TheOpen.{Store, For}
 use Rattle.plain_kernel.specs.Words.{Word, Called, Sign}
 use Rattle.plain_kernel.specs.Spelling.{Scope, param_named, Product, Spells, SpellsAll, nothing, store, loop}
-use Rattle.plain_kernel.specs.Reading.{EndsProduct, ends_expression}
+use Rattle.plain_kernel.specs.Reading.{EndsProduct}
 use Rattle.plain_kernel.proofs.Exprs.{joined}
 use Rattle.same_trees.specs.Same.{SameExpr, SameBody, nothing as same_nothing, followed, for}
 use Rattle.plain_once.proofs.Trees.{same_store}
@@ -29,10 +29,13 @@ module _ (ps qs : List Param) (named_alike : SameNames ps qs) where
 
   ends_bracket : (rest : List Word) → EndsProduct (Sign CloseBracket ∷ rest)
   ends_bracket rest = record { bracket = λ more e. cc; star = λ more e. cc }
+
   ends_semicolon : (rest : List Word) → EndsProduct (Sign Semicolon ∷ rest)
   ends_semicolon rest = record { bracket = λ more e. cc; star = λ more e. cc }
+
   ends_dots : (rest : List Word) → EndsProduct (Sign DotDot ∷ rest)
   ends_dots rest = record { bracket = λ more e. cc; star = λ more e. cc }
+
   ends_brace : (rest : List Word) → EndsProduct (Sign OpenBrace ∷ rest)
   ends_brace rest = record { bracket = λ more e. cc; star = λ more e. cc }
 
@@ -60,7 +63,7 @@ module _ (ps qs : List Param) (named_alike : SameNames ps qs) where
   store_once scope made after m s more _ name x e f place value later vs r q out named at of rest (store {s = t} {more = others} other y e2 f2 place2 value2 later2 out2 names _ at2 of2 rest2 w) h =
       let g = joined (Sign CloseBrace ∷ q) h w in
       let g2 : Called name ∷ Sign OpenBracket ∷ place ++ (Sign CloseBracket ∷ Sign Assign ∷ value ++ (Sign Semicolon ∷ (later ++ (Sign CloseBrace ∷ r))))
-          ≡ Called other ∷ Sign OpenBracket ∷ place2 ++ (Sign CloseBracket ∷ Sign Assign ∷ value2 ++ (Sign Semicolon ∷ (later2 ++ (Sign CloseBrace ∷ q)))) = g ∙ simp append_assoc in
+      ≡ Called other ∷ Sign OpenBracket ∷ place2 ++ (Sign CloseBracket ∷ Sign Assign ∷ value2 ++ (Sign Semicolon ∷ (later2 ++ (Sign CloseBrace ∷ q)))) = g ∙ simp append_assoc in
       let same : other ≡ name = cc in
       let there : param_named qs name ≡ Some y = subst (λ z. param_named qs z ≡ Some y) same names in
       let alike = named_alike name in
@@ -72,7 +75,7 @@ module _ (ps qs : List Param) (named_alike : SameNames ps qs) where
       record { rest = k.rest; same = followed (same_store s t x y e f e2 f2 out out2 place_is i.1 j.1) k.same; made = k.made }
   store_once scope made after m s more _ name x e f place value later vs r q out named at of rest (loop other e2 f2 body inside from to block others _ _ _ _ _ _ w) h =
       let g : Called name ∷ Sign OpenBracket ∷ place ++ (Sign CloseBracket ∷ Sign Assign ∷ value ++ (Sign Semicolon ∷ (later ++ (Sign CloseBrace ∷ r))))
-          ≡ Sign ForWord ∷ ((Called other ∷ Sign In ∷ from ++ (Sign DotDot ∷ to ++ (Sign OpenBrace ∷ block ++ (Sign CloseBrace ∷ others)))) ++ (Sign CloseBrace ∷ q)) = joined (Sign CloseBrace ∷ q) h w in absurd cc
+      ≡ Sign ForWord ∷ ((Called other ∷ Sign In ∷ from ++ (Sign DotDot ∷ to ++ (Sign OpenBrace ∷ block ++ (Sign CloseBrace ∷ others)))) ++ (Sign CloseBrace ∷ q)) = joined (Sign CloseBrace ∷ q) h w in absurd cc
 
   loop_once : (scope : Scope) (made inside after m : ℕ) (s : Stmt) (more all : List Stmt) (name : List ℕ) (e f : Expr) (body : _) (from to block later vs r q : List Word) →
       out-Stmt s ≡ For made e f body → Spells ps scope from (Product e) → Spells ps scope to (Product f) →
@@ -84,11 +87,11 @@ module _ (ps qs : List Param) (named_alike : SameNames ps qs) where
       let g : Sign ForWord ∷ Called name ∷ Sign In ∷ from ++ (Sign DotDot ∷ to ++ (Sign OpenBrace ∷ block ++ (Sign CloseBrace ∷ (later ++ (Sign CloseBrace ∷ r))))) ≡ Sign CloseBrace ∷ q = joined (Sign CloseBrace ∷ q) h w in absurd cc
   loop_once scope made inside after m s more _ name e f body from to block later vs r q out at of within rest (store other x2 e2 f2 place2 value2 others _ _ _ _ _ _ w) h =
       let g : Sign ForWord ∷ Called name ∷ Sign In ∷ from ++ (Sign DotDot ∷ to ++ (Sign OpenBrace ∷ block ++ (Sign CloseBrace ∷ (later ++ (Sign CloseBrace ∷ r)))))
-          ≡ Called other ∷ ((Sign OpenBracket ∷ place2 ++ (Sign CloseBracket ∷ Sign Assign ∷ value2 ++ (Sign Semicolon ∷ others))) ++ (Sign CloseBrace ∷ q)) = joined (Sign CloseBrace ∷ q) h w in absurd cc
+      ≡ Called other ∷ ((Sign OpenBracket ∷ place2 ++ (Sign CloseBracket ∷ Sign Assign ∷ value2 ++ (Sign Semicolon ∷ others))) ++ (Sign CloseBrace ∷ q)) = joined (Sign CloseBrace ∷ q) h w in absurd cc
   loop_once scope made inside after m s more _ name e f body from to block later vs r q out at of within rest (loop {s = t} {more = others} other e2 f2 body2 inside2 from2 to2 block2 later2 out2 _ at2 of2 within2 rest2 w) h =
       let g = joined (Sign CloseBrace ∷ q) h w in
       let g2 : Sign ForWord ∷ Called name ∷ Sign In ∷ from ++ (Sign DotDot ∷ to ++ (Sign OpenBrace ∷ block ++ (Sign CloseBrace ∷ (later ++ (Sign CloseBrace ∷ r)))))
-          ≡ Sign ForWord ∷ Called other ∷ Sign In ∷ from2 ++ (Sign DotDot ∷ to2 ++ (Sign OpenBrace ∷ block2 ++ (Sign CloseBrace ∷ (later2 ++ (Sign CloseBrace ∷ q))))) = g ∙ simp append_assoc in
+      ≡ Sign ForWord ∷ Called other ∷ Sign In ∷ from2 ++ (Sign DotDot ∷ to2 ++ (Sign OpenBrace ∷ block2 ++ (Sign CloseBrace ∷ (later2 ++ (Sign CloseBrace ∷ q))))) = g ∙ simp append_assoc in
       let same : other ≡ name = cc in
       let i = closed_once scope DotDot e e2 from from2 (to ++ (Sign OpenBrace ∷ block ++ (Sign CloseBrace ∷ (later ++ (Sign CloseBrace ∷ r))))) (to2 ++ (Sign OpenBrace ∷ block2 ++ (Sign CloseBrace ∷ (later2 ++ (Sign CloseBrace ∷ q))))) ends_dots at at2 (cc) in
       let j = closed_once scope OpenBrace f f2 to to2 (block ++ (Sign CloseBrace ∷ (later ++ (Sign CloseBrace ∷ r)))) (block2 ++ (Sign CloseBrace ∷ (later2 ++ (Sign CloseBrace ∷ q)))) ends_brace of of2 i.0 in

@@ -1,8 +1,7 @@
 -- Trees that are the same, from equal numbers.
-use Rattle.std.proofs.Common.{ℕ, ℤ, ◌≡◌, sym, ◌∙◌, ap, subst, List, ◌∷◌}
-use Rattle.frame_ast.specs.declared.kernel.Operator.TheVariants.{Times}
+use Rattle.std.proofs.Common.{ℕ, ℤ, ◌≡◌, sym, ◌∙◌, ap, subst}
 use Rattle.frame_ast.specs.declared.kernel.Expr.{Expr}
-use Rattle.frame_ast.specs.declared.kernel.Expr.TheVariants.{Number, Local, Element', Length, Binary'}
+use Rattle.frame_ast.specs.declared.kernel.Expr.TheVariants.{Number, Local, Element', Length}
 use Rattle.frame_ast.specs.declared.kernel.Stmt.{Stmt, out-Stmt}
 use Rattle.frame_ast.specs.declared.kernel.Stmt.TheOpen.{Store}
 use Rattle.same_trees.specs.Same.{SameExpr, itself, element, SameStmt, store}

@@ -1,4 +1,4 @@
--- Statements that are the same have the same fold, for each step that sees no more of a layer than what is the same.
+-- Statements that are the same have the same fold, for steps that see no more of a layer than what is the same.
 use Rattle.std.proofs.Common.{◌≡◌, refl, ap, sym, ◌∙◌, ℕ, List, ◌∷◌, map}
 use Rattle.std.specs.Prelude.{Vec}
 use Rattle.std.specs.declared.alloc.Global.{Global}
@@ -25,16 +25,16 @@ pub data SameLayer (R : Type 0) : Stmt-F R → Stmt-F R → Type 0 where
   for : {k : ℕ} {e f e2 f2 : Expr} {b c : Vec R Global} → SameExpr e f → SameExpr e2 f2 → b.items ≡ c.items → SameLayer R (For k e e2 b) (For k f f2 c)
   while : {e f : Expr} {b c : Vec R Global} → SameExpr e f → b.items ≡ c.items → SameLayer R (While e b) (While f c)
 
-module _ (R : Type 0) (step : Stmt-F R → R) (respects : (z w : Stmt-F R) → SameLayer R z w → step z ≡ step w) where
-  abbrev layer : Stmt-F Stmt → Stmt-F R
-  layer = map-Stmt Stmt R (fold-Stmt R step)
+module _ (R : Type 0) (p q : Stmt-F R → R) (respects : (z w : Stmt-F R) → SameLayer R z w → p z ≡ q w) where
+  abbrev layer : (Stmt-F R → R) → Stmt-F Stmt → Stmt-F R
+  layer step = map-Stmt Stmt R (fold-Stmt R step)
 
-  at_views : (s t : Stmt) (z w : Stmt-F Stmt) → out-Stmt s ≡ z → out-Stmt t ≡ w → SameLayer R (layer z) (layer w) → fold-Stmt R step s ≡ fold-Stmt R step t
+  at_views : (s t : Stmt) (z w : Stmt-F Stmt) → out-Stmt s ≡ z → out-Stmt t ≡ w → SameLayer R (layer p z) (layer q w) → fold-Stmt R p s ≡ fold-Stmt R q t
   at_views s t z w is other same =
-      fold_out-Stmt R step s ∙ ap (λ y. step (layer y)) is ∙ respects (layer z) (layer w) same ∙ ap (λ y. step (layer y)) (sym other) ∙ sym (fold_out-Stmt R step t)
+      fold_out-Stmt R p s ∙ ap (λ y. p (layer p y)) is ∙ respects (layer p z) (layer q w) same ∙ ap (λ y. q (layer q y)) (sym other) ∙ sym (fold_out-Stmt R q t)
 
   mutual
-    pub same_fold : (s t : Stmt) → SameStmt s t → fold-Stmt R step s ≡ fold-Stmt R step t
+    pub same_fold : (s t : Stmt) → SameStmt s t → fold-Stmt R p s ≡ fold-Stmt R q t
     same_fold s t (SameStmt.assign {k = k} {e = e} {f = f} is other same) = at_views s t (Assign k e) (Assign k f) is other (SameLayer.assign same)
     same_fold s t (SameStmt.set_value {x = x} {e = e} {f = f} is other same) = at_views s t (SetValue x e) (SetValue x f) is other (SameLayer.set_value same)
     same_fold s t (SameStmt.store {x = x} {e = e} {f = f} {e2 = e2} {f2 = f2} is other same second) = at_views s t (Store x e e2) (Store x f f2) is other (SameLayer.store same second)
@@ -54,7 +54,7 @@ module _ (R : Type 0) (step : Stmt-F R → R) (respects : (z w : Stmt-F R) → S
     same_fold s t (SameStmt.while {e = e} {f = f} {body = body} {same_body = same_body} is other same inner) =
         at_views s t (While e body) (While f same_body) is other (SameLayer.while same (same_folds body.items same_body.items inner))
 
-    pub same_folds : (xs ys : List Stmt) → SameBody xs ys → map (fold-Stmt R step) xs ≡ map (fold-Stmt R step) ys
+    pub same_folds : (xs ys : List Stmt) → SameBody xs ys → map (fold-Stmt R p) xs ≡ map (fold-Stmt R q) ys
     same_folds xs ys SameBody.nothing = refl
     same_folds xs ys (SameBody.followed {s = s} {t = t} {more = more} {others = others} first rest) =
         λ i. same_fold s t first i ∷ same_folds more others rest i

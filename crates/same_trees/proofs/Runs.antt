@@ -84,7 +84,7 @@ module _ {S : Type 0} (operations : Operations S) (index : ℕ) where
   same_statement z w same = λ i s. spend s (same_act z w same i)
 
   pub same_meanings : (xs ys : List Stmt) → SameBody xs ys → map (meaning operations index) xs ≡ map (meaning operations index) ys
-  same_meanings = same_folds (Action S) (statement operations index) same_statement
+  same_meanings = same_folds (Action S) (statement operations index) (statement operations index) same_statement
 
 pub same_kernels_run_alike : SameKernelsRunAlike
 same_kernels_run_alike k l same =

@@ -9,6 +9,13 @@ use Rattle.frame_ast.specs.Scripts.{final, output_of, status_of}
 use Rattle.frame_ast.specs.Plain.{HasNoTrap}
 use Rattle.same_trees.specs.Same.{SameKernel, SameScript}
 
+-- A kernel and a script are the same as themselves.
+abbrev pub KernelsAreThemselves : Type 0
+KernelsAreThemselves = (k : Kernel) → SameKernel k k
+
+abbrev pub ScriptsAreThemselves : Type 0
+ScriptsAreThemselves = (s : Script) → SameScript s s
+
 -- A job of either kernel does the same.
 abbrev pub SameKernelsRunAlike : Type 0
 SameKernelsRunAlike = (k l : Kernel) → SameKernel k l → run_of k ≡ run_of l
@@ -29,10 +36,3 @@ SameScriptsRunAlike = (s t : Script) → SameScript s t → (table : Table) → 
 -- Where no job of one script traps, none of the other does.
 abbrev pub SameScriptsHaveNoTrap : Type 0
 SameScriptsHaveNoTrap = (s t : Script) → SameScript s t → HasNoTrap s → HasNoTrap t
-
--- A kernel and a script are the same as themselves.
-abbrev pub KernelsAreThemselves : Type 0
-KernelsAreThemselves = (k : Kernel) → SameKernel k k
-
-abbrev pub ScriptsAreThemselves : Type 0
-ScriptsAreThemselves = (s : Script) → SameScript s s

@@ -16,7 +16,7 @@ use Rattle.frame_ast.specs.declared.script.Script.{Script}
 -- EXPRESSIONS: the same form with the same numbers and the same parts, in whichever boxes p and q they lie
 
 pub data SameExpr : Expr → Expr → Type 0 where
-  -- A form without parts is the same as itself alone.
+  -- each is the same as itself, and a form without parts as no other
   itself : {e : Expr} → SameExpr e e
   element : {x p q : _} {e f : Expr} → SameExpr e f → SameExpr (Element' x p e) (Element' x q f)
   has : {x p q : _} {e f : Expr} → SameExpr e f → SameExpr (Has' x p e) (Has' x q f)
@@ -88,7 +88,7 @@ pub record SameKernel (k l : Kernel) : Type 0 where
 
 -- the same variant with the same numbers; of a vector, the items
 pub data SameOrder : Order → Order → Type 0 where
-  -- A variant without a vector is the same as itself alone.
+  -- each is the same as itself, and a variant without a vector as no other
   itself : {x : Order} → SameOrder x x
   column : {name life : _} {bytes same_bytes : Vec ℕ Global} →
       bytes.items ≡ same_bytes.items → SameOrder (Column name bytes life) (Column name same_bytes life)

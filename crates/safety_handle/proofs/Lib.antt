@@ -1,0 +1,3 @@
+mod Latest
+mod Conflicting
+mod Tables

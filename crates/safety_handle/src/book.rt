@@ -1,0 +1,152 @@
+// The entries of all slots.
+ghost use Rattle.std.specs.Prelude.{◌≡◌, ◌≢◌, ℕ, ◌+◌, ◌<◌, ◌≤◌, true, false, IfOk, OnOk, OnErr};
+ghost use Rattle.frame_ast.specs.Laws.{AreUpTo};
+ghost use Rattle.job_handle.specs.Sets.{jobs_of};
+ghost use Rattle.job_handle.specs.Books.{count_of};
+ghost use Rattle.safety_handle.specs.Uses.{users_of, noted_read, noted_write};
+ghost use Rattle.safety_handle.specs.Entries.{state_of, no_state, fresh};
+ghost use Rattle.safety_handle.specs.Checks.{IsAnswer};
+
+use crate::entry::Entry;
+use crate::tag::{Blocked, Tag};
+use job_base::{JobId, NoMemory};
+use job_handle::{Handle, JobBook};
+use slot_store::{Slot, Version};
+use std::alloc::Global;
+
+/// The containers that are live, by slot, with the jobs that use them.
+#[derive(Drop)]
+pub struct SafetyBook {
+    entries: Vec<Entry>,
+}
+
+impl SafetyBook {
+    /// No container.
+    pub fn new(alloc: Global) -> Result<SafetyBook, NoMemory>
+        ensures { IfOk result (λ book. (k : ℕ) → state_of book k ≡ no_state) }
+    {
+        Ok(SafetyBook {
+            entries: Vec::new(alloc),
+        })
+    }
+
+    /// The slot becomes live with this version, for a container that no job uses. It makes the room that its notes need.
+    pub fn enroll(&mut self, slot: Slot, version: Version) -> Result<(), NoMemory>
+        ensures slot { OnOk result (state_of self.new slot.0 ≡ fresh version.0) }
+        ensures same { OnErr result (state_of self.new slot.0 ≡ state_of self.old slot.0) }
+        ensures others { (k : ℕ) → (k ≢ slot.0) → state_of self.new k ≡ state_of self.old k }
+    {
+        let at = slot.0 as usize;
+        while self.entries.len() <= at {
+            self.entries.push(Entry::dead())?;
+        }
+        self.entries[at] = Entry::live(version);
+        Ok(())
+    }
+
+    // The answer to a use of either kind.
+    fn check(&self, tag: &Tag, deps: &Handle, jobs: &JobBook, writes: bool) -> Result<(), Blocked>
+        requires { AreUpTo (count_of jobs.now) (jobs_of deps.now) }
+        ensures { IsAnswer (state_of self.now tag.now.slot.0) tag.now jobs.now (jobs_of deps.now) writes result }
+    {
+        let at = tag.slot.0 as usize;
+        if at < self.entries.len() {
+            let entry = &self.entries[at];
+            entry.check(tag, deps, jobs, writes)
+        } else {
+            Err(Blocked::Disposed)
+        }
+    }
+
+    /// Whether a use that only reads, and waits for `deps`, may be made now: writers conflict with it.
+    pub fn check_read(&self, tag: &Tag, deps: &Handle, jobs: &JobBook) -> Result<(), Blocked>
+        requires { AreUpTo (count_of jobs.now) (jobs_of deps.now) }
+        ensures { IsAnswer (state_of self.now tag.now.slot.0) tag.now jobs.now (jobs_of deps.now) false result }
+    {
+        self.check(tag, deps, jobs, false)
+    }
+
+    /// Whether a use that writes, and waits for `deps`, may be made now: every user conflicts with it.
+    pub fn check_write(&self, tag: &Tag, deps: &Handle, jobs: &JobBook) -> Result<(), Blocked>
+        requires { AreUpTo (count_of jobs.now) (jobs_of deps.now) }
+        ensures { IsAnswer (state_of self.now tag.now.slot.0) tag.now jobs.now (jobs_of deps.now) true result }
+    {
+        self.check(tag, deps, jobs, true)
+    }
+
+    /// Whether the container may be disposed once `deps` ended: every user conflicts with it.
+    pub fn check_dispose(&self, tag: &Tag, deps: &Handle, jobs: &JobBook) -> Result<(), Blocked>
+        requires { AreUpTo (count_of jobs.now) (jobs_of deps.now) }
+        ensures { IsAnswer (state_of self.now tag.now.slot.0) tag.now jobs.now (jobs_of deps.now) true result }
+    {
+        self.check(tag, deps, jobs, true)
+    }
+
+    /// The newest job, 1 to 4,096, reads the container; its check answered Ok. A job that reads it through several
+    /// arguments is noted once.
+    pub fn note_read(&mut self, slot: Slot, j: JobId)
+        requires live { (state_of self.old slot.0).live ≡ true }
+        requires job { (0 < j.0) × (j.0 ≤ 4096) }
+        ensures slot { state_of self.new slot.0 ≡ record (state_of self.old slot.0) { latest = noted_read (state_of self.old slot.0).latest j.0 } }
+        ensures others { (k : ℕ) → (k ≢ slot.0) → state_of self.new k ≡ state_of self.old k }
+    {
+        let entry = &mut self.entries[slot.0 as usize];
+        entry.note_read(j);
+    }
+
+    /// The newest job, 1 to 4,096, writes the container; its check answered Ok.
+    pub fn note_write(&mut self, slot: Slot, j: JobId)
+        requires live { (state_of self.old slot.0).live ≡ true }
+        requires job { (0 < j.0) × (j.0 ≤ 4096) }
+        ensures slot { state_of self.new slot.0 ≡ record (state_of self.old slot.0) { latest = noted_write (state_of self.old slot.0).latest j.0 } }
+        ensures others { (k : ℕ) → (k ≢ slot.0) → state_of self.new k ≡ state_of self.old k }
+    {
+        let entry = &mut self.entries[slot.0 as usize];
+        entry.note_write(j);
+    }
+
+    /// The last writer and the readers since. Once these are completed, every user is.
+    pub fn users(&self, slot: Slot) -> Handle
+        ensures { jobs_of result ≡ users_of (state_of self.now slot.0).latest }
+    {
+        let at = slot.0 as usize;
+        if at < self.entries.len() {
+            let entry = &self.entries[at];
+            entry.conflicting(true)
+        } else {
+            Handle::empty()
+        }
+    }
+
+    /// The views of the list are broken. At most 65,536 times after each `enroll`.
+    pub fn bump_view(&mut self, slot: Slot)
+        requires live { (state_of self.old slot.0).live ≡ true }
+        requires few { (state_of self.old slot.0).view < 65536 }
+        ensures slot { state_of self.new slot.0 ≡ record (state_of self.old slot.0) { view = (state_of self.old slot.0).view + 1 } }
+        ensures others { (k : ℕ) → (k ≢ slot.0) → state_of self.new k ≡ state_of self.old k }
+    {
+        let entry = &mut self.entries[slot.0 as usize];
+        entry.break_views();
+    }
+
+    /// How often the list's views were broken after the slot's last `enroll`.
+    pub fn view_version(&self, slot: Slot) -> u32
+        requires { (state_of self.now slot.0).live ≡ true }
+        ensures { result ≡ (state_of self.now slot.0).view }
+    {
+        let entry = &self.entries[slot.0 as usize];
+        entry.view()
+    }
+
+    /// The container is disposed: the slot is live no longer. Its users are told as before.
+    pub fn release(&mut self, slot: Slot)
+        ensures slot { state_of self.new slot.0 ≡ record (state_of self.old slot.0) { live = false } }
+        ensures others { (k : ℕ) → (k ≢ slot.0) → state_of self.new k ≡ state_of self.old k }
+    {
+        let at = slot.0 as usize;
+        if at < self.entries.len() {
+            let entry = &mut self.entries[at];
+            entry.end();
+        }
+    }
+}
