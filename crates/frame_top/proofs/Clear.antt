@@ -6,11 +6,11 @@ use Rattle.frame_ast.specs.Plain.{HasNoTrap}
 use Rattle.same_trees.specs.Same.{SameScript}
 use Rattle.same_trees.specs.Laws.{RunAlike}
 use Rattle.same_trees.proofs.Scripts.{same_scripts_run_alike, same_scripts_have_no_trap}
-use Rattle.plain_once.proofs.Scripts.{scripts_are_spelled_once}
-use Rattle.frame_top.specs.Answers.{script_limit, IsRead, IsRun, IsRefused}
+use Rattle.plain_once.proofs.Scripts.{script_once}
+use Rattle.frame_top.specs.Answers.{script_limit, IsRead, IsRefused}
 
 same_script : (bytes : List ℕ) (s t : Script) → IsRead s bytes → IsRead t bytes → SameScript s t
-same_script bytes s t a b = scripts_are_spelled_once bytes s t a.spelled a.accepted a.plain b.spelled b.accepted b.plain
+same_script bytes s t a b = script_once bytes s t a.spelled a.accepted a.plain b.spelled b.accepted b.plain
 
 pub alike : (bytes : List ℕ) (s t : Script) → IsRead s bytes → IsRead t bytes → RunAlike s t no_table
 alike bytes s t a b = same_scripts_run_alike s t (same_script bytes s t a b) no_table

@@ -1,14 +1,13 @@
 -- What each status says by itself, from the table of answers.
-use Rattle.std.proofs.Common.{◌≡◌, ◌≢◌, ◌∙◌, ◌⊎◌, inl, inr, ⊎_elim, ℕ, zero, suc, ◌<◌, ◌≤◌, List, [], ◌∷◌, take, length, Option, Some, None, IfSome, IsSomeAnd, refl, sym, ap, subst, arith}
+use Rattle.std.proofs.Common.{◌≡◌, ◌≢◌, ◌∙◌, ◌⊎◌, inl, inr, ⊎_elim, ℕ, zero, suc, List, [], ◌∷◌, Option, Some, None, IfSome, IsSomeAnd, sym, subst, arith}
 use Rattle.std.specs.Io.KnownBytes.{Appends}
 use Rattle.job_base.specs.Faults.{Rose}
 use Rattle.frame_ast.specs.declared.script.Script.{Script}
 use Rattle.frame_ast.specs.Answers.{no_script_line, script_size_line}
 use Rattle.frame_ast.specs.Orders.{setting, no_table}
-use Rattle.frame_ast.specs.Plain.{HasNoTrap}
 use Rattle.frame_ast.specs.Scripts.{final, status_by, status_of, output_of}
 use Rattle.frame_ast.specs.States.{JobTrap}
-use Rattle.frame_top.specs.Answers.{Cause, Usage, Unread, TooLong, Refused, Ran, Told, Whole, Part, Wanting, Answers, Caused, Early, IsTooLong, IsRead, IsRun, IsRefused, ScriptHas, ScriptHasIfTold, IsDue, Given, NotRead, NotTaken, NoMemory, TakesPart, usage_text, refused_text}
+use Rattle.frame_top.specs.Answers.{Cause, Usage, Unread, TooLong, Refused, Ran, Whole, Part, Wanting, Answers, Caused, Early, IsTooLong, IsRun, IsRefused, ScriptHas, ScriptHasIfTold, IsDue, Given, NotRead, NotTaken, NoMemory, TakesPart, usage_text, refused_text}
 use Rattle.frame_top.specs.Words.{script_word}
 use Rattle.frame_top.proofs.Clear.{alike}
 use Rattle.frame_top.proofs.Known.{in_some, if_some}
@@ -100,7 +99,6 @@ means_settles words bytes risen failed s status text h (Refused p is t) = absurd
   where
     never : (b : List ℕ) → IsRun s b → IsRefused b → ⊥
     never b m r = r.none s m
-
 means_settles words bytes risen failed s status text h (Ran u p is t) =
     met (script_word words) bytes (IsRun s) (IsRun u) _ (λ b m run. let a = alike b u s run.read m.read in inl (is ∙ a.status, t ∙ a.output)) h p
 

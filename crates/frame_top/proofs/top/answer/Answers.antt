@@ -1,5 +1,4 @@
-use Rattle.std.proofs.Common.{◌≤◌, length, ◌≡◌, ℕ, List, Err, ap, refl, subst, sym}
-use Rattle.frame_ast.specs.declared.script.Script.{Script}
+use Rattle.std.proofs.Common.{◌≤◌, length, Err, ap, refl, subst, sym}
 use Rattle.frame_top.specs.Answers.{Usage, Unread, TooLong, Refused, Ran, Caused, IsRun, IsRefused}
 use Rattle.frame_top.proofs.Clear.{spells_none, one_traps}
 use Rattle.frame_top.proofs.Known.{known, at_some}
