@@ -1,13 +1,13 @@
 -- The arguments of a schedule: different names of arrays.
-use Rattle.std.proofs.Common.{◌≡◌, ◌≢◌, ◌∙◌, ◌⊎◌, inl, inr, ⊎_elim, ℕ, zero, suc, ◌+◌, ◌<◌, ◌≤◌, Bool, true, false, ◌&&◌, ◌||◌, not, IsTrue, ℤ, List, [], ◌∷◌, ◌++◌, length, map, get_or, nat_eq, Option, Some, None, slice_get, refl, sym, ap, subst, arith}
-use Rattle.std.specs.List.{list_all, list_any}
+use Rattle.std.proofs.Common.{◌≡◌, ◌∙◌, ℕ, zero, suc, ◌<◌, Bool, true, false, ◌||◌, not, IsTrue, List, [], ◌∷◌, length, nat_eq, Some, None, slice_get, refl, sym, ap, subst, arith}
+use Rattle.std.specs.List.{list_all}
 use Rattle.std.proofs.lemmas.Bool.Decides.{nat_tests}
 use Rattle.frame_ast.specs.declared.kernel.Param.{Param}
 use Rattle.frame_ast.specs.declared.kernel.ParamKind.{ParamKind}
 use Rattle.frame_ast.specs.declared.kernel.ParamKind.TheVariants.{Int, Array as ArrayParam, List as ListParam, Ref, Map, Stream}
 use Rattle.frame_ast.specs.declared.script.Arg.{Arg}
 use Rattle.frame_ast.specs.declared.script.Arg.TheVariants.{Name, Number}
-use Rattle.frame_ast.specs.Accepted.{Names, uses, kind_in, kinds_for, is_int, arg_fits, args_fit}
+use Rattle.frame_ast.specs.Accepted.{Names, kind_in, kinds_for, is_int, arg_fits, args_fit}
 use Rattle.frame_ast.specs.Lists.{member}
 use Rattle.frame_ast.specs.Plain.{plain_param, names_once}
 use Rattle.frame_ast.specs.Schedules.{is_array}

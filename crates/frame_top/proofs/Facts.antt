@@ -1,16 +1,13 @@
 -- What an accepted script of the plain forms says of its next statement.
-use Rattle.std.proofs.Common.{◌≡◌, ◌≢◌, ◌∙◌, ℕ, zero, suc, ◌+◌, ◌-◌, ◌*◌, ◌<◌, ◌≤◌, Bool, true, false, ◌&&◌, ◌||◌, max, IsTrue, ℤ, pos, List, [], ◌∷◌, length, replicate, get_or, nat_le, nat_lt, nat_eq, map, Option, Some, None, slice_get, refl, sym, ap, subst, arith}
+use Rattle.std.proofs.Common.{◌≡◌, ℕ, zero, suc, ◌<◌, ◌≤◌, IsTrue, ℤ, pos, List, [], ◌∷◌, length, replicate, get_or, nat_le, nat_lt, nat_eq, Option, Some, None, slice_get, refl, ap, arith}
 use Rattle.std.proofs.lemmas.Bool.Decides.{nat_tests}
 use Rattle.std.proofs.lemmas.Grind.{common_steps}
-use Rattle.frame_ast.specs.declared.kernel.Kernel.{Kernel}
 use Rattle.frame_ast.specs.declared.script.Life.{Life}
 use Rattle.frame_ast.specs.declared.script.Life.TheVariants.{Temp, TempJob, Persistent}
-use Rattle.frame_ast.specs.declared.script.Order.{Order}
-use Rattle.frame_ast.specs.Accepted.{NameKind, ArrayName, SliceName, ViewName, ListName, RefName, MapName, StreamName, HandleName, Names, kind_in, makes, uses, up_to, literal_fits, has_length, container, handle, made_after}
+use Rattle.frame_ast.specs.Accepted.{NameKind, ArrayName, SliceName, ViewName, ListName, RefName, MapName, StreamName, HandleName, kind_in, literal_fits, has_length, container}
 use Rattle.frame_ast.specs.Contents.{words_of}
 use Rattle.frame_ast.specs.Orders.{Setting, new_array}
 use Rattle.frame_ast.specs.Plain.{is_persistent}
-use Rattle.frame_top.proofs.Tables.{first_true, second_true}
 
 pub persistent_is : (life : Life) → IsTrue (is_persistent life) → life ≡ Persistent
 persistent_is Temp h = cc

@@ -1,15 +1,15 @@
 -- What a job leaves in the containers of its arguments.
-use Rattle.std.proofs.Common.{◌≡◌, ◌≢◌, ◌∙◌, ◌⊎◌, inl, inr, ⊎_elim, ℕ, zero, suc, ◌+◌, ◌<◌, ◌≤◌, Bool, true, false, ◌&&◌, ◌||◌, not, IsTrue, ℤ, List, [], ◌∷◌, ◌++◌, length, map, get_or, nat_eq, Option, Some, None, slice_get, refl, sym, ap, subst, arith}
+use Rattle.std.proofs.Common.{◌≡◌, ◌≢◌, ◌∙◌, ℕ, zero, suc, Bool, true, false, ◌&&◌, ℤ, List, [], ◌∷◌, length, get_or, Some, slice_get, refl, sym, ap, subst, arith}
 use Rattle.std.specs.Prelude.{if◌then◌else◌}
 use Rattle.frame_ast.specs.declared.kernel.Param.{Param}
 use Rattle.frame_ast.specs.declared.kernel.ParamKind.TheVariants.{Array as ArrayParam}
 use Rattle.frame_ast.specs.declared.script.Arg.{Arg}
 use Rattle.frame_ast.specs.declared.script.Arg.TheVariants.{Name, Number}
-use Rattle.frame_ast.specs.Contents.{Contents, Cells, elements}
+use Rattle.frame_ast.specs.Contents.{Contents, Cells}
 use Rattle.frame_ast.specs.Effects.{all_broken, view_broken}
 use Rattle.frame_ast.specs.Schedules.{Given, writes_to, is_list, argument_of, arguments_of, seen_as, left_in, leave, leave_all}
 use Rattle.frame_ast.specs.States.{Value, ScriptState, with_at, container_of, container_at, contents_at, with_contents}
-use Rattle.frame_top.proofs.Tables.{same_or, at_here, at_there}
+use Rattle.frame_top.proofs.Tables.{at_here, at_there}
 
 -- everything but contents and views stays
 pub record IsKept (s t : ScriptState) : Type 0 where

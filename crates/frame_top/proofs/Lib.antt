@@ -2,6 +2,7 @@ pub mod Binding
 pub mod Args
 pub mod NextArray
 pub mod NextJob
+pub mod Clear
 pub mod Facts
 pub mod Filling
 pub mod Jobs

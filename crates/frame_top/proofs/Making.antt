@@ -1,12 +1,12 @@
 -- A new array.
-use Rattle.std.proofs.Common.{◌≡◌, ◌≢◌, ◌∙◌, ◌⊎◌, inl, inr, ⊎_elim, ℕ, zero, suc, ◌+◌, ◌<◌, ◌≤◌, Bool, true, false, if◌then◌else◌, IsTrue, ℤ, pos, List, [], ◌∷◌, ◌++◌, length, get_or, Option, Some, None, slice_get, refl, sym, ap, subst, arith, add-one}
+use Rattle.std.proofs.Common.{◌≡◌, ◌≢◌, ◌∙◌, ◌⊎◌, inl, inr, ⊎_elim, ℕ, zero, suc, ◌+◌, ◌<◌, ◌≤◌, Bool, true, false, if◌then◌else◌, ℤ, List, Some, None, slice_get, refl, sym, ap, subst, arith, add-one}
 use Rattle.std.proofs.lemmas.Bool.Decides.{nat_tests}
 use Rattle.job_base.specs.Cells.{cell_list}
 use Rattle.frame_ast.specs.declared.script.Life.TheVariants.{Persistent}
 use Rattle.frame_ast.specs.Contents.{Contents, Cells, words_of}
 use Rattle.frame_ast.specs.Effects.{make}
 use Rattle.frame_ast.specs.Refusals.{store_full}
-use Rattle.frame_ast.specs.States.{Value, ScriptState, with_at, container_of, container_at, contents_at, is_live, live_below}
+use Rattle.frame_ast.specs.States.{Value, ScriptState, with_at, container_of, container_at, is_live, live_below}
 use Rattle.kernel_exec.specs.declared.binds.ArrayAt.{ArrayAt}
 use Rattle.frame_top.specs.Held.{IsIn, Holds, Puts}
 use Rattle.frame_top.specs.Progress.{words_below}

@@ -1,20 +1,18 @@
 -- The statements that make arrays, one after another.
-use Rattle.std.proofs.Common.{◌≡◌, ◌≢◌, ◌∙◌, ℕ, zero, suc, ◌+◌, ◌<◌, ◌≤◌, ◌⊎◌, inl, inr, ◌&&◌, Bool, true, false, max, IsTrue, ℤ, pos, List, [], ◌∷◌, length, drop, map, sum, get_or, Option, Some, None, slice_get, refl, sym, ap, subst, arith}
+use Rattle.std.proofs.Common.{◌≡◌, ◌≢◌, ◌∙◌, ℕ, ◌+◌, ◌<◌, ◌≤◌, ◌⊎◌, inl, inr, ◌&&◌, Bool, max, IsTrue, ℤ, pos, List, [], ◌∷◌, length, drop, map, sum, get_or, Option, Some, None, slice_get, refl, sym, ap, subst, arith}
 use Rattle.job_base.specs.Cells.{cell_list}
 use Rattle.frame_ast.specs.declared.script.Life.{Life}
 use Rattle.frame_ast.specs.declared.script.Life.TheVariants.{Persistent}
-use Rattle.frame_ast.specs.declared.script.Order.{Order}
 use Rattle.frame_ast.specs.declared.script.Order.TheVariants.{Array}
 use Rattle.frame_ast.specs.declared.script.Statement.{Statement}
 use Rattle.frame_ast.specs.declared.script.Script.{Script}
 use Rattle.frame_ast.specs.Accepted.{NameKind, ArrayName, Names, makes, kind_in, up_to, literal_fits, order_fits, statements_fit, made_after, block_of}
 use Rattle.frame_ast.specs.Jobs.{empty_book}
-use Rattle.frame_ast.specs.Orders.{made_by, Setting, new_array}
+use Rattle.frame_ast.specs.Orders.{made_by, new_array}
 use Rattle.frame_ast.specs.Checks.{refusal}
-use Rattle.frame_ast.specs.Contents.{Contents, Cells, words_of}
+use Rattle.frame_ast.specs.Contents.{Cells, words_of}
 use Rattle.frame_ast.specs.Effects.{make, effect}
 use Rattle.frame_ast.specs.Plain.{is_persistent, plain_orders, array_length}
-use Rattle.frame_ast.specs.Scripts.{act}
 use Rattle.frame_ast.specs.States.{ScriptState}
 use Rattle.kernel_exec.specs.declared.binds.ArrayAt.{ArrayAt}
 use Rattle.frame_top.specs.Held.{Holds, Puts}

@@ -1,5 +1,5 @@
 -- The schedule of a script, with the complete of its handle.
-use Rattle.std.proofs.Common.{◌≡◌, ◌≢◌, ◌∙◌, ◌⊎◌, inl, inr, ⊎_elim, ℕ, zero, suc, ◌+◌, ◌<◌, ◌≤◌, Bool, true, false, ◌&&◌, ◌||◌, not, max, IsTrue, ℤ, List, [], ◌∷◌, ◌++◌, length, map, drop, get_or, nat_eq, nat_le, Option, Some, None, slice_get, refl, sym, ap, subst, arith}
+use Rattle.std.proofs.Common.{◌≡◌, ◌∙◌, ℕ, zero, suc, ◌+◌, ◌<◌, ◌≤◌, Bool, true, false, ◌&&◌, ◌||◌, not, max, IsTrue, ℤ, List, [], ◌∷◌, ◌++◌, length, map, drop, get_or, nat_eq, nat_le, Option, Some, None, slice_get, refl, sym, ap, subst, arith}
 use Rattle.std.specs.List.{list_all}
 use Rattle.std.proofs.lemmas.Option.{slice_get_within}
 use Rattle.job_base.specs.declared.Trap.{Trap}
@@ -7,40 +7,37 @@ use Rattle.job_base.specs.Cells.{cell_list}
 use Rattle.frame_ast.specs.declared.kernel.Kernel.{Kernel}
 use Rattle.frame_ast.specs.declared.kernel.Param.{Param}
 use Rattle.frame_ast.specs.declared.script.Arg.{Arg}
-use Rattle.frame_ast.specs.declared.script.Order.{Order}
-use Rattle.frame_ast.specs.declared.script.Order.TheVariants.{Schedule, Complete, Print}
+use Rattle.frame_ast.specs.declared.script.Order.TheVariants.{Schedule}
 use Rattle.frame_ast.specs.declared.script.Statement.{Statement}
 use Rattle.frame_ast.specs.declared.script.Script.{Script}
-use Rattle.frame_ast.specs.Accepted.{NameKind, HandleName, ArrayName, Names, makes, uses, kind_in, container, handle, order_fits, schedule_fits, args_fit, statements_fit, made_after, block_of, one_of, cut_fits, defer_fits, waive_fits, all_used}
+use Rattle.frame_ast.specs.Accepted.{NameKind, HandleName, Names, makes, order_fits, schedule_fits, args_fit, statements_fit, made_after, block_of, one_of}
 use Rattle.frame_ast.specs.Arguments.{arguments}
 use Rattle.frame_ast.specs.Checks.{refusal}
-use Rattle.frame_ast.specs.Conflicts.{Need, blocking}
 use Rattle.frame_ast.specs.Contents.{Contents, Cells}
-use Rattle.frame_ast.specs.Effects.{accept, effect, complete, all_broken}
+use Rattle.frame_ast.specs.Effects.{accept, effect, all_broken}
 use Rattle.frame_ast.specs.JobRuns.{Ran, Run, run_of, no_run, full_steps, trap_at, job_run}
-use Rattle.frame_ast.specs.Jobs.{Book, Jobs, only, nobody, empty_book, greatest, with_job, with_completed}
+use Rattle.frame_ast.specs.Jobs.{Book, only}
 use Rattle.frame_ast.specs.Kernels.{Outcome, execution, store_after, trap_after}
 use Rattle.frame_ast.specs.Orders.{Setting, params_of, is_parallel, made_by, kernel_params, kernel_parallel}
-use Rattle.frame_ast.specs.Plain.{IsPlain, plain_kernel, plain_param, plain_orders, is_given, names_once, completes_then_prints, prints_alone}
-use Rattle.frame_ast.specs.Refusals.{pending, pending_on, schedule_refusal}
+use Rattle.frame_ast.specs.Plain.{IsPlain, plain_kernel, plain_param, plain_orders, is_given, names_once, completes_then_prints}
+use Rattle.frame_ast.specs.Refusals.{schedule_refusal}
 use Rattle.frame_ast.specs.Schedules.{givens, arguments_of, leave_all, widths_from}
-use Rattle.frame_ast.specs.Scripts.{act}
-use Rattle.frame_ast.specs.States.{Value, JobTrap, ScriptState, with_at, container_of, container_at, contents_at, jobs_of}
+use Rattle.frame_ast.specs.States.{Value, JobTrap, ScriptState, container_of, container_at}
 use Rattle.kernel_exec.specs.declared.binds.ArrayAt.{ArrayAt}
 use Rattle.kernel_exec.specs.declared.binds.Bind.{Bind}
 use Rattle.kernel_exec.specs.Conditions.{IsUnwritten}
 use Rattle.kernel_exec.specs.Layout.{StandFor}
 use Rattle.kernel_exec.specs.Words.{widths, own_of}
-use Rattle.frame_top.specs.Held.{Holds, Bound}
-use Rattle.frame_top.specs.Progress.{set_of, orders, state_at, IsQuiet, Fits, Makes, Prints}
+use Rattle.frame_top.specs.Held.{Holds}
+use Rattle.frame_top.specs.Progress.{set_of, orders, state_at, Fits, Makes}
 use Rattle.frame_top.proofs.Args.{AreNamed, are_named}
-use Rattle.frame_top.proofs.Facts.{eq_of, le_of, handle_kind, no_container, lt_of}
+use Rattle.frame_top.proofs.Facts.{eq_of, le_of, handle_kind}
 use Rattle.frame_top.proofs.Jobs.{IsCall, left_elements}
 use Rattle.frame_top.proofs.Leaving.{IsKept, kept_more, kept_all, IsSame, same_broken}
 use Rattle.frame_top.proofs.NextArray.{names_before, literals_of}
 use Rattle.frame_top.proofs.Scheduled.{accepts}
 use Rattle.frame_top.proofs.Steps.{cut as cut_at, next_state, acted}
-use Rattle.frame_top.proofs.Tables.{first_true, second_true, same_or, at_here, at_there}
+use Rattle.frame_top.proofs.Tables.{first_true, second_true, at_here, at_there}
 
 -- WHAT IS KNOWN OF A SCHEDULE THAT COMES NEXT
 

@@ -1,32 +1,32 @@
 -- The statements that print, one after another.
-use Rattle.std.proofs.Common.{◌≡◌, ◌≢◌, ◌∙◌, ◌⊎◌, inl, inr, ⊎_elim, ℕ, zero, suc, ◌+◌, ◌<◌, ◌≤◌, Bool, true, false, ◌&&◌, not, max, IsTrue, ℤ, List, [], ◌∷◌, ◌++◌, length, map, drop, get_or, nat_lt, nat_eq, Option, Some, None, slice_get, String, Global, string_bytes, take, Err, append-nil, append_assoc, refl, sym, ap, subst, arith}
+use Rattle.std.proofs.Common.{◌≡◌, ◌∙◌, ℕ, zero, suc, ◌+◌, ◌<◌, ◌≤◌, Bool, true, false, ◌&&◌, IsTrue, ℤ, List, [], ◌∷◌, ◌++◌, length, map, drop, get_or, nat_lt, Option, Some, None, slice_get, String, Global, string_bytes, take, Err, append-nil, append_assoc, refl, sym, ap, subst, arith}
 use Rattle.std.specs.Io.KnownBytes.{Appends}
 use Rattle.job_base.specs.Cells.{cell_list}
 use Rattle.job_base.proofs.Parts.{appends_none, appends_more, stop_first, writes_after}
 use Rattle.frame_ast.specs.declared.script.Order.{Order}
-use Rattle.frame_ast.specs.declared.script.Order.TheVariants.{Array, Schedule, Complete, Print}
+use Rattle.frame_ast.specs.declared.script.Order.TheVariants.{Print}
 use Rattle.frame_ast.specs.declared.script.Statement.{Statement}
 use Rattle.frame_ast.specs.declared.script.Script.{Script}
-use Rattle.frame_ast.specs.Accepted.{NameKind, HandleName, ArrayName, Names, uses, makes, kind_in, container, handle, order_fits, statements_fit, made_after, block_of}
+use Rattle.frame_ast.specs.Accepted.{NameKind, uses, kind_in, container, order_fits, statements_fit, made_after, block_of}
 use Rattle.frame_ast.specs.Checks.{refusal}
-use Rattle.frame_ast.specs.Conflicts.{Need, blocking, blockers, conflicts}
-use Rattle.frame_ast.specs.Contents.{Contents, Cells}
-use Rattle.frame_ast.specs.Effects.{effect, refuse, complete}
-use Rattle.frame_ast.specs.Jobs.{Book, Jobs, only, nobody, empty_book, greatest, with_completed, ancestors}
+use Rattle.frame_ast.specs.Conflicts.{Need}
+use Rattle.frame_ast.specs.Contents.{Cells}
+use Rattle.frame_ast.specs.Effects.{effect}
+use Rattle.frame_ast.specs.Jobs.{nobody}
 use Rattle.frame_ast.specs.Orders.{Setting, made_by, name_text, no_table}
 use Rattle.frame_ast.specs.Plain.{prints_alone, HasNoTrap}
-use Rattle.frame_ast.specs.Refusals.{Refused, first_cause, pending, pending_on, access, disposed, stale}
+use Rattle.frame_ast.specs.Refusals.{Refused, first_cause, pending}
 use Rattle.frame_ast.specs.Schedules.{need_of}
 use Rattle.frame_ast.specs.Scripts.{act, act_or_pass, act_all, decided, output_at, output_of, status_by, status_at, status_of}
-use Rattle.frame_ast.specs.States.{Value, JobTrap, ScriptState, at_start, container_of, container_at, contents_at, value_elements, jobs_of, is_alive, is_stale}
+use Rattle.frame_ast.specs.States.{ScriptState, at_start, value_elements, is_alive, is_stale}
 use Rattle.frame_ast.specs.Texts.{print_line, traps_text}
 use Rattle.kernel_exec.specs.declared.binds.ArrayAt.{ArrayAt}
 use Rattle.frame_top.specs.Held.{Holds}
 use Rattle.frame_top.specs.Progress.{set_of, orders, state_at, IsQuiet, Fits, Prints, CanPrint}
-use Rattle.frame_top.proofs.Facts.{eq_of, lt_of, no_container}
+use Rattle.frame_top.proofs.Facts.{lt_of}
 use Rattle.frame_top.proofs.NextArray.{names_before, literals_of}
 use Rattle.frame_top.proofs.Steps.{cut as cut_at, next_state, acted, end_state}
-use Rattle.frame_top.proofs.Tables.{first_true, second_true, same_or}
+use Rattle.frame_top.proofs.Tables.{first_true, second_true}
 
 -- A PRINT
 

@@ -1,5 +1,5 @@
 -- What is so once the arrays were made and the job was run: only prints are left.
-use Rattle.std.proofs.Common.{◌≡◌, ◌≢◌, ◌∙◌, ◌⊎◌, inl, inr, ⊎_elim, ℕ, zero, suc, ◌+◌, ◌<◌, ◌≤◌, Bool, true, false, ◌&&◌, ◌||◌, not, max, IsTrue, ℤ, List, [], ◌∷◌, ◌++◌, length, map, drop, get_or, nat_eq, Option, Some, None, slice_get, refl, sym, ap, subst, arith, add-one}
+use Rattle.std.proofs.Common.{◌≡◌, ◌∙◌, ⊎_elim, ℕ, zero, suc, ◌+◌, ◌<◌, ◌≤◌, Bool, true, false, ◌&&◌, ◌||◌, not, max, IsTrue, ℤ, List, [], ◌∷◌, length, map, drop, get_or, nat_eq, Option, Some, None, slice_get, refl, sym, ap, subst, arith}
 use Rattle.job_base.specs.declared.Trap.{Trap}
 use Rattle.frame_ast.specs.declared.kernel.Kernel.{Kernel}
 use Rattle.frame_ast.specs.declared.script.Arg.{Arg}
@@ -7,16 +7,16 @@ use Rattle.frame_ast.specs.declared.script.Order.{Order}
 use Rattle.frame_ast.specs.declared.script.Order.TheVariants.{Array, Schedule, Complete, Print}
 use Rattle.frame_ast.specs.declared.script.Statement.{Statement}
 use Rattle.frame_ast.specs.declared.script.Script.{Script}
-use Rattle.frame_ast.specs.Accepted.{NameKind, HandleName, ArrayName, kind_in, container, order_fits, statements_fit, made_after, block_of}
-use Rattle.frame_ast.specs.Conflicts.{Need, Uses, blocking, blockers, conflicts}
+use Rattle.frame_ast.specs.Accepted.{NameKind, kind_in, container, order_fits, statements_fit, made_after, block_of}
+use Rattle.frame_ast.specs.Conflicts.{Need, Uses, blocking, conflicts}
 use Rattle.frame_ast.specs.Effects.{accept, complete, effect}
-use Rattle.frame_ast.specs.Jobs.{Book, Jobs, only, nobody, empty_book, greatest, with_completed, ancestors, ancestors_in, happens_before}
-use Rattle.frame_ast.specs.Orders.{Setting, made_by}
+use Rattle.frame_ast.specs.Jobs.{Book, Jobs, only, nobody, greatest, with_completed, ancestors, ancestors_in, happens_before}
+use Rattle.frame_ast.specs.Orders.{made_by}
 use Rattle.frame_ast.specs.Plain.{IsPlain, HasNoTrap, plain_orders, completes_then_prints, prints_alone}
 use Rattle.frame_ast.specs.Refusals.{pending, pending_on}
 use Rattle.frame_ast.specs.Checks.{refusal}
 use Rattle.frame_ast.specs.Scripts.{act, act_all}
-use Rattle.frame_ast.specs.States.{Value, JobTrap, ScriptState, jobs_of}
+use Rattle.frame_ast.specs.States.{ScriptState, jobs_of}
 use Rattle.frame_ast.specs.Kernels.{store_after, trap_after}
 use Rattle.frame_ast.specs.Schedules.{arguments_of}
 use Rattle.kernel_exec.specs.declared.binds.ArrayAt.{ArrayAt}
@@ -25,7 +25,7 @@ use Rattle.kernel_exec.specs.Conditions.{IsUnwritten}
 use Rattle.kernel_exec.specs.Layout.{StandFor}
 use Rattle.std.proofs.lemmas.Option.{slice_get_within}
 use Rattle.frame_top.specs.Held.{Holds, Bound}
-use Rattle.frame_top.specs.Progress.{set_of, orders, state_at, IsQuiet, Fits, Makes, HasMade, IsReady, makes_none, Prints}
+use Rattle.frame_top.specs.Progress.{set_of, orders, state_at, IsQuiet, Makes, HasMade, IsReady, makes_none, Prints}
 use Rattle.frame_top.proofs.Args.{or_there}
 use Rattle.frame_top.proofs.Facts.{eq_of, no_container}
 use Rattle.frame_top.proofs.NextArray.{names_before, literals_of}

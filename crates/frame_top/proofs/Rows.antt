@@ -1,15 +1,15 @@
 -- What each status says by itself, from the table of answers.
-use Rattle.std.proofs.Common.{◌≡◌, ◌≢◌, ◌∙◌, ◌⊎◌, inl, inr, ⊎_elim, ℕ, zero, suc, ◌<◌, ◌≤◌, List, [], ◌∷◌, take, length, Option, Some, None, IfSome, IsSomeAnd, refl, sym, ap, subst, arith}
+use Rattle.std.proofs.Common.{◌≡◌, ◌≢◌, ◌∙◌, ◌⊎◌, inl, inr, ⊎_elim, ℕ, zero, suc, List, [], ◌∷◌, Option, Some, None, IfSome, IsSomeAnd, sym, subst, arith}
 use Rattle.std.specs.Io.KnownBytes.{Appends}
 use Rattle.job_base.specs.Faults.{Rose}
 use Rattle.frame_ast.specs.declared.script.Script.{Script}
 use Rattle.frame_ast.specs.Answers.{no_script_line, script_size_line}
 use Rattle.frame_ast.specs.Orders.{setting, no_table}
-use Rattle.frame_ast.specs.Plain.{HasNoTrap}
 use Rattle.frame_ast.specs.Scripts.{final, status_by, status_of, output_of}
 use Rattle.frame_ast.specs.States.{JobTrap}
-use Rattle.frame_top.specs.Answers.{Cause, Usage, Unread, TooLong, Refused, Ran, Told, Whole, Part, Wanting, Answers, Caused, Early, IsTooLong, IsRead, IsRun, IsRefused, SpellsNone, Traps, RunsNone, IsClear, Means, ScriptHas, ScriptHasIfTold, IsDue, Given, NotRead, NotTaken, NoMemory, TakesPart, usage_text, refused_text}
+use Rattle.frame_top.specs.Answers.{Cause, Usage, Unread, TooLong, Refused, Ran, Whole, Part, Wanting, Answers, Caused, Early, IsTooLong, IsRun, IsRefused, ScriptHas, ScriptHasIfTold, IsDue, Given, NotRead, NotTaken, NoMemory, TakesPart, usage_text, refused_text}
 use Rattle.frame_top.specs.Words.{script_word}
+use Rattle.frame_top.proofs.Clear.{alike}
 use Rattle.frame_top.proofs.Known.{in_some, if_some}
 
 -- the status of a run is 0, 1 or 5
@@ -91,28 +91,26 @@ risen_of : (w : Option (List ℕ)) (risen : Type 0) (failed : Option (List ℕ))
 risen_of None risen failed p = absurd p
 risen_of (Some name) risen failed p = p.0
 
-pub means_settles : (words : List (List ℕ)) (bytes : List ℕ → Option (List ℕ)) (risen : Type 0) (failed : Option (List ℕ)) (s : Script) (status : ℕ) (text : List ℕ) → ScriptHas words bytes (Means s) → Cause words bytes risen failed status text → ((status ≡ status_of s no_table) × (text ≡ output_of s no_table)) ⊎ ((status ≡ 6) × risen)
-means_settles words bytes risen failed s status text h (Usage p is t) = absurd (no_word (script_word words) (λ name. IsSomeAnd (bytes name) (Means s)) p h)
+pub means_settles : (words : List (List ℕ)) (bytes : List ℕ → Option (List ℕ)) (risen : Type 0) (failed : Option (List ℕ)) (s : Script) (status : ℕ) (text : List ℕ) → ScriptHas words bytes (IsRun s) → Cause words bytes risen failed status text → ((status ≡ status_of s no_table) × (text ≡ output_of s no_table)) ⊎ ((status ≡ 6) × risen)
+means_settles words bytes risen failed s status text h (Usage p is t) = absurd (no_word (script_word words) (λ name. IsSomeAnd (bytes name) (IsRun s)) p h)
 means_settles words bytes risen failed s status text h (Unread p is t) = inr (is, risen_of (script_word words) risen failed p)
-means_settles words bytes risen failed s status text h (TooLong p is t) = absurd (met (script_word words) bytes (Means s) IsTooLong ⊥ (λ b m l. let w = m.run.read.within in omega arith) h p)
-means_settles words bytes risen failed s status text h (Refused p is t) = absurd (met (script_word words) bytes (Means s) IsRefused ⊥ never h p)
+means_settles words bytes risen failed s status text h (TooLong p is t) = absurd (met (script_word words) bytes (IsRun s) IsTooLong ⊥ (λ b m l. let w = m.read.within in omega arith) h p)
+means_settles words bytes risen failed s status text h (Refused p is t) = absurd (met (script_word words) bytes (IsRun s) IsRefused ⊥ never h p)
   where
-    never : (b : List ℕ) → Means s b → IsRefused b → ⊥
-    never b m (SpellsNone w f) = f s m.run.read
-    never b m (Traps u read traps) = traps ((m.clear.alike s u m.run.read read).traps m.run.no_trap)
+    never : (b : List ℕ) → IsRun s b → IsRefused b → ⊥
+    never b m r = r.none s m
 means_settles words bytes risen failed s status text h (Ran u p is t) =
-    met (script_word words) bytes (Means s) (IsRun u) _ (λ b m run. let a = m.clear.alike u s run.read m.run.read in inl (is ∙ a.status, t ∙ a.output)) h p
+    met (script_word words) bytes (IsRun s) (IsRun u) _ (λ b m run. let a = alike b u s run.read m.read in inl (is ∙ a.status, t ∙ a.output)) h p
 
-pub refused_settles : (words : List (List ℕ)) (bytes : List ℕ → Option (List ℕ)) (risen : Type 0) (failed : Option (List ℕ)) (status : ℕ) (text : List ℕ) → ScriptHas words bytes RunsNone → Cause words bytes risen failed status text → (status ≡ 3) ⊎ ((status ≡ 6) × risen)
-refused_settles words bytes risen failed status text h (Usage p is t) = absurd (no_word (script_word words) (λ name. IsSomeAnd (bytes name) RunsNone) p h)
+pub refused_settles : (words : List (List ℕ)) (bytes : List ℕ → Option (List ℕ)) (risen : Type 0) (failed : Option (List ℕ)) (status : ℕ) (text : List ℕ) → ScriptHas words bytes IsRefused → Cause words bytes risen failed status text → (status ≡ 3) ⊎ ((status ≡ 6) × risen)
+refused_settles words bytes risen failed status text h (Usage p is t) = absurd (no_word (script_word words) (λ name. IsSomeAnd (bytes name) IsRefused) p h)
 refused_settles words bytes risen failed status text h (Unread p is t) = inr (is, risen_of (script_word words) risen failed p)
-refused_settles words bytes risen failed status text h (TooLong p is t) = absurd (met (script_word words) bytes RunsNone IsTooLong ⊥ (λ b m l. let w = m.within in omega arith) h p)
+refused_settles words bytes risen failed status text h (TooLong p is t) = absurd (met (script_word words) bytes IsRefused IsTooLong ⊥ (λ b m l. let w = m.within in omega arith) h p)
 refused_settles words bytes risen failed status text h (Refused p is t) = inl is
-refused_settles words bytes risen failed status text h (Ran u p is t) = absurd (met (script_word words) bytes RunsNone (IsRun u) ⊥ (λ b m run. m.none u run) h p)
+refused_settles words bytes risen failed status text h (Ran u p is t) = absurd (met (script_word words) bytes IsRefused (IsRun u) ⊥ (λ b m run. m.none u run) h p)
 
 refused_within : (b : List ℕ) → IsRefused b → IsTooLong b → ⊥
-refused_within b (SpellsNone w f) l = omega arith
-refused_within b (Traps s read traps) l = let w = read.within in omega arith
+refused_within b r l = let w = r.within in omega arith
 
 pub long_settles : (words : List (List ℕ)) (bytes : List ℕ → Option (List ℕ)) (risen : Type 0) (failed : Option (List ℕ)) (status : ℕ) (text : List ℕ) → ScriptHas words bytes IsTooLong → Cause words bytes risen failed status text → (status ≡ 9) ⊎ ((status ≡ 6) × risen)
 long_settles words bytes risen failed status text h (Usage p is t) = absurd (no_word (script_word words) (λ name. IsSomeAnd (bytes name) IsTooLong) p h)

@@ -1,25 +1,23 @@
 -- A schedule of different arrays isn't refused where no job is pending.
-use Rattle.std.proofs.Common.{◌≡◌, ◌≢◌, ◌∙◌, ◌⊎◌, inl, inr, ⊎_elim, ℕ, zero, suc, ◌+◌, ◌<◌, ◌≤◌, Bool, true, false, ◌&&◌, ◌||◌, not, IsTrue, ℤ, List, [], ◌∷◌, ◌++◌, length, map, get_or, nat_eq, Option, Some, None, slice_get, refl, sym, ap, subst, arith}
-use Rattle.std.specs.Prelude.{find, if◌then◌else◌}
-use Rattle.std.specs.List.{list_all, list_any}
+use Rattle.std.proofs.Common.{◌≡◌, ◌≢◌, ◌∙◌, ℕ, zero, suc, ◌<◌, Bool, true, false, ◌&&◌, not, IsTrue, ℤ, List, [], ◌∷◌, ◌++◌, length, map, nat_eq, Option, Some, None, slice_get, refl, sym, ap, subst, arith}
+use Rattle.std.specs.Prelude.{find}
+use Rattle.std.specs.List.{list_any}
 use Rattle.std.proofs.lemmas.Bool.Decides.{nat_tests}
 use Rattle.frame_ast.specs.declared.kernel.Param.{Param}
 use Rattle.frame_ast.specs.declared.kernel.ParamKind.{ParamKind}
 use Rattle.frame_ast.specs.declared.kernel.ParamKind.TheVariants.{Array as ArrayParam}
 use Rattle.frame_ast.specs.declared.script.Arg.{Arg}
 use Rattle.frame_ast.specs.declared.script.Arg.TheVariants.{Name, Number}
-use Rattle.frame_ast.specs.declared.script.Life.{Life}
-use Rattle.frame_ast.specs.declared.script.Life.TheVariants.{Persistent}
-use Rattle.frame_ast.specs.Conflicts.{Need, blocking}
+use Rattle.frame_ast.specs.Conflicts.{blocking}
 use Rattle.frame_ast.specs.Jobs.{Book, empty_book, greatest}
 use Rattle.frame_ast.specs.Lists.{member}
 use Rattle.frame_ast.specs.Plain.{names_once}
-use Rattle.frame_ast.specs.Refusals.{Refused, first_cause, disposed, stale, jobs_named, pending, pending_on, is_temp, first_given, schedule_refusal, naming}
-use Rattle.frame_ast.specs.Schedules.{Given, writes_to, is_array, is_shared, alias, first_alias, given_args, givens, need_of}
-use Rattle.frame_ast.specs.States.{Value, ScriptState, container_at, is_alive, is_stale}
+use Rattle.frame_ast.specs.Refusals.{Refused, first_cause, jobs_named, pending_on, is_temp, first_given, schedule_refusal, naming}
+use Rattle.frame_ast.specs.Schedules.{Given, writes_to, is_shared, alias, first_alias, given_args, givens, need_of}
+use Rattle.frame_ast.specs.States.{ScriptState, container_at, is_alive, is_stale}
 use Rattle.kernel_exec.specs.declared.binds.ArrayAt.{ArrayAt}
 use Rattle.frame_top.specs.Held.{Holds}
-use Rattle.frame_top.proofs.Args.{AreNamed, not_again, or_there}
+use Rattle.frame_top.proofs.Args.{AreNamed, or_there}
 use Rattle.frame_top.proofs.Tables.{first_true, second_true}
 
 -- a property of each of some values

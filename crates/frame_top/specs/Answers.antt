@@ -32,30 +32,10 @@ pub record IsRun (script : Script) (bytes : List ℕ) : Type 0 where
   pub read : IsRead script bytes
   pub no_trap : HasNoTrap script
 
--- They are within the limit, and spell no such script, or one whose job traps.
-pub data IsRefused (bytes : List ℕ) : Type 0 where
-  SpellsNone : length bytes ≤ script_limit → ((script : Script) → IsRead script bytes → ⊥) → IsRefused bytes
-  Traps : (script : Script) → IsRead script bytes → (HasNoTrap script → ⊥) → IsRefused bytes
-
 -- they are within the limit, and spell no script that runs
-pub record RunsNone (bytes : List ℕ) : Type 0 where
+pub record IsRefused (bytes : List ℕ) : Type 0 where
   pub within : length bytes ≤ script_limit
   pub none : (script : Script) → IsRun script bytes → ⊥
-
--- two scripts that print the same, with the same status, and of which both or none trap
-pub record RunAlike (s t : Script) : Type 0 where
-  pub traps : HasNoTrap s → HasNoTrap t
-  pub status : status_of s no_table ≡ status_of t no_table
-  pub output : output_of s no_table ≡ output_of t no_table
-
--- all scripts that the bytes spell run alike: their meaning doesn't depend on how they are read
-pub record IsClear (bytes : List ℕ) : Type 0 where
-  pub alike : (s t : Script) → IsRead s bytes → IsRead t bytes → RunAlike s t
-
--- the bytes have one meaning, and it is that of this script, which runs
-pub record Means (script : Script) (bytes : List ℕ) : Type 0 where
-  pub run : IsRun script bytes
-  pub clear : IsClear bytes
 
 -- THE FILE THAT THE WORDS NAME
 

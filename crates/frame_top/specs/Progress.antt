@@ -1,10 +1,10 @@
 -- How far a script of the plain forms has come, with its arrays as words.
-use Rattle.std.specs.Prelude.{◌≡◌, ℕ, zero, suc, ◌+◌, ◌<◌, ◌≤◌, Bool, true, false, ◌&&◌, not, IsTrue, ℤ, List, [], ◌∷◌, length, map, sum, take, drop, Some, None, slice_get}
+use Rattle.std.specs.Prelude.{◌≡◌, ℕ, zero, suc, ◌+◌, ◌<◌, ◌≤◌, Bool, true, false, IsTrue, ℤ, List, [], ◌∷◌, length, map, sum, take, drop, Some, None, slice_get}
 use Rattle.frame_ast.specs.declared.script.Statement.{Statement}
 use Rattle.frame_ast.specs.declared.script.Order.{Order}
-use Rattle.frame_ast.specs.declared.script.Order.TheVariants.{Array, Schedule, Print}
+use Rattle.frame_ast.specs.declared.script.Order.TheVariants.{Array}
 use Rattle.frame_ast.specs.declared.script.Script.{Script}
-use Rattle.frame_ast.specs.Accepted.{NameKind, ArrayName, Names, kind_in, container, statements_fit}
+use Rattle.frame_ast.specs.Accepted.{NameKind, ArrayName, kind_in, container, statements_fit}
 use Rattle.frame_ast.specs.Contents.{Contents, words_of}
 use Rattle.frame_ast.specs.Conflicts.{Need}
 use Rattle.frame_ast.specs.Jobs.{nobody, empty_book}

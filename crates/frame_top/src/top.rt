@@ -8,7 +8,7 @@ ghost use Rattle.job_base.specs.Cells.{cells_of};
 ghost use Rattle.frame_ast.specs.Answers.{no_script_line, script_size_line};
 ghost use Rattle.frame_ast.specs.Orders.{no_table};
 ghost use Rattle.frame_ast.specs.Scripts.{status_of, output_of};
-ghost use Rattle.frame_top.specs.Answers.{Answers, Cause, IsDue, IsRefused, IsRun, IsStatus, IsTooLong, Means, RunsNone, ScriptHas, ScriptHasIfTold, TakesPart, Told, refused_text, usage_text};
+ghost use Rattle.frame_top.specs.Answers.{Answers, Cause, IsDue, IsRefused, IsRun, IsStatus, IsTooLong, ScriptHas, ScriptHasIfTold, TakesPart, Told, refused_text, usage_text};
 ghost use Rattle.frame_top.specs.Words.{script_word};
 
 use crate::job::Stop;
@@ -97,11 +97,11 @@ pub fn run_frame<F: Files, S: Sink, G: Gate>(
     sink: &mut S,
     gate: &G,
 ) -> u8
-    // THE HEADLINE. Where the words name a file whose bytes mean a script that runs, the status is that of the script's
+    // THE HEADLINE. Where the words name a file whose bytes spell a script that runs, the status is that of the script's
     // meaning, unless a read failed, the sink failed or memory was wanting; and then the bytes are its output.
-    ensures headline { (script : ScriptTree) → ScriptHas (map (λ w. string_bytes w) words.now) (F.bytes files.old) (Means script) →
+    ensures headline { (script : ScriptTree) → ScriptHas (map (λ w. string_bytes w) words.now) (F.bytes files.old) (IsRun script) →
         IsDue result (status_of script no_table) (Rose (F.faults files.old) (F.faults files.new)) (Rose (S.faults sink.old) (S.faults sink.new)) }
-    ensures headline_bytes { (script : ScriptTree) → ScriptHas (map (λ w. string_bytes w) words.now) (F.bytes files.old) (Means script) →
+    ensures headline_bytes { (script : ScriptTree) → ScriptHas (map (λ w. string_bytes w) words.now) (F.bytes files.old) (IsRun script) →
         result ≡ status_of script no_table → Appends (S.taken sink.old) (S.taken sink.new) (output_of script no_table) }
 
     // Each status, and what is so where it comes.
@@ -124,7 +124,7 @@ pub fn run_frame<F: Files, S: Sink, G: Gate>(
 
     // When a status is due.
     ensures usage_due { script_word (map (λ w. string_bytes w) words.now) ≡ None → IsDue result 2 ⊥ (Rose (S.faults sink.old) (S.faults sink.new)) }
-    ensures refused_due { ScriptHas (map (λ w. string_bytes w) words.now) (F.bytes files.old) RunsNone →
+    ensures refused_due { ScriptHas (map (λ w. string_bytes w) words.now) (F.bytes files.old) IsRefused →
         IsDue result 3 (Rose (F.faults files.old) (F.faults files.new)) (Rose (S.faults sink.old) (S.faults sink.new)) }
     ensures too_long_due { ScriptHas (map (λ w. string_bytes w) words.now) (F.bytes files.old) IsTooLong →
         IsDue result 9 (Rose (F.faults files.old) (F.faults files.new)) (Rose (S.faults sink.old) (S.faults sink.new)) }

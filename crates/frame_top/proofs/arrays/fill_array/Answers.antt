@@ -1,4 +1,4 @@
-use Rattle.std.proofs.Common.{◌∙◌, sym, ap, arith}
+use Rattle.std.proofs.Common.{◌∙◌, sym, ap}
 use Rattle.frame_ast.specs.Contents.{Cells}
 use Rattle.frame_ast.specs.Orders.{new_array}
 use Rattle.frame_top.specs.Progress.{set_of}

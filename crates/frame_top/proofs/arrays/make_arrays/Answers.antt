@@ -1,4 +1,4 @@
-use Rattle.std.proofs.Common.{◌≡◌, ◌<◌, ◌∙◌, List, length, get_or, refl, sym, subst, arith}
+use Rattle.std.proofs.Common.{◌≡◌, ◌<◌, ◌∙◌, List, length, get_or, refl, subst}
 use Rattle.frame_ast.specs.declared.script.Statement.{Statement}
 use Rattle.kernel_exec.specs.declared.binds.ArrayAt.{ArrayAt}
 use Rattle.frame_top.proofs.NextArray.{makes_more}

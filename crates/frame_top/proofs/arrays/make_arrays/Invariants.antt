@@ -1,5 +1,3 @@
-use Rattle.std.proofs.Common.{◌≡◌, ℕ, ◌≤◌, pos}
-use Rattle.frame_top.specs.Progress.{Makes}
 use Rattle.frame_top.proofs.NextArray.{InMaking}
 use Rattle.frame_top.proofs.arrays.make_arrays.Given as goal
 

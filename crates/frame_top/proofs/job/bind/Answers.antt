@@ -1,4 +1,3 @@
-use Rattle.std.proofs.Common.{arith}
 use Rattle.frame_top.proofs.Binding.{bound_more}
 use Rattle.frame_top.proofs.job.bind.Goals as goal
 

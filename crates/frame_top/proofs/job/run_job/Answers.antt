@@ -1,8 +1,8 @@
-use Rattle.std.proofs.Common.{◌≡◌, ◌<◌, ◌≤◌, ◌∙◌, ℕ, List, length, get_or, Some, slice_get, refl, sym, subst, ap, arith}
+use Rattle.std.proofs.Common.{◌≡◌, ◌<◌, ◌≤◌, List, length, get_or, Some, slice_get, sym, subst, arith}
 use Rattle.frame_ast.specs.declared.script.Arg.{Arg}
 use Rattle.frame_ast.specs.declared.script.Statement.{Statement}
 use Rattle.frame_top.proofs.Jobs.{args_stand, binds_fit, may_read, may_store}
-use Rattle.frame_top.proofs.Ready.{no_schedule, no_statement, a_job, job_here, kernel_inside, bound_here, a_call, job_done, job_ready, job_traps, room_in}
+use Rattle.frame_top.proofs.Ready.{no_schedule, a_job, job_here, kernel_inside, bound_here, a_call, job_done, job_ready, job_traps, room_in}
 use Rattle.frame_top.proofs.job.run_job.Goals as goal
 
 pub returns-in_default-act-clause-ready : goal.returns-in_default-act-clause-ready

@@ -1,6 +1,6 @@
-use Rattle.std.proofs.Common.{◌≡◌, ◌<◌, ◌≤◌, ◌+◌, ℕ, ℤ, Bool, IsTrue, List, Option, length, take, get_or, subst, sym, arith}
+use Rattle.std.proofs.Common.{◌<◌, ◌+◌, ℕ, Bool, IsTrue, List, length, take, get_or, subst, sym, arith}
 use Rattle.std.specs.Io.KnownBytes.{Appends}
-use Rattle.frame_top.proofs.Printing.{printing_starts, print_next, at_array, name_text_is, line_is_at, in_printing_more, always_print, print_stops, printed_all}
+use Rattle.frame_top.proofs.Printing.{printing_starts, print_next, at_array, name_text_is, line_is_at, in_printing_more, print_stops}
 use Rattle.frame_top.proofs.lines.print_lines.Goals as goal
 
 pub loop-i-init : goal.loop-i-init

@@ -1,6 +1,6 @@
-use Rattle.std.proofs.Common.{◌≤◌, length, ◌≡◌, ℕ, List, Err, ap, refl, subst, sym}
-use Rattle.frame_ast.specs.declared.script.Script.{Script}
-use Rattle.frame_top.specs.Answers.{Usage, Unread, TooLong, Refused, Ran, Caused, IsRun, IsRefused, SpellsNone, Traps}
+use Rattle.std.proofs.Common.{◌≤◌, length, Err, ap, refl, subst, sym}
+use Rattle.frame_top.specs.Answers.{Usage, Unread, TooLong, Refused, Ran, Caused, IsRun, IsRefused}
+use Rattle.frame_top.proofs.Clear.{spells_none, one_traps}
 use Rattle.frame_top.proofs.Known.{known, at_some}
 use Rattle.frame_top.proofs.Printing.{ends_without_trap}
 use Rattle.frame_top.proofs.top.answer.Goals as goal
@@ -23,7 +23,7 @@ pub returns-in-Err-Refused-clause-answer : goal.returns-in-Err-Refused-clause-an
 returns-in-Err-Refused-clause-answer g c =
     let r = c.in-Ok.ensures in
     let never = c.in-Err-Refused.ensures.refused (ap Err c.in-Err-Refused.field-0-is) in
-    let here : IsRefused c.deref.result.now = SpellsNone (subst (λ b. length b ≤ 16384) (sym c.deref.ensures.value) r.within) (λ s read. never s read.spelled read.accepted read.plain) in
+    let here : IsRefused c.deref.result.now = spells_none _ (subst (λ b. length b ≤ 16384) (sym c.deref.ensures.value) r.within) (λ s read. never s read.spelled read.accepted read.plain) in
     Caused _ _ (Refused (at_some _ _ _ c.in-Some.ensures (known _ _ IsRefused r.bytes (subst IsRefused c.deref.ensures.value here))) refl refl) c.say-in-Err-Refused.ensures.told
 
 pub returns-in-Ok-prepare-clause-answer : goal.returns-in-Ok-prepare-clause-answer
@@ -41,5 +41,5 @@ returns-in-Err-Trapped-clause-answer g c =
     let s = c.in-Ok-read_script.script in
     let read = c.in-Ok-read_script.ensures in
     let traps = c.in-Err-Trapped.ensures.trapped (ap Err c.in-Err-Trapped.field-0-is) in
-    let here : IsRefused c.deref.result.now = Traps s (record { within = subst (λ b. length b ≤ 16384) (sym c.deref.ensures.value) r.within; spelled = read.spelled; accepted = read.accepted; plain = read.plain }) traps in
+    let here : IsRefused c.deref.result.now = one_traps _ s (record { within = subst (λ b. length b ≤ 16384) (sym c.deref.ensures.value) r.within; spelled = read.spelled; accepted = read.accepted; plain = read.plain }) traps in
     Caused _ _ (Refused (at_some _ _ _ c.in-Some.ensures (known _ _ IsRefused r.bytes (subst IsRefused c.deref.ensures.value here))) refl refl) c.say-in-Err-Trapped.ensures.told

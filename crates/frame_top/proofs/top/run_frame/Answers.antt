@@ -1,9 +1,5 @@
-use Rattle.std.proofs.Common.{◌≡◌, ◌∙◌, ⊎_elim, inl, inr, ℕ, List, Option, map, string_bytes, subst, sym, arith}
+use Rattle.std.proofs.Common.{⊎_elim, inl, inr, map, string_bytes, subst, arith}
 use Rattle.std.specs.Io.KnownBytes.{Appends}
-use Rattle.frame_ast.specs.declared.script.Script.{Script}
-use Rattle.frame_ast.specs.Orders.{no_table}
-use Rattle.frame_ast.specs.Scripts.{status_of, output_of}
-use Rattle.frame_top.specs.Answers.{IsRun}
 use Rattle.frame_top.proofs.Rows.{given, rows, ran_row, sink_rose, nothing_written, means_settles, refused_settles, long_settles, usage_settles, due, due_bytes}
 use Rattle.frame_top.proofs.top.run_frame.Goals as goal
 
