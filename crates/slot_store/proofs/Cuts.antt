@@ -4,7 +4,7 @@ use Rattle.std.proofs.lemmas.Bool.{and_from, or_from, or_right, le-ltb, lt-ltb, 
 use Rattle.job_base.specs.declared.Span.{Span}
 use Rattle.frame_ast.specs.Ranges.{IsFree, IsFirstFit}
 use Rattle.slot_store.specs.Spaces.{no_span, len_of, start_of, end_of, rest_after, has_word, some_has, is_live, AreHoles, AreSmall}
-use Rattle.slot_store.proofs.Words.{below, above, inside, within, sides, some_append, one_has, after, low_le, none_below, none_after, split, join, raise, from_lower}
+use Rattle.slot_store.proofs.Words.{below, above, inside, within, sides, some_append, one_has, after, low_le, none_below, none_after, split, join, from_lower}
 
 pub is_live_word : (holes : List Span) (top w : ℕ) → w < top → some_has holes w ≡ false → is_live holes top w ≡ true
 is_live_word holes top w lt h = and_from _ _ (lt-ltb w top lt) (not_from_false _ h)

@@ -1,5 +1,5 @@
 -- Words of ranges, and what lies before and after a place in the list of holes.
-use Rattle.std.proofs.Common.{◌≡◌, ℕ, zero, suc, ◌+◌, ◌<◌, ◌≤◌, ◌⊎◌, ⊎_elim, Bool, true, false, ◌&&◌, ◌||◌, List, [], ◌∷◌, ◌++◌, length, get_or, refl, ap, sym, ◌∙◌, arith}
+use Rattle.std.proofs.Common.{◌≡◌, ℕ, zero, suc, ◌+◌, ◌<◌, ◌≤◌, ◌⊎◌, Bool, true, false, ◌||◌, List, [], ◌∷◌, ◌++◌, length, get_or, refl, ap, ◌∙◌, arith}
 use Rattle.std.proofs.lemmas.Bool.{and_from, and_left, and_right, and_parts, or_from, or_left, or_right, lt-leb, le-ltb, le-leb, lt-ltb, leb-true, ltb-true}
 use Rattle.job_base.specs.declared.Span.{Span}
 use Rattle.slot_store.specs.Spaces.{no_span, has_word, some_has, AreHoles}

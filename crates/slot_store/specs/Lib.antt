@@ -1,1 +1,4 @@
 pub mod Spaces
+pub mod Places
+pub mod Kept
+pub mod Stores

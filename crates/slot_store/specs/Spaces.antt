@@ -1,5 +1,5 @@
 -- Which numbers are live, by the holes between them.
-use Rattle.std.specs.Prelude.{ℕ, suc, ◌+◌, ◌-◌, ◌<◌, ◌≤◌, Bool, false, ◌&&◌, ◌||◌, not, nat_lt, nat_le, nat_eq, if◌then◌else◌, List, [], ◌∷◌, length, slice_index_or}
+use Rattle.std.specs.Prelude.{◌≡◌, ◌≢◌, ◌⊎◌, ℕ, suc, ◌+◌, ◌-◌, ◌<◌, ◌≤◌, Bool, false, ◌&&◌, ◌||◌, not, nat_lt, nat_le, nat_eq, if◌then◌else◌, List, [], ◌∷◌, length, slice_index_or}
 use Rattle.std.specs.Coded.{×_prop, le_prop}
 use Rattle.job_base.specs.declared.Span.{Span}
 
@@ -43,3 +43,19 @@ AreSmall holes len n = (k : ℕ) → k < n → len_of holes k < len
 -- the words of a hole behind the first n, as a list of at most one hole
 abbrev pub rest_after : Span → ℕ → List Span
 rest_after x n = if nat_eq x.len n then [] else (record { start = x.start + n; len = x.len - n }) ∷ []
+
+-- the first n holes start before a number, and the others don't
+pub record IsPlace (holes : List Span) (w n : ℕ) : Type 0 where
+  pub within : n ≤ length holes
+  pub before : (k : ℕ) → k < n → start_of holes k < w
+  pub behind : (k : ℕ) → n ≤ k → k < length holes → w ≤ start_of holes k
+
+-- whether the last of the first n holes ends at a number: then the joined hole starts as that one
+abbrev pub JoinsBefore : List Span → ℕ → ℕ → ℕ → ℕ → Type 0
+JoinsBefore holes n w from start =
+    ((n ≡ from + 1) × (end_of holes from ≡ w) × (start ≡ start_of holes from)) ⊎ ((n ≡ from) × ((k : ℕ) → n ≡ k + 1 → end_of holes k ≢ w) × (start ≡ w))
+
+-- whether hole n starts at a number: then the joined hole ends as that one
+abbrev pub JoinsAfter : List Span → ℕ → ℕ → ℕ → ℕ → Type 0
+JoinsAfter holes n w to last =
+    ((to ≡ n + 1) × (n < length holes) × (start_of holes n ≡ w) × (last ≡ end_of holes n)) ⊎ ((to ≡ n) × (n < length holes → start_of holes n ≢ w) × (last ≡ w))

@@ -1,5 +1,5 @@
 // The names of what the store gives.
-use job_base::{NoMemory, Span};
+use job_base::Span;
 
 /// The number by which the safety system and the store know a container, from 0. A slot is given again once its
 /// container's words have come back.
@@ -28,10 +28,4 @@ pub enum StoreFault {
     Full,
     /// Memory was not found for the store's own lists.
     NoMemory,
-}
-
-impl From<NoMemory> for StoreFault {
-    fn from(_: NoMemory) -> Self {
-        StoreFault::NoMemory
-    }
 }

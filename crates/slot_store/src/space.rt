@@ -1,7 +1,7 @@
 // Which numbers are in use: a free list of the holes between them, for first fit.
-ghost use Rattle.std.specs.Prelude.{◌≡◌, ℕ, ◌+◌, ◌<◌, ◌≤◌, ◌^◌, ◌||◌, ◌∷◌, ◌++◌, [], max, length, take, drop, slice_index_or, slice_set, IfSome, IfNone, OnOk, vec_len, vec_capacity};
+ghost use Rattle.std.specs.Prelude.{◌≡◌, ℕ, ◌+◌, ◌<◌, ◌≤◌, ◌^◌, ◌&&◌, ◌||◌, not, true, ◌∷◌, ◌++◌, [], max, length, take, drop, slice_index_or, slice_set, IfSome, IfNone, OnOk, vec_len, vec_capacity};
 ghost use Rattle.frame_ast.specs.Ranges.{IsFirstFit};
-ghost use Rattle.slot_store.specs.Spaces.{AreHoles, AreHoles-prop, AreSmall, has_word, is_live, len_of, start_of, end_of, no_span, rest_after};
+ghost use Rattle.slot_store.specs.Spaces.{AreHoles, AreHoles-prop, AreSmall, has_word, is_live, len_of, start_of, end_of, no_span, rest_after, IsPlace, JoinsBefore, JoinsAfter};
 
 use job_base::{NoMemory, Span};
 use std::alloc::Global;
@@ -39,6 +39,7 @@ impl FreeSpace {
     pub(crate) fn reserve(&mut self, gives: usize) -> Result<(), NoMemory>
         ensures holes { self.new.holes.items ≡ self.old.holes.items }
         ensures top { self.new.top ≡ self.old.top }
+        ensures len { vec_len self.new.holes ≡ vec_len self.old.holes }
         ensures capacity { vec_capacity self.old.holes ≤ vec_capacity self.new.holes }
         ensures room { OnOk result (vec_len self.new.holes + gives ≤ vec_capacity self.new.holes) }
     {
@@ -51,6 +52,7 @@ impl FreeSpace {
         requires { AreSmall self.old.holes.items len (vec_len self.old.holes) → self.old.top + len < 2 ^ 32 }
         ensures fit { IsFirstFit (is_live self.old.holes.items self.old.top) len result }
         ensures live { (w : ℕ) → is_live self.new.holes.items self.new.top w ≡ (is_live self.old.holes.items self.old.top w || has_word (record { start = result; len = len }) w) }
+        ensures at { result ≤ self.old.top }
         ensures top { self.new.top ≤ max self.old.top (result + len) }
         ensures holes { vec_len self.new.holes ≤ vec_len self.old.holes }
         ensures capacity { vec_capacity self.old.holes ≤ vec_capacity self.new.holes }
@@ -69,6 +71,35 @@ impl FreeSpace {
                 self.top = top + len;
                 top
             }
+        }
+    }
+
+    /// Numbers that were taken are free again.
+    pub(crate) fn give(&mut self, span: Span)
+        requires live { (w : ℕ) → has_word span w ≡ true → is_live self.old.holes.items self.old.top w ≡ true }
+        requires room { vec_len self.old.holes < vec_capacity self.old.holes }
+        ensures live { (w : ℕ) → is_live self.new.holes.items self.new.top w ≡ (is_live self.old.holes.items self.old.top w && not (has_word span w)) }
+        ensures top { self.new.top ≤ self.old.top }
+        ensures holes { vec_len self.new.holes ≤ vec_len self.old.holes + 1 }
+        ensures capacity { vec_capacity self.old.holes ≤ vec_capacity self.new.holes }
+    {
+        if span.len == 0 {
+            return;
+        }
+        let top = self.top;
+        let end = span.start + span.len;
+        let at = holes_before(self.holes.as_slice(), span.start);
+        let (from, start) = joined_before(self.holes.as_slice(), at, span.start);
+        if end == top {
+            self.holes.truncate(from);
+            self.top = start;
+        } else {
+            let (to, last) = joined_after(self.holes.as_slice(), at, end);
+            let hole = Span {
+                start,
+                len: last - start,
+            };
+            replace(&mut self.holes, from, to, hole);
         }
     }
 }
@@ -103,5 +134,75 @@ fn cut(holes: &mut Vec<Span>, at: usize, len: u32)
             start: hole.start + len,
             len: hole.len - len,
         };
+    }
+}
+
+/// How many holes begin before a number that is live.
+fn holes_before(holes: &[Span], at: u32) -> usize
+    requires { (top : ℕ) × AreHoles 0 holes.now top }
+    ensures { IsPlace holes.now at result }
+{
+    let mut low = 0;
+    let mut high = holes.len();
+    while low < high {
+        let middle = low + (high - low) / 2;
+        if holes[middle].start < at {
+            low = middle + 1;
+        } else {
+            high = middle;
+        }
+    }
+    low
+}
+
+/// From which hole on, and from which number on, there is one hole once the numbers from `start` on are free.
+fn joined_before(holes: &[Span], at: usize, start: u32) -> (usize, u32)
+    requires place { at ≤ length holes.now }
+    requires fits { (k : ℕ) → k < length holes.now → end_of holes.now k < 2 ^ 32 }
+    ensures { JoinsBefore holes.now at start result.0 result.1 }
+{
+    if at > 0 {
+        let hole = holes[at - 1];
+        if hole.start + hole.len == start {
+            return (at - 1, hole.start);
+        }
+    }
+    (at, start)
+}
+
+/// Up to which hole, and up to which number, there is one hole once the numbers below `end` are free.
+fn joined_after(holes: &[Span], at: usize, end: u32) -> (usize, u32)
+    requires fits { (k : ℕ) → k < length holes.now → end_of holes.now k < 2 ^ 32 }
+    ensures { JoinsAfter holes.now at end result.0 result.1 }
+{
+    if at < holes.len() {
+        let hole = holes[at];
+        if hole.start == end {
+            return (at + 1, hole.start + hole.len);
+        }
+    }
+    (at, end)
+}
+
+/// Puts a hole in place of those from `from` on and below `to`.
+fn replace(holes: &mut Vec<Span>, from: usize, to: usize, hole: Span)
+    requires order { from ≤ to }
+    requires few { to ≤ from + 2 }
+    requires within { to ≤ vec_len holes.old }
+    requires room { vec_len holes.old < vec_capacity holes.old }
+    ensures items { holes.new.items ≡ take from holes.old.items ++ hole ∷ drop to holes.old.items }
+    ensures len { vec_len holes.new ≤ vec_len holes.old + 1 }
+    ensures capacity { vec_capacity holes.old ≤ vec_capacity holes.new }
+{
+    if from == to {
+        match holes.insert(from, hole) {
+            Ok(()) => {}
+            Err(_) => unreachable!(),
+        }
+    } else {
+        holes[from] = hole;
+        if from + 1 < to {
+            holes.remove(from + 1);
+        }
     }
 }

@@ -1,7 +1,8 @@
-use Rattle.std.proofs.Common.{◌<◌, ◌≤◌, ◌+◌, length, vec_len, arith, subst}
-use Rattle.slot_store.specs.Spaces.{AreSmall, is_live}
+use Rattle.std.proofs.Common.{◌<◌, ◌≤◌, ◌+◌, length, arith, subst}
+use Rattle.slot_store.specs.Spaces.{AreSmall}
 use Rattle.slot_store.proofs.Words.{raise}
-use Rattle.slot_store.proofs.Cuts.{fit_above, live_above, cut_of, cut_live_of, fit_of, end_below}
+use Rattle.slot_store.proofs.Cuts.{fit_above, live_above, cut_of, cut_live_of, fit_of, end_below, same_hole}
+use Rattle.job_base.specs.declared.Span.{Span}
 use Rattle.slot_store.proofs.space.FreeSpace.take.Goals as goal
 
 pub cut-requires-clause-fits : goal.cut-requires-clause-fits
@@ -29,3 +30,10 @@ returns-in-None-clause-fit c = fit_above c.args.self.now.holes.items c.args.self
 
 pub returns-in-None-clause-live : goal.returns-in-None-clause-live
 returns-in-None-clause-live c = λ w. live_above c.args.self.now.holes.items c.args.self.now.top c.args.len w c.args.self.now.apart
+
+pub returns-in-Some-clause-at : goal.returns-in-Some-clause-at
+returns-in-Some-clause-at c =
+    let lt : c.in-Some.at < length c.args.self.now.holes.items = subst (λ l. c.in-Some.at < length l) c.as_slice.ensures.value c.in-Some.ensures.some.0 in
+    let e = end_below c.args.self.now.holes.items 0 c.in-Some.at c.args.self.now.top c.args.self.now.apart lt in
+    let q = same_hole c.args.self.now.holes.items c.in-Some.at c.index-hole.result.now lt c.index-hole.ensures in
+    subst (λ (x : Span). x.start ≤ c.args.self.now.top) q (omega arith)

@@ -1,0 +1,29 @@
+// What the store knows of a slot.
+use job_base::Span;
+use job_handle::Handle;
+
+/// What a slot stands for now.
+#[derive(Clone, Copy)]
+pub(crate) enum State {
+    /// It is given with the next take that comes to it.
+    Free,
+    /// A container has it, and the words of the slot's range.
+    Taken,
+    /// Its container was disposed, and jobs may still use the words.
+    Held(Handle),
+}
+
+/// A slot's state, its version, and the range of words that it has, or had before it was free.
+#[derive(Clone, Copy)]
+pub(crate) struct Place {
+    pub(crate) state: State,
+    pub(crate) version: u32,
+    pub(crate) span: Span,
+}
+
+/// A slot that is held, and the job that was last seen to use its words.
+#[derive(Clone, Copy)]
+pub(crate) struct Waiting {
+    pub(crate) slot: u32,
+    pub(crate) job: u32,
+}
