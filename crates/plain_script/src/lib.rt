@@ -12,6 +12,8 @@ mod lines;
 mod prints;
 mod reader;
 mod statements;
+#[cfg(test)]
+mod tests;
 mod values;
 mod words;
 
