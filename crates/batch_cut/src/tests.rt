@@ -4,10 +4,14 @@ use job_base::Span;
 // The length and the batch, the step, how many pieces there are, and the last piece.
 #[test]
 fn cuts(rt: HostRuntime) {
-    let table: [(u32, u32, u32, u32, (u32, u32)); 13] = [
+    let table: [(u32, u32, u32, u32, (u32, u32)); 17] = [
         (0, 1, 1, 1, (0, 0)),
         (0, 1_048_576, 1_048_576, 1, (0, 0)),
+        (0, 4, 4, 1, (0, 0)),
         (1, 1, 1, 1, (0, 1)),
+        (3, 64, 64, 1, (0, 3)),
+        (4, 2, 2, 2, (2, 2)),
+        (5, 2, 2, 3, (4, 1)),
         (10, 4, 4, 3, (8, 2)),
         (64, 1, 1, 64, (63, 1)),
         (65, 1, 2, 33, (64, 1)),
