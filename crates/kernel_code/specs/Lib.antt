@@ -2,3 +2,4 @@ pub mod Spellings
 pub mod Words
 pub mod Tokens
 pub mod Fronts
+pub mod Raw

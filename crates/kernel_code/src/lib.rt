@@ -2,6 +2,7 @@
 #![tactic(auto)]
 
 mod lexer;
+pub mod raw;
 mod spelling;
 #[cfg(test)]
 mod tests;
@@ -10,4 +11,5 @@ mod word;
 
 pub use frame_grammar::TokenKind;
 pub use lexer::lex;
+pub use raw::{RawForm, RawKernel, RawNode, RawParam};
 pub use token::Token;
