@@ -1,0 +1,4 @@
+//! Scripts as texts: what a file spells, and its first fault.
+#![tactic(auto)]
+
+pub mod raw;
