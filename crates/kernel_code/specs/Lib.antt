@@ -3,3 +3,4 @@ pub mod Words
 pub mod Tokens
 pub mod Fronts
 pub mod Raw
+pub mod StaticFaults

@@ -1,6 +1,8 @@
 //! Kernels as texts: the tokens of a file.
 #![tactic(auto)]
 
+pub mod check;
+mod fault;
 mod lexer;
 pub mod raw;
 mod spelling;
@@ -9,6 +11,7 @@ mod tests;
 mod token;
 mod word;
 
+pub use fault::KernelFault;
 pub use frame_grammar::TokenKind;
 pub use lexer::lex;
 pub use raw::{RawForm, RawKernel, RawNode, RawParam};

@@ -1,0 +1,391 @@
+-- The static faults of a kernel: what its names are where they stand, what each form needs of its name, and which fault comes first.
+--
+-- Nodes, locals and parameters are numbered from 0. A name that several things have is the parameter, else the first local.
+use Rattle.std.specs.Prelude.{◌≡◌, ℕ, ◌+◌, ◌-◌, ◌*◌, ◌==◌, nat_lt, nat_le, Bool, true, false, ◌&&◌, ◌||◌, not, is_some, if◌then◌else◌, List, [], ◌∷◌, ◌++◌, length, take, fold, position, slice_get, Option, None, Some, option_map}
+use Rattle.std.specs.List.{list_any}
+use Rattle.std.specs.Str.{bytes_eq}
+use Rattle.std.specs.String.{string_bytes}
+use Rattle.job_base.specs.declared.Access.{Access}
+use Rattle.job_base.specs.declared.Access.TheVariants.{Read, Write as WriteOnly, Both}
+use Rattle.frame_ast.specs.declared.kernel.FaultKind.{FaultKind}
+use Rattle.frame_ast.specs.declared.kernel.FaultKind.TheVariants.{Syntax, UnknownName, DuplicateName, KindMismatch, ReadOfWriteOnly, WriteOfReadOnly, Limit, TooLong}
+use Rattle.frame_ast.specs.declared.kernel.ParamKind.{ParamKind}
+use Rattle.frame_ast.specs.declared.kernel.ParamKind.TheVariants as kind
+use Rattle.frame_ast.specs.declared.kernel.Kernel.{Kernel}
+use Rattle.frame_ast.specs.Checked.{Demand, kind_meets, nothing, a_value, read_elements, read_map, read_stream, written_value, written_elements, written_list, written_map, changed_map, clearable, written_stream}
+use Rattle.kernel_code.specs.declared.token.Token.{Token}
+use Rattle.kernel_code.specs.declared.fault.KernelFault.{KernelFault}
+use Rattle.kernel_code.specs.declared.fault.KernelFault.TheVariants.{Refused, NoMemory}
+use Rattle.kernel_code.specs.declared.raw.RawForm.{RawForm}
+use Rattle.kernel_code.specs.declared.raw.RawForm.TheVariants as form
+use Rattle.kernel_code.specs.declared.raw.RawNode.{RawNode}
+use Rattle.kernel_code.specs.declared.raw.RawParam.{RawParam}
+use Rattle.kernel_code.specs.declared.raw.RawKernel.{RawKernel}
+use Rattle.kernel_code.specs.declared.check.names.Named.{Named}
+use Rattle.kernel_code.specs.declared.check.names.Named.TheVariants.{Parameter, Variable, LoopVariable}
+use Rattle.kernel_code.specs.declared.check.names.Local.{Local}
+use Rattle.kernel_code.specs.declared.check.StaticFault.{StaticFault}
+use Rattle.kernel_code.specs.Tokens.{text_of}
+
+-- TEXTS
+
+abbrev pub token_text : List ℕ → Option Token → List ℕ
+token_text source None = []
+token_text source (Some token) = text_of source token
+
+-- the bytes of the token at a place
+abbrev pub text_at : RawKernel → ℕ → List ℕ
+text_at raw at = token_text raw.source.now (slice_get raw.tokens.now at)
+
+abbrev pub token_line : Option Token → ℕ
+token_line None = 0
+token_line (Some token) = token.line
+
+-- the line of the token at a place
+abbrev pub line_at : RawKernel → ℕ → ℕ
+line_at raw at = token_line (slice_get raw.tokens.now at)
+
+-- the value of decimal digits
+abbrev pub value_of : List ℕ → ℕ
+value_of = fold (λ value digit. 10 * value + (digit - 48)) 0
+
+-- the value of the Number at a place
+abbrev pub value_at : RawKernel → ℕ → ℕ
+value_at raw at = value_of (text_at raw at)
+
+-- DEPTH
+
+-- whether node j, with so many nodes under it before and behind it, is node i or contains it
+abbrev pub spans : ℕ → ℕ → RawNode → Bool
+spans i j node = nat_le (j - node.before) i && nat_le i (j + node.after)
+
+abbrev pub one_if : Bool → ℕ
+one_if b = if b then 1 else 0
+
+-- how many of these nodes, from node j on, are node i or contain it
+abbrev pub spanning : ℕ → ℕ → List RawNode → ℕ
+spanning i j [] = 0
+spanning i j (node ∷ more) = one_if (spans i j node) + spanning i (j + 1) more
+
+-- the depth of node i: one more than the number of nodes that contain it
+abbrev pub depth_of : List RawNode → ℕ → ℕ
+depth_of nodes i = spanning i 0 nodes
+
+-- SCOPES
+
+-- whether a node is the `var` or the `for` of a local
+abbrev pub declares : RawForm → Bool
+declares form.Var = true
+declares form.For = true
+declares _ = false
+
+abbrev pub is_loop : RawForm → Bool
+is_loop form.For = true
+is_loop _ = false
+
+-- the node behind the block of statement p in which node d stands: its first block, else its second one
+abbrev pub end_in : ℕ → ℕ → RawNode → ℕ
+end_in d p owner =
+    let first = p + 1 + owner.heads + owner.inside in
+    if nat_lt d first then first else p + 1 + owner.after
+
+abbrev pub end_within : List RawNode → ℕ → ℕ → Option RawNode → ℕ
+end_within nodes d p None = length nodes
+end_within nodes d p (Some owner) = end_in d p owner
+
+-- the node behind the block in which node d stands, whose owner is this statement
+abbrev pub block_end : List RawNode → ℕ → Option ℕ → ℕ
+block_end nodes d None = length nodes
+block_end nodes d (Some p) = end_within nodes d p (slice_get nodes p)
+
+-- The local of node d. A loop variable is in scope in the block of its `for`, any other local from the statement behind its `var`
+-- to the end of the block.
+abbrev pub local_of : List RawNode → ℕ → RawNode → Local
+local_of nodes d node =
+    let inner = d + 1 + node.heads in
+    if is_loop node.form
+    then record { name = node.name; start = inner; end = inner + node.inside; is_loop = true }
+    else record { name = node.name; start = d + 1 + node.after; end = block_end nodes d node.owner; is_loop = false }
+
+abbrev pub local_if : Bool → Local → List Local
+local_if b l = if b then l ∷ [] else []
+
+-- the locals of these nodes, from node d on
+abbrev pub locals_from : List RawNode → ℕ → List RawNode → List Local
+locals_from nodes d [] = []
+locals_from nodes d (node ∷ more) = local_if (declares node.form) (local_of nodes d node) ++ locals_from nodes (d + 1) more
+
+-- the locals that are declared before node i, in and out of scope
+abbrev pub locals_before : List RawNode → ℕ → List Local
+locals_before nodes i = locals_from nodes 0 (take i nodes)
+
+-- the locals of a kernel
+abbrev pub locals_of : List RawNode → List Local
+locals_of nodes = locals_from nodes 0 nodes
+
+-- NAMES
+
+-- the parameter that a name is
+abbrev pub parameter : RawKernel → List ℕ → Option ℕ
+parameter raw text = position (λ p. bytes_eq (text_at raw p.name) text) raw.params.items
+
+abbrev pub or_else : {A : Type 0} → Option A → Option A → Option A
+or_else (Some x) later = Some x
+or_else None later = later
+
+-- what local k is
+abbrev pub as_local : Local → ℕ → Named
+as_local l k = if l.is_loop then LoopVariable k else Variable k
+
+abbrev pub in_scope : ℕ → Local → Bool
+in_scope i l = nat_le l.start i && nat_lt i l.end
+
+-- the local in scope at node i that a name is, among these from local k on
+abbrev pub local_among : RawKernel → ℕ → List ℕ → ℕ → List Local → Option Named
+local_among raw i text k [] = None
+local_among raw i text k (l ∷ more) =
+    if in_scope i l && bytes_eq (text_at raw l.name) text then Some (as_local l k) else local_among raw i text (k + 1) more
+
+abbrev pub meaning_among : RawKernel → List Local → ℕ → List ℕ → Option Named
+meaning_among raw locals i text = or_else (option_map (λ x. Parameter x) (parameter raw text)) (local_among raw i text 0 locals)
+
+-- what a name is at node i
+abbrev pub meaning_of : RawKernel → ℕ → List ℕ → Option Named
+meaning_of raw i text = meaning_among raw (locals_before raw.nodes.items i) i text
+
+-- STREAMS
+
+abbrev pub is_begin : RawForm → Bool
+is_begin form.Begin = true
+is_begin _ = false
+
+-- whether node i stands in the block of node b
+abbrev pub is_inside : ℕ → ℕ → RawNode → Bool
+is_inside i b node = nat_le (b + 1 + node.heads) i && nat_lt i (b + 1 + node.heads + node.inside)
+
+abbrev pub is_number : ℕ → Option ℕ → Bool
+is_number x None = false
+is_number x (Some y) = x == y
+
+-- whether node i stands in the block of a `begin` of parameter x, among these nodes from node b on
+abbrev pub begun_among : RawKernel → ℕ → ℕ → ℕ → List RawNode → Bool
+begun_among raw x i b [] = false
+begun_among raw x i b (node ∷ more) =
+    (is_begin node.form && (is_inside i b node && is_number x (parameter raw (text_at raw node.name))))
+    || begun_among raw x i (b + 1) more
+
+abbrev pub is_begun : RawKernel → ℕ → ℕ → Bool
+is_begun raw i x = begun_among raw x i 0 (take i raw.nodes.items)
+
+-- WHAT FORMS NEED
+
+-- what `x = e` asks of a parameter: only a `ref` can be written, and an `int` only read
+abbrev pub assigned : Demand
+assigned = record written_value { int = true }
+
+-- what `len(x)` asks: a list or a map is read
+abbrev pub measurable : ParamKind → Demand
+measurable kind.List = record nothing { list = true; map = true; reads = true }
+measurable kind.Map = record nothing { list = true; map = true; reads = true }
+measurable _ = record nothing { array = true; stream = true }
+
+-- what a form asks of the parameter that is its name
+abbrev pub demand_of : RawForm → ParamKind → Demand
+demand_of form.Name k = a_value
+demand_of form.Element k = read_elements
+demand_of form.Length k = measurable k
+demand_of form.Has k = read_map
+demand_of form.Count k = read_stream
+demand_of form.Item k = read_stream
+demand_of form.SetName k = assigned
+demand_of form.SetPlace k = written_elements
+demand_of form.SetTryAdd k = changed_map
+demand_of form.SetRemove k = changed_map
+demand_of form.AddItem k = written_list
+demand_of form.AddPair k = written_map
+demand_of form.Remove k = written_list
+demand_of form.Clear k = clearable
+demand_of form.Write k = written_stream
+demand_of form.Begin k = written_stream
+demand_of _ k = nothing
+
+-- what the name before an effect asks: a local is meant, and an `int` only read
+abbrev pub answered : Demand
+answered = record nothing { int = true; writes = true }
+
+-- why a parameter of this kind and access doesn't meet a demand
+abbrev pub access_fault : Demand → Access → Option FaultKind
+access_fault d Read = if d.writes then Some WriteOfReadOnly else None
+access_fault d WriteOnly = if d.reads then Some ReadOfWriteOnly else None
+access_fault d Both = None
+
+abbrev pub demand_fault : Demand → RawParam → Option FaultKind
+demand_fault d p = if kind_meets d p.kind then access_fault d p.access else Some KindMismatch
+
+-- a `write` stands in a `begin` block of its stream, a `begin` doesn't
+abbrev pub block_fault : RawForm → Bool → Option FaultKind
+block_fault form.Write begun = if begun then None else Some KindMismatch
+block_fault form.Begin begun = if begun then Some KindMismatch else None
+block_fault _ begun = None
+
+-- where a local can stand
+abbrev pub variable_fault : RawForm → Option FaultKind
+variable_fault form.Name = None
+variable_fault form.SetName = None
+variable_fault _ = Some KindMismatch
+
+abbrev pub loop_variable_fault : RawForm → Option FaultKind
+loop_variable_fault form.Name = None
+loop_variable_fault form.SetName = Some WriteOfReadOnly
+loop_variable_fault _ = Some KindMismatch
+
+-- FAULTS OF ONE TOKEN
+
+-- faults have numbers, and where a token has several the lowest counts
+abbrev pub number_of : FaultKind → ℕ
+number_of Syntax = 1
+number_of UnknownName = 2
+number_of DuplicateName = 3
+number_of KindMismatch = 4
+number_of ReadOfWriteOnly = 5
+number_of WriteOfReadOnly = 6
+number_of Limit = 7
+number_of TooLong = 8
+
+abbrev pub lowest : Option FaultKind → Option FaultKind → Option FaultKind
+lowest None b = b
+lowest (Some a) None = Some a
+lowest (Some a) (Some b) = if nat_le (number_of a) (number_of b) then Some a else Some b
+
+abbrev pub fault_if : FaultKind → Bool → Option FaultKind
+fault_if kind b = if b then Some kind else None
+
+-- a name has at most 64 bytes
+abbrev pub length_fault : List ℕ → Option FaultKind
+length_fault text = fault_if Limit (nat_lt 64 (length text))
+
+abbrev pub param_fault_of : RawForm → Bool → Option RawParam → Option FaultKind
+param_fault_of f begun None = Some KindMismatch
+param_fault_of f begun (Some p) = lowest (demand_fault (demand_of f p.kind) p) (block_fault f begun)
+
+-- the fault of the name of a form at node i, by what the name is
+abbrev pub use_fault : RawKernel → ℕ → RawForm → Option Named → Option FaultKind
+use_fault raw i f None = Some UnknownName
+use_fault raw i f (Some (Variable k)) = variable_fault f
+use_fault raw i f (Some (LoopVariable k)) = loop_variable_fault f
+use_fault raw i f (Some (Parameter x)) = param_fault_of f (is_begun raw i x) (slice_get raw.params.items x)
+
+abbrev pub param_answer_fault : Option RawParam → Option FaultKind
+param_answer_fault None = Some KindMismatch
+param_answer_fault (Some p) = demand_fault answered p
+
+-- the fault of the name before an effect
+abbrev pub answer_fault : RawKernel → Option Named → Option FaultKind
+answer_fault raw None = Some UnknownName
+answer_fault raw (Some (Variable k)) = None
+answer_fault raw (Some (LoopVariable k)) = Some WriteOfReadOnly
+answer_fault raw (Some (Parameter x)) = param_answer_fault (slice_get raw.params.items x)
+
+-- the fault of the name that node i declares: no parameter or local in scope has it, there are at most 64 locals
+abbrev pub declared_fault : RawKernel → ℕ → List ℕ → Option FaultKind
+declared_fault raw i text =
+    lowest (fault_if DuplicateName (is_some (meaning_of raw i text)))
+    (lowest (fault_if Limit (nat_le 64 (length (locals_before raw.nodes.items i)))) (length_fault text))
+
+-- what a node's own token says, its number and depth aside
+abbrev pub token_fault : RawKernel → ℕ → ℕ → RawForm → Option FaultKind
+token_fault raw i at form.Number = fault_if Limit (nat_lt 9223372036854775807 (value_at raw at))
+token_fault raw i at form.Index = fault_if UnknownName (not raw.parallel)
+token_fault raw i at form.SetTryAdd = lowest (answer_fault raw (meaning_of raw i (text_at raw at))) (length_fault (text_at raw at))
+token_fault raw i at form.SetRemove = lowest (answer_fault raw (meaning_of raw i (text_at raw at))) (length_fault (text_at raw at))
+token_fault raw i at _ = None
+
+-- at most 4,096 nodes, of depth 64 at most
+abbrev pub size_fault : RawKernel → ℕ → Option FaultKind
+size_fault raw i = fault_if Limit (nat_le 4096 i || nat_lt 64 (depth_of raw.nodes.items i))
+
+abbrev pub used_fault : RawKernel → ℕ → RawForm → List ℕ → Option FaultKind
+used_fault raw i f text = lowest (use_fault raw i f (meaning_of raw i text)) (length_fault text)
+
+-- what a node's name says
+abbrev pub name_fault : RawKernel → ℕ → ℕ → RawForm → Option FaultKind
+name_fault raw i name form.Number = None
+name_fault raw i name form.Index = None
+name_fault raw i name form.Unary = None
+name_fault raw i name form.Binary = None
+name_fault raw i name form.If = None
+name_fault raw i name form.IfElse = None
+name_fault raw i name form.While = None
+name_fault raw i name form.Var = declared_fault raw i (text_at raw name)
+name_fault raw i name form.For = declared_fault raw i (text_at raw name)
+name_fault raw i name f = used_fault raw i f (text_at raw name)
+
+-- THE FIRST FAULT
+
+abbrev pub fault_at : ℕ → Option FaultKind → Option StaticFault
+fault_at at None = None
+fault_at at (Some kind) = Some (record { at = at; kind = kind })
+
+-- the first fault of two tokens, the first of which stands before the second or is the same
+abbrev pub first_of_two : (first : ℕ) → Option FaultKind → (second : ℕ) → Option FaultKind → Option StaticFault
+first_of_two first a second b = if first == second then fault_at first (lowest a b) else or_else (fault_at first a) (fault_at second b)
+
+-- the first fault of node i, in its own token and its name
+abbrev pub node_fault : RawKernel → ℕ → RawNode → Option StaticFault
+node_fault raw i node =
+    first_of_two node.at (lowest (token_fault raw i node.at node.form) (size_fault raw i)) node.name (name_fault raw i node.name node.form)
+
+abbrev pub nodes_fault : RawKernel → ℕ → List RawNode → Option StaticFault
+nodes_fault raw i [] = None
+nodes_fault raw i (node ∷ more) = or_else (node_fault raw i node) (nodes_fault raw (i + 1) more)
+
+-- the name of parameter k: no earlier parameter has it, and there are at most 16
+abbrev pub param_name_fault : RawKernel → ℕ → List ℕ → Option FaultKind
+param_name_fault raw k text =
+    lowest (fault_if DuplicateName (list_any (λ p. bytes_eq (text_at raw p.name) text) (take k raw.params.items)))
+    (lowest (fault_if Limit (nat_le 16 k)) (length_fault text))
+
+-- a stream isn't `rw`
+abbrev pub stream_fault : ParamKind → Access → Option FaultKind
+stream_fault kind.Stream Both = Some KindMismatch
+stream_fault _ _ = None
+
+-- a width is 1 to 1,024, of a `wo` or `rw` array of a parallel kernel
+abbrev pub width_word_fault : Bool → Access → Option FaultKind
+width_word_fault parallel Read = Some KindMismatch
+width_word_fault parallel WriteOnly = fault_if KindMismatch (not parallel)
+width_word_fault parallel Both = fault_if KindMismatch (not parallel)
+
+abbrev pub width_fault : ℕ → Option FaultKind
+width_fault width = fault_if Limit (width == 0 || nat_lt 1024 width)
+
+-- what stands behind the name of a parameter
+abbrev pub param_kind_fault : RawKernel → RawParam → Option ℕ → Option StaticFault
+param_kind_fault raw p None = fault_at p.word (stream_fault p.kind p.access)
+param_kind_fault raw p (Some at) = or_else (fault_at p.word (width_word_fault raw.parallel p.access)) (fault_at at (width_fault (value_at raw at)))
+
+-- the first fault of parameter k
+abbrev pub param_fault : RawKernel → ℕ → RawParam → Option StaticFault
+param_fault raw k p = or_else (fault_at p.name (param_name_fault raw k (text_at raw p.name))) (param_kind_fault raw p p.width)
+
+abbrev pub params_fault : RawKernel → ℕ → List RawParam → Option StaticFault
+params_fault raw k [] = None
+params_fault raw k (p ∷ more) = or_else (param_fault raw k p) (params_fault raw (k + 1) more)
+
+-- the kernel's own name: no earlier kernel has it, and there are at most 256
+abbrev pub kernel_name_fault : List Kernel → List ℕ → Option FaultKind
+kernel_name_fault earlier text =
+    lowest (fault_if DuplicateName (list_any (λ k. bytes_eq (string_bytes k.name) text) earlier))
+    (lowest (fault_if Limit (nat_le 256 (length earlier))) (length_fault text))
+
+-- The first fault of a kernel behind earlier ones. Names, parameters and nodes stand in the order of their tokens.
+abbrev pub first_fault : RawKernel → List Kernel → Option StaticFault
+first_fault raw earlier =
+    or_else (fault_at raw.name (kernel_name_fault earlier (text_at raw raw.name)))
+    (or_else (params_fault raw 0 raw.params.items) (nodes_fault raw 0 raw.nodes.items))
+
+-- a refusal tells this fault, by its line
+abbrev pub TellsFault : RawKernel → Option StaticFault → KernelFault → Type 0
+TellsFault raw fault NoMemory = Unit {0}
+TellsFault raw None (Refused line kind) = ⊥
+TellsFault raw (Some fault) (Refused line kind) = (line ≡ line_at raw fault.at) × (kind ≡ fault.kind)
