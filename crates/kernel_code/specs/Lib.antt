@@ -4,3 +4,4 @@ pub mod Tokens
 pub mod Fronts
 pub mod Raw
 pub mod StaticFaults
+pub mod Trees
