@@ -1,1 +1,4 @@
 pub mod Raw
+pub mod Sources
+pub mod Names
+pub mod Faults
