@@ -244,7 +244,7 @@ pub data SpellsOrder : List Event → OrderForm → Type 0 where
   schedule : {events : List Event} {auto : Bool} {h k : ℕ} {args : List RawArg} {cut : RawSizes} {waive after : List ℕ} (u o c q : ℕ) (as' ss ws fs : List Event) →
       SpellsArgs as' args → SpellsSizes ss cut → SpellsWaived ws waive → SpellsAfter fs after →
       events ≡ on (auto_action auto) u ∷ on action.Name h ∷ on action.Name k ∷ on action.OpenArguments o
-      ∷ as' ++ on action.CloseArguments c ∷ ss ++ (ws ++ (fs ++ on action.ScheduleStatement q ∷ [])) →
+      ∷ as' ++ (on action.CloseArguments c ∷ ss ++ (ws ++ (fs ++ on action.ScheduleStatement q ∷ []))) →
       SpellsOrder events (Schedule auto h k args cut waive after)
   combine : {events : List Event} {x : ℕ} {of : List ℕ} (o q : ℕ) →
       events ≡ on action.Name x ∷ on action.OpenNames o ∷ names_events of ++ on action.CombineStatement q ∷ [] →

@@ -1,0 +1,6 @@
+pub mod Trees
+pub mod Chains
+pub mod Meanings
+pub mod Clauses
+pub mod Statements
+pub mod Files
