@@ -5,3 +5,4 @@ pub mod Fronts
 pub mod Raw
 pub mod StaticFaults
 pub mod Trees
+pub mod Reading

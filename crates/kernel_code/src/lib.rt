@@ -4,7 +4,9 @@
 pub mod check;
 mod fault;
 mod lexer;
+mod part;
 pub mod raw;
+mod reader;
 mod spelling;
 #[cfg(test)]
 mod tests;
