@@ -9,3 +9,5 @@ pub mod Reserved
 pub mod Steps
 pub mod TokenLemmas
 pub mod Sentences
+pub mod Readings
+pub mod Blocks
