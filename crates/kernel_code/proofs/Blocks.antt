@@ -26,15 +26,28 @@ length-block owner n (Simple f at name parts more) =
 length-block owner n (Nested f at name parts inner more) =
     let a = block_nodes (Some n) (n + (1 + parts_size parts)) inner in
     let b = block_nodes owner (n + (1 + parts_size parts + block_size inner)) more in
-    omega (arith, length-append (parts_nodes parts) (a ++ b), length-append a b, length-parts parts,
-        length-block (Some n) (n + (1 + parts_size parts)) inner, length-block owner (n + (1 + parts_size parts + block_size inner)) more)
+    omega (
+      arith,
+      length-append (parts_nodes parts) (a ++ b),
+      length-append a b,
+      length-parts parts,
+      length-block (Some n) (n + (1 + parts_size parts)) inner,
+      length-block owner (n + (1 + parts_size parts + block_size inner)) more,
+    )
 length-block owner n (Branched at e first second more) =
     let a = block_nodes (Some n) (n + (1 + expr_size e)) first in
     let b = block_nodes (Some n) (n + (1 + expr_size e + block_size first)) second in
     let c = block_nodes owner (n + (1 + expr_size e + block_size first + block_size second)) more in
-    omega (arith, length-append (expr_nodes e) (a ++ (b ++ c)), length-append a (b ++ c), length-append b c, length-expr e,
-        length-block (Some n) (n + (1 + expr_size e)) first, length-block (Some n) (n + (1 + expr_size e + block_size first)) second,
-        length-block owner (n + (1 + expr_size e + block_size first + block_size second)) more)
+    omega (
+      arith,
+      length-append (expr_nodes e) (a ++ (b ++ c)),
+      length-append a (b ++ c),
+      length-append b c,
+      length-expr e,
+      length-block (Some n) (n + (1 + expr_size e)) first,
+      length-block (Some n) (n + (1 + expr_size e + block_size first)) second,
+      length-block owner (n + (1 + expr_size e + block_size first + block_size second)) more,
+    )
 
 -- STATEMENTS
 
@@ -190,12 +203,13 @@ inner_block : (o : ℕ) (bs : List Event) (b : RawBlock) → ReadsBlock bs b →
     ≡ mk ps p (xs ++ (record n { inside = length ys - n.heads } ∷ (ys ++ inner_nodes xs ys b))) (length xs ∷ os) k)
 inner_block o bs b h ps p xs n ys os l =
     let n' : RawNode = record n { inside = length ys - n.heads } in
-    let r = h ps p (xs ++ n' ∷ ys) (length xs ∷ os) l in
-    (r.last,
-        ap (λ s. run s bs) (change_seam part.Block o ps p xs n ys os l)
-        ∙ r.is
-        ∙ ap (λ k. mk ps p ((xs ++ n' ∷ ys) ++ block_nodes (Some (length xs)) k b) (length xs ∷ os) r.last) (length-more xs n' ys)
-        ∙ ap (λ zs. mk ps p zs (length xs ∷ os) r.last) (append_assoc xs (n' ∷ ys) (inner_nodes xs ys b)))
+    let r = h ps p (xs ++ n' ∷ ys) (length xs ∷ os) l in (
+      r.last,
+      ap (λ s. run s bs) (change_seam part.Block o ps p xs n ys os l)
+          ∙ r.is
+          ∙ ap (λ k. mk ps p ((xs ++ n' ∷ ys) ++ block_nodes (Some (length xs)) k b) (length xs ∷ os) r.last) (length-more xs n' ys)
+          ∙ ap (λ zs. mk ps p zs (length xs ∷ os) r.last) (append_assoc xs (n' ∷ ys) (inner_nodes xs ys b)),
+    )
 
 node_is : (f : RawForm) (at name : ℕ) (owner : Option ℕ) (a a' h h' i i' : ℕ) → a ≡ a' → h ≡ h' → i ≡ i' → (zs : List RawNode) →
     record { form = f; at = at; name = name; owner = owner; before = 0; after = a; heads = h; inside = i } ∷ zs
@@ -209,12 +223,13 @@ node_is f at name owner a a' h h' i i' e g j zs =
 goes_on : (rest : List Event) (more : RawBlock) → ReadsBlock rest more → (ps : List RawParam) (p : RawParam) (xs : List RawNode) (n : RawNode) (ys : List RawNode) (k : ℕ) (os : List ℕ) (l : ℕ) → length ys ≡ k →
     (j : ℕ) × (run (mk ps p (xs ++ n ∷ ys) os l) rest ≡ mk ps p (xs ++ (n ∷ (ys ++ block_nodes (top os) (length xs + (1 + k)) more))) os j)
 goes_on rest more h ps p xs n ys k os l size =
-    let r = h ps p (xs ++ n ∷ ys) os l in
-    (r.last,
-        r.is
-        ∙ ap (λ j. mk ps p ((xs ++ n ∷ ys) ++ block_nodes (top os) j more) os r.last) (length-more xs n ys)
-        ∙ ap (λ j. mk ps p ((xs ++ n ∷ ys) ++ block_nodes (top os) (length xs + (1 + j)) more) os r.last) size
-        ∙ ap (λ zs. mk ps p zs os r.last) (append_assoc xs (n ∷ ys) (block_nodes (top os) (length xs + (1 + k)) more)))
+    let r = h ps p (xs ++ n ∷ ys) os l in (
+      r.last,
+      r.is
+          ∙ ap (λ j. mk ps p ((xs ++ n ∷ ys) ++ block_nodes (top os) j more) os r.last) (length-more xs n ys)
+          ∙ ap (λ j. mk ps p ((xs ++ n ∷ ys) ++ block_nodes (top os) (length xs + (1 + j)) more) os r.last) size
+          ∙ ap (λ zs. mk ps p zs os r.last) (append_assoc xs (n ∷ ys) (block_nodes (top os) (length xs + (1 + k)) more)),
+    )
 
 simple_block : (at name : ℕ) (f : RawForm) (parts : List RawExpr) (es rest : List Event) (more : RawBlock) → SpellsSimple es f name parts → ReadsBlock rest more →
     ReadsBlock (on action.StartStatement at ∷ es ++ rest) (Simple f at name parts more)
@@ -241,9 +256,9 @@ nested_block at name o c q f end parts hs bs rest inner more d h i ps p xs os l 
     let I = block_nodes (Some (length xs)) (length xs + (1 + parts_size parts)) inner in
     let same : I' ≡ I = ap (λ k. block_nodes (Some (length xs)) (length xs + (1 + k)) inner) (length-parts parts) in
     let after : length (P ++ I) ≡ parts_size parts + (block_size inner + 0) =
-        omega (arith, length-append P I, length-parts parts, length-block (Some (length xs)) (length xs + (1 + parts_size parts)) inner) in
+    omega (arith, length-append P I, length-parts parts, length-block (Some (length xs)) (length xs + (1 + parts_size parts)) inner) in
     let inside : length (P ++ I) - parts_size parts ≡ block_size inner =
-        omega (arith, length-append P I, length-parts parts, length-block (Some (length xs)) (length xs + (1 + parts_size parts)) inner) in
+    omega (arith, length-append P I, length-parts parts, length-block (Some (length xs)) (length xs + (1 + parts_size parts)) inner) in
     let sum : length (P ++ I) ≡ parts_size parts + block_size inner = omega (arith, after) in
     let node = statement_node f at name (top os) (parts_size parts) (block_size inner) 0 in
     let g = goes_on rest more i ps p xs node (P ++ I) (parts_size parts + block_size inner) os b.0 sum in
@@ -253,14 +268,14 @@ nested_block at name o c q f end parts hs bs rest inner more d h i ps p xs os l 
       last = g.0;
       is = run-append s (hs ++ on action.OpenBlock o ∷ bs) (on action.CloseBlock c ∷ on end q ∷ rest)
           ∙ ap (λ t. run t (on action.CloseBlock c ∷ on end q ∷ rest)) (
-              run-append s hs (on action.OpenBlock o ∷ bs)
-              ∙ ap (λ t. run t (on action.OpenBlock o ∷ bs)) a.is
-              ∙ b.1
-              ∙ ap (λ zs. mk ps p (xs ++ (n' ∷ (P ++ zs))) (length xs ∷ os) b.0) same)
+          run-append s hs (on action.OpenBlock o ∷ bs)
+          ∙ ap (λ t. run t (on action.OpenBlock o ∷ bs)) a.is
+          ∙ b.1
+          ∙ ap (λ zs. mk ps p (xs ++ (n' ∷ (P ++ zs))) (length xs ∷ os) b.0) same)
           ∙ ap (λ t. run (with_part t q (mk ps p (xs ++ (n' ∷ (P ++ I))) (length xs ∷ os) b.0)) rest) (head_end d)
           ∙ ap (λ t. run t rest) (
-              change_seam (part.Nests f) q ps p xs n' (P ++ I) os b.0
-              ∙ ap (λ zs. mk ps p (xs ++ zs) os b.0) (node_is f at name (top os) _ _ _ _ _ _ after refl inside (P ++ I)))
+          change_seam (part.Nests f) q ps p xs n' (P ++ I) os b.0
+          ∙ ap (λ zs. mk ps p (xs ++ zs) os b.0) (node_is f at name (top os) _ _ _ _ _ _ after refl inside (P ++ I)))
           ∙ g.1
           ∙ ap (λ k. mk ps p (xs ++ (node ∷ ((P ++ I) ++ block_nodes (top os) k more))) os g.0) one
           ∙ ap (λ zs. mk ps p (xs ++ (node ∷ zs)) os g.0) (append_assoc P I B);
@@ -301,17 +316,17 @@ branched_block at h o c o' c' q e es bs bs' rest first second more d i j r ps p 
       last = g.0;
       is = run-append s ((es ++ to_first) ++ to_second) to_end
           ∙ ap (λ t. run t to_end) (
-              run-append s (es ++ to_first) to_second
-              ∙ ap (λ t. run t to_second) (
-                  one_part es e d ps p xs (blank at at (top os) 0) os l to_first
-                  ∙ ap (λ t. run t (on action.OpenBlock o ∷ bs)) (change_seam part.Heads h ps p xs (blank at at (top os) 0) E os k)
-                  ∙ a.1
-                  ∙ ap (λ zs. mk ps p (xs ++ (n1 ∷ (E ++ zs))) (length xs ∷ os) a.0) sameF)
-              ∙ b.1
-              ∙ ap (λ zs. mk ps p (xs ++ (n2 ∷ ((E ++ F) ++ zs))) (length xs ∷ os) b.0) sameS)
+          run-append s (es ++ to_first) to_second
+          ∙ ap (λ t. run t to_second) (
+          one_part es e d ps p xs (blank at at (top os) 0) os l to_first
+          ∙ ap (λ t. run t (on action.OpenBlock o ∷ bs)) (change_seam part.Heads h ps p xs (blank at at (top os) 0) E os k)
+          ∙ a.1
+          ∙ ap (λ zs. mk ps p (xs ++ (n1 ∷ (E ++ zs))) (length xs ∷ os) a.0) sameF)
+          ∙ b.1
+          ∙ ap (λ zs. mk ps p (xs ++ (n2 ∷ ((E ++ F) ++ zs))) (length xs ∷ os) b.0) sameS)
           ∙ ap (λ t. run t rest) (
-              change_seam part.Branches q ps p xs n2 ((E ++ F) ++ S) os b.0
-              ∙ ap (λ zs. mk ps p (xs ++ zs) os b.0) (node_is form.IfElse at at (top os) _ _ _ _ _ _ after sizeE inside ((E ++ F) ++ S)))
+          change_seam part.Branches q ps p xs n2 ((E ++ F) ++ S) os b.0
+          ∙ ap (λ zs. mk ps p (xs ++ zs) os b.0) (node_is form.IfElse at at (top os) _ _ _ _ _ _ after sizeE inside ((E ++ F) ++ S)))
           ∙ g.1
           ∙ ap (λ k. mk ps p (xs ++ (node ∷ (((E ++ F) ++ S) ++ block_nodes (top os) k more))) os g.0) one
           ∙ ap (λ zs. mk ps p (xs ++ (node ∷ zs)) os g.0) (append_assoc (E ++ F) S B ∙ append_assoc E F (S ++ B));

@@ -11,3 +11,4 @@ pub mod TokenLemmas
 pub mod Sentences
 pub mod Readings
 pub mod Blocks
+pub mod Kernels

@@ -131,11 +131,11 @@ reads_between at q es gs e g h i ps p xs o os l =
     let first : length zs - expr_size e ≡ length xs = omega (arith, length-append xs (expr_nodes e), length-expr e) in
     run-append (mk ps p xs (o ∷ os) l) (es ++ on action.Operator at ∷ gs) (on action.Binary q ∷ [])
     ∙ ap (λ s. run s (on action.Binary q ∷ [])) (
-        run-append (mk ps p xs (o ∷ os) l) es (on action.Operator at ∷ gs)
-        ∙ ap (λ s. run s (on action.Operator at ∷ gs)) (h ps p xs o os l)
-        ∙ ap (λ k. run (mk ps p (zs ++ blank at at None k ∷ []) (length zs ∷ o ∷ os) (length xs)) gs) size
-        ∙ i ps p (zs ++ blank at at None (expr_size e) ∷ []) (length zs) (o ∷ os) (length xs)
-        ∙ ap (λ ys. mk ps p ys (length zs ∷ o ∷ os) (length (zs ++ blank at at None (expr_size e) ∷ []))) (append_assoc zs (blank at at None (expr_size e) ∷ []) (expr_nodes g)))
+    run-append (mk ps p xs (o ∷ os) l) es (on action.Operator at ∷ gs)
+    ∙ ap (λ s. run s (on action.Operator at ∷ gs)) (h ps p xs o os l)
+    ∙ ap (λ k. run (mk ps p (zs ++ blank at at None k ∷ []) (length zs ∷ o ∷ os) (length xs)) gs) size
+    ∙ i ps p (zs ++ blank at at None (expr_size e) ∷ []) (length zs) (o ∷ os) (length xs)
+    ∙ ap (λ ys. mk ps p ys (length zs ∷ o ∷ os) (length (zs ++ blank at at None (expr_size e) ∷ []))) (append_assoc zs (blank at at None (expr_size e) ∷ []) (expr_nodes g)))
     ∙ change_seam part.Joins q ps p zs (blank at at None (expr_size e)) (expr_nodes g) (o ∷ os) (length (zs ++ blank at at None (expr_size e) ∷ []))
     ∙ ap (λ k. mk ps p (zs ++ expr_node form.Binary at at (expr_size e) k ∷ expr_nodes g) (o ∷ os) (length zs - expr_size e)) (length-expr g)
     ∙ ap (λ k. mk ps p (zs ++ expr_node form.Binary at at (expr_size e) (expr_size g) ∷ expr_nodes g) (o ∷ os) k) first

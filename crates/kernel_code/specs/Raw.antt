@@ -1,5 +1,5 @@
 -- The raw form of a kernel as a tree, the nodes that it has, and the events that spell it.
-use Rattle.std.specs.Prelude.{◌≡◌, ◌<◌, ℕ, ◌+◌, Bool, true, false, List, [], ◌∷◌, ◌++◌, length, Option, None, Some, slice_get, IfSome}
+use Rattle.std.specs.Prelude.{◌≡◌, ◌<◌, ◌≤◌, ℕ, ◌+◌, Bool, true, false, List, [], ◌∷◌, ◌++◌, length, Option, None, Some, slice_get, IfSome}
 use Rattle.job_base.specs.declared.Access.{Access}
 use Rattle.job_base.specs.declared.Access.TheVariants.{Read, Write as WriteOnly, Both}
 use Rattle.frame_grammar.specs.declared.symbols.Action.{Action}
@@ -85,6 +85,31 @@ block_nodes owner n (Branched at e first second more) =
     ++ (block_nodes (Some n) (n + (1 + expr_size e)) first
     ++ (block_nodes (Some n) (n + (1 + expr_size e + block_size first)) second
     ++ block_nodes owner (n + (1 + expr_size e + block_size first + block_size second)) more))
+
+-- PLACES
+
+-- every place that an expression tells is below n
+abbrev pub ExprBelow : ℕ → RawExpr → Type 0
+ExprBelow n (Leaf f at name) = (at < n) × (name < n)
+ExprBelow n (One f at name e) = (at < n) × (name < n) × ExprBelow n e
+ExprBelow n (Two f at name e g) = (at < n) × (name < n) × ExprBelow n e × ExprBelow n g
+ExprBelow n (Infix at e g) = (at < n) × ExprBelow n e × ExprBelow n g
+
+abbrev pub PartsBelow : ℕ → List RawExpr → Type 0
+PartsBelow n [] = Unit {0}
+PartsBelow n (e ∷ more) = ExprBelow n e × PartsBelow n more
+
+-- every place that the statements of a block tell is below n
+abbrev pub BlockBelow : ℕ → RawBlock → Type 0
+BlockBelow n Nothing = Unit {0}
+BlockBelow n (Simple f at name parts more) = (at < n) × (name < n) × PartsBelow n parts × BlockBelow n more
+BlockBelow n (Nested f at name parts inner more) = (at < n) × (name < n) × PartsBelow n parts × BlockBelow n inner × BlockBelow n more
+BlockBelow n (Branched at e first second more) = (at < n) × ExprBelow n e × BlockBelow n first × BlockBelow n second × BlockBelow n more
+
+-- every place that parameters tell is below n
+abbrev pub ParamsBelow : ℕ → List RawParam → Type 0
+ParamsBelow n [] = Unit {0}
+ParamsBelow n (p ∷ more) = (p.name < n) × (p.word < n) × IfSome p.width (λ w. w < n) × ParamsBelow n more
 
 -- EVENTS
 
@@ -261,3 +286,23 @@ pub record IsRaw (raw : RawKernel) : Type 0 where
   pub events : List Event
   pub spells : SpellsRaw events raw
   pub within : IsWithin raw
+
+-- These events spell a kernel, whose places are below n, and which has at most n nodes.
+pub record IsKernel (events : List Event) (n : ℕ) : Type 0 where
+  pub parallel : Bool
+  pub at : ℕ
+  pub name : ℕ
+  pub body_at : ℕ
+  pub end_at : ℕ
+  pub param_events : List Event
+  pub statement_events : List Event
+  pub params : List RawParam
+  pub body : RawBlock
+  pub spelled : events ≡ on (opening parallel) at ∷ on action.Name name
+      ∷ param_events ++ on action.OpenBody body_at ∷ statement_events ++ on action.CloseKernel end_at ∷ []
+  pub with_params : SpellsParams param_events params
+  pub with_statements : SpellsBlock statement_events body
+  pub name_below : name < n
+  pub params_below : ParamsBelow n params
+  pub body_below : BlockBelow n body
+  pub few : block_size body ≤ n

@@ -201,3 +201,8 @@ run s (e ∷ es) = run (step s e) es
 
 abbrev pub nothing_read : Reading
 nothing_read = record { params = []; param = fresh 0; nodes = []; opened = []; last = 0 }
+
+-- whether an action opens a parallel kernel
+abbrev pub is_parallel : Action → Bool
+is_parallel action.OpenParallel = true
+is_parallel _ = false

@@ -3,6 +3,7 @@
 
 pub mod check;
 mod fault;
+mod kernel;
 mod lexer;
 mod part;
 pub mod raw;
@@ -15,6 +16,7 @@ mod word;
 
 pub use fault::KernelFault;
 pub use frame_grammar::TokenKind;
+pub use kernel::raw_kernel;
 pub use lexer::lex;
 pub use raw::{RawForm, RawKernel, RawNode, RawParam};
 pub use token::Token;
