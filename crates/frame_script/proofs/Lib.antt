@@ -4,3 +4,5 @@ pub mod Meanings
 pub mod Clauses
 pub mod Statements
 pub mod Files
+pub mod Readings
+pub mod Orders

@@ -4,3 +4,4 @@ pub mod Names
 pub mod Faults
 pub mod Spelling
 pub mod Files
+pub mod Reading

@@ -277,6 +277,14 @@ pub data SpellsOrder : List Event → OrderForm → Type 0 where
       events ≡ on action.Name x ∷ on action.Operator s ∷ vs ++ on action.OpenWhen q ∷ [] →
       SpellsOrder events (When x s value)
 
+-- These events begin with those of a statement.
+pub record BeginsOrder (all : List Event) : Type 0 where
+  pub events : List Event
+  pub rest : List Event
+  pub form : OrderForm
+  pub all_are : all ≡ events ++ rest
+  pub spells : SpellsOrder events form
+
 -- the event that ends the block of a statement that has one
 abbrev pub closing : OrderForm → Option Action
 closing (Repeat n) = Some action.RepeatStatement

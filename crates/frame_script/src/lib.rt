@@ -1,9 +1,12 @@
 //! Scripts as texts: what a file spells, and its first fault.
 #![tactic(auto)]
 
+mod build;
+mod build_words;
 mod kind;
 pub mod raw;
 mod source;
 
+pub use build::{ReadOrder, raw_order};
 pub use kind::NameKind;
 pub use source::Source;

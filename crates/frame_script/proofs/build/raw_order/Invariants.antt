@@ -1,0 +1,6 @@
+use Rattle.std.proofs.Common.{◌≡◌, drop}
+use Rattle.frame_script.specs.Reading.{reading_of, nothing_read, order_from}
+use Rattle.frame_script.proofs.build.raw_order.Given as goal
+
+abbrev pub invariant-loop-index : goal.invariant-loop-index
+invariant-loop-index l = order_from (reading_of l.reader) (drop l.index l.events) ≡ order_from nothing_read l.events

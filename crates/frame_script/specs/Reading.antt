@@ -1,0 +1,159 @@
+-- How the events of a statement, one after another, make its raw form.
+use Rattle.std.specs.Prelude.{ℕ, Bool, true, false, List, [], ◌∷◌, ◌++◌, Option, None, Some, if◌then◌else◌}
+use Rattle.frame_ast.specs.declared.script.Life.TheVariants.{Temp, TempJob, Persistent}
+use Rattle.frame_grammar.specs.declared.symbols.Action.{Action}
+use Rattle.frame_grammar.specs.declared.symbols.Action.TheVariants as action
+use Rattle.frame_grammar.specs.declared.symbols.Event.{Event}
+use Rattle.frame_script.specs.declared.raw.RawNumber.{RawNumber}
+use Rattle.frame_script.specs.declared.raw.RawArg.{RawArg}
+use Rattle.frame_script.specs.declared.raw.RawArg.TheVariants as arg
+use Rattle.frame_script.specs.declared.raw.RawSizes.TheVariants as sizes
+use Rattle.frame_script.specs.declared.build_words.LastNames.{LastNames}
+use Rattle.frame_script.specs.declared.build_words.LastNumbers.{LastNumbers}
+use Rattle.frame_script.specs.declared.build_words.Words.{Words}
+use Rattle.frame_script.specs.declared.build.Reader.{Reader}
+use Rattle.frame_script.specs.Raw.{OrderForm, NewArray, NewColumn, NewList, NewReference, NewMap, NewStream, Slice, View, Copy, Set, Add, Put, Remove, Clear, SetCapacity, Schedule, Combine, Complete, Dispose, DisposeAuto, Print, Flush, Frame, Repeat, When}
+
+-- the signed number, where there is one
+abbrev pub signed_of : Option RawNumber → RawNumber
+signed_of None = record { minus = false; at = 0 }
+signed_of (Some n) = n
+
+abbrev pub no_names : LastNames
+no_names = record { former = 0; latest = 0; opener = 0; handle = 0; kernel = 0 }
+
+abbrev pub no_numbers : LastNumbers
+no_numbers = record { former = 0; latest = 0; former_operator = 0; operator = 0; former_signed = None; signed = None }
+
+abbrev pub no_words : Words
+no_words = record { names = no_names; numbers = no_numbers; len = 0; life = Persistent; auto = false; sizes = sizes.None; is_listing = false; has_values = false }
+
+abbrev pub with_name : ℕ → Words → Words
+with_name q w = record w { names = record w.names { former = w.names.latest; latest = q } }
+
+abbrev pub with_number : ℕ → Words → Words
+with_number q w = record w { numbers = record w.numbers { former = w.numbers.latest; latest = q } }
+
+abbrev pub with_operator : ℕ → Words → Words
+with_operator q w = record w { numbers = record w.numbers { former_operator = w.numbers.operator; operator = q } }
+
+abbrev pub with_signed : Option RawNumber → Words → Words
+with_signed n w = record w { numbers = record w.numbers { former_signed = w.numbers.signed; signed = n } }
+
+-- what has been read, when this event comes at this place
+abbrev pub words_after : Action → ℕ → Words → Words
+words_after action.Name q w = with_name q w
+words_after action.Number q w = with_number q w
+words_after action.Text q w = with_number q w
+words_after action.Operator q w = with_operator q w
+words_after action.MinusNumber q w = with_signed (Some (record { minus = true; at = w.numbers.latest })) w
+words_after action.PlainNumber q w = with_signed (Some (record { minus = false; at = w.numbers.latest })) w
+words_after action.NoNumber q w = with_signed None w
+words_after action.LifeTemp q w = record w { life = Temp }
+words_after action.LifeTempJob q w = record w { life = TempJob }
+words_after action.Auto q w = record w { auto = true }
+words_after action.NoValues q w = record w { len = w.numbers.latest }
+words_after action.OpenValues q w = record w { len = w.numbers.latest; has_values = true }
+words_after action.OpenArguments q w = record w { names = record w.names { handle = w.names.former; kernel = w.names.latest } }
+words_after action.SizesLength q w = record w { sizes = sizes.Length w.numbers.former w.numbers.latest }
+words_after action.SizesDefer q w = record w { sizes = sizes.Defer w.names.latest w.numbers.latest }
+words_after action.OpenNames q w = record w { names = record w.names { opener = w.names.latest }; is_listing = true }
+words_after action.Waived q w = record w { is_listing = false }
+words_after action.After q w = record w { is_listing = false }
+words_after _ q w = w
+
+-- What has been read: its words, an array's values, a schedule's arguments, the list of names that is being read or was last, and the
+-- names after `waive`.
+pub record Reading : Type 0 where
+  pub words : Words
+  pub values : List RawNumber
+  pub args : List RawArg
+  pub names : List ℕ
+  pub waive : List ℕ
+
+abbrev pub reading_of : Reader → Reading
+reading_of r = record { words = r.words; values = r.values.items; args = r.args.items; names = r.names.items; waive = r.waive.items }
+
+abbrev pub nothing_read : Reading
+nothing_read = record { words = no_words; values = []; args = []; names = []; waive = [] }
+
+-- what has been read, when this event comes at this place and leaves these words
+abbrev pub lists_after : Action → ℕ → Words → Reading → Reading
+lists_after action.Name q w r = record r { words = w; names = if w.is_listing then r.names ++ q ∷ [] else r.names }
+lists_after action.MinusNumber q w r = record r { words = w; values = if w.has_values then r.values ++ signed_of w.numbers.signed ∷ [] else r.values }
+lists_after action.PlainNumber q w r = record r { words = w; values = if w.has_values then r.values ++ signed_of w.numbers.signed ∷ [] else r.values }
+lists_after action.NameArgument q w r = record r { words = w; args = r.args ++ arg.Name w.names.latest ∷ [] }
+lists_after action.NumberArgument q w r = record r { words = w; args = r.args ++ arg.Number (signed_of w.numbers.signed) ∷ [] }
+lists_after action.Waived q w r = record r { words = w; names = r.waive; waive = r.names }
+lists_after _ q w r = record r { words = w }
+
+-- what has been read, when this event comes at this place
+abbrev pub step : Action → ℕ → Reading → Reading
+step a q r = lists_after a q (words_after a q r.words) r
+
+-- whether a statement, or what stands before its brace, is whole with this event
+abbrev pub ends : Action → Bool
+ends action.ArrayStatement = true
+ends action.ColumnStatement = true
+ends action.ListStatement = true
+ends action.ReferenceStatement = true
+ends action.MapStatement = true
+ends action.StreamStatement = true
+ends action.SliceStatement = true
+ends action.ViewStatement = true
+ends action.CopyStatement = true
+ends action.SetStatement = true
+ends action.AddToStatement = true
+ends action.PutStatement = true
+ends action.RemoveFromStatement = true
+ends action.ClearOutStatement = true
+ends action.SetCapacityStatement = true
+ends action.ScheduleStatement = true
+ends action.CombineStatement = true
+ends action.CompleteStatement = true
+ends action.DisposeStatement = true
+ends action.DisposeAfterStatement = true
+ends action.DisposeAutoStatement = true
+ends action.PrintStatement = true
+ends action.FlushStatement = true
+ends action.FrameStatement = true
+ends action.OpenRepeat = true
+ends action.OpenWhen = true
+ends _ = false
+
+abbrev pub operator_of : LastNumbers → ℕ
+operator_of n = if (signed_of n.signed).minus then n.former_operator else n.operator
+
+-- the statement that is whole with this event
+abbrev pub finished : Action → Reading → OrderForm
+finished action.ArrayStatement r = NewArray r.words.names.latest r.words.len r.words.life (if r.words.has_values then Some r.values else None)
+finished action.ColumnStatement r = NewColumn r.words.names.latest r.words.numbers.latest r.words.life
+finished action.ListStatement r = NewList r.words.names.latest r.words.numbers.latest r.words.life
+finished action.ReferenceStatement r = NewReference r.words.names.latest r.words.life r.words.numbers.signed
+finished action.MapStatement r = NewMap r.words.names.latest r.words.numbers.latest r.words.life
+finished action.StreamStatement r = NewStream r.words.names.latest r.words.numbers.former r.words.numbers.latest r.words.life
+finished action.SliceStatement r = Slice r.words.names.former r.words.names.latest r.words.numbers.former r.words.numbers.latest
+finished action.ViewStatement r = View r.words.names.former r.words.names.latest
+finished action.CopyStatement r = Copy r.words.names.former r.words.names.latest
+finished action.SetStatement r = Set r.words.names.latest r.words.numbers.former_signed (signed_of r.words.numbers.signed)
+finished action.AddToStatement r = Add r.words.names.latest (signed_of r.words.numbers.former_signed) r.words.numbers.signed
+finished action.PutStatement r = Put r.words.names.latest (signed_of r.words.numbers.former_signed) (signed_of r.words.numbers.signed)
+finished action.RemoveFromStatement r = Remove r.words.names.latest (signed_of r.words.numbers.signed)
+finished action.ClearOutStatement r = Clear r.words.names.latest
+finished action.SetCapacityStatement r = SetCapacity r.words.names.latest r.words.numbers.latest
+finished action.ScheduleStatement r = Schedule r.words.auto r.words.names.handle r.words.names.kernel r.args r.words.sizes r.waive r.names
+finished action.CombineStatement r = Combine r.words.names.opener r.names
+finished action.CompleteStatement r = Complete r.words.auto r.words.names.latest
+finished action.DisposeStatement r = Dispose r.words.names.latest r.names None
+finished action.DisposeAfterStatement r = Dispose r.words.names.opener r.names (Some r.words.names.latest)
+finished action.DisposeAutoStatement r = DisposeAuto r.words.names.former r.words.names.latest
+finished action.PrintStatement r = Print r.words.names.latest
+finished action.FrameStatement r = Frame
+finished action.OpenRepeat r = Repeat r.words.numbers.latest
+finished action.OpenWhen r = When r.words.names.latest (operator_of r.words.numbers) (signed_of r.words.numbers.signed)
+finished _ r = Flush
+
+-- the statement that the events spell from here on, and the events behind it
+abbrev pub order_from : Reading → List Event → Option (OrderForm × List Event)
+order_from r [] = None
+order_from r (e ∷ es) = if ends e.action then Some (finished e.action r, es) else order_from (step e.action e.place r) es
