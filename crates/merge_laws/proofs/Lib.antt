@@ -1,0 +1,4 @@
+pub mod Tests
+pub mod Order
+pub mod Merging
+pub mod Running

@@ -1,0 +1,5 @@
+//! Laws of the merge.
+#![tactic(auto)]
+
+pub mod merge;
+pub mod runs;
