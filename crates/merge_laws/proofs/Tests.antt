@@ -1,5 +1,6 @@
 -- Small lemmas on tests, options and numbers.
-use Rattle.std.proofs.Common.{◌≡◌, ◌≢◌, ℕ, ◌<◌, ◌⊎◌, Bool, true, false, cond, ◌&&◌, ◌||◌, not, eqb, eq-eqb, ne_eqb, refl, sym, ap, ◌∙◌, arith, Option, Some, None}
+use Rattle.std.proofs.Common.{◌≡◌, ◌≢◌, ℕ, ◌<◌, ◌⊎◌, ⊎_elim, Bool, true, false, cond, ◌&&◌, ◌||◌, not, eqb, eq-eqb, ne_eqb, refl, sym, ap, ◌∙◌, arith, Option, Some, None}
+use Rattle.std.proofs.lemmas.Bool.{cases_eq}
 
 pub not_both : {b : Bool} → b ≡ true → b ≡ false → ⊥
 not_both p q = cc
@@ -29,3 +30,10 @@ chosen i j x y q = ap (λ (b : Bool). cond b x y) (eq-eqb i j q)
 
 pub not_chosen : {A : Type 0} (i j : ℕ) (x y : A) → i ≢ j → cond (eqb i j) x y ≡ y
 not_chosen i j x y n = ap (λ (b : Bool). cond b x y) (ne_eqb i j n)
+
+-- two numbers are equal or not
+pub by_equal : {A : Type 0} (i j : ℕ) → (i ≡ j → A) → (i ≢ j → A) → A
+by_equal i j same other = ⊎_elim same other (cases_eq i j)
+
+pub not_zero : (n : ℕ) → n ≢ 0 → not (eqb n 0) ≡ true
+not_zero n ne = ap not (ne_eqb n 0 ne)

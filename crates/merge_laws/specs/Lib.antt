@@ -4,3 +4,8 @@ pub mod Merge
 pub mod Steps
 pub mod MergeLaws
 pub mod Runs
+pub mod Jobs
+pub mod Claims
+pub mod Countdowns
+pub mod CountSteps
+pub mod CountLaws
