@@ -3,3 +3,8 @@ pub mod Order
 pub mod Merging
 pub mod Running
 pub mod Sums
+pub mod Holding
+pub mod Counting
+pub mod Ending
+pub mod Opening
+pub mod Beginning

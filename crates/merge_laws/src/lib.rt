@@ -1,5 +1,6 @@
 //! Laws of the merge.
 #![tactic(auto)]
 
+pub mod countdowns;
 pub mod merge;
 pub mod runs;
