@@ -8,3 +8,6 @@ pub mod Counting
 pub mod Ending
 pub mod Opening
 pub mod Beginning
+pub mod Leasing
+pub mod Ruling
+pub mod Reaching

@@ -103,7 +103,7 @@ module _ (h : JobGraph) (state rest wait state' : ℕ → ℕ) (claims : List Cl
   segment_open_count : C.led.first.ended ≡ v.ended
   segment_open_count = ap (λ (x : Claims). x.ended) (sym segment_open_leader.1)
 
-  segment_open_closed : state (h.segment_at v.ended) ≡ closed_state
+  pub segment_open_closed : state (h.segment_at v.ended) ≡ closed_state
   segment_open_closed = ap (λ m. state (h.segment_at m)) (sym segment_open_count) ∙ C.led.next_closed (subst (λ m. m < h.segments) (sym segment_open_count) W.segment) (ap (λ (x : Claims). x.opened) (sym segment_open_leader.1) ∙ W.unopened)
 
   segment_open_off : (x : ℕ) → x < h.segments → x ≢ v.ended → state' (h.segment_at x) ≡ state (h.segment_at x)

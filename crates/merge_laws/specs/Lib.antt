@@ -9,3 +9,6 @@ pub mod Claims
 pub mod Countdowns
 pub mod CountSteps
 pub mod CountLaws
+pub mod Rule
+pub mod BoardSteps
+pub mod BoardLaws

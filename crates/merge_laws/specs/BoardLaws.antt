@@ -1,0 +1,58 @@
+-- The laws of a board without locks.
+use Rattle.std.specs.Prelude.{◌≡◌, ℕ, suc, ◌≤◌, ◌<◌, true, ◌⊎◌, ℤ, Some}
+use Rattle.merge_laws.specs.Graph.{PieceGraph, cells_before, IsWellOrdered}
+use Rattle.merge_laws.specs.Core.{Lease, Core, IsReady}
+use Rattle.merge_laws.specs.Steps.{MayBegin, Begins, Stores, Ends}
+use Rattle.merge_laws.specs.Jobs.{JobGraph, IsJobGraph, HasParts, IsOf}
+use Rattle.merge_laws.specs.Countdowns.{IsUnblocked}
+use Rattle.merge_laws.specs.Rule.{Moment, core_at, IsRuled, IsOpening, IsOver}
+use Rattle.merge_laws.specs.BoardSteps.{Step, Reaches}
+
+-- A new board meets the rule.
+abbrev pub NewBoardsAreRuled : Type 0
+NewBoardsAreRuled = (g : PieceGraph) (h : JobGraph) (m : Moment) → HasParts h → IsOpening h m → IsRuled g h m
+
+-- What the countdowns say of a piece is what the merge asks of it: an unblocked piece has only ended predecessors.
+abbrev pub UnblockedPiecesAreReady : Type 0
+UnblockedPiecesAreReady = (g : PieceGraph) (h : JobGraph) (m : Moment) → IsOf h g → IsRuled g h m
+    → (p : ℕ) → IsUnblocked h m.state m.rest p → IsReady g (core_at m).ended p
+
+-- Each step keeps the rule.
+abbrev pub StepsKeepTheRule : Type 0
+StepsKeepTheRule = (g : PieceGraph) (h : JobGraph) → IsWellOrdered g → IsJobGraph h → IsOf h g
+    → (m n : Moment) → IsRuled g h m → Step g h m n → IsRuled g h n
+
+-- What a step does to the core: a piece begins that may, a word is stored, a piece ends, or nothing changes.
+pub data CoreStep (g : PieceGraph) (c d : Core) : Type 0 where
+  begins : (k p : ℕ) → MayBegin g c p → Begins g c d k p → CoreStep g c d
+  stores : (k w : ℕ) (v : ℤ) → Stores g c d k w v → CoreStep g c d
+  ends : (k : ℕ) → Ends g c d k → CoreStep g c d
+  stays : ((p : ℕ) → d.ended p ≡ c.ended p) → d.lease ≡ c.lease → d.cells ≡ c.cells → CoreStep g c d
+
+abbrev pub StepsAreCoreSteps : Type 0
+StepsAreCoreSteps = (g : PieceGraph) (h : JobGraph) → IsWellOrdered g → IsJobGraph h → IsOf h g
+    → (m n : Moment) → IsRuled g h m → Step g h m n → CoreStep g (core_at m) (core_at n)
+
+-- A step leaves the state of each piece, or takes it to the next one: from closed to open, from open to begun, from begun to ended.
+abbrev pub StatesGoOneByOne : Type 0
+StatesGoOneByOne = (g : PieceGraph) (h : JobGraph) → IsWellOrdered g → IsJobGraph h → IsOf h g
+    → (m n : Moment) → IsRuled g h m → Step g h m n → (p : ℕ) → (n.state p ≡ m.state p) ⊎ (n.state p ≡ suc (m.state p))
+
+-- Whatever a board reaches from its opening is ruled, and no state falls. So each piece is opened, begun and ended once at most.
+abbrev pub BoardsStayRuled : Type 0
+BoardsStayRuled = (g : PieceGraph) (h : JobGraph) → IsWellOrdered g → IsJobGraph h → IsOf h g → HasParts h
+    → (m n : Moment) → IsOpening h m → Reaches g h m n → IsRuled g h n
+
+abbrev pub StatesNeverFall : Type 0
+StatesNeverFall = (g : PieceGraph) (h : JobGraph) → IsWellOrdered g → IsJobGraph h → IsOf h g
+    → (m n : Moment) → IsRuled g h m → Reaches g h m n → (p : ℕ) → m.state p ≤ n.state p
+
+-- A leased word holds the lease's local cell, whatever others do.
+abbrev pub LeasedWordsHoldLocalCells : Type 0
+LeasedWordsHoldLocalCells = (g : PieceGraph) (h : JobGraph) (m : Moment) → IsRuled g h m
+    → (k w : ℕ) (l : Lease) → m.lease k ≡ Some l → g.reads l.piece w ≡ true → m.cells w ≡ l.local w
+
+-- Where the run is over, the cells are those after the run in script order.
+abbrev pub ClosedBoardsAreInScriptOrder : Type 0
+ClosedBoardsAreInScriptOrder = (g : PieceGraph) (h : JobGraph) → IsWellOrdered g → IsOf h g
+    → (m : Moment) → IsRuled g h m → IsOver h m → (w : ℕ) → m.cells w ≡ cells_before g g.count w
