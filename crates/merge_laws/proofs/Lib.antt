@@ -11,3 +11,6 @@ pub mod Beginning
 pub mod Leasing
 pub mod Ruling
 pub mod Reaching
+pub mod Places
+pub mod Touching
+pub mod Starting

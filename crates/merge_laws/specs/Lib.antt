@@ -12,3 +12,7 @@ pub mod CountLaws
 pub mod Rule
 pub mod BoardSteps
 pub mod BoardLaws
+pub mod Pieces
+pub mod Ledger
+pub mod Planning
+pub mod PlanLaws

@@ -4,4 +4,5 @@
 pub mod boards;
 pub mod countdowns;
 pub mod merge;
+pub mod plans;
 pub mod runs;
