@@ -14,3 +14,5 @@ pub mod Reaching
 pub mod Places
 pub mod Touching
 pub mod Starting
+pub mod Proceeding
+pub mod Framing
