@@ -16,3 +16,4 @@ pub mod Touching
 pub mod Starting
 pub mod Proceeding
 pub mod Framing
+pub mod Worked

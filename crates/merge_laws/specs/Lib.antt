@@ -16,3 +16,5 @@ pub mod Pieces
 pub mod Ledger
 pub mod Planning
 pub mod PlanLaws
+pub mod Diamond
+pub mod Examples

@@ -3,6 +3,7 @@
 
 pub mod boards;
 pub mod countdowns;
+pub mod examples;
 pub mod merge;
 pub mod plans;
 pub mod runs;

@@ -1,0 +1,5 @@
+use Rattle.merge_laws.proofs.Worked.{diamond_is_a_plan}
+use Rattle.merge_laws.proofs.examples.diamond_is_a_plan.Goals as goal
+
+pub returns : goal.returns
+returns c = diamond_is_a_plan
