@@ -17,3 +17,5 @@ pub mod Starting
 pub mod Proceeding
 pub mod Framing
 pub mod Worked
+pub mod WorkedRuns
+pub mod WorkedWords

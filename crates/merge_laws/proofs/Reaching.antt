@@ -27,7 +27,7 @@ and_true true = refl
 and_true false = refl
 
 -- a list of one
-one_at_first : (v u : Claims) (k : ℕ) → slice_get (v ∷ []) k ≡ Some u → (k ≡ 0) × (v ≡ u)
+pub one_at_first : (v u : Claims) (k : ℕ) → slice_get (v ∷ []) k ≡ Some u → (k ≡ 0) × (v ≡ u)
 one_at_first v u zero e = (refl, some_is e)
 one_at_first v u (suc k) e = absurd (none_some e)
 

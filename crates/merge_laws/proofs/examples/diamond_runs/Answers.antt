@@ -1,0 +1,5 @@
+use Rattle.merge_laws.proofs.WorkedRuns.{diamond_runs}
+use Rattle.merge_laws.proofs.examples.diamond_runs.Goals as goal
+
+pub returns : goal.returns
+returns c = diamond_runs
