@@ -19,3 +19,4 @@ pub mod Framing
 pub mod Worked
 pub mod WorkedRuns
 pub mod WorkedWords
+pub mod Progress

@@ -1,14 +1,36 @@
 -- A new segment begins, or the ledger alone goes on, or a container moves to other words, and the pieces stay in order.
-use Rattle.std.proofs.Common.{◌≡◌, ◌≢◌, ℕ, suc, ◌<◌, ◌≤◌, ◌⊎◌, inl, inr, ⊎_elim, Bool, true, cond, ◌&&◌, ◌||◌, eqb, List, ◌∷◌, length, refl, sym, ap, subst, ◌∙◌, arith}
+use Rattle.std.proofs.Common.{◌≡◌, ◌≢◌, ℕ, suc, ◌<◌, ◌≤◌, ◌⊎◌, inl, inr, ⊎_elim, Bool, true, cond, ◌&&◌, ◌||◌, eqb, List, [], ◌∷◌, length, refl, sym, ap, subst, ◌∙◌, arith}
 use Rattle.std.proofs.lemmas.Bool.{or_left, or_right, or_cases, and_parts, and_from, eqb-true, eq-eqb}
 use Rattle.merge_laws.specs.Graph.{LeadsTo, directly}
 use Rattle.merge_laws.specs.Pieces.{Words, Piece, piece_at, latest_segment, graph_of}
 use Rattle.merge_laws.specs.Ledger.{Ledger, IsLedger, is_done, IsUsedBy, IsWrittenBy, AreInOrder}
 use Rattle.merge_laws.specs.Planning.{DoesMore, BeginsSegment, GoesOn, with_words, MovesContainer}
-use Rattle.merge_laws.specs.PlanLaws.{NewSegmentsKeepOrder, LedgersKeepOrder, MovesKeepOrder}
+use Rattle.merge_laws.specs.PlanLaws.{FirstSegmentsAreInOrder, NewSegmentsKeepOrder, LedgersKeepOrder, MovesKeepOrder}
 use Rattle.merge_laws.proofs.Tests.{not_both, by_equal, chosen, not_chosen}
 use Rattle.merge_laws.proofs.Places.{leads_along, at_new, at_old, latest_new, precedes_old, precedes_by_job, done_segment, done_completed, arrives}
 use Rattle.merge_laws.proofs.Touching.{segments_keep_order}
+
+-- THE FIRST SEGMENT
+
+pub first_segments_are_in_order : FirstSegmentsAreInOrder
+first_segments_are_in_order l z L segment reads writes =
+    let at : (p : ℕ) → p < 1 → piece_at (z ∷ []) p ≡ z = λ p lt. chosen p 0 z (piece_at [] p) (omega arith) in
+    let latest : latest_segment (z ∷ []) ≡ 0 = latest_new z [] segment in
+    let no_read : (p w : ℕ) → p < 1 → (piece_at (z ∷ []) p).reads w ≡ true → ⊥ = λ p w lt r. not_both (subst (λ (x : Piece). x.reads w ≡ true) (at p lt) r) (reads w) in
+    let no_write : (p w : ℕ) → p < 1 → (piece_at (z ∷ []) p).writes w ≡ true → ⊥ = λ p w lt r. not_both (subst (λ (x : Piece). x.writes w ≡ true) (at p lt) r) (writes w) in
+    let job : (p : ℕ) → p < 1 → (piece_at (z ∷ []) p).job ≡ 0 = λ p lt. ap (λ (x : Piece). x.job) (at p lt) ∙ segment in
+    record {
+      known = λ p lt. let j = job p lt in omega arith;
+      rising = λ p q lt le. inl (job q le);
+      waits = λ p j lt d. let less = (L.older 0 j (subst (λ i. l.depends i j ≡ true) (job p lt) d)).1 in absurd (omega arith);
+      segment_below = omega arith;
+      segment = job (latest_segment (z ∷ [])) (omega arith);
+      arrived = λ p lt d. inl (omega arith);
+      reads_held = λ p w lt r. absurd (no_read p w lt r);
+      writes_held = λ p w lt r. absurd (no_write p w lt r);
+      reads_written = λ p w r. by_equal p 0 (λ q. absurd (no_write p w (omega arith) r)) (λ n. absurd (not_both r (ap (λ (x : Piece). x.writes w) (not_chosen p 0 z (piece_at [] p) n))));
+      conflicts_lead = λ p q w lt le c. absurd (⊎_elim (λ t. no_read q w le t.1) (λ t. no_write q w le t.1) c);
+    }
 
 -- A NEW SEGMENT
 

@@ -1,5 +1,5 @@
 -- The laws of the merge. Each speaks of a well ordered plan and a consistent core.
-use Rattle.std.specs.Prelude.{◌≡◌, ◌≢◌, ℕ, true, false, ℤ, Some}
+use Rattle.std.specs.Prelude.{◌≡◌, ◌≢◌, ℕ, ◌<◌, true, false, ◌⊎◌, ℤ, Some, None}
 use Rattle.merge_laws.specs.Graph.{PieceGraph, IsWellOrdered}
 use Rattle.merge_laws.specs.Core.{Lease, Core, IsSound}
 use Rattle.merge_laws.specs.Merge.{IsInPlace, IsConsistent}
@@ -28,3 +28,8 @@ StoresKeepTheMerge = (g : PieceGraph) (c d : Core) → IsWellOrdered g → IsCon
 abbrev pub EndsKeepTheMerge : Type 0
 EndsKeepTheMerge = (g : PieceGraph) (c d : Core) → IsWellOrdered g → IsConsistent g c
     → (k : ℕ) → Ends g c d k → IsConsistent g d × (IsInPlace g c → IsInPlace g d)
+
+-- A plan can't get stuck: where nothing is leased, all pieces are ended or one may begin.
+abbrev pub APieceMayBegin : Type 0
+APieceMayBegin = (g : PieceGraph) (c : Core) → IsWellOrdered g → ((k : ℕ) → c.lease k ≡ None)
+    → ((p : ℕ) → p < g.count → c.ended p ≡ true) ⊎ ((p : ℕ) × MayBegin g c p)

@@ -1,11 +1,15 @@
 -- The laws of planning: each way of going on keeps the pieces in order, across the reuse of words, and pieces in order make a well ordered
 -- plan.
-use Rattle.std.specs.Prelude.{◌≡◌, ◌≢◌, ℕ, ◌<◌, ◌≤◌, true, ◌⊎◌, List, [], ◌∷◌, ◌++◌, length, Some}
+use Rattle.std.specs.Prelude.{◌≡◌, ◌≢◌, ℕ, ◌<◌, ◌≤◌, true, false, List, [], ◌∷◌, ◌++◌, length, Some}
 use Rattle.merge_laws.specs.Graph.{PieceGraph, LeadsTo, IsWellOrdered}
 use Rattle.merge_laws.specs.Core.{Lease, Core, IsSound}
 use Rattle.merge_laws.specs.Pieces.{Words, Piece, piece_at, graph_of, AreFramed}
 use Rattle.merge_laws.specs.Ledger.{Ledger, IsLedger, AreInOrder, HasOlderParts}
 use Rattle.merge_laws.specs.Planning.{DoesMore, IsPartOfNewest, IsApartFromJob, ArePartsOfNewest, BeginsSegment, GoesOn, with_words, MovesContainer}
+
+-- A plan begins with a segment that touches nothing yet.
+abbrev pub FirstSegmentsAreInOrder : Type 0
+FirstSegmentsAreInOrder = (l : Ledger) (z : Piece) → IsLedger l → z.job ≡ 0 → ((w : ℕ) → z.reads w ≡ false) → ((w : ℕ) → z.writes w ≡ false) → AreInOrder l (z ∷ [])
 
 abbrev pub SegmentsKeepOrder : Type 0
 SegmentsKeepOrder = (l : Ledger) (x y : Piece) (earlier : List Piece) → IsLedger l → AreInOrder l (x ∷ earlier) → DoesMore l x y → AreInOrder l (y ∷ earlier)

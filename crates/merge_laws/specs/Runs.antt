@@ -1,6 +1,6 @@
 -- Runs of a plan as lists of events: a worker takes a piece or steals one, and finishes it. Here leases are copied out, and the key of a lease
 -- is the number of the worker's seat.
-use Rattle.std.specs.Prelude.{◌≡◌, ℕ, ◌<◌, Bool, true, false, ◌||◌, List, [], ◌∷◌, nat_eq, if◌then◌else◌, pos, Option, Some, None}
+use Rattle.std.specs.Prelude.{◌≡◌, ℕ, ◌<◌, Bool, true, false, ◌||◌, ◌⊎◌, List, [], ◌∷◌, nat_eq, if◌then◌else◌, pos, Option, Some, None}
 use Rattle.merge_laws.specs.Graph.{Cells, PieceGraph, cells_before, IsWellOrdered}
 use Rattle.merge_laws.specs.Core.{Lease, Core}
 use Rattle.merge_laws.specs.Merge.{IsConsistent}
@@ -105,3 +105,8 @@ EndedRunsAreInScriptOrder = (g : PieceGraph) → IsWellOrdered g → (es : List 
 abbrev pub EndedRunsAgree : Type 0
 EndedRunsAgree = (g : PieceGraph) → IsWellOrdered g → (es fs : List Event) → IsLegalRun g start es → IsLegalRun g start fs
     → IsEnded g (run g start es) → IsEnded g (run g start fs) → (w : ℕ) → (run g start es).cells w ≡ (run g start fs).cells w
+
+-- And a run can always go on until it has ended.
+abbrev pub RunsCanGoOn : Type 0
+RunsCanGoOn = (g : PieceGraph) → IsWellOrdered g → (es : List Event) → IsLegalRun g start es
+    → IsEnded g (run g start es) ⊎ ((e : Event) × IsLegal g (run g start es) e)

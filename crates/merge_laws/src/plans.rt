@@ -1,6 +1,11 @@
 //! The laws of planning, over a ledger of who touches and uses what.
 
-ghost use Rattle.merge_laws.specs.PlanLaws.{JobsKeepOrder, LedgersKeepOrder, MovesKeepOrder, NewSegmentsKeepOrder, PartsKeepOrder, PlansAreWellOrdered, ReclaimedWordsAreHeldOnce, ReclaimedWordsAreOrdered, SegmentsKeepOrder};
+ghost use Rattle.merge_laws.specs.PlanLaws.{FirstSegmentsAreInOrder, JobsKeepOrder, LedgersKeepOrder, MovesKeepOrder, NewSegmentsKeepOrder, PartsKeepOrder, PlansAreWellOrdered, ReclaimedWordsAreHeldOnce, ReclaimedWordsAreOrdered, SegmentsKeepOrder};
+
+/// A plan begins with a segment that touches nothing yet.
+pub fn first_segments_are_in_order()
+    ensures { FirstSegmentsAreInOrder }
+{}
 
 /// The segment at hand may do more, in containers whose conflicting users are completed.
 pub fn segments_keep_order()
