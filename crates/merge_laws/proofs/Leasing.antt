@@ -3,13 +3,14 @@ use Rattle.std.proofs.Common.{◌≡◌, ◌≢◌, ℕ, suc, ◌<◌, ⊎_elim,
 use Rattle.merge_laws.specs.Graph.{PieceGraph, cells_before, IsWellOrdered}
 use Rattle.merge_laws.specs.Core.{Lease, Core, IsReady, IsSound}
 use Rattle.merge_laws.specs.Merge.{IsMerged, IsInPlace, IsConsistent}
-use Rattle.merge_laws.specs.Steps.{ChangesLease, MayBegin, Begins, Stores, Ends}
+use Rattle.merge_laws.specs.Steps.{ChangesLease, HandsOver, MayBegin, Begins, Stores, Ends}
 use Rattle.merge_laws.specs.Jobs.{JobGraph}
 use Rattle.merge_laws.specs.Countdowns.{closed_state, open_state, ended_state}
 use Rattle.merge_laws.specs.CountSteps.{ChangesWord}
 use Rattle.merge_laws.specs.Rule.{Moment, core_at, AreHeld}
 use Rattle.merge_laws.specs.BoardSteps.{IsStore, IsBegin, GivesUp}
 use Rattle.merge_laws.proofs.Tests.{not_both, none_some, by_equal}
+use Rattle.merge_laws.proofs.Handing.{handed_to, handed_key, hands_keep_the_merge}
 use Rattle.merge_laws.proofs.Merging.{changed, same_piece, begins_keep_the_merge, stores_keep_the_merge, ends_keep_the_merge}
 
 -- the premise of the laws of the merge
@@ -55,6 +56,21 @@ module _ (g : PieceGraph) (m n : Moment) (H : AreHeld g m) (ready : (p : ℕ) �
         ready = ready;
         merged = subst (λ (c : Core). IsMerged g c) cores H.merged;
         in_place = subst (λ (c : Core). IsInPlace g c) cores H.in_place;
+      }
+
+  -- a lease is handed over
+  pub held_handed : (k j : ℕ) → j ≢ k → HandsOver m.lease n.lease k j → n.state ≡ m.state → n.cells ≡ m.cells → AreHeld g n
+  held_handed k j apart X s c =
+      let state : (q : ℕ) → n.state q ≡ m.state q = λ q. ap (λ (f : ℕ → ℕ). f q) s in
+      let law = hands_keep_the_merge g (core_at m) (core_at n) (held_consistent g m H) k j apart X (λ q. ap (λ (x : ℕ). eqb x 3) (state q)) (λ w. ap (λ (f : ℕ → _). f w) c) in
+      let L = law.0 in let S = L.sound in
+      record {
+        begun = λ i l e. let old = handed_key m.lease n.lease k j X i l e in let was = H.begun old.0 l old.1 in (state l.piece ∙ was.0, was.1);
+        leased = λ p e. let old = H.leased p (sym (state p) ∙ e) in let now = handed_to m.lease n.lease k j X old.0 old.1 old.2 in (now.0, old.1, now.1, old.3);
+        once = S.lease_once;
+        ready = ready;
+        merged = L.merged;
+        in_place = law.1 H.in_place;
       }
 
   -- a value is stored

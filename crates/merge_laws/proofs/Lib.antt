@@ -20,3 +20,5 @@ pub mod Worked
 pub mod WorkedRuns
 pub mod WorkedWords
 pub mod Progress
+pub mod Handing
+pub mod Joining

@@ -10,7 +10,7 @@ use Rattle.merge_laws.specs.Claims.{Claims, tally, total, owes, dues}
 use Rattle.merge_laws.specs.Countdowns.{is_unended, unended_parts, AreExact}
 use Rattle.merge_laws.specs.CountSteps.{ChangesWord}
 use Rattle.merge_laws.specs.Rule.{Moment, core_at, AreHeld, IsRuled, first_claims, IsOpening}
-use Rattle.merge_laws.specs.BoardSteps.{Step, stores, begins, ends_part, ends_segment, counts, releases, opens_part, opens_segment, sees, splits, Reaches, here, onward}
+use Rattle.merge_laws.specs.BoardSteps.{Step, stores, begins, ends_part, ends_segment, counts, releases, opens_part, opens_segment, sees, splits, joins, Reaches, here, onward}
 use Rattle.merge_laws.specs.BoardLaws.{NewBoardsAreRuled, CoreStep, StepsAreCoreSteps, StatesGoOneByOne, BoardsStayRuled, StatesNeverFall}
 use Rattle.merge_laws.specs.BoardLaws as laws
 use Rattle.merge_laws.proofs.Tests.{not_both, none_some, some_is, by_equal}
@@ -119,6 +119,8 @@ steps_are_core_steps g h o G T m n R (opens_segment k X) = let W = X.opens in
     opened_core g m n (h.segment_at X.was.ended) (segment_open_closed h m.state m.rest m.wait n.state m.claims G R.exact k X.was X.now X.claims.was W) W.states X.lease X.cells
 steps_are_core_steps g h o G T m n R (sees k X) = same_core g m n X.core.state X.core.lease X.core.cells
 steps_are_core_steps g h o G T m n R (splits X) = same_core g m n X.core.state X.core.lease X.core.cells
+steps_are_core_steps g h o G T m n R (joins k j X) = ⊎_elim (λ t. same_core g m n X.state t.1 X.cells)
+    (λ t. laws.hands_over k j X.apart t (λ p. ap (λ (f : ℕ → ℕ). eqb (f p) 3) X.state) X.cells) X.leases
 
 same_state : (m n : Moment) → n.state ≡ m.state → (p : ℕ) → (n.state p ≡ m.state p) ⊎ (n.state p ≡ suc (m.state p))
 same_state m n s p = inl (ap (λ (f : ℕ → ℕ). f p) s)
@@ -141,6 +143,7 @@ states_go_one_by_one g h o G T m n R (opens_segment k X) = let W = X.opens in
     next_state m n (h.segment_at X.was.ended) 0 (segment_open_closed h m.state m.rest m.wait n.state m.claims G R.exact k X.was X.now X.claims.was W) W.states
 states_go_one_by_one g h o G T m n R (sees k X) = same_state m n X.core.state
 states_go_one_by_one g h o G T m n R (splits X) = same_state m n X.core.state
+states_go_one_by_one g h o G T m n R (joins k j X) = same_state m n X.state
 
 -- WHATEVER IS REACHED
 

@@ -8,9 +8,9 @@ use Rattle.merge_laws.specs.Claims.{Claims, IsFirst}
 use Rattle.merge_laws.specs.Countdowns.{closed_state, ended_state, IsUnblocked, IsLed, AreExact}
 use Rattle.merge_laws.specs.CountSteps.{ChangesWord, SameSegments}
 use Rattle.merge_laws.specs.Rule.{Moment, core_at, AreHeld, IsRuled, IsOver}
-use Rattle.merge_laws.specs.BoardSteps.{ChangesClaims, SameCounts, IsStore, IsBegin, IsPartEnd, IsSegmentEnd, IsCount, IsRelease, IsPartOpening, IsSegmentOpening, IsLook, IsSplit, Step, stores, begins, ends_part, ends_segment, counts, releases, opens_part, opens_segment, sees, splits}
+use Rattle.merge_laws.specs.BoardSteps.{ChangesClaims, SameCounts, IsStore, IsBegin, IsPartEnd, IsSegmentEnd, IsCount, IsRelease, IsPartOpening, IsSegmentOpening, IsLook, IsSplit, IsJoin, Step, stores, begins, ends_part, ends_segment, counts, releases, opens_part, opens_segment, sees, splits, joins}
 use Rattle.merge_laws.specs.BoardLaws.{UnblockedPiecesAreReady, StepsKeepTheRule, LeasedWordsHoldLocalCells, ClosedBoardsAreInScriptOrder}
-use Rattle.merge_laws.proofs.Tests.{by_equal, none_some}
+use Rattle.merge_laws.proofs.Tests.{by_equal, none_some, some_is}
 use Rattle.merge_laws.proofs.Order.{merged_up_to}
 use Rattle.merge_laws.proofs.Merging.{changed, same_piece}
 use Rattle.merge_laws.proofs.Holding.{set_at, set_off, one_at, longer_at, still_first, is_leader}
@@ -18,7 +18,9 @@ use Rattle.merge_laws.proofs.Counting.{counts_stay_exact, releases_stay_exact}
 use Rattle.merge_laws.proofs.Ending.{part_ends_stay_exact, segment_ends_stay_exact}
 use Rattle.merge_laws.proofs.Opening.{counted_ended, part_openings_stay_exact, segment_openings_stay_exact, segment_open_closed}
 use Rattle.merge_laws.proofs.Beginning.{begins_stay_exact, looks_stay_exact, splits_stay_exact}
-use Rattle.merge_laws.proofs.Leasing.{held_same, held_opened, held_stored, held_begun, held_ended}
+use Rattle.merge_laws.proofs.Handing.{handed_from}
+use Rattle.merge_laws.proofs.Joining.{joined_i, joined_off, first_u, first_v, joins_stay_exact}
+use Rattle.merge_laws.proofs.Leasing.{held_same, held_opened, held_handed, held_stored, held_begun, held_ended}
 
 -- READY
 
@@ -171,6 +173,30 @@ module _ (g : PieceGraph) (h : JobGraph) (o : IsWellOrdered g) (G : IsJobGraph h
         segment_leases = leases_kept (same_lease S.lease) (λ j u e f. (u, ap (λ l. slice_get l j) X.claims ∙ longer_at m.claims (X.new ∷ []) j u e, f));
       }
 
+  -- who leases a segment after a join was first before, at the same place or at the one that was joined
+  joined_ruled : (k j : ℕ) → IsJoin m n k j → IsRuled g h n
+  joined_ruled k j X =
+      let J = X.joins in
+      let C : AreExact h n.state n.rest n.wait n.claims = exact_moved h m.state m.rest m.wait (slice_set (slice_set m.claims j X.w) k X.x) n X.state X.counts.rest X.counts.wait X.claims
+      (joins_stay_exact h m.state m.rest m.wait m.claims R.exact j k X.u X.v X.w X.x X.apart X.at_j X.at_k J) in
+      let at_j : slice_get n.claims j ≡ Some X.w = ap (λ l. slice_get l j) X.claims ∙ joined_i m.claims j k X.u X.v X.w X.x X.apart X.at_j X.at_k in
+      let by_u : IsFirst X.u → (x : Claims) × (slice_get n.claims j ≡ Some x) × IsFirst x = λ f. (X.w, at_j, first_u h m.state m.rest m.wait m.claims R.exact j k X.u X.v X.w X.x X.apart X.at_j X.at_k J f) in
+      let by_v : IsFirst X.v → (x : Claims) × (slice_get n.claims j ≡ Some x) × IsFirst x = λ f. (X.w, at_j, first_v h m.state m.rest m.wait m.claims R.exact j k X.u X.v X.w X.x X.apart X.at_j X.at_k J f) in
+      -- a lease of before under another key than k
+      let stays : (a i : ℕ) (l : Lease) → a ≢ k → m.lease a ≡ Some l → i < h.segments → l.piece ≡ h.segment_at i → (x : Claims) × (slice_get n.claims a ≡ Some x) × IsFirst x = λ a i l ne e lt q.
+      let v = R.segment_leases a i l e lt q in by_equal a j
+      (λ s. subst (λ b. (x : Claims) × (slice_get n.claims b ≡ Some x) × IsFirst x) (sym s) (by_u (subst (λ c. IsFirst c) (sym (one_at m.claims j a v.0 X.u s X.at_j v.1)) v.2)))
+      (λ ns. (v.0, ap (λ l. slice_get l a) X.claims ∙ (joined_off m.claims j k X.u X.v X.w X.x X.apart X.at_j X.at_k a ns ne ∙ v.1), v.2)) in
+      record {
+        held = ⊎_elim (λ t. held_same g m n R.held (ready_all g h n T C) X.state X.cells t.1) (λ t. held_handed g m n R.held (ready_all g h n T C) k j X.apart t X.state X.cells) X.leases;
+        exact = C;
+        segment_leases = λ a i l e lt q. ⊎_elim
+            (λ t. let old : m.lease a ≡ Some l = sym (ap (λ f. f a) t.1) ∙ e in stays a i l (λ s. none_some (sym t.0 ∙ (ap m.lease (sym s) ∙ old))) old lt q)
+            (λ t. ⊎_elim
+            (λ y. let v = R.segment_leases k i l y.1 lt q in subst (λ b. (x : Claims) × (slice_get n.claims b ≡ Some x) × IsFirst x) (sym y.0) (by_v (subst (λ c. IsFirst c) (some_is (sym v.1 ∙ X.at_k)) v.2)))
+            (λ y. stays a i l y.1 y.2 lt q) (handed_from m.lease n.lease k j t a l e)) X.leases;
+      }
+
 pub steps_keep_the_rule : StepsKeepTheRule
 steps_keep_the_rule g h o G T m n R (stores k X) = stored_ruled g h o G T m n R k X
 steps_keep_the_rule g h o G T m n R (begins k X) = begun_ruled g h o G T m n R k X
@@ -182,6 +208,7 @@ steps_keep_the_rule g h o G T m n R (opens_part k X) = part_opened_ruled g h o G
 steps_keep_the_rule g h o G T m n R (opens_segment k X) = segment_opened_ruled g h o G T m n R k X
 steps_keep_the_rule g h o G T m n R (sees k X) = seen_ruled g h o G T m n R k X
 steps_keep_the_rule g h o G T m n R (splits X) = split_ruled g h o G T m n R X
+steps_keep_the_rule g h o G T m n R (joins k j X) = joined_ruled g h o G T m n R k j X
 
 pub leased_words_hold_local_cells : LeasedWordsHoldLocalCells
 leased_words_hold_local_cells g h m R k w l e r = let H = R.held in H.in_place k l w e r

@@ -1,8 +1,8 @@
 -- The laws of a board without locks.
-use Rattle.std.specs.Prelude.{◌≡◌, ℕ, suc, ◌≤◌, ◌<◌, true, ◌⊎◌, ℤ, Some}
+use Rattle.std.specs.Prelude.{◌≡◌, ◌≢◌, ℕ, suc, ◌≤◌, ◌<◌, true, ◌⊎◌, ℤ, Some}
 use Rattle.merge_laws.specs.Graph.{PieceGraph, cells_before, IsWellOrdered}
 use Rattle.merge_laws.specs.Core.{Lease, Core, IsReady}
-use Rattle.merge_laws.specs.Steps.{MayBegin, Begins, Stores, Ends}
+use Rattle.merge_laws.specs.Steps.{HandsOver, MayBegin, Begins, Stores, Ends}
 use Rattle.merge_laws.specs.Jobs.{JobGraph, IsJobGraph, HasParts, IsOf}
 use Rattle.merge_laws.specs.Countdowns.{IsUnblocked}
 use Rattle.merge_laws.specs.Rule.{Moment, core_at, IsRuled, IsOpening, IsOver}
@@ -22,11 +22,12 @@ abbrev pub StepsKeepTheRule : Type 0
 StepsKeepTheRule = (g : PieceGraph) (h : JobGraph) → IsWellOrdered g → IsJobGraph h → IsOf h g
     → (m n : Moment) → IsRuled g h m → Step g h m n → IsRuled g h n
 
--- What a step does to the core: a piece begins that may, a word is stored, a piece ends, or nothing changes.
+-- What a step does to the core: a piece begins that may, a word is stored, a piece ends, a lease is handed over, or nothing changes.
 pub data CoreStep (g : PieceGraph) (c d : Core) : Type 0 where
   begins : (k p : ℕ) → MayBegin g c p → Begins g c d k p → CoreStep g c d
   stores : (k w : ℕ) (v : ℤ) → Stores g c d k w v → CoreStep g c d
   ends : (k : ℕ) → Ends g c d k → CoreStep g c d
+  hands_over : (k j : ℕ) → j ≢ k → HandsOver c.lease d.lease k j → ((p : ℕ) → d.ended p ≡ c.ended p) → d.cells ≡ c.cells → CoreStep g c d
   stays : ((p : ℕ) → d.ended p ≡ c.ended p) → d.lease ≡ c.lease → d.cells ≡ c.cells → CoreStep g c d
 
 abbrev pub StepsAreCoreSteps : Type 0

@@ -1,12 +1,12 @@
 -- The atomic steps of a board without locks. The participant k takes each; what a step doesn't name stays.
-use Rattle.std.specs.Prelude.{◌≡◌, ◌≢◌, ℕ, suc, ◌<◌, true, List, [], ◌∷◌, ◌++◌, ℤ, Option, Some, None, slice_get, slice_set}
+use Rattle.std.specs.Prelude.{◌≡◌, ◌≢◌, ℕ, suc, ◌<◌, true, ◌⊎◌, List, [], ◌∷◌, ◌++◌, ℤ, Option, Some, None, slice_get, slice_set}
 use Rattle.merge_laws.specs.Graph.{Cells, PieceGraph, cells_before}
 use Rattle.merge_laws.specs.Core.{Lease}
-use Rattle.merge_laws.specs.Steps.{ChangesLease, Stores}
+use Rattle.merge_laws.specs.Steps.{ChangesLease, HandsOver, Stores}
 use Rattle.merge_laws.specs.Jobs.{JobGraph}
 use Rattle.merge_laws.specs.Claims.{Claims, IsFirst}
 use Rattle.merge_laws.specs.Countdowns.{open_state, begun_state}
-use Rattle.merge_laws.specs.CountSteps.{ChangesWord, Counts, Releases, EndsPart, EndsSegment, OpensPart, OpensSegment, Sees, IsFresh}
+use Rattle.merge_laws.specs.CountSteps.{ChangesWord, Counts, Releases, EndsPart, EndsSegment, OpensPart, OpensSegment, Sees, IsFresh, Joins}
 use Rattle.merge_laws.specs.Rule.{Moment, core_at}
 
 -- The participant's claims change from v to w.
@@ -134,6 +134,22 @@ pub record IsSplit (m n : Moment) : Type 0 where
   pub core : SameCore m n
   pub counts : SameCounts m n
 
+-- JOIN: of two participants one remains, at the place j, with the lease and the claims of both. One of them had no lease.
+pub record IsJoin (m n : Moment) (k j : ℕ) : Type 0 where
+  pub apart : j ≢ k
+  pub u : Claims
+  pub v : Claims
+  pub w : Claims
+  pub x : Claims
+  pub at_j : slice_get m.claims j ≡ Some u
+  pub at_k : slice_get m.claims k ≡ Some v
+  pub joins : Joins u v w x
+  pub claims : n.claims ≡ slice_set (slice_set m.claims j w) k x
+  pub leases : ((m.lease k ≡ None) × (n.lease ≡ m.lease)) ⊎ HandsOver m.lease n.lease k j
+  pub state : n.state ≡ m.state
+  pub cells : n.cells ≡ m.cells
+  pub counts : SameCounts m n
+
 pub data Step (g : PieceGraph) (h : JobGraph) (m n : Moment) : Type 0 where
   stores : (k : ℕ) → IsStore g m n k → Step g h m n
   begins : (k : ℕ) → IsBegin g h m n k → Step g h m n
@@ -145,6 +161,7 @@ pub data Step (g : PieceGraph) (h : JobGraph) (m n : Moment) : Type 0 where
   opens_segment : (k : ℕ) → IsSegmentOpening h m n k → Step g h m n
   sees : (k : ℕ) → IsLook h m n k → Step g h m n
   splits : IsSplit m n → Step g h m n
+  joins : (k j : ℕ) → IsJoin m n k j → Step g h m n
 
 -- n is reached from m by steps
 pub data Reaches (g : PieceGraph) (h : JobGraph) (m : Moment) : Moment → Type 0 where

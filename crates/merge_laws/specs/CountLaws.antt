@@ -1,9 +1,9 @@
 -- The laws of the countdowns: each step leaves them exact.
-use Rattle.std.specs.Prelude.{◌≡◌, ℕ, List, [], ◌∷◌, ◌++◌, Some, slice_get, slice_set}
+use Rattle.std.specs.Prelude.{◌≡◌, ◌≢◌, ℕ, List, [], ◌∷◌, ◌++◌, Some, slice_get, slice_set}
 use Rattle.merge_laws.specs.Jobs.{JobGraph, IsJobGraph}
 use Rattle.merge_laws.specs.Claims.{Claims}
 use Rattle.merge_laws.specs.Countdowns.{AreExact}
-use Rattle.merge_laws.specs.CountSteps.{Counts, Releases, BeginsState, EndsPart, EndsSegment, OpensPart, OpensSegment, Sees, IsFresh}
+use Rattle.merge_laws.specs.CountSteps.{Counts, Releases, BeginsState, EndsPart, EndsSegment, OpensPart, OpensSegment, Sees, IsFresh, Joins}
 
 abbrev pub CountsStayExact : Type 0
 CountsStayExact = (h : JobGraph) (state rest wait rest' : ℕ → ℕ) (claims : List Claims) → IsJobGraph h → AreExact h state rest wait claims
@@ -40,3 +40,8 @@ LooksStayExact = (h : JobGraph) (state rest wait : ℕ → ℕ) (claims : List C
 abbrev pub SplitsStayExact : Type 0
 SplitsStayExact = (h : JobGraph) (state rest wait : ℕ → ℕ) (claims : List Claims) → AreExact h state rest wait claims
     → (u : Claims) → IsFresh u → AreExact h state rest wait (claims ++ u ∷ [])
+
+abbrev pub JoinsStayExact : Type 0
+JoinsStayExact = (h : JobGraph) (state rest wait : ℕ → ℕ) (claims : List Claims) → AreExact h state rest wait claims
+    → (i k : ℕ) (u v w x : Claims) → i ≢ k → slice_get claims i ≡ Some u → slice_get claims k ≡ Some v → Joins u v w x
+    → AreExact h state rest wait (slice_set (slice_set claims i w) k x)

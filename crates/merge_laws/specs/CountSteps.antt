@@ -1,9 +1,9 @@
 -- The atomic steps on states and countdowns. Each names what one participant held before and holds after, and which word changed; all other
 -- words and participants stay.
-use Rattle.std.specs.Prelude.{◌≡◌, ◌≢◌, ℕ, suc, ◌<◌, Bool, true, false, ◌⊎◌, ◌∷◌, List, [], nat_eq, Option, Some, None}
+use Rattle.std.specs.Prelude.{◌≡◌, ◌≢◌, ℕ, suc, ◌+◌, ◌<◌, Bool, true, false, ◌||◌, ◌⊎◌, ◌∷◌, List, [], nat_eq, Option, Some, None}
 use Rattle.merge_laws.specs.Jobs.{JobGraph}
 use Rattle.merge_laws.specs.Runs.{has}
-use Rattle.merge_laws.specs.Claims.{Claims, IsFirst, dues, has_segment_duty}
+use Rattle.merge_laws.specs.Claims.{Claims, IsFirst, owes, dues, has_segment_duty}
 use Rattle.merge_laws.specs.Countdowns.{closed_state, open_state, begun_state, ended_state}
 
 -- the words after are those before, but for the word i, which is x
@@ -139,3 +139,18 @@ pub record IsFresh (v : Claims) : Type 0 where
   pub nothing : HoldsNothing v
   pub seen : v.seen ≡ []
   pub number : v.number ≢ 0
+
+-- JOIN: the participants of u and v become one, w, which holds what both held and is the first where one of them was. The other, x, is spent.
+pub record Joins (u v w x : Claims) : Type 0 where
+  pub unspent : (u.spent ≡ false) × (v.spent ≡ false) × (w.spent ≡ false)
+  pub owed : (j : ℕ) → owes j w ≡ owes j u + owes j v
+  pub duties : (j : ℕ) → dues j w ≡ dues j u + dues j v
+  pub segment_duties : has_segment_duty w.duties ≡ true → (has_segment_duty u.duties ≡ true) ⊎ (has_segment_duty v.duties ≡ true)
+  pub rights : (p : ℕ) → has p w.rights ≡ (has p u.rights || has p v.rights)
+  pub seen : (j : ℕ) → has j w.seen ≡ true → (has j u.seen ≡ true) ⊎ (has j v.seen ≡ true)
+  pub first : w.number ≡ 0 → (u.number ≡ 0) ⊎ (v.number ≡ 0)
+  pub first_of_u : u.number ≡ 0 → (w.number ≡ 0) × (w.ended ≡ u.ended) × (w.opened ≡ u.opened)
+  pub first_of_v : v.number ≡ 0 → (w.number ≡ 0) × (w.ended ≡ v.ended) × (w.opened ≡ v.opened)
+  pub spent : x.spent ≡ true
+  pub left : HoldsNothing x
+  pub unseen : x.seen ≡ []

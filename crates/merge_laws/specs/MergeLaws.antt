@@ -3,7 +3,7 @@ use Rattle.std.specs.Prelude.{◌≡◌, ◌≢◌, ℕ, ◌<◌, true, false, �
 use Rattle.merge_laws.specs.Graph.{PieceGraph, IsWellOrdered}
 use Rattle.merge_laws.specs.Core.{Lease, Core, IsSound}
 use Rattle.merge_laws.specs.Merge.{IsInPlace, IsConsistent}
-use Rattle.merge_laws.specs.Steps.{MayBegin, IsClear, Begins, Stores, Ends}
+use Rattle.merge_laws.specs.Steps.{HandsOver, MayBegin, IsClear, Begins, Stores, Ends}
 
 -- No race: of two leases under different keys, none reads or writes a word that the other writes.
 abbrev pub LeasesAreApart : Type 0
@@ -28,6 +28,11 @@ StoresKeepTheMerge = (g : PieceGraph) (c d : Core) → IsWellOrdered g → IsCon
 abbrev pub EndsKeepTheMerge : Type 0
 EndsKeepTheMerge = (g : PieceGraph) (c d : Core) → IsWellOrdered g → IsConsistent g c
     → (k : ℕ) → Ends g c d k → IsConsistent g d × (IsInPlace g c → IsInPlace g d)
+
+-- Whose key a lease has doesn't matter.
+abbrev pub HandsKeepTheMerge : Type 0
+HandsKeepTheMerge = (g : PieceGraph) (c d : Core) → IsConsistent g c → (k j : ℕ) → j ≢ k → HandsOver c.lease d.lease k j
+    → ((p : ℕ) → d.ended p ≡ c.ended p) → ((w : ℕ) → d.cells w ≡ c.cells w) → IsConsistent g d × (IsInPlace g c → IsInPlace g d)
 
 -- A plan can't get stuck: where nothing is leased, all pieces are ended or one may begin.
 abbrev pub APieceMayBegin : Type 0

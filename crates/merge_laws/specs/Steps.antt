@@ -9,6 +9,13 @@ pub record ChangesLease (before after : ℕ → Option Lease) (k : ℕ) (x : Opt
   pub here : after k ≡ x
   pub there : (j : ℕ) → j ≢ k → after j ≡ before j
 
+-- The lease of the key k, where it has one, goes to the key j, which has none.
+pub record HandsOver (before after : ℕ → Option Lease) (k j : ℕ) : Type 0 where
+  pub free : before j ≡ None
+  pub here : after j ≡ before k
+  pub gone : after k ≡ None
+  pub there : (i : ℕ) → i ≢ j → i ≢ k → after i ≡ before i
+
 -- the piece may begin: it is one of the plan's, neither ended nor leased, and all its predecessors are ended
 pub record MayBegin (g : PieceGraph) (c : Core) (p : ℕ) : Type 0 where
   pub below : p < g.count

@@ -1,6 +1,6 @@
 //! The countdowns of a lock-free board: each atomic step leaves them exact.
 
-ghost use Rattle.merge_laws.specs.CountLaws.{BeginsStayExact, CountsStayExact, LooksStayExact, PartEndsStayExact, PartOpeningsStayExact, ReleasesStayExact, SegmentEndsStayExact, SegmentOpeningsStayExact, SplitsStayExact};
+ghost use Rattle.merge_laws.specs.CountLaws.{BeginsStayExact, CountsStayExact, JoinsStayExact, LooksStayExact, PartEndsStayExact, PartOpeningsStayExact, ReleasesStayExact, SegmentEndsStayExact, SegmentOpeningsStayExact, SplitsStayExact};
 
 /// A count lowers the job's `rest` and settles what was owed. The last one brings the duties.
 pub fn counts_stay_exact()
@@ -42,7 +42,12 @@ pub fn looks_stay_exact()
     ensures { LooksStayExact }
 {}
 
-/// A participant joins in who holds nothing.
+/// A new participant holds nothing.
 pub fn splits_stay_exact()
     ensures { SplitsStayExact }
+{}
+
+/// Two participants become one, which holds what both held.
+pub fn joins_stay_exact()
+    ensures { JoinsStayExact }
 {}

@@ -1,6 +1,6 @@
 //! The laws of the merge.
 
-ghost use Rattle.merge_laws.specs.MergeLaws.{APieceMayBegin, BeginsKeepTheMerge, EndsKeepTheMerge, LeasesAreApart, StoresKeepTheMerge, WhatMayBeginIsClear};
+ghost use Rattle.merge_laws.specs.MergeLaws.{APieceMayBegin, BeginsKeepTheMerge, EndsKeepTheMerge, HandsKeepTheMerge, LeasesAreApart, StoresKeepTheMerge, WhatMayBeginIsClear};
 
 /// Of two leased pieces none reads or writes what the other writes: there is no race.
 pub fn leases_are_apart()
@@ -25,6 +25,11 @@ pub fn stores_keep_the_merge()
 /// The third law: the merge holds with a piece more ended.
 pub fn ends_keep_the_merge()
     ensures { EndsKeepTheMerge }
+{}
+
+/// A lease may be handed over to another key.
+pub fn hands_keep_the_merge()
+    ensures { HandsKeepTheMerge }
 {}
 
 /// Where nothing is leased, all pieces are ended or one may begin: a plan can't get stuck.
