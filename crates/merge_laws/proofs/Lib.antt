@@ -22,3 +22,4 @@ pub mod WorkedWords
 pub mod Progress
 pub mod Handing
 pub mod Joining
+pub mod WorkedPlans

@@ -18,3 +18,4 @@ pub mod Planning
 pub mod PlanLaws
 pub mod Diamond
 pub mod Examples
+pub mod Reuse

@@ -1,6 +1,7 @@
-//! A worked plan of four pieces, two of which commute: what the definitions say of it, by computation.
+//! Worked plans: one of four pieces, two of which commute, and one in which a word is used again. What the definitions say of them is computed.
 
 ghost use Rattle.merge_laws.specs.Examples.{DiamondCounts, DiamondIsAPlan, DiamondMerges, DiamondRuns, IllegalRuns};
+ghost use Rattle.merge_laws.specs.Reuse.{ReuseIsInOrder};
 
 /// The plan meets every premise of the laws.
 pub fn diamond_is_a_plan()
@@ -25,4 +26,9 @@ pub fn diamond_merges()
 /// What its countdowns are while pieces run.
 pub fn diamond_counts()
     ensures { DiamondCounts }
+{}
+
+/// A plan in which a word is used again, made step by step, is in order, and isn't where the last segment doesn't wait.
+pub fn reuse_is_in_order()
+    ensures { ReuseIsInOrder }
 {}
