@@ -1,11 +1,9 @@
 -- A begin, a look and a split leave the countdowns exact.
-use Rattle.std.proofs.Common.{◌≡◌, ℕ, ◌+◌, ◌<◌, inl, inr, ⊎_elim, Bool, true, ◌||◌, eqb, eqb-true, List, [], ◌∷◌, ◌++◌, refl, sym, ap, subst, ◌∙◌, arith, Some}
-use Rattle.std.specs.Prelude.{slice_get, slice_set}
+use Rattle.std.proofs.Common.{◌≡◌, ℕ, ◌+◌, ◌<◌, inl, inr, ⊎_elim, Bool, true, ◌||◌, eqb, eqb-true, [], ◌∷◌, refl, sym, ap, subst, ◌∙◌, arith}
 use Rattle.std.proofs.lemmas.Bool.{cases_Bool}
-use Rattle.merge_laws.specs.Jobs.{JobGraph}
-use Rattle.merge_laws.specs.Runs.{has}
+use Rattle.merge_laws.specs.Numbers.{has}
 use Rattle.merge_laws.specs.Claims.{Claims, total, owed_for, owes, duties_on, dues, has_segment_duty}
-use Rattle.merge_laws.specs.Countdowns.{is_unended, unended_parts, unfinished, IsLed, AreExact}
+use Rattle.merge_laws.specs.Countdowns.{is_unended, unended_parts, unfinished, IsLed}
 use Rattle.merge_laws.specs.CountLaws.{BeginsStayExact, LooksStayExact, SplitsStayExact}
 use Rattle.merge_laws.proofs.Tests.{not_both, by_equal}
 use Rattle.merge_laws.proofs.Sums.{total_same, total_longer}

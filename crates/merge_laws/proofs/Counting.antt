@@ -1,10 +1,10 @@
 -- A count and a release leave the countdowns exact.
-use Rattle.std.proofs.Common.{◌≡◌, ◌≢◌, ℕ, zero, suc, ◌+◌, ◌<◌, ◌⊎◌, inl, inr, ⊎_elim, Bool, true, false, cond, not, ◌&&◌, eqb, eq-eqb, List, refl, sym, ap, subst, ◌∙◌, arith, Some}
+use Rattle.std.proofs.Common.{◌≡◌, ◌≢◌, ℕ, suc, ◌+◌, ◌<◌, ◌⊎◌, inl, inr, ⊎_elim, Bool, true, false, cond, not, ◌&&◌, eqb, eq-eqb, List, refl, sym, ap, subst, ◌∙◌, arith, Some}
 use Rattle.std.specs.Prelude.{slice_get, slice_set}
 use Rattle.std.proofs.lemmas.Bool.{cases_Bool}
+use Rattle.merge_laws.specs.Numbers.{has, tally}
 use Rattle.merge_laws.specs.Jobs.{JobGraph, IsJobGraph}
-use Rattle.merge_laws.specs.Runs.{has}
-use Rattle.merge_laws.specs.Claims.{Claims, tally, total, owed_for, owes, dues}
+use Rattle.merge_laws.specs.Claims.{Claims, total, owed_for, owes, dues}
 use Rattle.merge_laws.specs.Countdowns.{closed_state, is_unended, unended_parts, unfinished, AreExact}
 use Rattle.merge_laws.specs.CountSteps.{Counts, Releases}
 use Rattle.merge_laws.specs.CountLaws.{CountsStayExact, ReleasesStayExact}

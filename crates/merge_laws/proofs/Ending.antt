@@ -1,11 +1,10 @@
 -- The end of a piece leaves the countdowns exact.
-use Rattle.std.proofs.Common.{◌≡◌, ◌≢◌, ℕ, zero, suc, ◌+◌, ◌<◌, ◌⊎◌, inl, inr, ⊎_elim, Bool, true, false, cond, not, ◌&&◌, eqb, eq-eqb, ne_eqb, List, refl, sym, ap, subst, ◌∙◌, arith, Some}
+use Rattle.std.proofs.Common.{◌≡◌, ◌≢◌, ℕ, suc, ◌+◌, ◌<◌, ⊎_elim, true, cond, not, ◌&&◌, eqb, eq-eqb, ne_eqb, List, sym, ap, subst, ◌∙◌, arith, Some}
 use Rattle.std.specs.Prelude.{slice_get, slice_set}
-use Rattle.std.proofs.lemmas.Bool.{cases_Bool, cond-true, cond-false}
+use Rattle.merge_laws.specs.Numbers.{has, tally}
 use Rattle.merge_laws.specs.Jobs.{JobGraph, IsJobGraph}
-use Rattle.merge_laws.specs.Runs.{has}
-use Rattle.merge_laws.specs.Claims.{Claims, IsFirst, tally, total, owed_for, owes, duties_on, dues}
-use Rattle.merge_laws.specs.Countdowns.{closed_state, ended_state, is_unended, unended_parts, unfinished, IsLed, AreExact}
+use Rattle.merge_laws.specs.Claims.{Claims, IsFirst, total, owed_for, owes, duties_on, dues}
+use Rattle.merge_laws.specs.Countdowns.{closed_state, is_unended, unended_parts, unfinished, IsLed, AreExact}
 use Rattle.merge_laws.specs.CountSteps.{EndsPart, EndsSegment}
 use Rattle.merge_laws.specs.CountLaws.{PartEndsStayExact, SegmentEndsStayExact}
 use Rattle.merge_laws.proofs.Tests.{not_both, either_side, by_equal, and_of, chosen, not_chosen}

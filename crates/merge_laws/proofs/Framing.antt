@@ -1,6 +1,6 @@
 -- Pieces in order are a well ordered plan, and what that says of words that are used again.
-use Rattle.std.proofs.Common.{◌≡◌, ◌≢◌, ℕ, zero, suc, ◌<◌, ◌≤◌, inl, inr, Bool, true, List, [], ◌∷◌, length, refl, sym, ap, subst, ◌∙◌, arith}
-use Rattle.merge_laws.specs.Graph.{PieceGraph, cells_before, LeadsTo, IsWellOrdered}
+use Rattle.std.proofs.Common.{◌≡◌, ℕ, zero, suc, ◌<◌, ◌≤◌, inl, inr, true, List, [], ◌∷◌, length, refl, sym, subst, ◌∙◌, arith}
+use Rattle.merge_laws.specs.Graph.{cells_before, LeadsTo}
 use Rattle.merge_laws.specs.Pieces.{Piece, piece_at, graph_of, cells_after, IsFramed, AreFramed}
 use Rattle.merge_laws.specs.PlanLaws.{PlansAreWellOrdered, ReclaimedWordsAreOrdered, ReclaimedWordsAreHeldOnce}
 use Rattle.merge_laws.proofs.Tests.{not_both, by_equal}

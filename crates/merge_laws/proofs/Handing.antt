@@ -1,5 +1,5 @@
 -- A lease is handed over to another key, and the merge stays.
-use Rattle.std.proofs.Common.{◌≡◌, ◌≢◌, ℕ, ◌⊎◌, inl, inr, ⊎_elim, true, sym, ap, subst, ◌∙◌, Option, Some, None}
+use Rattle.std.proofs.Common.{◌≡◌, ◌≢◌, ℕ, ◌⊎◌, inl, inr, ⊎_elim, sym, ap, ◌∙◌, Option, Some}
 use Rattle.merge_laws.specs.Core.{Lease}
 use Rattle.merge_laws.specs.Steps.{HandsOver}
 use Rattle.merge_laws.specs.MergeLaws.{HandsKeepTheMerge}

@@ -1,10 +1,10 @@
 -- One participant's claims change, and what follows for the clauses that a step doesn't touch.
-use Rattle.std.proofs.Common.{◌≡◌, ◌≢◌, ℕ, zero, suc, ◌+◌, ◌<◌, ◌≤◌, ◌⊎◌, inl, inr, ⊎_elim, Bool, true, false, not, ◌&&◌, cond, eqb, List, [], ◌∷◌, ◌++◌, refl, sym, ap, subst, ◌∙◌, arith, Some, None}
+use Rattle.std.proofs.Common.{◌≡◌, ◌≢◌, ℕ, zero, suc, ◌+◌, ◌<◌, ◌⊎◌, inl, inr, ⊎_elim, Bool, true, not, ◌&&◌, cond, eqb, List, [], ◌∷◌, ◌++◌, refl, sym, ap, subst, ◌∙◌, arith, Some}
 use Rattle.std.specs.Prelude.{slice_get, slice_set}
 use Rattle.std.proofs.lemmas.Bool.{cases_Bool}
+use Rattle.merge_laws.specs.Numbers.{has, tally}
 use Rattle.merge_laws.specs.Jobs.{JobGraph}
-use Rattle.merge_laws.specs.Runs.{has}
-use Rattle.merge_laws.specs.Claims.{Claims, IsFirst, tally, has_segment_duty}
+use Rattle.merge_laws.specs.Claims.{Claims, IsFirst, has_segment_duty}
 use Rattle.merge_laws.specs.Countdowns.{ended_state, is_unended, unended_parts, unfinished, IsUnblocked, IsLed, AreExact}
 use Rattle.merge_laws.specs.CountSteps.{ChangesWord, SameSegments}
 use Rattle.merge_laws.proofs.Tests.{some_is, none_some, by_equal, same_and, and_none}

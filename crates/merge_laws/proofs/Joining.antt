@@ -1,9 +1,9 @@
 -- Two participants become one, and the countdowns stay exact.
-use Rattle.std.proofs.Common.{◌≡◌, ◌≢◌, ℕ, ◌+◌, ◌<◌, ◌⊎◌, inl, inr, ⊎_elim, Bool, true, false, ◌||◌, List, refl, sym, ap, subst, ◌∙◌, arith, Some}
+use Rattle.std.proofs.Common.{◌≡◌, ◌≢◌, ℕ, ◌+◌, ◌<◌, ◌⊎◌, inl, inr, ⊎_elim, true, List, refl, sym, ap, subst, ◌∙◌, arith, Some}
 use Rattle.std.specs.Prelude.{slice_get, slice_set}
 use Rattle.std.proofs.lemmas.Bool.{or_left, or_right, or_cases}
+use Rattle.merge_laws.specs.Numbers.{has}
 use Rattle.merge_laws.specs.Jobs.{JobGraph}
-use Rattle.merge_laws.specs.Runs.{has}
 use Rattle.merge_laws.specs.Claims.{Claims, IsFirst, total, owed_for, owes, duties_on, dues, has_segment_duty}
 use Rattle.merge_laws.specs.Countdowns.{unended_parts, unfinished, IsLed, AreExact}
 use Rattle.merge_laws.specs.CountSteps.{Joins}

@@ -1,9 +1,9 @@
 -- States, leases and cells agree after each step that changes one of them.
-use Rattle.std.proofs.Common.{◌≡◌, ◌≢◌, ℕ, suc, ◌<◌, ⊎_elim, Bool, true, false, eqb, refl, sym, ap, subst, ◌∙◌, arith, Option, Some, None}
+use Rattle.std.proofs.Common.{◌≡◌, ◌≢◌, ℕ, suc, ◌<◌, ⊎_elim, true, eqb, sym, ap, subst, ◌∙◌, arith, Option, Some}
 use Rattle.merge_laws.specs.Graph.{PieceGraph, cells_before, IsWellOrdered}
-use Rattle.merge_laws.specs.Core.{Lease, Core, IsReady, IsSound}
+use Rattle.merge_laws.specs.Core.{Lease, Core, IsReady}
 use Rattle.merge_laws.specs.Merge.{IsMerged, IsInPlace, IsConsistent}
-use Rattle.merge_laws.specs.Steps.{ChangesLease, HandsOver, MayBegin, Begins, Stores, Ends}
+use Rattle.merge_laws.specs.Steps.{HandsOver, MayBegin, Begins, Stores, Ends}
 use Rattle.merge_laws.specs.Jobs.{JobGraph}
 use Rattle.merge_laws.specs.Countdowns.{closed_state, open_state, ended_state}
 use Rattle.merge_laws.specs.CountSteps.{ChangesWord}

@@ -1,10 +1,10 @@
 -- The laws of the merge.
-use Rattle.std.proofs.Common.{◌≡◌, ◌≢◌, ℕ, suc, ◌<◌, ◌⊎◌, inl, inr, ⊎_elim, Bool, true, false, sym, ap, subst, ◌∙◌, arith, Option, Some, None}
+use Rattle.std.proofs.Common.{◌≡◌, ◌≢◌, ℕ, suc, ◌<◌, ◌⊎◌, inl, inr, ⊎_elim, true, false, sym, ap, subst, ◌∙◌, arith, Option, Some}
 use Rattle.std.proofs.lemmas.Bool.{cases_Bool, cases_eq}
 use Rattle.merge_laws.specs.Graph.{PieceGraph, cells_before, IsWellOrdered}
 use Rattle.merge_laws.specs.Core.{Lease, Core, IsReady, IsSound}
 use Rattle.merge_laws.specs.Merge.{merged_cells, IsMerged, IsInPlace, IsConsistent}
-use Rattle.merge_laws.specs.Steps.{ChangesLease, MayBegin, IsClear, Begins, Stores, Ends}
+use Rattle.merge_laws.specs.Steps.{ChangesLease, Stores, Ends}
 use Rattle.merge_laws.specs.MergeLaws.{LeasesAreApart, WhatMayBeginIsClear, BeginsKeepTheMerge, StoresKeepTheMerge, EndsKeepTheMerge}
 use Rattle.merge_laws.proofs.Tests.{not_both, some_is, none_some}
 use Rattle.merge_laws.proofs.Order.{leads_ended, apart, merged_up_to, merged_same}

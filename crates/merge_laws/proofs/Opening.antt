@@ -1,11 +1,11 @@
 -- Opening a piece leaves the countdowns exact.
-use Rattle.std.proofs.Common.{◌≡◌, ◌≢◌, ℕ, zero, suc, ◌+◌, ◌<◌, ◌⊎◌, inl, inr, ⊎_elim, Bool, true, false, cond, not, ◌&&◌, eqb, eqb-true, List, refl, sym, ap, subst, ◌∙◌, arith, Some}
+use Rattle.std.proofs.Common.{◌≡◌, ◌≢◌, ℕ, suc, ◌+◌, ◌<◌, inl, ⊎_elim, Bool, true, cond, not, ◌&&◌, eqb, eqb-true, List, sym, ap, subst, ◌∙◌, arith, Some}
 use Rattle.std.specs.Prelude.{slice_get, slice_set}
 use Rattle.std.proofs.lemmas.Bool.{cases_Bool, not-false}
+use Rattle.merge_laws.specs.Numbers.{has, tally}
 use Rattle.merge_laws.specs.Jobs.{JobGraph, IsJobGraph}
-use Rattle.merge_laws.specs.Runs.{has}
-use Rattle.merge_laws.specs.Claims.{Claims, IsFirst, tally, total, owed_for, owes, duties_on, dues}
-use Rattle.merge_laws.specs.Countdowns.{closed_state, open_state, ended_state, is_unended, unended_parts, unfinished, IsUnblocked, IsLed, AreExact}
+use Rattle.merge_laws.specs.Claims.{Claims, IsFirst, total, owed_for, owes, duties_on, dues}
+use Rattle.merge_laws.specs.Countdowns.{closed_state, ended_state, is_unended, unended_parts, unfinished, IsUnblocked, IsLed, AreExact}
 use Rattle.merge_laws.specs.CountSteps.{OpensPart, OpensSegment}
 use Rattle.merge_laws.specs.CountLaws.{PartOpeningsStayExact, SegmentOpeningsStayExact}
 use Rattle.merge_laws.proofs.Tests.{not_both, by_equal, and_of}

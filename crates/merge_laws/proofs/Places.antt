@@ -1,5 +1,5 @@
 -- A list of pieces and one piece more: what stays of the places, and who precedes whom.
-use Rattle.std.proofs.Common.{◌≡◌, ◌≢◌, ℕ, zero, suc, ◌<◌, ◌≤◌, ⊎_elim, Bool, true, cond, ◌&&◌, ◌||◌, not, eqb, ltb, List, [], ◌∷◌, length, ne_eqb, refl, sym, ap, subst, ◌∙◌, arith}
+use Rattle.std.proofs.Common.{◌≡◌, ◌≢◌, ℕ, ◌<◌, ⊎_elim, true, ◌&&◌, ◌||◌, not, eqb, ltb, List, [], ◌∷◌, length, ne_eqb, refl, sym, ap, subst, ◌∙◌, arith}
 use Rattle.std.proofs.lemmas.Bool.{or_left, or_right, and_parts, and_from, not_from_false, eq-eqb, ltb-true, lt-ltb}
 use Rattle.merge_laws.specs.Graph.{PieceGraph, LeadsTo, directly, further}
 use Rattle.merge_laws.specs.Pieces.{Piece, piece_at, latest_segment, is_before, precedes_in, graph_of}

@@ -1,11 +1,10 @@
 -- A plan can't get stuck, and a run can go on until it has ended.
-use Rattle.std.proofs.Common.{◌≡◌, ℕ, zero, suc, ◌<◌, ◌≤◌, ◌⊎◌, inl, inr, ⊎_elim, Bool, true, false, List, [], ◌∷◌, refl, subst, sym, ◌∙◌, arith, Option, Some, None}
+use Rattle.std.proofs.Common.{◌≡◌, ℕ, zero, suc, ◌<◌, ◌⊎◌, inl, inr, ⊎_elim, Bool, true, false, List, [], ◌∷◌, refl, subst, sym, ◌∙◌, arith, Option, Some, None}
 use Rattle.std.proofs.lemmas.Bool.{cases_Bool}
-use Rattle.merge_laws.specs.Graph.{PieceGraph, IsWellOrdered}
+use Rattle.merge_laws.specs.Graph.{PieceGraph}
 use Rattle.merge_laws.specs.Core.{Lease}
-use Rattle.merge_laws.specs.Steps.{MayBegin}
 use Rattle.merge_laws.specs.MergeLaws.{APieceMayBegin}
-use Rattle.merge_laws.specs.Runs.{RunState, start, core_of, Event, take, steal, finish, IsLegal, with_lease, finished, after, run, IsLegalRun, IsEnded, RunsCanGoOn}
+use Rattle.merge_laws.specs.Runs.{RunState, start, core_of, Event, take, steal, finish, IsLegal, finished, after, run, IsLegalRun, RunsCanGoOn}
 use Rattle.merge_laws.proofs.Tests.{none_some, by_equal}
 use Rattle.merge_laws.proofs.Merging.{changed}
 use Rattle.merge_laws.proofs.Running.{with_lease_changes}

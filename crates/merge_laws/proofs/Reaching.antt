@@ -1,16 +1,16 @@
 -- A new board meets the rule, each step is a step of the core, states go up one by one, and so for whatever a board reaches.
-use Rattle.std.proofs.Common.{◌≡◌, ◌≢◌, ℕ, zero, suc, ◌+◌, ◌<◌, ◌≤◌, ◌⊎◌, inl, inr, ⊎_elim, Bool, true, false, cond, not, ◌&&◌, eqb, ne_eqb, List, [], ◌∷◌, refl, sym, ap, subst, ◌∙◌, arith, Some, None}
+use Rattle.std.proofs.Common.{◌≡◌, ◌≢◌, ℕ, zero, suc, ◌+◌, ◌<◌, ◌≤◌, ◌⊎◌, inl, inr, ⊎_elim, Bool, true, false, cond, not, ◌&&◌, eqb, ne_eqb, [], ◌∷◌, refl, sym, ap, subst, ◌∙◌, arith, Some}
 use Rattle.std.specs.Prelude.{slice_get}
+use Rattle.merge_laws.specs.Numbers.{has, tally}
 use Rattle.merge_laws.specs.Graph.{PieceGraph, cells_before, IsWellOrdered}
 use Rattle.merge_laws.specs.Core.{Lease}
 use Rattle.merge_laws.specs.Merge.{after_latest}
 use Rattle.merge_laws.specs.Jobs.{JobGraph, IsJobGraph, HasParts, IsOf}
-use Rattle.merge_laws.specs.Runs.{has}
-use Rattle.merge_laws.specs.Claims.{Claims, tally, total, owes, dues}
+use Rattle.merge_laws.specs.Claims.{Claims, total, owes, dues}
 use Rattle.merge_laws.specs.Countdowns.{is_unended, unended_parts, AreExact}
 use Rattle.merge_laws.specs.CountSteps.{ChangesWord}
-use Rattle.merge_laws.specs.Rule.{Moment, core_at, AreHeld, IsRuled, first_claims, IsOpening}
-use Rattle.merge_laws.specs.BoardSteps.{Step, stores, begins, ends_part, ends_segment, counts, releases, opens_part, opens_segment, sees, splits, joins, Reaches, here, onward}
+use Rattle.merge_laws.specs.Rule.{Moment, core_at, IsRuled, first_claims, IsOpening}
+use Rattle.merge_laws.specs.BoardSteps.{stores, begins, ends_part, ends_segment, counts, releases, opens_part, opens_segment, sees, splits, joins, Reaches, here, onward}
 use Rattle.merge_laws.specs.BoardLaws.{NewBoardsAreRuled, CoreStep, StepsAreCoreSteps, StatesGoOneByOne, BoardsStayRuled, StatesNeverFall}
 use Rattle.merge_laws.specs.BoardLaws as laws
 use Rattle.merge_laws.proofs.Tests.{not_both, none_some, some_is, by_equal}

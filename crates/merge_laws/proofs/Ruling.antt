@@ -1,14 +1,13 @@
 -- A board keeps its rule from the opening to the end.
-use Rattle.std.proofs.Common.{◌≡◌, ◌≢◌, ℕ, suc, ◌+◌, ◌<◌, ◌≤◌, ◌⊎◌, inl, inr, ⊎_elim, Bool, true, false, eqb, eq-eqb, List, [], ◌∷◌, ◌++◌, refl, sym, ap, subst, ◌∙◌, arith, Some, None}
+use Rattle.std.proofs.Common.{◌≡◌, ◌≢◌, ℕ, ◌<◌, ⊎_elim, true, eq-eqb, List, [], ◌∷◌, ◌++◌, refl, sym, ap, subst, ◌∙◌, arith, Some}
 use Rattle.std.specs.Prelude.{slice_get, slice_set}
-use Rattle.merge_laws.specs.Graph.{PieceGraph, cells_before, IsWellOrdered}
-use Rattle.merge_laws.specs.Core.{Lease, Core, IsReady}
+use Rattle.merge_laws.specs.Graph.{PieceGraph, IsWellOrdered}
+use Rattle.merge_laws.specs.Core.{Lease, IsReady}
 use Rattle.merge_laws.specs.Jobs.{JobGraph, IsJobGraph, IsPredecessor, starts, feeds, comes_before, is_awaited, IsOf}
 use Rattle.merge_laws.specs.Claims.{Claims, IsFirst}
 use Rattle.merge_laws.specs.Countdowns.{closed_state, ended_state, IsUnblocked, IsLed, AreExact}
-use Rattle.merge_laws.specs.CountSteps.{ChangesWord, SameSegments}
-use Rattle.merge_laws.specs.Rule.{Moment, core_at, AreHeld, IsRuled, IsOver}
-use Rattle.merge_laws.specs.BoardSteps.{ChangesClaims, SameCounts, IsStore, IsBegin, IsPartEnd, IsSegmentEnd, IsCount, IsRelease, IsPartOpening, IsSegmentOpening, IsLook, IsSplit, IsJoin, Step, stores, begins, ends_part, ends_segment, counts, releases, opens_part, opens_segment, sees, splits, joins}
+use Rattle.merge_laws.specs.Rule.{Moment, core_at, IsRuled}
+use Rattle.merge_laws.specs.BoardSteps.{ChangesClaims, IsStore, IsBegin, IsPartEnd, IsSegmentEnd, IsCount, IsRelease, IsPartOpening, IsSegmentOpening, IsLook, IsSplit, IsJoin, stores, begins, ends_part, ends_segment, counts, releases, opens_part, opens_segment, sees, splits, joins}
 use Rattle.merge_laws.specs.BoardLaws.{UnblockedPiecesAreReady, StepsKeepTheRule, LeasedWordsHoldLocalCells, ClosedBoardsAreInScriptOrder}
 use Rattle.merge_laws.proofs.Tests.{by_equal, none_some, some_is}
 use Rattle.merge_laws.proofs.Order.{merged_up_to}
@@ -185,15 +184,15 @@ module _ (g : PieceGraph) (h : JobGraph) (o : IsWellOrdered g) (G : IsJobGraph h
       -- a lease of before under another key than k
       let stays : (a i : ℕ) (l : Lease) → a ≢ k → m.lease a ≡ Some l → i < h.segments → l.piece ≡ h.segment_at i → (x : Claims) × (slice_get n.claims a ≡ Some x) × IsFirst x = λ a i l ne e lt q.
       let v = R.segment_leases a i l e lt q in by_equal a j
-      (λ s. subst (λ b. (x : Claims) × (slice_get n.claims b ≡ Some x) × IsFirst x) (sym s) (by_u (subst (λ c. IsFirst c) (sym (one_at m.claims j a v.0 X.u s X.at_j v.1)) v.2)))
+      (λ s. let same : X.u ≡ v.0 = one_at m.claims j a v.0 X.u s X.at_j v.1 in subst (λ b. (x : Claims) × (slice_get n.claims b ≡ Some x) × IsFirst x) (sym s) (by_u (subst (λ c. IsFirst c) (sym same) v.2)))
       (λ ns. (v.0, ap (λ l. slice_get l a) X.claims ∙ (joined_off m.claims j k X.u X.v X.w X.x X.apart X.at_j X.at_k a ns ne ∙ v.1), v.2)) in
       record {
         held = ⊎_elim (λ t. held_same g m n R.held (ready_all g h n T C) X.state X.cells t.1) (λ t. held_handed g m n R.held (ready_all g h n T C) k j X.apart t X.state X.cells) X.leases;
         exact = C;
         segment_leases = λ a i l e lt q. ⊎_elim
-            (λ t. let old : m.lease a ≡ Some l = sym (ap (λ f. f a) t.1) ∙ e in stays a i l (λ s. none_some (sym t.0 ∙ (ap m.lease (sym s) ∙ old))) old lt q)
+            (λ t. let old : m.lease a ≡ Some l = sym (ap (λ f. f a) t.1) ∙ e in stays a i l (λ s. let gone : m.lease a ≡ None = ap m.lease s ∙ t.0 in none_some (sym gone ∙ old)) old lt q)
             (λ t. ⊎_elim
-            (λ y. let v = R.segment_leases k i l y.1 lt q in subst (λ b. (x : Claims) × (slice_get n.claims b ≡ Some x) × IsFirst x) (sym y.0) (by_v (subst (λ c. IsFirst c) (some_is (sym v.1 ∙ X.at_k)) v.2)))
+            (λ y. let v = R.segment_leases k i l y.1 lt q in subst (λ b. (x : Claims) × (slice_get n.claims b ≡ Some x) × IsFirst x) (sym y.0) (by_v (let same : v.0 ≡ X.v = some_is (sym v.1 ∙ X.at_k) in subst (λ c. IsFirst c) same v.2)))
             (λ y. stays a i l y.1 y.2 lt q) (handed_from m.lease n.lease k j t a l e)) X.leases;
       }
 

@@ -1,9 +1,10 @@
 -- Each event keeps what a state has to keep, and so does a list of events.
-use Rattle.std.proofs.Common.{◌≡◌, ℕ, ◌<◌, ⊎_elim, Bool, true, false, cond, ◌||◌, List, [], ◌∷◌, eq-eqb, ne_eqb, refl, sym, ap, subst, ◌∙◌, arith, Option, Some, None}
+use Rattle.std.proofs.Common.{◌≡◌, ℕ, ⊎_elim, Bool, true, cond, ◌||◌, List, [], ◌∷◌, eq-eqb, ne_eqb, refl, sym, ap, subst, ◌∙◌, arith, Option, Some, None}
+use Rattle.merge_laws.specs.Numbers.{has}
 use Rattle.merge_laws.specs.Graph.{PieceGraph, cells_before, IsWellOrdered}
 use Rattle.merge_laws.specs.Core.{Lease}
 use Rattle.merge_laws.specs.Steps.{ChangesLease, Begins, Ends}
-use Rattle.merge_laws.specs.Runs.{has, RunState, start, core_of, Event, take, steal, finish, with_lease, MayTake, IsLegal, taken, finished, after, run, IsLegalRun, IsKept, IsEnded, RunsKeepTheMerge, EndedRunsAreInScriptOrder, EndedRunsAgree}
+use Rattle.merge_laws.specs.Runs.{RunState, start, core_of, Event, take, steal, finish, with_lease, MayTake, IsLegal, taken, finished, after, run, IsLegalRun, IsKept, IsEnded, RunsKeepTheMerge, EndedRunsAreInScriptOrder, EndedRunsAgree}
 use Rattle.merge_laws.proofs.Tests.{not_both, some_is, none_some, chosen, not_chosen}
 use Rattle.merge_laws.proofs.Order.{merged_up_to, latest_none}
 use Rattle.merge_laws.proofs.Merging.{what_may_begin_is_clear, begins_keep_the_merge, ends_keep_the_merge, changed, same_piece}

@@ -1,5 +1,5 @@
 -- A piece of the newest job is listed, and the pieces stay in order; and so for all its pieces.
-use Rattle.std.proofs.Common.{◌≡◌, ◌≢◌, ℕ, suc, ◌<◌, ◌≤◌, ◌⊎◌, inl, inr, ⊎_elim, Bool, true, eqb, eqb-true, List, [], ◌∷◌, ◌++◌, length, refl, sym, ap, subst, ◌∙◌, arith}
+use Rattle.std.proofs.Common.{◌≡◌, ◌≢◌, ℕ, suc, ◌<◌, ◌≤◌, ◌⊎◌, inl, inr, ⊎_elim, true, eqb, eqb-true, List, [], ◌∷◌, ◌++◌, length, refl, sym, ap, subst, ◌∙◌, arith}
 use Rattle.std.proofs.lemmas.Bool.{or_cases}
 use Rattle.merge_laws.specs.Graph.{LeadsTo, directly}
 use Rattle.merge_laws.specs.Pieces.{Piece, piece_at, latest_segment, graph_of}

@@ -1,9 +1,9 @@
 -- Counts over numbers, sums over participants, and the duties and rights of lists.
-use Rattle.std.proofs.Common.{◌≡◌, ◌≢◌, ℕ, zero, suc, ◌+◌, ◌<◌, ◌≤◌, ◌⊎◌, inl, inr, ⊎_elim, Bool, true, false, cond, ◌||◌, eqb, eq-eqb, ne_eqb, eqb-true, List, [], ◌∷◌, ◌++◌, refl, sym, ap, subst, ◌∙◌, arith, Some, None}
+use Rattle.std.proofs.Common.{◌≡◌, ◌≢◌, ℕ, zero, suc, ◌+◌, ◌<◌, ◌≤◌, ◌⊎◌, inl, inr, ⊎_elim, Bool, true, false, ◌||◌, eqb, eq-eqb, ne_eqb, List, [], ◌∷◌, ◌++◌, refl, sym, ap, subst, ◌∙◌, arith, Some}
 use Rattle.std.specs.Prelude.{slice_get, slice_set}
 use Rattle.std.proofs.lemmas.Bool.{cases_Bool, cond-true, cond-false}
-use Rattle.merge_laws.specs.Runs.{has}
-use Rattle.merge_laws.specs.Claims.{Predecessor, by_job, Duty, Claims, tally, total, duties_on, is_of_segment, has_segment_duty, duties_from, without_duty, numbers_of, without_number}
+use Rattle.merge_laws.specs.Numbers.{has, numbers_of, tally, without_number}
+use Rattle.merge_laws.specs.Claims.{Predecessor, by_job, Duty, Claims, total, duties_on, is_of_segment, has_segment_duty, duties_from, without_duty}
 use Rattle.merge_laws.proofs.Tests.{not_both, some_is, none_some, by_equal, chosen, not_chosen}
 
 -- COUNTS

@@ -1,5 +1,5 @@
 -- Small lemmas on tests, options and numbers.
-use Rattle.std.proofs.Common.{◌≡◌, ◌≢◌, ℕ, ◌<◌, ◌⊎◌, ⊎_elim, Bool, true, false, cond, ◌&&◌, ◌||◌, not, eqb, eq-eqb, ne_eqb, refl, sym, ap, ◌∙◌, arith, Option, Some, None}
+use Rattle.std.proofs.Common.{◌≡◌, ◌≢◌, ℕ, ◌<◌, ◌⊎◌, ⊎_elim, Bool, true, false, cond, ◌&&◌, not, eqb, eq-eqb, ne_eqb, ap, arith, Some, None}
 use Rattle.std.proofs.lemmas.Bool.{cases_eq}
 
 pub not_both : {b : Bool} → b ≡ true → b ≡ false → ⊥

@@ -1,12 +1,11 @@
 -- The diamond meets the premises of the laws.
-use Rattle.std.proofs.Common.{◌≡◌, ◌≢◌, ℕ, zero, suc, ◌<◌, ◌⊎◌, inl, inr, ⊎_elim, Bool, true, false, cond, ◌&&◌, ◌||◌, eqb, ltb, eqb-true, refl, sym, ap, subst, ◌∙◌, arith, ◌+ℤ◌, pos}
-use Rattle.std.proofs.lemmas.Bool.{or_cases, and_parts, and_from, or_left, cond-true, cond-false, eq-eqb, lt-ltb}
+use Rattle.std.proofs.Common.{◌≡◌, ℕ, zero, suc, ◌<◌, ◌⊎◌, inl, inr, ⊎_elim, true, false, cond, ◌&&◌, ◌||◌, eqb, ltb, eqb-true, refl, sym, ap, subst, ◌∙◌, arith, ◌+ℤ◌, pos}
+use Rattle.std.proofs.lemmas.Bool.{or_cases, and_parts, or_left, cond-true, cond-false, eq-eqb}
 use Rattle.merge_laws.specs.Graph.{Cells, cells_before, Conflicts, LeadsTo, directly, further, IsWellOrdered}
-use Rattle.merge_laws.specs.Jobs.{IsJobGraph, HasParts, IsPredecessor, starts, comes_before, is_awaited, IsOf}
-use Rattle.merge_laws.specs.Rule.{IsOpening}
-use Rattle.merge_laws.specs.Diamond.{diamond_reads, diamond_writes, diamond_precedes, diamond_value, diamond, diamond_jobs, new_diamond}
+use Rattle.merge_laws.specs.Jobs.{IsPredecessor, starts, comes_before, is_awaited}
+use Rattle.merge_laws.specs.Diamond.{diamond_reads, diamond_writes, diamond_precedes, diamond_value, diamond, diamond_jobs}
 use Rattle.merge_laws.specs.Examples.{DiamondIsAPlan}
-use Rattle.merge_laws.proofs.Tests.{not_both, by_equal, chosen, not_chosen}
+use Rattle.merge_laws.proofs.Tests.{not_both}
 
 writes_own : (p w : ℕ) → diamond_writes p w ≡ true → w ≡ p
 writes_own p w t = eqb-true w p (and_parts (eqb w p) (ltb p 4) t).0
@@ -138,7 +137,7 @@ diamond_is_a_plan = record {
   };
   opening = record {
     states = λ p. refl;
-    rests = λ j lt. below_one (λ i. 2 ≡ Rattle.merge_laws.specs.Claims.tally (λ p. (eqb p 1 || eqb p 2) && eqb i 0) 4) j lt refl;
+    rests = λ j lt. below_one (λ i. 2 ≡ Rattle.merge_laws.specs.Numbers.tally (λ p. (eqb p 1 || eqb p 2) && eqb i 0) 4) j lt refl;
     waits = λ j lt. refl;
     cells = λ w. refl;
     leases = λ k. refl;

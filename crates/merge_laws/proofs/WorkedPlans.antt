@@ -1,10 +1,10 @@
 -- The plan in which a word is used again, made step by step.
-use Rattle.std.proofs.Common.{◌≡◌, ◌≢◌, ℕ, zero, suc, ◌<◌, ◌≤◌, ◌⊎◌, inl, inr, ⊎_elim, Bool, true, false, cond, ◌&&◌, eqb, eqb-true, eq-eqb, List, [], ◌∷◌, refl, sym, ap, subst, ◌∙◌, arith, ℤ, pos, ◌+ℤ◌}
+use Rattle.std.proofs.Common.{◌≡◌, ℕ, zero, suc, ◌<◌, inl, inr, Bool, true, false, cond, ◌&&◌, eqb, eqb-true, eq-eqb, [], ◌∷◌, refl, sym, ap, ◌∙◌, arith, ℤ, pos, ◌+ℤ◌}
 use Rattle.std.proofs.lemmas.Bool.{and_parts, cond-true, cond-false}
 use Rattle.merge_laws.specs.Graph.{Cells, LeadsTo, directly, further}
 use Rattle.merge_laws.specs.Pieces.{Jobs, Piece, graph_of, precedes_in, IsFramed}
-use Rattle.merge_laws.specs.Ledger.{Ledger, IsLedger, Ancestor, own, older, IsFree, IsUsedBy, IsWrittenBy, AreInOrder, HasOlderParts}
-use Rattle.merge_laws.specs.Planning.{DoesMore, IsPartOfNewest, BeginsSegment, GoesOn}
+use Rattle.merge_laws.specs.Ledger.{IsLedger, AreInOrder}
+use Rattle.merge_laws.specs.Planning.{DoesMore, IsPartOfNewest}
 use Rattle.merge_laws.specs.Reuse.{only_1, no_job, giving, idle, ledger, nothing_live, at_first, with_container_0, with_job, with_job_completed, with_container_1, reusing, not_waiting, ReuseIsInOrder}
 use Rattle.merge_laws.proofs.Tests.{not_both}
 use Rattle.merge_laws.proofs.Places.{precedes_below}
@@ -95,7 +95,7 @@ started = parts_keep_order with_job (giving 0 no_job (λ c. pos 7) ∷ []) (givi
     (λ p lt q. absurd (first_only p lt q))
   where
     first_only : (p : ℕ) → p < 1 → (cond (eqb p 0) (giving 0 no_job (λ c. pos 7)) (Rattle.merge_laws.specs.Pieces.no_piece)).job ≡ 1 → ⊥
-    first_only zero lt q = let e : 0 ≡ 1 = q in omega arith
+    first_only zero lt q = let e : ◌≡◌ {A = ℕ} 0 1 = q in omega arith
     first_only (suc p) lt q = omega arith
 
 completed : AreInOrder with_job_completed (idle only_1 ∷ giving 1 no_job (λ c. c 0 +ℤ pos 1) ∷ giving 0 no_job (λ c. pos 7) ∷ [])

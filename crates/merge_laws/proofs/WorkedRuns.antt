@@ -1,8 +1,8 @@
 -- Worked runs of the diamond, and lists of events that are no runs.
-use Rattle.std.proofs.Common.{◌≡◌, ◌≢◌, ℕ, zero, suc, ◌<◌, ⊎_elim, Bool, true, false, List, [], ◌∷◌, refl, sym, ap, ◌∙◌, arith, Option, Some, None}
-use Rattle.merge_laws.specs.Core.{Lease, IsUnleased}
-use Rattle.merge_laws.specs.Steps.{MayBegin}
-use Rattle.merge_laws.specs.Runs.{RunState, start, core_of, Event, take, steal, finish, has, with_lease, MayTake, IsLegalRun, after, run, IsEnded}
+use Rattle.std.proofs.Common.{◌≡◌, ◌≢◌, ℕ, zero, suc, ◌<◌, ⊎_elim, Bool, true, [], ◌∷◌, refl, sym, ◌∙◌, arith, Option, Some, None}
+use Rattle.merge_laws.specs.Numbers.{has}
+use Rattle.merge_laws.specs.Core.{Lease}
+use Rattle.merge_laws.specs.Runs.{RunState, start, take, steal, finish, with_lease, MayTake, IsLegalRun, after, run, IsEnded}
 use Rattle.merge_laws.specs.Diamond.{diamond_precedes, diamond, crossed}
 use Rattle.merge_laws.specs.Examples.{DiamondRuns, IllegalRuns}
 use Rattle.merge_laws.proofs.Tests.{not_both, none_some}

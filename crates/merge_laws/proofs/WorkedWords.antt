@@ -1,10 +1,10 @@
 -- Worked merges and countdowns of the diamond.
-use Rattle.std.proofs.Common.{◌≡◌, ◌≢◌, ℕ, zero, suc, ◌<◌, ◌⊎◌, inl, inr, ⊎_elim, Bool, true, false, cond, eqb, eqb-true, ne_eqb, List, [], ◌∷◌, refl, sym, ap, subst, ◌∙◌, arith, ℤ, pos, Option, Some, None}
+use Rattle.std.proofs.Common.{◌≡◌, ℕ, zero, suc, ◌⊎◌, inl, inr, ⊎_elim, true, false, cond, eqb, eqb-true, ne_eqb, [], ◌∷◌, refl, sym, ap, subst, ◌∙◌, arith, ℤ, pos, Option, Some, None}
 use Rattle.std.specs.Prelude.{nat_abs, slice_get}
+use Rattle.merge_laws.specs.Numbers.{has}
 use Rattle.merge_laws.specs.Graph.{Cells}
-use Rattle.merge_laws.specs.Runs.{has}
 use Rattle.merge_laws.specs.Claims.{Claims}
-use Rattle.merge_laws.specs.Core.{Lease, Core, IsSound}
+use Rattle.merge_laws.specs.Core.{Lease, IsSound}
 use Rattle.merge_laws.specs.Diamond.{diamond_precedes, diamond}
 use Rattle.merge_laws.specs.Examples.{both_leased, DiamondMerges, one_segment, rightful, DiamondCounts}
 use Rattle.merge_laws.proofs.Tests.{not_both, none_some, by_equal, chosen, not_chosen}

@@ -1,5 +1,5 @@
 -- The laws of a board without locks.
-use Rattle.std.specs.Prelude.{◌≡◌, ◌≢◌, ℕ, suc, ◌≤◌, ◌<◌, true, ◌⊎◌, ℤ, Some}
+use Rattle.std.specs.Prelude.{◌≡◌, ◌≢◌, ℕ, suc, ◌≤◌, true, ◌⊎◌, ℤ, Some}
 use Rattle.merge_laws.specs.Graph.{PieceGraph, cells_before, IsWellOrdered}
 use Rattle.merge_laws.specs.Core.{Lease, Core, IsReady}
 use Rattle.merge_laws.specs.Steps.{HandsOver, MayBegin, Begins, Stores, Ends}

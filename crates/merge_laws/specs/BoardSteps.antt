@@ -1,5 +1,5 @@
 -- The atomic steps of a board without locks. The participant k takes each; what a step doesn't name stays.
-use Rattle.std.specs.Prelude.{◌≡◌, ◌≢◌, ℕ, suc, ◌<◌, true, ◌⊎◌, List, [], ◌∷◌, ◌++◌, ℤ, Option, Some, None, slice_get, slice_set}
+use Rattle.std.specs.Prelude.{◌≡◌, ◌≢◌, ℕ, suc, ◌<◌, true, ◌⊎◌, [], ◌∷◌, ◌++◌, ℤ, Some, None, slice_get, slice_set}
 use Rattle.merge_laws.specs.Graph.{Cells, PieceGraph, cells_before}
 use Rattle.merge_laws.specs.Core.{Lease}
 use Rattle.merge_laws.specs.Steps.{ChangesLease, HandsOver, Stores}

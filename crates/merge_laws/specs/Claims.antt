@@ -1,6 +1,5 @@
 -- What each participant of a run holds beside its lease: what it still has to count and to release, and what it may open.
-use Rattle.std.specs.Prelude.{◌≡◌, ◌≢◌, ℕ, zero, suc, ◌+◌, Bool, true, false, ◌||◌, List, [], ◌∷◌, nat_eq, if◌then◌else◌, Option, Some, None}
-use Rattle.merge_laws.specs.Runs.{has}
+use Rattle.std.specs.Prelude.{◌≡◌, ℕ, zero, suc, ◌+◌, Bool, true, false, ◌||◌, List, [], ◌∷◌, nat_eq, if◌then◌else◌, Option, Some, None}
 
 -- a predecessor of a job: the segment that starts it, or a job that it depends on
 pub data Predecessor : Type 0 where
@@ -30,11 +29,6 @@ pub record Claims : Type 0 where
 
 abbrev pub IsFirst : Claims → Type 0
 IsFirst v = (v.number ≡ 0) × (v.spent ≡ false)
-
--- how many of the first n numbers pass the test
-abbrev pub tally : (ℕ → Bool) → ℕ → ℕ
-tally test zero = 0
-tally test (suc n) = if test n then suc (tally test n) else tally test n
 
 -- the sum over all participants
 abbrev pub total : (Claims → ℕ) → List Claims → ℕ
@@ -66,7 +60,7 @@ abbrev pub has_segment_duty : List Duty → Bool
 has_segment_duty [] = false
 has_segment_duty (d ∷ ds) = is_of_segment d.predecessor || has_segment_duty ds
 
--- The lists that a participant can keep.
+-- The lists of duties that a participant can keep. Its rights can be kept as `numbers_of` and `without_number`.
 
 -- the duties from one predecessor, on each of the first n jobs that pass the test
 abbrev pub duties_from : Predecessor → (ℕ → Bool) → ℕ → List Duty
@@ -77,12 +71,3 @@ duties_from from test (suc n) = if test n then record { predecessor = from; job 
 abbrev pub without_duty : ℕ → List Duty → List Duty
 without_duty j [] = []
 without_duty j (d ∷ ds) = if nat_eq d.job j then ds else d ∷ without_duty j ds
-
--- those of the first n numbers that pass the test
-abbrev pub numbers_of : (ℕ → Bool) → ℕ → List ℕ
-numbers_of test zero = []
-numbers_of test (suc n) = if test n then n ∷ numbers_of test n else numbers_of test n
-
-abbrev pub without_number : ℕ → List ℕ → List ℕ
-without_number p [] = []
-without_number p (q ∷ qs) = if nat_eq p q then without_number p qs else q ∷ without_number p qs

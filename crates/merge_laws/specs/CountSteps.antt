@@ -1,10 +1,10 @@
 -- The atomic steps on states and countdowns. Each names what one participant held before and holds after, and which word changed; all other
 -- words and participants stay.
-use Rattle.std.specs.Prelude.{◌≡◌, ◌≢◌, ℕ, suc, ◌+◌, ◌<◌, Bool, true, false, ◌||◌, ◌⊎◌, ◌∷◌, List, [], nat_eq, Option, Some, None}
+use Rattle.std.specs.Prelude.{◌≡◌, ◌≢◌, ℕ, suc, ◌+◌, ◌<◌, Bool, true, false, ◌||◌, ◌⊎◌, ◌∷◌, [], nat_eq, Some, None}
+use Rattle.merge_laws.specs.Numbers.{has}
 use Rattle.merge_laws.specs.Jobs.{JobGraph}
-use Rattle.merge_laws.specs.Runs.{has}
 use Rattle.merge_laws.specs.Claims.{Claims, IsFirst, owes, dues, has_segment_duty}
-use Rattle.merge_laws.specs.Countdowns.{closed_state, open_state, begun_state, ended_state}
+use Rattle.merge_laws.specs.Countdowns.{open_state, begun_state, ended_state}
 
 -- the words after are those before, but for the word i, which is x
 pub record ChangesWord (before after : ℕ → ℕ) (i x : ℕ) : Type 0 where

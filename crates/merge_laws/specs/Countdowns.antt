@@ -1,9 +1,9 @@
 -- The countdowns between two atomic steps. Each piece has a state. Each job has the word `rest`, which counts down its pieces, and the word
 -- `wait`, which counts down its predecessors.
 use Rattle.std.specs.Prelude.{◌≡◌, ◌≢◌, ℕ, suc, ◌+◌, ◌<◌, Bool, true, false, not, ◌&&◌, ◌⊎◌, List, nat_eq, if◌then◌else◌, Some, slice_get}
+use Rattle.merge_laws.specs.Numbers.{has, tally}
 use Rattle.merge_laws.specs.Jobs.{JobGraph}
-use Rattle.merge_laws.specs.Runs.{has}
-use Rattle.merge_laws.specs.Claims.{Claims, IsFirst, tally, total, owes, dues, has_segment_duty}
+use Rattle.merge_laws.specs.Claims.{Claims, IsFirst, total, owes, dues, has_segment_duty}
 
 -- The states of a piece, in the order in which it goes through them.
 abbrev pub closed_state : ℕ

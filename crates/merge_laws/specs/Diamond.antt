@@ -1,6 +1,6 @@
 -- A worked plan: segment 0 makes a number, the two pieces of a job each make one of it, and the last segment adds these up. The pieces of the
 -- job commute.
-use Rattle.std.specs.Prelude.{◌≡◌, ℕ, zero, suc, Bool, true, false, ◌&&◌, ◌||◌, nat_eq, nat_lt, if◌then◌else◌, List, [], ◌∷◌, ℤ, pos, ◌+ℤ◌, None}
+use Rattle.std.specs.Prelude.{ℕ, zero, suc, Bool, true, false, ◌&&◌, ◌||◌, nat_eq, nat_lt, if◌then◌else◌, List, [], ◌∷◌, ℤ, pos, ◌+ℤ◌, None}
 use Rattle.merge_laws.specs.Graph.{Cells, PieceGraph}
 use Rattle.merge_laws.specs.Runs.{Event, take, steal, finish}
 use Rattle.merge_laws.specs.Jobs.{JobGraph}

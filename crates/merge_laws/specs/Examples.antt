@@ -1,5 +1,5 @@
 -- Worked examples on the diamond. Each would fail if a definition were turned.
-use Rattle.std.specs.Prelude.{◌≡◌, ℕ, ◌<◌, Bool, true, false, ◌||◌, nat_eq, if◌then◌else◌, List, [], ◌∷◌, ℤ, pos, Some, None, slice_get}
+use Rattle.std.specs.Prelude.{◌≡◌, ℕ, Bool, true, false, ◌||◌, nat_eq, if◌then◌else◌, [], ◌∷◌, ℤ, pos, Some, None}
 use Rattle.merge_laws.specs.Graph.{Cells, cells_before, IsWellOrdered, LeadsTo}
 use Rattle.merge_laws.specs.Core.{Lease, Core, IsSound}
 use Rattle.merge_laws.specs.Merge.{merged_cells, IsMerged, IsInPlace}
@@ -7,7 +7,7 @@ use Rattle.merge_laws.specs.Runs.{start, run, take, steal, finish, IsLegalRun, I
 use Rattle.merge_laws.specs.Jobs.{IsJobGraph, HasParts, IsOf}
 use Rattle.merge_laws.specs.Claims.{Claims}
 use Rattle.merge_laws.specs.Countdowns.{AreExact}
-use Rattle.merge_laws.specs.Rule.{IsOpening, IsRuled, first_claims}
+use Rattle.merge_laws.specs.Rule.{IsOpening, first_claims}
 use Rattle.merge_laws.specs.Diamond.{diamond, diamond_jobs, new_diamond, straight, crossed}
 
 -- The premises are met.

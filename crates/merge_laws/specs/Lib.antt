@@ -1,3 +1,4 @@
+pub mod Numbers
 pub mod Graph
 pub mod Core
 pub mod Merge

@@ -1,6 +1,6 @@
 -- The laws of planning: each way of going on keeps the pieces in order, across the reuse of words, and pieces in order make a well ordered
 -- plan.
-use Rattle.std.specs.Prelude.{◌≡◌, ◌≢◌, ℕ, ◌<◌, ◌≤◌, true, false, List, [], ◌∷◌, ◌++◌, length, Some}
+use Rattle.std.specs.Prelude.{◌≡◌, ℕ, ◌<◌, ◌≤◌, true, false, List, [], ◌∷◌, ◌++◌, length, Some}
 use Rattle.merge_laws.specs.Graph.{PieceGraph, LeadsTo, IsWellOrdered}
 use Rattle.merge_laws.specs.Core.{Lease, Core, IsSound}
 use Rattle.merge_laws.specs.Pieces.{Words, Piece, piece_at, graph_of, AreFramed}

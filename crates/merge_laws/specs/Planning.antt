@@ -1,5 +1,5 @@
 -- The ways in which a plan goes on.
-use Rattle.std.specs.Prelude.{◌≡◌, ℕ, ◌<◌, ◌≤◌, Bool, true, false, ◌⊎◌, nat_eq, if◌then◌else◌, List, [], ◌∷◌, length}
+use Rattle.std.specs.Prelude.{◌≡◌, ℕ, ◌<◌, ◌≤◌, true, false, ◌⊎◌, nat_eq, if◌then◌else◌, List, [], ◌∷◌, length}
 use Rattle.merge_laws.specs.Pieces.{Words, Piece, piece_at}
 use Rattle.merge_laws.specs.Ledger.{Ledger, IsFree, IsUsedBy, IsWrittenBy}
 

@@ -1,7 +1,7 @@
 -- A worked plan in which a word is used again. Container 0 has word 0; a job writes it; the script completes the job and disposes the
 -- container, and makes container 1, which gets word 0 again.
 use Rattle.std.specs.Prelude.{◌≡◌, ℕ, Bool, true, false, ◌&&◌, nat_eq, if◌then◌else◌, List, [], ◌∷◌, ℤ, pos, ◌+ℤ◌}
-use Rattle.merge_laws.specs.Graph.{Cells, LeadsTo, IsWellOrdered}
+use Rattle.merge_laws.specs.Graph.{Cells, IsWellOrdered}
 use Rattle.merge_laws.specs.Pieces.{Piece, Jobs, Words, graph_of, precedes_in, cells_after}
 use Rattle.merge_laws.specs.Ledger.{Ledger, AreInOrder}
 

@@ -1,10 +1,11 @@
 -- The rule of a board without locks: what its words and what the participants hold say together between any two atomic steps.
-use Rattle.std.specs.Prelude.{◌≡◌, ◌≢◌, ℕ, suc, ◌+◌, ◌<◌, Bool, true, false, List, [], ◌∷◌, nat_eq, pos, Option, Some, None, slice_get}
-use Rattle.merge_laws.specs.Graph.{Cells, PieceGraph, cells_before}
+use Rattle.std.specs.Prelude.{◌≡◌, ◌≢◌, ℕ, ◌+◌, ◌<◌, false, List, [], ◌∷◌, nat_eq, pos, Option, Some, None, slice_get}
+use Rattle.merge_laws.specs.Numbers.{tally}
+use Rattle.merge_laws.specs.Graph.{Cells, PieceGraph}
 use Rattle.merge_laws.specs.Core.{Lease, Core, IsReady}
 use Rattle.merge_laws.specs.Merge.{IsMerged, IsInPlace}
 use Rattle.merge_laws.specs.Jobs.{JobGraph}
-use Rattle.merge_laws.specs.Claims.{Claims, IsFirst, tally}
+use Rattle.merge_laws.specs.Claims.{Claims, IsFirst}
 use Rattle.merge_laws.specs.Countdowns.{closed_state, begun_state, ended_state, AreExact}
 
 -- A moment between two steps: the state of each piece, the countdowns of each job, the cells, and what each participant holds: its lease, by

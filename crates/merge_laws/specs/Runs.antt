@@ -1,19 +1,11 @@
 -- Runs of a plan as lists of events: a worker takes a piece or steals one, and finishes it. Here leases are copied out, and the key of a lease
 -- is the number of the worker's seat.
-use Rattle.std.specs.Prelude.{◌≡◌, ℕ, ◌<◌, Bool, true, false, ◌||◌, ◌⊎◌, List, [], ◌∷◌, nat_eq, if◌then◌else◌, pos, Option, Some, None}
+use Rattle.std.specs.Prelude.{◌≡◌, ℕ, ◌<◌, true, ◌⊎◌, List, [], ◌∷◌, nat_eq, if◌then◌else◌, pos, Option, Some, None}
+use Rattle.merge_laws.specs.Numbers.{has, IsOnce}
 use Rattle.merge_laws.specs.Graph.{Cells, PieceGraph, cells_before, IsWellOrdered}
 use Rattle.merge_laws.specs.Core.{Lease, Core}
 use Rattle.merge_laws.specs.Merge.{IsConsistent}
 use Rattle.merge_laws.specs.Steps.{MayBegin}
-
-abbrev pub has : ℕ → List ℕ → Bool
-has p [] = false
-has p (q ∷ qs) = nat_eq p q || has p qs
-
--- no number stands twice in the list
-abbrev pub IsOnce : List ℕ → Type 0
-IsOnce [] = Unit {0}
-IsOnce (q ∷ qs) = (has q qs ≡ false) × IsOnce qs
 
 -- The state of a run: the ended pieces, the last one first, the lease of each seat, and the cells.
 pub record RunState : Type 0 where
