@@ -1,5 +1,5 @@
 -- A board keeps its rule from the opening to the end.
-use Rattle.std.proofs.Common.{◌≡◌, ◌≢◌, ℕ, ◌<◌, ⊎_elim, true, eq-eqb, List, [], ◌∷◌, ◌++◌, refl, sym, ap, subst, ◌∙◌, arith, Some}
+use Rattle.std.proofs.Common.{◌≡◌, ◌≢◌, ℕ, ◌<◌, ⊎_elim, true, eq-eqb, List, [], ◌∷◌, ◌++◌, refl, sym, ap, subst, ◌∙◌, arith, Some, None}
 use Rattle.std.specs.Prelude.{slice_get, slice_set}
 use Rattle.merge_laws.specs.Graph.{PieceGraph, IsWellOrdered}
 use Rattle.merge_laws.specs.Core.{Lease, IsReady}
