@@ -23,3 +23,4 @@ pub mod Progress
 pub mod Handing
 pub mod Joining
 pub mod WorkedPlans
+pub mod WorkedBoard

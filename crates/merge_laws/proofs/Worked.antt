@@ -7,7 +7,7 @@ use Rattle.merge_laws.specs.Diamond.{diamond_reads, diamond_writes, diamond_prec
 use Rattle.merge_laws.specs.Examples.{DiamondIsAPlan}
 use Rattle.merge_laws.proofs.Tests.{not_both}
 
-writes_own : (p w : ℕ) → diamond_writes p w ≡ true → w ≡ p
+pub writes_own : (p w : ℕ) → diamond_writes p w ≡ true → w ≡ p
 writes_own p w t = eqb-true w p (and_parts (eqb w p) (ltb p 4) t).0
 
 reads_own : (p w : ℕ) → p < 4 → diamond_writes p w ≡ true → diamond_reads p w ≡ true
@@ -18,10 +18,10 @@ reads_own (suc (suc (suc zero))) w lt t = or_left (eqb w 3) (eqb w 1 || eqb w 2)
 reads_own (suc (suc (suc (suc p)))) w lt t = absurd (omega arith)
 
 -- what the pieces of the job read
-reads_first : (w : ℕ) → diamond_reads 1 w ≡ true → (w ≡ 1) ⊎ (w ≡ 0)
+pub reads_first : (w : ℕ) → diamond_reads 1 w ≡ true → (w ≡ 1) ⊎ (w ≡ 0)
 reads_first w t = ⊎_elim (λ e. inl (eqb-true w 1 e)) (λ e. inr (eqb-true w 0 e)) (or_cases (eqb w 1) (eqb w 0) t)
 
-reads_second : (w : ℕ) → diamond_reads 2 w ≡ true → (w ≡ 2) ⊎ (w ≡ 0)
+pub reads_second : (w : ℕ) → diamond_reads 2 w ≡ true → (w ≡ 2) ⊎ (w ≡ 0)
 reads_second w t = ⊎_elim (λ e. inl (eqb-true w 2 e)) (λ e. inr (eqb-true w 0 e)) (or_cases (eqb w 2) (eqb w 0) t)
 
 -- they don't conflict
@@ -72,7 +72,7 @@ diamond_well_ordered = record {
 
 -- ITS JOB
 
-part_is : (p j : ℕ) → ((eqb p 1 || eqb p 2) && eqb j 0) ≡ true → ((p ≡ 1) ⊎ (p ≡ 2)) × (j ≡ 0)
+pub part_is : (p j : ℕ) → ((eqb p 1 || eqb p 2) && eqb j 0) ≡ true → ((p ≡ 1) ⊎ (p ≡ 2)) × (j ≡ 0)
 part_is p j t = let a = and_parts (eqb p 1 || eqb p 2) (eqb j 0) t in (⊎_elim (λ e. inl (eqb-true p 1 e)) (λ e. inr (eqb-true p 2 e)) (or_cases (eqb p 1) (eqb p 2) a.0), eqb-true j 0 a.1)
 
 no_part : (k j : ℕ) → k < 2 → ((eqb (cond (eqb k 0) 0 3) 1 || eqb (cond (eqb k 0) 0 3) 2) && eqb j 0) ≡ false
@@ -104,7 +104,7 @@ each (suc (suc zero)) lt = inr (0, omega arith, refl)
 each (suc (suc (suc zero))) lt = inl (1, omega arith, refl)
 each (suc (suc (suc (suc p)))) lt = absurd (omega arith)
 
-below_one : (P : ℕ → Type 0) (j : ℕ) → j < 1 → P 0 → P j
+pub below_one : (P : ℕ → Type 0) (j : ℕ) → j < 1 → P 0 → P j
 below_one P j lt x = let z : 0 ≡ j = omega arith in subst P z x
 
 -- who leads is earlier, and no piece is between the two of the job

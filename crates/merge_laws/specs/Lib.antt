@@ -20,3 +20,4 @@ pub mod PlanLaws
 pub mod Diamond
 pub mod Examples
 pub mod Reuse
+pub mod DiamondBoard

@@ -1,4 +1,4 @@
-//! Why the pieces of a plan may run in any order that keeps their predecessors, and on any number of threads: the laws that the runtime's core
+//! Why the pieces of a plan may run in any order that keeps their predecessors, and by any number of workers: the laws that the runtime's core
 //! and its boards stand on. There is no code here. The definitions stand in `specs/`, and each function here is a law: it does nothing, and its
 //! contract says the law over the definitions.
 //!

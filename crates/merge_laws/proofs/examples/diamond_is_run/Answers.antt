@@ -1,0 +1,5 @@
+use Rattle.merge_laws.proofs.WorkedBoard.{diamond_is_run}
+use Rattle.merge_laws.proofs.examples.diamond_is_run.Goals as goal
+
+pub returns : goal.returns
+returns c = diamond_is_run
