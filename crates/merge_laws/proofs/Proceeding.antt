@@ -121,12 +121,12 @@ module _ (l m : Ledger) (e : List Piece) (L : IsLedger l) (D : AreInOrder l e) (
   used_on : (j w : ℕ) → is_done l j ≡ true ⊎ IsUsedBy l j w → is_done m j ≡ true ⊎ IsUsedBy m j w
   used_on j w t = ⊎_elim (λ d. inl (sym (same_done j) ∙ d))
       (λ u. ⊎_elim (λ all. inl (sym (same_done j) ∙ done_completed l j (all j u.user)))
-      (λ k. inr (record { container = u.container; live = k.0; word = k.1 w u.word; user = k.2 j u.user })) (G.containers u.container u.live)) t
+      (λ k. inr (record { container = u.container; live = k.live; word = k.words w u.word; user = k.users j u.user })) (G.containers u.container u.live)) t
 
   written_on : (j w : ℕ) → is_done l j ≡ true ⊎ IsWrittenBy l j w → is_done m j ≡ true ⊎ IsWrittenBy m j w
   written_on j w t = ⊎_elim (λ d. inl (sym (same_done j) ∙ d))
       (λ u. ⊎_elim (λ all. inl (sym (same_done j) ∙ done_completed l j (all j (L.written u.container j u.writer))))
-      (λ k. inr (record { container = u.container; live = k.0; word = k.1 w u.word; writer = k.3 j u.writer })) (G.containers u.container u.live)) t
+      (λ k. inr (record { container = u.container; live = k.live; word = k.words w u.word; writer = k.writers j u.writer })) (G.containers u.container u.live)) t
 
   went_on : AreInOrder m e
   went_on = record {
@@ -168,7 +168,7 @@ module _ (l : Ledger) (x y : Piece) (e : List Piece) (c : ℕ) (new : Words) (L 
     jobs = omega arith;
     depends = λ j k le d. d;
     completed = λ j. refl;
-    containers = λ d ld. inr (ld, (λ w t. or_left (l.words d w) (eqb d c && new w) t), (λ j u. u), (λ j u. u));
+    containers = λ d ld. inr (record { live = ld; words = λ w t. or_left (l.words d w) (eqb d c && new w) t; users = λ j u. u; writers = λ j u. u });
   }
 
   word_of : (w : ℕ) → (l.words c w ≡ true ⊎ new w ≡ true) → (l.words c w || (eqb c c && new w)) ≡ true
@@ -179,8 +179,8 @@ module _ (l : Ledger) (x y : Piece) (e : List Piece) (c : ℕ) (new : Words) (L 
     segment = M.segment;
     job = M.job;
     after = M.after;
-    reads = λ w r. ⊎_elim (λ a. inl a) (λ a. inr (c, M.live, word_of w a, (λ j u. M.completed j (L.written c j u)))) (M.reads w r);
-    writes = λ w r. ⊎_elim (λ a. inl a) (λ a. inr (c, M.live, word_of w a, M.completed)) (M.writes w r);
+    reads = λ w r. ⊎_elim (λ a. inl a) (λ a. inr (record { container = c; live = M.live; word = word_of w a; completed = λ j u. M.completed j (L.written c j u) })) (M.reads w r);
+    writes = λ w r. ⊎_elim (λ a. inl a) (λ a. inr (record { container = c; live = M.live; word = word_of w a; completed = M.completed })) (M.writes w r);
     reads_written = M.reads_written;
   }
 
@@ -191,7 +191,7 @@ module _ (l : Ledger) (x y : Piece) (e : List Piece) (c : ℕ) (new : Words) (L 
     completed = λ j. refl;
     containers = λ d ld. by_equal d c
         (λ q. inl (λ j u. M.completed j (subst (λ b. l.users b j ≡ true) q u)))
-        (λ n. inr (ld, (λ w t. ⊎_elim (λ a. not_chosen d c (new w) (l.words d w) n ∙ a) (λ a. absurd (n (eqb-true d c (and_parts (eqb d c) (new w) a).0))) (or_cases (l.words d w) (eqb d c && new w) t)), (λ j u. u), (λ j u. u)));
+        (λ n. inr (record { live = ld; words = λ w t. ⊎_elim (λ a. not_chosen d c (new w) (l.words d w) n ∙ a) (λ a. absurd (n (eqb-true d c (and_parts (eqb d c) (new w) a).0))) (or_cases (l.words d w) (eqb d c && new w) t); users = λ j u. u; writers = λ j u. u }));
   }
 
   moved_ledger : IsLedger (with_words l c new)

@@ -61,7 +61,7 @@ module _ (l : Ledger) (x y : Piece) (e : List Piece) (L : IsLedger l) (D : AreIn
       (λ old. keeps_leads (D.conflicts_lead p (length e) w lt (omega arith) (inl (a', x_here (λ z. z.reads w ≡ true) old))))
       (λ c. ⊎_elim (λ d. arrives_here p lt d)
       (λ u. arrives_here p lt (done_completed l (piece_at (x ∷ e) p).job
-      (c.3 (piece_at (x ∷ e) p).job (subst (λ k. l.writers k (piece_at (x ∷ e) p).job ≡ true) (L.apart u.container c.0 w u.live c.1 u.word c.2) u.writer))))
+      (c.completed (piece_at (x ∷ e) p).job (subst (λ k. l.writers k (piece_at (x ∷ e) p).job ≡ true) (L.apart u.container c.container w u.live c.live u.word c.word) u.writer))))
       (D.writes_held p w (omega arith) a')) (T.reads w r)
 
   reader_leads : (p w : ℕ) → p < length e → (piece_at (y ∷ e) p).reads w ≡ true → y.writes w ≡ true → LeadsTo (graph_of (y ∷ e)) p (length e)
@@ -71,7 +71,7 @@ module _ (l : Ledger) (x y : Piece) (e : List Piece) (L : IsLedger l) (D : AreIn
       (λ old. keeps_leads (D.conflicts_lead p (length e) w lt (omega arith) (inr (a', x_here (λ z. z.writes w ≡ true) old))))
       (λ c. ⊎_elim (λ d. arrives_here p lt d)
       (λ u. arrives_here p lt (done_completed l (piece_at (x ∷ e) p).job
-      (c.3 (piece_at (x ∷ e) p).job (subst (λ k. l.users k (piece_at (x ∷ e) p).job ≡ true) (L.apart u.container c.0 w u.live c.1 u.word c.2) u.user))))
+      (c.completed (piece_at (x ∷ e) p).job (subst (λ k. l.users k (piece_at (x ∷ e) p).job ≡ true) (L.apart u.container c.container w u.live c.live u.word c.word) u.user))))
       (D.reads_held p w (omega arith) a')) (T.writes w r)
 
   touched_leads : (p q w : ℕ) → p < q → q < suc (length e)

@@ -54,8 +54,8 @@ makes jobs completed live after value c alive done = record {
   segment = refl;
   job = refl;
   after = λ j. refl;
-  reads = λ w r. inr (c, alive, r, done);
-  writes = λ w r. inr (c, alive, r, done);
+  reads = λ w r. inr (record { container = c; live = alive; word = r; completed = done });
+  writes = λ w r. inr (record { container = c; live = alive; word = r; completed = done });
   reads_written = λ w r. r;
 }
 
@@ -73,7 +73,7 @@ enrolled = ledgers_keep_order with_container_0 with_job (giving 0 no_job (λ c. 
   jobs = omega arith;
   depends = λ j k le d. d;
   completed = λ j. refl;
-  containers = λ c l. inr (l, (λ w t. t), (λ j u. absurd (nobody_uses c j u)), (λ j u. absurd (nobody_uses c j u)));
+  containers = λ c l. inr (record { live = l; words = λ w t. t; users = λ j u. absurd (nobody_uses c j u); writers = λ j u. absurd (nobody_uses c j u) });
 })
 
 job_part : IsPartOfNewest with_job (giving 1 no_job (λ c. c 0 +ℤ pos 1))

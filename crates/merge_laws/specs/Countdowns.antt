@@ -46,7 +46,8 @@ pub record IsLed (h : JobGraph) (state : ℕ → ℕ) (claims : List Claims) : T
   pub is_first : IsFirst first
   pub only : (k : ℕ) (v : Claims) → slice_get claims k ≡ Some v → IsFirst v → k ≡ place
   pub below : (k : ℕ) → k < h.segments → k < first.ended → state (h.segment_at k) ≡ ended_state
-  pub next_opened : first.ended < h.segments → first.opened ≡ true → (state (h.segment_at first.ended) ≡ open_state) ⊎ (state (h.segment_at first.ended) ≡ begun_state)
+  pub next_opened : first.ended < h.segments → first.opened ≡ true
+      → (state (h.segment_at first.ended) ≡ open_state) ⊎ (state (h.segment_at first.ended) ≡ begun_state)
   pub next_closed : first.ended < h.segments → first.opened ≡ false → state (h.segment_at first.ended) ≡ closed_state
   pub later : (k : ℕ) → k < h.segments → first.ended < k → state (h.segment_at k) ≡ closed_state
 
@@ -60,7 +61,8 @@ pub record AreExact (h : JobGraph) (state rest wait : ℕ → ℕ) (claims : Lis
   -- closed piece of such a job may be opened by someone.
   pub rights_are : (k p : ℕ) (v : Claims) → slice_get claims k ≡ Some v → has p v.rights ≡ true
       → (state p ≡ closed_state) × (p < h.pieces) × ((j : ℕ) × (j < h.jobs) × (h.is_part p j ≡ true) × (wait j ≡ 0))
-  pub rights_once : (i k p : ℕ) (u v : Claims) → slice_get claims i ≡ Some u → slice_get claims k ≡ Some v → has p u.rights ≡ true → has p v.rights ≡ true → i ≡ k
+  pub rights_once : (i k p : ℕ) (u v : Claims) → slice_get claims i ≡ Some u → slice_get claims k ≡ Some v
+      → has p u.rights ≡ true → has p v.rights ≡ true → i ≡ k
   pub rights_all : (p j : ℕ) → p < h.pieces → j < h.jobs → h.is_part p j ≡ true → wait j ≡ 0 → state p ≡ closed_state
       → (k : ℕ) × (v : Claims) × (slice_get claims k ≡ Some v) × (has p v.rights ≡ true)
   -- a piece that isn't closed is unblocked, and its job waits for nothing

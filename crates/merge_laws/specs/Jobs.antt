@@ -36,9 +36,11 @@ HasParts h = (j : ℕ) → j < h.jobs → (p : ℕ) × (p < h.pieces) × (h.is_p
 -- segment are the segment before it, and all pieces of the jobs that it waits for.
 pub data IsPredecessor (h : JobGraph) (q p : ℕ) : Type 0 where
   starts : (j : ℕ) → j < h.jobs → h.is_part p j ≡ true → q ≡ h.segment_at (h.starter j) → IsPredecessor h q p
-  feeds : (i j : ℕ) → i < h.jobs → j < h.jobs → h.is_part p j ≡ true → h.is_dependency i j ≡ true → q < h.pieces → h.is_part q i ≡ true → IsPredecessor h q p
+  feeds : (i j : ℕ) → i < h.jobs → j < h.jobs → h.is_part p j ≡ true → h.is_dependency i j ≡ true
+      → q < h.pieces → h.is_part q i ≡ true → IsPredecessor h q p
   comes_before : (k : ℕ) → suc k < h.segments → p ≡ h.segment_at (suc k) → q ≡ h.segment_at k → IsPredecessor h q p
-  is_awaited : (i k : ℕ) → i < h.jobs → k < h.segments → p ≡ h.segment_at k → h.waits k i ≡ true → q < h.pieces → h.is_part q i ≡ true → IsPredecessor h q p
+  is_awaited : (i k : ℕ) → i < h.jobs → k < h.segments → p ≡ h.segment_at k → h.waits k i ≡ true
+      → q < h.pieces → h.is_part q i ≡ true → IsPredecessor h q p
 
 -- The graph of jobs is one of the graph of pieces.
 pub record IsOf (h : JobGraph) (g : PieceGraph) : Type 0 where

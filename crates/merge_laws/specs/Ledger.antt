@@ -62,10 +62,13 @@ pub record AreInOrder (l : Ledger) (pieces : List Piece) : Type 0 where
   pub segment_below : latest_segment pieces < length pieces
   pub segment : (piece_at pieces (latest_segment pieces)).job ≡ 0
   -- segments and the pieces of completed jobs lead to the latest segment
-  pub arrived : (p : ℕ) → p < length pieces → is_done l (piece_at pieces p).job ≡ true → p ≡ latest_segment pieces ⊎ LeadsTo (graph_of pieces) p (latest_segment pieces)
+  pub arrived : (p : ℕ) → p < length pieces → is_done l (piece_at pieces p).job ≡ true
+      → p ≡ latest_segment pieces ⊎ LeadsTo (graph_of pieces) p (latest_segment pieces)
   -- a piece that reads, or writes, a word is done, or its job uses, or writes, a live container that has the word
-  pub reads_held : (p w : ℕ) → p < length pieces → (piece_at pieces p).reads w ≡ true → is_done l (piece_at pieces p).job ≡ true ⊎ IsUsedBy l (piece_at pieces p).job w
-  pub writes_held : (p w : ℕ) → p < length pieces → (piece_at pieces p).writes w ≡ true → is_done l (piece_at pieces p).job ≡ true ⊎ IsWrittenBy l (piece_at pieces p).job w
+  pub reads_held : (p w : ℕ) → p < length pieces → (piece_at pieces p).reads w ≡ true
+      → is_done l (piece_at pieces p).job ≡ true ⊎ IsUsedBy l (piece_at pieces p).job w
+  pub writes_held : (p w : ℕ) → p < length pieces → (piece_at pieces p).writes w ≡ true
+      → is_done l (piece_at pieces p).job ≡ true ⊎ IsWrittenBy l (piece_at pieces p).job w
   pub reads_written : (p w : ℕ) → (piece_at pieces p).writes w ≡ true → (piece_at pieces p).reads w ≡ true
   -- of two pieces with conflicting footprints the earlier leads to the later
   pub conflicts_lead : (p q w : ℕ) → p < q → q < length pieces → Conflicts (graph_of pieces) p q w → LeadsTo (graph_of pieces) p q

@@ -63,7 +63,8 @@ cells_after (x ∷ earlier) = x.effect (cells_after earlier)
 -- From cells that are, on what it reads, those before it, a piece makes on what it writes the same as from those before it, and keeps all
 -- other cells.
 pub record IsFramed (x : Piece) (before : Cells) : Type 0 where
-  pub written : (cells : Cells) → ((w : ℕ) → x.reads w ≡ true → cells w ≡ before w) → (w : ℕ) → x.writes w ≡ true → x.effect cells w ≡ x.effect before w
+  pub written : (cells : Cells) → ((w : ℕ) → x.reads w ≡ true → cells w ≡ before w)
+      → (w : ℕ) → x.writes w ≡ true → x.effect cells w ≡ x.effect before w
   pub kept : (cells : Cells) → ((w : ℕ) → x.reads w ≡ true → cells w ≡ before w) → (w : ℕ) → x.writes w ≡ false → x.effect cells w ≡ cells w
 
 abbrev pub AreFramed : List Piece → Type 0

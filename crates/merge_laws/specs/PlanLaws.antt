@@ -9,7 +9,8 @@ use Rattle.merge_laws.specs.Planning.{DoesMore, IsPartOfNewest, IsApartFromJob, 
 
 -- A plan begins with a segment that touches nothing yet.
 abbrev pub FirstSegmentsAreInOrder : Type 0
-FirstSegmentsAreInOrder = (l : Ledger) (z : Piece) → IsLedger l → z.job ≡ 0 → ((w : ℕ) → z.reads w ≡ false) → ((w : ℕ) → z.writes w ≡ false) → AreInOrder l (z ∷ [])
+FirstSegmentsAreInOrder = (l : Ledger) (z : Piece) → IsLedger l → z.job ≡ 0
+    → ((w : ℕ) → z.reads w ≡ false) → ((w : ℕ) → z.writes w ≡ false) → AreInOrder l (z ∷ [])
 
 abbrev pub SegmentsKeepOrder : Type 0
 SegmentsKeepOrder = (l : Ledger) (x y : Piece) (earlier : List Piece) → IsLedger l → AreInOrder l (x ∷ earlier) → DoesMore l x y → AreInOrder l (y ∷ earlier)

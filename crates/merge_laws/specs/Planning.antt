@@ -1,16 +1,23 @@
 -- The ways in which a plan goes on.
 use Rattle.std.specs.Prelude.{◌≡◌, ℕ, ◌<◌, ◌≤◌, true, false, ◌⊎◌, nat_eq, if◌then◌else◌, List, [], ◌∷◌, length}
-use Rattle.merge_laws.specs.Pieces.{Words, Piece, piece_at}
+use Rattle.merge_laws.specs.Pieces.{Jobs, Words, Piece, piece_at}
 use Rattle.merge_laws.specs.Ledger.{Ledger, IsFree, IsUsedBy, IsWrittenBy}
 
--- The segment at hand, x, does more and becomes y: it reads, or writes, a word only where it did before, or where a live container has it of
--- which all writers, or all users, are completed.
+-- A live container has the word, and all its jobs, of these for each container, are completed.
+pub record IsSettled (l : Ledger) (jobs : ℕ → Jobs) (w : ℕ) : Type 0 where
+  pub container : ℕ
+  pub live : l.live container ≡ true
+  pub word : l.words container w ≡ true
+  pub completed : (j : ℕ) → jobs container j ≡ true → l.completed j ≡ true
+
+-- The segment at hand, x, does more and becomes y: it reads a word only where it did before or all writers of the word's container are
+-- completed, and writes one only where it did before or all its users are.
 pub record DoesMore (l : Ledger) (x y : Piece) : Type 0 where
   pub segment : x.job ≡ 0
   pub job : y.job ≡ x.job
   pub after : (j : ℕ) → y.after j ≡ x.after j
-  pub reads : (w : ℕ) → y.reads w ≡ true → x.reads w ≡ true ⊎ ((c : ℕ) × (l.live c ≡ true) × (l.words c w ≡ true) × ((j : ℕ) → l.writers c j ≡ true → l.completed j ≡ true))
-  pub writes : (w : ℕ) → y.writes w ≡ true → x.writes w ≡ true ⊎ ((c : ℕ) × (l.live c ≡ true) × (l.words c w ≡ true) × ((j : ℕ) → l.users c j ≡ true → l.completed j ≡ true))
+  pub reads : (w : ℕ) → y.reads w ≡ true → x.reads w ≡ true ⊎ IsSettled l l.writers w
+  pub writes : (w : ℕ) → y.writes w ≡ true → x.writes w ≡ true ⊎ IsSettled l l.users w
   pub reads_written : (w : ℕ) → y.writes w ≡ true → y.reads w ≡ true
 
 -- y is a piece of the newest job, which the script hasn't completed. It touches only words of live containers that the job uses, or writes,
@@ -60,14 +67,20 @@ pub record BeginsSegment (l m : Ledger) (z : Piece) : Type 0 where
   pub users : (c j : ℕ) → m.users c j ≡ l.users c j
   pub writers : (c j : ℕ) → m.writers c j ≡ l.writers c j
 
+-- a live container stays live, and keeps at least its words, users and writers
+pub record StaysLive (l m : Ledger) (c : ℕ) : Type 0 where
+  pub live : m.live c ≡ true
+  pub words : (w : ℕ) → l.words c w ≡ true → m.words c w ≡ true
+  pub users : (j : ℕ) → l.users c j ≡ true → m.users c j ≡ true
+  pub writers : (j : ℕ) → l.writers c j ≡ true → m.writers c j ≡ true
+
 -- The ledger goes on and no piece does: a job is enrolled, a container is made, or the words of one come back, all of whose users are
 -- completed.
 pub record GoesOn (l m : Ledger) : Type 0 where
   pub jobs : l.jobs ≤ m.jobs
   pub depends : (j k : ℕ) → j ≤ l.jobs → m.depends j k ≡ true → l.depends j k ≡ true
   pub completed : (j : ℕ) → m.completed j ≡ l.completed j
-  pub containers : (c : ℕ) → l.live c ≡ true → ((j : ℕ) → l.users c j ≡ true → l.completed j ≡ true)
-      ⊎ ((m.live c ≡ true) × ((w : ℕ) → l.words c w ≡ true → m.words c w ≡ true) × ((j : ℕ) → l.users c j ≡ true → m.users c j ≡ true) × ((j : ℕ) → l.writers c j ≡ true → m.writers c j ≡ true))
+  pub containers : (c : ℕ) → l.live c ≡ true → ((j : ℕ) → l.users c j ≡ true → l.completed j ≡ true) ⊎ StaysLive l m c
 
 -- the ledger where one container has other words
 abbrev pub with_words : Ledger → ℕ → Words → Ledger

@@ -38,7 +38,8 @@ pub record IsRuled (g : PieceGraph) (h : JobGraph) (m : Moment) : Type 0 where
   pub held : AreHeld g m
   pub exact : AreExact h m.state m.rest m.wait m.claims
   -- only the first participant leases segments
-  pub segment_leases : (k i : ℕ) (l : Lease) → m.lease k ≡ Some l → i < h.segments → l.piece ≡ h.segment_at i → (v : Claims) × (slice_get m.claims k ≡ Some v) × IsFirst v
+  pub segment_leases : (k i : ℕ) (l : Lease) → m.lease k ≡ Some l → i < h.segments → l.piece ≡ h.segment_at i
+      → (v : Claims) × (slice_get m.claims k ≡ Some v) × IsFirst v
 
 -- what the first participant holds at first: nothing
 abbrev pub first_claims : Claims
