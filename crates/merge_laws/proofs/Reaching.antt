@@ -10,8 +10,8 @@ use Rattle.merge_laws.specs.Claims.{Claims, total, owes, dues}
 use Rattle.merge_laws.specs.Countdowns.{is_unended, unended_parts, AreExact}
 use Rattle.merge_laws.specs.CountSteps.{ChangesWord}
 use Rattle.merge_laws.specs.Rule.{Moment, core_at, IsRuled, first_claims, IsOpening}
-use Rattle.merge_laws.specs.BoardSteps.{stores, begins, ends_part, ends_segment, counts, releases, opens_part, opens_segment, sees, splits, joins, Reaches, here, onward}
-use Rattle.merge_laws.specs.BoardLaws.{NewBoardsAreRuled, CoreStep, StepsAreCoreSteps, StatesGoOneByOne, BoardsStayRuled, StatesNeverFall}
+use Rattle.merge_laws.specs.BoardSteps.{Step, stores, begins, ends_part, ends_segment, counts, releases, opens_part, opens_segment, sees, splits, joins, Reaches, here, onward}
+use Rattle.merge_laws.specs.BoardLaws.{NewBoardsAreRuled, CoreStep, StepsAreCoreSteps, StatesGoOneByOne, BoardsStayRuled, StatesNeverFall, PiecesBeginOnce, CountdownsNeverRise, RightsComeOnce}
 use Rattle.merge_laws.specs.BoardLaws as laws
 use Rattle.merge_laws.proofs.Tests.{not_both, none_some, some_is, by_equal}
 use Rattle.merge_laws.proofs.Order.{latest_none}
@@ -163,3 +163,50 @@ boards_stay_ruled g h o G T full m n O r = reached_ruled g h o G T m n (new_boar
 
 pub states_never_fall : StatesNeverFall
 states_never_fall g h o G T m n R r p = reached_higher g h o G T m n R r p
+
+-- a piece that is begun stays so, and who begins a piece finds it open
+pub pieces_begin_once : PiecesBeginOnce
+pieces_begin_once g h o G T m n l q R j k A r B same =
+    let after : IsRuled g h n = steps_keep_the_rule g h o G T m n R (begins j A) in
+    let low : n.state A.piece ≤ l.state A.piece = reached_higher g h o G T n l after r A.piece in
+    let two : n.state A.piece ≡ 2 = A.states.here in
+    let one : l.state A.piece ≡ 1 = ap l.state same ∙ B.found in
+    omega arith
+
+-- COUNTDOWNS
+
+same_counts : (m n : Moment) → n.rest ≡ m.rest → n.wait ≡ m.wait → (j : ℕ) → (n.rest j ≤ m.rest j) × (n.wait j ≤ m.wait j)
+same_counts m n r w j = let a : n.rest j ≡ m.rest j = ap (λ (f : ℕ → ℕ). f j) r in let b : n.wait j ≡ m.wait j = ap (λ (f : ℕ → ℕ). f j) w in (omega arith, omega arith)
+
+-- a word that falls by one
+falls_by_one : (f h : ℕ → ℕ) (i x : ℕ) → f i ≡ suc x → ChangesWord f h i x → (j : ℕ) → h j ≤ f j
+falls_by_one f h i x found S j = by_equal j i
+    (λ q. let now : h j ≡ x = ap h q ∙ S.here in let was : f j ≡ suc x = ap f q ∙ found in omega arith)
+    (λ n. let same = S.there j n in omega arith)
+
+step_lower : (g : PieceGraph) (h : JobGraph) (m n : Moment) → Step g h m n → (j : ℕ) → (n.rest j ≤ m.rest j) × (n.wait j ≤ m.wait j)
+step_lower g h m n (stores k X) = same_counts m n X.counts.rest X.counts.wait
+step_lower g h m n (begins k X) = same_counts m n X.counts.rest X.counts.wait
+step_lower g h m n (ends_part k X) = let U = X.gives_up in same_counts m n U.counts.rest U.counts.wait
+step_lower g h m n (ends_segment k X) = let U = X.gives_up in same_counts m n U.counts.rest U.counts.wait
+step_lower g h m n (counts k X) = λ j. let W = X.falls in let b : n.wait j ≡ m.wait j = ap (λ (f : ℕ → ℕ). f j) X.wait in (falls_by_one m.rest n.rest X.job W.remaining W.found W.rests j, omega arith)
+step_lower g h m n (releases k X) = λ j. let W = X.falls in let a : n.rest j ≡ m.rest j = ap (λ (f : ℕ → ℕ). f j) X.rest in (omega arith, falls_by_one m.wait n.wait X.job W.remaining W.found W.waits j)
+step_lower g h m n (opens_part k X) = same_counts m n X.counts.rest X.counts.wait
+step_lower g h m n (opens_segment k X) = same_counts m n X.counts.rest X.counts.wait
+step_lower g h m n (sees k X) = same_counts m n X.counts.rest X.counts.wait
+step_lower g h m n (splits X) = same_counts m n X.counts.rest X.counts.wait
+step_lower g h m n (joins k j X) = same_counts m n X.counts.rest X.counts.wait
+
+pub countdowns_never_rise : CountdownsNeverRise
+countdowns_never_rise g h m n here j = (omega arith, omega arith)
+countdowns_never_rise g h m n (onward {n = l} r s) j = let a = countdowns_never_rise g h m l r j in let b = step_lower g h l n s j in
+    let r0 : l.rest j ≤ m.rest j = a.0 in let r1 : n.rest j ≤ l.rest j = b.0 in let w0 : l.wait j ≤ m.wait j = a.1 in let w1 : n.wait j ≤ l.wait j = b.1 in (omega arith, omega arith)
+
+-- after the last release the job's `wait` is 0 for good, and who releases a job finds more
+pub rights_come_once : RightsComeOnce
+rights_come_once g h m n l q j k A last r B same =
+    let W = A.falls in let V = B.falls in
+    let zero' : n.wait A.job ≡ 0 = W.waits.here ∙ last in
+    let low : l.wait A.job ≤ n.wait A.job = (countdowns_never_rise g h n l r A.job).1 in
+    let found : l.wait A.job ≡ suc V.remaining = ap l.wait same ∙ V.found in
+    omega arith

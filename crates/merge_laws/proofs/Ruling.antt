@@ -172,28 +172,38 @@ module _ (g : PieceGraph) (h : JobGraph) (o : IsWellOrdered g) (G : IsJobGraph h
         segment_leases = leases_kept (same_lease S.lease) (λ j u e f. (u, ap (λ l. slice_get l j) X.claims ∙ longer_at m.claims (X.new ∷ []) j u e, f));
       }
 
-  -- who leases a segment after a join was first before, at the same place or at the one that was joined
+  -- after a join who was first is first, at the same place or at the one that it was joined to
+  joined_at : (k j : ℕ) (X : IsJoin m n k j) → slice_get n.claims j ≡ Some X.w
+  joined_at k j X = ap (λ l. slice_get l j) X.claims ∙ joined_i m.claims j k X.u X.v X.w X.x X.apart X.at_j X.at_k
+
+  joined_stays : (k j : ℕ) (X : IsJoin m n k j) (a : ℕ) (t : Claims) → a ≢ k → slice_get m.claims a ≡ Some t → IsFirst t → (x : Claims) × (slice_get n.claims a ≡ Some x) × IsFirst x
+  joined_stays k j X a t ne e f = by_equal a j
+      (λ s. let same : X.u ≡ t = one_at m.claims j a t X.u s X.at_j e in
+      (X.w, ap (slice_get n.claims) s ∙ joined_at k j X, first_u h m.state m.rest m.wait m.claims R.exact j k X.u X.v X.w X.x X.apart X.at_j X.at_k X.joins (subst (λ c. IsFirst c) (sym same) f)))
+      (λ ns. (t, ap (λ l. slice_get l a) X.claims ∙ (joined_off m.claims j k X.u X.v X.w X.x X.apart X.at_j X.at_k a ns ne ∙ e), f))
+
+  joined_comes : (k j : ℕ) (X : IsJoin m n k j) (t : Claims) → slice_get m.claims k ≡ Some t → IsFirst t → (a : ℕ) → a ≡ j → (x : Claims) × (slice_get n.claims a ≡ Some x) × IsFirst x
+  joined_comes k j X t e f a s = let same : t ≡ X.v = some_is (sym e ∙ X.at_k) in
+      (X.w, ap (slice_get n.claims) s ∙ joined_at k j X, first_v h m.state m.rest m.wait m.claims R.exact j k X.u X.v X.w X.x X.apart X.at_j X.at_k X.joins (subst (λ c. IsFirst c) same f))
+
+  -- so a lease of a segment, under its old key or handed over, is the first participant's
+  joined_segments : (k j : ℕ) (X : IsJoin m n k j) (a i : ℕ) (l : Lease) → n.lease a ≡ Some l → i < h.segments → l.piece ≡ h.segment_at i → (x : Claims) × (slice_get n.claims a ≡ Some x) × IsFirst x
+  joined_segments k j X a i l e lt q = ⊎_elim
+      (λ t. let leases : n.lease a ≡ m.lease a = ap (λ f. f a) t.1 in
+      let old : m.lease a ≡ Some l = sym leases ∙ e in
+      let v = R.segment_leases a i l old lt q in
+      joined_stays k j X a v.0 (λ s. let gone : m.lease a ≡ None = ap m.lease s ∙ t.0 in none_some (sym gone ∙ old)) v.1 v.2)
+      (λ t. ⊎_elim
+      (λ y. let v = R.segment_leases k i l y.1 lt q in joined_comes k j X v.0 v.1 v.2 a y.0)
+      (λ y. let v = R.segment_leases a i l y.2 lt q in joined_stays k j X a v.0 y.1 v.1 v.2) (handed_from m.lease n.lease k j t a l e)) X.leases
+
   joined_ruled : (k j : ℕ) → IsJoin m n k j → IsRuled g h n
   joined_ruled k j X =
-      let J = X.joins in
       let C : AreExact h n.state n.rest n.wait n.claims = exact_moved h m.state m.rest m.wait (slice_set (slice_set m.claims j X.w) k X.x) n X.state X.counts.rest X.counts.wait X.claims
-      (joins_stay_exact h m.state m.rest m.wait m.claims R.exact j k X.u X.v X.w X.x X.apart X.at_j X.at_k J) in
-      let at_j : slice_get n.claims j ≡ Some X.w = ap (λ l. slice_get l j) X.claims ∙ joined_i m.claims j k X.u X.v X.w X.x X.apart X.at_j X.at_k in
-      let by_u : IsFirst X.u → (x : Claims) × (slice_get n.claims j ≡ Some x) × IsFirst x = λ f. (X.w, at_j, first_u h m.state m.rest m.wait m.claims R.exact j k X.u X.v X.w X.x X.apart X.at_j X.at_k J f) in
-      let by_v : IsFirst X.v → (x : Claims) × (slice_get n.claims j ≡ Some x) × IsFirst x = λ f. (X.w, at_j, first_v h m.state m.rest m.wait m.claims R.exact j k X.u X.v X.w X.x X.apart X.at_j X.at_k J f) in
-      -- a lease of before under another key than k
-      let stays : (a i : ℕ) (l : Lease) → a ≢ k → m.lease a ≡ Some l → i < h.segments → l.piece ≡ h.segment_at i → (x : Claims) × (slice_get n.claims a ≡ Some x) × IsFirst x = λ a i l ne e lt q.
-      let v = R.segment_leases a i l e lt q in by_equal a j
-      (λ s. let same : X.u ≡ v.0 = one_at m.claims j a v.0 X.u s X.at_j v.1 in subst (λ b. (x : Claims) × (slice_get n.claims b ≡ Some x) × IsFirst x) (sym s) (by_u (subst (λ c. IsFirst c) (sym same) v.2)))
-      (λ ns. (v.0, ap (λ l. slice_get l a) X.claims ∙ (joined_off m.claims j k X.u X.v X.w X.x X.apart X.at_j X.at_k a ns ne ∙ v.1), v.2)) in
-      record {
+      (joins_stay_exact h m.state m.rest m.wait m.claims R.exact j k X.u X.v X.w X.x X.apart X.at_j X.at_k X.joins) in record {
         held = ⊎_elim (λ t. held_same g m n R.held (ready_all g h n T C) X.state X.cells t.1) (λ t. held_handed g m n R.held (ready_all g h n T C) k j X.apart t X.state X.cells) X.leases;
         exact = C;
-        segment_leases = λ a i l e lt q. ⊎_elim
-            (λ t. let old : m.lease a ≡ Some l = sym (ap (λ f. f a) t.1) ∙ e in stays a i l (λ s. let gone : m.lease a ≡ None = ap m.lease s ∙ t.0 in none_some (sym gone ∙ old)) old lt q)
-            (λ t. ⊎_elim
-            (λ y. let v = R.segment_leases k i l y.1 lt q in subst (λ b. (x : Claims) × (slice_get n.claims b ≡ Some x) × IsFirst x) (sym y.0) (by_v (let same : v.0 ≡ X.v = some_is (sym v.1 ∙ X.at_k) in subst (λ c. IsFirst c) same v.2)))
-            (λ y. stays a i l y.1 y.2 lt q) (handed_from m.lease n.lease k j t a l e)) X.leases;
+        segment_leases = joined_segments k j X;
       }
 
 pub steps_keep_the_rule : StepsKeepTheRule

@@ -6,7 +6,7 @@ use Rattle.merge_laws.specs.Steps.{HandsOver, MayBegin, Begins, Stores, Ends}
 use Rattle.merge_laws.specs.Jobs.{JobGraph, IsJobGraph, HasParts, IsOf}
 use Rattle.merge_laws.specs.Countdowns.{IsUnblocked}
 use Rattle.merge_laws.specs.Rule.{Moment, core_at, IsRuled, IsOpening, IsOver}
-use Rattle.merge_laws.specs.BoardSteps.{Step, Reaches}
+use Rattle.merge_laws.specs.BoardSteps.{IsBegin, IsRelease, Step, Reaches}
 
 -- A new board meets the rule.
 abbrev pub NewBoardsAreRuled : Type 0
@@ -39,14 +39,29 @@ abbrev pub StatesGoOneByOne : Type 0
 StatesGoOneByOne = (g : PieceGraph) (h : JobGraph) → IsWellOrdered g → IsJobGraph h → IsOf h g
     → (m n : Moment) → IsRuled g h m → Step g h m n → (p : ℕ) → (n.state p ≡ m.state p) ⊎ (n.state p ≡ suc (m.state p))
 
--- Whatever a board reaches from its opening is ruled, and no state falls. So each piece is opened, begun and ended once at most.
+-- Whatever a board reaches from its opening is ruled.
 abbrev pub BoardsStayRuled : Type 0
 BoardsStayRuled = (g : PieceGraph) (h : JobGraph) → IsWellOrdered g → IsJobGraph h → IsOf h g → HasParts h
     → (m n : Moment) → IsOpening h m → Reaches g h m n → IsRuled g h n
 
+-- No state falls. So each piece is opened, begun and ended once at most:
 abbrev pub StatesNeverFall : Type 0
 StatesNeverFall = (g : PieceGraph) (h : JobGraph) → IsWellOrdered g → IsJobGraph h → IsOf h g
     → (m n : Moment) → IsRuled g h m → Reaches g h m n → (p : ℕ) → m.state p ≤ n.state p
+
+-- whoever began a piece, nobody begins it again.
+abbrev pub PiecesBeginOnce : Type 0
+PiecesBeginOnce = (g : PieceGraph) (h : JobGraph) → IsWellOrdered g → IsJobGraph h → IsOf h g → (m n o q : Moment) → IsRuled g h m
+    → (j k : ℕ) (first : IsBegin g h m n j) → Reaches g h n o → (second : IsBegin g h o q k) → first.piece ≡ second.piece → ⊥
+
+-- No countdown rises. So the rights to open a job's pieces come once:
+abbrev pub CountdownsNeverRise : Type 0
+CountdownsNeverRise = (g : PieceGraph) (h : JobGraph) (m n : Moment) → Reaches g h m n → (j : ℕ) → (n.rest j ≤ m.rest j) × (n.wait j ≤ m.wait j)
+
+-- after the release that was the last of a job, nobody releases the job again.
+abbrev pub RightsComeOnce : Type 0
+RightsComeOnce = (g : PieceGraph) (h : JobGraph) (m n o q : Moment)
+    → (j k : ℕ) (first : IsRelease h m n j) → first.falls.remaining ≡ 0 → Reaches g h n o → (second : IsRelease h o q k) → first.job ≡ second.job → ⊥
 
 -- A leased word holds the lease's local cell, whatever others do.
 abbrev pub LeasedWordsHoldLocalCells : Type 0

@@ -1,6 +1,6 @@
 //! The rule of a board without locks.
 
-ghost use Rattle.merge_laws.specs.BoardLaws.{BoardsStayRuled, ClosedBoardsAreInScriptOrder, LeasedWordsHoldLocalCells, NewBoardsAreRuled, StatesGoOneByOne, StatesNeverFall, StepsAreCoreSteps, StepsKeepTheRule, UnblockedPiecesAreReady};
+ghost use Rattle.merge_laws.specs.BoardLaws.{BoardsStayRuled, ClosedBoardsAreInScriptOrder, CountdownsNeverRise, LeasedWordsHoldLocalCells, NewBoardsAreRuled, PiecesBeginOnce, RightsComeOnce, StatesGoOneByOne, StatesNeverFall, StepsAreCoreSteps, StepsKeepTheRule, UnblockedPiecesAreReady};
 
 /// A new board meets the rule.
 pub fn new_boards_are_ruled()
@@ -35,6 +35,21 @@ pub fn boards_stay_ruled()
 /// No state falls again: a piece is opened, begun and ended once at most.
 pub fn states_never_fall()
     ensures { StatesNeverFall }
+{}
+
+/// Whoever began a piece, nobody begins it again.
+pub fn pieces_begin_once()
+    ensures { PiecesBeginOnce }
+{}
+
+/// No countdown rises again.
+pub fn countdowns_never_rise()
+    ensures { CountdownsNeverRise }
+{}
+
+/// The rights to open a job's pieces come once, by the last release.
+pub fn rights_come_once()
+    ensures { RightsComeOnce }
 {}
 
 /// A leased word holds the lease's local cell, whatever others do.
