@@ -6,7 +6,7 @@ use Rattle.merge_laws.specs.Graph.{Cells}
 use Rattle.merge_laws.specs.Claims.{Claims}
 use Rattle.merge_laws.specs.Core.{Lease, IsSound}
 use Rattle.merge_laws.specs.Diamond.{diamond_precedes, diamond}
-use Rattle.merge_laws.specs.Examples.{both_leased, DiamondMerges, one_segment, rightful, DiamondCounts}
+use Rattle.merge_laws.specs.Examples.{both_leased, DiamondMerges, one_segment, releasing, rightful, DiamondCounts}
 use Rattle.merge_laws.proofs.Tests.{not_both, none_some, by_equal, chosen, not_chosen}
 use Rattle.merge_laws.proofs.Merging.{same_piece}
 use Rattle.merge_laws.proofs.Reaching.{one_at_first}
@@ -82,6 +82,11 @@ diamond_counts = record {
   counted = λ rest C. C.rest_is 0 (omega arith);
   falls_twice = λ C. let e : 0 ≡ 1 = C.rest_is 0 (omega arith) in omega arith;
   counted_and_owed = λ C. let e : 1 ≡ 2 = C.rest_is 0 (omega arith) in omega arith;
+  waiting = λ wait C. C.wait_is 0 (omega arith);
+  due = λ wait C. C.wait_is 0 (omega arith);
+  released = λ wait C. C.wait_is 0 (omega arith);
+  duty_elsewhere = λ state rest wait C. let e : 1 ≡ 0 = (C.segment_duties 1 (releasing 1) refl refl).0 in omega arith;
+  seen_too_early = λ state wait C. let e : 1 ≡ 0 = (C.seen 0 0 (record one_segment { seen = 0 ∷ [] }) refl refl).1 in omega arith;
   runs_too_early = λ C. let e : 1 ≡ 0 = C.started 2 0 (omega arith) (omega arith) refl (λ z. let two : 2 ≡ 0 = z in omega arith) in omega arith;
   right_twice = λ state rest wait C. let e : 1 ≡ 2 = C.rights_once 1 2 1 (rightful 1) (rightful 2) refl refl refl refl in omega arith;
   right_to_open = λ state rest wait opened C. let closed = (C.rights_are 1 1 (rightful 1) refl refl).0 in omega arith;

@@ -5,7 +5,7 @@ use Rattle.merge_laws.specs.Core.{Lease, Core, IsSound}
 use Rattle.merge_laws.specs.Merge.{merged_cells, IsMerged, IsInPlace}
 use Rattle.merge_laws.specs.Runs.{start, run, take, steal, finish, IsLegalRun, IsEnded}
 use Rattle.merge_laws.specs.Jobs.{IsJobGraph, HasParts, IsOf}
-use Rattle.merge_laws.specs.Claims.{Claims}
+use Rattle.merge_laws.specs.Claims.{by_segment, Duty, Claims}
 use Rattle.merge_laws.specs.Countdowns.{AreExact}
 use Rattle.merge_laws.specs.Rule.{IsOpening, first_claims}
 use Rattle.merge_laws.specs.Diamond.{diamond, diamond_jobs, new_diamond, straight, crossed}
@@ -95,6 +95,17 @@ one_segment = record first_claims { ended = 1 }
 abbrev pub owing : Claims
 owing = record first_claims { number = 1; owed = Some 0 }
 
+-- the duty to release the job from segment 0, and the first participant with it, or another one
+abbrev pub duty : Duty
+duty = record { predecessor = by_segment 0; job = 0 }
+
+abbrev pub releasing : ℕ → Claims
+releasing n = record first_claims { number = n; ended = 1; duties = duty ∷ [] }
+
+-- Segment 0 is ended, and nothing else is open.
+abbrev pub segment_ended : ℕ → ℕ
+segment_ended p = if nat_eq p 0 then 3 else 0
+
 -- another participant, with a right to piece 1
 abbrev pub rightful : ℕ → Claims
 rightful n = record first_claims { number = n; rights = 1 ∷ [] }
@@ -106,6 +117,13 @@ pub record DiamondCounts : Type 0 where
   -- a count that falls twice, and one that is taken and still owed
   pub falls_twice : AreExact diamond_jobs one_left (λ j. 0) (λ j. 0) (one_segment ∷ []) → ⊥
   pub counted_and_owed : AreExact diamond_jobs one_left (λ j. 1) (λ j. 0) (one_segment ∷ owing ∷ []) → ⊥
+  -- the job waits for its segment, then for the release from it, and then for nothing
+  pub waiting : (wait : ℕ → ℕ) → AreExact diamond_jobs (λ p. 0) (λ j. 2) wait (first_claims ∷ []) → wait 0 ≡ 1
+  pub due : (wait : ℕ → ℕ) → AreExact diamond_jobs segment_ended (λ j. 2) wait (releasing 0 ∷ []) → wait 0 ≡ 1
+  pub released : (wait : ℕ → ℕ) → AreExact diamond_jobs segment_ended (λ j. 2) wait (one_segment ∷ rightful 1 ∷ []) → wait 0 ≡ 0
+  -- the duty of a segment at another participant, and a job seen finished while a piece of it is left to count
+  pub duty_elsewhere : (state rest wait : ℕ → ℕ) → AreExact diamond_jobs state rest wait (one_segment ∷ releasing 1 ∷ []) → ⊥
+  pub seen_too_early : (state wait : ℕ → ℕ) → AreExact diamond_jobs state (λ j. 1) wait (record one_segment { seen = 0 ∷ [] } ∷ []) → ⊥
   -- a piece that runs although its job waits
   pub runs_too_early : AreExact diamond_jobs one_left (λ j. 1) (λ j. 1) (one_segment ∷ []) → ⊥
   -- one right for two, and a right to what is open
