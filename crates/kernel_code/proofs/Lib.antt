@@ -12,3 +12,4 @@ pub mod Sentences
 pub mod Readings
 pub mod Blocks
 pub mod Kernels
+pub mod Parts
