@@ -13,3 +13,5 @@ pub mod Readings
 pub mod Blocks
 pub mod Kernels
 pub mod Parts
+pub mod Meanings
+pub mod Expressions
