@@ -15,3 +15,4 @@ pub mod Kernels
 pub mod Parts
 pub mod Meanings
 pub mod Expressions
+pub mod Statements

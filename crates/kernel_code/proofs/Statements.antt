@@ -1,0 +1,266 @@
+-- What the productions of statements mean.
+use Rattle.std.proofs.Common.{◌≡◌, ℕ, suc, ◌+◌, ◌<◌, ◌≤◌, List, [], ◌∷◌, ◌++◌, append_assoc, append-nil, refl, sym, ◌∙◌, ap, subst, arith}
+use Rattle.frame_grammar.specs.declared.symbols.Production.TheVariants as production
+use Rattle.frame_grammar.specs.declared.symbols.Action.{Action}
+use Rattle.frame_grammar.specs.declared.symbols.Action.TheVariants as action
+use Rattle.frame_grammar.specs.declared.symbols.Event.{Event}
+use Rattle.frame_grammar.specs.Grammar.{head_of, body_of}
+use Rattle.kernel_code.specs.declared.raw.RawForm.{RawForm}
+use Rattle.kernel_code.specs.declared.raw.RawForm.TheVariants as form
+use Rattle.kernel_code.specs.Raw.{RawExpr, RawBlock, Nothing, Simple, Nested, Branched, parts_size, PartsBelow, on, SpellsBlock, SpellsHead}
+use Rattle.kernel_code.specs.Raw as raw
+use Rattle.kernel_code.proofs.Meanings.{IsExpr, IsSimple, IsStatements, IsStatement, IsTarget, IsAdded, IsBraced, IsElse, Build, expr_up, parts_up, block_up}
+
+-- SIMPLE STATEMENTS
+
+-- a statement without a block begins those of a block
+simple_first : (n at end last : ℕ) (es rest : List Event) → at ≤ n → IsSimple (suc n) es end → IsStatements end rest last → IsStatements n (on action.StartStatement at ∷ es ++ rest) last
+simple_first n at end last es rest le s more = record {
+  block = Simple s.form at s.called s.parts more.block;
+  spells = raw.simple es rest s.spells more.spells refl;
+  below = (omega (arith, s.few, more.few), omega (arith, s.called_below, more.few), parts_up end last s.parts (omega (arith, more.few)) s.below, more.below);
+  few = omega (arith, s.few, more.few);
+}
+
+
+pub var_statement : Build production.VarStatement
+unfolding body_of head_of
+var_statement n end c at le rest last more =
+    let s = c.more.more.more.more.more.more in
+    let e = s.means in
+    simple_first n at end last _ rest le (record {
+      form = form.Var;
+      called = c.more.end;
+      parts = e.tree ∷ [];
+      spells = raw.var _ s.events e.spells refl;
+      called_below = omega arith;
+      below = (expr_up _ end e.tree (omega arith) e.below, tt);
+      few = omega arith;
+    }) more
+
+pub name_statement : Build production.NameStatement
+unfolding body_of head_of
+name_statement n end c at le rest last more =
+    let s = c.more.more in
+    let t = s.means n (suc n) (omega arith) (omega arith) in
+    simple_first n at end last _ rest le (record {
+      form = t.form;
+      called = t.called;
+      parts = t.parts;
+      spells = subst (λ es. raw.SpellsSimple (on action.Name n ∷ es) t.form t.called t.parts) (sym (append-nil s.events)) t.spells;
+      called_below = omega arith;
+      below = parts_up _ end t.parts (omega arith) t.below;
+      few = omega arith;
+    }) more
+
+pub add_statement : Build production.AddStatement
+unfolding body_of head_of
+add_statement n end c at le rest last more =
+    let s = c.more.more.more.more.more.more.more.more in
+    let a = s.more in
+    let t = a.means c.more.more.more.end (suc n) s.events (omega arith) (record { tree = s.means.tree; spells = s.means.spells; below = s.means.below; few = omega arith }) in
+    simple_first n at end last _ rest le (record {
+      form = t.form;
+      called = t.called;
+      parts = t.parts;
+      spells = subst (λ es. raw.SpellsSimple (on action.Name c.more.more.more.end ∷ (s.events ++ es)) t.form t.called t.parts) (sym (append-nil a.events)) t.spells;
+      called_below = omega arith;
+      below = parts_up _ end t.parts (omega arith) t.below;
+      few = omega arith;
+    }) more
+
+pub remove_statement : Build production.RemoveStatement
+unfolding body_of head_of
+remove_statement n end c at le rest last more =
+    let s = c.more.more.more.more.more.more.more.more in
+    let e = s.means in
+    simple_first n at end last _ rest le (record {
+      form = form.Remove;
+      called = c.more.more.more.end;
+      parts = e.tree ∷ [];
+      spells = raw.remove _ s.events e.spells refl;
+      called_below = omega arith;
+      below = (expr_up _ end e.tree (omega arith) e.below, tt);
+      few = omega arith;
+    }) more
+
+pub clear_statement : Build production.ClearStatement
+unfolding body_of head_of
+clear_statement n end c at le rest last more =
+    simple_first n at end last _ rest le (record {
+      form = form.Clear;
+      called = c.more.more.more.end;
+      parts = [];
+      spells = raw.clear _ refl;
+      called_below = omega arith;
+      below = tt;
+      few = omega arith;
+    }) more
+
+pub write_statement : Build production.WriteStatement
+unfolding body_of head_of
+write_statement n end c at le rest last more =
+    let s = c.more.more.more.more.more.more.more.more in
+    let e = s.means in
+    simple_first n at end last _ rest le (record {
+      form = form.Write;
+      called = c.more.more.more.end;
+      parts = e.tree ∷ [];
+      spells = raw.write _ s.events e.spells refl;
+      called_below = omega arith;
+      below = (expr_up _ end e.tree (omega arith) e.below, tt);
+      few = omega arith;
+    }) more
+
+-- BEHIND A NAME
+
+pub target_name : Build production.TargetName
+unfolding body_of head_of
+target_name n end c y k y_below k_below =
+    let s = c.more.more in
+    let t = s.means y k (omega arith) (omega arith) in
+    record {
+      form = t.form;
+      called = t.called;
+      parts = t.parts;
+      spells = subst (λ es. raw.SpellsSimple (on action.Name y ∷ es) t.form t.called t.parts) (sym (append-nil s.events)) t.spells;
+      called_below = omega arith;
+      below = parts_up _ end t.parts (omega arith) t.below;
+      few = omega arith;
+    }
+
+pub target_place : Build production.TargetPlace
+unfolding body_of head_of
+target_place n end c y k y_below k_below =
+    let s = c.more.more in
+    let t = s.more.more.more.more.more in
+    let e = s.means in
+    let g = t.means in
+    record {
+      form = form.SetPlace;
+      called = y;
+      parts = e.tree ∷ g.tree ∷ [];
+      spells = raw.set_place _ s.events t.events e.spells g.spells refl;
+      called_below = omega arith;
+      below = (expr_up _ end e.tree (omega arith) e.below, (expr_up _ end g.tree (omega arith) g.below, tt));
+      few = omega arith;
+    }
+
+pub value_expression : Build production.ValueExpression
+unfolding body_of head_of
+value_expression n end c y k y_below k_below =
+    let e = c.means in
+    record {
+      form = form.SetName;
+      called = y;
+      parts = e.tree ∷ [];
+      spells = raw.set_name _ c.events e.spells refl;
+      called_below = omega arith;
+      below = (expr_up _ end e.tree (omega arith) e.below, tt);
+      few = omega arith;
+    }
+
+pub value_try_add : Build production.ValueTryAdd
+unfolding body_of head_of
+value_try_add n end c y k y_below k_below =
+    let s = c.more.more.more.more.more.more.more.more in
+    let t = s.more.more.more in
+    let e = s.means in
+    let g = t.means in
+    record {
+      form = form.SetTryAdd;
+      called = c.more.more.more.end;
+      parts = e.tree ∷ g.tree ∷ [];
+      spells = raw.set_try_add y _ s.events t.events e.spells g.spells refl;
+      called_below = omega arith;
+      below = (expr_up _ end e.tree (omega arith) e.below, (expr_up _ end g.tree (omega arith) g.below, tt));
+      few = omega arith;
+    }
+
+pub value_remove : Build production.ValueRemove
+unfolding body_of head_of
+value_remove n end c y k y_below k_below =
+    let s = c.more.more.more.more.more.more.more.more in
+    let e = s.means in
+    record {
+      form = form.SetRemove;
+      called = c.more.more.more.end;
+      parts = e.tree ∷ [];
+      spells = raw.set_remove y _ s.events e.spells refl;
+      called_below = omega arith;
+      below = (expr_up _ end e.tree (omega arith) e.below, tt);
+      few = omega arith;
+    }
+
+pub added_value_none : Build production.AddedValueNone
+unfolding body_of head_of
+added_value_none n end c x k front x_below e = record {
+  form = form.AddItem;
+  called = x;
+  parts = e.tree ∷ [];
+  spells = raw.add_item n front e.spells refl;
+  called_below = omega arith;
+  below = (expr_up n end e.tree c e.below, tt);
+  few = omega (arith, e.few);
+}
+
+pub added_value_some : Build production.AddedValueSome
+unfolding body_of head_of
+added_value_some n end c x k front x_below e =
+    let s = c.more.more in
+    let g = s.means in
+    record {
+      form = form.AddPair;
+      called = x;
+      parts = e.tree ∷ g.tree ∷ [];
+      spells = raw.add_pair _ front s.events e.spells g.spells refl;
+      called_below = omega arith;
+      below = (expr_up n end e.tree (omega arith) e.below, (expr_up _ end g.tree (omega arith) g.below, tt));
+      few = omega (arith, e.few, g.few);
+    }
+
+-- BLOCKS
+
+pub statements_end : Build production.StatementsEnd
+unfolding body_of head_of
+statements_end n end c = record { block = Nothing; spells = raw.nothing refl; below = tt; few = omega arith }
+
+pub statements_more : Build production.StatementsMore
+unfolding body_of head_of
+statements_more n end c =
+    let more = c.more.means in
+    subst (λ es. IsStatements n (on action.StartStatement n ∷ (c.events ++ es)) end) (sym (append-nil c.more.events))
+    (c.means n (omega arith) c.more.events end (record { block = more.block; spells = more.spells; below = block_up _ end more.block c.more.more more.below; few = omega arith }))
+
+pub block : Build production.Block
+unfolding body_of head_of
+block n end c =
+    let s = c.more.more in
+    let b = s.means in
+    record {
+      opened = c.more.end;
+      closed = s.end;
+      inside = s.events;
+      is = refl;
+      inner = record { block = b.block; spells = b.spells; below = block_up _ end b.block (omega arith) b.below; few = omega arith };
+    }
+
+-- STATEMENTS WITH A BLOCK
+
+braced : (start : Event) (head rest inside body : List Event) (o c q : Event) → body ≡ o ∷ inside ++ c ∷ [] →
+    start ∷ ((head ++ (body ++ (q ∷ []))) ++ rest) ≡ start ∷ head ++ o ∷ inside ++ c ∷ q ∷ rest
+braced start head rest inside body o c q is = rw is (simp append_assoc)
+
+-- a statement with one block begins those of a block
+nested_first : (n at x q b m end last : ℕ) (f : RawForm) (a : Action) (parts : List RawExpr) (head body rest : List Event) → at ≤ n → n < b → x < b → SpellsHead head a f at x parts → PartsBelow b parts → n + (1 + parts_size parts) ≤ b →
+    IsBraced b body m → m ≤ end → IsStatements end rest last → IsStatements n (on action.StartStatement at ∷ ((head ++ (body ++ (on a q ∷ []))) ++ rest)) last
+nested_first n at x q b m end last f a parts head body rest le lt called spells below few inner within more =
+    let i = inner.inner in
+    record {
+      block = Nested f at x parts i.block more.block;
+      spells = raw.nested inner.opened inner.closed q head inner.inside rest spells i.spells more.spells
+          (braced (on action.StartStatement at) head rest inner.inside body (on action.OpenBlock inner.opened) (on action.CloseBlock inner.closed) (on a q) inner.is);
+      below = (omega (arith, i.few, more.few), omega (arith, i.few, more.few), parts_up b last parts (omega (arith, i.few, more.few)) below,
+          block_up m last i.block (omega (arith, more.few)) i.below, more.below);
+      few = omega (arith, i.few, more.few);
+    }
