@@ -16,3 +16,4 @@ pub mod Parts
 pub mod Meanings
 pub mod Expressions
 pub mod Statements
+pub mod Derivations

@@ -71,19 +71,21 @@ IsElse n es end = (at h o c k : ℕ) (cond first : List Event) (e : RawExpr) (b 
     IsStatements k (on action.StartStatement at ∷ (cond ++ on action.IfHead h ∷ on action.OpenBlock o ∷ (first ++ on action.CloseBlock c ∷ (es ++ rest)))) last
 
 -- The events spell parameters.
-pub record IsParams (es : List Event) (end : ℕ) : Type 0 where
+pub record IsParams (k : ℕ) (es : List Event) (end : ℕ) : Type 0 where
   pub params : List RawParam
   pub spells : SpellsParams es params
   pub below : ParamsBelow end params
+  pub from : k ≤ end
 
 -- the events are of a parameter
 abbrev pub IsParam : ℕ → List Event → ℕ → Type 0
-IsParam n es end = (rest : List Event) (last : ℕ) → IsParams rest last → end ≤ last → IsParams (es ++ rest) last
+IsParam n es end = (rest : List Event) (last : ℕ) → IsParams end rest last → IsParams n (es ++ rest) last
 
 -- The events spell what a parameter of this name is.
 pub record IsKind (x : ℕ) (es : List Event) (end : ℕ) : Type 0 where
   pub param : RawParam
   pub is : param.name ≡ x
+  pub called : x < end
   pub spells : SpellsKind es param
   pub word : param.word < end
   pub width : IfSome param.width (λ w. w < end)
@@ -100,8 +102,8 @@ abbrev pub Meant : Nonterminal → ℕ → List Event → ℕ → Type 0
 Meant nonterminal.Lines n es end = (es ≡ []) × (n ≤ end)
 Meant nonterminal.Kernel n es end = IsKernel es end
 Meant nonterminal.OpenKernel n es end = IsKernel es end
-Meant nonterminal.Parameters n es end = IsParams es end
-Meant nonterminal.MoreParameters n es end = IsParams es end
+Meant nonterminal.Parameters n es end = IsParams n es end
+Meant nonterminal.MoreParameters n es end = IsParams n es end
 Meant nonterminal.Parameter n es end = IsParam n es end
 Meant nonterminal.ParameterKind n es end = (x : ℕ) → x < n → IsKind x es end
 Meant nonterminal.Container n es end = IsContainer n es end

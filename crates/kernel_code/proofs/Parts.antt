@@ -100,9 +100,14 @@ split_of true M p n es xs ys end h d =
     let s = h d.end es d.more in
     (s.own, s.rest, s.middle, s.is, record { end = d.end; after = d.after; more = s.first }, s.second)
 split_of false M p n es xs ys end h d =
-    let s = h d.end d.rest d.more in
-    (d.own ++ s.own, s.rest, s.middle, d.is ∙ ap (λ r. d.own ++ r) s.is ∙ sym (append_assoc d.own s.own s.rest),
-        record { own = d.own; rest = s.own; end = d.end; is = refl; means = d.means; more = s.first }, s.second)
+    let s = h d.end d.rest d.more in (
+      d.own ++ s.own,
+      s.rest,
+      s.middle,
+      d.is ∙ ap (λ r. d.own ++ r) s.is ∙ sym (append_assoc d.own s.own s.rest),
+      record { own = d.own; rest = s.own; end = d.end; is = refl; means = d.means; more = s.first },
+      s.second,
+    )
 
 split : (M : Meaning) (n : ℕ) (es : List Event) (xs ys : List Symbol) (end : ℕ) → Parts M n es (xs ++ ys) end → Split M n es xs ys end
 split M n es [] ys end d = record { own = []; rest = es; middle = n; is = refl; first = (refl, omega arith); second = d }

@@ -22,7 +22,6 @@ simple_first n at end last es rest le s more = record {
   few = omega (arith, s.few, more.few);
 }
 
-
 pub var_statement : Build production.VarStatement
 unfolding body_of head_of
 var_statement n end c at le rest last more =
@@ -260,7 +259,126 @@ nested_first n at x q b m end last f a parts head body rest le lt called spells 
       block = Nested f at x parts i.block more.block;
       spells = raw.nested inner.opened inner.closed q head inner.inside rest spells i.spells more.spells
           (braced (on action.StartStatement at) head rest inner.inside body (on action.OpenBlock inner.opened) (on action.CloseBlock inner.closed) (on a q) inner.is);
-      below = (omega (arith, i.few, more.few), omega (arith, i.few, more.few), parts_up b last parts (omega (arith, i.few, more.few)) below,
-          block_up m last i.block (omega (arith, more.few)) i.below, more.below);
+      below = (
+        omega (arith, i.few, more.few),
+        omega (arith, i.few, more.few),
+        parts_up b last parts (omega (arith, i.few, more.few)) below,
+        block_up m last i.block (omega (arith, more.few)) i.below,
+        more.below,
+      );
       few = omega (arith, i.few, more.few);
+    }
+
+headed : (own body rest : List Event) (h : Event) → (own ++ (h ∷ [])) ++ (body ++ rest) ≡ own ++ (h ∷ (body ++ rest))
+headed own body rest h = append_assoc own (h ∷ []) (body ++ rest)
+
+headed_two : (own next body rest : List Event) (h : Event) → (own ++ (next ++ (h ∷ []))) ++ (body ++ rest) ≡ own ++ (next ++ (h ∷ (body ++ rest)))
+headed_two own next body rest h = simp append_assoc
+
+pub begin_statement : Build production.BeginStatement
+unfolding body_of head_of
+begin_statement n end c at le rest last more =
+    let s = c.more.more.more.more.more.more in
+    let t = s.more.more.more in
+    let e = s.means in
+    let h = on action.BeginHead s.more.more.end in
+    let x = c.more.end in
+    let lt : x < s.more.more.end = omega arith in
+    let from : n + (1 + parts_size (e.tree ∷ [])) ≤ s.more.more.end = omega arith in
+    let first : n < s.more.more.end = omega arith in
+    subst (λ es. IsStatements n (on action.StartStatement at ∷ ((on action.Name x ∷ es) ++ rest)) last)
+    (headed s.events t.events (on action.BeginStatement t.end ∷ []) h)
+    (nested_first n at x t.end s.more.more.end t.end end last form.Begin action.BeginStatement (e.tree ∷ []) (on action.Name x ∷ s.events ++ h ∷ []) t.events rest le first lt
+    (raw.begun _ s.events e.spells refl) (expr_up _ s.more.more.end e.tree (omega arith) e.below, tt) from t.means t.more more)
+
+pub for_statement : Build production.ForStatement
+unfolding body_of head_of
+for_statement n end c at le rest last more =
+    let s = c.more.more.more.more.more.more in
+    let t = s.more.more.more in
+    let u = t.more in
+    let e = s.means in
+    let g = t.means in
+    let h = on action.ForHead t.end in
+    let x = c.more.end in
+    let lt : x < t.end = omega arith in
+    let from : n + (1 + parts_size (e.tree ∷ g.tree ∷ [])) ≤ t.end = omega arith in
+    let first : n < t.end = omega arith in
+    subst (λ es. IsStatements n (on action.StartStatement at ∷ ((on action.Name x ∷ es) ++ rest)) last)
+    (headed_two s.events t.events u.events (on action.ForStatement u.end ∷ []) h)
+    (nested_first n at x u.end t.end u.end end last form.For action.ForStatement (e.tree ∷ g.tree ∷ []) (on action.Name x ∷ s.events ++ (t.events ++ h ∷ [])) u.events rest le first lt
+    (raw.counted _ s.events t.events e.spells g.spells refl) (expr_up _ t.end e.tree (omega arith) e.below, (g.below, tt)) from u.means u.more more)
+
+pub while_statement : Build production.WhileStatement
+unfolding body_of head_of
+while_statement n end c at le rest last more =
+    let s = c.more.more in
+    let t = s.more in
+    let e = s.means in
+    let h = on action.WhileHead s.end in
+    let from : n + (1 + parts_size (e.tree ∷ [])) ≤ s.end = omega arith in
+    let first : n < s.end = omega arith in
+    let lt : at < s.end = omega arith in
+    subst (λ es. IsStatements n (on action.StartStatement at ∷ (es ++ rest)) last)
+    (headed s.events t.events (on action.WhileStatement t.end ∷ []) h)
+    (nested_first n at at t.end s.end t.end end last form.While action.WhileStatement (e.tree ∷ []) (s.events ++ h ∷ []) t.events rest le first lt
+    (raw.looped _ s.events e.spells refl) (e.below, tt) from t.means t.more more)
+
+-- CHOICES
+
+else_behind : (o c : Event) (body inside els rest : List Event) → body ≡ o ∷ inside ++ c ∷ [] → (body ++ (els ++ [])) ++ rest ≡ o ∷ (inside ++ c ∷ (els ++ rest))
+else_behind o c body inside els rest is =
+    ap (λ b. (b ++ (els ++ [])) ++ rest) is
+    ∙ ap (λ zs. o ∷ zs) (append_assoc (inside ++ c ∷ []) (els ++ []) rest ∙ append_assoc inside (c ∷ []) ((els ++ []) ++ rest) ∙ ap (λ zs. inside ++ c ∷ (zs ++ rest)) (append-nil els))
+
+if_events : (start h o c : Event) (cond body inside els rest : List Event) → body ≡ o ∷ inside ++ c ∷ [] →
+    start ∷ (cond ++ h ∷ o ∷ (inside ++ c ∷ (els ++ rest))) ≡ start ∷ ((cond ++ (h ∷ (body ++ (els ++ [])))) ++ rest)
+if_events start h o c cond body inside els rest is =
+    ap (λ zs. start ∷ zs) (sym (append_assoc cond (h ∷ (body ++ (els ++ []))) rest ∙ ap (λ zs. cond ++ h ∷ zs) (else_behind o c body inside els rest is)))
+
+pub if_statement : Build production.IfStatement
+unfolding body_of head_of
+if_statement n end c at le rest last more =
+    let s = c.more.more in
+    let t = s.more in
+    let u = t.more in
+    let e = s.means in
+    let b = t.means in
+    let i = b.inner in
+    let next : IsStatements u.end rest last = record { block = more.block; spells = more.spells; below = more.below; few = omega arith } in
+    subst (λ es. IsStatements n es last)
+    (if_events (on action.StartStatement at) (on action.IfHead s.end) (on action.OpenBlock b.opened) (on action.CloseBlock b.closed) s.events t.events b.inside u.events rest b.is)
+    (u.means at s.end b.opened b.closed n s.events b.inside e.tree i.block e.spells i.spells (omega arith) (expr_up _ t.end e.tree (omega arith) e.below) i.below (omega arith) rest last next)
+
+else_none_events : (start h o c q : Event) (cond inside rest : List Event) →
+    start ∷ (cond ++ h ∷ o ∷ (inside ++ c ∷ ((q ∷ []) ++ rest))) ≡ start ∷ (cond ++ h ∷ []) ++ o ∷ inside ++ c ∷ q ∷ rest
+else_none_events start h o c q cond inside rest = simp append_assoc
+
+pub else_none : Build production.ElseNone
+unfolding body_of head_of
+else_none n end le at h o c k cond inside e b spells inner at_below e_below b_below few rest last more = record {
+  block = Nested form.If at at (e ∷ []) b more.block;
+  spells = raw.nested o c n (cond ++ on action.IfHead h ∷ []) inside rest (raw.tested h cond spells refl) inner more.spells
+      (else_none_events (on action.StartStatement at) (on action.IfHead h) (on action.OpenBlock o) (on action.CloseBlock c) (on action.IfStatement n) cond inside rest);
+  below = (omega (arith, more.few), omega (arith, more.few), (expr_up n last e (omega (arith, more.few)) e_below, tt), block_up n last b (omega (arith, more.few)) b_below, more.below);
+  few = omega (arith, more.few);
+}
+
+else_some_events : (start h o c o' c' q : Event) (cond inside body second rest : List Event) → body ≡ o' ∷ second ++ c' ∷ [] →
+    start ∷ (cond ++ h ∷ o ∷ (inside ++ c ∷ ((body ++ (q ∷ [])) ++ rest))) ≡ start ∷ cond ++ h ∷ o ∷ inside ++ c ∷ o' ∷ second ++ c' ∷ q ∷ rest
+else_some_events start h o c o' c' q cond inside body second rest is = rw is (simp append_assoc)
+
+pub else_some : Build production.ElseSome
+unfolding body_of head_of
+else_some n end c' at h o c k cond inside e b spells inner at_below e_below b_below few rest last more =
+    let s = c'.more.more in
+    let second = s.means in
+    let i = second.inner in
+    record {
+      block = Branched at e b i.block more.block;
+      spells = raw.branched h o c second.opened second.closed s.end cond inside second.inside rest spells inner i.spells more.spells
+          (else_some_events (on action.StartStatement at) (on action.IfHead h) (on action.OpenBlock o) (on action.CloseBlock c) (on action.OpenBlock second.opened) (on action.CloseBlock second.closed)
+          (on action.IfElseStatement s.end) cond inside s.events second.inside rest second.is);
+      below = (omega arith, expr_up n last e (omega arith) e_below, block_up n last b (omega arith) b_below, block_up s.end last i.block (omega arith) i.below, more.below);
+      few = omega arith;
     }
