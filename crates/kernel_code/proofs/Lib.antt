@@ -17,3 +17,4 @@ pub mod Meanings
 pub mod Expressions
 pub mod Statements
 pub mod Derivations
+pub mod Parsing

@@ -6,3 +6,4 @@ pub mod Raw
 pub mod StaticFaults
 pub mod Trees
 pub mod Reading
+pub mod Parsing

@@ -1,12 +1,17 @@
-//! Kernels, from the events of the grammar.
+//! Kernels as the grammar reads them.
 
-ghost use Rattle.std.specs.Prelude.{◌≡◌, ◌<◌, ◌^◌, length, IfOk};
+ghost use Rattle.std.specs.Prelude.{◌≡◌, ◌<◌, ◌≤◌, ◌^◌, ℕ, length, IfOk};
+ghost use Rattle.frame_ast.specs.declared.kernel.FaultKind.{FaultKind};
+ghost use Rattle.frame_ast.specs.declared.kernel.FaultKind.TheVariants.{Syntax};
 ghost use Rattle.kernel_code.specs.Raw.{SpellsRaw, IsWithin, IsKernel};
 ghost use Rattle.kernel_code.specs.Reading.{is_parallel};
+ghost use Rattle.kernel_code.specs.Tokens.{tokens_of};
+ghost use Rattle.kernel_code.specs.Parsing.{StandsAt, StopsAt, refusal_of};
 
 use crate::reader::Reader;
-use crate::{RawKernel, Token};
-use frame_grammar::{Action, Event};
+use crate::{KernelFault, RawKernel, Token};
+use frame_ast::kernel::FaultKind;
+use frame_grammar::{Action, Event, Nonterminal, ParseError, parse};
 use job_base::NoMemory;
 use std::alloc::Global;
 
@@ -45,4 +50,45 @@ pub fn raw_kernel<'a>(
         params: reader.params,
         nodes: reader.nodes,
     })
+}
+
+/// How what the parser finds among these tokens is told.
+fn refusal(error: ParseError, ahead: &[Token]) -> KernelFault
+    requires { (place : ℕ) → error ≡ ParseError.Syntax place → place < length ahead.now }
+    ensures { result ≡ refusal_of error ahead.now }
+{
+    match error {
+        ParseError::Memory => KernelFault::NoMemory,
+        ParseError::Syntax(place) => KernelFault::Refused {
+            line: ahead[place as usize].line,
+            kind: FaultKind::Syntax,
+        },
+    }
+}
+
+/// The kernel that begins at a token of a file, and the place of the token behind it.
+///
+/// Line ends behind a token of a kernel are of the kernel, those behind its last `}` are not. What
+/// follows the kernel says nothing. The raw form tells its tokens by their places from `at` on.
+///
+/// A refusal is of syntax. Its line is that of the first token with which no kernel goes on.
+pub fn parse_kernel<'a>(
+    alloc: Global,
+    source: &'a [u8],
+    tokens: &'a [Token],
+    at: u32,
+) -> Result<(RawKernel<'a>, u32), KernelFault>
+    requires few { length source.now ≤ 16777216 }
+    requires lexed { tokens.now ≡ tokens_of source.now }
+    requires within { at < length tokens.now }
+    ensures kernel { IfOk result (λ found. StandsAt source.now tokens.now at found.1 found.0) }
+    ensures fault { (line : ℕ) (kind : FaultKind) → result ≡ Err (KernelFault.Refused line kind) → (kind ≡ Syntax) × StopsAt tokens.now at line }
+{
+    let ahead = &tokens[at as usize..];
+    let sentence = match parse(alloc, Nonterminal::Kernel, ahead) {
+        Ok(sentence) => sentence,
+        Err(error) => return Err(refusal(error, ahead)),
+    };
+    let raw = raw_kernel(alloc, source, ahead, &sentence.events)?;
+    Ok((raw, at + sentence.read))
 }

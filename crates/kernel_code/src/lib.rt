@@ -15,8 +15,9 @@ mod token;
 mod word;
 
 pub use fault::KernelFault;
+pub use frame_ast::kernel::FaultKind;
 pub use frame_grammar::TokenKind;
-pub use kernel::raw_kernel;
+pub use kernel::{parse_kernel, raw_kernel};
 pub use lexer::lex;
 pub use raw::{RawForm, RawKernel, RawNode, RawParam};
 pub use token::Token;
