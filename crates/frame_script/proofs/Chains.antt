@@ -1,5 +1,5 @@
 -- What the symbols of a body derive, one by one.
-use Rattle.std.proofs.Common.{◌≡◌, ℕ, suc, ◌+◌, List, [], ◌∷◌, ◌++◌, length, refl, sym, ap, subst}
+use Rattle.std.proofs.Common.{◌≡◌, ℕ, suc, ◌+◌, ◌≤◌, List, [], ◌∷◌, ◌++◌, length, refl, sym, ap, subst}
 use Rattle.std.proofs.lemmas.List.{append-nil}
 use Rattle.frame_grammar.specs.declared.TokenKind.{TokenKind}
 use Rattle.frame_grammar.specs.declared.symbols.Nonterminal.{Nonterminal}
@@ -13,10 +13,11 @@ use Rattle.frame_script.specs.Raw.{Stands}
 use Rattle.frame_script.proofs.Trees.{Tree, nothing, terminal, action, branch, derives_of}
 
 -- what a nonterminal derives from a place on: its events, where they lead to, and what they mean
-pub record Piece (M : Nonterminal → ℕ → List Event → Type 0) (head : Nonterminal) (n : ℕ) : Type 0 where
+pub record Piece (M : Nonterminal → ℕ → List Event → Type 0) (all : List TokenKind) (head : Nonterminal) (n : ℕ) : Type 0 where
   pub events : List Event
   pub tokens : List TokenKind
   pub derives : Derives n events (symbol.Nonterminal head ∷ []) tokens
+  pub within : n + length tokens ≤ length all
   pub means : M head n events
 
 -- what each of the symbols derives
@@ -24,7 +25,7 @@ abbrev pub Chain : (M : Nonterminal → ℕ → List Event → Type 0) → List 
 Chain M all [] n = Unit {0}
 Chain M all (symbol.Terminal k ∷ ss) n = Stands all k n × Chain M all ss (suc n)
 Chain M all (symbol.Action a ∷ ss) n = Chain M all ss n
-Chain M all (symbol.Nonterminal m ∷ ss) n = (piece : Piece M m n) × Chain M all ss (n + length piece.tokens)
+Chain M all (symbol.Nonterminal m ∷ ss) n = (piece : Piece M all m n) × Chain M all ss (n + length piece.tokens)
 
 -- the events of all
 abbrev pub events_of : (M : Nonterminal → ℕ → List Event → Type 0) (all : List TokenKind) (ss : List Symbol) (n : ℕ) → Chain M all ss n → List Event
@@ -46,12 +47,12 @@ pub chained : (M : Nonterminal → ℕ → List Event → Type 0) (all : List To
 chained M all builds nothing = record { chain = tt; are = refl }
 chained M all builds (terminal k stands t) = let c = chained M all builds t in record { chain = (stands, c.chain); are = c.are }
 chained M all builds (action {n = n} a t) = let c = chained M all builds t in record { chain = c.chain; are = ap (λ x. on a n ∷ x) c.are }
-chained M all builds (branch {n = n} {es = es} {ss = ss} {js = js} p {head} own body t) =
+chained M all builds (branch {n = n} {es = es} {ss = ss} {js = js} p {head} own within body t) =
     let b = chained M all builds body in
     let c = chained M all builds t in
     let d : Derives n es (body_of p ++ []) js = subst (λ x. Derives n es x js) (sym (append-nil (body_of p))) (derives_of body) in
     let m : M (head_of p) n es = subst (λ x. M (head_of p) n x) (sym b.are) (builds p n b.chain) in
     record {
-      chain = (record { events = es; tokens = js; derives = expanded p own d; means = subst (λ h. M h n es) own m }, c.chain);
+      chain = (record { events = es; tokens = js; derives = expanded p own d; within = within; means = subst (λ h. M h n es) own m }, c.chain);
       are = ap (λ x. es ++ x) c.are;
     }

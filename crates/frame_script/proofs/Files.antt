@@ -1,5 +1,5 @@
 -- A file is items: what its derivation means.
-use Rattle.std.proofs.Common.{◌≡◌, ℕ, inl, inr, Bool, true, false, List, [], ◌∷◌, ◌++◌, take, drop, refl, sym, ◌∙◌, ap, subst, append_assoc}
+use Rattle.std.proofs.Common.{◌+◌, ◌≤◌, length, ◌≡◌, ℕ, inl, inr, Bool, true, false, List, [], ◌∷◌, ◌++◌, take, drop, refl, sym, ◌∙◌, ap, subst, append_assoc}
 use Rattle.std.proofs.lemmas.List.{append-nil, take-append-drop}
 use Rattle.frame_grammar.specs.declared.TokenKind.{TokenKind}
 use Rattle.frame_grammar.specs.declared.symbols.Nonterminal.TheVariants as nonterminal
@@ -9,7 +9,7 @@ use Rattle.frame_grammar.specs.declared.symbols.Action.TheVariants as action
 use Rattle.frame_grammar.specs.declared.symbols.Event.{Event}
 use Rattle.frame_grammar.specs.Grammar.{head_of, body_of, Derives}
 use Rattle.frame_grammar.specs.Sentences.{IsOnlySentence}
-use Rattle.kernel_code.specs.Raw.{on}
+use Rattle.kernel_code.specs.Raw.{on, IsKernel}
 use Rattle.frame_script.specs.Raw.{KernelForm, Nothing, Kernel, Single, Block, SpellsKernel, nothing, kernel, single, block}
 use Rattle.frame_script.proofs.Trees.{tree_of}
 use Rattle.frame_script.proofs.Chains.{Chained, chained, Builds}
@@ -18,9 +18,25 @@ use Rattle.frame_script.proofs.Clauses
 use Rattle.frame_script.proofs.Clauses.{Build, and_no_more, last_no_more}
 use Rattle.frame_script.proofs.Statements
 
--- what a kernel derives spells one
+-- What a kernel derives spells one, whose places are below any number that its tokens end below.
 abbrev pub ReadsKernels : Type 0
-ReadsKernels = (n : ℕ) (events : List Event) (tokens : List TokenKind) → Derives n events (symbol.Nonterminal nonterminal.Kernel ∷ []) tokens → (k : KernelForm) × SpellsKernel events k
+ReadsKernels = (n m : ℕ) (events : List Event) (tokens : List TokenKind) → n + length tokens ≤ m → Derives n events (symbol.Nonterminal nonterminal.Kernel ∷ []) tokens → IsKernel events m
+
+form_of_kernel : {events : List Event} {m : ℕ} → IsKernel events m → KernelForm
+form_of_kernel k = record { parallel = k.parallel; name = k.name; params = k.params; body = k.body }
+
+spells_kernel : {events : List Event} {m : ℕ} (k : IsKernel events m) → SpellsKernel events (form_of_kernel k)
+unfolding form_of_kernel
+spells_kernel k = record {
+  at = k.at;
+  body_at = k.body_at;
+  end_at = k.end_at;
+  params = k.param_events;
+  statements = k.statement_events;
+  spelled = k.spelled;
+  with_params = k.with_params;
+  with_statements = k.with_statements;
+}
 
 -- a statement and the items behind it
 first_item : {all : List TokenKind} {n : ℕ} {outside : Bool} {es rest : List Event} → StatementMeans all n es → ItemsMeans all outside rest →
@@ -76,11 +92,11 @@ items_line all n (t, (m, _)) = same_items m.events (m.events ++ []) (sym (append
 items_kernel : ReadsKernels → (all : List TokenKind) → Build all production.ItemsKernel
 unfolding body_of head_of
 items_kernel kernels all n (k, (m, _)) =
-    let form : (k' : KernelForm) × SpellsKernel k.events k' = kernels n k.events k.tokens k.derives in
+    let form = kernels n (length all) k.events k.tokens k.within k.derives in
     record {
-      items = Kernel k.events form.0 m.means.items;
-      spells = kernel m.events form.1 m.means.spells (last_no_more k.events m.events);
-      stand = m.means.stand;
+      items = Kernel k.events (form_of_kernel form) m.means.items;
+      spells = kernel m.events (spells_kernel form) m.means.spells (last_no_more k.events m.events);
+      stand = (form, m.means.stand);
     }
 
 items_statement : (all : List TokenKind) → Build all production.ItemsStatement

@@ -6,3 +6,4 @@ pub mod Statements
 pub mod Files
 pub mod Readings
 pub mod Orders
+pub mod KernelEnds

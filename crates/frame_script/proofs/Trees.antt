@@ -1,5 +1,5 @@
 -- Derivations as trees, in which what a nonterminal derives stands together.
-use Rattle.std.proofs.Common.{◌≡◌, ℕ, suc, ◌+◌, List, [], ◌∷◌, ◌++◌, length, refl, sym, ◌∙◌, ap, subst, arith, append_assoc, length-append}
+use Rattle.std.proofs.Common.{◌≡◌, ℕ, suc, ◌+◌, ◌≤◌, List, [], ◌∷◌, ◌++◌, length, refl, sym, ◌∙◌, ap, subst, arith, append_assoc, length-append}
 use Rattle.frame_grammar.specs.declared.TokenKind.{TokenKind}
 use Rattle.frame_grammar.specs.declared.symbols.Nonterminal.{Nonterminal}
 use Rattle.frame_grammar.specs.declared.symbols.Production.{Production}
@@ -20,7 +20,7 @@ pub data Tree : List TokenKind → ℕ → List Event → List Symbol → List T
   action : {all : List TokenKind} {n : ℕ} {events : List Event} {ss : List Symbol} {ks : List TokenKind} (a : Action) →
       Tree all n events ss ks → Tree all n (on a n ∷ events) (symbol.Action a ∷ ss) ks
   branch : {all : List TokenKind} {n : ℕ} {es es' : List Event} {ss : List Symbol} {js js' : List TokenKind} (p : Production) {head : Nonterminal} →
-      head_of p ≡ head → Tree all n es (body_of p) js → Tree all (n + length js) es' ss js' →
+      head_of p ≡ head → n + length js ≤ length all → Tree all n es (body_of p) js → Tree all (n + length js) es' ss js' →
       Tree all n (es ++ es') (symbol.Nonterminal head ∷ ss) (js ++ js')
 
 -- what two lists of symbols derive, one behind the other
@@ -78,7 +78,7 @@ halves (symbol.Action b ∷ xs) ss (action {n = n} a t) =
       first = action a h.first;
       second = h.second;
     }
-halves (symbol.Nonterminal m ∷ xs) ss {all} (branch {n = n} {es = es} {js = js} p own body t) =
+halves (symbol.Nonterminal m ∷ xs) ss {all} (branch {n = n} {es = es} {js = js} p own within body t) =
     let h = halves xs ss t in
     record {
       es = es ++ h.es;
@@ -87,7 +87,7 @@ halves (symbol.Nonterminal m ∷ xs) ss {all} (branch {n = n} {es = es} {js = js
       js' = h.js';
       events_are = ap (λ x. es ++ x) h.events_are ∙ sym (append_assoc es h.es h.es');
       tokens_are = ap (λ x. js ++ x) h.tokens_are ∙ sym (append_assoc js h.js h.js');
-      first = branch p own body h.first;
+      first = branch p own within body h.first;
       second = subst (λ m. Tree all m h.es' ss h.js') (more_before n js h.js) h.second;
     }
 
@@ -97,6 +97,12 @@ stands_between (j ∷ read) k ks = stands_between read k ks
 
 one_more : (read : List TokenKind) (k : TokenKind) → suc (length read) ≡ length (read ++ k ∷ [])
 one_more read k = omega (arith, length-append read (k ∷ []))
+
+within_all : (all read ks js js' rest : List TokenKind) (n : ℕ) → all ≡ read ++ (ks ++ rest) → ks ≡ js ++ js' → n ≡ length read → n + length js ≤ length all
+within_all all read ks js js' rest n whole split place =
+    let a : length all ≡ length read + (length ks + length rest) = ap length whole ∙ length-append read (ks ++ rest) ∙ ap (λ x. length read + x) (length-append ks rest) in
+    let b : length ks ≡ length js + length js' = ap length split ∙ length-append js js' in
+    omega arith
 
 -- A derivation from the token on behind those read.
 pub tree_of : {all : List TokenKind} {n : ℕ} {events : List Event} {ss : List Symbol} {ks : List TokenKind} (read rest : List TokenKind) →
@@ -109,7 +115,8 @@ tree_of {all} {n} read rest whole place (d-terminal {ks = ks} k d) =
 tree_of read rest whole place (d-action a d) = action a (tree_of read rest whole place d)
 tree_of {all} {n} read rest whole place (expanded {ss = ss} {ks = ks} p {head} own d) =
     let h = halves (body_of p) ss (tree_of read rest whole place d) in
-    let t = branch p own h.first h.second in
+    let within = within_all all read ks h.js h.js' rest n whole h.tokens_are place in
+    let t = branch p own within h.first h.second in
     subst (λ x. Tree all n x (symbol.Nonterminal head ∷ ss) ks) (sym h.events_are)
     (subst (λ x. Tree all n (h.es ++ h.es') (symbol.Nonterminal head ∷ ss) x) (sym h.tokens_are) t)
 
@@ -118,4 +125,4 @@ pub derives_of : {all : List TokenKind} {n : ℕ} {events : List Event} {ss : Li
 derives_of nothing = d-nothing
 derives_of (terminal k stands t) = d-terminal k (derives_of t)
 derives_of (action a t) = d-action a (derives_of t)
-derives_of (branch {es' = es'} {ss = ss} {js' = js'} p own body t) = expanded p own (Derives-append es' ss js' (derives_of body) (derives_of t))
+derives_of (branch {es' = es'} {ss = ss} {js' = js'} p own within body t) = expanded p own (Derives-append es' ss js' (derives_of body) (derives_of t))

@@ -1,5 +1,5 @@
 -- The raw form of a script: the statements and the items of a file, and the events that spell them.
-use Rattle.std.specs.Prelude.{◌≡◌, ℕ, Bool, true, false, List, [], ◌∷◌, ◌++◌, Option, None, Some, map, slice_get}
+use Rattle.std.specs.Prelude.{◌≡◌, ℕ, Bool, true, false, List, [], ◌∷◌, ◌++◌, Option, None, Some, length, map, slice_get}
 use Rattle.frame_ast.specs.declared.script.Life.{Life}
 use Rattle.frame_ast.specs.declared.script.Life.TheVariants.{Temp, TempJob, Persistent}
 use Rattle.frame_grammar.specs.declared.TokenKind.{TokenKind}
@@ -8,7 +8,7 @@ use Rattle.frame_grammar.specs.declared.symbols.Action.{Action}
 use Rattle.frame_grammar.specs.declared.symbols.Action.TheVariants as action
 use Rattle.frame_grammar.specs.declared.symbols.Event.{Event}
 use Rattle.kernel_code.specs.declared.raw.RawParam.{RawParam}
-use Rattle.kernel_code.specs.Raw.{on, opening, RawBlock, SpellsParams, SpellsBlock}
+use Rattle.kernel_code.specs.Raw.{on, opening, RawBlock, SpellsParams, SpellsBlock, IsKernel}
 use Rattle.frame_script.specs.declared.raw.RawNumber.{RawNumber}
 use Rattle.frame_script.specs.declared.raw.RawArg.{RawArg}
 use Rattle.frame_script.specs.declared.raw.RawArg.TheVariants as arg
@@ -305,6 +305,14 @@ pub record SpellsKernel (events : List Event) (kernel : KernelForm) : Type 0 whe
   pub with_params : SpellsParams params kernel.params
   pub with_statements : SpellsBlock statements kernel.body
 
+-- These events begin with those of a kernel.
+pub record BeginsKernel (all : List Event) : Type 0 where
+  pub events : List Event
+  pub rest : List Event
+  pub form : KernelForm
+  pub all_are : all ≡ events ++ rest
+  pub spells : SpellsKernel events form
+
 -- the events that spell items; kernels stand outside blocks alone
 pub data SpellsItems : (outside : Bool) → List Event → RawItems → Type 0 where
   nothing : {outside : Bool} {events : List Event} →
@@ -399,9 +407,10 @@ OrderStands kinds Frame = Unit {0}
 OrderStands kinds (Repeat n) = Stands kinds token.Number n
 OrderStands kinds (When x s value) = Stands kinds token.Name x × ((test : TokenKind) × Stands kinds test s × IsTest test) × Stands kinds token.Number value.at
 
--- A token stands at each place: a name, a Number, a Text or a comparison where its statement tells one, any token where it starts.
+-- A token stands at each place: a name, a Number, a Text or a comparison where its statement tells one, any token where it starts. The
+-- places of kernels are among the tokens.
 abbrev pub ItemsStand : List TokenKind → RawItems → Type 0
 ItemsStand kinds Nothing = Unit {0}
-ItemsStand kinds (Kernel events k more) = ItemsStand kinds more
+ItemsStand kinds (Kernel events k more) = IsKernel events (length kinds) × ItemsStand kinds more
 ItemsStand kinds (Single at order more) = ((first : TokenKind) × Stands kinds first at) × OrderStands kinds order × ItemsStand kinds more
 ItemsStand kinds (Block at head inner more) = ((first : TokenKind) × Stands kinds first at) × OrderStands kinds head × ItemsStand kinds inner × ItemsStand kinds more

@@ -1,5 +1,5 @@
 -- How the events of a statement, one after another, make its raw form.
-use Rattle.std.specs.Prelude.{ℕ, Bool, true, false, List, [], ◌∷◌, ◌++◌, Option, None, Some, if◌then◌else◌}
+use Rattle.std.specs.Prelude.{ℕ, ◌+◌, Bool, true, false, List, [], ◌∷◌, ◌++◌, Option, None, Some, if◌then◌else◌}
 use Rattle.frame_ast.specs.declared.script.Life.TheVariants.{Temp, TempJob, Persistent}
 use Rattle.frame_grammar.specs.declared.symbols.Action.{Action}
 use Rattle.frame_grammar.specs.declared.symbols.Action.TheVariants as action
@@ -157,3 +157,13 @@ finished _ r = Flush
 abbrev pub order_from : Reading → List Event → Option (OrderForm × List Event)
 order_from r [] = None
 order_from r (e ∷ es) = if ends e.action then Some (finished e.action r, es) else order_from (step e.action e.place r) es
+
+-- whether the event closes a kernel
+abbrev pub closes : Action → Bool
+closes action.CloseKernel = true
+closes _ = false
+
+-- how many events stand up to the first that closes a kernel, with it; one more than all where none does
+abbrev pub len_to_close : List Event → ℕ
+len_to_close [] = 1
+len_to_close (e ∷ es) = if closes e.action then 1 else len_to_close es + 1

@@ -2,11 +2,13 @@
 #![tactic(auto)]
 
 mod build;
+mod build_kernel;
 mod build_words;
 mod kind;
 pub mod raw;
 mod source;
 
 pub use build::{ReadOrder, raw_order};
+pub use build_kernel::kernel_len;
 pub use kind::NameKind;
 pub use source::Source;

@@ -1,0 +1,6 @@
+use Rattle.std.proofs.Common.{◌≡◌, ◌+◌, drop}
+use Rattle.frame_script.specs.Reading.{len_to_close}
+use Rattle.frame_script.proofs.build_kernel.kernel_len.Given as goal
+
+abbrev pub invariant-loop-index : goal.invariant-loop-index
+invariant-loop-index l = l.index + len_to_close (drop l.index l.events) ≡ len_to_close l.events
