@@ -10,6 +10,8 @@ use Rattle.frame_grammar.specs.declared.symbols.Event.{Event}
 use Rattle.frame_grammar.specs.Grammar.{head_of, body_of, Derives}
 use Rattle.frame_grammar.specs.Sentences.{IsOnlySentence}
 use Rattle.kernel_code.specs.Raw.{on, IsKernel}
+use Rattle.kernel_code.proofs.Meanings.{is_kernel_up}
+use Rattle.kernel_code.proofs.Derivations.{kernel_derived}
 use Rattle.frame_script.specs.Raw.{KernelForm, Nothing, Kernel, Single, Block, SpellsKernel, nothing, kernel, single, block}
 use Rattle.frame_script.proofs.Trees.{tree_of}
 use Rattle.frame_script.proofs.Chains.{Chained, chained, Builds}
@@ -17,10 +19,6 @@ use Rattle.frame_script.proofs.Meanings.{Means, StatementMeans, ItemsMeans}
 use Rattle.frame_script.proofs.Clauses
 use Rattle.frame_script.proofs.Clauses.{Build, and_no_more, last_no_more}
 use Rattle.frame_script.proofs.Statements
-
--- What a kernel derives spells one, whose places are below any number that its tokens end below.
-abbrev pub ReadsKernels : Type 0
-ReadsKernels = (n m : ℕ) (events : List Event) (tokens : List TokenKind) → n + length tokens ≤ m → Derives n events (symbol.Nonterminal nonterminal.Kernel ∷ []) tokens → IsKernel events m
 
 form_of_kernel : {events : List Event} {m : ℕ} → IsKernel events m → KernelForm
 form_of_kernel k = record { parallel = k.parallel; name = k.name; params = k.params; body = k.body }
@@ -89,10 +87,10 @@ items_line : (all : List TokenKind) → Build all production.ItemsLine
 unfolding body_of head_of
 items_line all n (t, (m, _)) = same_items m.events (m.events ++ []) (sym (append-nil m.events)) m.means
 
-items_kernel : ReadsKernels → (all : List TokenKind) → Build all production.ItemsKernel
+items_kernel : (all : List TokenKind) → Build all production.ItemsKernel
 unfolding body_of head_of
-items_kernel kernels all n (k, (m, _)) =
-    let form = kernels n (length all) k.events k.tokens k.within k.derives in
+items_kernel all n (k, (m, _)) =
+    let form = is_kernel_up (n + length k.tokens) (length all) k.events k.within (kernel_derived k.derives) in
     record {
       items = Kernel k.events (form_of_kernel form) m.means.items;
       spells = kernel m.events (spells_kernel form) m.means.spells (last_no_more k.events m.events);
@@ -118,91 +116,91 @@ unfolding body_of head_of
 whole_file all n (m, (t, _)) = same_items m.events (m.events ++ []) (sym (append-nil m.events)) m.means
 
 -- each production
-builds : ReadsKernels → (all : List TokenKind) → Builds (Means all) all
+builds : (all : List TokenKind) → Builds (Means all) all
 unfolding head_of
-builds kernels all production.File n c = whole_file all n c
-builds kernels all production.ItemsEnd n c = items_end all n c
-builds kernels all production.ItemsLine n c = items_line all n c
-builds kernels all production.ItemsKernel n c = items_kernel kernels all n c
-builds kernels all production.ItemsStatement n c = items_statement all n c
-builds kernels all production.AfterItemEnd n c = after_item_end all n c
-builds kernels all production.AfterItemLine n c = after_item_line all n c
-builds kernels all production.ArrayStatement n c = Statements.array_statement all n c
-builds kernels all production.ColumnStatement n c = Statements.column_statement all n c
-builds kernels all production.ListStatement n c = Statements.list_statement all n c
-builds kernels all production.ReferenceStatement n c = Statements.reference_statement all n c
-builds kernels all production.MapStatement n c = Statements.map_statement all n c
-builds kernels all production.StreamStatement n c = Statements.stream_statement all n c
-builds kernels all production.SliceStatement n c = Statements.slice_statement all n c
-builds kernels all production.ViewStatement n c = Statements.view_statement all n c
-builds kernels all production.CopyStatement n c = Statements.copy_statement all n c
-builds kernels all production.SetStatement n c = Statements.set_statement all n c
-builds kernels all production.AddToStatement n c = Statements.add_to_statement all n c
-builds kernels all production.PutStatement n c = Statements.put_statement all n c
-builds kernels all production.RemoveFromStatement n c = Statements.remove_from_statement all n c
-builds kernels all production.ClearOutStatement n c = Statements.clear_out_statement all n c
-builds kernels all production.SetCapacityStatement n c = Statements.set_capacity_statement all n c
-builds kernels all production.ScheduleStatement n c = Statements.schedule_statement all n c
-builds kernels all production.CombineStatement n c = Statements.combine_statement all n c
-builds kernels all production.CompleteStatement n c = Statements.complete_statement all n c
-builds kernels all production.DisposeStatement n c = Statements.dispose_statement all n c
-builds kernels all production.PrintStatement n c = Statements.print_statement all n c
-builds kernels all production.FlushStatement n c = Statements.flush_statement all n c
-builds kernels all production.FrameStatement n c = Statements.frame_statement all n c
-builds kernels all production.RepeatStatement n c = Statements.repeat_statement all n c
-builds kernels all production.WhenStatement n c = Statements.when_statement all n c
-builds kernels all production.LifeNone n c = Clauses.life_none all n c
-builds kernels all production.LifeTemp n c = Clauses.life_temp all n c
-builds kernels all production.LifeTempJob n c = Clauses.life_temp_job all n c
-builds kernels all production.LifePersistent n c = Clauses.life_persistent all n c
-builds kernels all production.SignedMinus n c = Clauses.signed_minus all n c
-builds kernels all production.SignedPlain n c = Clauses.signed_plain all n c
-builds kernels all production.MaybeSignedNone n c = Clauses.maybe_signed_none all n c
-builds kernels all production.MaybeSignedSome n c = Clauses.maybe_signed_some all n c
-builds kernels all production.ArrayValuesNone n c = Clauses.array_values_none all n c
-builds kernels all production.ArrayValuesSome n c = Clauses.array_values_some all n c
-builds kernels all production.MoreValuesEnd n c = Clauses.more_values_end all n c
-builds kernels all production.MoreValuesSome n c = Clauses.more_values_some all n c
-builds kernels all production.ReferenceValueNone n c = Clauses.reference_value_none all n c
-builds kernels all production.ReferenceValueSome n c = Clauses.reference_value_some all n c
-builds kernels all production.ArgumentsNone n c = Clauses.arguments_none all n c
-builds kernels all production.ArgumentsSome n c = Clauses.arguments_some all n c
-builds kernels all production.MoreArgumentsEnd n c = Clauses.more_arguments_end all n c
-builds kernels all production.MoreArgumentsSome n c = Clauses.more_arguments_some all n c
-builds kernels all production.ArgumentName n c = Clauses.argument_name all n c
-builds kernels all production.ArgumentSigned n c = Clauses.argument_signed all n c
-builds kernels all production.AutoNone n c = Clauses.auto_none all n c
-builds kernels all production.AutoSome n c = Clauses.auto_some all n c
-builds kernels all production.SizesNone n c = Clauses.sizes_none all n c
-builds kernels all production.SizesLength n c = Clauses.sizes_length all n c
-builds kernels all production.SizesDefer n c = Clauses.sizes_defer all n c
-builds kernels all production.WaivedNone n c = Clauses.waived_none all n c
-builds kernels all production.WaivedSome n c = Clauses.waived_some all n c
-builds kernels all production.AfterNone n c = Clauses.after_none all n c
-builds kernels all production.AfterSome n c = Clauses.after_some all n c
-builds kernels all production.NamesEnd n c = Clauses.names_end all n c
-builds kernels all production.NamesMore n c = Clauses.names_more all n c
-builds kernels all production.DisposalNamed n c = Clauses.disposal_named all n c
-builds kernels all production.DisposalAuto n c = Clauses.disposal_auto all n c
-builds kernels all production.DisposedNow n c = Clauses.disposed_now all n c
-builds kernels all production.DisposedLater n c = Clauses.disposed_later all n c
-builds kernels all production.TestEqual n c = Clauses.test_equal all n c
-builds kernels all production.TestNotEqual n c = Clauses.test_not_equal all n c
-builds kernels all production.TestLess n c = Clauses.test_less all n c
-builds kernels all production.TestLessEqual n c = Clauses.test_less_equal all n c
-builds kernels all production.TestGreater n c = Clauses.test_greater all n c
-builds kernels all production.TestGreaterEqual n c = Clauses.test_greater_equal all n c
-builds kernels all production.LinedEnd n c = lined_end all n c
-builds kernels all production.LinedLine n c = lined_line all n c
-builds kernels all production.LinedStatement n c = lined_statement all n c
-builds kernels all _ n c = tt
+builds all production.File n c = whole_file all n c
+builds all production.ItemsEnd n c = items_end all n c
+builds all production.ItemsLine n c = items_line all n c
+builds all production.ItemsKernel n c = items_kernel all n c
+builds all production.ItemsStatement n c = items_statement all n c
+builds all production.AfterItemEnd n c = after_item_end all n c
+builds all production.AfterItemLine n c = after_item_line all n c
+builds all production.ArrayStatement n c = Statements.array_statement all n c
+builds all production.ColumnStatement n c = Statements.column_statement all n c
+builds all production.ListStatement n c = Statements.list_statement all n c
+builds all production.ReferenceStatement n c = Statements.reference_statement all n c
+builds all production.MapStatement n c = Statements.map_statement all n c
+builds all production.StreamStatement n c = Statements.stream_statement all n c
+builds all production.SliceStatement n c = Statements.slice_statement all n c
+builds all production.ViewStatement n c = Statements.view_statement all n c
+builds all production.CopyStatement n c = Statements.copy_statement all n c
+builds all production.SetStatement n c = Statements.set_statement all n c
+builds all production.AddToStatement n c = Statements.add_to_statement all n c
+builds all production.PutStatement n c = Statements.put_statement all n c
+builds all production.RemoveFromStatement n c = Statements.remove_from_statement all n c
+builds all production.ClearOutStatement n c = Statements.clear_out_statement all n c
+builds all production.SetCapacityStatement n c = Statements.set_capacity_statement all n c
+builds all production.ScheduleStatement n c = Statements.schedule_statement all n c
+builds all production.CombineStatement n c = Statements.combine_statement all n c
+builds all production.CompleteStatement n c = Statements.complete_statement all n c
+builds all production.DisposeStatement n c = Statements.dispose_statement all n c
+builds all production.PrintStatement n c = Statements.print_statement all n c
+builds all production.FlushStatement n c = Statements.flush_statement all n c
+builds all production.FrameStatement n c = Statements.frame_statement all n c
+builds all production.RepeatStatement n c = Statements.repeat_statement all n c
+builds all production.WhenStatement n c = Statements.when_statement all n c
+builds all production.LifeNone n c = Clauses.life_none all n c
+builds all production.LifeTemp n c = Clauses.life_temp all n c
+builds all production.LifeTempJob n c = Clauses.life_temp_job all n c
+builds all production.LifePersistent n c = Clauses.life_persistent all n c
+builds all production.SignedMinus n c = Clauses.signed_minus all n c
+builds all production.SignedPlain n c = Clauses.signed_plain all n c
+builds all production.MaybeSignedNone n c = Clauses.maybe_signed_none all n c
+builds all production.MaybeSignedSome n c = Clauses.maybe_signed_some all n c
+builds all production.ArrayValuesNone n c = Clauses.array_values_none all n c
+builds all production.ArrayValuesSome n c = Clauses.array_values_some all n c
+builds all production.MoreValuesEnd n c = Clauses.more_values_end all n c
+builds all production.MoreValuesSome n c = Clauses.more_values_some all n c
+builds all production.ReferenceValueNone n c = Clauses.reference_value_none all n c
+builds all production.ReferenceValueSome n c = Clauses.reference_value_some all n c
+builds all production.ArgumentsNone n c = Clauses.arguments_none all n c
+builds all production.ArgumentsSome n c = Clauses.arguments_some all n c
+builds all production.MoreArgumentsEnd n c = Clauses.more_arguments_end all n c
+builds all production.MoreArgumentsSome n c = Clauses.more_arguments_some all n c
+builds all production.ArgumentName n c = Clauses.argument_name all n c
+builds all production.ArgumentSigned n c = Clauses.argument_signed all n c
+builds all production.AutoNone n c = Clauses.auto_none all n c
+builds all production.AutoSome n c = Clauses.auto_some all n c
+builds all production.SizesNone n c = Clauses.sizes_none all n c
+builds all production.SizesLength n c = Clauses.sizes_length all n c
+builds all production.SizesDefer n c = Clauses.sizes_defer all n c
+builds all production.WaivedNone n c = Clauses.waived_none all n c
+builds all production.WaivedSome n c = Clauses.waived_some all n c
+builds all production.AfterNone n c = Clauses.after_none all n c
+builds all production.AfterSome n c = Clauses.after_some all n c
+builds all production.NamesEnd n c = Clauses.names_end all n c
+builds all production.NamesMore n c = Clauses.names_more all n c
+builds all production.DisposalNamed n c = Clauses.disposal_named all n c
+builds all production.DisposalAuto n c = Clauses.disposal_auto all n c
+builds all production.DisposedNow n c = Clauses.disposed_now all n c
+builds all production.DisposedLater n c = Clauses.disposed_later all n c
+builds all production.TestEqual n c = Clauses.test_equal all n c
+builds all production.TestNotEqual n c = Clauses.test_not_equal all n c
+builds all production.TestLess n c = Clauses.test_less all n c
+builds all production.TestLessEqual n c = Clauses.test_less_equal all n c
+builds all production.TestGreater n c = Clauses.test_greater all n c
+builds all production.TestGreaterEqual n c = Clauses.test_greater_equal all n c
+builds all production.LinedEnd n c = lined_end all n c
+builds all production.LinedLine n c = lined_line all n c
+builds all production.LinedStatement n c = lined_statement all n c
+builds all _ n c = tt
 
 -- The events of a file spell items, and each place told is that of a token of its kind.
-pub file_items : ReadsKernels → (all : List TokenKind) (events : List Event) → (rest ks : List TokenKind) → all ≡ ks ++ rest →
+pub file_items : (all : List TokenKind) (events : List Event) → (rest ks : List TokenKind) → all ≡ ks ++ rest →
     Derives 0 events (symbol.Nonterminal nonterminal.File ∷ []) ks → ItemsMeans all true events
-file_items kernels all events rest ks whole d =
-    let c : Chained (Means all) all 0 events (symbol.Nonterminal nonterminal.File ∷ []) = chained (Means all) all (builds kernels all) (tree_of [] rest whole refl d) in
+file_items all events rest ks whole d =
+    let c : Chained (Means all) all 0 events (symbol.Nonterminal nonterminal.File ∷ []) = chained (Means all) all (builds all) (tree_of [] rest whole refl d) in
     same_items (c.chain.0.events) events (sym (append-nil c.chain.0.events) ∙ sym c.are) c.chain.0.means
 
-pub sentence_items : ReadsKernels → (all : List TokenKind) (n : ℕ) (events : List Event) → IsOnlySentence nonterminal.File all n events → ItemsMeans all true events
-sentence_items kernels all n events found = file_items kernels all events (drop n all) (take n all) (sym (take-append-drop n all)) found.sentence
+pub sentence_items : (all : List TokenKind) (n : ℕ) (events : List Event) → IsOnlySentence nonterminal.File all n events → ItemsMeans all true events
+sentence_items all n events found = file_items all events (drop n all) (take n all) (sym (take-append-drop n all)) found.sentence
