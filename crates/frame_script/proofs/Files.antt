@@ -1,5 +1,5 @@
 -- A file is items: what its derivation means.
-use Rattle.std.proofs.Common.{◌+◌, ◌≤◌, length, ◌≡◌, ℕ, inl, inr, Bool, true, false, List, [], ◌∷◌, ◌++◌, take, drop, refl, sym, ◌∙◌, ap, subst, append_assoc}
+use Rattle.std.proofs.Common.{◌+◌, length, ◌≡◌, ℕ, inl, inr, Bool, true, false, List, [], ◌∷◌, ◌++◌, take, drop, refl, sym, ◌∙◌, ap, subst, append_assoc}
 use Rattle.std.proofs.lemmas.List.{append-nil, take-append-drop}
 use Rattle.frame_grammar.specs.declared.TokenKind.{TokenKind}
 use Rattle.frame_grammar.specs.declared.symbols.Nonterminal.TheVariants as nonterminal
@@ -12,7 +12,7 @@ use Rattle.frame_grammar.specs.Sentences.{IsOnlySentence}
 use Rattle.kernel_code.specs.Raw.{on, IsKernel}
 use Rattle.kernel_code.proofs.Meanings.{is_kernel_up}
 use Rattle.kernel_code.proofs.Derivations.{kernel_derived}
-use Rattle.frame_script.specs.Raw.{KernelForm, Nothing, Kernel, Single, Block, SpellsKernel, nothing, kernel, single, block}
+use Rattle.frame_script.specs.Raw.{IsFile, KernelForm, Nothing, Kernel, Single, Block, SpellsKernel, nothing, kernel, single, block}
 use Rattle.frame_script.proofs.Trees.{tree_of}
 use Rattle.frame_script.proofs.Chains.{Chained, chained, Builds}
 use Rattle.frame_script.proofs.Meanings.{Means, StatementMeans, ItemsMeans}
@@ -204,3 +204,6 @@ file_items all events rest ks whole d =
 
 pub sentence_items : (all : List TokenKind) (n : ℕ) (events : List Event) → IsOnlySentence nonterminal.File all n events → ItemsMeans all true events
 sentence_items all n events found = file_items all events (drop n all) (take n all) (sym (take-append-drop n all)) found.sentence
+
+pub is_file : (all : List TokenKind) (n : ℕ) (events : List Event) → IsOnlySentence nonterminal.File all n events → IsFile all events
+is_file all n events found = let m = sentence_items all n events found in record { items = m.items; spells = m.spells; stand = m.stand }

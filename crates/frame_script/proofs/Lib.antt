@@ -7,3 +7,4 @@ pub mod Files
 pub mod Readings
 pub mod Orders
 pub mod KernelEnds
+pub mod Walks

@@ -414,3 +414,9 @@ ItemsStand kinds Nothing = Unit {0}
 ItemsStand kinds (Kernel events k more) = IsKernel events (length kinds) × ItemsStand kinds more
 ItemsStand kinds (Single at order more) = ((first : TokenKind) × Stands kinds first at) × OrderStands kinds order × ItemsStand kinds more
 ItemsStand kinds (Block at head inner more) = ((first : TokenKind) × Stands kinds first at) × OrderStands kinds head × ItemsStand kinds inner × ItemsStand kinds more
+
+-- the events spell items of a file with tokens of these kinds
+pub record IsFile (kinds : List TokenKind) (events : List Event) : Type 0 where
+  pub items : RawItems
+  pub spells : SpellsItems true events items
+  pub stand : ItemsStand kinds items

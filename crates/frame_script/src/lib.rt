@@ -2,6 +2,7 @@
 #![tactic(auto)]
 
 mod build;
+mod build_file;
 mod build_kernel;
 mod build_words;
 mod kind;
@@ -9,6 +10,7 @@ pub mod raw;
 mod source;
 
 pub use build::{ReadOrder, raw_order};
+pub use build_file::file_events;
 pub use build_kernel::kernel_len;
 pub use kind::NameKind;
 pub use source::Source;

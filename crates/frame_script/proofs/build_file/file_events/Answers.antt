@@ -1,0 +1,17 @@
+use Rattle.std.proofs.Common.{List, Result, Ok, Err, IfOk}
+use Rattle.frame_grammar.specs.declared.TokenKind.{TokenKind}
+use Rattle.frame_grammar.specs.declared.symbols.Nonterminal.TheVariants.{File}
+use Rattle.frame_grammar.specs.declared.parser.Sentence.{Sentence}
+use Rattle.frame_grammar.specs.declared.parser.ParseError.{ParseError}
+use Rattle.frame_grammar.specs.Sentences.{IsOnlySentence}
+use Rattle.kernel_code.specs.Parsing.{kinds}
+use Rattle.frame_script.specs.Raw.{IsFile}
+use Rattle.frame_script.proofs.Files.{is_file}
+use Rattle.frame_script.proofs.build_file.file_events.Goals as goal
+
+found_items : (all : List TokenKind) (result : Result Sentence ParseError) → IfOk result (λ found. IsOnlySentence File all found.read found.events.items) → IfOk result (λ found. IsFile all found.events.items)
+found_items all (Ok found) is = is_file all found.read found.events.items is
+found_items all (Err e) is = tt
+
+pub returns-clause-items : goal.returns-clause-items
+returns-clause-items c = found_items (kinds c.args.tokens.now) c.parse.result c.parse.ensures.sentence
