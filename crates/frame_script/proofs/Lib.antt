@@ -8,3 +8,9 @@ pub mod Readings
 pub mod Orders
 pub mod KernelEnds
 pub mod Walks
+pub mod NameLemmas
+pub mod PlaceLemmas
+pub mod FaultLemmas
+pub mod NumberLemmas
+pub mod ListLemmas
+pub mod CopyLemmas

@@ -21,7 +21,7 @@ use Rattle.frame_script.specs.declared.raw.RawSizes.TheVariants as sizes
 use Rattle.frame_script.specs.declared.source.Source.{Source}
 use Rattle.frame_script.specs.Sources.{text_at, column_at, number_at, fits_signed}
 use Rattle.frame_script.specs.Raw.{OrderForm, NewArray, NewColumn, NewList, NewReference, NewMap, NewStream, Slice, View, Copy, Set, Add, Put, Remove, Clear, SetCapacity, Schedule, Combine, Complete, Dispose, DisposeAuto, Print, Flush, Frame, Repeat, When}
-use Rattle.frame_script.specs.Names.{Name as Known, is_same, is_among, kind_in, sliceable, has_elements, disposable, container}
+use Rattle.frame_script.specs.Names.{Name as Known, is_among, kind_in, sliceable, has_elements, disposable, container}
 
 -- the first of these faults, of which each may be missing
 unfoldable pub first : List (Option StaticFault) → Option StaticFault
@@ -45,6 +45,9 @@ signed_fault s n = unless (fits_signed n.minus (number_at s n.at)) Limit n.at
 abbrev pub long_fault : Source → ℕ → Option StaticFault
 long_fault s at = unless (nat_le (length (text_at s at)) 64) Limit at
 
+abbrev pub column_fault : Source → ℕ → Option StaticFault
+column_fault s at = unless (nat_le (length (column_at s at)) 256) Limit at
+
 -- a name that is used must be known, and of a kind that fits; a known name is short
 abbrev pub misfit : Option NameKind → List NameKind → ℕ → Option StaticFault
 misfit None kinds at = Some (record { at = at; kind = UnknownName })
@@ -56,10 +59,13 @@ use_fault s names kinds at = misfit (kind_in names (text_at s at)) kinds at
 -- a name that is made isn't known, or of the same kind
 abbrev pub agrees : Option NameKind → NameKind → Bool
 agrees None kind = true
-agrees (Some k) kind = is_same k kind
+agrees (Some k) kind = is_among k (kind ∷ [])
+
+abbrev pub remake_fault : Source → List Known → NameKind → ℕ → Option StaticFault
+remake_fault s names kind at = unless (agrees (kind_in names (text_at s at)) kind) KindMismatch at
 
 abbrev pub make_fault : Source → List Known → NameKind → ℕ → Option StaticFault
-make_fault s names kind at = first (unless (agrees (kind_in names (text_at s at)) kind) KindMismatch at ∷ long_fault s at ∷ [])
+make_fault s names kind at = first (remake_fault s names kind at ∷ long_fault s at ∷ [])
 
 -- a copy is made in the kind of its source, where that can be copied
 abbrev pub copy_fault : Source → List Known → Option NameKind → ℕ → Option StaticFault
@@ -187,7 +193,7 @@ abbrev pub order_faults : Source → Scope → ℕ → OrderForm → List (Optio
 order_faults s c at (NewArray name len life values) =
     make_fault s c.names kind.Array name ∷ count_fault s len values ∷ limit_fault s 0 1048576 len ∷ values_faults s values
 order_faults s c at (NewColumn name column life) =
-    make_fault s c.names kind.Array name ∷ unless (nat_le (length (column_at s column)) 256) Limit column ∷ []
+    make_fault s c.names kind.Array name ∷ column_fault s column ∷ []
 order_faults s c at (NewList name cap life) = make_fault s c.names kind.List name ∷ limit_fault s 0 1048576 cap ∷ []
 order_faults s c at (NewReference name life value) = make_fault s c.names kind.Reference name ∷ value_fault s value ∷ []
 order_faults s c at (NewMap name cap life) = make_fault s c.names kind.Map name ∷ limit_fault s 0 4096 cap ∷ []

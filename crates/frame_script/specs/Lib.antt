@@ -1,6 +1,8 @@
 pub mod Raw
 pub mod Sources
 pub mod Names
+pub mod Index
+pub mod Checks
 pub mod Faults
 pub mod Spelling
 pub mod Files

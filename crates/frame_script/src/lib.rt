@@ -5,12 +5,18 @@ mod build;
 mod build_file;
 mod build_kernel;
 mod build_words;
+mod checks;
+mod fault;
 mod kind;
+mod names;
+mod order_checks;
 pub mod raw;
 mod source;
 
 pub use build::{ReadOrder, raw_order};
 pub use build_file::file_events;
 pub use build_kernel::kernel_len;
+pub use fault::OrderFault;
 pub use kind::NameKind;
+pub use names::Names;
 pub use source::Source;

@@ -1,0 +1,13 @@
+use Rattle.std.proofs.Common.{rules, Some}
+use Rattle.frame_script.proofs.FaultLemmas.{exits, checking}
+use Rattle.frame_script.specs.declared.kind.NameKind.TheVariants.{Handle}
+use Rattle.frame_script.proofs.order_checks.changes.dispose_auto.Goals as goal
+
+pub returns-in_err-name : goal.returns-in_err-name
+returns-in_err-name c = exits _ _ c.from_residual.result _ c.from_residual.ensures.1 (search (rules, checking))
+
+pub returns-in_err-handle : goal.returns-in_err-handle
+returns-in_err-handle c = exits _ _ c.from_residual-in_err-handle.result _ c.from_residual-in_err-handle.ensures.1 (search (rules, checking))
+
+pub returns : goal.returns
+returns c = (search (rules, checking), cc (c.in_ok-handle.ensures.1, c.in_ok-name.ensures.1 (Some (c.args.handle, Handle))))

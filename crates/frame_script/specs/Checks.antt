@@ -1,0 +1,38 @@
+-- What the check of a part of a statement answers: its first fault, or what it says.
+use Rattle.std.specs.Prelude.{◌≡◌, ℕ, map, false, List, [], Option, Some, None, Result, MatchResult}
+use Rattle.kernel_code.specs.declared.check.StaticFault.{StaticFault}
+use Rattle.frame_script.specs.declared.kind.NameKind.{NameKind}
+use Rattle.frame_script.specs.declared.source.Source.{Source}
+use Rattle.frame_script.specs.Names.{Name}
+use Rattle.frame_ast.specs.declared.script.Order.{Order}
+use Rattle.frame_script.specs.Raw.{OrderForm}
+use Rattle.frame_script.specs.Faults.{Scope, first, order_faults}
+use Rattle.frame_script.specs.Spelling.{place_of, names_with, names_after, Says}
+use Rattle.frame_script.specs.declared.fault.OrderFault.{OrderFault}
+use Rattle.frame_script.specs.declared.fault.OrderFault.TheVariants.{Refused, NoMemory}
+
+-- a refusal tells this fault
+abbrev pub Refuses : Option StaticFault → OrderFault → Type 0
+Refuses fault (Refused f) = fault ≡ Some f
+Refuses fault NoMemory = Unit {0}
+
+-- the answer is a refusal by this fault, or where there is none a value of which this holds
+abbrev pub Gives : {A : Type 0} → Option StaticFault → (A → Type 0) → Result A OrderFault → Type 0
+Gives fault Holds result = MatchResult result (λ a. (fault ≡ None) × Holds a) (Refuses fault)
+
+-- the place of a known name, which it keeps whatever name is made
+abbrev pub IsPlace : Source → List Name → ℕ → ℕ → Type 0
+IsPlace s names at place = (m : Option (ℕ × NameKind)) → place ≡ place_of s (names_with s names m) at
+
+-- the places of known names
+abbrev pub ArePlaces : Source → List Name → List ℕ → List ℕ → Type 0
+ArePlaces s names ats places = (m : Option (ℕ × NameKind)) → places ≡ map (place_of s (names_with s names m)) ats
+
+-- the check of a statement
+
+abbrev pub Checked : Source → Scope → (literals at : ℕ) → OrderForm → Result Order OrderFault → Type 0
+Checked s c literals at form = Gives (first (order_faults s c at form)) (Says s (names_after s c.names form) c.kernels literals 0 form)
+
+-- names alone
+abbrev pub bare : List Name → Scope
+bare names = record { names = names; kernels = []; blocks = 0; tested = false }

@@ -1,0 +1,193 @@
+//! The checks of single tokens: numbers, names that are used, and names that are made.
+
+ghost use Rattle.std.specs.Prelude.{◌≡◌, ℕ, map, ◌<◌, ◌-◌, ◌^◌, ⊤, Some, None, length, IfOk, IfErr, MatchResult, min};
+ghost use Rattle.std.specs.Option.{option_map};
+ghost use Rattle.std.specs.List.{list_any};
+ghost use Rattle.frame_script.specs.Sources.{text_at, number_at, signed_at, column_at};
+ghost use Rattle.frame_script.specs.Names.{is_same, is_among};
+ghost use Rattle.frame_script.specs.Faults.{limit_fault, signed_fault, first, handles_faults, column_fault, use_fault, remake_fault, make_fault, long_fault, value_fault};
+ghost use Rattle.frame_script.specs.Spelling.{place_of, names_with};
+ghost use Rattle.frame_script.specs.Checks.{Gives, IsPlace, ArePlaces};
+
+use crate::raw::RawNumber;
+use crate::{NameKind, Names, OrderFault, Source};
+use frame_ast::kernel::FaultKind;
+use kernel_code::check::StaticFault;
+use std::alloc::Global;
+
+/// The kinds of containers.
+pub const CONTAINERS: [NameKind; 7] = [
+    NameKind::Slice,
+    NameKind::View,
+    NameKind::Array,
+    NameKind::List,
+    NameKind::Reference,
+    NameKind::Map,
+    NameKind::Stream,
+];
+
+/// The refusal by this fault.
+pub fn refused<T>(kind: FaultKind, at: u32) -> Result<T, OrderFault>
+    ensures { result ≡ Err (OrderFault.Refused (record { at = at; kind = kind })) }
+{
+    Err(OrderFault::Refused(StaticFault { at, kind }))
+}
+
+/// A Number within limits.
+pub fn limited(source: Source<'_>, least: u32, most: u32, at: u32) -> Result<u32, OrderFault>
+    ensures { Gives (limit_fault source.entry least most at) (λ n. n ≡ number_at source.entry at) result }
+{
+    let number = source.number(at);
+    if number < u64::from(least) || number > u64::from(most) {
+        return refused(FaultKind::Limit, at);
+    }
+    Ok(number as u32)
+}
+
+/// A signed number of 64 bits.
+pub fn signed(source: Source<'_>, number: RawNumber) -> Result<i64, OrderFault>
+    ensures { Gives (signed_fault source.entry number) (λ z. z ≡ signed_at source.entry number) result }
+{
+    let value = source.number(number.at);
+    let value = if number.minus {
+        0i64.checked_sub_unsigned(value)
+    } else {
+        i64::try_from(value).ok()
+    };
+    match value {
+        None => refused(FaultKind::Limit, number.at),
+        Some(value) => Ok(value),
+    }
+}
+
+/// Whether the kind is among these.
+pub fn is_among(kind: NameKind, kinds: &[NameKind]) -> bool
+    ensures { result ≡ is_among kind kinds.now }
+{
+    for known in kinds {
+        if *known == kind {
+            return true;
+        }
+    }
+    false
+}
+
+/// A name of at most 64 bytes.
+pub fn short(source: Source<'_>, at: u32) -> Result<(), OrderFault>
+    ensures { Gives (long_fault source.entry at) (λ _. ⊤) result }
+{
+    if source.text(at).len() > 64 {
+        return refused(FaultKind::Limit, at);
+    }
+    Ok(())
+}
+
+/// The place of a name that is known, and of one of these kinds.
+pub fn used(
+    source: Source<'_>,
+    names: &Names<'_>,
+    kinds: &[NameKind],
+    at: u32,
+) -> Result<u32, OrderFault>
+    ensures { Gives (use_fault source.entry names.now kinds.now at) (IsPlace source.entry names.now at) result }
+{
+    let Some((place, kind)) = names.get(source.text(at)) else {
+        return refused(FaultKind::UnknownName, at);
+    };
+    if !is_among(kind, kinds) {
+        return refused(FaultKind::KindMismatch, at);
+    }
+    Ok(place)
+}
+
+// The place of a name that is made, where what is known of it agrees.
+fn place_made(
+    source: Source<'_>,
+    names: &Names<'_>,
+    kind: NameKind,
+    at: u32,
+) -> Result<u32, OrderFault>
+    ensures { Gives (remake_fault source.entry names.now kind at) (λ place. place ≡ place_of source.entry (names_with source.entry names.now (Some (at, kind))) at) result }
+{
+    let Some((place, known)) = names.get(source.text(at)) else {
+        return Ok(names.len());
+    };
+    if !is_among(known, &[kind]) {
+        return refused(FaultKind::KindMismatch, at);
+    }
+    Ok(place)
+}
+
+/// The place of a name that is made, for the first time or again in the same kind.
+pub fn made(
+    source: Source<'_>,
+    names: &Names<'_>,
+    kind: NameKind,
+    at: u32,
+) -> Result<u32, OrderFault>
+    ensures { Gives (make_fault source.entry names.now kind at) (λ place. place ≡ place_of source.entry (names_with source.entry names.now (Some (at, kind))) at) result }
+{
+    let place = place_made(source, names, kind, at)?;
+    short(source, at)?;
+    Ok(place)
+}
+
+/// A signed number of 64 bits, where one is given.
+pub fn maybe_signed(
+    source: Source<'_>,
+    number: Option<RawNumber>,
+) -> Result<Option<i64>, OrderFault>
+    ensures { Gives (value_fault source.entry number) (λ z. z ≡ option_map (signed_at source.entry) number) result }
+{
+    match number {
+        None => Ok(None),
+        Some(number) => match signed(source, number) {
+            Ok(value) => Ok(Some(value)),
+            Err(fault) => Err(fault),
+        },
+    }
+}
+
+/// The places of handles that are known.
+pub fn handles(
+    alloc: Global,
+    source: Source<'_>,
+    names: &Names<'_>,
+    handles: &[u32],
+) -> Result<Vec<u32>, OrderFault>
+    ensures { Gives (first (handles_faults source.entry names.now handles.now)) (λ places. ArePlaces source.entry names.now handles.now places.items) result }
+{
+    let mut places = Vec::new(alloc);
+    for handle in handles {
+        let place = used(source, names, &[NameKind::Handle], *handle)?;
+        places.push(place)?;
+    }
+    Ok(places)
+}
+
+/// Signed numbers of 64 bits.
+pub fn all_signed(
+    alloc: Global,
+    source: Source<'_>,
+    numbers: &[RawNumber],
+) -> Result<Vec<i64>, OrderFault>
+    ensures { Gives (first (map (signed_fault source.entry) numbers.now)) (λ values. values.items ≡ map (signed_at source.entry) numbers.now) result }
+{
+    let mut values = Vec::new(alloc);
+    for number in numbers {
+        let value = signed(source, *number)?;
+        values.push(value)?;
+    }
+    Ok(values)
+}
+
+/// A Text of at most 256 bytes, without its quotes.
+pub fn short_column<'a>(source: Source<'a>, at: u32) -> Result<&'a [u8], OrderFault>
+    ensures { Gives (column_fault source.entry at) (λ text. text.now ≡ column_at source.entry at) result }
+{
+    let text = source.column(at);
+    if text.len() > 256 {
+        return refused(FaultKind::Limit, at);
+    }
+    Ok(text)
+}

@@ -1,0 +1,81 @@
+//! The names of a script, in the order of their first making.
+
+ghost use Rattle.std.specs.Prelude.{◌≡◌, ℕ, ◌<◌, ◌-◌, ◌^◌, List, [], length, map, IfOk, OnErr, MatchOption, slice_get, Some, None};
+ghost use Rattle.frame_script.specs.Names.{Name, is_same, is_among, place_in, kind_in, with_name};
+ghost use Rattle.frame_script.specs.Index.{known_of, IsIndex};
+
+use crate::NameKind;
+use job_base::NoMemory;
+use std::alloc::Global;
+use std::collections::BTreeMap;
+use std::marker::Model;
+
+/// A name, and what it stands for.
+#[derive(Clone, Copy, Drop)]
+pub struct Entry<'a> {
+    pub text: &'a [u8],
+    pub kind: NameKind,
+}
+
+/// The names that are known, each with what it stands for. A name's place is its number among them.
+#[derive(Drop)]
+pub struct Names<'a> {
+    places: BTreeMap<&'a [u8], u32>,
+    entries: Vec<Entry<'a>>,
+}
+
+impl<'a> Model for Names<'a> {
+    ghost Value = { List Name };
+
+    ghost view = { λ s. map known_of s.entries.items };
+
+    ghost invariant = { λ s. IsIndex s.places s.entries.items };
+}
+
+impl<'a> Names<'a> {
+    ghost use Rattle.std.specs.Option.{option_map};
+
+    /// No names.
+    pub fn new(alloc: Global) -> Self
+        ensures { result ≡ [] }
+    {
+        Names {
+            places: BTreeMap::new(alloc),
+            entries: Vec::new(alloc),
+        }
+    }
+
+    /// How many names are known.
+    pub fn len(&self) -> u32
+        ensures length { result ≡ length self.now }
+        ensures few { length self.now < 2 ^ 32 }
+    {
+        self.entries.len() as u32
+    }
+
+    /// The place of a name, and what it stands for.
+    pub fn get(&self, text: &[u8]) -> Option<(u32, NameKind)>
+        ensures place { option_map (λ r. r.0) result ≡ place_in self.now text.now }
+        ensures kind { option_map (λ r. r.1) result ≡ kind_in self.now text.now }
+    {
+        let place = *self.places.get(text)?;
+        Some((place, self.entries[place as usize].kind))
+    }
+
+    /// Makes a name: where it is known already, it stays as it is.
+    pub fn make(&mut self, text: &'a [u8], kind: NameKind) -> Result<(), NoMemory>
+        requires { length self.old < 2 ^ 32 - 1 }
+        ensures { IfOk result (λ _. self.new ≡ with_name self.old text.now kind) }
+    {
+        if self.places.contains_key(text) {
+            return Ok(());
+        }
+        let place = self.entries.len() as u32;
+        self.entries.push(Entry { text, kind })?;
+        if self.places.insert(text, place).is_err() {
+            self.entries.pop();
+            return Err(NoMemory);
+        }
+        Ok(())
+    }
+}

@@ -1,0 +1,4 @@
+//! The checks of statements.
+
+mod changes;
+mod makes;

@@ -1,0 +1,213 @@
+//! The statements that change containers, and those that end or show them.
+
+ghost use Rattle.std.specs.Prelude.{◌≡◌, true, false};
+ghost use Rattle.std.specs.Option.{option_map};
+ghost use Rattle.frame_script.specs.Raw.{Dispose, Set, Add, Put, Remove, Clear, SetCapacity, Complete, DisposeAuto, Print};
+ghost use Rattle.frame_script.specs.Faults.{first, as_faults, made_as, use_fault, set_kinds, add_kinds};
+ghost use Rattle.frame_script.specs.Spelling.{place_of, names_with};
+ghost use Rattle.frame_script.specs.Checks.{Checked, Gives, IsPlace, bare};
+
+use crate::checks::{CONTAINERS, handles, limited, made, maybe_signed, signed, used};
+use crate::raw::RawNumber;
+use crate::{NameKind, Names, OrderFault, Source};
+use frame_ast::script::Order;
+use std::alloc::Global;
+
+const DISPOSABLE: [NameKind; 5] = [
+    NameKind::Array,
+    NameKind::List,
+    NameKind::Reference,
+    NameKind::Map,
+    NameKind::Stream,
+];
+
+pub fn put(
+    source: Source<'_>,
+    names: &Names<'_>,
+    name: u32,
+    key: RawNumber,
+    value: RawNumber,
+) -> Result<Order, OrderFault>
+    ensures { Checked source.entry (bare names.now) 0 0 (Put name key value) result }
+{
+    let name = used(source, names, &[NameKind::Map], name)?;
+    let key = signed(source, key)?;
+    let value = signed(source, value)?;
+    Ok(Order::Put { name, key, value })
+}
+
+pub fn remove(
+    source: Source<'_>,
+    names: &Names<'_>,
+    name: u32,
+    at: RawNumber,
+) -> Result<Order, OrderFault>
+    ensures { Checked source.entry (bare names.now) 0 0 (Remove name at) result }
+{
+    let name = used(source, names, &[NameKind::List, NameKind::Map], name)?;
+    let at = signed(source, at)?;
+    Ok(Order::Remove { name, at })
+}
+
+pub fn clear(source: Source<'_>, names: &Names<'_>, name: u32) -> Result<Order, OrderFault>
+    ensures { Checked source.entry (bare names.now) 0 0 (Clear name) result }
+{
+    let kinds = [NameKind::List, NameKind::Map, NameKind::Stream];
+    let name = used(source, names, &kinds, name)?;
+    Ok(Order::Clear { name })
+}
+
+pub fn set_capacity(
+    source: Source<'_>,
+    names: &Names<'_>,
+    name: u32,
+    cap: u32,
+) -> Result<Order, OrderFault>
+    ensures { Checked source.entry (bare names.now) 0 0 (SetCapacity name cap) result }
+{
+    let name = used(source, names, &[NameKind::List], name)?;
+    let cap = limited(source, 0, 1_048_576, cap)?;
+    Ok(Order::SetCapacity { name, cap })
+}
+
+pub fn print(source: Source<'_>, names: &Names<'_>, name: u32) -> Result<Order, OrderFault>
+    ensures { Checked source.entry (bare names.now) 0 0 (Print name) result }
+{
+    let name = used(source, names, &CONTAINERS, name)?;
+    Ok(Order::Print { name })
+}
+
+pub fn dispose(
+    alloc: Global,
+    source: Source<'_>,
+    names: &Names<'_>,
+    name: u32,
+    after: &[u32],
+    handle: Option<u32>,
+) -> Result<Order, OrderFault>
+    ensures { Checked source.entry (bare names.now) 0 0 (Dispose name after.now handle) result }
+{
+    let name = used(source, names, &DISPOSABLE, name)?;
+    let after = handles(alloc, source, names, after)?;
+    let handle = made_as(source, names, handle)?;
+    Ok(Order::Dispose {
+        name,
+        after,
+        handle,
+    })
+}
+
+// The handle after `as`, where there is one.
+fn made_as(
+    source: Source<'_>,
+    names: &Names<'_>,
+    handle: Option<u32>,
+) -> Result<Option<u32>, OrderFault>
+    ensures { Gives (first (as_faults source.entry names.now handle)) (λ place. place ≡ option_map (place_of source.entry (names_with source.entry names.now (made_as handle))) handle) result }
+{
+    match handle {
+        None => Ok(None),
+        Some(at) => {
+            let place = made(source, names, NameKind::Handle, at)?;
+            Ok(Some(place))
+        }
+    }
+}
+
+pub fn dispose_auto(
+    source: Source<'_>,
+    names: &Names<'_>,
+    name: u32,
+    handle: u32,
+) -> Result<Order, OrderFault>
+    ensures { Checked source.entry (bare names.now) 0 0 (DisposeAuto name handle) result }
+{
+    let name = used(source, names, &DISPOSABLE, name)?;
+    let handle = made(source, names, NameKind::Handle, handle)?;
+    Ok(Order::DisposeAuto { name, handle })
+}
+
+const HAS_ELEMENTS: [NameKind; 4] = [
+    NameKind::Array,
+    NameKind::Slice,
+    NameKind::View,
+    NameKind::List,
+];
+
+// What a `set` with or without an index takes.
+fn settable(
+    source: Source<'_>,
+    names: &Names<'_>,
+    index: Option<RawNumber>,
+    name: u32,
+) -> Result<u32, OrderFault>
+    ensures { Gives (use_fault source.entry names.now (set_kinds index) name) (IsPlace source.entry names.now name) result }
+{
+    match index {
+        None => used(source, names, &[NameKind::Reference], name),
+        Some(_) => used(source, names, &HAS_ELEMENTS, name),
+    }
+}
+
+// What an `add` with or without a second number takes.
+fn addable(
+    source: Source<'_>,
+    names: &Names<'_>,
+    second: Option<RawNumber>,
+    name: u32,
+) -> Result<u32, OrderFault>
+    ensures { Gives (use_fault source.entry names.now (add_kinds second) name) (IsPlace source.entry names.now name) result }
+{
+    match second {
+        None => used(source, names, &[NameKind::List], name),
+        Some(_) => used(source, names, &[NameKind::Map], name),
+    }
+}
+
+pub fn set(
+    source: Source<'_>,
+    names: &Names<'_>,
+    name: u32,
+    at: Option<RawNumber>,
+    value: RawNumber,
+) -> Result<Order, OrderFault>
+    ensures { Checked source.entry (bare names.now) 0 0 (Set name at value) result }
+{
+    let name = settable(source, names, at, name)?;
+    let at = maybe_signed(source, at)?;
+    let value = signed(source, value)?;
+    Ok(Order::Set { name, at, value })
+}
+
+pub fn add(
+    source: Source<'_>,
+    names: &Names<'_>,
+    name: u32,
+    first: RawNumber,
+    second: Option<RawNumber>,
+) -> Result<Order, OrderFault>
+    ensures { Checked source.entry (bare names.now) 0 0 (Add name first second) result }
+{
+    let name = addable(source, names, second, name)?;
+    let first = signed(source, first)?;
+    let second = maybe_signed(source, second)?;
+    Ok(Order::Add {
+        name,
+        first,
+        second,
+    })
+}
+
+pub fn complete(source: Source<'_>, names: &Names<'_>, name: u32) -> Result<Order, OrderFault>
+    ensures { Checked source.entry (bare names.now) 0 0 (Complete false name) result }
+{
+    let name = used(source, names, &[NameKind::Handle], name)?;
+    Ok(Order::Complete { name })
+}
+
+pub fn complete_auto(source: Source<'_>, names: &Names<'_>, name: u32) -> Result<Order, OrderFault>
+    ensures { Checked source.entry (bare names.now) 0 0 (Complete true name) result }
+{
+    let name = used(source, names, &CONTAINERS, name)?;
+    Ok(Order::CompleteAuto { name })
+}
