@@ -5,3 +5,4 @@ pub mod Placing
 pub mod Rooms
 pub mod Changes
 pub mod Settling
+pub mod Waits

@@ -1,11 +1,13 @@
 -- What the lists of a store keep.
-use Rattle.std.specs.Prelude.{◌≡◌, ℕ, ◌+◌, ◌≤◌, true, List, length, sum_by, vec_len, vec_capacity, Vec}
+use Rattle.std.specs.Prelude.{◌≡◌, ℕ, ◌+◌, ◌<◌, ◌≤◌, true, false, List, length, sum_by, vec_len, vec_capacity, Vec}
 use Rattle.std.specs.declared.alloc.Global.{Global}
+use Rattle.job_handle.specs.declared.handle.Handle.{Handle}
+use Rattle.job_handle.specs.Sets.{jobs_of}
 use Rattle.slot_store.specs.declared.place.Place.{Place}
 use Rattle.slot_store.specs.declared.place.Waiting.{Waiting}
 use Rattle.slot_store.specs.declared.space.FreeSpace.{FreeSpace}
 use Rattle.slot_store.specs.Spaces.{is_live}
-use Rattle.slot_store.specs.Places.{place_at, in_use, held_once, has_live, some_live, live_len, used_once, taken_once, times}
+use Rattle.slot_store.specs.Places.{place_at, in_use, users_of, held_once, has_live, some_live, live_len, used_once, taken_once, times, slot_in, job_in}
 
 -- The free list of words (`space`), that of slots (`numbers`) and the list of held slots (`waiting`) say what the slots'
 -- places say, and no word is in two ranges.
@@ -24,6 +26,14 @@ pub record HaveRoom (places : List Place) (space numbers : FreeSpace) (waiting :
   pub words : vec_len space.holes + sum_by used_once places ≤ vec_capacity space.holes
   pub slots : vec_len numbers.holes + sum_by used_once places ≤ vec_capacity numbers.holes
   pub held : vec_len waiting + sum_by taken_once places ≤ vec_capacity waiting
+
+-- A job that is noted with a held slot is one of its users; with the first n slots one is noted that isn't among those
+-- that were completed when these slots were looked at.
+pub record AreWaiting (places : List Place) (held : List Waiting) (n : ℕ) (completed : Handle) : Type 0 where
+  pub within : n ≤ length held
+  pub users : (k : ℕ) → k < length held → 0 < job_in held k → users_of (place_at places (slot_in held k)).state (job_in held k) ≡ true
+  pub noted : (k : ℕ) → k < n → 0 < job_in held k
+  pub pending : (k : ℕ) → k < n → jobs_of completed (job_in held k) ≡ false
 
 -- the same numbers, with as much room or more
 pub record IsGrown (old new : FreeSpace) : Type 0 where

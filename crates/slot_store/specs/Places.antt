@@ -62,3 +62,7 @@ times held s = count_by (λ (x : Waiting). nat_eq x.slot s) held
 
 abbrev pub slot_in : List Waiting → ℕ → ℕ
 slot_in held k = (slice_index_or held k (record { slot = 0; job = 0 })).slot
+
+-- the job that it was last seen to wait for, or 0
+abbrev pub job_in : List Waiting → ℕ → ℕ
+job_in held k = (slice_index_or held k (record { slot = 0; job = 0 })).job

@@ -69,3 +69,10 @@ pub record IsReady (store : SlotStore) : Type 0 where
   pub words : vec_len store.words.holes + vec_len store.places < vec_capacity store.words.holes
   pub slots : vec_len store.slots.holes + vec_len store.places < vec_capacity store.slots.holes
   pub held : vec_len store.held + vec_len store.places ≤ vec_capacity store.held
+
+-- how many words are live, and how many slots in use, once each held range that has no pending user came back
+abbrev pub live_words_settled : Book → SlotStore → ℕ
+live_words_settled b store = sum_by (λ p. live_len (settled b p)) store.places.items
+
+abbrev pub slots_in_use_settled : Book → SlotStore → ℕ
+slots_in_use_settled b store = sum_by (λ p. used_once (settled b p)) store.places.items

@@ -11,11 +11,12 @@
 //! between live words, in rising order, and in the same way those between slots in use.
 #![tactic(auto)]
 
-mod pending;
 mod place;
 mod slot;
 mod space;
 mod store;
+#[cfg(test)]
+mod tests;
 
 pub use slot::{Slot, StoreFault, Taken, Version};
 pub use store::{MOST_WORDS, SlotStore};

@@ -21,7 +21,7 @@ pub(crate) struct Place {
     pub(crate) span: Span,
 }
 
-/// A slot that is held, and the job that was last seen to use its words.
+/// A slot that is held, and one of the jobs that it waits for, or 0 where none was sought yet.
 #[derive(Clone, Copy)]
 pub(crate) struct Waiting {
     pub(crate) slot: u32,

@@ -1,12 +1,11 @@
 // The store: slots, the ranges of words that they have, and those that are held until jobs are completed.
-ghost use Rattle.std.specs.Prelude.{◌≡◌, ℕ, ◌+◌, ◌<◌, ◌≤◌, ◌^◌, ◌&&◌, ◌↔◌, max, nat_eq, true, false, if◌then◌else◌, IfOk, OnOk, OnErr, IsTrue, is_some, vec_len, vec_capacity};
-ghost use Rattle.slot_store.specs.Kept.{AreKept, HaveRoom, IsGrown};
+ghost use Rattle.std.specs.Prelude.{◌≡◌, ℕ, ◌+◌, ◌<◌, ◌≤◌, ◌^◌, ◌&&◌, ◌↔◌, max, nat_eq, true, false, if◌then◌else◌, IfOk, OnOk, OnErr, IsTrue, IfSome, IfNone, vec_len, vec_capacity};
+ghost use Rattle.slot_store.specs.Kept.{AreKept, AreWaiting, HaveRoom, IsGrown};
 
-use crate::pending::pending_user;
 use crate::place::{Place, State, Waiting};
 use crate::slot::{Slot, StoreFault, Taken, Version};
 use crate::space::FreeSpace;
-use job_base::{NoMemory, Span};
+use job_base::{JobId, NoMemory, Span};
 use job_handle::{Handle, JobBook};
 use std::alloc::Global;
 
@@ -20,20 +19,26 @@ pub struct SlotStore {
     places: Vec<Place>,
     words: FreeSpace,
     slots: FreeSpace,
+    // Each of the first `waiting` waits for a job that isn't in `completed`. The others are to be looked at.
     held: Vec<Waiting>,
+    waiting: usize,
+    // The jobs that were completed at the last `settle`.
+    completed: Handle,
     live_words: u32,
     peak: u32,
     ghost kept: { AreKept places.items words slots held.items live_words peak },
     ghost room: { HaveRoom places.items words slots held },
+    ghost waits: { AreWaiting places.items held.items waiting completed },
 }
 
 impl SlotStore {
     ghost use Rattle.slot_store.specs.Places.{in_use, is_held, is_taken, unused, users_of};
-    ghost use Rattle.slot_store.specs.Stores.{IsReady, IsSame, freed, given, held, is_live_word, is_pending, live_words_of, peak_of, place_of, settled, slot_at, slots_in_use, taken};
+    ghost use Rattle.slot_store.specs.Stores.{IsReady, IsSame, freed, given, held, is_live_word, live_words_of, live_words_settled, peak_of, place_of, settled, slot_at, slots_in_use, slots_in_use_settled, taken};
     ghost use Rattle.frame_ast.specs.Ranges.{IsFirstFit};
     ghost use Rattle.frame_ast.specs.Jobs.{Book};
     ghost use Rattle.frame_ast.specs.Laws.{AreUpTo};
     ghost use Rattle.job_handle.specs.Books.{StandsFor, count_of};
+    ghost use Rattle.job_handle.specs.Sets.{jobs_of};
 
     /// A store where no slot was taken.
     pub fn new(alloc: Global) -> Result<SlotStore, NoMemory>
@@ -47,6 +52,8 @@ impl SlotStore {
             words: FreeSpace::new(alloc),
             slots: FreeSpace::new(alloc),
             held: Vec::new(alloc),
+            waiting: 0,
+            completed: Handle::empty(),
             live_words: 0,
             peak: 0,
         })
@@ -154,18 +161,20 @@ impl SlotStore {
         };
     }
 
-    /// Each held range whose users are all completed comes back with its slot, and no other.
+    /// Each held range whose users are all completed comes back with its slot, and no other. It looks at those that were
+    /// held since the last call, and at the others where a job was completed since.
     pub fn settle(&mut self, book: &JobBook)
         requires known { (s : ℕ) → AreUpTo (count_of book.now) (users_of (place_of self.old s).state) }
         ensures places { (b : Book) → StandsFor book.now b → (s : ℕ) → place_of self.new s ≡ settled b (place_of self.old s) }
-        ensures live { live_words_of self.new ≤ live_words_of self.old }
-        ensures used { slots_in_use self.new ≤ slots_in_use self.old }
+        ensures users { (s j : ℕ) → users_of (place_of self.new s).state j ≡ true → users_of (place_of self.old s).state j ≡ true }
+        ensures live { (b : Book) → StandsFor book.now b → live_words_of self.new ≡ live_words_settled b self.old }
+        ensures used { (b : Book) → StandsFor book.now b → slots_in_use self.new ≡ slots_in_use_settled b self.old }
+        ensures fewer { slots_in_use self.new ≤ slots_in_use self.old }
         ensures peak { peak_of self.new ≡ peak_of self.old }
     {
-        let mut left = self.held.len();
-        while left > 0 {
-            left -= 1;
-            self.settle_one(left, book);
+        self.note_completed(book);
+        while self.waiting < self.held.len() {
+            self.settle_next();
         }
     }
 
@@ -279,70 +288,101 @@ impl SlotStore {
         span
     }
 
-    /// `settle` for the slot at a place of the list of held slots.
-    fn settle_one(&mut self, i: usize, book: &JobBook)
-        requires listed { i < vec_len self.old.held }
-        requires known { (s : ℕ) → AreUpTo (count_of book.now) (users_of (place_of self.old s).state) }
-        ensures places { (b : Book) → StandsFor book.now b → (s : ℕ) → place_of self.new s ≡ (if nat_eq s (slot_at self.old i) then settled b (place_of self.old s) else place_of self.old s) }
-        ensures users { (s j : ℕ) → users_of (place_of self.new s).state j ≡ true → users_of (place_of self.old s).state j ≡ true }
-        ensures earlier { (k : ℕ) → k < i → slot_at self.new k ≡ slot_at self.old k }
-        ensures length { i ≤ vec_len self.new.held }
-        ensures live { live_words_of self.new ≤ live_words_of self.old }
-        ensures used { slots_in_use self.new ≤ slots_in_use self.old }
-        ensures peak { peak_of self.new ≡ peak_of self.old }
+    /// Notes which jobs are completed now.
+    fn note_completed(&mut self, book: &JobBook)
+        ensures same { IsSame self.old self.new }
+        ensures completed { (b : Book) → StandsFor book.now b → (j : ℕ) → jobs_of self.new.completed j ≡ b.completed j }
     {
-        let waiting = self.held[i];
-        match self.pending_user(waiting, book) {
-            Some(job) => self.keep_hold(i, waiting.slot, job),
-            None => self.end_hold(i, waiting.slot),
+        let completed = book.before(&Handle::empty());
+        self.waiting = self.still_waiting(&completed);
+        self.completed = completed;
+    }
+
+    /// How many of the first held slots needn't be looked at: where a job was completed since the last call, none.
+    fn still_waiting(&self, completed: &Handle) -> usize
+        ensures { AreWaiting self.now.places.items self.now.held.items result completed.now }
+    {
+        match completed.latest_outside(&self.completed) {
+            Some(_) => 0,
+            None => self.waiting,
         }
     }
 
-    /// The slot waits for another job.
-    fn keep_hold(&mut self, i: usize, slot: u32, job: u32)
-        requires listed { i < vec_len self.old.held }
-        requires slot { slot ≡ slot_at self.old i }
-        ensures same { IsSame self.old self.new }
-        ensures list { (k : ℕ) → slot_at self.new k ≡ slot_at self.old k }
-        ensures length { vec_len self.new.held ≡ vec_len self.old.held }
+    /// `settle` for the first held slot that is to be looked at.
+    fn settle_next(&mut self)
+        requires left { self.old.waiting < vec_len self.old.held }
+        ensures places { (b : Book) → ((j : ℕ) → jobs_of self.old.completed j ≡ b.completed j) → ((s : ℕ) → AreUpTo b.count (users_of (place_of self.old s).state)) → (s : ℕ) → settled b (place_of self.new s) ≡ settled b (place_of self.old s) }
+        ensures users { (s j : ℕ) → users_of (place_of self.new s).state j ≡ true → users_of (place_of self.old s).state j ≡ true }
+        ensures completed { self.new.completed ≡ self.old.completed }
+        ensures less { vec_len self.new.held + self.old.waiting < vec_len self.old.held + self.new.waiting }
+        ensures fewer { slots_in_use self.new ≤ slots_in_use self.old }
+        ensures peak { peak_of self.new ≡ peak_of self.old }
     {
-        self.held[i] = Waiting { slot, job };
+        let at = self.waiting;
+        let held = self.held[at];
+        match self.pending_user(held) {
+            Some(job) => self.keep_hold(at, held.slot, job.0),
+            None => self.end_hold(at, held.slot),
+        }
     }
 
-    /// A user of a slot's range that isn't completed.
-    fn pending_user(&self, waiting: Waiting, book: &JobBook) -> Option<u32>
-        requires held { is_held (place_of self.now waiting.slot).state ≡ true }
-        requires known { AreUpTo (count_of book.now) (users_of (place_of self.now waiting.slot).state) }
-        ensures { (b : Book) → StandsFor book.now b → is_some result ≡ is_pending b (users_of (place_of self.now waiting.slot).state) }
+    /// A user of a held range that isn't completed: the one that was noted, or the latest.
+    fn pending_user(&self, held: Waiting) -> Option<JobId>
+        requires held { is_held (place_of self.now held.slot).state ≡ true }
+        requires noted { 0 < held.job → users_of (place_of self.now held.slot).state held.job ≡ true }
+        ensures some { IfSome result (λ j. (0 < j.0) × (users_of (place_of self.now held.slot).state j.0 ≡ true) × (jobs_of self.now.completed j.0 ≡ false)) }
+        ensures none { IfNone result ((j : ℕ) → users_of (place_of self.now held.slot).state j ≡ true → jobs_of self.now.completed j ≡ true) }
     {
-        match &self.places[waiting.slot as usize].state {
-            State::Held(users) => pending_user(users, waiting.job, book),
+        let noted = JobId(held.job);
+        if held.job > 0 && !self.completed.has(noted) {
+            return Some(noted);
+        }
+        match &self.places[held.slot as usize].state {
+            State::Held(users) => users.latest_outside(&self.completed),
             _ => None,
         }
     }
 
+    /// The slot waits for a job.
+    fn keep_hold(&mut self, at: usize, slot: u32, job: u32)
+        requires listed { at < vec_len self.old.held }
+        requires first { at ≡ self.old.waiting }
+        requires slot { slot ≡ slot_at self.old at }
+        requires user { users_of (place_of self.old slot).state job ≡ true }
+        requires some { 0 < job }
+        requires pending { jobs_of self.old.completed job ≡ false }
+        ensures same { IsSame self.old self.new }
+        ensures waiting { self.new.waiting ≡ self.old.waiting + 1 }
+        ensures length { vec_len self.new.held ≡ vec_len self.old.held }
+        ensures completed { self.new.completed ≡ self.old.completed }
+    {
+        self.held[at] = Waiting { slot, job };
+        self.waiting = at + 1;
+    }
+
     /// A held range comes back with its slot.
-    fn end_hold(&mut self, i: usize, slot: u32)
-        requires listed { i < vec_len self.old.held }
-        requires slot { slot ≡ slot_at self.old i }
+    fn end_hold(&mut self, at: usize, slot: u32)
+        requires listed { at < vec_len self.old.held }
+        requires first { at ≡ self.old.waiting }
+        requires slot { slot ≡ slot_at self.old at }
         requires held { is_held (place_of self.old slot).state ≡ true }
         ensures places { (s : ℕ) → place_of self.new s ≡ (if nat_eq s slot then freed (place_of self.old s) else place_of self.old s) }
-        ensures earlier { (k : ℕ) → k < i → slot_at self.new k ≡ slot_at self.old k }
-        ensures length { i ≤ vec_len self.new.held }
-        ensures live { live_words_of self.new ≤ live_words_of self.old }
-        ensures used { slots_in_use self.new ≤ slots_in_use self.old }
+        ensures waiting { self.new.waiting ≡ self.old.waiting }
+        ensures length { vec_len self.new.held + 1 ≡ vec_len self.old.held }
+        ensures completed { self.new.completed ≡ self.old.completed }
+        ensures fewer { slots_in_use self.new ≤ slots_in_use self.old }
         ensures peak { peak_of self.new ≡ peak_of self.old }
     {
-        let at = slot as usize;
-        let span = self.places[at].span;
-        let version = self.places[at].version;
+        let place = slot as usize;
+        let span = self.places[place].span;
+        let version = self.places[place].version;
         self.words.give(span);
         self.slots.give(Span {
             start: slot,
             len: 1,
         });
-        self.held.remove(i);
-        self.places[at] = Place {
+        self.held.swap_remove(at);
+        self.places[place] = Place {
             state: State::Free,
             version,
             span,

@@ -1,13 +1,15 @@
-use Rattle.std.proofs.Common.{◌≡◌, true, refl, subst, sym, arith, set}
+use Rattle.std.proofs.Common.{◌≡◌, true, refl, subst, ap, ◌∙◌, arith}
 use Rattle.std.proofs.lemmas.Bool.{cond-true, cond-false}
 use Rattle.std.proofs.lemmas.List.Sums.{sum_by-set}
 use Rattle.slot_store.specs.declared.place.Place.{Place}
 use Rattle.slot_store.specs.declared.place.State.TheVariants.{Free}
 use Rattle.slot_store.specs.Spaces.{has_word}
-use Rattle.slot_store.specs.Places.{unused, in_use, is_taken, place_at, used_once, taken_once, held_once, times, slot_in}
+use Rattle.slot_store.specs.Places.{unused, in_use, is_taken, is_held, place_at, used_once, taken_once, held_once}
+use Rattle.slot_store.proofs.Placing.{here}
 use Rattle.slot_store.proofs.Rooms.{in_list}
 use Rattle.slot_store.proofs.Changes.{words_live, freed_of, place_is}
-use Rattle.slot_store.proofs.Settling.{used_if_held, not_taken_if_held, unlisted_of, slot_removed}
+use Rattle.slot_store.proofs.Settling.{used_if_held, not_taken_if_held, unlisted, times_removed}
+use Rattle.slot_store.proofs.Waits.{waits_removed}
 use Rattle.slot_store.proofs.store.SlotStore.end_hold.Goals as goal
 
 pub give-requires-clause-live : goal.give-requires-clause-live
@@ -33,11 +35,11 @@ invariant_of-self c =
     let b1 : taken_once (place_at ps s) ≡ 0 = cond-false (is_taken (place_at ps s).state) 1 0 (not_taken_if_held (place_at ps s).state c.requires.held) in
     let b2 : taken_once p ≡ 0 = refl in
     let r = z.room in
+    let left = c.swap_remove.new.self.items in
+    let listed = unlisted ps z.held.items left s p known z.kept.held c.requires.held (times_removed z.held.items left c.args.at s c.swap_remove.result (omega arith) c.requires.slot c.swap_remove.ensures.value c.swap_remove.ensures.items) refl in
     record {
-      kept = freed_of ps z.words z.slots z.held.items z.live_words z.peak z.kept s known used c.index.result.now (place_is ps s c.index.result.now known c.index.ensures) c.give.new.self c.give-2.new.self c.remove.new.self.items p refl c.give.ensures.live c.give.ensures.top c.give-2.ensures.live c.give-2.ensures.top
-          (λ t. subst (λ xs. times xs t ≡ held_once (place_at (set ps s p) t)) (sym c.remove.ensures.items) (unlisted_of ps z.held.items c.args.i s p c.requires.slot known z.kept.held (omega arith) refl t));
+      kept = freed_of ps z.words z.slots z.held.items z.live_words z.peak z.kept s known used c.index.result.now (place_is ps s c.index.result.now known c.index.ensures) c.give.new.self c.give-2.new.self left p refl c.give.ensures.live c.give.ensures.top c.give-2.ensures.live c.give-2.ensures.top listed;
       room = record { words = omega arith; slots = omega arith; held = omega arith };
+      waits = waits_removed ps z.held.items left z.waiting c.args.at s z.held.len z.completed p z.waits c.requires.first (omega arith) (omega arith) (omega arith) c.swap_remove.ensures.by_index
+          (listed s ∙ (ap held_once (here ps s p known) ∙ cond-false (is_held p.state) 1 0 refl));
     }
-
-pub returns-clause-earlier : goal.returns-clause-earlier
-returns-clause-earlier c = λ k lt. subst (λ xs. slot_in xs k ≡ slot_in c.args.self.now.held.items k) (sym c.remove.ensures.items) (slot_removed c.args.self.now.held.items c.args.i k lt (omega arith))

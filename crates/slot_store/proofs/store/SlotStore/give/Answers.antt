@@ -5,8 +5,9 @@ use Rattle.slot_store.specs.declared.place.Place.{Place}
 use Rattle.slot_store.specs.declared.place.State.TheVariants.{Free}
 use Rattle.slot_store.specs.Spaces.{has_word}
 use Rattle.slot_store.specs.Places.{unused, in_use, is_taken, place_at, used_once, taken_once}
-use Rattle.slot_store.proofs.Rooms.{in_list, used_if_taken}
+use Rattle.slot_store.proofs.Rooms.{in_list, used_if_taken, not_held_if_taken}
 use Rattle.slot_store.proofs.Changes.{words_live, freed_of, not_listed, place_is}
+use Rattle.slot_store.proofs.Waits.{waits_set}
 use Rattle.slot_store.proofs.store.SlotStore.give.Goals as goal
 
 pub give-requires-clause-live : goal.give-requires-clause-live
@@ -36,4 +37,5 @@ invariant_of-self c =
       kept = freed_of ps z.words z.slots z.held.items z.live_words z.peak z.kept s known used c.index.result.now (place_is ps s c.index.result.now known c.index.ensures) c.give.new.self c.give-2.new.self z.held.items p refl c.give.ensures.live c.give.ensures.top c.give-2.ensures.live c.give-2.ensures.top
           (not_listed ps z.held.items s p known c.requires.taken refl z.kept.held);
       room = record { words = omega arith; slots = omega arith; held = omega arith };
+      waits = waits_set ps z.held.items z.waiting z.completed s p (not_held_if_taken (place_at ps s).state c.requires.taken) z.waits;
     }

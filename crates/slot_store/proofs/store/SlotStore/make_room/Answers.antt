@@ -1,4 +1,5 @@
-use Rattle.std.proofs.Common.{arith}
+use Rattle.std.proofs.Common.{sym, subst, arith}
+use Rattle.slot_store.specs.Kept.{AreWaiting}
 use Rattle.slot_store.proofs.Rooms.{kept_moved}
 use Rattle.slot_store.proofs.store.SlotStore.make_room.Goals as goal
 
@@ -12,4 +13,5 @@ invariant_of-self c =
     record {
       kept = kept_moved s.places.items s.words s.slots c.reserve_all.new.words c.reserve_all.new.slots s.held.items c.reserve_all.new.held.items s.live_words s.peak s.kept w.holes w.top n.holes n.top h.0;
       room = record { words = omega arith; slots = omega arith; held = omega arith };
+      waits = subst (λ xs. AreWaiting s.places.items xs s.waiting s.completed) (sym h.0) s.waits;
     }

@@ -6,8 +6,9 @@ use Rattle.slot_store.specs.declared.place.State.TheVariants.{Taken}
 use Rattle.slot_store.specs.Spaces.{has_word}
 use Rattle.slot_store.specs.Places.{unused, in_use, is_taken, place_at, used_once, taken_once}
 use Rattle.slot_store.specs.Kept.{AreKept}
-use Rattle.slot_store.proofs.Rooms.{in_list, used_if_taken, used_le}
+use Rattle.slot_store.proofs.Rooms.{in_list, used_if_taken, not_held_if_taken, used_le}
 use Rattle.slot_store.proofs.Changes.{words_live, moved_of, kept_fit, place_is}
+use Rattle.slot_store.proofs.Waits.{waits_set}
 use Rattle.slot_store.proofs.store.SlotStore.regrow_ready.Goals as goal
 
 pub give-requires-clause-live : goal.give-requires-clause-live
@@ -40,6 +41,7 @@ invariant_of-self c =
       kept = subst (λ m. AreKept (set ps s p) c.give.new.self z.slots z.held.items (z.live_words + c.args.len - c.index.result.now.span.len) m) (sym c.max-self.ensures)
           (moved_of ps z.words z.slots z.held.items z.live_words z.peak z.kept s known used c.index.result.now (place_is ps s c.index.result.now known c.index.ensures) c.index-2.result.now.version c.args.len c.take-start.result c.take-start.new.self c.give.new.self c.requires.taken c.take-start.ensures.fit c.take-start.ensures.live c.take-start.ensures.top c.give.ensures.live c.give.ensures.top (omega arith));
       room = record { words = omega arith; slots = omega arith; held = omega arith };
+      waits = waits_set ps z.held.items z.waiting z.completed s p (not_held_if_taken (place_at ps s).state c.requires.taken) z.waits;
     }
 
 pub returns-clause-fit : goal.returns-clause-fit

@@ -1,27 +1,19 @@
-use Rattle.std.proofs.Common.{◌-◌, refl, arith}
-use Rattle.slot_store.specs.Stores.{place_of, slot_at}
-use Rattle.slot_store.proofs.Settling.{begins, goes_on, ended}
+use Rattle.std.proofs.Common.{refl, sym, ◌∙◌, arith}
+use Rattle.slot_store.specs.Places.{live_len, used_once}
+use Rattle.slot_store.proofs.Settling.{all_settled, sum_settled}
 use Rattle.slot_store.proofs.store.SlotStore.settle.Goals as goal
 
-pub loop-left-init : goal.loop-left-init
-loop-left-init c = let z = c.args.self.now in record {
-  within = omega arith;
-  known = c.requires.known;
-  places = λ b st s. begins z.places.items z.held.items z.kept.held c.len-left.result (omega arith) b s;
-  live = omega arith;
-  used = omega arith;
-  peak = refl;
-}
-
-pub loop-left-preserved : goal.loop-left-preserved
-loop-left-preserved c = let e = c.settle_one.ensures in let i = c.loop-left.invariant in record {
-  within = e.length;
-  known = λ s j h. i.known s j (e.users s j h);
-  places = λ b st s. goes_on b (place_of c.args.self.now) (place_of c.loop-left.self) (place_of c.settle_one.new.self) (slot_at c.loop-left.self) (slot_at c.settle_one.new.self) c.loop-left.left (c.loop-left.left - 1) (omega arith) (i.places b st) (e.places b st) e.earlier s;
-  live = omega arith;
-  used = omega arith;
-  peak = omega arith;
-}
-
 pub returns-clause-places : goal.returns-clause-places
-returns-clause-places c = λ b st s. ended b (place_of c.args.self.now) (place_of c.loop-left.self) (slot_at c.loop-left.self) s c.loop-left.left (omega arith) (c.loop-left.invariant.places b st s)
+returns-clause-places c = λ b st s.
+    let z = c.loop-self.self in
+    let i = c.loop-self.invariant in
+    let n = st.count in
+    sym (all_settled b z.places.items z.held.items z.waiting z.completed z.waits (omega arith) z.kept.held (i.completed b st)
+    (λ t j h. let r = c.requires.known t j (i.users t j h) in let le = r.1 in (r.0, omega arith)) s)
+    ∙ i.places b st s
+
+pub returns-clause-live : goal.returns-clause-live
+returns-clause-live c = λ b st. sum_settled live_len refl b c.args.self.now.places.items c.loop-self.self.places.items (returns-clause-places c b st)
+
+pub returns-clause-used : goal.returns-clause-used
+returns-clause-used c = λ b st. sum_settled used_once refl b c.args.self.now.places.items c.loop-self.self.places.items (returns-clause-places c b st)
