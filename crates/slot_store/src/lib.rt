@@ -11,6 +11,7 @@
 //! between live words, in rising order, and in the same way those between slots in use.
 #![tactic(auto)]
 
+mod pending;
 mod place;
 mod slot;
 mod space;

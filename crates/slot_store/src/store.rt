@@ -2,6 +2,7 @@
 ghost use Rattle.std.specs.Prelude.{◌≡◌, ℕ, ◌+◌, ◌<◌, ◌≤◌, ◌^◌, ◌&&◌, ◌↔◌, max, nat_eq, true, false, if◌then◌else◌, IfOk, OnOk, OnErr, IsTrue, IfSome, IfNone, vec_len, vec_capacity};
 ghost use Rattle.slot_store.specs.Kept.{AreKept, AreWaiting, HaveRoom, IsGrown};
 
+use crate::pending::pending_of;
 use crate::place::{Place, State, Waiting};
 use crate::slot::{Slot, StoreFault, Taken, Version};
 use crate::space::FreeSpace;
@@ -338,7 +339,7 @@ impl SlotStore {
             return Some(noted);
         }
         match &self.places[held.slot as usize].state {
-            State::Held(users) => users.latest_outside(&self.completed),
+            State::Held(users) => pending_of(users, &self.completed, held.job),
             _ => None,
         }
     }

@@ -12,13 +12,13 @@ returns-in-Held-clause-some c =
     let ps = c.args.self.now.places.items in
     let s = c.args.held.slot in
     let known = in_list ps s (used_if_held (place_at ps s).state c.requires.held) in
-    held_some (place_at ps s).state c.in-Held.users c.args.self.now.completed c.latest_outside.result
-    (ap (λ (p : Place). p.state) (sym (place_is ps s c.index.result.now known c.index.ensures)) ∙ c.in-Held.is) c.latest_outside.ensures
+    held_some (place_at ps s).state c.in-Held.users c.args.self.now.completed c.pending_of.result
+    (ap (λ (p : Place). p.state) (sym (place_is ps s c.index.result.now known c.index.ensures)) ∙ c.in-Held.is) c.pending_of.ensures.some
 
 pub returns-in-Held-clause-none : goal.returns-in-Held-clause-none
 returns-in-Held-clause-none c =
     let ps = c.args.self.now.places.items in
     let s = c.args.held.slot in
     let known = in_list ps s (used_if_held (place_at ps s).state c.requires.held) in
-    held_none (place_at ps s).state c.in-Held.users c.args.self.now.completed c.latest_outside.result
-    (ap (λ (p : Place). p.state) (sym (place_is ps s c.index.result.now known c.index.ensures)) ∙ c.in-Held.is) c.latest_outside.ensures
+    held_none (place_at ps s).state c.in-Held.users c.args.self.now.completed c.pending_of.result
+    (ap (λ (p : Place). p.state) (sym (place_is ps s c.index.result.now known c.index.ensures)) ∙ c.in-Held.is) c.pending_of.ensures.none
