@@ -1,6 +1,7 @@
 pub mod Words
 pub mod Cuts
 pub mod Gives
+pub mod Bounding
 pub mod Placing
 pub mod Rooms
 pub mod Changes

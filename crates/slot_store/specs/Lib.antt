@@ -1,4 +1,5 @@
 pub mod Spaces
+pub mod Blocks
 pub mod Places
 pub mod Kept
 pub mod Stores

@@ -11,8 +11,10 @@
 //! between live words, in rising order, and in the same way those between slots in use.
 #![tactic(auto)]
 
+mod blocks;
 mod pending;
 mod place;
+mod search;
 mod slot;
 mod space;
 mod store;

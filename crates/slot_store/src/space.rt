@@ -1,8 +1,11 @@
 // Which numbers are in use: a free list of the holes between them, for first fit.
-ghost use Rattle.std.specs.Prelude.{◌≡◌, ℕ, ◌+◌, ◌<◌, ◌≤◌, ◌^◌, ◌&&◌, ◌||◌, not, true, ◌∷◌, ◌++◌, [], max, length, take, drop, slice_index_or, slice_set, IfSome, IfNone, OnOk, vec_len, vec_capacity};
+ghost use Rattle.std.specs.Prelude.{◌≡◌, ℕ, ◌+◌, ◌<◌, ◌≤◌, ◌^◌, ◌&&◌, ◌||◌, not, true, ◌∷◌, ◌++◌, [], max, length, take, drop, slice_index_or, slice_set, IfOk, OnOk, vec_len, vec_capacity};
 ghost use Rattle.frame_ast.specs.Ranges.{IsFirstFit};
-ghost use Rattle.slot_store.specs.Spaces.{AreHoles, AreHoles-prop, AreSmall, has_word, is_live, len_of, start_of, end_of, no_span, rest_after, IsPlace, JoinsBefore, JoinsAfter};
+ghost use Rattle.slot_store.specs.Spaces.{AreHoles, AreHoles-prop, AreSmall, has_word, is_live, len_of, start_of, end_of, no_span, rest_after, JoinsBefore, JoinsAfter};
+ghost use Rattle.slot_store.specs.Blocks.{AreBounded};
 
+use crate::blocks::{Bounds, first_fit};
+use crate::search::holes_before;
 use job_base::{NoMemory, Span};
 use std::alloc::Global;
 
@@ -13,19 +16,23 @@ pub(crate) struct FreeSpace {
     holes: Vec<Span>,
     // All numbers from here on are free.
     top: u32,
+    bounds: Bounds,
     ghost apart: { AreHoles 0 holes.items top } by { AreHoles-prop 0 holes.items top },
+    ghost bounded: { AreBounded bounds.lens.items holes.items },
 }
 
 impl FreeSpace {
     /// All numbers are free.
-    pub(crate) fn new(alloc: Global) -> FreeSpace
-        ensures holes { result.holes.items ≡ [] }
-        ensures top { result.top ≡ 0 }
+    pub(crate) fn new(alloc: Global) -> Result<FreeSpace, NoMemory>
+        ensures holes { IfOk result (λ space. space.holes.items ≡ []) }
+        ensures top { IfOk result (λ space. space.top ≡ 0) }
     {
-        FreeSpace {
+        let bounds = Bounds::new(alloc)?;
+        Ok(FreeSpace {
             holes: Vec::new(alloc),
             top: 0,
-        }
+            bounds,
+        })
     }
 
     /// From here on all numbers are free.
@@ -61,10 +68,14 @@ impl FreeSpace {
             return 0;
         }
         let top = self.top;
-        match first_fit(self.holes.as_slice(), len) {
+        match first_fit(self.holes.as_slice(), &mut self.bounds, top, len) {
             Some(at) => {
                 let hole = self.holes[at];
                 cut(&mut self.holes, at, len);
+                self.bounds.note(Span {
+                    start: hole.start + len,
+                    len: hole.len - len,
+                });
                 hole.start
             }
             None => {
@@ -100,21 +111,9 @@ impl FreeSpace {
                 len: last - start,
             };
             replace(&mut self.holes, from, to, hole);
+            self.bounds.note(hole);
         }
     }
-}
-
-/// The first hole that has `len` numbers.
-fn first_fit(holes: &[Span], len: u32) -> Option<usize>
-    ensures some { IfSome result (λ i. (i < length holes.now) × (len ≤ len_of holes.now i) × AreSmall holes.now len i) }
-    ensures none { IfNone result (AreSmall holes.now len (length holes.now)) }
-{
-    for (i, hole) in holes.iter().enumerate() {
-        if len <= hole.len {
-            return Some(i);
-        }
-    }
-    None
 }
 
 /// Takes `len` numbers from the front of a hole. The hole is gone where it has no more.
@@ -135,24 +134,6 @@ fn cut(holes: &mut Vec<Span>, at: usize, len: u32)
             len: hole.len - len,
         };
     }
-}
-
-/// How many holes begin before a number that is live.
-fn holes_before(holes: &[Span], at: u32) -> usize
-    requires { (top : ℕ) × AreHoles 0 holes.now top }
-    ensures { IsPlace holes.now at result }
-{
-    let mut low = 0;
-    let mut high = holes.len();
-    while low < high {
-        let middle = low + (high - low) / 2;
-        if holes[middle].start < at {
-            low = middle + 1;
-        } else {
-            high = middle;
-        }
-    }
-    low
 }
 
 /// From which hole on, and from which number on, there is one hole once the numbers from `start` on are free.

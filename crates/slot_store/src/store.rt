@@ -50,8 +50,8 @@ impl SlotStore {
     {
         Ok(SlotStore {
             places: Vec::new(alloc),
-            words: FreeSpace::new(alloc),
-            slots: FreeSpace::new(alloc),
+            words: FreeSpace::new(alloc)?,
+            slots: FreeSpace::new(alloc)?,
             held: Vec::new(alloc),
             waiting: 0,
             completed: Handle::empty(),

@@ -1,6 +1,6 @@
 use Rattle.std.proofs.Common.{◌+◌, ◌-◌, ◌/◌, arith}
 use Rattle.slot_store.proofs.Gives.{rises_to}
-use Rattle.slot_store.proofs.space.holes_before.Goals as goal
+use Rattle.slot_store.proofs.search.holes_before.Goals as goal
 
 pub loop-low-preserved-then-holes-middle : goal.loop-low-preserved-then-holes-middle
 loop-low-preserved-then-holes-middle c = record {

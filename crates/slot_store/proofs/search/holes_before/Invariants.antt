@@ -1,6 +1,6 @@
 use Rattle.std.proofs.Common.{ℕ, ◌-◌, ◌<◌, ◌≤◌, length}
 use Rattle.slot_store.specs.Spaces.{start_of}
-use Rattle.slot_store.proofs.space.holes_before.Given as goal
+use Rattle.slot_store.proofs.search.holes_before.Given as goal
 
 abbrev pub invariant-loop-low : goal.invariant-loop-low
 invariant-loop-low l = record {
