@@ -1,8 +1,8 @@
 -- Bounds on the lengths of holes, by blocks.
-use Rattle.std.proofs.Common.{◌≡◌, ◌≢◌, ℕ, zero, suc, ◌+◌, ◌-◌, ◌*◌, ◌/◌, ◌<◌, ◌≤◌, min, ⊎_elim, Bool, true, false, if◌then◌else◌, nat_eq, List, [], ◌∷◌, ◌++◌, length, get_or, set, take, drop, slice_index, refl, ap, sym, ◌∙◌, subst, arith, get_or-set_same, get_or-set_other}
-use Rattle.std.proofs.lemmas.Bool.{cases_lt, cases_eq}
+use Rattle.std.proofs.Common.{◌≡◌, ℕ, zero, suc, ◌+◌, ◌-◌, ◌*◌, ◌<◌, ◌≤◌, ⊎_elim, Bool, true, false, if◌then◌else◌, nat_eq, List, [], ◌∷◌, ◌++◌, length, get_or, set, take, drop, slice_index, ap, sym, ◌∙◌, subst, arith, get_or-set_same, get_or-set_other}
+use Rattle.std.proofs.lemmas.Bool.{cases_eq}
 use Rattle.job_base.specs.declared.Span.{Span}
-use Rattle.slot_store.specs.Spaces.{no_span, start_of, len_of, end_of, rest_after, AreHoles, AreSmall, IsPlace}
+use Rattle.slot_store.specs.Spaces.{no_span, start_of, len_of, rest_after, AreHoles, IsPlace}
 use Rattle.slot_store.specs.Blocks.{block_of, AreBounded}
 use Rattle.slot_store.proofs.Cuts.{end_below, same_hole}
 use Rattle.slot_store.proofs.Gives.{rises_to}

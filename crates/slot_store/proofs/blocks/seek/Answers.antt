@@ -1,4 +1,4 @@
-use Rattle.std.proofs.Common.{◌≤◌, ⊎_elim, arith}
+use Rattle.std.proofs.Common.{⊎_elim, arith}
 use Rattle.std.proofs.lemmas.Bool.{cases_lt}
 use Rattle.slot_store.proofs.Bounding.{before_block, behind_block}
 use Rattle.slot_store.proofs.blocks.seek.Goals as goal
