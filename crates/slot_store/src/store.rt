@@ -1,9 +1,10 @@
 // The store: slots, the ranges of words that they have, and those that are held until jobs are completed.
 ghost use Rattle.std.specs.Prelude.{◌≡◌, ℕ, ◌+◌, ◌<◌, ◌≤◌, ◌^◌, ◌&&◌, ◌↔◌, max, nat_eq, true, false, if◌then◌else◌, IfOk, OnOk, OnErr, IsTrue, IfSome, IfNone, vec_len, vec_capacity};
-ghost use Rattle.slot_store.specs.Kept.{AreKept, AreWaiting, HaveRoom, IsGrown};
+ghost use Rattle.slot_store.specs.Kept.{AreKept, AreWaiting, HaveRoom};
 
 use crate::pending::pending_of;
 use crate::place::{Place, State, Waiting};
+use crate::room::reserve_all;
 use crate::slot::{Slot, StoreFault, Taken, Version};
 use crate::space::FreeSpace;
 use job_base::{JobId, NoMemory, Span};
@@ -405,22 +406,4 @@ impl SlotStore {
     {
         self.peak
     }
-}
-
-/// Makes room for so many ranges and slots to come back, and for so many slots to be held.
-fn reserve_all(
-    words: &mut FreeSpace,
-    slots: &mut FreeSpace,
-    held: &mut Vec<Waiting>,
-    most: usize,
-) -> Result<(), NoMemory>
-    ensures words { IsGrown words.old words.new }
-    ensures slots { IsGrown slots.old slots.new }
-    ensures held { (held.new.items ≡ held.old.items) × (vec_len held.new ≡ vec_len held.old) × (vec_capacity held.old ≤ vec_capacity held.new) }
-    ensures ready { OnOk result ((vec_len words.new.holes + most ≤ vec_capacity words.new.holes) × (vec_len slots.new.holes + most ≤ vec_capacity slots.new.holes) × (vec_len held.new + most ≤ vec_capacity held.new)) }
-{
-    words.reserve(most)?;
-    slots.reserve(most)?;
-    held.reserve(most)?;
-    Ok(())
 }
