@@ -124,34 +124,42 @@ ends _ = false
 abbrev pub operator_of : LastNumbers → ℕ
 operator_of n = if (signed_of n.signed).minus then n.former_operator else n.operator
 
+-- a statement without lists that makes nothing but a handle, when it is whole with this event
+abbrev pub used : Action → Words → OrderForm
+used action.SetStatement w = Set w.names.latest w.numbers.former_signed (signed_of w.numbers.signed)
+used action.AddToStatement w = Add w.names.latest (signed_of w.numbers.former_signed) w.numbers.signed
+used action.PutStatement w = Put w.names.latest (signed_of w.numbers.former_signed) (signed_of w.numbers.signed)
+used action.RemoveFromStatement w = Remove w.names.latest (signed_of w.numbers.signed)
+used action.ClearOutStatement w = Clear w.names.latest
+used action.SetCapacityStatement w = SetCapacity w.names.latest w.numbers.latest
+used action.CompleteStatement w = Complete w.auto w.names.latest
+used action.DisposeAutoStatement w = DisposeAuto w.names.former w.names.latest
+used action.PrintStatement w = Print w.names.latest
+used action.FrameStatement w = Frame
+used action.OpenRepeat w = Repeat w.numbers.latest
+used action.OpenWhen w = When w.names.latest (operator_of w.numbers) (signed_of w.numbers.signed)
+used _ w = Flush
+
+-- a statement without lists
+abbrev pub worded : Action → Words → OrderForm
+worded action.ColumnStatement w = NewColumn w.names.latest w.numbers.latest w.life
+worded action.ListStatement w = NewList w.names.latest w.numbers.latest w.life
+worded action.ReferenceStatement w = NewReference w.names.latest w.life w.numbers.signed
+worded action.MapStatement w = NewMap w.names.latest w.numbers.latest w.life
+worded action.StreamStatement w = NewStream w.names.latest w.numbers.former w.numbers.latest w.life
+worded action.SliceStatement w = Slice w.names.former w.names.latest w.numbers.former w.numbers.latest
+worded action.ViewStatement w = View w.names.former w.names.latest
+worded action.CopyStatement w = Copy w.names.former w.names.latest
+worded a w = used a w
+
 -- the statement that is whole with this event
 abbrev pub finished : Action → Reading → OrderForm
 finished action.ArrayStatement r = NewArray r.words.names.latest r.words.len r.words.life (if r.words.has_values then Some r.values else None)
-finished action.ColumnStatement r = NewColumn r.words.names.latest r.words.numbers.latest r.words.life
-finished action.ListStatement r = NewList r.words.names.latest r.words.numbers.latest r.words.life
-finished action.ReferenceStatement r = NewReference r.words.names.latest r.words.life r.words.numbers.signed
-finished action.MapStatement r = NewMap r.words.names.latest r.words.numbers.latest r.words.life
-finished action.StreamStatement r = NewStream r.words.names.latest r.words.numbers.former r.words.numbers.latest r.words.life
-finished action.SliceStatement r = Slice r.words.names.former r.words.names.latest r.words.numbers.former r.words.numbers.latest
-finished action.ViewStatement r = View r.words.names.former r.words.names.latest
-finished action.CopyStatement r = Copy r.words.names.former r.words.names.latest
-finished action.SetStatement r = Set r.words.names.latest r.words.numbers.former_signed (signed_of r.words.numbers.signed)
-finished action.AddToStatement r = Add r.words.names.latest (signed_of r.words.numbers.former_signed) r.words.numbers.signed
-finished action.PutStatement r = Put r.words.names.latest (signed_of r.words.numbers.former_signed) (signed_of r.words.numbers.signed)
-finished action.RemoveFromStatement r = Remove r.words.names.latest (signed_of r.words.numbers.signed)
-finished action.ClearOutStatement r = Clear r.words.names.latest
-finished action.SetCapacityStatement r = SetCapacity r.words.names.latest r.words.numbers.latest
 finished action.ScheduleStatement r = Schedule r.words.auto r.words.names.handle r.words.names.kernel r.args r.words.sizes r.waive r.names
 finished action.CombineStatement r = Combine r.words.names.opener r.names
-finished action.CompleteStatement r = Complete r.words.auto r.words.names.latest
 finished action.DisposeStatement r = Dispose r.words.names.latest r.names None
 finished action.DisposeAfterStatement r = Dispose r.words.names.opener r.names (Some r.words.names.latest)
-finished action.DisposeAutoStatement r = DisposeAuto r.words.names.former r.words.names.latest
-finished action.PrintStatement r = Print r.words.names.latest
-finished action.FrameStatement r = Frame
-finished action.OpenRepeat r = Repeat r.words.numbers.latest
-finished action.OpenWhen r = When r.words.names.latest (operator_of r.words.numbers) (signed_of r.words.numbers.signed)
-finished _ r = Flush
+finished a r = worded a r.words
 
 -- the statement that the events spell from here on, and the events behind it
 abbrev pub order_from : Reading → List Event → Option (OrderForm × List Event)

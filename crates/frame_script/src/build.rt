@@ -5,7 +5,7 @@ ghost use Rattle.frame_script.specs.Raw.{form_of, BeginsOrder};
 ghost use Rattle.frame_script.specs.Reading.{reading_of, nothing_read, step, ends, finished};
 
 use crate::build_words::{Words, signed_of};
-use crate::raw::{RawArg, RawOrder};
+use crate::raw::{RawArg, RawNumber, RawOrder};
 use frame_grammar::{Action, Event};
 use std::alloc::{AllocError, Global};
 
@@ -48,7 +48,7 @@ fn ends(action: Action) -> bool
 #[derive(Drop)]
 struct Reader {
     words: Words,
-    values: Vec<crate::raw::RawNumber>,
+    values: Vec<RawNumber>,
     args: Vec<RawArg>,
     /// The list of names that is being read, or was last.
     names: Vec<u32>,
@@ -99,132 +99,43 @@ impl Reader {
     fn finish(self, action: Action) -> RawOrder
         ensures { form_of result ≡ finished action (reading_of self) }
     {
-        let Words {
-            names,
-            numbers,
-            len,
-            life,
-            auto,
-            sizes,
-            ..
-        } = self.words;
-        let name = names.latest;
-        let value = signed_of(numbers.signed);
+        let words = self.words;
+        let name = words.names.latest;
         match action {
             Action::ArrayStatement => RawOrder::Array {
                 name,
-                len,
-                life,
-                values: if self.words.has_values {
+                len: words.len,
+                life: words.life,
+                values: if words.has_values {
                     Some(self.values)
                 } else {
                     None
                 },
             },
-            Action::ColumnStatement => RawOrder::Column {
-                name,
-                column: numbers.latest,
-                life,
-            },
-            Action::ListStatement => RawOrder::List {
-                name,
-                cap: numbers.latest,
-                life,
-            },
-            Action::ReferenceStatement => RawOrder::Reference {
-                name,
-                life,
-                value: numbers.signed,
-            },
-            Action::MapStatement => RawOrder::Map {
-                name,
-                cap: numbers.latest,
-                life,
-            },
-            Action::StreamStatement => RawOrder::Stream {
-                name,
-                count: numbers.former,
-                room: numbers.latest,
-                life,
-            },
-            Action::SliceStatement => RawOrder::Slice {
-                name: names.former,
-                of: name,
-                start: numbers.former,
-                len: numbers.latest,
-            },
-            Action::ViewStatement => RawOrder::View {
-                name: names.former,
-                of: name,
-            },
-            Action::CopyStatement => RawOrder::Copy {
-                name: names.former,
-                of: name,
-            },
-            Action::SetStatement => RawOrder::Set {
-                name,
-                at: numbers.former_signed,
-                value,
-            },
-            Action::AddToStatement => RawOrder::Add {
-                name,
-                first: signed_of(numbers.former_signed),
-                second: numbers.signed,
-            },
-            Action::PutStatement => RawOrder::Put {
-                name,
-                key: signed_of(numbers.former_signed),
-                value,
-            },
-            Action::RemoveFromStatement => RawOrder::Remove { name, at: value },
-            Action::ClearOutStatement => RawOrder::Clear { name },
-            Action::SetCapacityStatement => RawOrder::SetCapacity {
-                name,
-                cap: numbers.latest,
-            },
             Action::ScheduleStatement => RawOrder::Schedule {
-                auto,
-                handle: names.handle,
-                kernel: names.kernel,
+                auto: words.auto,
+                handle: words.names.handle,
+                kernel: words.names.kernel,
                 args: self.args,
-                sizes,
+                sizes: words.sizes,
                 waive: self.waive,
                 after: self.names,
             },
             Action::CombineStatement => RawOrder::Combine {
-                name: names.opener,
+                name: words.names.opener,
                 of: self.names,
             },
-            Action::CompleteStatement => RawOrder::Complete { auto, name },
             Action::DisposeStatement => RawOrder::Dispose {
                 name,
                 after: self.names,
                 handle: None,
             },
             Action::DisposeAfterStatement => RawOrder::Dispose {
-                name: names.opener,
+                name: words.names.opener,
                 after: self.names,
                 handle: Some(name),
             },
-            Action::DisposeAutoStatement => RawOrder::DisposeAuto {
-                name: names.former,
-                handle: name,
-            },
-            Action::PrintStatement => RawOrder::Print { name },
-            Action::FrameStatement => RawOrder::Frame,
-            Action::OpenRepeat => RawOrder::Repeat {
-                count: numbers.latest,
-            },
-            Action::OpenWhen => RawOrder::When {
-                name,
-                sign: if value.minus {
-                    numbers.former_operator
-                } else {
-                    numbers.operator
-                },
-                value,
-            },
-            _ => RawOrder::Flush,
+            _ => words.finish(action),
         }
     }
 }

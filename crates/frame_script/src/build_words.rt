@@ -1,9 +1,10 @@
 //! What has been read of a statement but for its lists.
 
 ghost use Rattle.std.specs.Prelude.{◌≡◌};
-ghost use Rattle.frame_script.specs.Reading.{words_after, signed_of, no_words, with_signed};
+ghost use Rattle.frame_script.specs.Raw.{form_of};
+ghost use Rattle.frame_script.specs.Reading.{words_after, signed_of, no_words, with_signed, worded, used};
 
-use crate::raw::{RawNumber, RawSizes};
+use crate::raw::{RawNumber, RawOrder, RawSizes};
 use frame_ast::script::Life;
 use frame_grammar::{Action, Event};
 
@@ -145,6 +146,109 @@ impl Words {
             }
             Action::Waived | Action::After => self.is_listing = false,
             _ => {}
+        }
+    }
+
+    /// The statement without lists that is whole with this event.
+    pub fn finish(self, action: Action) -> RawOrder
+        ensures { form_of result ≡ worded action self }
+    {
+        let name = self.names.latest;
+        let number = self.numbers.latest;
+        let life = self.life;
+        match action {
+            Action::ColumnStatement => RawOrder::Column {
+                name,
+                column: number,
+                life,
+            },
+            Action::ListStatement => RawOrder::List {
+                name,
+                cap: number,
+                life,
+            },
+            Action::ReferenceStatement => RawOrder::Reference {
+                name,
+                life,
+                value: self.numbers.signed,
+            },
+            Action::MapStatement => RawOrder::Map {
+                name,
+                cap: number,
+                life,
+            },
+            Action::StreamStatement => RawOrder::Stream {
+                name,
+                count: self.numbers.former,
+                room: number,
+                life,
+            },
+            Action::SliceStatement => RawOrder::Slice {
+                name: self.names.former,
+                of: name,
+                start: self.numbers.former,
+                len: number,
+            },
+            Action::ViewStatement => RawOrder::View {
+                name: self.names.former,
+                of: name,
+            },
+            Action::CopyStatement => RawOrder::Copy {
+                name: self.names.former,
+                of: name,
+            },
+            _ => self.finish_use(action),
+        }
+    }
+
+    /// The same of a statement that makes nothing but a handle.
+    fn finish_use(self, action: Action) -> RawOrder
+        ensures { form_of result ≡ used action self }
+    {
+        let name = self.names.latest;
+        let number = self.numbers.latest;
+        let former = signed_of(self.numbers.former_signed);
+        let value = signed_of(self.numbers.signed);
+        match action {
+            Action::SetStatement => RawOrder::Set {
+                name,
+                at: self.numbers.former_signed,
+                value,
+            },
+            Action::AddToStatement => RawOrder::Add {
+                name,
+                first: former,
+                second: self.numbers.signed,
+            },
+            Action::PutStatement => RawOrder::Put {
+                name,
+                key: former,
+                value,
+            },
+            Action::RemoveFromStatement => RawOrder::Remove { name, at: value },
+            Action::ClearOutStatement => RawOrder::Clear { name },
+            Action::SetCapacityStatement => RawOrder::SetCapacity { name, cap: number },
+            Action::CompleteStatement => RawOrder::Complete {
+                auto: self.auto,
+                name,
+            },
+            Action::DisposeAutoStatement => RawOrder::DisposeAuto {
+                name: self.names.former,
+                handle: name,
+            },
+            Action::PrintStatement => RawOrder::Print { name },
+            Action::FrameStatement => RawOrder::Frame,
+            Action::OpenRepeat => RawOrder::Repeat { count: number },
+            Action::OpenWhen => RawOrder::When {
+                name,
+                sign: if value.minus {
+                    self.numbers.former_operator
+                } else {
+                    self.numbers.operator
+                },
+                value,
+            },
+            _ => RawOrder::Flush,
         }
     }
 }
