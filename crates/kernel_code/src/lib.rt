@@ -4,6 +4,8 @@
 pub mod check;
 mod fault;
 mod kernel;
+#[cfg(test)]
+mod kernel_tests;
 mod lexer;
 mod part;
 pub mod raw;
