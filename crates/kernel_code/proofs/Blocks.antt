@@ -1,5 +1,5 @@
 -- What the reader has after the events of a block.
-use Rattle.std.proofs.Common.{◌≡◌, ℕ, suc, ◌-◌, ◌+◌, ◌<◌, ◌≤◌, List, [], ◌∷◌, ◌++◌, length, Option, Some, None, append_assoc, append-nil, refl, sym, ◌∙◌, ap, subst, arith}
+use Rattle.std.proofs.Common.{◌≡◌, ℕ, ◌-◌, ◌+◌, List, [], ◌∷◌, ◌++◌, length, Option, Some, append_assoc, append-nil, refl, sym, ◌∙◌, ap, arith}
 use Rattle.std.proofs.lemmas.List.{length-append}
 use Rattle.frame_grammar.specs.declared.symbols.Action.{Action}
 use Rattle.frame_grammar.specs.declared.symbols.Action.TheVariants as action
@@ -8,11 +8,10 @@ use Rattle.kernel_code.specs.declared.raw.RawForm.{RawForm}
 use Rattle.kernel_code.specs.declared.raw.RawForm.TheVariants as form
 use Rattle.kernel_code.specs.declared.raw.RawNode.{RawNode}
 use Rattle.kernel_code.specs.declared.raw.RawParam.{RawParam}
-use Rattle.kernel_code.specs.declared.part.Part.{Part}
 use Rattle.kernel_code.specs.declared.part.Part.TheVariants as part
 use Rattle.kernel_code.specs.Raw.{RawExpr, RawBlock, Nothing, Simple, Nested, Branched, expr_size, parts_size, block_size, expr_nodes, parts_nodes, statement_node, block_nodes, on, SpellsExpr, SpellsSimple, SpellsHead, SpellsBlock}
 use Rattle.kernel_code.specs.Raw as raw
-use Rattle.kernel_code.specs.Reading.{Reading, part_of, with_part, top, change, step, run}
+use Rattle.kernel_code.specs.Reading.{part_of, with_part, top, run}
 use Rattle.kernel_code.proofs.Readings.{mk, run-append, length-more, change_seam, length-expr, blank, named_node, one_part, two_parts, Reads, reads}
 
 length-parts : (parts : List RawExpr) → length (parts_nodes parts) ≡ parts_size parts

@@ -1,8 +1,7 @@
 -- What is derived from a kernel spells one.
-use Rattle.std.proofs.Common.{◌≡◌, ℕ, suc, ◌+◌, ◌<◌, ◌≤◌, true, false, List, [], ◌∷◌, ◌++◌, length, None, Some, append_assoc, append-nil, refl, sym, ◌∙◌, ap, subst, arith}
+use Rattle.std.proofs.Common.{◌≡◌, ℕ, ◌+◌, ◌<◌, ◌≤◌, true, false, List, [], ◌∷◌, ◌++◌, length, None, Some, append_assoc, append-nil, refl, sym, ◌∙◌, ap, subst, arith}
 use Rattle.job_base.specs.declared.Access.TheVariants.{Read, Write as WriteOnly, Both}
 use Rattle.frame_grammar.specs.declared.TokenKind.{TokenKind}
-use Rattle.frame_grammar.specs.declared.symbols.Nonterminal.{Nonterminal}
 use Rattle.frame_grammar.specs.declared.symbols.Nonterminal.TheVariants as nonterminal
 use Rattle.frame_grammar.specs.declared.symbols.Production.TheVariants as production
 use Rattle.frame_grammar.specs.declared.symbols.Symbol.TheVariants as symbol
@@ -12,7 +11,7 @@ use Rattle.frame_grammar.specs.Grammar.{head_of, body_of, Derives}
 use Rattle.frame_ast.specs.declared.kernel.ParamKind.TheVariants as kind
 use Rattle.kernel_code.specs.Raw.{on, SpellsParams, IsKernel}
 use Rattle.kernel_code.specs.Raw as raw
-use Rattle.kernel_code.proofs.Parts.{Builds, SkipsLines, is_lines, parts}
+use Rattle.kernel_code.proofs.Parts.{Builds, SkipsLines, parts}
 use Rattle.kernel_code.proofs.Meanings.{IsKind, IsParams, Build, Meant, width_up, params_up, block_up, is_kernel_up}
 use Rattle.kernel_code.proofs.Expressions as expressions
 use Rattle.kernel_code.proofs.Statements as statements

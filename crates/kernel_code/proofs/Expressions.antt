@@ -1,5 +1,5 @@
 -- What the productions of expressions mean.
-use Rattle.std.proofs.Common.{◌≡◌, ℕ, suc, ◌+◌, ◌<◌, ◌≤◌, List, [], ◌∷◌, ◌++◌, append_assoc, append-nil, refl, sym, ◌∙◌, ap, subst, arith}
+use Rattle.std.proofs.Common.{◌≡◌, ℕ, ◌<◌, ◌≤◌, List, [], ◌∷◌, ◌++◌, append_assoc, append-nil, refl, sym, ap, subst, arith}
 use Rattle.frame_grammar.specs.declared.symbols.Production.TheVariants as production
 use Rattle.frame_grammar.specs.declared.symbols.Action.TheVariants as action
 use Rattle.frame_grammar.specs.declared.symbols.Event.{Event}
@@ -7,7 +7,7 @@ use Rattle.frame_grammar.specs.Grammar.{head_of, body_of}
 use Rattle.kernel_code.specs.declared.raw.RawForm.TheVariants as form
 use Rattle.kernel_code.specs.Raw.{RawExpr, Leaf, One, Two, Infix, on}
 use Rattle.kernel_code.specs.Raw as raw
-use Rattle.kernel_code.proofs.Meanings.{IsExpr, IsMore, IsPlace, Build, expr_up, is_expr_up}
+use Rattle.kernel_code.proofs.Meanings.{IsExpr, IsMore, Build, expr_up, is_expr_up}
 
 -- CHAINS
 

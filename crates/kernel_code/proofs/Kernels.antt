@@ -1,22 +1,19 @@
 -- What the reader has after the events of a kernel.
-use Rattle.std.proofs.Common.{◌≡◌, ℕ, zero, suc, ◌-◌, ◌+◌, ◌<◌, ◌≤◌, ◌^◌, Bool, true, false, List, [], ◌∷◌, ◌++◌, length, drop, set, get_or, Option, Some, None, slice_get, take, take_all, IfSome, append_assoc, append-nil, add-one, drop-cons, refl, sym, ◌∙◌, ap, subst, arith}
+use Rattle.std.proofs.Common.{◌≡◌, ℕ, zero, suc, ◌-◌, ◌+◌, ◌<◌, ◌≤◌, ◌^◌, Bool, true, false, List, [], ◌∷◌, ◌++◌, length, drop, get_or, Option, Some, None, slice_get, take, take_all, IfSome, append_assoc, append-nil, add-one, drop-cons, refl, sym, ◌∙◌, ap, subst, arith}
 use Rattle.std.proofs.lemmas.List.{length-append}
 use Rattle.std.proofs.Math.ListN.{length-set, drop_of_length-le}
 use Rattle.job_base.specs.declared.Access.{Access}
 use Rattle.job_base.specs.declared.Access.TheVariants.{Read, Write as WriteOnly, Both}
-use Rattle.frame_grammar.specs.declared.symbols.Action.{Action}
 use Rattle.frame_grammar.specs.declared.symbols.Action.TheVariants as action
 use Rattle.frame_grammar.specs.declared.symbols.Event.{Event}
-use Rattle.kernel_code.specs.declared.raw.RawForm.TheVariants as form
 use Rattle.kernel_code.specs.declared.raw.RawNode.{RawNode}
 use Rattle.kernel_code.specs.declared.raw.RawParam.{RawParam}
 use Rattle.kernel_code.specs.declared.raw.RawKernel.{RawKernel}
-use Rattle.kernel_code.specs.declared.reader.Reader.{Reader}
 use Rattle.kernel_code.specs.declared.part.Part.{Part}
 use Rattle.kernel_code.specs.declared.part.Part.TheVariants as part
 use Rattle.kernel_code.specs.Raw.{RawBlock, RawExpr, Leaf, One, Two, Infix, Nothing, Simple, Nested, Branched, block_size, block_nodes, expr_nodes, parts_nodes, on, access_action, SpellsKind, SpellsParams, SpellsBlock, SpellsRaw, opening, IsWithin, IsKernel, ExprBelow, PartsBelow, BlockBelow, ParamsBelow}
 use Rattle.kernel_code.specs.Raw as raw
-use Rattle.kernel_code.specs.Reading.{Reading, part_of, with_part, begun, fresh, reading_of, is_parallel, named, numbered, top, change, changed, changed_in, replaced_if, step, run, nothing_read}
+use Rattle.kernel_code.specs.Reading.{Reading, part_of, with_part, begun, fresh, is_parallel, named, numbered, top, changed, changed_in, replaced_if, step, run, nothing_read}
 use Rattle.kernel_code.proofs.Readings.{mk, run-append}
 use Rattle.kernel_code.proofs.Blocks.{reads_block, length-block}
 

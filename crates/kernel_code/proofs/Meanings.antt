@@ -1,5 +1,5 @@
 -- What each nonterminal of a kernel means: which trees its events spell.
-use Rattle.std.proofs.Common.{◌≡◌, ℕ, suc, ◌+◌, ◌<◌, ◌≤◌, List, [], ◌∷◌, ◌++◌, Option, Some, None, IfSome, append_assoc, append-nil, refl, sym, ◌∙◌, ap, subst, arith}
+use Rattle.std.proofs.Common.{◌≡◌, ℕ, ◌+◌, ◌<◌, ◌≤◌, List, [], ◌∷◌, ◌++◌, Option, Some, None, IfSome, arith}
 use Rattle.job_base.specs.declared.Access.{Access}
 use Rattle.frame_grammar.specs.declared.symbols.Nonterminal.{Nonterminal}
 use Rattle.frame_grammar.specs.declared.symbols.Nonterminal.TheVariants as nonterminal

@@ -1,5 +1,5 @@
 -- What the reader has after the events of an expression or of a statement.
-use Rattle.std.proofs.Common.{◌≡◌, ℕ, suc, ◌-◌, ◌+◌, ◌<◌, ◌≤◌, List, [], ◌∷◌, ◌++◌, length, drop, set, Option, Some, None, slice_get, append_assoc, append-nil, if◌then◌else◌, refl, sym, ◌∙◌, ap, subst, arith}
+use Rattle.std.proofs.Common.{◌≡◌, ℕ, ◌-◌, ◌+◌, List, [], ◌∷◌, ◌++◌, length, set, Option, Some, None, slice_get, append_assoc, if◌then◌else◌, refl, ◌∙◌, ap, arith}
 use Rattle.std.proofs.lemmas.List.{length-append}
 use Rattle.std.proofs.Math.Seq.{set-append_seam}
 use Rattle.frame_grammar.specs.declared.symbols.Action.{Action}
@@ -13,7 +13,7 @@ use Rattle.kernel_code.specs.declared.part.Part.{Part}
 use Rattle.kernel_code.specs.declared.part.Part.TheVariants as part
 use Rattle.kernel_code.specs.Raw.{RawExpr, Leaf, One, Two, Infix, RawBlock, Nothing, Simple, Nested, Branched, expr_size, parts_size, block_size, expr_node, expr_nodes, parts_nodes, statement_node, block_nodes, on, SpellsExpr, SpellsSimple, SpellsHead, SpellsBlock}
 use Rattle.kernel_code.specs.Raw as raw
-use Rattle.kernel_code.specs.Reading.{Reading, part_of, with_part, changed, is_last, is_whole, last_after, top, change, replaced_if, step, run}
+use Rattle.kernel_code.specs.Reading.{Reading, part_of, with_part, changed, is_last, last_after, change, replaced_if, step, run}
 
 abbrev pub mk : List RawParam → RawParam → List RawNode → List ℕ → ℕ → Reading
 mk ps p xs os l = record { params = ps; param = p; nodes = xs; opened = os; last = l }

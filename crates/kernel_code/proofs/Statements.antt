@@ -9,7 +9,7 @@ use Rattle.kernel_code.specs.declared.raw.RawForm.{RawForm}
 use Rattle.kernel_code.specs.declared.raw.RawForm.TheVariants as form
 use Rattle.kernel_code.specs.Raw.{RawExpr, RawBlock, Nothing, Simple, Nested, Branched, parts_size, PartsBelow, on, SpellsBlock, SpellsHead}
 use Rattle.kernel_code.specs.Raw as raw
-use Rattle.kernel_code.proofs.Meanings.{IsExpr, IsSimple, IsStatements, IsStatement, IsTarget, IsAdded, IsBraced, IsElse, Build, expr_up, parts_up, block_up}
+use Rattle.kernel_code.proofs.Meanings.{IsSimple, IsStatements, IsBraced, Build, expr_up, parts_up, block_up}
 
 -- SIMPLE STATEMENTS
 

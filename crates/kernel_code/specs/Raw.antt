@@ -5,7 +5,6 @@ use Rattle.job_base.specs.declared.Access.TheVariants.{Read, Write as WriteOnly,
 use Rattle.frame_grammar.specs.declared.symbols.Action.{Action}
 use Rattle.frame_grammar.specs.declared.symbols.Action.TheVariants as action
 use Rattle.frame_grammar.specs.declared.symbols.Event.{Event}
-use Rattle.frame_ast.specs.declared.kernel.ParamKind.{ParamKind}
 use Rattle.frame_ast.specs.declared.kernel.ParamKind.TheVariants as kind
 use Rattle.kernel_code.specs.declared.raw.RawForm.{RawForm}
 use Rattle.kernel_code.specs.declared.raw.RawForm.TheVariants as form

@@ -1,20 +1,16 @@
 -- How the events of a kernel, one after another, make its raw form.
-use Rattle.std.specs.Prelude.{◌≡◌, ℕ, zero, suc, ◌+◌, ◌-◌, Bool, true, false, List, [], ◌∷◌, ◌++◌, length, reverse, drop, slice_get, slice_set, Option, None, Some, if◌then◌else◌}
-use Rattle.job_base.specs.declared.Access.{Access}
+use Rattle.std.specs.Prelude.{ℕ, ◌-◌, Bool, true, false, List, [], ◌∷◌, ◌++◌, length, reverse, drop, slice_get, slice_set, Option, None, Some, if◌then◌else◌}
 use Rattle.job_base.specs.declared.Access.TheVariants.{Read, Write as WriteOnly, Both}
 use Rattle.frame_grammar.specs.declared.symbols.Action.{Action}
 use Rattle.frame_grammar.specs.declared.symbols.Action.TheVariants as action
 use Rattle.frame_grammar.specs.declared.symbols.Event.{Event}
-use Rattle.frame_ast.specs.declared.kernel.ParamKind.{ParamKind}
 use Rattle.frame_ast.specs.declared.kernel.ParamKind.TheVariants as kind
-use Rattle.kernel_code.specs.declared.raw.RawForm.{RawForm}
 use Rattle.kernel_code.specs.declared.raw.RawForm.TheVariants as form
 use Rattle.kernel_code.specs.declared.raw.RawNode.{RawNode}
 use Rattle.kernel_code.specs.declared.raw.RawParam.{RawParam}
 use Rattle.kernel_code.specs.declared.part.Part.{Part}
 use Rattle.kernel_code.specs.declared.part.Part.TheVariants as part
 use Rattle.kernel_code.specs.declared.reader.Reader.{Reader}
-use Rattle.kernel_code.specs.Raw.{expr_node}
 
 -- what an action says of the raw form
 abbrev pub part_of : Action → Part

@@ -1,11 +1,10 @@
-use Rattle.std.proofs.Common.{◌≡◌, ◌<◌, ◌≤◌, ◌^◌, ◌-◌, length, take, drop, length-drop, map, sym, ◌∙◌, ap, subst, arith}
+use Rattle.std.proofs.Common.{◌<◌, ◌≤◌, ◌-◌, length, take, drop, length-drop, sym, ◌∙◌, ap, subst, arith}
 use Rattle.std.proofs.lemmas.List.{length-map}
 use Rattle.frame_grammar.specs.Sentences.{IsEnded}
 use Rattle.kernel_code.specs.declared.token.Token.{Token}
 use Rattle.kernel_code.proofs.Sentences.{tokens_of-few}
 use Rattle.kernel_code.specs.Parsing.{kinds}
-use Rattle.kernel_code.specs.Raw.{IsKernel}
-use Rattle.kernel_code.proofs.Parsing.{ahead_is, ahead_ended, ahead_few, sentence_spells, refused, fault_within}
+use Rattle.kernel_code.proofs.Parsing.{ahead_is, ahead_ended, ahead_few, sentence_spells}
 use Rattle.kernel_code.proofs.kernel.parse_kernel.Goals as goal
 
 pub parse-requires-clause-few : goal.parse-requires-clause-few

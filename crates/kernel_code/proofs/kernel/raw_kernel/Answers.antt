@@ -1,4 +1,4 @@
-use Rattle.std.proofs.Common.{◌≡◌, ◌<◌, length, drop, sym, refl, ◌∙◌, ap, arith}
+use Rattle.std.proofs.Common.{length, drop, refl, ap, arith}
 use Rattle.kernel_code.specs.Reading.{run, reading_of}
 use Rattle.kernel_code.proofs.Kernels.{behind_name, few_nodes, run_keeps, has_all, spells_raw, within_raw}
 use Rattle.kernel_code.proofs.kernel.raw_kernel.Goals as goal
