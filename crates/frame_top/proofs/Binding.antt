@@ -2,7 +2,7 @@
 use Rattle.std.proofs.Common.{◌≡◌, ◌∙◌, ◌⊎◌, inl, inr, ⊎_elim, ℕ, zero, suc, ◌+◌, ◌<◌, List, [], ◌∷◌, ◌++◌, length, take, get_or, Some, slice_get, refl, sym, ap, subst, arith, add-one}
 use Rattle.frame_ast.specs.declared.script.Arg.{Arg}
 use Rattle.frame_ast.specs.declared.script.Arg.TheVariants.{Name}
-use Rattle.kernel_exec.specs.declared.binds.ArrayAt.{ArrayAt}
+use Rattle.native_array.specs.declared.array.ArrayAt.{ArrayAt}
 use Rattle.kernel_exec.specs.declared.binds.Bind.{Bind}
 use Rattle.kernel_exec.specs.declared.binds.Bind.TheVariants.{Array}
 use Rattle.frame_top.specs.Held.{Bound}

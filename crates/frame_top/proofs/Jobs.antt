@@ -1,5 +1,5 @@
 -- The job of a script: its arguments as words, and the arrays that it leaves.
-use Rattle.std.proofs.Common.{◌≡◌, ◌≢◌, ◌∙◌, ◌⊎◌, inl, inr, ⊎_elim, ℕ, zero, suc, ◌+◌, ◌<◌, ◌≤◌, Bool, true, false, not, IsTrue, ℤ, List, [], ◌∷◌, length, get_or, Option, Some, None, slice_get, refl, sym, ap, subst, arith}
+use Rattle.std.proofs.Common.{◌≡◌, ◌≢◌, ◌∙◌, ◌⊎◌, inl, inr, ⊎_elim, ℕ, zero, suc, ◌+◌, ◌<◌, ◌≤◌, ◌^◌, Bool, true, false, not, IsTrue, ℤ, List, [], ◌∷◌, length, get_or, Option, Some, None, slice_get, refl, sym, ap, subst, arith}
 use Rattle.std.proofs.lemmas.Option.{slice_get_within, slice_get-get_or}
 use Rattle.job_base.specs.Cells.{cell_list}
 use Rattle.job_base.specs.declared.Access.{Access}
@@ -13,12 +13,13 @@ use Rattle.frame_ast.specs.Contents.{Contents, Cells}
 use Rattle.frame_ast.specs.Plain.{names_once}
 use Rattle.frame_ast.specs.Schedules.{writes_to, arguments_of, leave_all}
 use Rattle.frame_ast.specs.States.{ScriptState, container_at}
-use Rattle.kernel_exec.specs.declared.binds.ArrayAt.{ArrayAt}
+use Rattle.native_array.specs.declared.array.ArrayAt.{ArrayAt}
 use Rattle.kernel_exec.specs.declared.binds.Bind.{Bind}
 use Rattle.kernel_exec.specs.declared.binds.Bind.TheVariants.{Array}
 use Rattle.kernel_exec.specs.Conditions.{BindsFit, MayRead, MayWrite, IsUnwritten}
 use Rattle.kernel_exec.specs.Layout.{StandFor, Holds as HoldsOne}
-use Rattle.kernel_exec.specs.Words.{start_of, len_of, own_of, IsWordOf}
+use Rattle.kernel_exec.specs.Binds.{end_of, kind_of, IsWordOf}
+use Rattle.kernel_exec.proofs.Rights.{reads_word, writes_word}
 use Rattle.frame_top.specs.Held.{IsIn, Holds, Bound}
 use Rattle.frame_top.proofs.Args.{AreNamed, once}
 use Rattle.frame_top.proofs.Leaving.{spared_all, written_all, argument_at, length_arguments}
@@ -77,24 +78,31 @@ args_stand arrays used cells s params args binds call = record {
 pub binds_fit : (arrays : List ArrayAt) (used : ℕ) (cells : ℕ → ℤ) (s : ScriptState) (k : Kernel) (args : List Arg) (binds : List Bind) → used ≤ 1048576 → IsCall arrays used cells s k.params.items args binds → BindsFit k binds
 binds_fit arrays used cells s k args binds room call = record {
   count = call.bound.count ∙ call.named.count;
-  ends = λ x b e. let q = call.bound.each x b e in let l = call.holds.below q.0 q.1 q.3 in subst (λ z. start_of z + len_of z ≤ 4294967295) (sym q.4) (omega arith);
-  own = λ seq x b e. ap own_of (call.bound.each x b e).4;
-  apart = λ x y a b w may ne ea eb ia ib.
+  kinds = λ x p b ep e. ap kind_of (call.bound.each x b e).4 ∙ sym (call.named.arrays x p ep);
+  ends = λ x b e. let q = call.bound.each x b e in let l = call.holds.below q.0 q.1 q.3 in subst (λ z. end_of z < 2 ^ 32) (sym q.4) (omega arith);
+  apart = λ x y a b w may ne ea eb ia length ib.
       let q = call.bound.each x a ea in
       let r = call.bound.each y b eb in
       let same = call.holds.apart q.0 r.0 q.1 r.1 w q.3 r.3 (word_in a q.1 w q.4 ia) (word_in b r.1 w r.4 ib) in
       ne (once [] args call.once x y r.0 (q.2 ∙ ap (λ n. Some (Name n)) same) r.2);
 }
 
-pub may_read : (arrays : List ArrayAt) (used total : ℕ) (cells : ℕ → ℤ) (s : ScriptState) (k : Kernel) (args : List Arg) (binds : List Bind) (readable : ℕ → Bool) → used ≤ total → IsCall arrays used cells s k.params.items args binds → ((w : ℕ) → w < total → IsTrue (readable w)) → MayRead k binds readable
-may_read arrays used total cells s k args binds readable room call h = record {
-  each = λ x b w may e i. let q = call.bound.each x b e in let l = call.holds.below q.0 q.1 q.3 in let z = (word_in b q.1 w q.4 i).below in h w (omega arith);
-}
+-- each word of a bind is allowed where all words are
+allowed : (arrays : List ArrayAt) (used total : ℕ) (cells : ℕ → ℤ) (s : ScriptState) (k : Kernel) (args : List Arg) (binds : List Bind) (may : ℕ → Bool) → used ≤ total → IsCall arrays used cells s k.params.items args binds → ((w : ℕ) → w < total → IsTrue (may w))
+    → (x : ℕ) (b : Bind) (w : ℕ) → slice_get binds x ≡ Some b → IsWordOf b w → IsTrue (may w)
+allowed arrays used total cells s k args binds may room call h x b w e i =
+    let q = call.bound.each x b e in
+    let l = call.holds.below q.0 q.1 q.3 in
+    let z = (word_in b q.1 w q.4 i).below in
+    h w (omega arith)
 
-pub may_store : (arrays : List ArrayAt) (used total : ℕ) (cells : ℕ → ℤ) (s : ScriptState) (k : Kernel) (args : List Arg) (binds : List Bind) (writable : ℕ → Bool) → used ≤ total → IsCall arrays used cells s k.params.items args binds → ((w : ℕ) → w < total → IsTrue (writable w)) → MayWrite k binds writable
-may_store arrays used total cells s k args binds writable room call h = record {
-  each = λ x b w may e i. let q = call.bound.each x b e in let l = call.holds.below q.0 q.1 q.3 in let z = (word_in b q.1 w q.4 i).below in h w (omega arith);
-}
+pub may_read : (arrays : List ArrayAt) (used total : ℕ) (cells : ℕ → ℤ) (s : ScriptState) (k : Kernel) (args : List Arg) (binds : List Bind) (readable : ℕ → Bool) → used ≤ total → IsCall arrays used cells s k.params.items args binds → ((w : ℕ) → w < total → IsTrue (readable w)) → MayRead k binds 0 readable
+may_read arrays used total cells s k args binds readable room call h w r =
+    allowed arrays used total cells s k args binds readable room call h r.number r.bind w r.has_bind (reads_word (is_read r.param.access) r.bind 0 1 w r.reads)
+
+pub may_store : (arrays : List ArrayAt) (used total : ℕ) (cells : ℕ → ℤ) (s : ScriptState) (k : Kernel) (args : List Arg) (binds : List Bind) (writable : ℕ → Bool) → used ≤ total → IsCall arrays used cells s k.params.items args binds → ((w : ℕ) → w < total → IsTrue (writable w)) → MayWrite k binds 0 writable
+may_store arrays used total cells s k args binds writable room call h w r =
+    allowed arrays used total cells s k args binds writable room call h r.number r.bind w r.has_bind (writes_word (is_read r.param.access) r.bind 0 1 w r.writes)
 
 -- a name is an argument, or it is none
 named_or : (args : List Arg) (n : ℕ) → ((x : ℕ) × (slice_get args x ≡ Some (Name n))) ⊎ ((x : ℕ) → slice_get args x ≢ Some (Name n))
@@ -139,7 +147,7 @@ left_elements arrays used cells cells' s k args binds news call stand unwritten 
 
     kept : ((x : ℕ) (b : Bind) (w : ℕ) → IsTrue (may_write k.params.items x) → slice_get binds x ≡ Some b → slice_get args x ≡ Some (Name n) → ⊥) → cell_list cells' at.start at.len ≡ cell_list cells at.start at.len
     kept f = same_list cells cells' at.start at.len (λ w lo hi. unwritten w (record {
-      each = λ x b may e i.
+      each = λ x b may e i length.
           let q = call.bound.each x b e in
           let name = call.holds.apart q.0 n q.1 at w q.3 is (word_in b q.1 w q.4 i) (record { from = lo; below = hi }) in
           f x b w may e (q.2 ∙ ap (λ m. Some (Name m)) name);

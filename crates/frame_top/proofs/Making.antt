@@ -7,7 +7,7 @@ use Rattle.frame_ast.specs.Contents.{Contents, Cells, words_of}
 use Rattle.frame_ast.specs.Effects.{make}
 use Rattle.frame_ast.specs.Refusals.{store_full}
 use Rattle.frame_ast.specs.States.{Value, ScriptState, with_at, container_of, container_at, is_live, live_below}
-use Rattle.kernel_exec.specs.declared.binds.ArrayAt.{ArrayAt}
+use Rattle.native_array.specs.declared.array.ArrayAt.{ArrayAt}
 use Rattle.frame_top.specs.Held.{IsIn, Holds, Puts}
 use Rattle.frame_top.specs.Progress.{words_below}
 use Rattle.frame_top.proofs.Tables.{same_or, at_here, at_there, same_list}

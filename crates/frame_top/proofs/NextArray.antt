@@ -14,7 +14,7 @@ use Rattle.frame_ast.specs.Contents.{Cells, words_of}
 use Rattle.frame_ast.specs.Effects.{make, effect}
 use Rattle.frame_ast.specs.Plain.{is_persistent, plain_orders, array_length}
 use Rattle.frame_ast.specs.States.{ScriptState}
-use Rattle.kernel_exec.specs.declared.binds.ArrayAt.{ArrayAt}
+use Rattle.native_array.specs.declared.array.ArrayAt.{ArrayAt}
 use Rattle.frame_top.specs.Held.{Holds, Puts}
 use Rattle.frame_top.specs.Progress.{set_of, orders, state_at, IsQuiet, Fits, words_below, Makes}
 use Rattle.frame_top.proofs.Facts.{persistent_is, le_of, array_kind, words_new}

@@ -23,11 +23,11 @@ use Rattle.frame_ast.specs.Plain.{IsPlain, plain_kernel, plain_param, plain_orde
 use Rattle.frame_ast.specs.Refusals.{schedule_refusal}
 use Rattle.frame_ast.specs.Schedules.{givens, arguments_of, leave_all, widths_from}
 use Rattle.frame_ast.specs.States.{Value, JobTrap, ScriptState, container_of, container_at}
-use Rattle.kernel_exec.specs.declared.binds.ArrayAt.{ArrayAt}
+use Rattle.native_array.specs.declared.array.ArrayAt.{ArrayAt}
 use Rattle.kernel_exec.specs.declared.binds.Bind.{Bind}
 use Rattle.kernel_exec.specs.Conditions.{IsUnwritten}
 use Rattle.kernel_exec.specs.Layout.{StandFor}
-use Rattle.kernel_exec.specs.Words.{widths, own_of}
+use Rattle.kernel_exec.specs.Binds.{widths, own_of}
 use Rattle.frame_top.specs.Held.{Holds}
 use Rattle.frame_top.specs.Progress.{set_of, orders, state_at, Fits, Makes}
 use Rattle.frame_top.proofs.Args.{AreNamed, are_named}

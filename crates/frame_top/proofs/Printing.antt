@@ -20,7 +20,7 @@ use Rattle.frame_ast.specs.Schedules.{need_of}
 use Rattle.frame_ast.specs.Scripts.{act, act_or_pass, act_all, decided, output_at, output_of, status_by, status_at, status_of}
 use Rattle.frame_ast.specs.States.{ScriptState, at_start, value_elements, is_alive, is_stale}
 use Rattle.frame_ast.specs.Texts.{print_line, traps_text}
-use Rattle.kernel_exec.specs.declared.binds.ArrayAt.{ArrayAt}
+use Rattle.native_array.specs.declared.array.ArrayAt.{ArrayAt}
 use Rattle.frame_top.specs.Held.{Holds}
 use Rattle.frame_top.specs.Progress.{set_of, orders, state_at, IsQuiet, Fits, Prints, CanPrint}
 use Rattle.frame_top.proofs.Facts.{lt_of}

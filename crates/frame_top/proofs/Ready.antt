@@ -19,7 +19,7 @@ use Rattle.frame_ast.specs.Scripts.{act, act_all}
 use Rattle.frame_ast.specs.States.{ScriptState, jobs_of}
 use Rattle.frame_ast.specs.Kernels.{store_after, trap_after}
 use Rattle.frame_ast.specs.Schedules.{arguments_of}
-use Rattle.kernel_exec.specs.declared.binds.ArrayAt.{ArrayAt}
+use Rattle.native_array.specs.declared.array.ArrayAt.{ArrayAt}
 use Rattle.kernel_exec.specs.declared.binds.Bind.{Bind}
 use Rattle.kernel_exec.specs.Conditions.{IsUnwritten}
 use Rattle.kernel_exec.specs.Layout.{StandFor}

@@ -15,7 +15,7 @@ use Rattle.frame_ast.specs.Plain.{names_once}
 use Rattle.frame_ast.specs.Refusals.{Refused, first_cause, jobs_named, pending_on, is_temp, first_given, schedule_refusal, naming}
 use Rattle.frame_ast.specs.Schedules.{Given, writes_to, is_shared, alias, first_alias, given_args, givens, need_of}
 use Rattle.frame_ast.specs.States.{ScriptState, container_at, is_alive, is_stale}
-use Rattle.kernel_exec.specs.declared.binds.ArrayAt.{ArrayAt}
+use Rattle.native_array.specs.declared.array.ArrayAt.{ArrayAt}
 use Rattle.frame_top.specs.Held.{Holds}
 use Rattle.frame_top.proofs.Args.{AreNamed, or_there}
 use Rattle.frame_top.proofs.Tables.{first_true, second_true}

@@ -13,7 +13,7 @@ use Rattle.frame_ast.specs.Plain.{plain_orders, prints_alone, array_length}
 use Rattle.frame_ast.specs.Refusals.{pending}
 use Rattle.frame_ast.specs.Scripts.{act_all}
 use Rattle.frame_ast.specs.States.{ScriptState, at_start}
-use Rattle.kernel_exec.specs.declared.binds.ArrayAt.{ArrayAt}
+use Rattle.native_array.specs.declared.array.ArrayAt.{ArrayAt}
 use Rattle.frame_top.specs.Held.{Holds}
 
 abbrev pub set_of : Script → Setting

@@ -10,7 +10,7 @@ ghost use Rattle.frame_top.specs.Held.{Puts};
 
 use frame_ast::script::{Order, Script};
 use job_base::{Mem, NoMemory, Word};
-use kernel_exec::ArrayAt;
+use native_array::ArrayAt;
 
 // How many words the array takes that a statement makes.
 fn array_words(order: &Order) -> u32

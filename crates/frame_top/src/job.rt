@@ -8,7 +8,8 @@ ghost use Rattle.frame_top.specs.Progress.{HasMade, IsReady};
 
 use frame_ast::script::{Arg, Order, Script};
 use job_base::{Mem, NoMemory};
-use kernel_exec::{ArrayAt, Bind, Scratch, execute};
+use kernel_exec::{Bind, Scratch, execute};
+use native_array::ArrayAt;
 use std::alloc::Global;
 
 /// Why nothing is printed.

@@ -9,7 +9,7 @@ ghost use Rattle.frame_top.specs.Progress.{CanPrint};
 use crate::print::print_array;
 use frame_ast::script::{Order, Script};
 use job_base::{Mem, Sink, SinkFault};
-use kernel_exec::ArrayAt;
+use native_array::ArrayAt;
 
 /// Prints what a script prints, where only the prints from `from` on are left. It takes no memory.
 pub fn print_lines<M: Mem, S: Sink>(

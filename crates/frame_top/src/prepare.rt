@@ -9,7 +9,7 @@ use crate::arrays::{make_arrays, words_needed};
 use crate::job::{Room, Stop, run_job};
 use frame_ast::script::Script;
 use job_base::{FlatMem, NoMemory};
-use kernel_exec::ArrayAt;
+use native_array::ArrayAt;
 use std::alloc::Global;
 
 /// The arrays of a script after its job, and the statement with which its prints begin.

@@ -1,6 +1,9 @@
+pub mod AtBinds
+pub mod Reading
+pub mod Changing
+pub mod Stand
+pub mod Keeping
+pub mod Rights
 pub mod Loops
 pub mod Parts
-pub mod Stores
-pub mod Stand
 pub mod Ends
-pub mod OneExecute

@@ -1,42 +1,61 @@
 -- What binds have to be for a kernel.
-use Rattle.std.specs.Prelude.{◌≡◌, ◌≢◌, ℕ, ◌+◌, ◌≤◌, Bool, true, false, IsTrue, List, length, Option, Some, None, slice_get}
-use Rattle.job_base.specs.declared.Access.{Access}
-use Rattle.job_base.specs.declared.Access.TheVariants.{Read, Write, Both}
+use Rattle.std.specs.Prelude.{◌≡◌, ◌≢◌, ℕ, ◌+◌, ◌<◌, ◌^◌, Bool, IsTrue, ℤ, pos, List, length, map, get_or, Some, slice_get}
 use Rattle.frame_ast.specs.declared.kernel.Param.{Param}
 use Rattle.frame_ast.specs.declared.kernel.Kernel.{Kernel}
-use Rattle.frame_ast.specs.Checked.{may_write}
+use Rattle.frame_ast.specs.declared.kernel.Stmt.{Stmt}
+use Rattle.frame_ast.specs.Checked.{may_write, stmt_fits, all_fit, IsChecked}
+use Rattle.frame_ast.specs.Lists.{member}
 use Rattle.kernel_exec.specs.declared.binds.Bind.{Bind}
-use Rattle.kernel_exec.specs.Words.{start_of, len_of, own_of, IsWordOf}
+use Rattle.kernel_exec.specs.declared.binds.Bind.TheVariants.{Stream}
+use Rattle.kernel_exec.specs.Binds.{kind_of, end_of, IsWordOf, width_if, bind_at}
+use Rattle.kernel_exec.specs.Footprint.{Own, IsLength, IsRead, IsWritten}
 
--- the parameters that a kernel may read
-abbrev pub allows_reading : Access → Bool
-allows_reading Read = true
-allows_reading Write = false
-allows_reading Both = true
-
-abbrev pub read_param : Option Param → Bool
-read_param None = false
-read_param (Some p) = allows_reading p.access
-
-abbrev pub may_read : List Param → ℕ → Bool
-may_read params x = read_param (slice_get params x)
-
--- binds that fit the parameters of a kernel
+-- Binds fit the parameters of a kernel: one for each, in order, of its kind, and within the words of 32 bits.
 pub record BindsFit (kernel : Kernel) (binds : List Bind) : Type 0 where
   pub count : length binds ≡ length kernel.params.items
-  pub ends : (x : ℕ) (b : Bind) → slice_get binds x ≡ Some b → start_of b + len_of b ≤ 4294967295
-  -- the own-index rule holds in parallel kernels alone
-  pub own : kernel.parallel ≡ false → (x : ℕ) (b : Bind) → slice_get binds x ≡ Some b → own_of b ≡ 0
-  -- no word that may be written through one bind is a word of another
-  pub apart : (x y : ℕ) (a b : Bind) (w : ℕ) → IsTrue (may_write kernel.params.items x) → x ≢ y → slice_get binds x ≡ Some a → slice_get binds y ≡ Some b → IsWordOf a w → IsWordOf b w → ⊥
+  pub kinds : (x : ℕ) (p : Param) (b : Bind) → slice_get kernel.params.items x ≡ Some p → slice_get binds x ≡ Some b → kind_of b ≡ p.kind
+  pub ends : (x : ℕ) (b : Bind) → slice_get binds x ≡ Some b → end_of b < 2 ^ 32
+  -- no word that may be written through one bind is a word of another; of a view its elements alone are written
+  pub apart : (x y : ℕ) (a b : Bind) (w : ℕ) → IsTrue (may_write kernel.params.items x) → x ≢ y → slice_get binds x ≡ Some a → slice_get binds y ≡ Some b → IsWordOf a w → (IsLength a w → ⊥) → IsWordOf b w → ⊥
 
--- the words of the parameters that it may read, and of those that it may write
-pub record MayRead (kernel : Kernel) (binds : List Bind) (readable : ℕ → Bool) : Type 0 where
-  pub each : (x : ℕ) (b : Bind) (w : ℕ) → IsTrue (may_read kernel.params.items x) → slice_get binds x ≡ Some b → IsWordOf b w → IsTrue (readable w)
+-- at an index, the words that it reads are readable, and those that it writes writable
+abbrev pub MayRead : Kernel → List Bind → ℕ → (ℕ → Bool) → Type 0
+MayRead kernel binds index readable = (w : ℕ) → IsRead kernel.params.items binds index (index + 1) w → IsTrue (readable w)
 
-pub record MayWrite (kernel : Kernel) (binds : List Bind) (writable : ℕ → Bool) : Type 0 where
-  pub each : (x : ℕ) (b : Bind) (w : ℕ) → IsTrue (may_write kernel.params.items x) → slice_get binds x ≡ Some b → IsWordOf b w → IsTrue (writable w)
+abbrev pub MayWrite : Kernel → List Bind → ℕ → (ℕ → Bool) → Type 0
+MayWrite kernel binds index writable = (w : ℕ) → IsWritten kernel.params.items binds index (index + 1) w → IsTrue (writable w)
+
+-- what stays so through an Execute: a checked kernel, binds that fit, and the rights that it needs at its index
+pub record IsCall (kernel : Kernel) (binds : List Bind) (index : ℕ) (may_load may_store : ℕ → Bool) : Type 0 where
+  pub checked : IsChecked kernel
+  pub fit : BindsFit kernel binds
+  pub loads : MayRead kernel binds index may_load
+  pub stores : MayWrite kernel binds index may_store
+
+-- an index that an Execute may write to, where the bind is a stream
+abbrev pub IsBegun : Bind → ℕ → ℤ → Type 0
+IsBegun (Stream at own) index i = (k : ℕ) × (i ≡ pos k) × (k < at.count) × Own (width_if own) index (index + 1) k
+IsBegun _ index i = Unit {0}
+
+-- every stream of these parameters has such an index
+abbrev pub AreBegun : List Bind → ℕ → List ℕ → List ℤ → Type 0
+AreBegun binds index open_ begun = (x : ℕ) → IsTrue (member x open_) → IsBegun (bind_at binds x) index (get_or begun x (pos 0))
+
+-- a statement fits inside `begin` blocks of some streams, each of which has begun an index; and a block likewise
+pub record StatementFits (kernel : Kernel) (binds : List Bind) (index : ℕ) (begun : List ℤ) (s : Stmt) : Type 0 where
+  pub open_ : List ℕ
+  pub fits : IsTrue (stmt_fits kernel.parallel kernel.params.items kernel.locals s open_)
+  pub have : AreBegun binds index open_ begun
+
+pub record BlockFits (kernel : Kernel) (binds : List Bind) (index : ℕ) (begun : List ℤ) (body : List Stmt) : Type 0 where
+  pub open_ : List ℕ
+  pub fits : IsTrue (all_fit (map (stmt_fits kernel.parallel kernel.params.items kernel.locals) body) open_)
+  pub have : AreBegun binds index open_ begun
+
+-- such an index stays one, or another takes its place
+abbrev pub KeepsBegun : List Bind → ℕ → List ℤ → List ℤ → Type 0
+KeepsBegun binds index old new = (x : ℕ) → IsBegun (bind_at binds x) index (get_or old x (pos 0)) → IsBegun (bind_at binds x) index (get_or new x (pos 0))
 
 -- a word that it may not write
 pub record IsUnwritten (kernel : Kernel) (binds : List Bind) (w : ℕ) : Type 0 where
-  pub each : (x : ℕ) (b : Bind) → IsTrue (may_write kernel.params.items x) → slice_get binds x ≡ Some b → IsWordOf b w → ⊥
+  pub each : (x : ℕ) (b : Bind) → IsTrue (may_write kernel.params.items x) → slice_get binds x ≡ Some b → IsWordOf b w → (IsLength b w → ⊥) → ⊥

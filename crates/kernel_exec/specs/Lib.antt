@@ -1,4 +1,6 @@
-pub mod Words
+pub mod Binds
+pub mod Footprint
 pub mod Layout
+pub mod Words
 pub mod Conditions
 pub mod Runs

@@ -1,6 +1,6 @@
 use Rattle.std.proofs.Common.{◌≡◌, ◌<◌, ◌∙◌, List, length, get_or, refl, subst}
 use Rattle.frame_ast.specs.declared.script.Statement.{Statement}
-use Rattle.kernel_exec.specs.declared.binds.ArrayAt.{ArrayAt}
+use Rattle.native_array.specs.declared.array.ArrayAt.{ArrayAt}
 use Rattle.frame_top.proofs.NextArray.{makes_more}
 use Rattle.frame_top.proofs.arrays.make_arrays.Goals as goal
 

@@ -37,12 +37,6 @@ execute-requires-clause-checked g c =
     let j = job_here _ _ _ _ _ _ _ _ _ _ _ _ _ _ _ c.index-kernel.result.now c.requires.made c.requires.plain c.deref.ensures.value l.3.0 l.1 c.in-Schedule.is c.index-kernel.ensures in
     c.requires.accepted.kernels _ _ j.next.found
 
-pub execute-requires-clause-plain : goal.execute-requires-clause-plain
-execute-requires-clause-plain g c =
-    let l = c.in-Some.ensures.lookup in
-    let j = job_here _ _ _ _ _ _ _ _ _ _ _ _ _ _ _ c.index-kernel.result.now c.requires.made c.requires.plain c.deref.ensures.value l.3.0 l.1 c.in-Schedule.is c.index-kernel.ensures in
-    j.next.plain_kernel
-
 pub execute-requires-clause-index : goal.execute-requires-clause-index
 execute-requires-clause-index g c =
     let l = c.in-Some.ensures.lookup in
@@ -62,14 +56,14 @@ execute-requires-clause-readable g c =
     let l = c.in-Some.ensures.lookup in
     let j = job_here _ _ _ _ _ _ _ _ _ _ _ _ _ _ _ c.index-kernel.result.now c.requires.made c.requires.plain c.deref.ensures.value l.3.0 l.1 c.in-Schedule.is c.index-kernel.ensures in
     let b = bound_here _ c.in-Schedule.args.items _ _ c.deref-3.result.now c.in-Ok.ensures c.deref-2.ensures.value c.deref-3.ensures.value in
-    may_read _ _ _ _ _ _ _ _ _ (room_in _ _ _ _ _ _ j.makes) (a_call _ _ _ _ _ _ _ _ _ _ _ j b) c.requires.readable
+    may_read _ _ _ _ _ c.index-kernel.result.now _ _ _ (room_in _ _ _ _ _ _ j.makes) (a_call _ _ _ _ _ _ _ _ _ _ _ j b) c.requires.readable
 
 pub execute-requires-clause-writable : goal.execute-requires-clause-writable
 execute-requires-clause-writable g c =
     let l = c.in-Some.ensures.lookup in
     let j = job_here _ _ _ _ _ _ _ _ _ _ _ _ _ _ _ c.index-kernel.result.now c.requires.made c.requires.plain c.deref.ensures.value l.3.0 l.1 c.in-Schedule.is c.index-kernel.ensures in
     let b = bound_here _ c.in-Schedule.args.items _ _ c.deref-3.result.now c.in-Ok.ensures c.deref-2.ensures.value c.deref-3.ensures.value in
-    may_store _ _ _ _ _ _ _ _ _ (room_in _ _ _ _ _ _ j.makes) (a_call _ _ _ _ _ _ _ _ _ _ _ j b) c.requires.writable
+    may_store _ _ _ _ _ c.index-kernel.result.now _ _ _ (room_in _ _ _ _ _ _ j.makes) (a_call _ _ _ _ _ _ _ _ _ _ _ j b) c.requires.writable
 
 pub returns-in-Ok-execute-clause-ready : goal.returns-in-Ok-execute-clause-ready
 returns-in-Ok-execute-clause-ready g c =

@@ -1,6 +1,6 @@
 use Rattle.std.proofs.Common.{List, arith, subst}
 use Rattle.job_base.specs.Cells.{cells_of}
-use Rattle.kernel_exec.specs.declared.binds.ArrayAt.{ArrayAt}
+use Rattle.native_array.specs.declared.array.ArrayAt.{ArrayAt}
 use Rattle.frame_top.specs.Progress.{IsReady}
 use Rattle.frame_top.proofs.Filling.{new_zero, new_words, still_may}
 use Rattle.frame_top.proofs.prepare.prepare.Goals as goal

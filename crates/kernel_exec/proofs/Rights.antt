@@ -1,0 +1,234 @@
+-- Which words a call on an argument may use.
+use Rattle.std.proofs.Common.{◌≡◌, ◌∙◌, ◌≢◌, ℕ, zero, suc, ◌+◌, ◌*◌, ◌≤◌, ◌<◌, ◌^◌, nat_le, nat_lt, Bool, true, false, IsTrue, ℤ, pos, negsuc, ◌⊎◌, ⊎_elim, inl, inr, List, [], ◌∷◌, length, Option, Some, None, Ok, slice_get, refl, sym, ap, subst, arith}
+use Rattle.std.specs.Prelude.{not, ◌||◌, nat_abs}
+use Rattle.std.proofs.lemmas.Bool.Decides.{nat_tests}
+use Rattle.std.proofs.lemmas.Option.{slice_get_within}
+use Rattle.job_base.specs.declared.Access.{Access}
+use Rattle.job_base.specs.declared.Access.TheVariants.{Read, Write as WriteOnly, Both}
+use Rattle.frame_ast.specs.declared.kernel.ParamKind.{ParamKind}
+use Rattle.frame_ast.specs.declared.kernel.ParamKind.TheVariants.{Int as IntKind, Array as ArrayKind, List as ListKind, Ref as RefKind, Map as MapKind, Stream as StreamKind}
+use Rattle.frame_ast.specs.declared.kernel.Param.{Param}
+use Rattle.frame_ast.specs.declared.kernel.Kernel.{Kernel}
+use Rattle.frame_ast.specs.Contents.{place_in}
+use Rattle.frame_ast.specs.Arguments.{owns}
+use Rattle.frame_ast.specs.Checked.{Demand, nothing, kind_meets, access_meets, param_meets, meets, has_length, read_stream, clearable, is_read, is_both, kind_fits, param_fits, may_write, written_param}
+use Rattle.frame_ast.proofs.Simulation.{and_left, and_right}
+use Rattle.native_array.specs.declared.array.ArrayAt.{ArrayAt}
+use Rattle.native_list.specs.declared.ListAt.{ListAt}
+use Rattle.native_list.specs.Words.{len_words}
+use Rattle.native_list.specs.Conditions.{MayAdd, MayRemove}
+use Rattle.native_list.proofs.Standing.{length_within}
+use Rattle.native_map.specs.declared.MapAt.{MapAt}
+use Rattle.native_stream.specs.declared.StreamAt.{StreamAt}
+use Rattle.native_stream.specs.Layout.{mark_word, index_end}
+use Rattle.native_stream.proofs.Places.{in_place, row_before}
+use Rattle.kernel_exec.specs.declared.binds.Bind.{Bind}
+use Rattle.kernel_exec.specs.declared.binds.Bind.TheVariants.{Int, Array, View, List as WholeList, Ref, Map, Stream}
+use Rattle.kernel_exec.specs.Binds.{end_of, IsWordOf, width_if, bind_at, kind_of}
+use Rattle.kernel_exec.specs.Footprint.{Own, Uses, IsLength, ReadsBy, WritesBy}
+use Rattle.kernel_exec.specs.Conditions.{BindsFit, IsCall, IsBegun}
+use Rattle.kernel_exec.specs.Words.{clear_word}
+use Rattle.kernel_exec.proofs.AtBinds.{bind_here}
+use Rattle.kernel_exec.proofs.Stand.{each_of}
+
+-- a place that an index owns is one that the indexes up to it own
+own_place : (width index k : ℕ) → IsTrue (owns width index (pos k)) → Own width index (index + 1) k
+own_place zero index k h = tt
+own_place (suc n) index k h =
+    let lo : IsTrue (nat_le (index * suc n) k) = and_left _ _ h in
+    let hi : IsTrue (nat_lt k (index * suc n + suc n)) = and_right (nat_le (index * suc n) k) _ h in
+    (grind (arith, nat_tests, lo), grind (arith, nat_tests, hi))
+
+pub owned_place : (n width index k : ℕ) (i : ℤ) → place_in n i ≡ Ok k → IsTrue (owns width index i) → Own width index (index + 1) k
+owned_place n width index k (pos i) e h = let same : i ≡ k = grind (arith, nat_tests, e) in own_place width index k (subst (λ j. IsTrue (owns width index (pos j))) same h)
+owned_place n width index k (negsuc i) e h = cc
+
+pub in_stream : (at : StreamAt) (k w : ℕ) → k < at.count → mark_word at k ≤ w → w < index_end at k → IsWordOf (Stream at true) w
+in_stream at k w h lo hi =
+    let row = row_before k at.count (at.room + 1) h in
+    record { from = omega arith; below = omega arith }
+
+-- what is used of a bind are words of it
+pub uses_word : (b : Bind) (from to w : ℕ) → Uses b from to w → IsWordOf b w
+uses_word (Int z) from to w u = absurd u
+uses_word (Array at own) from to w u = let e = u.is in let h = u.within in record { from = omega arith; below = omega arith }
+uses_word (View at own) from to w u = let e = u.is in let h = u.within in record { from = omega arith; below = omega arith }
+uses_word (WholeList at) from to w u = u
+uses_word (Ref at) from to w u = u
+uses_word (Map at) from to w u = u
+uses_word (Stream at own) from to w u = let h = in_stream at u.index w u.within u.start u.end in record { from = h.from; below = h.below }
+
+length_word_of : (b : Bind) (w : ℕ) → IsLength b w → IsWordOf b w
+length_word_of (Int z) w u = absurd u
+length_word_of (Array at own) w u = absurd u
+length_word_of (View at own) w u = record { from = omega (arith, u); below = omega (arith, u) }
+length_word_of (WholeList at) w u = absurd u
+length_word_of (Ref at) w u = absurd u
+length_word_of (Map at) w u = absurd u
+length_word_of (Stream at own) w u = absurd u
+
+-- the words of places of an array, of a view and of a list
+pub array_element : (at : ArrayAt) (width index k : ℕ) (i : ℤ) → place_in at.len i ≡ Ok k → IsTrue (owns width index i) → Uses (Array at width) index (index + 1) (at.start + k)
+array_element at width index k i e own = record { place = k; is = refl; within = in_place at.len k i e; owned = owned_place at.len width index k i e own }
+
+pub view_element : (at : ListAt) (array : ArrayAt) (width index k : ℕ) (i : ℤ) → array.start ≡ at.start + 1 → array.len ≤ at.cap → place_in array.len i ≡ Ok k → IsTrue (owns width index i) → Uses (View at width) index (index + 1) (array.start + k)
+view_element at array width index k i start within e own =
+    let below : k < array.len = in_place array.len k i e in
+    record { place = k; is = omega arith; within = omega arith; owned = owned_place array.len width index k i e own }
+
+pub list_element : (at : ListAt) (cells : ℕ → ℤ) (k : ℕ) (i : ℤ) → place_in (len_words at cells) i ≡ Ok k → IsWordOf (WholeList at) (at.start + 1 + k)
+list_element at cells k i e =
+    let below : k < len_words at cells = in_place (len_words at cells) k i e in
+    let within : len_words at cells ≤ at.cap = length_within at.cap (cells at.start) in
+    record { from = omega arith; below = omega arith }
+
+param_met : (d : Demand) (o : Option Param) → IsTrue (param_meets d o) → (p : Param) × (o ≡ Some p)
+param_met d None h = cc
+param_met d (Some p) h = (p, refl)
+
+pub has_param : (params : List Param) (x : ℕ) (d : Demand) → IsTrue (meets params x d) → x < length params
+has_param params x d h = let p = param_met d (slice_get params x) h in slice_get_within params x p.0 p.1
+
+either : (a b : Bool) → IsTrue (a || b) → IsTrue a ⊎ IsTrue b
+either true b h = inl refl
+either false b h = inr h
+
+writes_access : (d : Demand) (a : Access) → d.writes ≡ true → access_meets d a ≡ true → not (is_read a) ≡ true
+writes_access d Read w h = absurd (let no : not true ≡ true = subst (λ b. not b ≡ true) w h in cc)
+writes_access d WriteOnly w h = refl
+writes_access d Both w h = refl
+
+-- a form that writes stands on a parameter that may be written
+pub written : (params : List Param) (x : ℕ) (d : Demand) → d.writes ≡ true → IsTrue (meets params x d) → IsTrue (may_write params x)
+written params x d w h = by (slice_get params x) h
+  where
+    by : (o : Option Param) → IsTrue (param_meets d o) → IsTrue (written_param o)
+    by None h = cc
+    by (Some p) h = writes_access d p.access w (and_right (kind_meets d p.kind) _ h)
+
+-- a stream that is read is only read
+only_read : (k : ParamKind) (p : Param) → IsTrue (kind_meets read_stream k) → IsTrue (access_meets read_stream p.access) → IsTrue (kind_fits p k) → is_read p.access ≡ true
+only_read IntKind p k a f = cc
+only_read ArrayKind p k a f = cc
+only_read ListKind p k a f = cc
+only_read RefKind p k a f = cc
+only_read MapKind p k a f = cc
+only_read StreamKind p k a f = by p.access a f
+  where
+    by : (a : Access) → IsTrue (access_meets read_stream a) → IsTrue (not (is_both a)) → is_read a ≡ true
+    by Read a f = refl
+    by WriteOnly a f = cc
+    by Both a f = cc
+
+module _ (kernel : Kernel) (binds : List Bind) (index : ℕ) (may_load may_store : ℕ → Bool) (call : IsCall kernel binds index may_load may_store) (x : ℕ) (b : Bind) (is : b ≡ bind_at binds x) (inside : x < length kernel.params.items) where
+  bind : slice_get binds x ≡ Some b
+  bind = let n = call.fit.count in bind_here binds x (omega arith) ∙ ap Some (sym is)
+
+  param : (p : Param) × (slice_get kernel.params.items x ≡ Some p)
+  param = at kernel.params.items x inside
+    where
+      at : (ps : List Param) (x : ℕ) → x < length ps → (p : Param) × (slice_get ps x ≡ Some p)
+      at [] x h = absurd (omega arith)
+      at (p ∷ ps) zero h = (p, refl)
+      at (p ∷ ps) (suc x) h = at ps x (omega arith)
+
+  pub fits : end_of b < 2 ^ 32
+  fits = call.fit.ends x b bind
+
+  reads : (r : Bool) (w : ℕ) → Uses b index (index + 1) w ⊎ IsLength b w → ReadsBy r b index (index + 1) w
+  reads true w (inl u) = uses_word b index (index + 1) w u
+  reads true w (inr u) = length_word_of b w u
+  reads false w u = u
+
+  pub may_use : (w : ℕ) → Uses b index (index + 1) w ⊎ IsLength b w → IsTrue (may_load w)
+  may_use w u = call.loads w (record { number = x; param = param.0; bind = b; has_param = param.1; has_bind = bind; reads = reads (is_read param.0.access) w u })
+
+  pub may_read_stream : IsTrue (meets kernel.params.items x read_stream) → (w : ℕ) → IsWordOf b w → IsTrue (may_load w)
+  may_read_stream h w i =
+      let met : IsTrue (param_meets read_stream (Some param.0)) = subst (λ o. IsTrue (param_meets read_stream o)) param.1 h in
+      let fit = each_of param_fits kernel.params.items x param.0 call.checked.params param.1 in
+      let only = only_read param.0.kind param.0 (and_left _ _ met) (and_right (kind_meets read_stream param.0.kind) _ met) (and_left (kind_fits param.0 param.0.kind) _ fit) in
+      call.loads w (record { number = x; param = param.0; bind = b; has_param = param.1; has_bind = bind; reads = subst (λ r. ReadsBy r b index (index + 1) w) (sym only) i })
+
+  writes : (r : Bool) → IsTrue (not r) → (w : ℕ) → Uses b index (index + 1) w → WritesBy r b index (index + 1) w
+  writes true h w u = cc
+  writes false h w u = u
+
+  pub may_change : IsTrue (may_write kernel.params.items x) → (w : ℕ) → Uses b index (index + 1) w → IsTrue (may_store w)
+  may_change h w u =
+      call.stores w (record { number = x; param = param.0; bind = b; has_param = param.1; has_bind = bind; writes = writes (is_read param.0.access) (subst (λ o. IsTrue (written_param o)) param.1 h) w u })
+
+-- the parameter of a `len` is one
+pub has_length_param : (params : List Param) (x : ℕ) → IsTrue (has_length params x) → x < length params
+has_length_param params x h =
+    let always = record nothing { array = true; stream = true } in
+    let reading = record nothing { list = true; map = true; reads = true } in
+    ⊎_elim (λ h. has_param params x always h) (λ h. has_param params x reading h) (either (meets params x always) (meets params x reading) h)
+
+-- the words of an index of a stream
+pub stream_index : (at : StreamAt) (own : Bool) (index k : ℕ) (i : ℤ) → place_in at.count i ≡ Ok k → IsTrue (owns (width_if own) index i) → (w : ℕ) → mark_word at k ≤ w → w < index_end at k → Uses (Stream at own) index (index + 1) w
+stream_index at own index k i e may w lo hi = record { index = k; within = in_place at.count k i e; owned = owned_place at.count (width_if own) index k i e may; start = lo; end = hi }
+
+-- what a change of a list's length uses
+pub may_add : (at : ListAt) (cells : ℕ → ℤ) (allowed : ℕ → Bool) → ((w : ℕ) → IsWordOf (WholeList at) w → IsTrue (allowed w)) → MayAdd at cells allowed
+may_add at cells allowed h =
+    let within : len_words at cells ≤ at.cap = length_within at.cap (cells at.start) in
+    record {
+      length = λ below. h at.start (record { from = omega arith; below = omega arith });
+      element = λ below. h (at.start + 1 + len_words at cells) (record { from = omega arith; below = omega arith });
+    }
+
+pub may_remove : (at : ListAt) (cells : ℕ → ℤ) (i : ℤ) (readable writable : ℕ → Bool) → ((w : ℕ) → IsWordOf (WholeList at) w → IsTrue (readable w)) → ((w : ℕ) → IsWordOf (WholeList at) w → IsTrue (writable w)) → MayRemove at cells i readable writable
+may_remove at cells i readable writable r h =
+    let within : len_words at cells ≤ at.cap = length_within at.cap (cells at.start) in
+    record {
+      length = λ some. h at.start (record { from = omega arith; below = omega arith });
+      element = λ k e. h (at.start + 1 + k) (list_element at cells k i e);
+      last = λ some. r (at.start + len_words at cells) (record { from = omega arith; below = omega arith });
+    }
+
+-- what is cleared is a list or a map
+not_stream : (k : ParamKind) → IsTrue (kind_meets clearable k) → k ≢ StreamKind
+not_stream IntKind h e = cc
+not_stream ArrayKind h e = cc
+not_stream ListKind h e = cc
+not_stream RefKind h e = cc
+not_stream MapKind h e = cc
+not_stream StreamKind h e = cc
+
+clears_none : (b : Bind) (cells : ℕ → ℤ) → kind_of b ≢ StreamKind → ((at : ListAt) → b ≢ WholeList at) → ((at : MapAt) → b ≢ Map at) → cells ≡ clear_word b cells
+clears_none (Int z) cells kind list map = refl
+clears_none (Array at own) cells kind list map = refl
+clears_none (View at own) cells kind list map = refl
+clears_none (WholeList at) cells kind list map = absurd (list at refl)
+clears_none (Ref at) cells kind list map = refl
+clears_none (Map at) cells kind list map = absurd (map at refl)
+clears_none (Stream at own) cells kind list map = absurd (kind refl)
+
+pub clear_other : (kernel : Kernel) (binds : List Bind) (x : ℕ) (b : Bind) (cells : ℕ → ℤ) → BindsFit kernel binds → b ≡ bind_at binds x → IsTrue (meets kernel.params.items x clearable) → ((at : ListAt) → b ≢ WholeList at) → ((at : MapAt) → b ≢ Map at) → cells ≡ clear_word (bind_at binds x) cells
+clear_other kernel binds x b cells fit is h list map =
+    let p = param_met clearable (slice_get kernel.params.items x) h in
+    let inside = slice_get_within kernel.params.items x p.0 p.1 in
+    let count = fit.count in
+    let here = bind_here binds x (omega arith) in
+    let kind = fit.kinds x p.0 (bind_at binds x) p.1 here in
+    let met : IsTrue (param_meets clearable (Some p.0)) = subst (λ o. IsTrue (param_meets clearable o)) p.1 h in
+    clears_none (bind_at binds x) cells (λ e. not_stream p.0.kind (and_left _ _ met) (sym kind ∙ e)) (λ at e. list at (is ∙ e)) (λ at e. map at (is ∙ e))
+
+-- the words of an index that was begun
+pub begun_index : (at : StreamAt) (own : Bool) (b : Bind) (index : ℕ) (i z : ℤ) → Stream at own ≡ b → z ≡ i → IsBegun b index i → (w : ℕ) → mark_word at (nat_abs z) ≤ w → w < index_end at (nat_abs z) → Uses (Stream at own) index (index + 1) w
+begun_index at own b index i z is e h w lo hi =
+    let begun : IsBegun (Stream at own) index i = subst (λ b. IsBegun b index i) (sym is) h in
+    let same : begun.0 ≡ nat_abs z = sym (ap nat_abs (e ∙ begun.1)) in
+    let below = begun.2 in
+    record { index = nat_abs z; within = omega arith; owned = subst (λ k. Own (width_if own) index (index + 1) k) same begun.3; start = lo; end = hi }
+
+-- what is read or written through a bind are words of it
+pub reads_word : (r : Bool) (b : Bind) (from to w : ℕ) → ReadsBy r b from to w → IsWordOf b w
+reads_word true b from to w u = u
+reads_word false b from to w (inl u) = uses_word b from to w u
+reads_word false b from to w (inr u) = length_word_of b w u
+
+pub writes_word : (r : Bool) (b : Bind) (from to w : ℕ) → WritesBy r b from to w → IsWordOf b w
+writes_word true b from to w u = absurd u
+writes_word false b from to w u = uses_word b from to w u
