@@ -231,3 +231,47 @@ fn deep_text_is_read(rt: HostRuntime) -> Result<(), Fail> {
     }
     Ok(())
 }
+
+/// How many nodes the kernels have that stand in the first lines of a file, one in each.
+fn counts(alloc: Global, source: &[u8], lines: usize) -> Result<String, Fail>
+    requires { length source.now ≤ 16777216 }
+{
+    let tokens = lex(alloc, source)?;
+    let mut text = String::new(alloc);
+    let mut at: u32 = 0;
+    for _ in 0..lines {
+        if (at as usize) < tokens.len()
+            && let Ok((raw, next)) = parse_kernel(alloc, source, &tokens, at)
+        {
+            let (params, nodes) = (raw.params.len(), raw.nodes.len());
+            write!(text, "{params} {nodes}, ")?;
+            at = next.saturating_add(1);
+        }
+    }
+    Ok(text)
+}
+
+#[test]
+fn the_kernels_of_a_file_are_read_one_by_one(rt: HostRuntime) -> Result<(), Fail> {
+    let source = b"\
+parallel scale(x: ro array, y: wo array) { y[index] = x[index] * 3; }
+job total(y: ro array, t: wo ref) { var s = 0; for k in 0..len(y) { s = s + y[k]; } t = s; }
+job bump(a: rw array) { a[0] = a[0] + 1; }
+job peek(a: ro array, t: wo ref) { t = a[0]; }
+parallel shift(b: rw array) { b[index + 1] = b[index] + 1; }
+job pair(a: ro array, b: rw array) { b[0] = a[0]; }
+job both(a: ro array, b: ro array, t: wo ref) { t = a[0] + b[0]; }
+parallel emit(s: wo stream) { begin s[index] { for k in 0..index % 4 { write(s, index); } } }
+job slow(a: rw array) { var k = 0; while k < 300000 { k = k + 1; } a[0] = 1 / 0; }
+job quick(a: rw array) { a[9] = 1; }
+job keys(m: rw map, t: wo ref) { var r = 0; r = try_add(m, 1, 9); t = r; add(m, 3, 3); }
+parallel push(l: rw list) { add(l, index); }
+";
+    if source.len() <= 2000 {
+        assert_eq!(rt;
+            counts(rt.alloc(), source, 12)?.as_str(),
+            "2 6, 2 12, 1 6, 2 3, 1 8, 2 4, 3 6, 1 9, 1 15, 1 3, 2 10, 1 2, "
+        );
+    }
+    Ok(())
+}

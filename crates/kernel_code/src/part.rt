@@ -9,7 +9,7 @@ use frame_grammar::Action;
 use job_base::Access;
 
 /// What an event says of the raw form of a kernel.
-#[derive(Clone, Copy, Debug, PartialEq, Eq)]
+#[derive(Clone, Copy)]
 pub enum Part {
     /// Nothing that it keeps.
     Nothing,
