@@ -13,22 +13,22 @@ use Rattle.frame_script.specs.Raw.{KernelForm, SpellsKernel, BeginsKernel}
 use Rattle.frame_script.specs.Reading.{closes, len_to_close}
 
 -- none of the events closes a kernel
-abbrev pub IsOpen : List Event → Type 0
-IsOpen [] = Unit {0}
-IsOpen (e ∷ es) = (closes e.action ≡ false) × IsOpen es
+abbrev pub StaysOpen : List Event → Type 0
+StaysOpen [] = Unit {0}
+StaysOpen (e ∷ es) = (closes e.action ≡ false) × StaysOpen es
 
-pub open-append : (es es' : List Event) → IsOpen es → IsOpen es' → IsOpen (es ++ es')
+pub open-append : (es es' : List Event) → StaysOpen es → StaysOpen es' → StaysOpen (es ++ es')
 open-append [] es' h h' = h'
 open-append (e ∷ es) es' h h' = (h.0, open-append es es' h.1 h')
 
-same : (es es' : List Event) → es ≡ es' → IsOpen es' → IsOpen es
-same es es' e h = subst IsOpen (sym e) h
+same : (es es' : List Event) → es ≡ es' → StaysOpen es' → StaysOpen es
+same es es' e h = subst StaysOpen (sym e) h
 
 -- with one event behind them
-with_last : (es : List Event) (e : Event) → closes e.action ≡ false → IsOpen es → IsOpen (es ++ e ∷ [])
+with_last : (es : List Event) (e : Event) → closes e.action ≡ false → StaysOpen es → StaysOpen (es ++ e ∷ [])
 with_last es e h open' = open-append es (e ∷ []) open' (h, tt)
 
-open_expr : {events : List Event} {e : RawExpr} → SpellsExpr events e → IsOpen events
+open_expr : {events : List Event} {e : RawExpr} → SpellsExpr events e → StaysOpen events
 open_expr {events} (number {at = at} q e) = same events (on action.Number at ∷ on action.NumberAtom q ∷ []) e (refl, (refl, tt))
 open_expr {events} (index {at = at} q e) = same events (on action.StartAtom at ∷ on action.IndexAtom q ∷ []) e (refl, (refl, tt))
 open_expr {events} (name {at = at} {x = x} q e) = same events (on action.StartAtom at ∷ on action.Name x ∷ on action.NameAtom q ∷ []) e (refl, (refl, (refl, tt)))
@@ -49,13 +49,13 @@ open_expr {events} (between {at = at} q es gs s t e) =
     (with_last (es ++ on action.Operator at ∷ gs) (on action.Binary q) refl (open-append es (on action.Operator at ∷ gs) (open_expr s) (refl, open_expr t)))
 
 -- an event, an expression or two, and an event
-after_name : (x : Event) (es : List Event) (q : Event) → closes x.action ≡ false → closes q.action ≡ false → IsOpen es → IsOpen (x ∷ es ++ q ∷ [])
+after_name : (x : Event) (es : List Event) (q : Event) → closes x.action ≡ false → closes q.action ≡ false → StaysOpen es → StaysOpen (x ∷ es ++ q ∷ [])
 after_name x es q h h' open' = (h, with_last es q h' open')
 
-after_name_two : (x : Event) (es gs : List Event) (q : Event) → closes x.action ≡ false → closes q.action ≡ false → IsOpen es → IsOpen gs → IsOpen (x ∷ es ++ (gs ++ q ∷ []))
+after_name_two : (x : Event) (es gs : List Event) (q : Event) → closes x.action ≡ false → closes q.action ≡ false → StaysOpen es → StaysOpen gs → StaysOpen (x ∷ es ++ (gs ++ q ∷ []))
 after_name_two x es gs q h h' open' open'' = (h, open-append es (gs ++ q ∷ []) open' (with_last gs q h' open''))
 
-open_simple : {events : List Event} {f : RawForm} {x : ℕ} {parts : List RawExpr} → SpellsSimple events f x parts → IsOpen events
+open_simple : {events : List Event} {f : RawForm} {x : ℕ} {parts : List RawExpr} → SpellsSimple events f x parts → StaysOpen events
 open_simple {events} (var {x = x} q es s e) = same events (on action.Name x ∷ es ++ on action.VarStatement q ∷ []) e (after_name (on action.Name x) es (on action.VarStatement q) refl refl (open_expr s))
 open_simple {events} (set_name {x = x} q es s e) = same events (on action.Name x ∷ es ++ on action.SetName q ∷ []) e (after_name (on action.Name x) es (on action.SetName q) refl refl (open_expr s))
 open_simple {events} (set_place {x = x} q es gs s t e) =
@@ -72,14 +72,14 @@ open_simple {events} (clear {x = x} q e) = same events (on action.Name x ∷ on 
 open_simple {events} (write {x = x} q es s e) = same events (on action.Name x ∷ es ++ on action.WriteStatement q ∷ []) e (after_name (on action.Name x) es (on action.WriteStatement q) refl refl (open_expr s))
 
 -- what ends a statement with one block closes no kernel either
-open_head : {events : List Event} {end : Action} {f : RawForm} {at x : ℕ} {parts : List RawExpr} → SpellsHead events end f at x parts → IsOpen events × (closes end ≡ false)
+open_head : {events : List Event} {end : Action} {f : RawForm} {at x : ℕ} {parts : List RawExpr} → SpellsHead events end f at x parts → StaysOpen events × (closes end ≡ false)
 open_head {events} (begun {x = x} q es s e) = (same events (on action.Name x ∷ es ++ on action.BeginHead q ∷ []) e (after_name (on action.Name x) es (on action.BeginHead q) refl refl (open_expr s)), refl)
 open_head {events} (tested q es s e) = (same events (es ++ on action.IfHead q ∷ []) e (with_last es (on action.IfHead q) refl (open_expr s)), refl)
 open_head {events} (counted {x = x} q es gs s t e) =
     (same events (on action.Name x ∷ es ++ (gs ++ on action.ForHead q ∷ [])) e (after_name_two (on action.Name x) es gs (on action.ForHead q) refl refl (open_expr s) (open_expr t)), refl)
 open_head {events} (looped q es s e) = (same events (es ++ on action.WhileHead q ∷ []) e (with_last es (on action.WhileHead q) refl (open_expr s)), refl)
 
-open_block : {events : List Event} {b : RawBlock} → SpellsBlock events b → IsOpen events
+open_block : {events : List Event} {b : RawBlock} → SpellsBlock events b → StaysOpen events
 open_block {events} (nothing e) = same events [] e tt
 open_block {events} (simple {at = at} es rest s more e) = same events (on action.StartStatement at ∷ es ++ rest) e (refl, open-append es rest (open_simple s) (open_block more))
 open_block {events} (nested {at = at} o c q {end = end} hs bs rest h b more e) =
@@ -100,7 +100,7 @@ open_access Read = refl
 open_access WriteOnly = refl
 open_access Both = refl
 
-open_kind : {events : List Event} {p : RawParam} → SpellsKind events p → IsOpen events
+open_kind : {events : List Event} {p : RawParam} → SpellsKind events p → StaysOpen events
 open_kind {events} (int q e) = same events (on action.IntParameter q ∷ []) e (refl, tt)
 open_kind {events} (array q r a e) = same events (on (access_action a) q ∷ on action.ArrayContainer r ∷ []) e (open_access a, (refl, tt))
 open_kind {events} (wide {w = w} {n = n} q r a e) = same events (on (access_action a) q ∷ on action.ArrayContainer r ∷ on action.Width w ∷ on action.Number n ∷ []) e (open_access a, (refl, (refl, (refl, tt))))
@@ -109,7 +109,7 @@ open_kind {events} (reference q r a e) = same events (on (access_action a) q ∷
 open_kind {events} (map q r a e) = same events (on (access_action a) q ∷ on action.MapContainer r ∷ []) e (open_access a, (refl, tt))
 open_kind {events} (stream {w = w} q a e) = same events (on (access_action a) q ∷ on action.StreamContainer w ∷ []) e (open_access a, (refl, tt))
 
-open_params : {events : List Event} {ps : List RawParam} → SpellsParams events ps → IsOpen events
+open_params : {events : List Event} {ps : List RawParam} → SpellsParams events ps → StaysOpen events
 open_params {events} (none e) = same events [] e tt
 open_params {events} (param q ks rest {p} k more e) =
     same events (on action.Name p.name ∷ ks ++ on action.Parameter q ∷ rest) e (refl, open-append ks (on action.Parameter q ∷ rest) (open_kind k) (refl, open_params more))
@@ -122,7 +122,7 @@ open_opening false = refl
 pub record Closed (events : List Event) : Type 0 where
   pub front : List Event
   pub at : ℕ
-  pub open_front : IsOpen front
+  pub open_front : StaysOpen front
   pub events_are : events ≡ front ++ on action.CloseKernel at ∷ []
 
 pub kernel_closed : {events : List Event} {k : KernelForm} → SpellsKernel events k → Closed events
@@ -134,7 +134,7 @@ kernel_closed {events} {k} s = record {
 }
 
 -- so the first that closes one ends them
-len_closed : (front rest : List Event) (at : ℕ) → IsOpen front → len_to_close (front ++ on action.CloseKernel at ∷ rest) ≡ length front + 1
+len_closed : (front rest : List Event) (at : ℕ) → StaysOpen front → len_to_close (front ++ on action.CloseKernel at ∷ rest) ≡ length front + 1
 len_closed [] rest at open' = omega arith
 len_closed (e ∷ front) rest at open' =
     ap (λ b. if b then 1 else len_to_close (front ++ on action.CloseKernel at ∷ rest) + 1) open'.0

@@ -7,3 +7,4 @@ pub mod Faults
 pub mod Spelling
 pub mod Files
 pub mod Reading
+pub mod Items

@@ -3,6 +3,7 @@
 
 mod build;
 mod build_file;
+mod build_item;
 mod build_kernel;
 mod build_words;
 mod checks;
@@ -15,6 +16,7 @@ mod source;
 
 pub use build::{ReadOrder, raw_order};
 pub use build_file::file_events;
+pub use build_item::{RawItem, raw_item};
 pub use build_kernel::kernel_len;
 pub use fault::OrderFault;
 pub use kind::NameKind;

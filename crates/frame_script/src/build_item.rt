@@ -1,0 +1,65 @@
+//! Goes over the events of a file, item by item.
+
+ghost use Rattle.std.specs.Prelude.{◌≡◌, ◌≤◌, List, length, drop, IfOk};
+ghost use Rattle.frame_script.specs.Raw.{RawItems};
+ghost use Rattle.frame_script.specs.Items.{SpellsOpen, IsOpen, Leads};
+
+use crate::build::raw_order;
+use crate::build_kernel::kernel_len;
+use crate::raw::RawOrder;
+use frame_grammar::{Action, Event};
+use std::alloc::{AllocError, Global};
+
+/// What begins or ends at an event, with the event behind it.
+#[derive(Drop)]
+pub enum RawItem {
+    /// No event is left.
+    None,
+    Kernel {
+        next: usize,
+    },
+    /// A statement with the place of its first token; of `repeat` and `when`, what stands before
+    /// the brace.
+    Order {
+        first: u32,
+        order: RawOrder,
+        next: usize,
+    },
+    /// The innermost open block ends.
+    End {
+        next: usize,
+    },
+}
+
+/// How many events there are.
+fn count(events: &[Event]) -> usize
+    ensures { result ≡ length events.now }
+{
+    events.len()
+}
+
+/// The item that the events of a file have at this one.
+pub fn raw_item(alloc: Global, events: &[Event], at: usize) -> Result<RawItem, AllocError>
+    requires within { at ≤ length events.now }
+    requires spelled { IsOpen (drop at events.now) }
+    ensures { IfOk result (λ item. (items : List RawItems) → SpellsOpen (drop at events.now) items → Leads events.now at item items) }
+{
+    if at == count(events) {
+        return Ok(RawItem::None);
+    }
+    let event = events[at];
+    match event.action {
+        Action::StartStatement => {
+            let found = raw_order(alloc, &events[at + 1..])?;
+            Ok(RawItem::Order {
+                first: event.place,
+                order: found.order,
+                next: at + 1 + found.read,
+            })
+        }
+        Action::OpenJob | Action::OpenParallel => Ok(RawItem::Kernel {
+            next: at + kernel_len(&events[at..]),
+        }),
+        _ => Ok(RawItem::End { next: at + 1 }),
+    }
+}
