@@ -18,3 +18,12 @@ pub mod Expressions
 pub mod Statements
 pub mod Derivations
 pub mod Parsing
+pub mod Depths
+pub mod Streams
+pub mod NoFaults
+pub mod Leaves
+pub mod BuiltExpressions
+pub mod BuiltBlocks
+pub mod BuiltStatements
+pub mod BuiltKernels
+pub mod Passing

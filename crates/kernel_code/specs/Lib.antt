@@ -7,3 +7,7 @@ pub mod StaticFaults
 pub mod Trees
 pub mod Reading
 pub mod Parsing
+pub mod Edges
+pub mod Known
+pub mod Places
+pub mod Legible

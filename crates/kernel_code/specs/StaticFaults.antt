@@ -209,10 +209,6 @@ demand_of form.Write k = written_stream
 demand_of form.Begin k = written_stream
 demand_of _ k = nothing
 
--- what the name before an effect asks: a local is meant, and an `int` only read
-abbrev pub answered : Demand
-answered = record nothing { int = true; writes = true }
-
 -- why a parameter of this kind and access doesn't meet a demand
 abbrev pub access_fault : Demand → Access → Option FaultKind
 access_fault d Read = if d.writes then Some WriteOfReadOnly else None
@@ -238,6 +234,11 @@ abbrev pub loop_variable_fault : RawForm → Option FaultKind
 loop_variable_fault form.Name = None
 loop_variable_fault form.SetName = Some WriteOfReadOnly
 loop_variable_fault _ = Some KindMismatch
+
+-- before an effect only a local of a `var` can stand; an `int` can't be written
+abbrev pub answer_kind_fault : ParamKind → Option FaultKind
+answer_kind_fault kind.Int = Some WriteOfReadOnly
+answer_kind_fault _ = Some KindMismatch
 
 -- FAULTS OF ONE TOKEN
 
@@ -277,7 +278,7 @@ use_fault raw i f (Some (Parameter x)) = param_fault_of f (is_begun raw i x) (sl
 
 abbrev pub param_answer_fault : Option RawParam → Option FaultKind
 param_answer_fault None = Some KindMismatch
-param_answer_fault (Some p) = demand_fault answered p
+param_answer_fault (Some p) = answer_kind_fault p.kind
 
 -- the fault of the name before an effect
 abbrev pub answer_fault : RawKernel → Option Named → Option FaultKind

@@ -1,12 +1,80 @@
 //! Checks a kernel: what its names are, whether they fit where they stand, and its limits.
+ghost use Rattle.std.specs.Prelude.{◌≡◌, ℕ, None, Some, IfOk, IfErr, OnOk};
+ghost use Rattle.kernel_code.specs.Raw.{IsRaw};
+ghost use Rattle.kernel_code.specs.StaticFaults.{text_at, fault_at, or_else, kernel_name_fault, params_fault, first_fault, TellsFault};
+ghost use Rattle.kernel_code.specs.Trees.{IsKernelOf};
+ghost use Rattle.kernel_code.specs.Legible.{IsLegible};
 
+mod demands;
+mod depths;
+mod expressions;
+mod kernels;
 pub mod names;
+mod nodes;
+mod params;
+mod resolve;
+mod statements;
+pub mod streams;
+mod texts;
 
-use frame_ast::kernel::FaultKind;
+use crate::check::kernels::kernel_of;
+use crate::check::params::{fault_at, kernel_name_fault, or_else, params_fault};
+use crate::check::resolve::resolve;
+use crate::check::texts::{line_at, text_at};
+use crate::fault::KernelFault;
+use crate::raw::RawKernel;
+use frame_ast::kernel::{FaultKind, Kernel};
+use std::alloc::Global;
 
 /// A static fault, at the token of that place among those of the kernel.
 #[derive(Clone, Copy, Debug, PartialEq, Eq)]
 pub struct StaticFault {
     pub at: u32,
     pub kind: FaultKind,
+}
+
+// The first fault of a kernel's name and parameters.
+fn head_fault(raw: &RawKernel<'_>, earlier: &[Kernel]) -> Option<StaticFault>
+    ensures { result ≡ or_else (fault_at raw.now.name (kernel_name_fault earlier.now (text_at raw.now raw.now.name))) (params_fault raw.now 0 raw.now.params.items) }
+{
+    let name = text_at(raw, raw.name);
+    or_else(
+        fault_at(raw.name, kernel_name_fault(earlier, name)),
+        params_fault(raw),
+    )
+}
+
+// The refusal for a fault.
+fn refusal(raw: &RawKernel<'_>, fault: StaticFault) -> KernelFault
+    ensures { TellsFault raw.now (Some fault) result }
+{
+    KernelFault::Refused {
+        line: line_at(raw, fault.at),
+        kind: fault.kind,
+    }
+}
+
+/// The kernel that a raw kernel behind earlier ones is.
+///
+/// Its names are looked up: each becomes the number of a parameter or of a local. It is refused for
+/// its first fault in the order of the tokens; of the faults of one token, for the one of the lowest
+/// number in the order of `FaultKind`.
+pub fn check_kernel(
+    alloc: Global,
+    raw: &RawKernel<'_>,
+    earlier: &[Kernel],
+) -> Result<Kernel, KernelFault>
+    requires raw { IsRaw raw.now }
+    requires legible { IsLegible raw.now }
+    ensures faultless { OnOk result (first_fault raw.now earlier.now ≡ None) }
+    ensures refused { IfErr result (TellsFault raw.now (first_fault raw.now earlier.now)) }
+    ensures kernel { IfOk result (λ k. IsKernelOf raw.now k) }
+{
+    if let Some(fault) = head_fault(raw, earlier) {
+        return Err(refusal(raw, fault));
+    }
+    match resolve(alloc, raw)? {
+        Ok(meanings) => Ok(kernel_of(alloc, raw, meanings)?),
+        Err(fault) => Err(refusal(raw, fault)),
+    }
 }

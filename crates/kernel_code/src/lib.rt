@@ -16,6 +16,7 @@ mod tests;
 mod token;
 mod word;
 
+pub use check::check_kernel;
 pub use fault::KernelFault;
 pub use frame_ast::kernel::FaultKind;
 pub use frame_grammar::TokenKind;

@@ -1,0 +1,258 @@
+// The faults of a node.
+ghost use Rattle.std.specs.Prelude.{◌≡◌, ◌≤◌, ◌<◌, ◌||◌, nat_le, nat_lt, ℕ, Some, length, slice_get};
+ghost use Rattle.kernel_code.specs.StaticFaults.{text_at, use_fault, answer_fault, declared_fault, token_fault, size_fault, name_fault, first_of_two, node_fault, locals_before, depth_of, meaning_of, block_fault, param_fault_of, is_begun};
+ghost use Rattle.kernel_code.specs.Known.{AreBegun, answer_named, name_named, meaning_if, has_name, has_answer};
+
+use crate::check::StaticFault;
+use crate::check::demands::{
+    answer_kind_fault, demand_fault, fault_if, loop_variable_fault, lowest, variable_fault,
+};
+use crate::check::names::{Local, Meaning, Named, meaning_of};
+use crate::check::params::{fault_at, length_fault, or_else};
+use crate::check::streams::{StreamBlock, stands_in};
+use crate::check::texts::{text_at, value_at};
+use crate::raw::{RawForm, RawKernel, RawNode};
+use frame_ast::kernel::FaultKind;
+
+/// The greatest number of locals of a kernel.
+const MAX_LOCALS: usize = 64;
+
+/// The greatest number of a kernel's text.
+pub const MAX_NUMBER: u64 = 9_223_372_036_854_775_807;
+
+// What a node's token is, where it is a name before an effect.
+pub fn answer_named(
+    raw: &RawKernel<'_>,
+    locals: &[Local],
+    number: usize,
+    node: RawNode,
+) -> Option<Named>
+    requires params { length raw.now.params.items ≤ 16 }
+    requires few { length locals.now ≤ 64 }
+    requires locals { locals.now ≡ locals_before raw.now.nodes.items number }
+    ensures { result ≡ answer_named raw.now number node }
+{
+    match node.form {
+        RawForm::SetTryAdd | RawForm::SetRemove => {
+            meaning_of(raw, locals, number, text_at(raw, node.at))
+        }
+        _ => None,
+    }
+}
+
+fn has_name(form: RawForm) -> bool
+    ensures { result ≡ has_name form }
+{
+    !matches!(
+        form,
+        RawForm::Number
+            | RawForm::Index
+            | RawForm::Unary
+            | RawForm::Binary
+            | RawForm::If
+            | RawForm::IfElse
+            | RawForm::While
+    )
+}
+
+// What a node's name is, where it has one.
+pub fn name_named(
+    raw: &RawKernel<'_>,
+    locals: &[Local],
+    number: usize,
+    node: RawNode,
+) -> Option<Named>
+    requires params { length raw.now.params.items ≤ 16 }
+    requires few { length locals.now ≤ 64 }
+    requires locals { locals.now ≡ locals_before raw.now.nodes.items number }
+    ensures { result ≡ name_named raw.now number node }
+{
+    if has_name(node.form) {
+        meaning_of(raw, locals, number, text_at(raw, node.name))
+    } else {
+        None
+    }
+}
+
+// The fault of a stream that is the name of a form, for the blocks in which the form stands.
+fn block_fault(
+    raw: &RawKernel<'_>,
+    blocks: &[StreamBlock],
+    number: usize,
+    form: RawForm,
+    x: u32,
+) -> Option<FaultKind>
+    requires { AreBegun raw.now number blocks.now }
+    ensures { result ≡ block_fault form (is_begun raw.now number x) }
+{
+    match form {
+        RawForm::Write => fault_if(FaultKind::KindMismatch, !stands_in(x, number, blocks)),
+        RawForm::Begin => fault_if(FaultKind::KindMismatch, stands_in(x, number, blocks)),
+        _ => None,
+    }
+}
+
+// The fault of a parameter that is the name of a form.
+fn param_fault_of(
+    raw: &RawKernel<'_>,
+    blocks: &[StreamBlock],
+    number: usize,
+    form: RawForm,
+    x: u32,
+) -> Option<FaultKind>
+    requires { AreBegun raw.now number blocks.now }
+    ensures { result ≡ param_fault_of form (is_begun raw.now number x) (slice_get raw.now.params.items x) }
+{
+    match raw.params.get(x as usize) {
+        Some(param) => lowest(
+            demand_fault(form, *param),
+            block_fault(raw, blocks, number, form, x),
+        ),
+        None => Some(FaultKind::KindMismatch),
+    }
+}
+
+// The fault of the name of a form, by what it is.
+fn use_fault(
+    raw: &RawKernel<'_>,
+    blocks: &[StreamBlock],
+    number: usize,
+    form: RawForm,
+    named: Option<Named>,
+) -> Option<FaultKind>
+    requires { AreBegun raw.now number blocks.now }
+    ensures { result ≡ use_fault raw.now number form named }
+{
+    match named {
+        None => Some(FaultKind::UnknownName),
+        Some(Named::Variable(_)) => variable_fault(form),
+        Some(Named::LoopVariable(_)) => loop_variable_fault(form),
+        Some(Named::Parameter(x)) => param_fault_of(raw, blocks, number, form, x),
+    }
+}
+
+// The fault of a name before an effect, by what it is.
+fn answer_fault(raw: &RawKernel<'_>, named: Option<Named>) -> Option<FaultKind>
+    ensures { result ≡ answer_fault raw.now named }
+{
+    match named {
+        None => Some(FaultKind::UnknownName),
+        Some(Named::Variable(_)) => None,
+        Some(Named::LoopVariable(_)) => Some(FaultKind::WriteOfReadOnly),
+        Some(Named::Parameter(x)) => match raw.params.get(x as usize) {
+            Some(param) => answer_kind_fault(param.kind),
+            None => Some(FaultKind::KindMismatch),
+        },
+    }
+}
+
+// The fault of a name that is declared behind so many locals, by what it is already.
+fn declared_fault(
+    raw: &RawKernel<'_>,
+    locals: &[Local],
+    number: usize,
+    name: &[u8],
+    named: Option<Named>,
+) -> Option<FaultKind>
+    requires locals { locals.now ≡ locals_before raw.now.nodes.items number }
+    requires named { named ≡ meaning_of raw.now number name.now }
+    ensures { result ≡ declared_fault raw.now number name.now }
+{
+    lowest(
+        fault_if(FaultKind::DuplicateName, named.is_some()),
+        lowest(
+            fault_if(FaultKind::Limit, locals.len() >= MAX_LOCALS),
+            length_fault(name),
+        ),
+    )
+}
+
+// What a node's own token says, its number and depth aside.
+fn token_fault(
+    raw: &RawKernel<'_>,
+    number: usize,
+    node: RawNode,
+    answer: Option<Named>,
+) -> Option<FaultKind>
+    requires { answer ≡ answer_named raw.now number node }
+    ensures { result ≡ token_fault raw.now number node.at node.form }
+{
+    match node.form {
+        RawForm::Number => fault_if(FaultKind::Limit, value_at(raw, node.at) > MAX_NUMBER),
+        RawForm::Index => fault_if(FaultKind::UnknownName, !raw.parallel),
+        RawForm::SetTryAdd | RawForm::SetRemove => lowest(
+            answer_fault(raw, answer),
+            length_fault(text_at(raw, node.at)),
+        ),
+        _ => None,
+    }
+}
+
+// What a node's name says.
+fn name_fault(
+    raw: &RawKernel<'_>,
+    locals: &[Local],
+    blocks: &[StreamBlock],
+    number: usize,
+    node: RawNode,
+    named: Option<Named>,
+) -> Option<FaultKind>
+    requires locals { locals.now ≡ locals_before raw.now.nodes.items number }
+    requires blocks { AreBegun raw.now number blocks.now }
+    requires named { named ≡ name_named raw.now number node }
+    ensures { result ≡ name_fault raw.now number node.name node.form }
+{
+    if !has_name(node.form) {
+        return None;
+    }
+    let name = text_at(raw, node.name);
+    match node.form {
+        RawForm::Var | RawForm::For => declared_fault(raw, locals, number, name, named),
+        _ => lowest(
+            use_fault(raw, blocks, number, node.form, named),
+            length_fault(name),
+        ),
+    }
+}
+
+// The first fault of two tokens, the first of which stands before the second or is the same.
+fn first_of_two(
+    first: u32,
+    a: Option<FaultKind>,
+    second: u32,
+    b: Option<FaultKind>,
+) -> Option<StaticFault>
+    ensures { result ≡ first_of_two first a second b }
+{
+    if first == second {
+        fault_at(first, lowest(a, b))
+    } else {
+        or_else(fault_at(first, a), fault_at(second, b))
+    }
+}
+
+/// The first fault of a node, of which it is known what its names are and whether it is one too
+/// many or too deep.
+pub fn node_fault(
+    raw: &RawKernel<'_>,
+    locals: &[Local],
+    blocks: &[StreamBlock],
+    number: usize,
+    node: RawNode,
+    meaning: Meaning,
+    is_over: bool,
+) -> Option<StaticFault>
+    requires locals { locals.now ≡ locals_before raw.now.nodes.items number }
+    requires blocks { AreBegun raw.now number blocks.now }
+    requires answer { meaning.answer ≡ answer_named raw.now number node }
+    requires name { meaning.name ≡ name_named raw.now number node }
+    requires over { is_over ≡ (nat_le 4096 number || nat_lt 64 (depth_of raw.now.nodes.items number)) }
+    ensures { result ≡ node_fault raw.now number node }
+{
+    let token = lowest(
+        token_fault(raw, number, node, meaning.answer),
+        fault_if(FaultKind::Limit, is_over),
+    );
+    let name = name_fault(raw, locals, blocks, number, node, meaning.name);
+    first_of_two(node.at, token, node.name, name)
+}

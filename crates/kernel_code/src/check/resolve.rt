@@ -1,0 +1,167 @@
+// What the names of all nodes stand for, up to the first fault.
+ghost use Rattle.std.specs.Prelude.{◌≡◌, ◌≤◌, ◌<◌, ◌++◌, ◌||◌, ℕ, None, Some, length, slice_get, vec_len, IfOk, OnOk, MatchResult};
+ghost use Rattle.kernel_code.specs.StaticFaults.{declares, is_loop, is_begin, end_in, block_end, local_of, local_if, locals_before, locals_of, nodes_fault, node_fault};
+ghost use Rattle.kernel_code.specs.Known.{stands_in, is_block, IsKnown, name_named, name_stored, answer_named, meanings_from};
+
+use crate::check::StaticFault;
+use crate::check::depths::{MAX_NODES, depths_of};
+use crate::check::names::{Local, Meaning, Named, as_local, parameter};
+use crate::check::nodes::{answer_named, name_named, node_fault};
+use crate::check::streams::{StreamBlock, close_blocks};
+use crate::check::texts::text_at;
+use crate::raw::{RawForm, RawKernel, RawNode};
+use job_base::NoMemory;
+use std::alloc::Global;
+
+/// The greatest depth of a node.
+const MAX_DEPTH: usize = 64;
+
+/// What the names of the nodes stand for, and how many locals there are.
+#[derive(Drop)]
+pub struct Meanings {
+    pub of_nodes: Vec<Meaning>,
+    pub locals: u32,
+}
+
+fn declares(form: RawForm) -> bool
+    ensures { result ≡ declares form }
+{
+    matches!(form, RawForm::Var | RawForm::For)
+}
+
+fn is_loop(form: RawForm) -> bool
+    ensures { result ≡ is_loop form }
+{
+    matches!(form, RawForm::For)
+}
+
+fn is_begin(form: RawForm) -> bool
+    ensures { result ≡ is_begin form }
+{
+    matches!(form, RawForm::Begin)
+}
+
+// The node behind the block in which a node stands.
+fn block_end(nodes: &[RawNode], number: usize, owner: Option<u32>) -> usize
+    ensures { result ≡ block_end nodes.now number owner }
+{
+    let Some(p) = owner else {
+        return nodes.len();
+    };
+    match nodes.get(p as usize) {
+        Some(owner) => {
+            let inside = p as usize + 1 + owner.heads as usize + owner.inside as usize;
+            if number < inside {
+                inside
+            } else {
+                p as usize + 1 + owner.after as usize
+            }
+        }
+        None => nodes.len(),
+    }
+}
+
+// The local that a node declares.
+fn local_of(nodes: &[RawNode], number: usize, node: RawNode) -> Local
+    requires { number < length nodes.now }
+    ensures { result ≡ local_of nodes.now number node }
+{
+    if is_loop(node.form) {
+        let start = number + 1 + node.heads as usize;
+        Local {
+            name: node.name,
+            start,
+            end: start + node.inside as usize,
+            is_loop: true,
+        }
+    } else {
+        Local {
+            name: node.name,
+            start: number + 1 + node.after as usize,
+            end: block_end(nodes, number, node.owner),
+            is_loop: false,
+        }
+    }
+}
+
+// Keeps the local that a node declares, if it declares one, and tells what its name stands for.
+fn note_local(
+    raw: &RawKernel<'_>,
+    locals: &mut Vec<Local>,
+    number: usize,
+    node: RawNode,
+    named: Option<Named>,
+) -> Result<Option<Named>, NoMemory>
+    requires within { number < length raw.now.nodes.items }
+    requires few { length locals.old.items ≤ 64 }
+    requires locals { locals.old.items ≡ locals_before raw.now.nodes.items number }
+    requires named { named ≡ name_named raw.now number node }
+    ensures locals { OnOk result (locals.new.items ≡ locals.old.items ++ local_if (declares node.form) (local_of raw.now.nodes.items number node)) }
+    ensures named { IfOk result (λ name. name ≡ name_stored raw.now number node) }
+{
+    if !declares(node.form) {
+        return Ok(named);
+    }
+    let local = local_of(&raw.nodes, number, node);
+    let name = as_local(local, locals.len() as u32);
+    locals.push(local)?;
+    Ok(Some(name))
+}
+
+// Keeps the block of a node, if it is the `begin` of a parameter.
+fn note_block(
+    raw: &RawKernel<'_>,
+    blocks: &mut Vec<StreamBlock>,
+    number: usize,
+    node: RawNode,
+) -> Result<(), NoMemory>
+    requires within { number < length raw.now.nodes.items }
+    requires few { length raw.now.params.items ≤ 16 }
+    ensures { OnOk result ((x j : ℕ) → stands_in x j blocks.new.items ≡ (stands_in x j blocks.old.items || is_block raw.now x j number node)) }
+{
+    if !is_begin(node.form) {
+        return Ok(());
+    }
+    let Some(x) = parameter(raw, text_at(raw, node.name)) else {
+        return Ok(());
+    };
+    let start = number + 1 + node.heads as usize;
+    blocks.push(StreamBlock {
+        stream: x as u32,
+        start,
+        end: start + node.inside as usize,
+    })?;
+    Ok(())
+}
+
+/// What the names of all nodes stand for, or the first fault.
+pub fn resolve(
+    alloc: Global,
+    raw: &RawKernel<'_>,
+) -> Result<Result<Meanings, StaticFault>, NoMemory>
+    requires { length raw.now.params.items ≤ 16 }
+    ensures { IfOk result (λ r. MatchResult r
+        (λ m. (nodes_fault raw.now 0 raw.now.nodes.items ≡ None) × (m.of_nodes.items ≡ meanings_from raw.now 0 raw.now.nodes.items) × (m.locals ≡ length (locals_of raw.now.nodes.items)) × (m.locals ≤ 64))
+        (λ fault. nodes_fault raw.now 0 raw.now.nodes.items ≡ Some fault)) }
+{
+    let depths = depths_of(alloc, &raw.nodes)?;
+    let mut locals = Vec::new(alloc);
+    let mut blocks = Vec::new(alloc);
+    let mut of_nodes = Vec::new(alloc);
+    for number in 0..raw.nodes.len() {
+        let node = raw.nodes[number];
+        close_blocks(&mut blocks, number);
+        let answer = answer_named(raw, &locals, number, node);
+        let name = name_named(raw, &locals, number, node);
+        let is_over = number >= MAX_NODES || depths[number] > MAX_DEPTH;
+        let meaning = Meaning { answer, name };
+        if let Some(fault) = node_fault(raw, &locals, &blocks, number, node, meaning, is_over) {
+            return Ok(Err(fault));
+        }
+        let name = note_local(raw, &mut locals, number, node, name)?;
+        note_block(raw, &mut blocks, number, node)?;
+        of_nodes.push(Meaning { answer, name })?;
+    }
+    let locals = locals.len() as u32;
+    Ok(Ok(Meanings { of_nodes, locals }))
+}

@@ -1,0 +1,142 @@
+// The statements of a kernel without faults.
+//
+// A statement has the nodes of its expressions behind it, and then those of its blocks.
+ghost use Rattle.std.specs.Prelude.{◌≡◌, ◌≤◌, ◌<◌, ◌+◌, ℕ, Option, List, length, slice_get, IfOk, Some, IsTrue};
+ghost use Rattle.frame_ast.specs.declared.kernel.Stmt.{Stmt, out-Stmt};
+ghost use Rattle.kernel_code.specs.Raw.{RawBlock, block_size};
+ghost use Rattle.kernel_code.specs.Known.{number_named};
+ghost use Rattle.kernel_code.specs.Trees.{BlockOf};
+ghost use Rattle.kernel_code.specs.Places.{set_of, one_part, two_parts, has_first, IsFirst, IsBlockHere, IsResolved};
+
+use crate::check::expressions::{expression, meaning_at, node_at, number_of};
+use crate::check::names::{Meaning, Named};
+use crate::raw::{RawForm, RawKernel, RawNode};
+use frame_ast::kernel::{Expr, Stmt};
+use job_base::NoMemory;
+use std::alloc::Global;
+
+// The statement `x = e;`.
+fn set_of(named: Option<Named>, e: Expr) -> Stmt
+    ensures { out-Stmt result ≡ set_of named e }
+{
+    match named {
+        Some(Named::Parameter(x)) => Stmt::SetValue(x, e),
+        Some(Named::Variable(k)) => Stmt::Assign(k, e),
+        Some(Named::LoopVariable(k)) => Stmt::Assign(k, e),
+        None => Stmt::Assign(0, e),
+    }
+}
+
+// The statement of a form with one expression and no block.
+fn one_part(form: RawForm, meaning: Meaning, e: Expr) -> Stmt
+    ensures { out-Stmt result ≡ one_part form meaning e }
+{
+    match form {
+        RawForm::Var => Stmt::Assign(number_of(meaning.name), e),
+        RawForm::SetName => set_of(meaning.name, e),
+        RawForm::SetRemove => {
+            Stmt::RemoveKey(number_of(meaning.answer), number_of(meaning.name), e)
+        }
+        RawForm::AddItem => Stmt::Add(number_of(meaning.name), e),
+        RawForm::Remove => Stmt::RemoveAt(number_of(meaning.name), e),
+        _ => Stmt::Write(number_of(meaning.name), e),
+    }
+}
+
+// The statement of a form with two expressions and no block.
+fn two_parts(form: RawForm, meaning: Meaning, e: Expr, f: Expr) -> Stmt
+    ensures { out-Stmt result ≡ two_parts form meaning e f }
+{
+    match form {
+        RawForm::SetPlace => Stmt::Store(number_of(meaning.name), e, f),
+        RawForm::SetTryAdd => {
+            Stmt::TryAdd(number_of(meaning.answer), number_of(meaning.name), e, f)
+        }
+        _ => Stmt::AddPair(number_of(meaning.name), e, f),
+    }
+}
+
+// The statement of a node.
+#[cycle(statement)]
+fn statement(
+    alloc: Global,
+    raw: &RawKernel<'_>,
+    meanings: &[Meaning],
+    at: usize,
+    node: RawNode,
+) -> Result<Stmt, NoMemory>
+    requires { slice_get raw.now.nodes.items at ≡ Some node }
+    ensures { IfOk result (λ s. IsResolved raw.now meanings.now → (owner : Option ℕ) (b : RawBlock) → IsTrue (has_first b) → IsBlockHere raw.now owner at b → IsFirst raw.now at b s) }
+{
+    let meaning = meaning_at(meanings, at);
+    let inner = at + 1 + node.heads as usize;
+    let behind = inner + node.inside as usize;
+    match node.form {
+        RawForm::Var
+        | RawForm::SetName
+        | RawForm::SetRemove
+        | RawForm::AddItem
+        | RawForm::Remove
+        | RawForm::Write => {
+            let e = expression(alloc, raw, meanings, at + 1)?;
+            Ok(one_part(node.form, meaning, e.expr))
+        }
+        RawForm::SetPlace | RawForm::SetTryAdd | RawForm::AddPair => {
+            let e = expression(alloc, raw, meanings, at + 1)?;
+            let f = expression(alloc, raw, meanings, e.next)?;
+            Ok(two_parts(node.form, meaning, e.expr, f.expr))
+        }
+        RawForm::Begin => {
+            let e = expression(alloc, raw, meanings, at + 1)?;
+            let body = block(alloc, raw, meanings, inner, behind)?;
+            Ok(Stmt::Begin(number_of(meaning.name), e.expr, body))
+        }
+        RawForm::If => {
+            let e = expression(alloc, raw, meanings, at + 1)?;
+            let body = block(alloc, raw, meanings, inner, behind)?;
+            Ok(Stmt::If(e.expr, body, Vec::new(alloc)))
+        }
+        RawForm::IfElse => {
+            let e = expression(alloc, raw, meanings, at + 1)?;
+            let body = block(alloc, raw, meanings, inner, behind)?;
+            let end = at + 1 + node.after as usize;
+            let other = block(alloc, raw, meanings, behind, end)?;
+            Ok(Stmt::If(e.expr, body, other))
+        }
+        RawForm::For => {
+            let e = expression(alloc, raw, meanings, at + 1)?;
+            let f = expression(alloc, raw, meanings, e.next)?;
+            let body = block(alloc, raw, meanings, inner, behind)?;
+            Ok(Stmt::For(number_of(meaning.name), e.expr, f.expr, body))
+        }
+        RawForm::While => {
+            let e = expression(alloc, raw, meanings, at + 1)?;
+            let body = block(alloc, raw, meanings, inner, behind)?;
+            Ok(Stmt::While(e.expr, body))
+        }
+        _ => Ok(Stmt::Clear(number_of(meaning.name))),
+    }
+}
+
+/// The statements of the nodes from one up to another.
+#[cycle(statement)]
+pub fn block(
+    alloc: Global,
+    raw: &RawKernel<'_>,
+    meanings: &[Meaning],
+    from: usize,
+    end: usize,
+) -> Result<Vec<Stmt>, NoMemory>
+    ensures { IfOk result (λ v. IsResolved raw.now meanings.now → (owner : Option ℕ) (b : RawBlock) → IsBlockHere raw.now owner from b → end ≡ from + block_size b → BlockOf raw.now from b v.items) }
+{
+    let mut statements = Vec::new(alloc);
+    let mut at = from;
+    while at < end {
+        let Some(node) = node_at(raw, at) else {
+            return Ok(statements);
+        };
+        statements.push(statement(alloc, raw, meanings, at, node)?)?;
+        at += 1 + node.after as usize;
+    }
+    Ok(statements)
+}
