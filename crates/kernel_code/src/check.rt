@@ -9,6 +9,7 @@ mod demands;
 mod depths;
 mod expressions;
 mod kernels;
+mod legible;
 pub mod names;
 mod nodes;
 mod params;
@@ -18,6 +19,7 @@ pub mod streams;
 mod texts;
 
 use crate::check::kernels::kernel_of;
+pub use crate::check::legible::is_legible;
 use crate::check::params::{fault_at, kernel_name_fault, or_else, params_fault};
 use crate::check::resolve::resolve;
 use crate::check::texts::{line_at, text_at};

@@ -2,6 +2,8 @@
 #![tactic(auto)]
 
 pub mod check;
+#[cfg(test)]
+mod check_tests;
 mod fault;
 mod kernel;
 #[cfg(test)]
@@ -16,7 +18,7 @@ mod tests;
 mod token;
 mod word;
 
-pub use check::check_kernel;
+pub use check::{check_kernel, is_legible};
 pub use fault::KernelFault;
 pub use frame_ast::kernel::FaultKind;
 pub use frame_grammar::TokenKind;
