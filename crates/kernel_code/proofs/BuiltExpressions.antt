@@ -21,7 +21,7 @@ use Rattle.kernel_code.proofs.Leaves.{leaf_is, one_is, joint_is, is_parameter}
 shift : (raw : RawKernel) (d k : ℕ) (node : RawNode) → node_fault raw (d + 1 + k) node ≡ None → node_fault raw (d + suc k) node ≡ None
 shift raw d k node h = let e : d + 1 + k ≡ d + suc k = omega arith in subst (λ n. node_fault raw n node ≡ None) e h
 
-none_at : (raw : RawKernel) (d k : ℕ) (nodes : List RawNode) (node : RawNode) → nodes_fault raw d nodes ≡ None → slice_get nodes k ≡ Some node → node_fault raw (d + k) node ≡ None
+pub none_at : (raw : RawKernel) (d k : ℕ) (nodes : List RawNode) (node : RawNode) → nodes_fault raw d nodes ≡ None → slice_get nodes k ≡ Some node → node_fault raw (d + k) node ≡ None
 none_at raw d k [] node h s = cc
 none_at raw d zero (n ∷ more) node h s =
     let e : n ≡ node = cc in

@@ -26,4 +26,5 @@ pub mod BuiltExpressions
 pub mod BuiltBlocks
 pub mod BuiltStatements
 pub mod BuiltKernels
+pub mod Counting
 pub mod Passing
