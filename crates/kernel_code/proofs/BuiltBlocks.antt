@@ -1,14 +1,12 @@
 -- Statements from the nodes that stand behind each other.
-use Rattle.std.proofs.Common.{ℕ, zero, suc, ◌≡◌, ◌≤◌, ◌<◌, ◌+◌, ◌-◌, Bool, true, false, IsTrue, List, [], ◌∷◌, ◌++◌, Option, Some, None, slice_get, length, cond, refl, ap, sym, subst, ◌∙◌, append_assoc, append-nil, arith}
-use Rattle.frame_ast.specs.declared.kernel.Expr.{Expr}
-use Rattle.frame_ast.specs.declared.kernel.Stmt.{Stmt, out-Stmt}
-use Rattle.kernel_code.specs.declared.raw.RawForm.{RawForm}
+use Rattle.std.proofs.Common.{ℕ, ◌≡◌, ◌≤◌, ◌<◌, ◌+◌, IsTrue, List, [], ◌∷◌, ◌++◌, Option, Some, None, slice_get, refl, ap, sym, subst, ◌∙◌, append_assoc, append-nil, arith}
+use Rattle.frame_ast.specs.declared.kernel.Stmt.{Stmt}
 use Rattle.kernel_code.specs.declared.raw.RawForm.TheVariants as form
 use Rattle.kernel_code.specs.declared.raw.RawNode.{RawNode}
 use Rattle.kernel_code.specs.declared.raw.RawKernel.{RawKernel}
-use Rattle.kernel_code.specs.Raw.{RawExpr, RawBlock, Nothing, Simple, Nested, Branched, expr_size, parts_size, block_size, statement_node}
+use Rattle.kernel_code.specs.Raw.{RawBlock, Nothing, Simple, Nested, Branched, expr_size, parts_size, block_size, statement_node}
 use Rattle.kernel_code.specs.Trees.{BlockOf, nothing}
-use Rattle.kernel_code.specs.Places.{StandsExpr, StandsParts, StandsBlock, group_of, FitsSimple, FitsNested, IsFormed, IsFormedBlock, NoOperator, IsBlockHere, rest_of, first_size, has_first, IsFirst}
+use Rattle.kernel_code.specs.Places.{StandsBlock, NoOperator, IsBlockHere, rest_of, first_size, has_first, IsFirst}
 
 -- the statements up to a node are built, and the rest of the block stands there
 pub record IsPartly (raw : RawKernel) (owner : Option ℕ) (from at end : ℕ) (b : RawBlock) (ss : List Stmt) : Type 0 where

@@ -1,5 +1,5 @@
 -- Expressions from the nodes that stand behind each other.
-use Rattle.std.proofs.Common.{ℕ, zero, suc, ◌≡◌, ◌≤◌, ◌<◌, ◌+◌, ◌-◌, Bool, true, false, IsTrue, List, [], ◌∷◌, Option, Some, None, slice_get, length, cond, refl, ap, sym, subst, ◌∙◌, add-one, arith}
+use Rattle.std.proofs.Common.{ℕ, zero, suc, ◌≡◌, ◌≤◌, ◌<◌, ◌+◌, ◌-◌, false, IsTrue, List, [], ◌∷◌, Option, Some, None, slice_get, length, cond, refl, ap, sym, subst, ◌∙◌, arith}
 use Rattle.frame_ast.specs.declared.kernel.Expr.{Expr}
 use Rattle.frame_ast.specs.declared.kernel.Expr.TheVariants.{Item'}
 use Rattle.kernel_code.specs.declared.raw.RawForm.{RawForm}
@@ -12,7 +12,7 @@ use Rattle.kernel_code.specs.Raw.{RawExpr, Leaf, One, Two, Infix, expr_size, exp
 use Rattle.kernel_code.specs.StaticFaults.{node_fault, nodes_fault, token_fault, name_fault, declares, as_local, local_of, locals_before}
 use Rattle.kernel_code.specs.Known.{IsFaultless, has_name, meaning_if, name_named, name_stored, number_named, meaning_at, meanings_from}
 use Rattle.kernel_code.specs.Trees.{ExprOf, item, kind_at, joint_of}
-use Rattle.kernel_code.specs.Places.{is_leaf, is_one, is_two, is_infix, IsFormed, StandsExpr, Ends, IsHere, IsAtomHere, Begins, whole, further, IsBuilt, IsResolved, leaf_of, IsOneOf, IsJoint}
+use Rattle.kernel_code.specs.Places.{is_leaf, is_one, is_two, IsFormed, StandsExpr, Ends, IsHere, IsAtomHere, Begins, whole, further, IsBuilt, IsResolved, leaf_of, IsOneOf, IsJoint}
 use Rattle.kernel_code.proofs.NoFaults.{or_else-none, node_fault-none}
 use Rattle.kernel_code.proofs.Leaves.{leaf_is, one_is, joint_is, is_parameter}
 

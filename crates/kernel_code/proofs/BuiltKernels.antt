@@ -1,8 +1,8 @@
 -- What a raw kernel's own form and the absence of faults in its head give.
-use Rattle.std.proofs.Common.{ℕ, zero, suc, ◌≡◌, ◌≤◌, ◌<◌, ◌+◌, ◌-◌, min, Bool, true, false, IsTrue, eqb, leb, ltb, List, [], ◌∷◌, ◌++◌, Option, Some, None, slice_get, length, get_or, take, map, inl, inr, refl, ap, sym, subst, ◌∙◌, append_assoc, append-nil, arith, add-one}
+use Rattle.std.proofs.Common.{ℕ, zero, suc, ◌≡◌, ◌≤◌, ◌<◌, ◌+◌, false, List, [], ◌∷◌, ◌++◌, Option, Some, None, slice_get, length, inl, inr, refl, ap, subst, ◌∙◌, append_assoc, arith}
 use Rattle.std.specs.Prelude.{◌||◌, nat_le, nat_lt, ◌==◌}
-use Rattle.std.proofs.lemmas.List.{length-append, take_more, length_push}
-use Rattle.std.proofs.lemmas.Option.{slice_get_past, slice_get-get_or, slice_get_within}
+use Rattle.std.proofs.lemmas.List.{length-append, length_push}
+use Rattle.std.proofs.lemmas.Option.{slice_get_within}
 use Rattle.std.proofs.lemmas.Bool.{cases_lt}
 use Rattle.std.proofs.lemmas.Bool.Decides.{nat_tests}
 use Rattle.frame_grammar.specs.declared.symbols.Event.{Event}
@@ -12,10 +12,10 @@ use Rattle.kernel_code.specs.declared.raw.RawForm.TheVariants as form
 use Rattle.kernel_code.specs.declared.raw.RawNode.{RawNode}
 use Rattle.kernel_code.specs.declared.raw.RawParam.{RawParam}
 use Rattle.kernel_code.specs.declared.raw.RawKernel.{RawKernel}
-use Rattle.kernel_code.specs.Raw.{RawExpr, Leaf, One, Two, Infix, RawBlock, Nothing, Simple, Nested, Branched, expr_size, parts_size, block_size, expr_node, statement_node, expr_nodes, parts_nodes, block_nodes, SpellsExpr, number, index, name, size, element, has, count, item, unary, between, SpellsSimple, var, set_name, set_place, set_try_add, set_remove, add_item, add_pair, remove, clear, write, SpellsHead, begun, tested, counted, looped, SpellsBlock, nothing, simple, nested, branched, SpellsRaw}
-use Rattle.kernel_code.specs.StaticFaults.{text_at, value_at, params_fault, param_fault, param_name_fault, param_kind_fault, width_fault, fault_at}
+use Rattle.kernel_code.specs.Raw.{RawExpr, Leaf, One, Two, Infix, RawBlock, Nothing, Simple, Nested, Branched, expr_size, parts_size, block_size, expr_node, expr_nodes, parts_nodes, block_nodes, SpellsExpr, number, index, name, size, element, has, count, item, unary, between, SpellsSimple, var, set_name, set_place, set_try_add, set_remove, add_item, add_pair, remove, clear, write, SpellsHead, begun, tested, counted, looped, SpellsBlock, nothing, simple, nested, branched, SpellsRaw}
+use Rattle.kernel_code.specs.StaticFaults.{value_at, params_fault, param_fault, param_kind_fault}
 use Rattle.kernel_code.specs.Trees.{width_at}
-use Rattle.kernel_code.specs.Places.{IsFormed, FitsSimple, FitsNested, IsFormedBlock, StandsExpr, StandsParts, StandsBlock, NoOperator, IsBlockHere}
+use Rattle.kernel_code.specs.Places.{IsFormed, FitsSimple, FitsNested, IsFormedBlock, StandsExpr, StandsParts, StandsBlock, IsBlockHere}
 use Rattle.kernel_code.proofs.NoFaults.{or_else-none, fault_at-none, lowest-none, fault_if-none}
 
 -- FORMS

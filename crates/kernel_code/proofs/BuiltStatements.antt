@@ -1,6 +1,5 @@
 -- What the node of a statement without a fault makes.
-use Rattle.std.proofs.Common.{ℕ, ◌≡◌, ◌≤◌, ◌<◌, ◌+◌, ◌-◌, Bool, true, false, IsTrue, List, [], ◌∷◌, ◌++◌, Option, Some, None, slice_get, length, cond, refl, ap, sym, subst, ◌∙◌, arith}
-use Rattle.frame_ast.specs.declared.kernel.FaultKind.{FaultKind}
+use Rattle.std.proofs.Common.{ℕ, ◌≡◌, ◌≤◌, ◌+◌, true, false, IsTrue, List, [], ◌∷◌, Option, Some, None, slice_get, length, cond, refl, ap, sym, subst, ◌∙◌, arith}
 use Rattle.frame_ast.specs.declared.kernel.ParamKind.{ParamKind}
 use Rattle.frame_ast.specs.declared.kernel.ParamKind.TheVariants as kind
 use Rattle.kernel_code.specs.declared.raw.RawParam.{RawParam}
@@ -15,12 +14,12 @@ use Rattle.kernel_code.specs.declared.check.names.Named.{Named}
 use Rattle.kernel_code.specs.declared.check.names.Named.TheVariants.{Parameter, Variable, LoopVariable}
 use Rattle.kernel_code.specs.declared.check.names.Meaning.{Meaning}
 use Rattle.kernel_code.specs.Raw.{RawExpr, RawBlock, Nothing, Simple, Nested, Branched, expr_size, parts_size, block_size, statement_node}
-use Rattle.kernel_code.specs.StaticFaults.{text_at, meaning_of, lowest, length_fault, answer_kind_fault, param_answer_fault, answer_fault, use_fault, token_fault, name_fault, declares, as_local, local_of, locals_before}
-use Rattle.kernel_code.specs.Known.{IsFaultless, has_name, has_answer, meaning_if, name_named, name_stored, answer_named, number_named, meaning_at}
+use Rattle.kernel_code.specs.StaticFaults.{text_at, meaning_of, lowest, length_fault, answer_kind_fault, param_answer_fault, answer_fault, use_fault, declares, as_local, local_of, locals_before}
+use Rattle.kernel_code.specs.Known.{IsFaultless, has_name, meaning_if, name_named, number_named, meaning_at}
 use Rattle.kernel_code.specs.Trees.{ExprOf, BlockOf, var, set_local, set_value, set_place, set_try_add, set_remove, add_item, add_pair, remove, clear, write, begun, tested, counted, looped, branched, IsParameter, IsVariable, Declares}
-use Rattle.kernel_code.specs.Places.{StandsExpr, StandsParts, StandsBlock, group_of, FitsSimple, FitsNested, IsFormed, IsFormedBlock, NoOperator, Ends, IsHere, IsBuilt, IsBlockHere, rest_of, first_size, has_first, IsFirst, set_of, one_part, two_parts}
+use Rattle.kernel_code.specs.Places.{StandsExpr, StandsBlock, group_of, FitsSimple, FitsNested, IsFormed, IsFormedBlock, NoOperator, IsHere, IsBuilt, IsBlockHere, has_first, IsFirst, set_of, one_part, two_parts}
 use Rattle.kernel_code.proofs.NoFaults.{lowest-none}
-use Rattle.kernel_code.proofs.BuiltExpressions.{first-other, Ends-at}
+use Rattle.kernel_code.proofs.BuiltExpressions.{first-other}
 use Rattle.kernel_code.proofs.Leaves.{is_parameter, takes_parameter}
 
 -- GROUPS OF FORMS

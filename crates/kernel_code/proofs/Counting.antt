@@ -1,16 +1,16 @@
 -- How many nodes a kernel has that a raw kernel is.
-use Rattle.std.proofs.Common.{ℕ, zero, suc, ◌≡◌, ◌≤◌, ◌<◌, ◌+◌, Bool, true, false, leb, ltb, List, [], ◌∷◌, Option, Some, None, slice_get, length, refl, ap, sym, subst, ◌∙◌, arith}
-use Rattle.std.specs.Prelude.{◌||◌, nat_le, nat_lt}
+use Rattle.std.proofs.Common.{ℕ, zero, suc, ◌≡◌, ◌≤◌, ◌<◌, ◌+◌, Bool, true, false, List, [], ◌∷◌, Some, None, slice_get, length, refl, ap, ◌∙◌, arith}
+use Rattle.std.specs.Prelude.{◌||◌, nat_le}
 use Rattle.std.proofs.lemmas.Bool.Decides.{nat_tests}
 use Rattle.frame_ast.specs.declared.kernel.Expr.{Expr}
 use Rattle.frame_ast.specs.declared.kernel.Stmt.{Stmt, out-Stmt}
-use Rattle.frame_ast.specs.declared.kernel.Stmt.TheOpen.{Stmt-F, Assign, SetValue, Store, Add, AddPair, TryAdd, RemoveAt, RemoveKey, Clear, Write, Begin, If, For, While}
+use Rattle.frame_ast.specs.declared.kernel.Stmt.TheOpen.{Stmt-F}
 use Rattle.frame_ast.specs.declared.kernel.Stmt.TheFolds.{fold-Stmt, fold_out-Stmt, map-Stmt}
 use Rattle.frame_ast.specs.Checked.{expr_nodes, measured, body_nodes}
 use Rattle.kernel_code.specs.declared.raw.RawNode.{RawNode}
 use Rattle.kernel_code.specs.declared.raw.RawKernel.{RawKernel}
 use Rattle.kernel_code.specs.Raw.{RawExpr, RawBlock, expr_size, block_size}
-use Rattle.kernel_code.specs.StaticFaults.{nodes_fault, size_fault, depth_of}
+use Rattle.kernel_code.specs.StaticFaults.{nodes_fault}
 use Rattle.kernel_code.specs.Trees.{ExprOf, number, index, variable, loop_variable, value, size, element, has, count, item, negative, opposite, both, either, between, BlockOf, nothing, var, set_local, set_value, set_place, set_try_add, set_remove, add_item, add_pair, remove, clear, write, begun, tested, counted, looped, branched}
 use Rattle.kernel_code.proofs.NoFaults.{fault_if-none, node_fault-none}
 use Rattle.kernel_code.proofs.BuiltExpressions.{none_at}

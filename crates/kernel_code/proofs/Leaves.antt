@@ -1,22 +1,20 @@
 -- What one node without a fault makes.
-use Rattle.std.proofs.Common.{ℕ, ◌≡◌, ◌≤◌, ◌<◌, ◌+◌, min, Bool, true, false, IsTrue, leb, ltb, cond, Option, Some, None, refl, ap, sym, subst, ◌∙◌, arith}
+use Rattle.std.proofs.Common.{ℕ, ◌≡◌, ◌+◌, min, Bool, true, false, IsTrue, ltb, cond, Option, Some, None, refl, ap, sym, subst, ◌∙◌, arith}
 use Rattle.std.specs.Prelude.{pos, if◌then◌else◌}
 use Rattle.std.proofs.lemmas.Bool.Decides.{nat_tests}
-use Rattle.frame_ast.specs.declared.kernel.FaultKind.{FaultKind}
 use Rattle.frame_ast.specs.declared.kernel.FaultKind.TheVariants.{KindMismatch}
 use Rattle.frame_ast.specs.declared.kernel.Expr.{Expr}
 use Rattle.frame_ast.specs.declared.kernel.Expr.TheVariants.{Number, Negative', Not'}
 use Rattle.kernel_code.specs.declared.raw.RawForm.{RawForm}
 use Rattle.kernel_code.specs.declared.raw.RawForm.TheVariants as form
-use Rattle.kernel_code.specs.declared.raw.RawNode.{RawNode}
 use Rattle.kernel_code.specs.declared.raw.RawKernel.{RawKernel}
 use Rattle.kernel_code.specs.declared.check.names.Named.{Named}
 use Rattle.kernel_code.specs.declared.check.names.Named.TheVariants.{Parameter, Variable, LoopVariable}
-use Rattle.kernel_code.specs.Raw.{RawExpr, Leaf, One, Two, Infix, expr_size}
+use Rattle.kernel_code.specs.Raw.{RawExpr, Leaf, One, Infix, expr_size}
 use Rattle.kernel_code.specs.StaticFaults.{text_at, value_at, meaning_of, use_fault, used_fault, name_fault, token_fault, variable_fault, loop_variable_fault}
-use Rattle.kernel_code.specs.Known.{IsFaultless, has_name, meaning_if, name_named, number_named}
-use Rattle.kernel_code.specs.Trees.{Joint, Both, Either, By, ExprOf, number, index, variable, loop_variable, value, size, element, has, count, item, negative, opposite, both, either, between, IsParameter, kind_at, is_minus, joint_of}
-use Rattle.kernel_code.specs.Places.{is_leaf, is_one, is_two, value_named, leaf_of, IsOneOf, IsJoint}
+use Rattle.kernel_code.specs.Known.{has_name, meaning_if, number_named}
+use Rattle.kernel_code.specs.Trees.{Joint, Both, Either, By, ExprOf, number, index, variable, loop_variable, value, size, element, has, count, negative, opposite, both, either, between, IsParameter, kind_at, is_minus, joint_of}
+use Rattle.kernel_code.specs.Places.{is_leaf, is_one, value_named, leaf_of, IsOneOf, IsJoint}
 use Rattle.kernel_code.proofs.NoFaults.{lowest-none, fault_if-none}
 
 -- forms whose name is a parameter

@@ -1,6 +1,6 @@
 -- What is so where there is no fault.
-use Rattle.std.proofs.Common.{ℕ, ◌≡◌, ◌<◌, Bool, true, false, eqb, cond, leb, ltb, List, length, Option, Some, None, refl, arith}
-use Rattle.std.specs.Prelude.{◌==◌, ◌||◌, nat_le, nat_lt}
+use Rattle.std.proofs.Common.{ℕ, ◌≡◌, ◌<◌, Bool, true, false, cond, leb, length, Option, Some, None, refl, arith}
+use Rattle.std.specs.Prelude.{◌==◌, ◌||◌, nat_le}
 use Rattle.std.proofs.lemmas.Bool.Decides.{nat_tests}
 use Rattle.frame_ast.specs.declared.kernel.FaultKind.{FaultKind}
 use Rattle.kernel_code.specs.declared.raw.RawForm.{RawForm}
@@ -9,7 +9,7 @@ use Rattle.kernel_code.specs.declared.raw.RawNode.{RawNode}
 use Rattle.kernel_code.specs.declared.raw.RawKernel.{RawKernel}
 use Rattle.kernel_code.specs.declared.check.StaticFault.{StaticFault}
 use Rattle.kernel_code.specs.Known.{IsFaultless}
-use Rattle.kernel_code.specs.StaticFaults.{text_at, number_of, lowest, fault_if, fault_at, or_else, first_of_two, declares, locals_before, depth_of, token_fault, size_fault, name_fault, node_fault}
+use Rattle.kernel_code.specs.StaticFaults.{number_of, lowest, fault_if, fault_at, or_else, declares, locals_before, token_fault, size_fault, name_fault, node_fault}
 
 choice-some : {A : Type 0} (b : Bool) (x y : A) → cond b (Some x) (Some y) ≡ None → ⊥
 choice-some true x y h = cc

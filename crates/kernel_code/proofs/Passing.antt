@@ -1,7 +1,7 @@
 -- One node more.
 use Rattle.std.proofs.Common.{ℕ, ◌≡◌, ◌<◌, ◌≤◌, ◌+◌, Bool, true, false, List, [], ◌∷◌, ◌++◌, length, get_or, take, drop, Option, Some, None, append-nil, append_assoc, refl, ap, sym, subst, ◌∙◌, add-one, arith, drop-cons}
-use Rattle.std.specs.Prelude.{◌||◌, ◌&&◌}
-use Rattle.std.proofs.lemmas.List.{take_more, length-append, length_push, drop_all, length-take}
+use Rattle.std.specs.Prelude.{◌||◌}
+use Rattle.std.proofs.lemmas.List.{take_more, length_push, drop_all, length-take}
 use Rattle.kernel_code.specs.declared.raw.RawNode.{RawNode}
 use Rattle.kernel_code.specs.declared.raw.RawKernel.{RawKernel}
 use Rattle.kernel_code.specs.declared.check.names.Local.{Local}
@@ -10,7 +10,7 @@ use Rattle.kernel_code.specs.declared.check.names.Named.{Named}
 use Rattle.kernel_code.specs.declared.check.streams.StreamBlock.{StreamBlock}
 use Rattle.kernel_code.specs.declared.check.StaticFault.{StaticFault}
 use Rattle.kernel_code.specs.StaticFaults.{declares, local_of, local_if, locals_from, locals_before, begun_among, node_fault, nodes_fault, or_else}
-use Rattle.kernel_code.specs.Known.{stands_in, AreBegun, is_block, answer_named, name_stored, meaning_at, meanings_from, IsKnown}
+use Rattle.kernel_code.specs.Known.{stands_in, is_block, answer_named, name_stored, meaning_at, meanings_from, IsKnown}
 use Rattle.kernel_code.proofs.NoFaults.{few-locals, node_fault-none}
 
 later : (d : ℕ) {A : Type 0} (x : A) (xs : List A) → d + 1 + length xs ≡ d + length (x ∷ xs)

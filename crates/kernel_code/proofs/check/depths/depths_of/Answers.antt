@@ -1,6 +1,5 @@
-use Rattle.std.proofs.Common.{◌≡◌, ◌<◌, ◌+◌, ◌-◌, ◌++◌, ◌∷◌, [], get_or, length, ◌∙◌, below_more, refl, arith}
+use Rattle.std.proofs.Common.{◌∙◌, below_more, arith}
 use Rattle.std.proofs.lemmas.Grind.{common_steps}
-use Rattle.kernel_code.specs.StaticFaults.{depth_of}
 use Rattle.kernel_code.proofs.Depths.{next-depth, close-within, spanning-le, prior-suc}
 use Rattle.kernel_code.proofs.check.depths.depths_of.Goals as goal
 

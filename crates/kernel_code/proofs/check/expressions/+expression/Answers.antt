@@ -1,4 +1,4 @@
-use Rattle.std.proofs.Common.{◌≡◌, Some, refl, sym, ap, subst, ◌∙◌, slice_get, arith, rules, IsTrue}
+use Rattle.std.proofs.Common.{sym, ap, subst, ◌∙◌, arith, IsTrue}
 use Rattle.std.proofs.lemmas.Result.{IfOk-weaker}
 use Rattle.kernel_code.specs.Trees.{joint_of}
 use Rattle.kernel_code.specs.Places.{is_one, IsJoint}

@@ -1,4 +1,4 @@
-use Rattle.std.proofs.Common.{◌≡◌, ◌∙◌, sym, arith}
+use Rattle.std.proofs.Common.{◌∙◌, sym, arith}
 use Rattle.kernel_code.proofs.Passing.{known_next, known_closed, meaning_pushed, nodes_fault-passed}
 use Rattle.kernel_code.proofs.check.resolve.resolve.Goals as goal
 

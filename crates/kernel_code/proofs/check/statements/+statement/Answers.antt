@@ -1,4 +1,4 @@
-use Rattle.std.proofs.Common.{◌≡◌, ◌≤◌, refl, sym, ap, ◌∙◌, arith}
+use Rattle.std.proofs.Common.{◌≡◌, sym, ap, ◌∙◌, arith}
 use Rattle.frame_ast.specs.declared.kernel.Stmt.TheViews.{outs-Clear, outs-Begin, outs-If, outs-For, outs-While}
 use Rattle.frame_ast.specs.declared.kernel.Stmt.TheOpen.{Clear}
 use Rattle.kernel_code.specs.Places.{group_of}

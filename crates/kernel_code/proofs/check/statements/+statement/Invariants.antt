@@ -1,7 +1,5 @@
-use Rattle.std.proofs.Common.{ℕ, ◌≡◌, ◌≤◌, ◌++◌, List, Option, length, ◌+◌, ◌-◌, ◌*◌}
-use Rattle.frame_ast.specs.declared.kernel.Stmt.{Stmt}
+use Rattle.std.proofs.Common.{ℕ, ◌≡◌, ◌≤◌, Option, length, ◌+◌, ◌-◌, ◌*◌}
 use Rattle.kernel_code.specs.Raw.{RawBlock, block_size}
-use Rattle.kernel_code.specs.Trees.{BlockOf}
 use Rattle.kernel_code.specs.Places.{IsResolved, IsBlockHere}
 use Rattle.kernel_code.proofs.BuiltBlocks.{IsPartly}
 use Rattle.kernel_code.proofs.check.statements.+statement.Given as goal

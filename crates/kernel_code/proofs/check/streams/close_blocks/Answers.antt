@@ -1,4 +1,4 @@
-use Rattle.std.proofs.Common.{◌∙◌, sym, ap, subst, arith}
+use Rattle.std.proofs.Common.{◌∙◌, arith}
 use Rattle.std.proofs.lemmas.Grind.{common_steps}
 use Rattle.kernel_code.proofs.Streams.{stands_in-popped}
 use Rattle.kernel_code.proofs.check.streams.close_blocks.Goals as goal
