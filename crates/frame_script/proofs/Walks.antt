@@ -6,7 +6,8 @@ use Rattle.frame_grammar.specs.declared.symbols.Action.{Action}
 use Rattle.frame_grammar.specs.declared.symbols.Action.TheVariants as action
 use Rattle.frame_grammar.specs.declared.symbols.Event.{Event}
 use Rattle.kernel_code.specs.Raw.{on, opening}
-use Rattle.frame_script.specs.Items.{SpellsOpen, outside, inside, LeadsKernel, LeadsSingle, LeadsBlock, LeadsOut}
+use Rattle.frame_script.specs.declared.build_item.RawItem.TheVariants as item
+use Rattle.frame_script.specs.Items.{SpellsOpen, outside, inside, LeadsKernel, LeadsSingle, LeadsBlock, LeadsOut, Leads, IsOpen}
 use Rattle.frame_script.specs.Raw.{OrderForm, Repeat, When, RawItems, Nothing, Kernel, Single, Block, closing, BeginsOrder, BeginsKernel, nothing, kernel, single, block, form_of}
 use Rattle.frame_script.specs.declared.raw.RawOrder.{RawOrder}
 
@@ -248,3 +249,23 @@ nothing_next finished = refl
 
 pub nothing_leads : (xs : List Event) (items : List RawItems) → xs ≡ [] → SpellsOpen xs items → items ≡ Nothing ∷ []
 nothing_leads xs items none spells = nothing_next (subst (λ x. Walk x items) none (walk spells))
+
+-- GOING ON
+
+-- a place from which the events spell items
+pub record GoesOn (all : List Event) (next : ℕ) : Type 0 where
+  pub within : next ≤ length all
+  pub spelled : IsOpen (drop next all)
+
+pub after_kernel : (all : List Event) (at next : ℕ) (items : List RawItems) → Leads all at (item.Kernel next) items → GoesOn all next
+after_kernel all at next items leads = record { within = leads.1; spelled = record { items = leads.2.more ∷ leads.2.around; spells = leads.2.left } }
+
+pub after_end : (all : List Event) (at next : ℕ) (items : List RawItems) → Leads all at (item.End next) items → GoesOn all next
+after_end all at next items leads = record { within = leads.1; spelled = record { items = leads.2.around ∷ leads.2.more; spells = leads.2.left } }
+
+after_either : (all : List Event) (first : ℕ) (order : RawOrder) (next : ℕ) (items : List RawItems) → LeadsSingle all first order next items ⊎ LeadsBlock all first order next items → IsOpen (drop next all)
+after_either all first order next items (inl one) = record { items = one.more ∷ one.around; spells = one.left }
+after_either all first order next items (inr one) = record { items = one.inner ∷ one.more ∷ one.around; spells = one.left }
+
+pub after_order : (all : List Event) (at first : ℕ) (order : RawOrder) (next : ℕ) (items : List RawItems) → Leads all at (item.Order first order next) items → GoesOn all next
+after_order all at first order next items leads = record { within = leads.1; spelled = after_either all first order next items leads.2 }

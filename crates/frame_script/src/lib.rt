@@ -5,6 +5,8 @@ mod build;
 mod build_file;
 mod build_item;
 mod build_kernel;
+#[cfg(test)]
+mod build_tests;
 mod build_words;
 mod checks;
 mod fault;
