@@ -1,4 +1,4 @@
-use Rattle.std.proofs.Common.{◌≡◌, ℕ, ◌+◌, ◌<◌, ◌≤◌, ◌^◌, List, [], ◌∷◌, length, sym, ◌∙◌, ap, subst, arith}
+use Rattle.std.proofs.Common.{◌≡◌, [], ◌∷◌, length, sym, ◌∙◌, ap, subst, arith}
 use Rattle.frame_grammar.specs.Sentences.{IsEnded}
 use Rattle.kernel_code.specs.Tokens.{tokens_of}
 use Rattle.kernel_code.specs.Parsing.{kinds}

@@ -1,6 +1,5 @@
-use Rattle.std.proofs.Common.{◌≡◌, ℕ, ◌≤◌, List, length, drop, sym, subst}
-use Rattle.frame_grammar.specs.declared.symbols.Event.{Event}
-use Rattle.frame_script.specs.Items.{Leads, IsOpen}
+use Rattle.std.proofs.Common.{sym, subst}
+use Rattle.frame_script.specs.Items.{Leads}
 use Rattle.frame_script.proofs.Walks.{GoesOn, after_kernel, after_order, after_end}
 use Rattle.frame_script.proofs.build_tests.items_of.Goals as goal
 use Rattle.frame_script.proofs.build_tests.items_of.Goals.{in-Kernel+in_ok-write-in-Kernel, in-Order+in_ok-write-in-Order, in-End+in_ok-write-in-End}
