@@ -2,7 +2,7 @@
 ghost use Rattle.std.specs.Prelude.{◌≡◌, ◌≤◌, ℕ, None, Some, length, map, slice_get, string_bytes, IfOk, IsUtf8};
 ghost use Rattle.kernel_code.specs.Raw.{IsRaw};
 ghost use Rattle.kernel_code.specs.StaticFaults.{text_at, params_fault, locals_of};
-ghost use Rattle.kernel_code.specs.Trees.{param_text, raw_param_text, width_at, IsKernelOf};
+ghost use Rattle.kernel_code.specs.Trees.{param_text, raw_param_text, width_at, IsKernelOf, IsWithinLimits};
 ghost use Rattle.kernel_code.specs.Places.{IsResolved};
 ghost use Rattle.kernel_code.specs.Legible.{IsLegible};
 
@@ -62,7 +62,9 @@ pub fn kernel_of(alloc: Global, raw: &RawKernel<'_>, meanings: Meanings) -> Resu
     requires params { params_fault raw.now 0 raw.now.params.items ≡ None }
     requires resolved { IsResolved raw.now meanings.of_nodes.items }
     requires locals { meanings.locals ≡ length (locals_of raw.now.nodes.items) }
-    ensures { IfOk result (λ k. IsKernelOf raw.now k) }
+    requires few { meanings.locals ≤ 64 }
+    ensures kernel { IfOk result (λ k. IsKernelOf raw.now k) }
+    ensures limits { IfOk result IsWithinLimits }
 {
     let name = name_at(alloc, raw, raw.name)?;
     let params = params_of(alloc, raw)?;
