@@ -14,3 +14,6 @@ pub mod FaultLemmas
 pub mod NumberLemmas
 pub mod ListLemmas
 pub mod CopyLemmas
+pub mod JobLemmas
+pub mod ScheduleLemmas
+pub mod OrderLemmas

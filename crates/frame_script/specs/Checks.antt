@@ -1,13 +1,19 @@
 -- What the check of a part of a statement answers: its first fault, or what it says.
-use Rattle.std.specs.Prelude.{◌≡◌, ℕ, map, false, List, [], Option, Some, None, Result, MatchResult}
+use Rattle.std.specs.Prelude.{◌≡◌, ℕ, map, Bool, true, false, List, [], Option, Some, None, Result, MatchResult}
 use Rattle.kernel_code.specs.declared.check.StaticFault.{StaticFault}
 use Rattle.frame_script.specs.declared.kind.NameKind.{NameKind}
 use Rattle.frame_script.specs.declared.source.Source.{Source}
 use Rattle.frame_script.specs.Names.{Name}
+use Rattle.frame_ast.specs.declared.script.Arg.{Arg}
+use Rattle.frame_script.specs.declared.raw.RawArg.{RawArg}
+use Rattle.frame_script.specs.declared.raw.RawOrder.{RawOrder}
+use Rattle.frame_script.specs.declared.raw.RawOrder.TheVariants as raw
+use Rattle.frame_script.specs.declared.raw.RawSizes.{RawSizes}
+use Rattle.frame_ast.specs.declared.kernel.Kernel.{Kernel}
 use Rattle.frame_ast.specs.declared.script.Order.{Order}
 use Rattle.frame_script.specs.Raw.{OrderForm}
 use Rattle.frame_script.specs.Faults.{Scope, first, order_faults}
-use Rattle.frame_script.specs.Spelling.{place_of, names_with, names_after, Says}
+use Rattle.frame_script.specs.Spelling.{place_of, names_with, names_after, arg_of, defer_of, Says}
 use Rattle.frame_script.specs.declared.fault.OrderFault.{OrderFault}
 use Rattle.frame_script.specs.declared.fault.OrderFault.TheVariants.{Refused, NoMemory}
 
@@ -36,3 +42,24 @@ Checked s c literals at form = Gives (first (order_faults s c at form)) (Says s 
 -- names alone
 abbrev pub bare : List Name → Scope
 bare names = record { names = names; kernels = []; blocks = 0; tested = false }
+
+-- the parts of a schedule, whatever name is made
+abbrev pub IsArg : Source → List Name → RawArg → Arg → Type 0
+IsArg s names raw a = (m : Option (ℕ × NameKind)) → a ≡ arg_of s (names_with s names m) raw
+
+abbrev pub AreArgs : Source → List Name → List RawArg → List Arg → Type 0
+AreArgs s names raws args = (m : Option (ℕ × NameKind)) → args ≡ map (arg_of s (names_with s names m)) raws
+
+abbrev pub IsDefer : Source → List Name → RawSizes → Option (ℕ × ℕ) → Type 0
+IsDefer s names sizes d = (m : Option (ℕ × NameKind)) → d ≡ defer_of s (names_with s names m) sizes
+
+-- names and kernels alone
+abbrev pub among : List Name → List Kernel → Scope
+among names kernels = record { names = names; kernels = kernels; blocks = 0; tested = false }
+
+-- a statement without a block and without a list of values
+abbrev pub is_plain : RawOrder → Bool
+is_plain (raw.Array name len life (Some values)) = false
+is_plain (raw.Repeat count) = false
+is_plain (raw.When name sign value) = false
+is_plain _ = true

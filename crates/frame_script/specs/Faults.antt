@@ -114,17 +114,24 @@ sizes_fit parallel (sizes.Length len batch) = parallel
 sizes_fit parallel (sizes.Defer list batch) = parallel
 
 -- a kernel whose length is that of a list gets one more parameter and one more node around its statements
-abbrev pub room_fits : Kernel → RawSizes → Bool
-room_fits k sizes.None = true
-room_fits k (sizes.Length len batch) = true
-room_fits k (sizes.Defer list batch) =
+abbrev pub has_room : Kernel → Bool
+has_room k =
     nat_le (length k.params.items) 15
     && (nat_le (body_nodes k.body.statements.items) 4091 && nat_le (body_depth k.body.statements.items) 63)
 
+abbrev pub room_fits : Bool → RawSizes → Bool
+room_fits room sizes.None = true
+room_fits room (sizes.Length len batch) = true
+room_fits room (sizes.Defer list batch) = room
+
+-- the kernel takes so many arguments and these sizes
+abbrev pub takes : Kernel → List RawArg → RawSizes → Bool
+takes k args sizes = nat_eq (length args) (length k.params.items) && sizes_fit k.parallel sizes
+
 abbrev pub kernel_fault : Kernel → ℕ → List RawArg → RawSizes → Option StaticFault
 kernel_fault k at args sizes =
-    first (unless (nat_eq (length args) (length k.params.items) && sizes_fit k.parallel sizes) KindMismatch at
-    ∷ unless (room_fits k sizes) Limit at
+    first (unless (takes k args sizes) KindMismatch at
+    ∷ unless (room_fits (has_room k) sizes) Limit at
     ∷ [])
 
 -- whether a name is that of the list after `defer`

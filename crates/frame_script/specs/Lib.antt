@@ -1,8 +1,11 @@
 pub mod Raw
+pub mod Signs
 pub mod Sources
 pub mod Names
 pub mod Index
+pub mod KernelIndex
 pub mod Checks
+pub mod Scheduled
 pub mod Faults
 pub mod Spelling
 pub mod Files

@@ -3,13 +3,8 @@ use Rattle.std.specs.Prelude.{◌≡◌, ℕ, Bool, true, false, Vec, List, [], 
 use Rattle.std.specs.declared.alloc.Global.{Global}
 use Rattle.std.specs.Option.{option_map}
 use Rattle.std.specs.Str.{bytes_eq}
-use Rattle.frame_grammar.specs.declared.TokenKind.{TokenKind}
-use Rattle.frame_grammar.specs.declared.TokenKind.TheVariants as token
-use Rattle.kernel_code.specs.declared.token.Token.{Token}
 use Rattle.frame_ast.specs.declared.kernel.Param.{Param}
 use Rattle.frame_ast.specs.declared.kernel.Kernel.{Kernel}
-use Rattle.frame_ast.specs.declared.script.Sign.{Sign}
-use Rattle.frame_ast.specs.declared.script.Sign.TheVariants as sign
 use Rattle.frame_ast.specs.declared.script.Arg.{Arg}
 use Rattle.frame_ast.specs.declared.script.Arg.TheVariants as arg
 use Rattle.frame_ast.specs.declared.script.Order.{Order}
@@ -22,6 +17,7 @@ use Rattle.frame_script.specs.declared.raw.RawSizes.TheVariants as sizes
 use Rattle.frame_script.specs.declared.source.Source.{Source}
 use Rattle.frame_script.specs.declared.kind.NameKind.{NameKind}
 use Rattle.frame_script.specs.Raw.{OrderForm, NewArray, NewColumn, NewList, NewReference, NewMap, NewStream, Slice, View, Copy, Set, Add, Put, Remove, Clear, SetCapacity, Schedule, Combine, Complete, Dispose, DisposeAuto, Print, Flush, Frame, Repeat, When}
+use Rattle.frame_script.specs.Signs.{sign_in}
 use Rattle.frame_script.specs.Sources.{text_at, column_at, number_at, signed_at}
 use Rattle.frame_script.specs.Names.{Name as Known, place_in, with_name}
 use Rattle.frame_script.specs.Faults.{made_by, kernel_in}
@@ -60,18 +56,6 @@ abbrev pub defer_of : Source → List Known → RawSizes → Option (ℕ × ℕ)
 defer_of s names sizes.None = None
 defer_of s names (sizes.Length len batch) = None
 defer_of s names (sizes.Defer list batch) = Some (place_of s names list, number_at s batch)
-
-abbrev pub sign_of : TokenKind → Sign
-sign_of token.NotEqual = sign.Ne
-sign_of token.Less = sign.Lt
-sign_of token.LessEqual = sign.Le
-sign_of token.Greater = sign.Gt
-sign_of token.GreaterEqual = sign.Ge
-sign_of _ = sign.Eq
-
-abbrev pub sign_in : Option Token → Sign
-sign_in None = sign.Eq
-sign_in (Some t) = sign_of t.kind
 
 -- the values of an array are a list of their own, whose number is that of the earlier ones
 abbrev pub literal_of : ℕ → Option (List RawNumber) → Option ℕ

@@ -26,6 +26,14 @@ pub const CONTAINERS: [NameKind; 7] = [
     NameKind::Stream,
 ];
 
+/// The kinds of what has elements.
+pub const HAS_ELEMENTS: [NameKind; 4] = [
+    NameKind::Array,
+    NameKind::Slice,
+    NameKind::View,
+    NameKind::List,
+];
+
 /// The refusal by this fault.
 pub fn refused<T>(kind: FaultKind, at: u32) -> Result<T, OrderFault>
     ensures { result ≡ Err (OrderFault.Refused (record { at = at; kind = kind })) }

@@ -1,4 +1,163 @@
-//! The checks of statements.
+//! The checks of statements: the first fault of each, or what it says.
+
+ghost use Rattle.std.specs.Prelude.{◌≡◌, false, ⊤, ◌&&◌, nat_lt, IsTrue, [], ◌∷◌};
+ghost use Rattle.frame_ast.specs.declared.kernel.FaultKind.TheVariants.{Limit};
+ghost use Rattle.frame_script.specs.Raw.{form_of, Repeat, When};
+ghost use Rattle.frame_script.specs.Sources.{number_at};
+ghost use Rattle.frame_script.specs.Names.{Name};
+ghost use Rattle.frame_script.specs.Faults.{first, unless, order_faults, limit_fault};
+ghost use Rattle.frame_script.specs.Checks.{Checked, Gives, among, is_plain};
 
 mod changes;
+mod jobs;
 mod makes;
+
+use crate::checks::{limited, refused, signed, used};
+use crate::raw::{RawNumber, RawOrder};
+use crate::{Kernels, NameKind, Names, OrderFault, Source};
+use frame_ast::kernel::FaultKind;
+use frame_ast::script::Order;
+use jobs::{Schedule, check_schedule};
+pub use makes::{Valued, valued_array};
+use std::alloc::Global;
+
+/// The check of a statement that has no block and no list of values.
+pub fn check_order(
+    alloc: Global,
+    source: Source<'_>,
+    names: &Names<'_>,
+    kernels: &Kernels<'_>,
+    raw: &RawOrder,
+) -> Result<Order, OrderFault>
+    requires plain { IsTrue (is_plain raw.now) }
+    ensures { Checked source.entry (among names.now kernels.now) 0 0 (form_of raw.now) result }
+{
+    match raw {
+        RawOrder::Array {
+            name,
+            len,
+            life,
+            values: None,
+        } => makes::array(source, names, *name, *len, *life),
+        RawOrder::Array {
+            values: Some(_),
+            ..
+        } => unreachable!(),
+        RawOrder::Column { name, column, life } => {
+            makes::column(alloc, source, names, *name, *column, *life)
+        }
+        RawOrder::List { name, cap, life } => makes::list(source, names, *name, *cap, *life),
+        RawOrder::Reference { name, life, value } => {
+            makes::reference(source, names, *name, *life, *value)
+        }
+        RawOrder::Map { name, cap, life } => makes::map(source, names, *name, *cap, *life),
+        RawOrder::Stream {
+            name,
+            count,
+            room,
+            life,
+        } => makes::stream(source, names, *name, *count, *room, *life),
+        RawOrder::Slice {
+            name,
+            of,
+            start,
+            len,
+        } => makes::slice(source, names, *name, *of, *start, *len),
+        RawOrder::View { name, of } => makes::view(source, names, *name, *of),
+        RawOrder::Copy { name, of } => makes::copy(source, names, *name, *of),
+        RawOrder::Set { name, at, value } => changes::set(source, names, *name, *at, *value),
+        RawOrder::Add {
+            name,
+            first,
+            second,
+        } => changes::add(source, names, *name, *first, *second),
+        RawOrder::Put { name, key, value } => changes::put(source, names, *name, *key, *value),
+        RawOrder::Remove { name, at } => changes::remove(source, names, *name, *at),
+        RawOrder::Clear { name } => changes::clear(source, names, *name),
+        RawOrder::SetCapacity { name, cap } => changes::set_capacity(source, names, *name, *cap),
+        RawOrder::Schedule {
+            auto,
+            handle,
+            kernel,
+            args,
+            sizes,
+            waive,
+            after,
+        } => {
+            let text = Schedule {
+                auto: *auto,
+                handle: *handle,
+                kernel: *kernel,
+                args: args.as_slice(),
+                sizes: *sizes,
+                waive: waive.as_slice(),
+                after: after.as_slice(),
+            };
+            check_schedule(alloc, source, names, kernels, text)
+        }
+        RawOrder::Combine { name, of } => {
+            makes::combine(alloc, source, names, *name, of.as_slice())
+        }
+        RawOrder::Complete { auto, name } => {
+            changes::complete_either(source, names, *auto, *name)
+        }
+        RawOrder::Dispose {
+            name,
+            after,
+            handle,
+        } => changes::dispose(alloc, source, names, *name, after.as_slice(), *handle),
+        RawOrder::DisposeAuto { name, handle } => {
+            changes::dispose_auto(source, names, *name, *handle)
+        }
+        RawOrder::Print { name } => changes::print(source, names, *name),
+        RawOrder::Flush => Ok(Order::Flush),
+        RawOrder::Frame => Ok(Order::Frame),
+        RawOrder::Repeat { .. } => unreachable!(),
+        RawOrder::When { .. } => unreachable!(),
+    }
+}
+
+// A block stands at most 8 deep, and no `when` in another.
+fn opened(blocks: u32, allowed: bool, at: u32) -> Result<(), OrderFault>
+    ensures { Gives (unless (nat_lt blocks 8 && allowed) Limit at) (λ _. ⊤) result }
+{
+    if blocks < 8 && allowed {
+        Ok(())
+    } else {
+        refused(FaultKind::Limit, at)
+    }
+}
+
+/// The count of a `repeat` that stands in so many blocks and begins at a place.
+pub fn check_repeat(source: Source<'_>, blocks: u32, at: u32, count: u32) -> Result<u32, OrderFault>
+    ensures { Gives (first (order_faults source.entry (record { names = []; kernels = []; blocks = blocks; tested = false }) at (Repeat count))) (λ n. n ≡ number_at source.entry count) result }
+{
+    opened(blocks, true, at)?;
+    let count = limited(source, 1, 65_536, count)?;
+    Ok(count)
+}
+
+/// A `when` that stands in so many blocks, in the block of another or not, and begins at a place.
+/// The number of the statements of its block isn't known yet, and is 0.
+pub fn check_when(
+    source: Source<'_>,
+    names: &Names<'_>,
+    blocks: u32,
+    tested: bool,
+    at: u32,
+    name: u32,
+    sign: u32,
+    value: RawNumber,
+) -> Result<Order, OrderFault>
+    ensures { Checked source.entry (record { names = names.now; kernels = []; blocks = blocks; tested = tested }) 0 at (When name sign value) result }
+{
+    opened(blocks, !tested, at)?;
+    let name = used(source, names, &[NameKind::Reference], name)?;
+    let value = signed(source, value)?;
+    Ok(Order::When {
+        name,
+        sign: source.sign(sign),
+        value,
+        count: 0,
+    })
+}

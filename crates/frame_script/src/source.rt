@@ -1,10 +1,12 @@
 //! The bytes of a file and its tokens, and what the token at a place says.
 
-ghost use Rattle.std.specs.Prelude.{◌≡◌, ◌-◌, ◌^◌, ◌≤◌, min, length};
+ghost use Rattle.std.specs.Prelude.{◌≡◌, ◌-◌, ◌^◌, ◌≤◌, min, length, slice_get};
+ghost use Rattle.frame_script.specs.Signs.{sign_of, sign_in};
 ghost use Rattle.kernel_code.specs.Tokens.{text_of};
 ghost use Rattle.kernel_code.specs.StaticFaults.{value_of};
 
-use kernel_code::Token;
+use frame_ast::script::Sign;
+use kernel_code::{Token, TokenKind};
 
 /// A file: its bytes, and its tokens.
 #[derive(Clone, Copy, Debug)]
@@ -75,5 +77,28 @@ impl<'a> Source<'a> {
         } else {
             &text[1..text.len() - 1]
         }
+    }
+
+    /// The comparison at a place.
+    pub fn sign(self, at: u32) -> Sign
+        ensures { result ≡ sign_in (slice_get self.entry.tokens.now at) }
+    {
+        match self.tokens.get(at as usize) {
+            None => Sign::Eq,
+            Some(token) => sign_of(token.kind),
+        }
+    }
+}
+
+fn sign_of(kind: TokenKind) -> Sign
+    ensures { result ≡ sign_of kind }
+{
+    match kind {
+        TokenKind::NotEqual => Sign::Ne,
+        TokenKind::Less => Sign::Lt,
+        TokenKind::LessEqual => Sign::Le,
+        TokenKind::Greater => Sign::Gt,
+        TokenKind::GreaterEqual => Sign::Ge,
+        _ => Sign::Eq,
     }
 }

@@ -7,7 +7,7 @@ ghost use Rattle.frame_script.specs.Faults.{first, as_faults, made_as, use_fault
 ghost use Rattle.frame_script.specs.Spelling.{place_of, names_with};
 ghost use Rattle.frame_script.specs.Checks.{Checked, Gives, IsPlace, bare};
 
-use crate::checks::{CONTAINERS, handles, limited, made, maybe_signed, signed, used};
+use crate::checks::{CONTAINERS, HAS_ELEMENTS, handles, limited, made, maybe_signed, signed, used};
 use crate::raw::RawNumber;
 use crate::{NameKind, Names, OrderFault, Source};
 use frame_ast::script::Order;
@@ -127,13 +127,6 @@ pub fn dispose_auto(
     Ok(Order::DisposeAuto { name, handle })
 }
 
-const HAS_ELEMENTS: [NameKind; 4] = [
-    NameKind::Array,
-    NameKind::Slice,
-    NameKind::View,
-    NameKind::List,
-];
-
 // What a `set` with or without an index takes.
 fn settable(
     source: Source<'_>,
@@ -210,4 +203,19 @@ pub fn complete_auto(source: Source<'_>, names: &Names<'_>, name: u32) -> Result
 {
     let name = used(source, names, &CONTAINERS, name)?;
     Ok(Order::CompleteAuto { name })
+}
+
+/// `complete` with a handle, or with a container.
+pub fn complete_either(
+    source: Source<'_>,
+    names: &Names<'_>,
+    auto: bool,
+    name: u32,
+) -> Result<Order, OrderFault>
+    ensures { Checked source.entry (bare names.now) 0 0 (Complete auto name) result }
+{
+    if auto {
+        return complete_auto(source, names, name);
+    }
+    complete(source, names, name)
 }

@@ -1,10 +1,16 @@
 //! The statements that make containers.
 
-ghost use Rattle.frame_script.specs.Raw.{NewColumn, NewList, NewReference, NewMap, NewStream, Slice, View, Copy, Combine};
-ghost use Rattle.frame_script.specs.Checks.{Checked, bare};
+ghost use Rattle.std.specs.Prelude.{◌≡◌, ⊤, Some, None, [], map};
+ghost use Rattle.frame_script.specs.Raw.{NewArray, NewColumn, NewList, NewReference, NewMap, NewStream, Slice, View, Copy, Combine};
+ghost use Rattle.frame_script.specs.declared.kind.NameKind.TheVariants.{Array};
+ghost use Rattle.frame_script.specs.Faults.{first, order_faults, count_fault};
+ghost use Rattle.frame_script.specs.Sources.{signed_at};
+ghost use Rattle.frame_script.specs.Spelling.{Says, names_with};
+ghost use Rattle.frame_script.specs.Checks.{Checked, Gives, bare};
 
 use crate::checks::{
-    CONTAINERS, handles, is_among, limited, made, maybe_signed, refused, short, short_column, used,
+    CONTAINERS, all_signed, handles, is_among, limited, made, maybe_signed, refused, short,
+    short_column, used,
 };
 use crate::raw::RawNumber;
 use crate::{NameKind, Names, OrderFault, Source};
@@ -14,6 +20,69 @@ use std::alloc::Global;
 
 /// The greatest length of an array, and of what is like it.
 const MOST_ELEMENTS: u32 = 1_048_576;
+
+// An array that is given values has as many as its length says.
+fn counted(source: Source<'_>, at: u32, values: &[RawNumber]) -> Result<(), OrderFault>
+    ensures { Gives (count_fault source.entry at (Some values.now)) (λ _. ⊤) result }
+{
+    if source.number(at) == values.len() as u64 {
+        Ok(())
+    } else {
+        refused(FaultKind::KindMismatch, at)
+    }
+}
+
+/// An array without values.
+pub fn array(
+    source: Source<'_>,
+    names: &Names<'_>,
+    name: u32,
+    len: u32,
+    life: Life,
+) -> Result<Order, OrderFault>
+    ensures { Checked source.entry (bare names.now) 0 0 (NewArray name len life None) result }
+{
+    let name = made(source, names, NameKind::Array, name)?;
+    let len = limited(source, 0, MOST_ELEMENTS, len)?;
+    Ok(Order::Array {
+        name,
+        len,
+        life,
+        values: None,
+    })
+}
+
+/// An array with values, which become one more list of them.
+#[derive(Clone, Copy)]
+pub struct Valued<'a> {
+    pub name: u32,
+    pub len: u32,
+    pub life: Life,
+    pub values: &'a [RawNumber],
+}
+
+/// An array with values, behind so many lists of values; and its own list.
+pub fn valued_array(
+    alloc: Global,
+    source: Source<'_>,
+    names: &Names<'_>,
+    literals: u32,
+    text: Valued<'_>,
+) -> Result<(Order, Vec<i64>), OrderFault>
+    ensures { Gives (first (order_faults source.entry (bare names.now) 0 (NewArray text.entry.name text.entry.len text.entry.life (Some text.entry.values.now)))) (λ r. Says source.entry (names_with source.entry names.now (Some (text.entry.name, Array))) [] literals 0 (NewArray text.entry.name text.entry.len text.entry.life (Some text.entry.values.now)) r.0 × (r.1.items ≡ map (signed_at source.entry) text.entry.values.now)) result }
+{
+    let name = made(source, names, NameKind::Array, text.name)?;
+    counted(source, text.len, text.values)?;
+    let len = limited(source, 0, MOST_ELEMENTS, text.len)?;
+    let values = all_signed(alloc, source, text.values)?;
+    let order = Order::Array {
+        name,
+        len,
+        life: text.life,
+        values: Some(literals),
+    };
+    Ok((order, values))
+}
 
 pub fn list(
     source: Source<'_>,

@@ -1,0 +1,79 @@
+//! The kernels of a script, in the order of the text.
+
+ghost use Rattle.std.specs.Prelude.{◌≡◌, ◌<◌, ◌≤◌, ◌-◌, ◌^◌, Some, None, List, [], ◌∷◌, ◌++◌, length, map, IfOk, slice_index_or, slice_get, string_bytes, IfSome};
+ghost use Rattle.frame_ast.specs.declared.kernel.Kernel.{Kernel};
+ghost use Rattle.std.specs.Coded.{codes};
+ghost use Rattle.frame_ast.specs.contracts.kernel.Stmt as e;
+ghost use Rattle.frame_ast.specs.contracts.kernel.Expr as f;
+ghost use Rattle.frame_script.specs.KernelIndex.{IsKernelIndex, kernel_at};
+ghost use Rattle.frame_script.specs.Faults.{has_room};
+
+use frame_ast::kernel::Kernel;
+use job_base::NoMemory;
+use std::alloc::Global;
+use std::collections::BTreeMap;
+use std::marker::Model;
+
+/// How many nodes a kernel's statements have, and how deep the deepest is.
+#[derive(Clone, Copy, Debug, PartialEq, Eq)]
+pub struct Size {
+    pub nodes: u32,
+    pub depth: u32,
+}
+
+/// The kernels that are known. A kernel's place is its number among them.
+#[derive(Drop)]
+pub struct Kernels<'a> {
+    places: BTreeMap<&'a [u8], u32>,
+    kernels: Vec<Kernel>,
+    sizes: Vec<Size>,
+}
+
+impl<'a> Model for Kernels<'a> {
+    ghost Value = { List Kernel };
+
+    ghost coded = { Prim.hlevel (codes, e.the_row.coded, f.the_row.coded) };
+
+    ghost view = { λ s. s.kernels.items };
+
+    ghost invariant = { λ s. IsKernelIndex s.places s.kernels.items s.sizes.items };
+}
+
+impl<'a> Kernels<'a> {
+    /// No kernels.
+    pub fn new(alloc: Global) -> Self
+        ensures { result ≡ [] }
+    {
+        Kernels {
+            places: BTreeMap::new(alloc),
+            kernels: Vec::new(alloc),
+            sizes: Vec::new(alloc),
+        }
+    }
+
+    /// The place of the kernel of this name.
+    pub fn find(&self, text: &[u8]) -> Option<u32>
+        ensures place { result ≡ kernel_at self.now text.now }
+        ensures within { IfSome result (λ place. place < length self.now) }
+    {
+        self.places.get(text).copied()
+    }
+
+    /// The kernel at a place.
+    pub fn kernel(&self, place: u32) -> &Kernel
+        requires { place < length self.now }
+        ensures kernel { slice_get self.now place ≡ Some result.now }
+        ensures few { length result.now.params.items ≤ 16 }
+    {
+        &self.kernels[place as usize]
+    }
+
+    /// Whether the kernel at a place has room for one more parameter and one more node around its statements.
+    pub fn has_room(&self, place: u32) -> bool
+        requires { place < length self.now }
+        ensures { IfSome (slice_get self.now place) (λ k. result ≡ has_room k) }
+    {
+        let size = self.sizes[place as usize];
+        self.kernels[place as usize].params.len() <= 15 && size.nodes <= 4091 && size.depth <= 63
+    }
+}

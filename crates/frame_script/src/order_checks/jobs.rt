@@ -1,0 +1,396 @@
+//! The checks of a schedule.
+
+ghost use Rattle.std.specs.Prelude.{◌≡◌, ℕ, ⊤, ◌&&◌, Some, None, true, [], ◌∷◌, map, length, position, string_bytes, ◌≤◌};
+ghost use Rattle.std.specs.Str.{bytes_eq};
+ghost use Rattle.frame_ast.specs.declared.kernel.FaultKind.TheVariants.{KindMismatch, Limit};
+ghost use Rattle.frame_ast.specs.Accepted.{is_int};
+ghost use Rattle.frame_ast.specs.Schedules.{is_array, writes_to};
+ghost use Rattle.frame_script.specs.declared.raw.RawSizes.TheVariants as Sizes;
+ghost use Rattle.frame_script.specs.Faults.{is_deferred, kinds_for, use_fault, kernel_fault, arg_fault, args_faults, sizes_faults, sizes_fit, room_fits, has_room, takes, first, unless, waive_fault, waived_fault, limit_fault, signed_fault, scheduled_faults};
+ghost use Rattle.frame_script.specs.Spelling.{arg_of, names_with, cut_of, defer_of, param_place};
+ghost use Rattle.frame_script.specs.Sources.{text_at, number_at, signed_at};
+ghost use Rattle.frame_script.specs.Checks.{Checked, among, Gives, IsPlace, AreArgs, IsArg, IsDefer};
+ghost use Rattle.frame_script.specs.Scheduled.{IsBehind};
+ghost use Rattle.frame_script.specs.Raw as Form;
+
+use crate::checks::{HAS_ELEMENTS, handles, limited, made, refused, signed, used};
+use crate::raw::{RawArg, RawNumber, RawSizes};
+use crate::{Kernels, NameKind, Names, OrderFault, Source};
+use frame_ast::kernel::{FaultKind, Kernel, ParamKind};
+use frame_ast::script::{Arg, Order};
+use job_base::Access;
+use std::alloc::Global;
+
+const MOST_ELEMENTS: u32 = 1_048_576;
+
+// ARGUMENTS
+
+// Whether a name is that of the list after `defer`.
+fn is_deferred(source: Source<'_>, sizes: RawSizes, at: u32) -> bool
+    ensures { result ≡ is_deferred source.entry sizes at }
+{
+    match sizes {
+        RawSizes::None => false,
+        RawSizes::Length(_, _) => false,
+        RawSizes::Defer(list, _) => source.text(list) == source.text(at),
+    }
+}
+
+// The place of a name that fits a parameter of this kind.
+fn used_for(
+    source: Source<'_>,
+    names: &Names<'_>,
+    deferred: bool,
+    kind: ParamKind,
+    at: u32,
+) -> Result<u32, OrderFault>
+    ensures { Gives (use_fault source.entry names.now (kinds_for kind deferred) at) (IsPlace source.entry names.now at) result }
+{
+    match kind {
+        ParamKind::Int => used(source, names, &[], at),
+        ParamKind::Array if deferred => used(source, names, &HAS_ELEMENTS, at),
+        ParamKind::Array => {
+            let kinds = [NameKind::Array, NameKind::Slice, NameKind::View];
+            used(source, names, &kinds, at)
+        }
+        ParamKind::List => used(source, names, &[NameKind::List], at),
+        ParamKind::Ref => used(source, names, &[NameKind::Reference], at),
+        ParamKind::Map => used(source, names, &[NameKind::Map], at),
+        ParamKind::Stream => used(source, names, &[NameKind::Stream], at),
+    }
+}
+
+fn is_int(kind: ParamKind) -> bool
+    ensures { result ≡ is_int kind }
+{
+    match kind {
+        ParamKind::Int => true,
+        ParamKind::Array => false,
+        ParamKind::List => false,
+        ParamKind::Ref => false,
+        ParamKind::Map => false,
+        ParamKind::Stream => false,
+    }
+}
+
+// A number is given for an `int` alone.
+fn taken(kind: ParamKind, at: u32) -> Result<(), OrderFault>
+    ensures { Gives (unless (is_int kind) KindMismatch at) (λ _. ⊤) result }
+{
+    if is_int(kind) {
+        Ok(())
+    } else {
+        refused(FaultKind::KindMismatch, at)
+    }
+}
+
+fn number(source: Source<'_>, kind: ParamKind, number: RawNumber) -> Result<i64, OrderFault>
+    ensures { Gives (first (unless (is_int kind) KindMismatch number.at ∷ signed_fault source.entry number ∷ [])) (λ z. z ≡ signed_at source.entry number) result }
+{
+    taken(kind, number.at)?;
+    let value = signed(source, number)?;
+    Ok(value)
+}
+
+fn argument(
+    source: Source<'_>,
+    names: &Names<'_>,
+    sizes: RawSizes,
+    kind: ParamKind,
+    arg: RawArg,
+) -> Result<Arg, OrderFault>
+    ensures { Gives (arg_fault source.entry names.now sizes kind arg) (IsArg source.entry names.now arg) result }
+{
+    match arg {
+        RawArg::Name(at) => {
+            let deferred = is_deferred(source, sizes, at);
+            match used_for(source, names, deferred, kind, at) {
+                Ok(place) => Ok(Arg::Name(place)),
+                Err(fault) => Err(fault),
+            }
+        }
+        RawArg::Number(value) => match number(source, kind, value) {
+            Ok(value) => Ok(Arg::Number(value)),
+            Err(fault) => Err(fault),
+        },
+    }
+}
+
+// SIZES
+
+fn length_and_batch(source: Source<'_>, len: u32, batch: u32) -> Result<(u32, u32), OrderFault>
+    ensures { Gives (first (limit_fault source.entry 0 1048576 len ∷ limit_fault source.entry 1 1048576 batch ∷ [])) (λ r. r ≡ (number_at source.entry len, number_at source.entry batch)) result }
+{
+    let len = limited(source, 0, MOST_ELEMENTS, len)?;
+    let batch = limited(source, 1, MOST_ELEMENTS, batch)?;
+    Ok((len, batch))
+}
+
+// WHAT A KERNEL TAKES
+
+fn sizes_fit(parallel: bool, sizes: RawSizes) -> bool
+    ensures { result ≡ sizes_fit parallel sizes }
+{
+    match sizes {
+        RawSizes::None => !parallel,
+        RawSizes::Length(_, _) => parallel,
+        RawSizes::Defer(_, _) => parallel,
+    }
+}
+
+fn room_fits(room: bool, sizes: RawSizes) -> bool
+    ensures { result ≡ room_fits room sizes }
+{
+    match sizes {
+        RawSizes::None => true,
+        RawSizes::Length(_, _) => true,
+        RawSizes::Defer(_, _) => room,
+    }
+}
+
+fn takes(kernel: &Kernel, at: u32, args: &[RawArg], sizes: RawSizes) -> Result<(), OrderFault>
+    ensures { Gives (unless (takes kernel.now args.now sizes) KindMismatch at) (λ _. ⊤) result }
+{
+    if args.len() == kernel.params.len() && sizes_fit(kernel.parallel, sizes) {
+        Ok(())
+    } else {
+        refused(FaultKind::KindMismatch, at)
+    }
+}
+
+fn leaves_room(room: bool, at: u32, sizes: RawSizes) -> Result<(), OrderFault>
+    ensures { Gives (unless (room_fits room sizes) Limit at) (λ _. ⊤) result }
+{
+    if room_fits(room, sizes) {
+        Ok(())
+    } else {
+        refused(FaultKind::Limit, at)
+    }
+}
+
+// Whether a kernel, which has room for more or not, takes these arguments and sizes.
+fn fitting(
+    kernel: &Kernel,
+    room: bool,
+    at: u32,
+    args: &[RawArg],
+    sizes: RawSizes,
+) -> Result<(), OrderFault>
+    requires { room ≡ has_room kernel.now }
+    ensures { Gives (kernel_fault kernel.now at args.now sizes) (λ _. takes kernel.now args.now sizes ≡ true) result }
+{
+    takes(kernel, at, args, sizes)?;
+    leaves_room(room, at, sizes)?;
+    Ok(())
+}
+
+// The place of the parameter of this name.
+fn param_at(kernel: &Kernel, text: &[u8]) -> Option<usize>
+    ensures { result ≡ position (λ p. bytes_eq text.now (string_bytes p.name)) kernel.now.params.items }
+{
+    kernel
+        .params
+        .iter()
+        .position(|param| text == param.name.as_bytes())
+}
+
+fn writes_to(access: Access) -> bool
+    ensures { result ≡ writes_to access }
+{
+    match access {
+        Access::Read => false,
+        Access::Write => true,
+        Access::Both => true,
+    }
+}
+
+fn is_array(kind: ParamKind) -> bool
+    ensures { result ≡ is_array kind }
+{
+    match kind {
+        ParamKind::Int => false,
+        ParamKind::Array => true,
+        ParamKind::List => false,
+        ParamKind::Ref => false,
+        ParamKind::Map => false,
+        ParamKind::Stream => false,
+    }
+}
+
+// WAIVED NAMES
+
+fn waivable(parallel: bool, kind: ParamKind, access: Access, at: u32) -> Result<(), OrderFault>
+    ensures { Gives (unless (parallel && (is_array kind && writes_to access)) KindMismatch at) (λ _. ⊤) result }
+{
+    if parallel && (is_array(kind) && writes_to(access)) {
+        Ok(())
+    } else {
+        refused(FaultKind::KindMismatch, at)
+    }
+}
+
+// The place of a parameter that may be waived: an array of a parallel kernel that is written.
+fn waived(source: Source<'_>, kernel: &Kernel, at: u32) -> Result<u32, OrderFault>
+    requires { length kernel.now.params.items ≤ 16 }
+    ensures { Gives (waive_fault source.entry kernel.now at) (λ n. n ≡ param_place kernel.now.params.items (text_at source.entry at)) result }
+{
+    let Some(place) = param_at(kernel, source.text(at)) else {
+        return refused(FaultKind::UnknownName, at);
+    };
+    let param = &kernel.params[place];
+    waivable(kernel.parallel, param.kind, param.access, at)?;
+    Ok(place as u32)
+}
+
+fn all_waived(
+    alloc: Global,
+    source: Source<'_>,
+    kernel: &Kernel,
+    names: &[u32],
+) -> Result<Vec<u32>, OrderFault>
+    requires { length kernel.now.params.items ≤ 16 }
+    ensures { Gives (first (map (waive_fault source.entry kernel.now) names.now)) (λ places. places.items ≡ map (λ at. param_place kernel.now.params.items (text_at source.entry at)) names.now) result }
+{
+    let mut places = Vec::new(alloc);
+    for name in names {
+        let place = waived(source, kernel, *name)?;
+        places.push(place)?;
+    }
+    Ok(places)
+}
+
+// LISTS
+
+// The arguments of a kernel that takes so many.
+fn arguments(
+    alloc: Global,
+    source: Source<'_>,
+    names: &Names<'_>,
+    kernel: &Kernel,
+    sizes: RawSizes,
+    args: &[RawArg],
+) -> Result<Vec<Arg>, OrderFault>
+    requires { length args.now ≡ length kernel.now.params.items }
+    ensures { Gives (first (args_faults source.entry names.now sizes kernel.now.params.items args.now)) (λ given. AreArgs source.entry names.now args.now given.items) result }
+{
+    let mut given = Vec::new(alloc);
+    for (place, arg) in args.iter().enumerate() {
+        let kind = kernel.params[place].kind;
+        let one = argument(source, names, sizes, kind, *arg)?;
+        given.push(one)?;
+    }
+    Ok(given)
+}
+
+fn list_and_batch(
+    source: Source<'_>,
+    names: &Names<'_>,
+    list: u32,
+    batch: u32,
+) -> Result<(u32, u32), OrderFault>
+    ensures { Gives (first (sizes_faults source.entry names.now (Sizes.Defer list batch))) (λ r. IsDefer source.entry names.now (Sizes.Defer list batch) (Some r)) result }
+{
+    let list = used(source, names, &[NameKind::List], list)?;
+    let batch = limited(source, 1, MOST_ELEMENTS, batch)?;
+    Ok((list, batch))
+}
+
+// The length and the batch, or the list that gives the length and the batch.
+fn sizes_of(
+    source: Source<'_>,
+    names: &Names<'_>,
+    sizes: RawSizes,
+) -> Result<(Option<(u32, u32)>, Option<(u32, u32)>), OrderFault>
+    ensures { Gives (first (sizes_faults source.entry names.now sizes)) (λ r. (r.0 ≡ cut_of source.entry sizes) × IsDefer source.entry names.now sizes r.1) result }
+{
+    match sizes {
+        RawSizes::None => Ok((None, None)),
+        RawSizes::Length(len, batch) => match length_and_batch(source, len, batch) {
+            Ok(cut) => Ok((Some(cut), None)),
+            Err(fault) => Err(fault),
+        },
+        RawSizes::Defer(list, batch) => match list_and_batch(source, names, list, batch) {
+            Ok(defer) => Ok((None, Some(defer))),
+            Err(fault) => Err(fault),
+        },
+    }
+}
+
+// SCHEDULES
+
+/// What a schedule's text says.
+#[derive(Clone, Copy)]
+pub struct Schedule<'a> {
+    pub auto: bool,
+    pub handle: u32,
+    pub kernel: u32,
+    pub args: &'a [RawArg],
+    pub sizes: RawSizes,
+    pub waive: &'a [u32],
+    pub after: &'a [u32],
+}
+
+/// What stands behind a schedule's kernel.
+#[derive(Drop)]
+pub struct Behind {
+    pub args: Vec<Arg>,
+    pub cut: Option<(u32, u32)>,
+    pub defer: Option<(u32, u32)>,
+    pub waive: Vec<u32>,
+    pub after: Vec<u32>,
+}
+
+// What stands behind a known kernel, which has room for more or not.
+fn read_behind(
+    alloc: Global,
+    source: Source<'_>,
+    names: &Names<'_>,
+    kernel: &Kernel,
+    room: bool,
+    text: Schedule<'_>,
+) -> Result<Behind, OrderFault>
+    requires few { length kernel.now.params.items ≤ 16 }
+    requires room { room ≡ has_room kernel.now }
+    ensures { Gives (first (scheduled_faults source.entry names.now (Some kernel.now) text.entry.kernel text.entry.args.now text.entry.sizes text.entry.waive.now text.entry.after.now)) (IsBehind source.entry names.now kernel.now text.entry.args.now text.entry.sizes text.entry.waive.now text.entry.after.now) result }
+{
+    fitting(kernel, room, text.kernel, text.args, text.sizes)?;
+    let args = arguments(alloc, source, names, kernel, text.sizes, text.args)?;
+    let (cut, defer) = sizes_of(source, names, text.sizes)?;
+    let waive = all_waived(alloc, source, kernel, text.waive)?;
+    let after = handles(alloc, source, names, text.after)?;
+    Ok(Behind {
+        args,
+        cut,
+        defer,
+        waive,
+        after,
+    })
+}
+
+pub fn check_schedule(
+    alloc: Global,
+    source: Source<'_>,
+    names: &Names<'_>,
+    kernels: &Kernels<'_>,
+    text: Schedule<'_>,
+) -> Result<Order, OrderFault>
+    ensures { Checked source.entry (among names.now kernels.now) 0 0 (Form.Schedule text.entry.auto text.entry.handle text.entry.kernel text.entry.args.now text.entry.sizes text.entry.waive.now text.entry.after.now) result }
+{
+    let handle = made(source, names, NameKind::Handle, text.handle)?;
+    let Some(place) = kernels.find(source.text(text.kernel)) else {
+        return refused(FaultKind::UnknownName, text.kernel);
+    };
+    let kernel = kernels.kernel(place);
+    let room = kernels.has_room(place);
+    let rest = read_behind(alloc, source, names, kernel, room, text)?;
+    Ok(Order::Schedule {
+        auto: text.auto,
+        handle,
+        kernel: place,
+        args: rest.args,
+        cut: rest.cut,
+        defer: rest.defer,
+        waive: rest.waive,
+        after: rest.after,
+    })
+}
