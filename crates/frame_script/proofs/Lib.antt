@@ -17,3 +17,4 @@ pub mod CopyLemmas
 pub mod JobLemmas
 pub mod ScheduleLemmas
 pub mod OrderLemmas
+pub mod KernelLemmas

@@ -19,18 +19,18 @@ use Rattle.frame_script.specs.Names.{Name, place_in, is_called}
 use Rattle.frame_script.specs.Index.{known_of, IsIndex}
 
 -- the place of what a test holds of, among a list's elements and one more
-at_push : (b : Bool) (n len : ℕ) → n ≤ len →
+pub at_push : (b : Bool) (n len : ℕ) → n ≤ len →
     cond (nat_lt (cond (nat_eq n len) (len + cond b 0 1) n) (len + 1)) (Some (cond (nat_eq n len) (len + cond b 0 1) n)) None
     ≡ cond (nat_lt n len) (Some n) (cond b (Some len) None)
 at_push true n len h = grind (arith, nat_tests)
 at_push false n len h = grind (arith, nat_tests)
 
-bytes_eq-swap : (xs ys : List ℕ) → bytes_eq xs ys ≡ bytes_eq ys xs
+pub bytes_eq-swap : (xs ys : List ℕ) → bytes_eq xs ys ≡ bytes_eq ys xs
 bytes_eq-swap xs ys =
     let d = bytes_eq-Decides ys xs in
     same_from_decides {P = xs ≡ ys} _ _ (bytes_eq-Decides xs ys) ((λ h. sym (d.0 h)), (λ h. d.1 (sym h)))
 
-missing : (n len : ℕ) → cond (nat_lt n len) (Some n) None ≡ None → nat_lt n len ≡ false
+pub missing : (n len : ℕ) → cond (nat_lt n len) (Some n) None ≡ None → nat_lt n len ≡ false
 missing n len h = grind (arith, nat_tests)
 
 chosen : (names : List Name) (text q : List ℕ) → place_in names text ≡ None → (b : Bool) → bytes_eq text q ≡ b → (w : Option ℕ) →
@@ -59,7 +59,7 @@ none_from : (o : Option ℕ) → is_some o ≡ false → o ≡ None
 none_from None h = refl
 none_from (Some n) h = cc
 
-both : (b : Bool) (n m : ℕ) (x y : Option ℕ) → n ≡ m → x ≡ y → cond b (Some n) x ≡ cond b (Some m) y
+pub both : (b : Bool) (n m : ℕ) (x y : Option ℕ) → n ≡ m → x ≡ y → cond b (Some n) x ≡ cond b (Some m) y
 both b n m x y e f = cc
 
 -- the map that finds the places of the names, with one more name

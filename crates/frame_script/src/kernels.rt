@@ -5,7 +5,7 @@ ghost use Rattle.frame_ast.specs.declared.kernel.Kernel.{Kernel};
 ghost use Rattle.std.specs.Coded.{codes};
 ghost use Rattle.frame_ast.specs.contracts.kernel.Stmt as e;
 ghost use Rattle.frame_ast.specs.contracts.kernel.Expr as f;
-ghost use Rattle.frame_script.specs.KernelIndex.{IsKernelIndex, kernel_at};
+ghost use Rattle.frame_script.specs.KernelIndex.{IsKernelIndex, kernel_at, size_of};
 ghost use Rattle.frame_script.specs.Faults.{has_room};
 
 use frame_ast::kernel::Kernel;
@@ -75,5 +75,28 @@ impl<'a> Kernels<'a> {
     {
         let size = self.sizes[place as usize];
         self.kernels[place as usize].params.len() <= 15 && size.nodes <= 4091 && size.depth <= 63
+    }
+
+    /// Adds a kernel behind the others. No other one has its name.
+    pub fn add(&mut self, text: &'a [u8], kernel: Kernel, size: Size) -> Result<(), NoMemory>
+        requires name { text.now ≡ string_bytes kernel.name }
+        requires other { kernel_at self.old text.now ≡ None }
+        requires few { length self.old < 2 ^ 32 - 1 }
+        requires small { length kernel.params.items ≤ 16 }
+        requires size { size ≡ size_of kernel }
+        ensures { IfOk result (λ _. self.new ≡ self.old ++ kernel ∷ []) }
+    {
+        let place = self.kernels.len() as u32;
+        self.sizes.push(size)?;
+        if self.kernels.push(kernel).is_err() {
+            self.sizes.pop();
+            return Err(NoMemory);
+        }
+        if self.places.insert(text, place).is_err() {
+            self.kernels.pop();
+            self.sizes.pop();
+            return Err(NoMemory);
+        }
+        Ok(())
     }
 }
