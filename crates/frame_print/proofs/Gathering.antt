@@ -1,0 +1,169 @@
+-- A text that is gathered part by part.
+use Rattle.std.proofs.Common.{◌≡◌, ℕ, zero, suc, ◌+◌, ◌<◌, List, [], ◌∷◌, ◌++◌, length, get_or, take, drop, Option, Result, Ok, Err, refl, sym, ap, subst, ◌∙◌, arith, append_assoc}
+use Rattle.std.specs.Prelude.{IsErr}
+use Rattle.std.specs.Borrow.{Bor}
+use Rattle.std.specs.Io.KnownBytes.{Appends}
+use Rattle.std.proofs.lemmas.Grind.{common_steps}
+use Rattle.std.proofs.lemmas.Result.{MatchResult-from_err}
+use Rattle.job_base.specs.Texts.{Writes}
+use Rattle.job_base.proofs.Parts.{appends_none, appends_more, stop_first, writes_after}
+use Rattle.frame_print.specs.Gathering.{Joins, Gathers, joined}
+
+-- the sink took some first bytes of a text
+abbrev pub Stops : Option (List ℕ) → Option (List ℕ) → List ℕ → Type 0
+Stops old new text = (n : ℕ) × Appends old new (take n text)
+
+-- a call that hands on that it stopped
+pub gathers_stops : {T E : Type 0} (old : Option (List ℕ)) (w : List ℕ) (new : Option (List ℕ)) (w' : List ℕ) (r : Result T E) (part : List ℕ)
+    → IsErr r → Stops old new (w ++ part) → Gathers old w new w' r part
+gathers_stops old w new w' r part is p = MatchResult-from_err r (λ _. Joins old w new w' part) (λ _. Stops old new (w ++ part)) is (λ _. p)
+
+pub writes_stops : {T E : Type 0} (old new : Option (List ℕ)) (r : Result T E) (text : List ℕ) → IsErr r → Stops old new text → Writes old new r text
+writes_stops old new r text is p = MatchResult-from_err r (λ _. Appends old new text) (λ _. Stops old new text) is (λ _. p)
+
+-- ---- parts
+
+-- no part was put
+pub joins_none : (old : Option (List ℕ)) (w : List ℕ) → Joins old w old w []
+joins_none old w = record { bytes = []; taken = appends_none old; whole = grind (arith, common_steps) }
+
+met : (w a b c d w' w'' : List ℕ) → w ++ a ≡ c ++ w' → w' ++ b ≡ d ++ w'' → w ++ (a ++ b) ≡ (c ++ d) ++ w''
+met w a b c d w' w'' p q = sym (append_assoc w a b) ∙ ap (λ l. l ++ b) p ∙ append_assoc c w' b ∙ ap (λ l. c ++ l) q ∙ sym (append_assoc c d w'')
+
+-- a part was put, and then another
+pub joins_more : (old : Option (List ℕ)) (w : List ℕ) (mid : Option (List ℕ)) (w' : List ℕ) (new : Option (List ℕ)) (w'' a b : List ℕ)
+    → Joins old w mid w' a → Joins mid w' new w'' b → Joins old w new w'' (a ++ b)
+joins_more old w mid w' new w'' a b p q = record {
+  bytes = p.bytes ++ q.bytes;
+  taken = appends_more old mid new p.bytes q.bytes p.taken q.taken;
+  whole = met w a b p.bytes q.bytes w' w'' p.whole q.whole;
+}
+
+pass : (w a b c w' : List ℕ) → w ++ a ≡ c ++ w' → w ++ (a ++ b) ≡ c ++ (w' ++ b)
+pass w a b c w' p = sym (append_assoc w a b) ∙ ap (λ l. l ++ b) p ∙ append_assoc c w' b
+
+-- a part was put, and the next one stopped
+pub stops_after : (old : Option (List ℕ)) (w : List ℕ) (mid : Option (List ℕ)) (w' : List ℕ) (new : Option (List ℕ)) (a b : List ℕ)
+    → Joins old w mid w' a → Stops mid new (w' ++ b) → Stops old new (w ++ (a ++ b))
+stops_after old w mid w' new a b p q =
+    subst (λ t. Stops old new t) (sym (pass w a b p.bytes w' p.whole)) (writes_after {T = Unit {0}} {E = Unit {0}} old mid new (Err tt) p.bytes (w' ++ b) p.taken q)
+
+-- what stopped in the first of two parts stopped in both
+pub stops_before : (old : Option (List ℕ)) (w : List ℕ) (new : Option (List ℕ)) (a b : List ℕ) → Stops old new (w ++ a) → Stops old new (w ++ (a ++ b))
+stops_before old w new a b p = subst (λ t. Stops old new t) (append_assoc w a b) (stop_first old new (w ++ a) b p)
+
+-- a part was put, and then another was tried
+pub gathers_after : {T E : Type 0} (old : Option (List ℕ)) (w : List ℕ) (mid : Option (List ℕ)) (w' : List ℕ) (new : Option (List ℕ)) (w'' : List ℕ) (r : Result T E) (a b : List ℕ)
+    → Joins old w mid w' a → Gathers mid w' new w'' r b → Gathers old w new w'' r (a ++ b)
+gathers_after old w mid w' new w'' (Ok x) a b p q = joins_more old w mid w' new w'' a b p q
+gathers_after old w mid w' new w'' (Err e) a b p q = stops_after old w mid w' new a b p q
+
+-- what waited was taken, and then a text was written at once
+pub passes_on : {T E : Type 0} (old : Option (List ℕ)) (w : List ℕ) (mid new : Option (List ℕ)) (w' : List ℕ) (r : Result T E) (part : List ℕ)
+    → Appends old mid w → w' ≡ [] → Writes mid new r part → Gathers old w new w' r part
+passes_on old w mid new w' (Ok x) part p none q = record {
+  bytes = w ++ part;
+  taken = appends_more old mid new w part p q;
+  whole = grind (arith, common_steps);
+}
+passes_on {T} {E} old w mid new w' (Err e) part p none q = writes_after {T = T} {E = E} old mid new (Err e) w part p q
+
+-- ---- a text with an end
+
+-- nothing waited first, and in the end what waits is written
+pub writes_whole : {T E : Type 0} (old : Option (List ℕ)) (w : List ℕ) (mid : Option (List ℕ)) (w' : List ℕ) (new : Option (List ℕ)) (r : Result T E) (text : List ℕ)
+    → w ≡ [] → Joins old w mid w' text → Writes mid new r w' → Writes old new r text
+writes_whole old w mid w' new r text none p q =
+    let same : text ≡ p.bytes ++ w' = sym (ap (λ l. l ++ text) none) ∙ p.whole in
+    subst (λ t. Writes old new r t) (sym same) (writes_after old mid new r p.bytes w' p.taken q)
+
+-- nothing waited first, and a part stopped
+pub stops_whole : (old : Option (List ℕ)) (w : List ℕ) (new : Option (List ℕ)) (text : List ℕ) → w ≡ [] → Stops old new (w ++ text) → Stops old new text
+stops_whole old w new text none p = subst (λ t. Stops old new t) (ap (λ l. l ++ text) none) p
+
+-- ---- a text part by part
+
+-- the parts before the rest were put
+pub record Going (old : Option (List ℕ)) (w : List ℕ) (now : Option (List ℕ)) (w' whole rest : List ℕ) : Type 0 where
+  pub done : List ℕ
+  pub cut : whole ≡ done ++ rest
+  pub put : Joins old w now w' done
+
+-- at the start all of it is left
+pub going_starts : (old : Option (List ℕ)) (w whole : List ℕ) → Going old w old w whole whole
+going_starts old w whole = record { done = []; cut = refl; put = joins_none old w }
+
+-- the next part was put
+pub going_on : (old : Option (List ℕ)) (w : List ℕ) (now : Option (List ℕ)) (w' : List ℕ) (new : Option (List ℕ)) (w'' whole a rest : List ℕ)
+    → Going old w now w' whole (a ++ rest) → Joins now w' new w'' a → Going old w new w'' whole rest
+going_on old w now w' new w'' whole a rest p q = record {
+  done = p.done ++ a;
+  cut = p.cut ∙ sym (append_assoc p.done a rest);
+  put = joins_more old w now w' new w'' p.done a p.put q;
+}
+
+-- the next part stopped
+pub going_stops : (old : Option (List ℕ)) (w : List ℕ) (now : Option (List ℕ)) (w' : List ℕ) (new : Option (List ℕ)) (whole a rest : List ℕ)
+    → Going old w now w' whole (a ++ rest) → Stops now new (w' ++ a) → Stops old new (w ++ whole)
+going_stops old w now w' new whole a rest p q =
+    subst (λ t. Stops old new (w ++ t)) (append_assoc p.done a rest ∙ sym p.cut) (stops_before old w new (p.done ++ a) rest (stops_after old w now w' new p.done a p.put q))
+
+-- nothing is left
+pub going_ends : (old : Option (List ℕ)) (w : List ℕ) (new : Option (List ℕ)) (w' whole rest : List ℕ) → Going old w new w' whole rest → rest ≡ [] → Joins old w new w' whole
+going_ends old w new w' whole rest p e =
+    let same : p.done ≡ whole = grind (arith, common_steps) in
+    subst (λ t. Joins old w new w' t) same p.put
+
+-- ---- parts in a list
+
+pub joined_next : (parts : List (Bor (List ℕ))) (i : ℕ) (d : Bor (List ℕ)) → i < length parts → joined (drop i parts) ≡ (get_or parts i d).now ++ joined (drop (i + 1) parts)
+joined_next [] i d h = absurd (omega arith)
+joined_next (part ∷ parts) zero d h = refl
+joined_next (part ∷ parts) (suc i) d h =
+    let next : suc i + 1 ≡ suc (i + 1) = omega arith in
+    rw next (joined_next parts i d (omega arith))
+
+module _ (old : Option (List ℕ)) (w : List ℕ) (now : Option (List ℕ)) (w' : List ℕ) (new : Option (List ℕ)) where
+  pub going_part : (w'' : List ℕ) (parts : List (Bor (List ℕ))) (i : ℕ) (d : Bor (List ℕ)) → i < length parts
+      → Going old w now w' (joined parts) (joined (drop i parts)) → Joins now w' new w'' (get_or parts i d).now → Going old w new w'' (joined parts) (joined (drop (i + 1) parts))
+  going_part w'' parts i d h p q = going_on old w now w' new w'' (joined parts) (get_or parts i d).now _ (subst (Going old w now w' (joined parts)) (joined_next parts i d h) p) q
+
+  pub stops_part : (parts : List (Bor (List ℕ))) (i : ℕ) (d : Bor (List ℕ)) → i < length parts
+      → Going old w now w' (joined parts) (joined (drop i parts)) → Stops now new (w' ++ (get_or parts i d).now) → Stops old new (w ++ joined parts)
+  stops_part parts i d h p q = going_stops old w now w' new (joined parts) (get_or parts i d).now _ (subst (Going old w now w' (joined parts)) (joined_next parts i d h) p) q
+
+-- the same under another spelling of the part
+pub gathers_as : {T E : Type 0} (old : Option (List ℕ)) (w : List ℕ) (new : Option (List ℕ)) (w' : List ℕ) (r : Result T E) (t part : List ℕ)
+    → t ≡ part → Gathers old w new w' r t → Gathers old w new w' r part
+gathers_as old w new w' r t part e p = subst (λ l. Gathers old w new w' r l) e p
+
+pub joins_as : (old : Option (List ℕ)) (w : List ℕ) (new : Option (List ℕ)) (w' t part : List ℕ) → t ≡ part → Joins old w new w' t → Joins old w new w' part
+joins_as old w new w' t part e p = subst (λ l. Joins old w new w' l) e p
+
+pub stops_as : (old : Option (List ℕ)) (w : List ℕ) (new : Option (List ℕ)) (t part : List ℕ) → t ≡ part → Stops old new (w ++ t) → Stops old new (w ++ part)
+stops_as old w new t part e p = subst (λ l. Stops old new (w ++ l)) e p
+
+-- ---- a line of three parts
+
+module _ (old : Option (List ℕ)) (w : List ℕ) (none : w ≡ []) (a b c text : List ℕ) (e : (a ++ b) ++ c ≡ text) where
+  written : {T E : Type 0} (new : Option (List ℕ)) (r : Result T E) → IsErr r → Stops old new (w ++ ((a ++ b) ++ c)) → Writes old new r text
+  written new r is p = writes_stops old new r text is (subst (λ t. Stops old new t) e (stops_whole old w new ((a ++ b) ++ c) none p))
+
+  pub first_stops : {T E : Type 0} (new : Option (List ℕ)) (r : Result T E) → IsErr r → Stops old new (w ++ a) → Writes old new r text
+  first_stops new r is p = written new r is (stops_before old w new (a ++ b) c (stops_before old w new a b p))
+
+  pub second_stops : {T E : Type 0} (mid : Option (List ℕ)) (w' : List ℕ) (new : Option (List ℕ)) (r : Result T E)
+      → IsErr r → Joins old w mid w' a → Stops mid new (w' ++ b) → Writes old new r text
+  second_stops mid w' new r is p q = written new r is (stops_before old w new (a ++ b) c (stops_after old w mid w' new a b p q))
+
+  pub third_stops : {T E : Type 0} (mid : Option (List ℕ)) (w' : List ℕ) (later : Option (List ℕ)) (w'' : List ℕ) (new : Option (List ℕ)) (r : Result T E)
+      → IsErr r → Joins old w mid w' a → Joins mid w' later w'' b → Stops later new (w'' ++ c) → Writes old new r text
+  third_stops mid w' later w'' new r is p q s =
+      written new r is (stops_after old w later w'' new (a ++ b) c (joins_more old w mid w' later w'' a b p q) s)
+
+  pub line_ends : {T E : Type 0} (mid : Option (List ℕ)) (w' : List ℕ) (later : Option (List ℕ)) (w'' : List ℕ) (last : Option (List ℕ)) (w''' : List ℕ) (new : Option (List ℕ)) (r : Result T E)
+      → Joins old w mid w' a → Joins mid w' later w'' b → Joins later w'' last w''' c → Writes last new r w''' → Writes old new r text
+  line_ends mid w' later w'' last w''' new r p q s end =
+      writes_whole old w last w''' new r text none
+      (subst (λ t. Joins old w last w''' t) e (joins_more old w later w'' last w''' (a ++ b) c (joins_more old w mid w' later w'' a b p q) s))
+      end

@@ -1,0 +1,5 @@
+pub mod Gathering
+pub mod Parts
+pub mod Listing
+pub mod Words
+pub mod Held

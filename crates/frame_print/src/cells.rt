@@ -1,0 +1,39 @@
+// The elements of an array or a list.
+ghost use Rattle.std.specs.Prelude.{◌≡◌, ◌<◌, ◌≤◌, ◌+◌, ◌^◌, OnOk, OnErr};
+ghost use Rattle.job_base.specs.Cells.{cell_list};
+ghost use Rattle.job_base.specs.Faults.{Rose};
+ghost use Rattle.job_base.specs.Forms.{AreAllowed};
+ghost use Rattle.frame_ast.specs.Texts.{numbers_text};
+ghost use Rattle.frame_print.specs.Gathering.{Gathers};
+
+use crate::outgoing::Outgoing;
+use job_base::{Mem, Sink, SinkFault, Word};
+
+impl Outgoing {
+    /// Puts the numbers of the cells from a word on.
+    pub(crate) fn put_cells<M: Mem, S: Sink>(
+        &mut self,
+        start: u32,
+        len: u32,
+        mem: &mut M,
+        sink: &mut S,
+    ) -> Result<(), SinkFault>
+        requires fits { start + len < 2 ^ 32 }
+        requires readable { AreAllowed start (start + len) (M.readable mem.old) }
+        ensures text { Gathers (S.taken sink.old) self.old (S.taken sink.new) self.new result (numbers_text (cell_list (M.cells mem.old) start len)) }
+        ensures count { OnOk result (S.faults sink.new ≡ S.faults sink.old) }
+        ensures cause { OnErr result (Rose (S.faults sink.old) (S.faults sink.new)) }
+        ensures later { S.faults sink.old ≤ S.faults sink.new }
+        ensures cells { M.cells mem.new ≡ M.cells mem.old }
+        ensures readable { M.readable mem.new ≡ M.readable mem.old }
+        ensures writable { M.writable mem.new ≡ M.writable mem.old }
+    {
+        self.put(b"[", sink)?;
+        for i in 0..len {
+            self.put_comma(i, sink)?;
+            let n = mem.load(Word(start + i));
+            self.put_signed(n, sink)?;
+        }
+        self.put(b"]", sink)
+    }
+}

@@ -1,0 +1,134 @@
+// Bytes on their way to a sink.
+ghost use Rattle.std.specs.Prelude.{◌≡◌, ◌≤◌, ◌+◌, ◌++◌, List, [], length, take, OnOk, OnErr};
+ghost use Rattle.std.specs.Fmt.{signed_decimal};
+ghost use Rattle.job_base.specs.Faults.{Rose};
+ghost use Rattle.job_base.specs.Texts.{Writes};
+ghost use Rattle.frame_print.specs.Gathering.{Gathers, joined, comma_before};
+
+use itoa::Buffer;
+use job_base::{Sink, SinkFault, write_text};
+use std::marker::Model;
+
+/// How many bytes wait at most.
+pub(crate) const ROOM: usize = 16_384;
+
+/// The bytes of a text that no sink has taken yet. They wait on the stack, so that a sink is called for thousands of
+/// bytes at a time.
+#[derive(Drop)]
+pub(crate) struct Outgoing {
+    bytes: [u8; ROOM],
+    len: usize,
+}
+
+impl Model for Outgoing {
+    ghost use Rattle.std.specs.Prelude.{ℕ, ◌≤◌, List, take};
+    ghost use Rattle.frame_print.specs.declared.outgoing.TheConstants.{ROOM};
+
+    ghost Value = { List ℕ };
+
+    ghost view = { λ o. take o.len o.bytes };
+
+    ghost invariant = { λ o. o.len ≤ ROOM };
+}
+
+impl Outgoing {
+    pub(crate) fn new() -> Outgoing
+        ensures { result ≡ [] }
+    {
+        Outgoing {
+            bytes: [0; ROOM],
+            len: 0,
+        }
+    }
+
+    // How many bytes wait.
+    fn len(&self) -> usize
+        ensures len { result ≡ length self.now }
+        ensures most { result ≤ ROOM }
+    {
+        self.len
+    }
+
+    // Lets a part wait for which there is room.
+    fn keep(&mut self, part: &[u8])
+        requires { length self.old + length part.now ≤ ROOM }
+        ensures { self.new ≡ self.old ++ part.now }
+    {
+        let end = self.len + part.len();
+        self.bytes[self.len..end].copy_from_slice(part);
+        self.len = end;
+    }
+
+    /// Hands the bytes that wait to the sink.
+    pub(crate) fn flush<S: Sink>(&mut self, sink: &mut S) -> Result<(), SinkFault>
+        ensures text { Writes (S.taken sink.old) (S.taken sink.new) result self.old }
+        ensures none { OnOk result (self.new ≡ []) }
+        ensures count { OnOk result (S.faults sink.new ≡ S.faults sink.old) }
+        ensures cause { OnErr result (Rose (S.faults sink.old) (S.faults sink.new)) }
+        ensures later { S.faults sink.old ≤ S.faults sink.new }
+    {
+        write_text(&self.bytes[..self.len], sink)?;
+        self.len = 0;
+        Ok(())
+    }
+
+    /// Puts a part of the text behind what waits.
+    pub(crate) fn put<S: Sink>(&mut self, part: &[u8], sink: &mut S) -> Result<(), SinkFault>
+        ensures text { Gathers (S.taken sink.old) self.old (S.taken sink.new) self.new result part.now }
+        ensures count { OnOk result (S.faults sink.new ≡ S.faults sink.old) }
+        ensures cause { OnErr result (Rose (S.faults sink.old) (S.faults sink.new)) }
+        ensures later { S.faults sink.old ≤ S.faults sink.new }
+    {
+        if part.len() <= ROOM - self.len() {
+            self.keep(part);
+            return Ok(());
+        }
+        self.flush(sink)?;
+        if part.len() <= ROOM {
+            self.keep(part);
+            return Ok(());
+        }
+        write_text(part, sink)
+    }
+
+    /// Puts some parts of the text, one behind the other.
+    pub(crate) fn put_all<S: Sink>(
+        &mut self,
+        parts: &[&[u8]],
+        sink: &mut S,
+    ) -> Result<(), SinkFault>
+        ensures text { Gathers (S.taken sink.old) self.old (S.taken sink.new) self.new result (joined parts.now) }
+        ensures count { OnOk result (S.faults sink.new ≡ S.faults sink.old) }
+        ensures cause { OnErr result (Rose (S.faults sink.old) (S.faults sink.new)) }
+        ensures later { S.faults sink.old ≤ S.faults sink.new }
+    {
+        for part in parts {
+            self.put(part, sink)?;
+        }
+        Ok(())
+    }
+
+    /// Puts what comes before a place of a list.
+    pub(crate) fn put_comma<S: Sink>(&mut self, place: u32, sink: &mut S) -> Result<(), SinkFault>
+        ensures text { Gathers (S.taken sink.old) self.old (S.taken sink.new) self.new result (comma_before place) }
+        ensures count { OnOk result (S.faults sink.new ≡ S.faults sink.old) }
+        ensures cause { OnErr result (Rose (S.faults sink.old) (S.faults sink.new)) }
+        ensures later { S.faults sink.old ≤ S.faults sink.new }
+    {
+        if place == 0 {
+            return Ok(());
+        }
+        self.put(b", ", sink)
+    }
+
+    /// Puts a number.
+    pub(crate) fn put_signed<S: Sink>(&mut self, n: i64, sink: &mut S) -> Result<(), SinkFault>
+        ensures text { Gathers (S.taken sink.old) self.old (S.taken sink.new) self.new result (signed_decimal n) }
+        ensures count { OnOk result (S.faults sink.new ≡ S.faults sink.old) }
+        ensures cause { OnErr result (Rose (S.faults sink.old) (S.faults sink.new)) }
+        ensures later { S.faults sink.old ≤ S.faults sink.new }
+    {
+        let mut digits = Buffer::new();
+        self.put(digits.format(n).as_bytes(), sink)
+    }
+}
