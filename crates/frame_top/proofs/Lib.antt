@@ -8,7 +8,6 @@ pub mod Filling
 pub mod Jobs
 pub mod Known
 pub mod Leaving
-pub mod Loops
 pub mod Making
 pub mod Printing
 pub mod Ready

@@ -9,7 +9,6 @@ mod arrays;
 mod job;
 mod lines;
 mod prepare;
-mod print;
 #[cfg(test)]
 mod tests;
 mod top;

@@ -6,9 +6,10 @@ ghost use Rattle.frame_ast.specs.Orders.{no_table};
 ghost use Rattle.frame_ast.specs.Scripts.{status_of, output_of};
 ghost use Rattle.frame_top.specs.Progress.{CanPrint};
 
-use crate::print::print_array;
 use frame_ast::script::{Order, Script};
+use frame_print::print_container;
 use job_base::{Mem, Sink, SinkFault};
+use kernel_exec::Bind;
 use native_array::ArrayAt;
 
 /// Prints what a script prints, where only the prints from `from` on are left. It takes no memory.
@@ -31,7 +32,7 @@ pub fn print_lines<M: Mem, S: Sink>(
         };
         let at = arrays[*name as usize];
         let text = script.names[*name as usize].as_bytes();
-        match print_array(text, at.start, at.len, mem, sink) {
+        match print_container(text, &Bind::Array { at, own: 0 }, mem, sink) {
             Ok(()) => {}
             Err(fault) => return Err(fault),
         }
