@@ -16,7 +16,8 @@ use crate::lines::print_lines;
 use crate::prepare::{Prepared, prepare};
 use crate::words::script_name;
 use frame_ast::script::Script;
-use job_base::{FileFault, Files, Gate, Sink, write_text};
+use frame_print::print_text;
+use job_base::{FileFault, Files, Gate, Sink};
 use plain_script::{LoadFault, read_script};
 use std::alloc::Global;
 
@@ -29,7 +30,7 @@ fn say<S: Sink>(status: u8, text: &[u8], sink: &mut S) -> u8
     ensures later { S.faults sink.old ≤ S.faults sink.new }
     ensures told { Told (S.taken sink.old) (S.taken sink.new) (S.faults sink.old) (S.faults sink.new) status text.now result }
 {
-    match write_text(text, sink) {
+    match print_text(text, sink) {
         Ok(()) => status,
         Err(_) => 7,
     }
