@@ -7,3 +7,7 @@ pub mod Rights
 pub mod Loops
 pub mod Parts
 pub mod Ends
+pub mod Pairs
+pub mod Using
+pub mod Touching
+pub mod Footprints

@@ -58,7 +58,7 @@ uses_word (Ref at) from to w u = u
 uses_word (Map at) from to w u = u
 uses_word (Stream at own) from to w u = let h = in_stream at u.index w u.within u.start u.end in record { from = h.from; below = h.below }
 
-length_word_of : (b : Bind) (w : ℕ) → IsLength b w → IsWordOf b w
+pub length_word_of : (b : Bind) (w : ℕ) → IsLength b w → IsWordOf b w
 length_word_of (Int z) w u = absurd u
 length_word_of (Array at own) w u = absurd u
 length_word_of (View at own) w u = record { from = omega (arith, u); below = omega (arith, u) }
@@ -82,7 +82,7 @@ list_element at cells k i e =
     let within : len_words at cells ≤ at.cap = length_within at.cap (cells at.start) in
     record { from = omega arith; below = omega arith }
 
-param_met : (d : Demand) (o : Option Param) → IsTrue (param_meets d o) → (p : Param) × (o ≡ Some p)
+pub param_met : (d : Demand) (o : Option Param) → IsTrue (param_meets d o) → (p : Param) × (o ≡ Some p)
 param_met d None h = cc
 param_met d (Some p) h = (p, refl)
 
@@ -107,7 +107,7 @@ written params x d w h = by (slice_get params x) h
     by (Some p) h = writes_access d p.access w (and_right (kind_meets d p.kind) _ h)
 
 -- a stream that is read is only read
-only_read : (k : ParamKind) (p : Param) → IsTrue (kind_meets read_stream k) → IsTrue (access_meets read_stream p.access) → IsTrue (kind_fits p k) → is_read p.access ≡ true
+pub only_read : (k : ParamKind) (p : Param) → IsTrue (kind_meets read_stream k) → IsTrue (access_meets read_stream p.access) → IsTrue (kind_fits p k) → is_read p.access ≡ true
 only_read IntKind p k a f = cc
 only_read ArrayKind p k a f = cc
 only_read ListKind p k a f = cc
@@ -188,7 +188,7 @@ may_remove at cells i readable writable r h =
     }
 
 -- what is cleared is a list or a map
-not_stream : (k : ParamKind) → IsTrue (kind_meets clearable k) → k ≢ StreamKind
+pub not_stream : (k : ParamKind) → IsTrue (kind_meets clearable k) → k ≢ StreamKind
 not_stream IntKind h e = cc
 not_stream ArrayKind h e = cc
 not_stream ListKind h e = cc

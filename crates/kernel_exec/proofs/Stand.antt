@@ -51,7 +51,7 @@ still (Map at) old new c h same = still_stands at old new (λ w lo hi. same w (r
 still (Stream at own) old new c h same = stream_decides.same at old new c (λ w lo hi. same w (record { from = lo; below = hi })) h
 
 -- the parameter that may be written has a bind
-param_of : (o : Option Param) → IsTrue (written_param o) → (p : Param) × (o ≡ Some p) × (is_read p.access ≡ false)
+pub param_of : (o : Option Param) → IsTrue (written_param o) → (p : Param) × (o ≡ Some p) × (is_read p.access ≡ false)
 param_of None h = cc
 param_of (Some p) h = (p, refl, reads (is_read p.access) h)
   where

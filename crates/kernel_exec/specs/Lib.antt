@@ -4,3 +4,4 @@ pub mod Layout
 pub mod Words
 pub mod Conditions
 pub mod Runs
+pub mod Laws
