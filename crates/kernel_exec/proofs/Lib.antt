@@ -11,3 +11,5 @@ pub mod Pairs
 pub mod Using
 pub mod Touching
 pub mod Footprints
+pub mod Pieces
+pub mod Apart

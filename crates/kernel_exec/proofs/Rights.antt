@@ -11,7 +11,7 @@ use Rattle.frame_ast.specs.declared.kernel.Param.{Param}
 use Rattle.frame_ast.specs.declared.kernel.Kernel.{Kernel}
 use Rattle.frame_ast.specs.Contents.{place_in}
 use Rattle.frame_ast.specs.Arguments.{owns}
-use Rattle.frame_ast.specs.Checked.{Demand, nothing, kind_meets, access_meets, param_meets, meets, has_length, read_stream, clearable, is_read, is_both, kind_fits, param_fits, may_write, written_param}
+use Rattle.frame_ast.specs.Checked.{Demand, nothing, kind_meets, access_meets, param_meets, meets, has_length, read_stream, clearable, is_read, is_both, kind_fits, param_fits, may_write, written_param, IsChecked}
 use Rattle.frame_ast.proofs.Simulation.{and_left, and_right}
 use Rattle.native_array.specs.declared.array.ArrayAt.{ArrayAt}
 use Rattle.native_list.specs.declared.ListAt.{ListAt}
@@ -24,12 +24,12 @@ use Rattle.native_stream.specs.Layout.{mark_word, index_end}
 use Rattle.native_stream.proofs.Places.{in_place, row_before}
 use Rattle.kernel_exec.specs.declared.binds.Bind.{Bind}
 use Rattle.kernel_exec.specs.declared.binds.Bind.TheVariants.{Int, Array, View, List as WholeList, Ref, Map, Stream}
-use Rattle.kernel_exec.specs.Binds.{end_of, IsWordOf, width_if, bind_at, kind_of}
-use Rattle.kernel_exec.specs.Footprint.{Own, Uses, IsLength, ReadsBy, WritesBy}
+use Rattle.kernel_exec.specs.Binds.{end_of, IsWordOf, width_if, no_bind, bind_at, kind_of}
+use Rattle.kernel_exec.specs.Footprint.{Own, Uses, IsLength, ReadsBy, WritesBy, IsRead, IsWritten}
 use Rattle.kernel_exec.specs.Conditions.{BindsFit, IsCall, IsBegun}
 use Rattle.kernel_exec.specs.Words.{clear_word}
-use Rattle.kernel_exec.proofs.AtBinds.{bind_here}
-use Rattle.kernel_exec.proofs.Stand.{each_of}
+use Rattle.kernel_exec.proofs.AtBinds.{bind_is, bind_none, bind_here}
+use Rattle.kernel_exec.proofs.Stand.{each_of, param_of, written_bind}
 
 -- a place that an index owns is one that the indexes up to it own
 own_place : (width index k : ℕ) → IsTrue (owns width index (pos k)) → Own width index (index + 1) k
@@ -58,7 +58,7 @@ uses_word (Ref at) from to w u = u
 uses_word (Map at) from to w u = u
 uses_word (Stream at own) from to w u = let h = in_stream at u.index w u.within u.start u.end in record { from = h.from; below = h.below }
 
-pub length_word_of : (b : Bind) (w : ℕ) → IsLength b w → IsWordOf b w
+length_word_of : (b : Bind) (w : ℕ) → IsLength b w → IsWordOf b w
 length_word_of (Int z) w u = absurd u
 length_word_of (Array at own) w u = absurd u
 length_word_of (View at own) w u = record { from = omega (arith, u); below = omega (arith, u) }
@@ -107,7 +107,7 @@ written params x d w h = by (slice_get params x) h
     by (Some p) h = writes_access d p.access w (and_right (kind_meets d p.kind) _ h)
 
 -- a stream that is read is only read
-pub only_read : (k : ParamKind) (p : Param) → IsTrue (kind_meets read_stream k) → IsTrue (access_meets read_stream p.access) → IsTrue (kind_fits p k) → is_read p.access ≡ true
+only_read : (k : ParamKind) (p : Param) → IsTrue (kind_meets read_stream k) → IsTrue (access_meets read_stream p.access) → IsTrue (kind_fits p k) → is_read p.access ≡ true
 only_read IntKind p k a f = cc
 only_read ArrayKind p k a f = cc
 only_read ListKind p k a f = cc
@@ -120,43 +120,66 @@ only_read StreamKind p k a f = by p.access a f
     by WriteOnly a f = cc
     by Both a f = cc
 
-module _ (kernel : Kernel) (binds : List Bind) (index : ℕ) (may_load may_store : ℕ → Bool) (call : IsCall kernel binds index may_load may_store) (x : ℕ) (b : Bind) (is : b ≡ bind_at binds x) (inside : x < length kernel.params.items) where
-  bind : slice_get binds x ≡ Some b
-  bind = let n = call.fit.count in bind_here binds x (omega arith) ∙ ap Some (sym is)
+param_at : (params : List Param) (x : ℕ) → x < length params → (p : Param) × (slice_get params x ≡ Some p)
+param_at [] x h = absurd (omega arith)
+param_at (p ∷ more) zero h = (p, refl)
+param_at (p ∷ more) (suc x) h = param_at more x (omega arith)
 
-  param : (p : Param) × (slice_get kernel.params.items x ≡ Some p)
-  param = at kernel.params.items x inside
+module _ (kernel : Kernel) (binds : List Bind) (index : ℕ) (checked : IsChecked kernel) (fit : BindsFit kernel binds) where
+  abbrev params : List Param
+  params = kernel.params.items
+
+  -- ---- the words of a bind are in the footprint
+
+  reads : (r : Bool) (b : Bind) (w : ℕ) → Uses b index (index + 1) w ⊎ IsLength b w → ReadsBy r b index (index + 1) w
+  reads true b w (inl u) = uses_word b index (index + 1) w u
+  reads true b w (inr u) = length_word_of b w u
+  reads false b w u = u
+
+  -- a parameter without a bind has no word
+  no_word : (w : ℕ) → Uses no_bind index (index + 1) w ⊎ IsLength no_bind w → ⊥
+  no_word w (inl u) = let h = u.within in absurd (omega arith)
+  no_word w (inr u) = absurd u
+
+  pub read_word : (x w : ℕ) → Uses (bind_at binds x) index (index + 1) w ⊎ IsLength (bind_at binds x) w → IsRead params binds index (index + 1) w
+  read_word x w u = by (slice_get binds x) refl
     where
-      at : (ps : List Param) (x : ℕ) → x < length ps → (p : Param) × (slice_get ps x ≡ Some p)
-      at [] x h = absurd (omega arith)
-      at (p ∷ ps) zero h = (p, refl)
-      at (p ∷ ps) (suc x) h = at ps x (omega arith)
+      by : (o : Option Bind) → slice_get binds x ≡ o → IsRead params binds index (index + 1) w
+      by None e = absurd (no_word w (subst (λ b. Uses b index (index + 1) w ⊎ IsLength b w) (bind_none binds x e) u))
+      by (Some b) e =
+          let inside = slice_get_within binds x b e in
+          let n = fit.count in
+          let p = param_at params x (omega arith) in
+          record { number = x; param = p.0; bind = b; has_param = p.1; has_bind = e; reads = reads (is_read p.0.access) b w (subst (λ b. Uses b index (index + 1) w ⊎ IsLength b w) (bind_is binds x b e) u) }
 
+  -- a stream that is read is read whole
+  pub stream_word : (x w : ℕ) → IsTrue (meets params x read_stream) → IsWordOf (bind_at binds x) w → IsRead params binds index (index + 1) w
+  stream_word x w h i =
+      let p = param_met read_stream (slice_get params x) h in
+      let inside = slice_get_within params x p.0 p.1 in
+      let n = fit.count in
+      let met : IsTrue (param_meets read_stream (Some p.0)) = subst (λ o. IsTrue (param_meets read_stream o)) p.1 h in
+      let fits = each_of param_fits params x p.0 checked.params p.1 in
+      let only = only_read p.0.kind p.0 (and_left _ _ met) (and_right (kind_meets read_stream p.0.kind) _ met) (and_left (kind_fits p.0 p.0.kind) _ fits) in
+      record { number = x; param = p.0; bind = bind_at binds x; has_param = p.1; has_bind = bind_here binds x (omega arith); reads = subst (λ r. ReadsBy r (bind_at binds x) index (index + 1) w) (sym only) i }
+
+  pub written_word : (x w : ℕ) → IsTrue (may_write params x) → Uses (bind_at binds x) index (index + 1) w → IsWritten params binds index (index + 1) w
+  written_word x w may u =
+      let p = param_of (slice_get params x) may in
+      record { number = x; param = p.0; bind = bind_at binds x; has_param = p.1; has_bind = written_bind kernel binds fit x may; writes = subst (λ r. WritesBy r (bind_at binds x) index (index + 1) w) (sym p.2) u }
+
+module _ (kernel : Kernel) (binds : List Bind) (index : ℕ) (may_load may_store : ℕ → Bool) (call : IsCall kernel binds index may_load may_store) (x : ℕ) (b : Bind) (is : b ≡ bind_at binds x) (inside : x < length kernel.params.items) where
   pub fits : end_of b < 2 ^ 32
-  fits = call.fit.ends x b bind
-
-  reads : (r : Bool) (w : ℕ) → Uses b index (index + 1) w ⊎ IsLength b w → ReadsBy r b index (index + 1) w
-  reads true w (inl u) = uses_word b index (index + 1) w u
-  reads true w (inr u) = length_word_of b w u
-  reads false w u = u
+  fits = let n = call.fit.count in call.fit.ends x b (bind_here binds x (omega arith) ∙ ap Some (sym is))
 
   pub may_use : (w : ℕ) → Uses b index (index + 1) w ⊎ IsLength b w → IsTrue (may_load w)
-  may_use w u = call.loads w (record { number = x; param = param.0; bind = b; has_param = param.1; has_bind = bind; reads = reads (is_read param.0.access) w u })
+  may_use w u = call.loads w (read_word kernel binds index call.checked call.fit x w (subst (λ b. Uses b index (index + 1) w ⊎ IsLength b w) is u))
 
   pub may_read_stream : IsTrue (meets kernel.params.items x read_stream) → (w : ℕ) → IsWordOf b w → IsTrue (may_load w)
-  may_read_stream h w i =
-      let met : IsTrue (param_meets read_stream (Some param.0)) = subst (λ o. IsTrue (param_meets read_stream o)) param.1 h in
-      let fit = each_of param_fits kernel.params.items x param.0 call.checked.params param.1 in
-      let only = only_read param.0.kind param.0 (and_left _ _ met) (and_right (kind_meets read_stream param.0.kind) _ met) (and_left (kind_fits param.0 param.0.kind) _ fit) in
-      call.loads w (record { number = x; param = param.0; bind = b; has_param = param.1; has_bind = bind; reads = subst (λ r. ReadsBy r b index (index + 1) w) (sym only) i })
-
-  writes : (r : Bool) → IsTrue (not r) → (w : ℕ) → Uses b index (index + 1) w → WritesBy r b index (index + 1) w
-  writes true h w u = cc
-  writes false h w u = u
+  may_read_stream h w i = call.loads w (stream_word kernel binds index call.checked call.fit x w h (subst (λ b. IsWordOf b w) is i))
 
   pub may_change : IsTrue (may_write kernel.params.items x) → (w : ℕ) → Uses b index (index + 1) w → IsTrue (may_store w)
-  may_change h w u =
-      call.stores w (record { number = x; param = param.0; bind = b; has_param = param.1; has_bind = bind; writes = writes (is_read param.0.access) (subst (λ o. IsTrue (written_param o)) param.1 h) w u })
+  may_change h w u = call.stores w (written_word kernel binds index call.checked call.fit x w h (subst (λ b. Uses b index (index + 1) w) is u))
 
 -- the parameter of a `len` is one
 pub has_length_param : (params : List Param) (x : ℕ) → IsTrue (has_length params x) → x < length params
