@@ -12,6 +12,7 @@ pub mod Sentences
 pub mod Readings
 pub mod Blocks
 pub mod Kernels
+pub mod Names
 pub mod Parts
 pub mod Meanings
 pub mod Expressions

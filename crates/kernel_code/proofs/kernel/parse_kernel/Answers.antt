@@ -1,4 +1,5 @@
 use Rattle.std.proofs.Common.{◌<◌, ◌≤◌, ◌-◌, length, take, drop, length-drop, sym, ◌∙◌, ap, subst, arith}
+use Rattle.kernel_code.proofs.Names.{names_stand}
 use Rattle.std.proofs.lemmas.List.{length-map}
 use Rattle.frame_grammar.specs.Sentences.{IsEnded}
 use Rattle.kernel_code.specs.declared.token.Token.{Token}
