@@ -1,5 +1,5 @@
 -- Each name of which the events of a sentence tell stands at a token that is a name.
-use Rattle.std.proofs.Common.{◌≡◌, ℕ, zero, suc, ◌+◌, Bool, true, false, ◌&&◌, List, [], ◌∷◌, ◌++◌, length, take, Option, Some, None, refl, sym, ◌∙◌, ap, subst, arith}
+use Rattle.std.proofs.Common.{◌≡◌, ℕ, zero, suc, ◌+◌, Bool, true, false, ◌&&◌, List, [], ◌∷◌, ◌++◌, take, drop, Option, Some, None, refl, sym, ◌∙◌, ap, subst, arith}
 use Rattle.std.specs.Prelude.{slice_get}
 use Rattle.frame_grammar.specs.declared.TokenKind.{TokenKind}
 use Rattle.frame_grammar.specs.declared.TokenKind.TheVariants.{Name}
@@ -11,7 +11,7 @@ use Rattle.frame_grammar.specs.declared.symbols.Symbol.TheVariants as symbol
 use Rattle.frame_grammar.specs.declared.symbols.Action.{Action}
 use Rattle.frame_grammar.specs.declared.symbols.Action.TheVariants as action
 use Rattle.frame_grammar.specs.declared.symbols.Event.{Event}
-use Rattle.frame_grammar.specs.Grammar.{head_of, body_of, Derives, nothing as d-nothing, terminal as d-terminal, action as d-action, expanded}
+use Rattle.frame_grammar.specs.Grammar.{body_of, Derives, nothing as d-nothing, terminal as d-terminal, action as d-action, expanded}
 use Rattle.frame_grammar.specs.Sentences.{IsOnlySentence}
 use Rattle.frame_grammar.proofs.Theory.{and_left, and_right, both}
 use Rattle.kernel_code.specs.Legible.{NamesStand}
@@ -98,15 +98,30 @@ derived (d-action {n = n} {ss = ss} {ks = ks} a d) e zero event is named =
 derived (d-action {ss = ss} a d) e (suc k) event is named = derived d (and_right (passes a (begins ss)) _ e) k event is named
 derived (expanded {ss = ss} p own d) e k event is named = derived d (joined (body_of p) ss (rules_pass p) e) k event is named
 
-among_first : (n : ℕ) (ks : List TokenKind) (j : ℕ) (kind : TokenKind) → slice_get (take n ks) j ≡ Some kind → slice_get ks j ≡ Some kind
-among_first zero ks j kind is = cc
-among_first (suc n) [] j kind is = cc
-among_first (suc n) (k ∷ ks) zero kind is = is
-among_first (suc n) (k ∷ ks) (suc j) kind is = among_first n ks j kind is
+among_first : {A : Type 0} (n : ℕ) (xs : List A) (j : ℕ) (x : A) → slice_get (take n xs) j ≡ Some x → slice_get xs j ≡ Some x
+among_first zero xs j x is = cc
+among_first (suc n) [] j x is = cc
+among_first (suc n) (y ∷ xs) zero x is = is
+among_first (suc n) (y ∷ xs) (suc j) x is = among_first n xs j x is
+
+among_others : {A : Type 0} (n : ℕ) (xs : List A) (j : ℕ) (x : A) → slice_get (drop n xs) j ≡ Some x → (k : ℕ) × (slice_get xs k ≡ Some x)
+among_others zero xs j x is = (j, is)
+among_others (suc n) [] j x is = cc
+among_others (suc n) (y ∷ xs) j x is = let at = among_others n xs j x is in (suc at.0, at.1)
+
+from_none : (j place : ℕ) → place ≡ 0 + j → place ≡ j
+from_none j place e = omega arith
 
 -- each name of which the events of a sentence tell stands at a token that is a name
 pub names_stand : (start : Nonterminal) (kinds : List TokenKind) (read : ℕ) (events : List Event) → IsOnlySentence start kinds read events → NamesStand kinds events
 names_stand start kinds read events found k event is named =
     let at = derived found.sentence refl k event is named in
-    among_first read kinds event.place Name (subst (λ j. slice_get (take read kinds) j ≡ Some Name) (sym at.1) at.2)
+    among_first read kinds event.place Name (subst (λ j. slice_get (take read kinds) j ≡ Some Name) (sym (from_none at.0 event.place at.1)) at.2)
 
+
+-- so they do for events that are some of those
+pub names_stand-take : (kinds : List TokenKind) (n : ℕ) (events : List Event) → NamesStand kinds events → NamesStand kinds (take n events)
+names_stand-take kinds n events stand k event is named = stand k event (among_first n events k event is) named
+
+pub names_stand-drop : (kinds : List TokenKind) (n : ℕ) (events : List Event) → NamesStand kinds events → NamesStand kinds (drop n events)
+names_stand-drop kinds n events stand k event is named = let at = among_others n events k event is in stand at.0 event at.1 named
