@@ -13,6 +13,7 @@ pub mod Readings
 pub mod Blocks
 pub mod Kernels
 pub mod Names
+pub mod NameTexts
 pub mod Parts
 pub mod Meanings
 pub mod Expressions

@@ -104,7 +104,7 @@ among_first (suc n) [] j x is = cc
 among_first (suc n) (y ∷ xs) zero x is = is
 among_first (suc n) (y ∷ xs) (suc j) x is = among_first n xs j x is
 
-among_others : {A : Type 0} (n : ℕ) (xs : List A) (j : ℕ) (x : A) → slice_get (drop n xs) j ≡ Some x → (k : ℕ) × (slice_get xs k ≡ Some x)
+pub among_others : {A : Type 0} (n : ℕ) (xs : List A) (j : ℕ) (x : A) → slice_get (drop n xs) j ≡ Some x → (k : ℕ) × (slice_get xs k ≡ Some x)
 among_others zero xs j x is = (j, is)
 among_others (suc n) [] j x is = cc
 among_others (suc n) (y ∷ xs) j x is = let at = among_others n xs j x is in (suc at.0, at.1)

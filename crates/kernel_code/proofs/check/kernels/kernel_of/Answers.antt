@@ -14,12 +14,12 @@ returns c =
     let resolved = subst (λ ms. IsResolved raw ms) (sym c.deref.ensures.value) c.requires.resolved in
     let body : (events : List Event) (s : SpellsRaw events raw) → BlockOf raw 0 s.body c.in_ok-statements.statements.items =
     λ events s. c.in_ok-statements.ensures resolved None s.body (body-here events raw s) (omega (arith, body-size events raw s)) in
-    let spells = c.requires.raw.spells in
+    let spells = c.requires.raw.is_raw.spells in
     record {
       kernel = record { name = c.in_ok-name.ensures; parallel = refl; params = c.in_ok-params.ensures; locals = c.requires.locals; body = body };
       limits = record {
         params = let same = ap length c.in_ok-params.ensures in let few = few-params raw c.requires.params in omega (arith, length-map c.in_ok-params.params.items param_text, length-map raw.params.items (raw_param_text raw));
         locals = c.requires.few;
-        nodes = let count = block-count (body c.requires.raw.events spells) in let few = few-nodes raw c.requires.resolved.faultless in omega (arith, body-size c.requires.raw.events raw spells);
+        nodes = let count = block-count (body c.requires.raw.is_raw.events spells) in let few = few-nodes raw c.requires.resolved.faultless in omega (arith, body-size c.requires.raw.is_raw.events raw spells);
       };
     }
