@@ -30,3 +30,9 @@ pub mod BuiltStatements
 pub mod BuiltKernels
 pub mod Counting
 pub mod Passing
+pub mod FittingNames
+pub mod FittingStreams
+pub mod FittingExpressions
+pub mod FittingBlocks
+pub mod FittingStatements
+pub mod Fitting
