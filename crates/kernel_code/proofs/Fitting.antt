@@ -1,5 +1,5 @@
 -- A kernel that is a raw kernel without faults fits: its numbers name parameters and locals that fit where they stand.
-use Rattle.std.proofs.Common.{ℕ, zero, suc, ◌≡◌, IsTrue, List, [], ◌∷◌, map, length, Option, Some, None, slice_get, refl, ap, sym, subst, ◌∙◌, arith}
+use Rattle.std.proofs.Common.{ℕ, zero, suc, ◌≡◌, IsTrue, List, [], map, length, Some, None, slice_get, refl, ap, subst, ◌∙◌, arith}
 use Rattle.job_base.specs.declared.Access.TheVariants.{Read}
 use Rattle.frame_grammar.specs.declared.symbols.Event.{Event}
 use Rattle.frame_ast.specs.declared.kernel.ParamKind.TheVariants as kind

@@ -1,7 +1,6 @@
 -- Which streams are open in the blocks of a statement and behind it.
 use Rattle.std.proofs.Common.{ℕ, ◌≡◌, ◌≤◌, ◌+◌, true, false, List, ◌∷◌, Option, Some, slice_get, refl, arith}
 use Rattle.kernel_code.specs.declared.raw.RawForm.{RawForm}
-use Rattle.kernel_code.specs.declared.raw.RawForm.TheVariants as form
 use Rattle.kernel_code.specs.declared.raw.RawNode.{RawNode}
 use Rattle.kernel_code.specs.declared.raw.RawKernel.{RawKernel}
 use Rattle.kernel_code.specs.Raw.{RawExpr, RawBlock, expr_size, parts_size, block_size, statement_node}

@@ -1,6 +1,6 @@
 -- Expressions without faults fit.
-use Rattle.std.proofs.Common.{ℕ, ◌≡◌, ◌<◌, ◌+◌, Bool, true, false, not, IsTrue, cond, ltb, List, map, length, Option, Some, None, slice_get, refl, ap, sym, subst, ◌∙◌, arith}
-use Rattle.std.specs.Prelude.{◌&&◌, ◌||◌, nat_lt}
+use Rattle.std.proofs.Common.{ℕ, ◌≡◌, ◌<◌, Bool, true, false, not, IsTrue, cond, List, map, length, Some, None, slice_get, refl, ap, ◌∙◌, arith}
+use Rattle.std.specs.Prelude.{◌||◌, nat_lt}
 use Rattle.std.proofs.lemmas.Bool.{and_from}
 use Rattle.std.proofs.lemmas.Bool.Decides.{nat_tests}
 use Rattle.job_base.specs.declared.Access.{Access}
@@ -10,8 +10,7 @@ use Rattle.frame_ast.specs.declared.kernel.Param.{Param}
 use Rattle.frame_ast.specs.declared.kernel.ParamKind.{ParamKind}
 use Rattle.frame_ast.specs.declared.kernel.ParamKind.TheVariants as kind
 use Rattle.frame_ast.specs.declared.kernel.Expr.{Expr}
-use Rattle.frame_ast.specs.Checked.{Demand, nothing, kind_meets, a_value, read_elements, read_map, read_stream, written_value, meets, has_length, expr_fits}
-use Rattle.kernel_code.specs.declared.raw.RawForm.{RawForm}
+use Rattle.frame_ast.specs.Checked.{nothing, kind_meets, a_value, read_elements, read_map, read_stream, written_value, meets, has_length, expr_fits}
 use Rattle.kernel_code.specs.declared.raw.RawForm.TheVariants as form
 use Rattle.kernel_code.specs.declared.raw.RawNode.{RawNode}
 use Rattle.kernel_code.specs.declared.raw.RawParam.{RawParam}

@@ -1,5 +1,5 @@
 -- A name without a fault stands for what its form needs.
-use Rattle.std.proofs.Common.{ℕ, zero, suc, ◌≡◌, ◌≤◌, ◌<◌, ◌+◌, Bool, true, false, not, IsTrue, cond, List, [], ◌∷◌, ◌++◌, map, length, take, Option, Some, None, slice_get, refl, ap, sym, subst, ◌∙◌, arith}
+use Rattle.std.proofs.Common.{ℕ, zero, suc, ◌≡◌, ◌≤◌, ◌<◌, ◌+◌, Bool, true, false, not, IsTrue, cond, List, [], ◌∷◌, map, length, take, Option, Some, None, slice_get, refl, ap, sym, subst, ◌∙◌, arith}
 use Rattle.std.specs.Prelude.{◌&&◌, option_map}
 use Rattle.std.specs.Str.{bytes_eq}
 use Rattle.std.proofs.lemmas.List.{length-append}
@@ -9,7 +9,6 @@ use Rattle.job_base.specs.declared.Access.TheVariants.{Read, Write as WriteOnly,
 use Rattle.frame_ast.specs.declared.kernel.FaultKind.{FaultKind}
 use Rattle.frame_ast.specs.declared.kernel.Param.{Param}
 use Rattle.frame_ast.specs.declared.kernel.ParamKind.{ParamKind}
-use Rattle.frame_ast.specs.declared.kernel.ParamKind.TheVariants as kind
 use Rattle.frame_ast.specs.Checked.{Demand, kind_meets, access_meets, param_meets, meets}
 use Rattle.kernel_code.specs.declared.raw.RawForm.{RawForm}
 use Rattle.kernel_code.specs.declared.raw.RawNode.{RawNode}
@@ -18,7 +17,7 @@ use Rattle.kernel_code.specs.declared.raw.RawKernel.{RawKernel}
 use Rattle.kernel_code.specs.declared.check.names.Named.{Named}
 use Rattle.kernel_code.specs.declared.check.names.Named.TheVariants.{Parameter, Variable, LoopVariable}
 use Rattle.kernel_code.specs.declared.check.names.Local.{Local}
-use Rattle.kernel_code.specs.StaticFaults.{text_at, declares, local_of, local_if, locals_from, locals_before, locals_of, or_else, as_local, in_scope, local_among, parameter, meaning_of, is_begun, demand_of, access_fault, demand_fault, block_fault, param_fault_of, use_fault, used_fault}
+use Rattle.kernel_code.specs.StaticFaults.{text_at, declares, local_of, local_if, locals_from, locals_before, locals_of, or_else, as_local, in_scope, local_among, parameter, is_begun, demand_of, access_fault, demand_fault, block_fault, param_fault_of, use_fault, used_fault}
 use Rattle.kernel_code.specs.Known.{number_named}
 use Rattle.kernel_code.specs.Trees.{IsParameter, IsVariable, IsLoopVariable, param_text, raw_param_text}
 use Rattle.kernel_code.proofs.NoFaults.{lowest-none}

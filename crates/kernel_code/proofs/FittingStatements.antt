@@ -1,8 +1,7 @@
 -- Statements without faults fit where they stand.
-use Rattle.std.proofs.Common.{ℕ, ◌≡◌, ◌≤◌, ◌<◌, ◌+◌, Bool, true, false, not, IsTrue, cond, List, [], ◌∷◌, map, length, Option, Some, None, slice_get, refl, ap, sym, subst, ◌∙◌, arith}
-use Rattle.std.specs.Prelude.{◌&&◌, nat_lt}
+use Rattle.std.proofs.Common.{ℕ, ◌≡◌, ◌≤◌, ◌<◌, ◌+◌, Bool, true, false, not, IsTrue, List, [], ◌∷◌, map, Option, Some, None, slice_get, refl, ap, sym, subst, ◌∙◌, arith}
+use Rattle.std.specs.Prelude.{nat_lt}
 use Rattle.std.proofs.lemmas.Bool.{and_from}
-use Rattle.frame_ast.specs.declared.kernel.FaultKind.TheVariants.{KindMismatch}
 use Rattle.frame_ast.specs.declared.kernel.Param.{Param}
 use Rattle.frame_ast.specs.declared.kernel.ParamKind.{ParamKind}
 use Rattle.frame_ast.specs.declared.kernel.Expr.{Expr}
@@ -15,12 +14,12 @@ use Rattle.kernel_code.specs.declared.raw.RawForm.{RawForm}
 use Rattle.kernel_code.specs.declared.raw.RawForm.TheVariants as form
 use Rattle.kernel_code.specs.declared.raw.RawNode.{RawNode}
 use Rattle.kernel_code.specs.declared.raw.RawKernel.{RawKernel}
-use Rattle.kernel_code.specs.Raw.{RawExpr, RawBlock, Simple, Nested, Branched, expr_size, parts_size, block_size}
+use Rattle.kernel_code.specs.Raw.{RawExpr, RawBlock, expr_size, block_size}
 use Rattle.kernel_code.specs.StaticFaults.{text_at, declares, is_begun, demand_of, block_fault, used_fault, name_fault}
 use Rattle.kernel_code.specs.Trees.{ExprOf, BlockOf, nothing, var, set_local, set_value, set_place, set_try_add, set_remove, add_item, add_pair, remove, clear, write, begun, tested, counted, looped, branched, IsParameter, IsVariable, Declares}
 use Rattle.kernel_code.specs.Places.{StandsExpr, StandsParts, StandsBlock}
 use Rattle.kernel_code.proofs.FittingNames.{variable-below, declared-below, is-used, met}
-use Rattle.kernel_code.proofs.FittingStreams.{AreOpen, is-open, none-open}
+use Rattle.kernel_code.proofs.FittingStreams.{AreOpen, is-open}
 use Rattle.kernel_code.proofs.FittingBlocks.{simple-behind, nested-behind, nested-inside, begun-inside, first-inside, block-behind}
 use Rattle.kernel_code.proofs.FittingExpressions.{IsSound, fine, below, value-met, expr-fits}
 
