@@ -118,6 +118,7 @@ names_stand start kinds read events found k event is named =
     let at = derived found.sentence refl k event is named in
     among_first read kinds event.place Name (subst (λ j. slice_get (take read kinds) j ≡ Some Name) (sym (from_none at.0 event.place at.1)) at.2)
 
+
 -- so they do for events that are some of those
 pub names_stand-take : (kinds : List TokenKind) (n : ℕ) (events : List Event) → NamesStand kinds events → NamesStand kinds (take n events)
 names_stand-take kinds n events stand k event is named = stand k event (among_first n events k event is) named
