@@ -36,3 +36,7 @@ pub mod FittingExpressions
 pub mod FittingBlocks
 pub mod FittingStatements
 pub mod Fitting
+pub mod Levels
+pub mod DepthLimits
+pub mod ParamLimits
+pub mod Limits
