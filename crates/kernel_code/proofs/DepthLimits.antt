@@ -1,6 +1,6 @@
 -- The depth of a kernel that a raw kernel without faults is.
-use Rattle.std.proofs.Common.{ℕ, ◌≡◌, ◌≤◌, ◌<◌, ◌+◌, Bool, true, false, max, inl, inr, List, [], ◌∷◌, Some, None, slice_get, length, refl, sym, ap, subst, ◌∙◌, arith}
-use Rattle.std.specs.Prelude.{◌||◌, nat_le, nat_lt}
+use Rattle.std.proofs.Common.{ℕ, ◌≡◌, ◌≤◌, ◌<◌, ◌+◌, false, max, inl, inr, List, None, length, refl, sym, ap, subst, ◌∙◌, arith}
+use Rattle.std.specs.Prelude.{nat_lt}
 use Rattle.std.proofs.lemmas.Bool.{or_parts}
 use Rattle.std.proofs.lemmas.Bool.Decides.{nat_tests}
 use Rattle.frame_grammar.specs.declared.symbols.Event.{Event}
@@ -9,7 +9,6 @@ use Rattle.frame_ast.specs.declared.kernel.Stmt.{Stmt, out-Stmt}
 use Rattle.frame_ast.specs.declared.kernel.Stmt.TheOpen.{Stmt-F}
 use Rattle.frame_ast.specs.declared.kernel.Stmt.TheFolds.{fold-Stmt, fold_out-Stmt, map-Stmt}
 use Rattle.frame_ast.specs.Checked.{expr_depth, measured, body_depth}
-use Rattle.kernel_code.specs.declared.raw.RawNode.{RawNode}
 use Rattle.kernel_code.specs.declared.raw.RawKernel.{RawKernel}
 use Rattle.kernel_code.specs.Raw.{RawExpr, RawBlock, block_size, SpellsRaw}
 use Rattle.kernel_code.specs.StaticFaults.{depth_of, nodes_fault}
@@ -18,7 +17,7 @@ use Rattle.kernel_code.proofs.NoFaults.{fault_if-none, node_fault-none}
 use Rattle.kernel_code.proofs.BuiltExpressions.{none_at}
 use Rattle.kernel_code.proofs.BuiltKernels.{body-size}
 use Rattle.kernel_code.proofs.Counting.{has-at}
-use Rattle.kernel_code.proofs.Levels.{expr_levels, parts_levels, block_levels, Reaches, block_deep}
+use Rattle.kernel_code.proofs.Levels.{expr_levels, block_levels, Reaches, block_deep}
 
 -- DEPTHS ARE LEVELS
 

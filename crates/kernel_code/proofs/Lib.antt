@@ -40,3 +40,4 @@ pub mod Levels
 pub mod DepthLimits
 pub mod ParamLimits
 pub mod Limits
+pub mod Checking

@@ -1,5 +1,5 @@
 -- A kernel that a raw kernel without faults is is within the limits.
-use Rattle.std.proofs.Common.{ℕ, zero, suc, ◌≡◌, ◌≤◌, ◌<◌, ◌+◌, IsTrue, List, [], ◌∷◌, ◌++◌, length, map, take, take_all, get_or, Option, Some, None, slice_get, refl, sym, ap, subst, ◌∙◌, add-one, arith}
+use Rattle.std.proofs.Common.{ℕ, zero, suc, ◌≡◌, ◌≤◌, ◌<◌, ◌+◌, IsTrue, List, [], ◌∷◌, ◌++◌, length, take, take_all, Some, None, slice_get, refl, sym, ap, subst, ◌∙◌, add-one, arith}
 use Rattle.std.specs.Prelude.{nat_le}
 use Rattle.std.specs.List.{list_all}
 use Rattle.std.proofs.lemmas.Bool.{le-leb}
@@ -53,9 +53,9 @@ few-locals raw h =
 pub faultless : (raw : RawKernel) (earlier : List Kernel) → first_fault raw earlier ≡ None → (params_fault raw 0 raw.params.items ≡ None) × (nodes_fault raw 0 raw.nodes.items ≡ None)
 faultless raw earlier h = or_else-none _ _ (or_else-none _ _ h).1
 
-pub params : (raw : RawKernel) (k : Kernel) (earlier : List Kernel) (events : List Event) → SpellsRaw events raw → first_fault raw earlier ≡ None → IsKernelOf raw k →
+pub params : (events : List Event) (raw : RawKernel) (k : Kernel) (earlier : List Kernel) → SpellsRaw events raw → first_fault raw earlier ≡ None → IsKernelOf raw k →
     IsTrue (list_all param_fits k.params.items)
-params raw k earlier events s h is = parameters.params raw k.params.items s.with_params (faultless raw earlier h).0 is.params
+params events raw k earlier s h is = parameters.params raw k.params.items s.with_params (faultless raw earlier h).0 is.params
 
 pub count : (raw : RawKernel) (k : Kernel) (earlier : List Kernel) → first_fault raw earlier ≡ None → IsKernelOf raw k → IsTrue (nat_le (length k.params.items) 16)
 count raw k earlier h is =
@@ -69,14 +69,14 @@ locals raw k earlier h is =
     let few = few-locals raw (faultless raw earlier h).1 in
     le-leb k.locals 64 (omega arith)
 
-pub nodes : (raw : RawKernel) (k : Kernel) (earlier : List Kernel) (events : List Event) → SpellsRaw events raw → first_fault raw earlier ≡ None → IsKernelOf raw k →
+pub nodes : (events : List Event) (raw : RawKernel) (k : Kernel) (earlier : List Kernel) → SpellsRaw events raw → first_fault raw earlier ≡ None → IsKernelOf raw k →
     IsTrue (nat_le (body_nodes k.body.statements.items) 4096)
-nodes raw k earlier events s h is =
+nodes events raw k earlier s h is =
     let count = block-count (is.body events s) in
     let few = few-nodes raw (faultless raw earlier h).1 in
     le-leb (body_nodes k.body.statements.items) 4096 (omega (arith, body-size events raw s))
 
-pub depth : (raw : RawKernel) (k : Kernel) (earlier : List Kernel) (events : List Event) → SpellsRaw events raw → first_fault raw earlier ≡ None → IsKernelOf raw k →
+pub depth : (events : List Event) (raw : RawKernel) (k : Kernel) (earlier : List Kernel) → SpellsRaw events raw → first_fault raw earlier ≡ None → IsKernelOf raw k →
     IsTrue (nat_le (body_depth k.body.statements.items) 64)
-depth raw k earlier events s h is =
+depth events raw k earlier s h is =
     le-leb (body_depth k.body.statements.items) 64 (depths.depth raw events s k.body.statements.items (faultless raw earlier h).1 (is.body events s))

@@ -1,5 +1,5 @@
 -- Each name of which the events of a sentence tell stands at a token that is a name.
-use Rattle.std.proofs.Common.{◌≡◌, ℕ, zero, suc, ◌+◌, Bool, true, false, ◌&&◌, List, [], ◌∷◌, ◌++◌, take, drop, Option, Some, None, refl, sym, ◌∙◌, ap, subst, arith}
+use Rattle.std.proofs.Common.{◌≡◌, ℕ, zero, suc, ◌+◌, Bool, true, false, ◌&&◌, List, [], ◌∷◌, ◌++◌, take, drop, Some, refl, sym, ◌∙◌, ap, subst, arith}
 use Rattle.std.specs.Prelude.{slice_get}
 use Rattle.frame_grammar.specs.declared.TokenKind.{TokenKind}
 use Rattle.frame_grammar.specs.declared.TokenKind.TheVariants.{Name}
@@ -117,7 +117,6 @@ pub names_stand : (start : Nonterminal) (kinds : List TokenKind) (read : ℕ) (e
 names_stand start kinds read events found k event is named =
     let at = derived found.sentence refl k event is named in
     among_first read kinds event.place Name (subst (λ j. slice_get (take read kinds) j ≡ Some Name) (sym (from_none at.0 event.place at.1)) at.2)
-
 
 -- so they do for events that are some of those
 pub names_stand-take : (kinds : List TokenKind) (n : ℕ) (events : List Event) → NamesStand kinds events → NamesStand kinds (take n events)

@@ -1,7 +1,8 @@
 //! Checks a kernel: what its names are, whether they fit where they stand, and its limits.
 ghost use Rattle.std.specs.Prelude.{◌≡◌, ℕ, None, Some, IfOk, IfErr, OnOk};
+ghost use Rattle.frame_ast.specs.Checked.{IsChecked};
 ghost use Rattle.kernel_code.specs.StaticFaults.{text_at, fault_at, or_else, kernel_name_fault, params_fault, first_fault, TellsFault};
-ghost use Rattle.kernel_code.specs.Trees.{IsKernelOf, IsWithinLimits};
+ghost use Rattle.kernel_code.specs.Trees.{IsKernelOf};
 ghost use Rattle.kernel_code.specs.Legible.{IsParsed};
 
 mod demands;
@@ -67,7 +68,7 @@ pub fn check_kernel(
     ensures faultless { OnOk result (first_fault raw.now earlier.now ≡ None) }
     ensures refused { IfErr result (TellsFault raw.now (first_fault raw.now earlier.now)) }
     ensures kernel { IfOk result (λ k. IsKernelOf raw.now k) }
-    ensures limits { IfOk result IsWithinLimits }
+    ensures checked { IfOk result IsChecked }
 {
     if let Some(fault) = head_fault(raw, earlier) {
         return Err(refusal(raw, fault));

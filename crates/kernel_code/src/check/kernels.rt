@@ -1,7 +1,7 @@
 // The kernel that a raw kernel without faults is.
 ghost use Rattle.std.specs.Prelude.{◌≡◌, ◌≤◌, ℕ, None, Some, length, map, slice_get, string_bytes, IfOk, IsUtf8};
 ghost use Rattle.kernel_code.specs.StaticFaults.{text_at, params_fault, locals_of};
-ghost use Rattle.kernel_code.specs.Trees.{param_text, raw_param_text, width_at, IsKernelOf, IsWithinLimits};
+ghost use Rattle.kernel_code.specs.Trees.{param_text, raw_param_text, width_at, IsKernelOf};
 ghost use Rattle.kernel_code.specs.Places.{IsResolved};
 ghost use Rattle.kernel_code.specs.Legible.{IsLegible, IsParsed};
 
@@ -60,9 +60,7 @@ pub fn kernel_of(alloc: Global, raw: &RawKernel<'_>, meanings: Meanings) -> Resu
     requires params { params_fault raw.now 0 raw.now.params.items ≡ None }
     requires resolved { IsResolved raw.now meanings.of_nodes.items }
     requires locals { meanings.locals ≡ length (locals_of raw.now.nodes.items) }
-    requires few { meanings.locals ≤ 64 }
-    ensures kernel { IfOk result (λ k. IsKernelOf raw.now k) }
-    ensures limits { IfOk result IsWithinLimits }
+    ensures { IfOk result (λ k. IsKernelOf raw.now k) }
 {
     let name = name_at(alloc, raw, raw.name)?;
     let params = params_of(alloc, raw)?;
