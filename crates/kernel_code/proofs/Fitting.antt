@@ -9,10 +9,10 @@ use Rattle.kernel_code.specs.declared.raw.RawParam.{RawParam}
 use Rattle.kernel_code.specs.declared.raw.RawKernel.{RawKernel}
 use Rattle.kernel_code.specs.Raw.{SpellsKind, SpellsParams, SpellsRaw}
 use Rattle.kernel_code.specs.Raw as raw
-use Rattle.kernel_code.specs.StaticFaults.{nodes_fault, first_fault}
+use Rattle.kernel_code.specs.StaticFaults.{first_fault}
 use Rattle.kernel_code.specs.Trees.{IsKernelOf}
-use Rattle.kernel_code.proofs.NoFaults.{or_else-none}
 use Rattle.kernel_code.proofs.BuiltKernels.{body-here, body-size}
+use Rattle.kernel_code.proofs.Limits.{faultless}
 use Rattle.kernel_code.proofs.FittingStreams.{none-open}
 use Rattle.kernel_code.proofs.FittingExpressions.{IsSound}
 use Rattle.kernel_code.proofs.FittingStatements.{block-fits}
@@ -33,14 +33,11 @@ ints-read (raw.param q ks rest {p = first} k more h) zero p s e =
     let same : first ≡ p = cc in subst (λ z. z.access ≡ Read) same (int-read k (ap (λ z. z.kind) same ∙ e))
 ints-read (raw.param q ks rest k more h) (suc x) p s e = ints-read more x p s e
 
-pub faultless-nodes : (raw : RawKernel) (earlier : List Kernel) → first_fault raw earlier ≡ None → nodes_fault raw 0 raw.nodes.items ≡ None
-faultless-nodes raw earlier h = (or_else-none _ _ (or_else-none _ _ h).1).1
-
 pub fits : (events : List Event) (raw : RawKernel) (k : Kernel) (earlier : List Kernel) → SpellsRaw events raw → first_fault raw earlier ≡ None → IsKernelOf raw k →
     IsTrue (all_fit (map (stmt_fits k.parallel k.params.items k.locals) k.body.statements.items) [])
 fits events raw k earlier s h is =
     let sound : IsSound raw k.parallel k.params.items k.locals = record {
-      faultless = faultless-nodes raw earlier h;
+      faultless = (faultless raw earlier h).1;
       is_parallel = is.parallel;
       same = is.params;
       count = is.locals;
