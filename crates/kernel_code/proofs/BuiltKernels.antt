@@ -84,13 +84,13 @@ At-behind xs (y ∷ ys) = (
 pub At-self : (nodes : List RawNode) → At nodes 0 nodes
 At-self nodes = At-behind [] nodes
 
-length-expr : (e : RawExpr) → length (expr_nodes e) ≡ expr_size e
+pub length-expr : (e : RawExpr) → length (expr_nodes e) ≡ expr_size e
 length-expr (Leaf f a n) = refl
 length-expr (One f a n e) = omega (arith, length-expr e)
 length-expr (Two f a n e g) = omega (arith, length-append (expr_nodes e) (expr_nodes g), length-expr e, length-expr g)
 length-expr (Infix a e g) = omega (arith, length-append (expr_nodes e) (expr_node form.Binary a a (expr_size e) (expr_size g) ∷ expr_nodes g), length-expr e, length-expr g)
 
-length-parts : (parts : List RawExpr) → length (parts_nodes parts) ≡ parts_size parts
+pub length-parts : (parts : List RawExpr) → length (parts_nodes parts) ≡ parts_size parts
 length-parts [] = refl
 length-parts (e ∷ more) = omega (arith, length-append (expr_nodes e) (parts_nodes more), length-expr e, length-parts more)
 
@@ -212,7 +212,7 @@ few-params raw h =
 within-width : (n : ℕ) → (n == 0 || nat_lt 1024 n) ≡ false → (1 ≤ n) × (n ≤ 1024)
 within-width n h = (grind (arith, nat_tests), grind (arith, nat_tests))
 
-width-of : (raw : RawKernel) (p : RawParam) (w : Option ℕ) → param_kind_fault raw p w ≡ None → (1 ≤ width_at raw w) × (width_at raw w ≤ 1024)
+pub width-of : (raw : RawKernel) (p : RawParam) (w : Option ℕ) → param_kind_fault raw p w ≡ None → (1 ≤ width_at raw w) × (width_at raw w ≤ 1024)
 width-of raw p None h = (omega arith, omega arith)
 width-of raw p (Some at) h = within-width (value_at raw at) (fault_if-none _ _ (fault_at-none _ _ (or_else-none _ _ h).1))
 

@@ -65,7 +65,7 @@ or-left false b h = refl
 below : (n : ℕ) → nat_le 4096 n ≡ false → n < 4096
 below n h = grind (arith, nat_tests)
 
-has-at : (ns : List RawNode) (k : ℕ) → k < length ns → (n : RawNode) × (slice_get ns k ≡ Some n)
+pub has-at : (ns : List RawNode) (k : ℕ) → k < length ns → (n : RawNode) × (slice_get ns k ≡ Some n)
 has-at [] k h = absurd (omega arith)
 has-at (n ∷ ns) zero h = (n, refl)
 has-at (n ∷ ns) (suc k) h = has-at ns k (omega arith)

@@ -12,6 +12,8 @@ pub mod Sentences
 pub mod Readings
 pub mod Blocks
 pub mod Kernels
+pub mod Names
+pub mod NameTexts
 pub mod Parts
 pub mod Meanings
 pub mod Expressions
@@ -28,3 +30,14 @@ pub mod BuiltStatements
 pub mod BuiltKernels
 pub mod Counting
 pub mod Passing
+pub mod FittingNames
+pub mod FittingStreams
+pub mod FittingExpressions
+pub mod FittingBlocks
+pub mod FittingStatements
+pub mod Fitting
+pub mod Levels
+pub mod DepthLimits
+pub mod ParamLimits
+pub mod Limits
+pub mod Checking

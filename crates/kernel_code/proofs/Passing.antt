@@ -51,7 +51,7 @@ pub known_start : (raw : RawKernel) → IsKnown raw 0 [] [] []
 known_start raw = record { locals = refl; few = omega arith; blocks = record { tell = λ x j h. refl }; meanings = refl }
 
 -- a node without a fault leaves room for its local
-room : (raw : RawKernel) (i : ℕ) (node : RawNode) (b : Bool) (locals : List Local) (l : Local) → declares node.form ≡ b → node_fault raw i node ≡ None →
+pub room : (raw : RawKernel) (i : ℕ) (node : RawNode) (b : Bool) (locals : List Local) (l : Local) → declares node.form ≡ b → node_fault raw i node ≡ None →
     locals ≡ locals_before raw.nodes.items i → length locals ≤ 64 → length (locals ++ local_if b l) ≤ 64
 room raw i node true locals l d none is few =
     let h = few-locals raw i node.name node.form (node_fault-none raw i node none).name d in

@@ -1,5 +1,5 @@
 -- The kernel that a raw kernel without faults is: the same tree, with numbers by their value and names by what they are where they stand.
-use Rattle.std.specs.Prelude.{◌≡◌, ◌≤◌, ℕ, ◌+◌, pos, Bool, true, false, List, [], ◌∷◌, length, map, Option, Some, None, slice_get}
+use Rattle.std.specs.Prelude.{◌≡◌, ℕ, ◌+◌, pos, Bool, true, false, List, [], ◌∷◌, length, map, Option, Some, None, slice_get}
 use Rattle.std.specs.String.{string_bytes}
 use Rattle.job_base.specs.declared.Access.{Access}
 use Rattle.frame_grammar.specs.declared.TokenKind.{TokenKind}
@@ -14,7 +14,6 @@ use Rattle.frame_ast.specs.declared.kernel.Expr.{Expr}
 use Rattle.frame_ast.specs.declared.kernel.Expr.TheVariants.{Number, Index, Local, Value, Element', Length, Has', Count', Item', Negative', Not', And', Or', Binary'}
 use Rattle.frame_ast.specs.declared.kernel.Stmt.{Stmt, out-Stmt}
 use Rattle.frame_ast.specs.declared.kernel.Stmt.TheOpen.{Assign, SetValue, Store, Add, AddPair, TryAdd, RemoveAt, RemoveKey, Clear, Write, Begin, If, For, While}
-use Rattle.frame_ast.specs.Checked.{body_nodes}
 use Rattle.kernel_code.specs.declared.token.Token.{Token}
 use Rattle.kernel_code.specs.declared.raw.RawForm.TheVariants as form
 use Rattle.kernel_code.specs.declared.raw.RawParam.{RawParam}
@@ -209,9 +208,3 @@ pub record IsKernelOf (raw : RawKernel) (k : Kernel) : Type 0 where
   pub locals : k.locals ≡ length (locals_of raw.nodes.items)
   -- whatever events spell the raw kernel, its statements are those of the tree that they spell
   pub body : (events : List Event) (s : SpellsRaw events raw) → BlockOf raw 0 s.body k.body.statements.items
-
--- a kernel within the limits that are numbers of its parts
-pub record IsWithinLimits (k : Kernel) : Type 0 where
-  pub params : length k.params.items ≤ 16
-  pub locals : k.locals ≤ 64
-  pub nodes : body_nodes k.body.statements.items ≤ 4096

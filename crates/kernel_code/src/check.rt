@@ -1,15 +1,14 @@
 //! Checks a kernel: what its names are, whether they fit where they stand, and its limits.
 ghost use Rattle.std.specs.Prelude.{◌≡◌, ℕ, None, Some, IfOk, IfErr, OnOk};
-ghost use Rattle.kernel_code.specs.Raw.{IsRaw};
+ghost use Rattle.frame_ast.specs.Checked.{IsChecked};
 ghost use Rattle.kernel_code.specs.StaticFaults.{text_at, fault_at, or_else, kernel_name_fault, params_fault, first_fault, TellsFault};
-ghost use Rattle.kernel_code.specs.Trees.{IsKernelOf, IsWithinLimits};
-ghost use Rattle.kernel_code.specs.Legible.{IsLegible};
+ghost use Rattle.kernel_code.specs.Trees.{IsKernelOf};
+ghost use Rattle.kernel_code.specs.Legible.{IsParsed};
 
 mod demands;
 mod depths;
 mod expressions;
 mod kernels;
-mod legible;
 pub mod names;
 mod nodes;
 mod params;
@@ -19,7 +18,6 @@ pub mod streams;
 mod texts;
 
 use crate::check::kernels::kernel_of;
-pub use crate::check::legible::is_legible;
 use crate::check::params::{fault_at, kernel_name_fault, or_else, params_fault};
 use crate::check::resolve::resolve;
 use crate::check::texts::{line_at, text_at};
@@ -66,12 +64,11 @@ pub fn check_kernel(
     raw: &RawKernel<'_>,
     earlier: &[Kernel],
 ) -> Result<Kernel, KernelFault>
-    requires raw { IsRaw raw.now }
-    requires legible { IsLegible raw.now }
+    requires { IsParsed raw.now }
     ensures faultless { OnOk result (first_fault raw.now earlier.now ≡ None) }
     ensures refused { IfErr result (TellsFault raw.now (first_fault raw.now earlier.now)) }
     ensures kernel { IfOk result (λ k. IsKernelOf raw.now k) }
-    ensures limits { IfOk result IsWithinLimits }
+    ensures checked { IfOk result IsChecked }
 {
     if let Some(fault) = head_fault(raw, earlier) {
         return Err(refusal(raw, fault));

@@ -1,6 +1,6 @@
 ghost use Rattle.std.specs.Prelude.{◌≤◌, length};
 
-use crate::{KernelFault, check_kernel, is_legible, lex, parse_kernel};
+use crate::{KernelFault, check_kernel, lex, parse_kernel};
 use frame_ast::kernel::Kernel;
 use std::alloc::Global;
 use std::fmt::Write;
@@ -16,15 +16,10 @@ fn checked(alloc: Global, source: &[u8], earlier: &[Kernel]) -> Result<Result<Ke
         return Ok(Err(told));
     }
     let fault = match parse_kernel(alloc, source, &tokens, 0) {
-        Ok((raw, _)) => {
-            if !is_legible(&raw) {
-                return Ok(Err(told));
-            }
-            match check_kernel(alloc, &raw, earlier) {
-                Ok(kernel) => return Ok(Ok(kernel)),
-                Err(fault) => fault,
-            }
-        }
+        Ok((raw, _)) => match check_kernel(alloc, &raw, earlier) {
+            Ok(kernel) => return Ok(Ok(kernel)),
+            Err(fault) => fault,
+        },
         Err(fault) => fault,
     };
     match fault {
@@ -240,6 +235,29 @@ fn a_name_of_an_earlier_kernel_is_taken(rt: HostRuntime) -> Result<(), Fail> {
     match checked(alloc, b"job\na() { }", &earlier)? {
         Ok(_) => assert!(rt; false, "taken"),
         Err(told) => assert_eq!(rt; told.as_str(), "2: DuplicateName"),
+    }
+    Ok(())
+}
+
+#[test]
+fn a_file_has_at_most_256_kernels(rt: HostRuntime) -> Result<(), Fail> {
+    let alloc = rt.alloc();
+    let mut earlier = Vec::new(alloc);
+    for i in 0..256u32 {
+        let mut text = String::new(alloc);
+        write!(text, "job k{i}() ")?;
+        text.push_str("{ }")?;
+        let source = text.as_bytes();
+        if source.len() < 100 {
+            if let Ok(kernel) = checked(alloc, source, &earlier)? {
+                earlier.push(kernel)?;
+            }
+        }
+    }
+    assert_eq!(rt; earlier.len(), 256);
+    match checked(alloc, b"job\na() { }", &earlier)? {
+        Ok(_) => assert!(rt; false, "too many"),
+        Err(told) => assert_eq!(rt; told.as_str(), "2: Limit"),
     }
     Ok(())
 }

@@ -3,10 +3,11 @@
 ghost use Rattle.std.specs.Prelude.{◌≡◌, ◌<◌, ◌≤◌, ◌^◌, ℕ, length, IfOk};
 ghost use Rattle.frame_ast.specs.declared.kernel.FaultKind.{FaultKind};
 ghost use Rattle.frame_ast.specs.declared.kernel.FaultKind.TheVariants.{Syntax};
-ghost use Rattle.kernel_code.specs.Raw.{SpellsRaw, IsWithin, IsKernel};
+ghost use Rattle.kernel_code.specs.Raw.{SpellsRaw, IsKernel};
 ghost use Rattle.kernel_code.specs.Reading.{is_parallel};
 ghost use Rattle.kernel_code.specs.Tokens.{tokens_of};
-ghost use Rattle.kernel_code.specs.Parsing.{StandsAt, StopsAt, refusal_of};
+ghost use Rattle.kernel_code.specs.Parsing.{kinds, StandsAt, StopsAt, refusal_of};
+ghost use Rattle.kernel_code.specs.Legible.{NamesAreText, NamesStand, IsParsed};
 
 use crate::reader::Reader;
 use crate::{KernelFault, RawKernel, Token};
@@ -32,8 +33,10 @@ pub fn raw_kernel<'a>(
 ) -> Result<RawKernel<'a>, NoMemory>
     requires few { length tokens.now < 2 ^ 32 }
     requires kernel { IsKernel events.now (length tokens.now) }
+    requires text { NamesAreText source.now tokens.now }
+    requires named { NamesStand (kinds tokens.now) events.now }
     ensures spelled { IfOk result (λ raw. SpellsRaw events.now raw) }
-    ensures within { IfOk result (λ raw. IsWithin raw) }
+    ensures parsed { IfOk result (λ raw. IsParsed raw) }
     ensures source { IfOk result (λ raw. raw.source.now ≡ source.now) }
     ensures tokens { IfOk result (λ raw. raw.tokens.now ≡ tokens.now) }
 {
@@ -82,6 +85,7 @@ pub fn parse_kernel<'a>(
     requires lexed { tokens.now ≡ tokens_of source.now }
     requires within { at < length tokens.now }
     ensures kernel { IfOk result (λ found. StandsAt source.now tokens.now at found.1 found.0) }
+    ensures parsed { IfOk result (λ found. IsParsed found.0) }
     ensures fault { (line : ℕ) (kind : FaultKind) → result ≡ Err (KernelFault.Refused line kind) → (kind ≡ Syntax) × StopsAt tokens.now at line }
 {
     let ahead = &tokens[at as usize..];

@@ -1,6 +1,7 @@
 ghost use Rattle.std.specs.Prelude.{◌≡◌, ◌<◌, ◌≤◌, length, IfOk};
 ghost use Rattle.std.specs.List.{starts_with};
 ghost use Rattle.kernel_code.specs.Tokens.{tokens_of, mark_len, line_after};
+ghost use Rattle.kernel_code.specs.Legible.{NamesAreText};
 
 use crate::token::Token;
 use crate::word::front_of;
@@ -36,7 +37,8 @@ fn line_after(byte: u8, line: u32) -> u32
 /// fault.
 pub fn lex(alloc: Global, source: &[u8]) -> Result<Vec<Token>, NoMemory>
     requires { length source.now ≤ 16777216 }
-    ensures { IfOk result (λ tokens. tokens.items ≡ tokens_of source.now) }
+    ensures tokens { IfOk result (λ tokens. tokens.items ≡ tokens_of source.now) }
+    ensures text { IfOk result (λ tokens. NamesAreText source.now tokens.items) }
 {
     let mut tokens = Vec::new(alloc);
     let mut place = mark_len(source);

@@ -1,4 +1,8 @@
-//! Kernels as texts: the tokens of a file.
+//! Kernels as texts.
+//!
+//! `lex` finds the tokens of a file. `parse_kernel` reads the kernel that begins at one of them, and
+//! `raw_kernel` makes a raw form of the events of one: each part by its token, no name looked up.
+//! `check_kernel` looks the names up, and answers the kernel or its first static fault.
 #![tactic(auto)]
 
 pub mod check;
@@ -18,7 +22,7 @@ mod tests;
 mod token;
 mod word;
 
-pub use check::{check_kernel, is_legible};
+pub use check::check_kernel;
 pub use fault::KernelFault;
 pub use frame_ast::kernel::FaultKind;
 pub use frame_grammar::TokenKind;

@@ -1,10 +1,9 @@
 // The kernel that a raw kernel without faults is.
 ghost use Rattle.std.specs.Prelude.{◌≡◌, ◌≤◌, ℕ, None, Some, length, map, slice_get, string_bytes, IfOk, IsUtf8};
-ghost use Rattle.kernel_code.specs.Raw.{IsRaw};
 ghost use Rattle.kernel_code.specs.StaticFaults.{text_at, params_fault, locals_of};
-ghost use Rattle.kernel_code.specs.Trees.{param_text, raw_param_text, width_at, IsKernelOf, IsWithinLimits};
+ghost use Rattle.kernel_code.specs.Trees.{param_text, raw_param_text, width_at, IsKernelOf};
 ghost use Rattle.kernel_code.specs.Places.{IsResolved};
-ghost use Rattle.kernel_code.specs.Legible.{IsLegible};
+ghost use Rattle.kernel_code.specs.Legible.{IsLegible, IsParsed};
 
 use crate::check::resolve::Meanings;
 use crate::check::statements::block;
@@ -57,14 +56,11 @@ fn params_of(alloc: Global, raw: &RawKernel<'_>) -> Result<Vec<Param>, NoMemory>
 
 /// The kernel that a raw kernel is, by what its names stand for.
 pub fn kernel_of(alloc: Global, raw: &RawKernel<'_>, meanings: Meanings) -> Result<Kernel, NoMemory>
-    requires raw { IsRaw raw.now }
-    requires legible { IsLegible raw.now }
+    requires raw { IsParsed raw.now }
     requires params { params_fault raw.now 0 raw.now.params.items ≡ None }
     requires resolved { IsResolved raw.now meanings.of_nodes.items }
     requires locals { meanings.locals ≡ length (locals_of raw.now.nodes.items) }
-    requires few { meanings.locals ≤ 64 }
-    ensures kernel { IfOk result (λ k. IsKernelOf raw.now k) }
-    ensures limits { IfOk result IsWithinLimits }
+    ensures { IfOk result (λ k. IsKernelOf raw.now k) }
 {
     let name = name_at(alloc, raw, raw.name)?;
     let params = params_of(alloc, raw)?;

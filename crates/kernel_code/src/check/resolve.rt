@@ -141,7 +141,7 @@ pub fn resolve(
 ) -> Result<Result<Meanings, StaticFault>, NoMemory>
     requires { length raw.now.params.items ≤ 16 }
     ensures { IfOk result (λ r. MatchResult r
-        (λ m. (nodes_fault raw.now 0 raw.now.nodes.items ≡ None) × (m.of_nodes.items ≡ meanings_from raw.now 0 raw.now.nodes.items) × (m.locals ≡ length (locals_of raw.now.nodes.items)) × (m.locals ≤ 64))
+        (λ m. (nodes_fault raw.now 0 raw.now.nodes.items ≡ None) × (m.of_nodes.items ≡ meanings_from raw.now 0 raw.now.nodes.items) × (m.locals ≡ length (locals_of raw.now.nodes.items)))
         (λ fault. nodes_fault raw.now 0 raw.now.nodes.items ≡ Some fault)) }
 {
     let depths = depths_of(alloc, &raw.nodes)?;

@@ -1,9 +1,12 @@
 use Rattle.std.proofs.Common.{◌<◌, ◌≤◌, ◌-◌, length, take, drop, length-drop, sym, ◌∙◌, ap, subst, arith}
+use Rattle.kernel_code.proofs.Names.{names_stand}
+use Rattle.kernel_code.proofs.NameTexts.{names_are_text, names_are_text-drop}
 use Rattle.std.proofs.lemmas.List.{length-map}
 use Rattle.frame_grammar.specs.Sentences.{IsEnded}
 use Rattle.kernel_code.specs.declared.token.Token.{Token}
 use Rattle.kernel_code.proofs.Sentences.{tokens_of-few}
 use Rattle.kernel_code.specs.Parsing.{kinds}
+use Rattle.kernel_code.specs.Legible.{NamesAreText}
 use Rattle.kernel_code.proofs.Parsing.{ahead_is, ahead_ended, ahead_few, sentence_spells}
 use Rattle.kernel_code.proofs.kernel.parse_kernel.Goals as goal
 
@@ -23,6 +26,15 @@ raw_kernel-requires-clause-few c =
 pub raw_kernel-requires-clause-kernel : goal.raw_kernel-requires-clause-kernel
 raw_kernel-requires-clause-kernel c =
     rw c.deref.ensures.value (sentence_spells _ _ c.in-Ok.sentence.events.items c.in-Ok.ensures.sentence)
+
+pub raw_kernel-requires-clause-text : goal.raw_kernel-requires-clause-text
+raw_kernel-requires-clause-text c =
+    let text = names_are_text-drop c.args.source.now c.args.at c.args.tokens.now (subst (NamesAreText c.args.source.now) (sym c.requires.lexed) (names_are_text c.args.source.now)) in
+    subst (NamesAreText c.args.source.now) (sym (ahead_is c.args.tokens.now c.args.at)) text
+
+pub raw_kernel-requires-clause-named : goal.raw_kernel-requires-clause-named
+raw_kernel-requires-clause-named c =
+    rw c.deref.ensures.value (names_stand _ _ _ c.in-Ok.sentence.events.items c.in-Ok.ensures.sentence)
 
 pub overflow_add-result : goal.overflow_add-result
 overflow_add-result c =

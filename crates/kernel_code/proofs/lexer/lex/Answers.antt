@@ -1,7 +1,9 @@
-use Rattle.std.proofs.Common.{◌≡◌, ◌+◌, ◌≤◌, ◌++◌, append-nil, length, length-drop, drop, get_or, sym, ap, ◌∙◌, arith}
+use Rattle.std.proofs.Common.{◌≡◌, ◌+◌, ◌≤◌, ◌++◌, append-nil, length, length-drop, drop, get_or, sym, ap, subst, ◌∙◌, arith}
 use Rattle.std.proofs.Math.ListN.{drop_of_length-le}
 use Rattle.kernel_code.specs.Tokens.{tokens_from, token_at}
 use Rattle.kernel_code.proofs.Steps.{slice_from, turn, tokens_from-end, tokens_of-start, mark_len-le, line_after-le}
+use Rattle.kernel_code.specs.Legible.{NamesAreText}
+use Rattle.kernel_code.proofs.NameTexts.{names_are_text}
 use Rattle.kernel_code.proofs.lexer.lex.Goals as goal
 use Rattle.kernel_code.proofs.lexer.lex.Goals.{in-Some+in_ok-push, in_default}
 
@@ -42,7 +44,10 @@ loop-place-preserved c =
 
 pub returns : goal.returns
 returns c =
+    let source = c.args.source.now in
     let at_end = drop_of_length-le c.args.source.now {i = c.loop-place.place} c.loop-place-test.false in
+    let tokens =
     c.in_ok-push-2.ensures.items
     ∙ ap (λ ts. c.loop-place.tokens.items ++ ts) (sym (tokens_from-end c.loop-place.place c.loop-place.line) ∙ ap (tokens_from 0 c.loop-place.place c.loop-place.line) (sym at_end))
-    ∙ c.loop-place.invariant.so_far
+    ∙ c.loop-place.invariant.so_far in
+    record { tokens = tokens; text = subst (NamesAreText source) (sym tokens) (names_are_text source) }
