@@ -71,7 +71,7 @@ stays s names at place h None = sym (ap (λ o. unwrap_or o 0) h)
 stays s names at place h (Some m) = sym (ap (λ o. unwrap_or o 0) (place_kept names (text_at s m.0) (text_at s at) m.1 place h))
 
 -- the place of a name that is made
-new_place : (names : List Name) (text : List ℕ) (kind : NameKind) → place_in names text ≡ None → place_in (with_name names text kind) text ≡ Some (length names)
+pub new_place : (names : List Name) (text : List ℕ) (kind : NameKind) → place_in names text ≡ None → place_in (with_name names text kind) text ≡ Some (length names)
 new_place names text kind none =
     let known : is_some (place_in names text) ≡ false = ap is_some none in
     rw known (place_in-push names text kind none text ∙ (rw ((bytes_eq-Decides text text).1 refl)))

@@ -4,10 +4,15 @@ pub mod Sources
 pub mod Names
 pub mod Index
 pub mod KernelIndex
+pub mod Measures
 pub mod Checks
 pub mod Scheduled
 pub mod Faults
 pub mod Spelling
 pub mod Files
+pub mod Copies
+pub mod Writing
 pub mod Reading
 pub mod Items
+pub mod Loading
+pub mod Walking

@@ -4,6 +4,7 @@ ghost use Rattle.std.specs.Prelude.{◌≡◌, ℕ, ◌<◌, ◌^◌, length, If
 ghost use Rattle.frame_grammar.specs.declared.symbols.Nonterminal.TheVariants.{File};
 ghost use Rattle.frame_grammar.specs.Sentences.{IsEnded, IsOnlySentence, IsFault};
 ghost use Rattle.kernel_code.specs.Parsing.{kinds};
+ghost use Rattle.kernel_code.specs.Legible.{NamesStand};
 ghost use Rattle.frame_script.specs.Raw.{IsFile};
 
 use frame_grammar::{Nonterminal, ParseError, Sentence, parse};
@@ -16,6 +17,7 @@ pub fn file_events(alloc: Global, tokens: &[Token]) -> Result<Sentence, ParseErr
     requires ended { IsEnded (kinds tokens.now) }
     ensures items { IfOk result (λ found. IsFile (kinds tokens.now) found.events.items) }
     ensures sentence { IfOk result (λ found. IsOnlySentence File (kinds tokens.now) found.read found.events.items) }
+    ensures named { IfOk result (λ found. NamesStand (kinds tokens.now) found.events.items) }
     ensures fault { (place : ℕ) → result ≡ Err (ParseError.Syntax place) → IsFault File (kinds tokens.now) place }
 {
     parse(alloc, Nonterminal::File, tokens)

@@ -15,6 +15,9 @@ use frame_ast::kernel::FaultKind;
 use kernel_code::check::StaticFault;
 use std::alloc::Global;
 
+/// The greatest length, capacity and batch.
+pub const MOST_ELEMENTS: u32 = 1_048_576;
+
 /// The kinds of containers.
 pub const CONTAINERS: [NameKind; 7] = [
     NameKind::Slice,

@@ -77,6 +77,20 @@ impl<'a> Kernels<'a> {
         self.kernels[place as usize].params.len() <= 15 && size.nodes <= 4091 && size.depth <= 63
     }
 
+    /// All kernels.
+    pub fn as_slice(&self) -> &[Kernel]
+        ensures { result.now ≡ self.now }
+    {
+        &self.kernels
+    }
+
+    /// All kernels, to be kept.
+    pub fn into_vec(self) -> Vec<Kernel>
+        ensures { result.items ≡ self.entry }
+    {
+        self.kernels
+    }
+
     /// Adds a kernel behind the others. No other one has its name.
     pub fn add(&mut self, text: &'a [u8], kernel: Kernel, size: Size) -> Result<(), NoMemory>
         requires name { text.now ≡ string_bytes kernel.name }

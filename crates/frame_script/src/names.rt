@@ -1,6 +1,6 @@
 //! The names of a script, in the order of their first making.
 
-ghost use Rattle.std.specs.Prelude.{◌≡◌, ℕ, ◌<◌, ◌-◌, ◌^◌, List, [], length, map, IfOk, OnErr, MatchOption, slice_get, Some, None};
+ghost use Rattle.std.specs.Prelude.{◌≡◌, ℕ, All, ◌<◌, ◌-◌, ◌^◌, List, [], length, map, IfOk, OnErr, MatchOption, slice_get, Some, None, IsUtf8, string_bytes};
 ghost use Rattle.frame_script.specs.Names.{Name, is_same, is_among, place_in, kind_in, with_name};
 ghost use Rattle.frame_script.specs.Index.{known_of, IsIndex};
 
@@ -9,12 +9,24 @@ use job_base::NoMemory;
 use std::alloc::Global;
 use std::collections::BTreeMap;
 use std::marker::Model;
+use std::str;
 
 /// A name, and what it stands for.
 #[derive(Clone, Copy, Drop)]
 pub struct Entry<'a> {
     pub text: &'a [u8],
     pub kind: NameKind,
+}
+
+// A name as text.
+fn text_of(alloc: Global, bytes: &[u8]) -> Result<String, NoMemory>
+    requires { IsUtf8 bytes.now }
+    ensures { IfOk result (λ text. string_bytes text ≡ bytes.now) }
+{
+    match str::from_utf8(bytes) {
+        Ok(text) => Ok(String::from_str(alloc, text)?),
+        Err(_) => unreachable!(),
+    }
 }
 
 /// The names that are known, each with what it stands for. A name's place is its number among them.
@@ -60,6 +72,18 @@ impl<'a> Names<'a> {
     {
         let place = *self.places.get(text)?;
         Some((place, self.entries[place as usize].kind))
+    }
+
+    /// The names as texts.
+    pub fn texts(&self, alloc: Global) -> Result<Vec<String>, NoMemory>
+        requires { All (λ name. IsUtf8 name.text) self.now }
+        ensures { IfOk result (λ texts. map string_bytes texts.items ≡ map (λ n. n.text) self.now) }
+    {
+        let mut texts = Vec::new(alloc);
+        for entry in &self.entries {
+            texts.push(text_of(alloc, entry.text)?)?;
+        }
+        Ok(texts)
     }
 
     /// Makes a name: where it is known already, it stays as it is.

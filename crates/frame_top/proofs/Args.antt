@@ -9,8 +9,9 @@ use Rattle.frame_ast.specs.declared.script.Arg.{Arg}
 use Rattle.frame_ast.specs.declared.script.Arg.TheVariants.{Name, Number}
 use Rattle.frame_ast.specs.Accepted.{Names, kind_in, kinds_for, is_int, arg_fits, args_fit}
 use Rattle.frame_ast.specs.Lists.{member}
-use Rattle.frame_ast.specs.Plain.{plain_param, names_once}
+use Rattle.frame_ast.specs.Plain.{names_once}
 use Rattle.frame_ast.specs.Schedules.{is_array}
+use Rattle.frame_top.specs.Built.{is_array_param}
 use Rattle.frame_top.proofs.Facts.{lt_of}
 use Rattle.frame_top.proofs.Tables.{first_true, second_true}
 
@@ -36,21 +37,21 @@ no_number Ref e h = cc
 no_number Map e h = cc
 no_number Stream e h = cc
 
-name_of_arg : (ns : Names) (p : Param) (a : Arg) → IsTrue (plain_param p) → IsTrue (arg_fits ns None p a) → (n : ℕ) × (a ≡ Name n) × (n < ns.made)
+name_of_arg : (ns : Names) (p : Param) (a : Arg) → IsTrue (is_array_param p) → IsTrue (arg_fits ns None p a) → (n : ℕ) × (a ≡ Name n) × (n < ns.made)
 name_of_arg ns p (Name n) h f = (n, refl, lt_of n ns.made (first_true _ (kind_in (slice_get ns.kinds n) (kinds_for p.kind false)) f))
-name_of_arg ns p (Number z) h f = absurd (no_number p.kind (array_param p.kind (first_true (is_array p.kind) (nat_eq p.by 1) h)) f)
+name_of_arg ns p (Number z) h f = absurd (no_number p.kind (array_param p.kind h) f)
 
-pub are_named : (ns : Names) (params : List Param) (args : List Arg) → IsTrue (list_all plain_param params) → IsTrue (args_fit ns None params args) → AreNamed ns.made params args
+pub are_named : (ns : Names) (params : List Param) (args : List Arg) → IsTrue (list_all is_array_param params) → IsTrue (args_fit ns None params args) → AreNamed ns.made params args
 are_named ns [] [] h f = record { count = refl; each = λ x a e. cc; arrays = λ x p e. cc }
 are_named ns [] (a ∷ args) h f = cc
 are_named ns (p ∷ params) [] h f = cc
 are_named ns (p ∷ params) (a ∷ args) h f =
-    let rest = are_named ns params args (second_true (plain_param p) (list_all plain_param params) h) (second_true (arg_fits ns None p a) (args_fit ns None params args) f) in
-    let plain = first_true (plain_param p) (list_all plain_param params) h in
+    let rest = are_named ns params args (second_true (is_array_param p) (list_all is_array_param params) h) (second_true (arg_fits ns None p a) (args_fit ns None params args) f) in
+    let plain = first_true (is_array_param p) (list_all is_array_param params) h in
     record {
       count = ap suc rest.count;
       each = each_of a args (name_of_arg ns p a plain (first_true (arg_fits ns None p a) (args_fit ns None params args) f)) rest.each;
-      arrays = params_of p params (array_param p.kind (first_true (is_array p.kind) (nat_eq p.by 1) plain)) rest.arrays;
+      arrays = params_of p params (array_param p.kind plain) rest.arrays;
     }
   where
     each_of : (b : Arg) (more : List Arg) → (n : ℕ) × (b ≡ Name n) × (n < ns.made) → ((x : ℕ) (c : Arg) → slice_get more x ≡ Some c → (n : ℕ) × (c ≡ Name n) × (n < ns.made)) → (x : ℕ) (c : Arg) → slice_get (b ∷ more) x ≡ Some c → (n : ℕ) × (c ≡ Name n) × (n < ns.made)

@@ -36,7 +36,7 @@ bound_pushed arrays args binds n at b is = record {
       (pushed binds (Array at 0) c x e);
 }
 
-take_more : (args : List Arg) (i : ℕ) (a d : Arg) → i < length args → get_or args i d ≡ a → take (suc i) args ≡ take i args ++ a ∷ []
+pub take_more : (args : List Arg) (i : ℕ) (a d : Arg) → i < length args → get_or args i d ≡ a → take (suc i) args ≡ take i args ++ a ∷ []
 take_more [] i a d h e = absurd (omega arith)
 take_more (x ∷ args) zero a d h e = ap (λ y. y ∷ []) e
 take_more (x ∷ args) (suc i) a d h e = ap (λ l. x ∷ l) (take_more args i a d (omega arith) e)

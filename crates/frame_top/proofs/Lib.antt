@@ -2,7 +2,6 @@ pub mod Binding
 pub mod Args
 pub mod NextArray
 pub mod NextJob
-pub mod Clear
 pub mod Facts
 pub mod Filling
 pub mod Jobs
@@ -15,3 +14,9 @@ pub mod Rows
 pub mod Scheduled
 pub mod Steps
 pub mod Tables
+pub mod Runnable
+pub mod Different
+pub mod SameBuilt
+pub mod Meanings
+pub mod Telling
+pub mod Whole

@@ -1,5 +1,6 @@
 -- The statements that make arrays, one after another.
 use Rattle.std.proofs.Common.{◌≡◌, ◌≢◌, ◌∙◌, ℕ, ◌+◌, ◌<◌, ◌≤◌, ◌⊎◌, inl, inr, ◌&&◌, Bool, max, IsTrue, ℤ, pos, List, [], ◌∷◌, length, drop, map, sum, get_or, Option, Some, None, slice_get, refl, sym, ap, subst, arith}
+use Rattle.std.specs.Prelude.{if◌then◌else◌}
 use Rattle.job_base.specs.Cells.{cell_list}
 use Rattle.frame_ast.specs.declared.script.Life.{Life}
 use Rattle.frame_ast.specs.declared.script.Life.TheVariants.{Persistent}
@@ -15,6 +16,7 @@ use Rattle.frame_ast.specs.Effects.{make, effect}
 use Rattle.frame_ast.specs.Plain.{is_persistent, plain_orders, array_length}
 use Rattle.frame_ast.specs.States.{ScriptState}
 use Rattle.native_array.specs.declared.array.ArrayAt.{ArrayAt}
+use Rattle.frame_top.specs.Built.{is_schedule, job_line}
 use Rattle.frame_top.specs.Held.{Holds, Puts}
 use Rattle.frame_top.specs.Progress.{set_of, orders, state_at, IsQuiet, Fits, words_below, Makes}
 use Rattle.frame_top.proofs.Facts.{persistent_is, le_of, array_kind, words_new}
@@ -87,12 +89,16 @@ makes_more script i arrays arrays' used total cells cells' x name at life values
   arrays_are = are;
   fits = subst (λ n. Fits script m.kinds n (i + 1)) (sym count) next.fits;
   plain = next.plain;
+  first_job = m.first_job ∙ passed;
   room = next.room;
   limit = m.limit;
 }
   where
     next : ArrayNext script i arrays used total m.kinds name at.len life values
     next = array_next script i arrays used total cells x name at.len life values m h e is
+
+    passed : job_line (drop i script.statements.items) ≡ job_line (drop (i + 1) script.statements.items)
+    passed = ap job_line (cut script.statements.items i x h e) ∙ ap (λ o. if is_schedule o then Some x.line else job_line (drop (i + 1) script.statements.items)) is
 
     size : words_of (new_array (set_of script) at.len values) ≡ at.len
     size = words_new (set_of script) at.len values (array_next script i arrays used total cells x name at.len life values m h e is).literal

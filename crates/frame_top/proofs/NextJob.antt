@@ -7,6 +7,7 @@ use Rattle.job_base.specs.Cells.{cell_list}
 use Rattle.frame_ast.specs.declared.kernel.Kernel.{Kernel}
 use Rattle.frame_ast.specs.declared.kernel.Param.{Param}
 use Rattle.frame_ast.specs.declared.script.Arg.{Arg}
+use Rattle.frame_ast.specs.declared.script.Order.{Order}
 use Rattle.frame_ast.specs.declared.script.Order.TheVariants.{Schedule}
 use Rattle.frame_ast.specs.declared.script.Statement.{Statement}
 use Rattle.frame_ast.specs.declared.script.Script.{Script}
@@ -19,7 +20,7 @@ use Rattle.frame_ast.specs.JobRuns.{Ran, Run, run_of, no_run, full_steps, trap_a
 use Rattle.frame_ast.specs.Jobs.{Book, only}
 use Rattle.frame_ast.specs.Kernels.{Outcome, execution, store_after, trap_after}
 use Rattle.frame_ast.specs.Orders.{Setting, params_of, is_parallel, made_by, kernel_params, kernel_parallel}
-use Rattle.frame_ast.specs.Plain.{IsPlain, plain_kernel, plain_param, plain_orders, is_given, names_once, completes_then_prints}
+use Rattle.frame_ast.specs.Plain.{plain_orders, is_given, names_once, completes_then_prints}
 use Rattle.frame_ast.specs.Refusals.{schedule_refusal}
 use Rattle.frame_ast.specs.Schedules.{givens, arguments_of, leave_all, widths_from}
 use Rattle.frame_ast.specs.States.{Value, JobTrap, ScriptState, container_of, container_at}
@@ -28,6 +29,7 @@ use Rattle.kernel_exec.specs.declared.binds.Bind.{Bind}
 use Rattle.kernel_exec.specs.Conditions.{IsUnwritten}
 use Rattle.kernel_exec.specs.Layout.{StandFor}
 use Rattle.kernel_exec.specs.Binds.{widths, own_of}
+use Rattle.frame_top.specs.Built.{IsBuilt, has_built_kernel, is_built_kernel, is_over_arrays}
 use Rattle.frame_top.specs.Held.{Holds}
 use Rattle.frame_top.specs.Progress.{set_of, orders, state_at, Fits, Makes}
 use Rattle.frame_top.proofs.Args.{AreNamed, are_named}
@@ -44,7 +46,6 @@ use Rattle.frame_top.proofs.Tables.{first_true, second_true, at_here, at_there}
 pub record JobNext (script : Script) (i : ℕ) (arrays : List ArrayAt) (kinds : List NameKind) (name kernel : ℕ) (args : List Arg) (k : Kernel) : Type 0 where
   pub found : slice_get script.kernels.items kernel ≡ Some k
   pub sequential : k.parallel ≡ false
-  pub plain_kernel : IsTrue (plain_kernel k)
   pub named : AreNamed (length arrays) k.params.items args
   pub once : IsTrue (names_once [] args)
   pub known : name ≤ length arrays
@@ -80,17 +81,17 @@ no_item : {A : Type 0} (xs : List A) → length xs ≡ 0 → xs ≡ []
 no_item [] h = refl
 no_item (x ∷ xs) h = absurd (omega arith)
 
-all_at : {A : Type 0} (p : A → Bool) (xs : List A) (n : ℕ) (x : A) → IsTrue (list_all p xs) → slice_get xs n ≡ Some x → IsTrue (p x)
-all_at p [] n x h e = cc
-all_at p (y ∷ ys) zero x h e = let same : y ≡ x = cc in subst (λ z. IsTrue (p z)) same (first_true (p y) (list_all p ys) h)
-all_at p (y ∷ ys) (suc n) x h e = all_at p ys n x (second_true (p y) (list_all p ys) h) e
+act_at : (p : Order → Bool) (xs : List Statement) (n : ℕ) (x : Statement) → IsTrue (list_all p (orders xs)) → n < length xs → x ≡ get_or xs n x → IsTrue (p x.act)
+act_at p [] n x h l e = absurd (omega arith)
+act_at p (y ∷ ys) zero x h l e = subst (λ (z : Statement). IsTrue (p z.act)) (sym e) (first_true (p y.act) (list_all p (orders ys)) h)
+act_at p (y ∷ ys) (suc n) x h l e = act_at p ys n x (second_true (p y.act) (list_all p (orders ys)) h) (omega arith) e
 
 a_kernel : (ns : Names) (o : Option Kernel) (args : List Arg) (cut defer : Option (ℕ × ℕ)) (waive after : List ℕ) → IsTrue (schedule_fits ns o args cut defer waive after) → (k : Kernel) × (o ≡ Some k) × IsTrue (args_fit ns defer k.params.items args)
 a_kernel ns None args cut defer waive after h = cc
 a_kernel ns (Some k) args cut defer waive after h =
     (k, refl, first_true (args_fit ns defer k.params.items args) (one_of k.parallel _ _) (first_true (args_fit ns defer k.params.items args && one_of k.parallel _ _) _ h))
 
-pub job_next : (script : Script) (i : ℕ) (arrays : List ArrayAt) (used total : ℕ) (cells : ℕ → ℤ) (x : Statement) (auto : Bool) (name kernel : ℕ) (args : _) (cut defer : Option (ℕ × ℕ)) (waive after : _) → (m : Makes script i arrays used total cells) → IsPlain script → i < length script.statements.items → x ≡ get_or script.statements.items i x → x.act ≡ Schedule auto name kernel args cut defer waive after
+pub job_next : (script : Script) (i : ℕ) (arrays : List ArrayAt) (used total : ℕ) (cells : ℕ → ℤ) (x : Statement) (auto : Bool) (name kernel : ℕ) (args : _) (cut defer : Option (ℕ × ℕ)) (waive after : _) → (m : Makes script i arrays used total cells) → IsBuilt script → i < length script.statements.items → x ≡ get_or script.statements.items i x → x.act ≡ Schedule auto name kernel args cut defer waive after
     → IsSimple auto cut defer waive.items after.items × ((k : Kernel) × JobNext script i arrays m.kinds name kernel args.items k)
 job_next script i arrays used total cells x auto name kernel args cut defer waive after m whole h e is = (
   simple,
@@ -98,9 +99,8 @@ job_next script i arrays used total cells x auto name kernel args cut defer waiv
     it.0,
     record {
       found = it.1;
-      sequential = not_true it.0.parallel (first_true (not it.0.parallel) _ plain_it);
-      plain_kernel = plain_it;
-      named = are_named (names_before m.kinds (length arrays)) it.0.params.items args.items (first_true (list_all plain_param it.0.params.items) _ (second_true (not it.0.parallel) _ plain_it)) (subst (λ d. IsTrue (args_fit (names_before m.kinds (length arrays)) d it.0.params.items args.items)) simple.defer_is it.2);
+      sequential = not_true it.0.parallel (first_true (not it.0.parallel) _ over_arrays);
+      named = are_named (names_before m.kinds (length arrays)) it.0.params.items args.items (second_true (not it.0.parallel) _ over_arrays) (subst (λ d. IsTrue (args_fit (names_before m.kinds (length arrays)) d it.0.params.items args.items)) simple.defer_is it.2);
       once = first_true (names_once [] args.items) (completes_then_prints name (orders (drop (i + 1) script.statements.items))) last;
       known = le_of name (length arrays) (first_true (nat_le name (length arrays)) _ (first_true (makes (names_before m.kinds (length arrays)) name HandleName) _ order));
       kind = handle_kind (slice_get m.kinds name) (second_true (nat_le name (length arrays)) _ (first_true (makes (names_before m.kinds (length arrays)) name HandleName) _ order));
@@ -143,8 +143,10 @@ job_next script i arrays used total cells x auto name kernel args cut defer waiv
     it : (k : Kernel) × (slice_get script.kernels.items kernel ≡ Some k) × IsTrue (args_fit (names_before m.kinds (length arrays)) defer k.params.items args.items)
     it = a_kernel (names_before m.kinds (length arrays)) (slice_get script.kernels.items kernel) args.items cut defer waive.items after.items (second_true (makes (names_before m.kinds (length arrays)) name HandleName) _ order)
 
-    plain_it : IsTrue (plain_kernel it.0)
-    plain_it = all_at plain_kernel script.kernels.items kernel it.0 whole.kernels it.1
+    over_arrays : IsTrue (is_over_arrays it.0)
+    over_arrays =
+        let has : IsTrue (has_built_kernel script.kernels.items (Schedule auto name kernel args cut defer waive after)) = subst (λ o. IsTrue (has_built_kernel script.kernels.items o)) is (act_at (has_built_kernel script.kernels.items) script.statements.items i x whole.kernels h e) in
+        subst (λ o. IsTrue (is_built_kernel o)) it.1 has
 
 -- WHAT THE JOB DOES
 

@@ -1,5 +1,6 @@
 -- What is so once the arrays were made and the job was run: only prints are left.
 use Rattle.std.proofs.Common.{◌≡◌, ◌∙◌, ⊎_elim, ℕ, zero, suc, ◌+◌, ◌<◌, ◌≤◌, Bool, true, false, ◌&&◌, ◌||◌, not, max, IsTrue, ℤ, List, [], ◌∷◌, length, map, drop, get_or, nat_eq, Option, Some, None, slice_get, refl, sym, ap, subst, arith}
+use Rattle.std.specs.Prelude.{if◌then◌else◌}
 use Rattle.job_base.specs.declared.Trap.{Trap}
 use Rattle.frame_ast.specs.declared.kernel.Kernel.{Kernel}
 use Rattle.frame_ast.specs.declared.script.Arg.{Arg}
@@ -12,7 +13,7 @@ use Rattle.frame_ast.specs.Conflicts.{Need, Uses, blocking, conflicts}
 use Rattle.frame_ast.specs.Effects.{accept, complete, effect}
 use Rattle.frame_ast.specs.Jobs.{Book, Jobs, only, nobody, greatest, with_completed, ancestors, ancestors_in, happens_before}
 use Rattle.frame_ast.specs.Orders.{made_by}
-use Rattle.frame_ast.specs.Plain.{IsPlain, HasNoTrap, plain_orders, completes_then_prints, prints_alone}
+use Rattle.frame_ast.specs.Plain.{HasNoTrap, plain_orders, completes_then_prints, prints_alone}
 use Rattle.frame_ast.specs.Refusals.{pending, pending_on}
 use Rattle.frame_ast.specs.Checks.{refusal}
 use Rattle.frame_ast.specs.Scripts.{act, act_all}
@@ -24,6 +25,7 @@ use Rattle.kernel_exec.specs.declared.binds.Bind.{Bind}
 use Rattle.kernel_exec.specs.Conditions.{IsUnwritten}
 use Rattle.kernel_exec.specs.Layout.{StandFor}
 use Rattle.std.proofs.lemmas.Option.{slice_get_within}
+use Rattle.frame_top.specs.Built.{IsBuilt, is_schedule, job_line}
 use Rattle.frame_top.specs.Held.{Holds, Bound}
 use Rattle.frame_top.specs.Progress.{set_of, orders, state_at, IsQuiet, Makes, HasMade, IsReady, makes_none, Prints}
 use Rattle.frame_top.proofs.Args.{or_there}
@@ -197,7 +199,7 @@ pub record IsJob (script : Script) (i : ℕ) (arrays : List ArrayAt) (used total
   pub state : state_at script (i + 1) ≡ accept (set_of script) (state_at script i) false name kernel args None None [] []
   pub inside : kernel < length script.kernels.items
 
-pub a_job : (script : Script) (i : ℕ) (arrays : List ArrayAt) (total : ℕ) (cells : ℕ → ℤ) (x : Statement) (auto : Bool) (name kernel : ℕ) (args : _) (cut defer : Option (ℕ × ℕ)) (waive after : _) → (made : HasMade script i arrays total cells) → IsPlain script → i < length script.statements.items → x ≡ get_or script.statements.items i x → x.act ≡ Schedule auto name kernel args cut defer waive after → (k : Kernel) × IsJob script i arrays made.used total cells name kernel args.items k
+pub a_job : (script : Script) (i : ℕ) (arrays : List ArrayAt) (total : ℕ) (cells : ℕ → ℤ) (x : Statement) (auto : Bool) (name kernel : ℕ) (args : _) (cut defer : Option (ℕ × ℕ)) (waive after : _) → (made : HasMade script i arrays total cells) → IsBuilt script → i < length script.statements.items → x ≡ get_or script.statements.items i x → x.act ≡ Schedule auto name kernel args cut defer waive after → (k : Kernel) × IsJob script i arrays made.used total cells name kernel args.items k
 a_job script i arrays total cells x auto name kernel args cut defer waive after made plain h e is =
     let j = job_next script i arrays made.used total cells x auto name kernel args cut defer waive after made.makes plain h e is in (
       j.1.0,
@@ -232,13 +234,13 @@ job_traps script i arrays used total cells cells' name kernel args k trap t j le
     trapped script i arrays used cells' j.makes.kinds name kernel args k t j.next (subst (λ o. IsLeft script i arrays used cells' name o (state_at script (i + 1))) (sym e) left)
 
 -- the schedule, from what the code read
-pub job_here : (script : Script) (i : ℕ) (arrays : List ArrayAt) (total : ℕ) (cells : ℕ → ℤ) (x : Statement) (xs : List Statement) (auto : Bool) (name kernel : ℕ) (args : _) (cut defer : Option (ℕ × ℕ)) (waive after : _) (l : Kernel) → (made : HasMade script i arrays total cells) → IsPlain script → xs ≡ script.statements.items → i < length xs → x ≡ get_or xs i x → x.act ≡ Schedule auto name kernel args cut defer waive after → l ≡ get_or script.kernels.items kernel l → IsJob script i arrays made.used total cells name kernel args.items l
+pub job_here : (script : Script) (i : ℕ) (arrays : List ArrayAt) (total : ℕ) (cells : ℕ → ℤ) (x : Statement) (xs : List Statement) (auto : Bool) (name kernel : ℕ) (args : _) (cut defer : Option (ℕ × ℕ)) (waive after : _) (l : Kernel) → (made : HasMade script i arrays total cells) → IsBuilt script → xs ≡ script.statements.items → i < length xs → x ≡ get_or xs i x → x.act ≡ Schedule auto name kernel args cut defer waive after → l ≡ get_or script.kernels.items kernel l → IsJob script i arrays made.used total cells name kernel args.items l
 job_here script i arrays total cells x xs auto name kernel args cut defer waive after l made plain v h e is found =
     let inside : i < length script.statements.items = subst (λ (ys : List Statement). i < length ys) v h in
     let at : x ≡ get_or script.statements.items i x = subst (λ (ys : List Statement). x ≡ get_or ys i x) v e in
     that_job script i arrays made.used total cells name kernel args.items l (a_job script i arrays total cells x auto name kernel args cut defer waive after made plain inside at is) found
 
-pub kernel_inside : (script : Script) (i : ℕ) (arrays : List ArrayAt) (total : ℕ) (cells : ℕ → ℤ) (x : Statement) (xs : List Statement) (auto : Bool) (name kernel : ℕ) (args : _) (cut defer : Option (ℕ × ℕ)) (waive after : _) → (made : HasMade script i arrays total cells) → IsPlain script → xs ≡ script.statements.items → i < length xs → x ≡ get_or xs i x → x.act ≡ Schedule auto name kernel args cut defer waive after → kernel < length script.kernels.items
+pub kernel_inside : (script : Script) (i : ℕ) (arrays : List ArrayAt) (total : ℕ) (cells : ℕ → ℤ) (x : Statement) (xs : List Statement) (auto : Bool) (name kernel : ℕ) (args : _) (cut defer : Option (ℕ × ℕ)) (waive after : _) → (made : HasMade script i arrays total cells) → IsBuilt script → xs ≡ script.statements.items → i < length xs → x ≡ get_or xs i x → x.act ≡ Schedule auto name kernel args cut defer waive after → kernel < length script.kernels.items
 kernel_inside script i arrays total cells x xs auto name kernel args cut defer waive after made plain v h e is =
     let inside : i < length script.statements.items = subst (λ (ys : List Statement). i < length ys) v h in
     let at : x ≡ get_or script.statements.items i x = subst (λ (ys : List Statement). x ≡ get_or ys i x) v e in
@@ -246,3 +248,10 @@ kernel_inside script i arrays total cells x xs auto name kernel args cut defer w
 
 pub bound_here : (arrays : List ArrayAt) (args args' : List Arg) (binds binds' : List Bind) → Bound arrays args' binds → args' ≡ args → binds' ≡ binds → Bound arrays args binds'
 bound_here arrays args args' binds binds' b e f = subst (λ z. Bound arrays z binds') e (subst (λ z. Bound arrays args' z) (sym f) b)
+
+-- its line
+pub job_at : (script : Script) (i : ℕ) (arrays : List ArrayAt) (used total : ℕ) (cells : ℕ → ℤ) (x : Statement) (xs : List Statement) (auto : Bool) (name kernel : ℕ) (args : _) (cut defer : Option (ℕ × ℕ)) (waive after : _) → Makes script i arrays used total cells → xs ≡ script.statements.items → i < length xs → x ≡ get_or xs i x → x.act ≡ Schedule auto name kernel args cut defer waive after → job_line script.statements.items ≡ Some x.line
+job_at script i arrays used total cells x xs auto name kernel args cut defer waive after m v h e is =
+    let inside : i < length script.statements.items = subst (λ (ys : List Statement). i < length ys) v h in
+    let at : x ≡ get_or script.statements.items i x = subst (λ (ys : List Statement). x ≡ get_or ys i x) v e in
+    m.first_job ∙ ap job_line (cut_at script.statements.items i x inside at) ∙ ap (λ o. if is_schedule o then Some x.line else job_line (drop (i + 1) script.statements.items)) is

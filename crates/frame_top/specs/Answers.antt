@@ -1,41 +1,61 @@
 -- What a run of the program answers, and why.
-use Rattle.std.specs.Prelude.{◌≡◌, ℕ, ◌<◌, ◌≤◌, nat_eq, IsTrue, List, [], ◌∷◌, take, length, codes, Option, Some, None, IfSome, IsSomeAnd}
+use Rattle.std.specs.Prelude.{◌≡◌, ◌≢◌, ◌⊎◌, ℕ, ◌<◌, ◌≤◌, nat_eq, IsTrue, List, [], ◌∷◌, take, length, codes, Option, Some, None, IfSome, IsSomeAnd}
 use Rattle.std.specs.List.{list_any}
 use Rattle.std.specs.Io.KnownBytes.{Appends}
 use Rattle.job_base.specs.Faults.{Rose}
+use Rattle.frame_ast.specs.declared.kernel.FaultKind.{FaultKind}
+use Rattle.frame_ast.specs.declared.kernel.FaultKind.TheVariants.{Syntax, TooLong as TooManyStatements}
 use Rattle.frame_ast.specs.declared.script.Script.{Script}
-use Rattle.frame_ast.specs.Accepted.{IsAccepted}
-use Rattle.frame_ast.specs.Answers.{no_script_line, script_size_line}
+use Rattle.frame_ast.specs.Answers.{no_script_line, script_refused_line, script_size_line, statements_line}
 use Rattle.frame_ast.specs.Orders.{no_table}
-use Rattle.frame_ast.specs.Plain.{IsPlain, HasNoTrap}
+use Rattle.frame_ast.specs.Plain.{HasNoTrap}
 use Rattle.frame_ast.specs.Scripts.{status_of, output_of}
-use Rattle.plain_script.specs.Spelling.{Spells}
+use Rattle.frame_script.specs.Loading.{Spells, IsRefused}
+use Rattle.frame_top.specs.Built.{StopsAt, unbuilt_at}
 use Rattle.frame_top.specs.Words.{script_word}
 
 -- WHAT A FILE'S BYTES ARE
 
 abbrev pub script_limit : ℕ
-script_limit = 16384
+script_limit = 16777216
 
 abbrev pub IsTooLong : List ℕ → Type 0
 IsTooLong bytes = script_limit < length bytes
 
--- The bytes spell this script, and it is accepted and of the forms that the program runs today.
-pub record IsRead (script : Script) (bytes : List ℕ) : Type 0 where
+-- they are refused at a line, for another fault than too many statements
+pub record IsFaulty (line : ℕ) (kind : FaultKind) (bytes : List ℕ) : Type 0 where
+  pub within : length bytes ≤ script_limit
+  pub refused : IsRefused bytes line kind
+  pub other : kind ≢ TooManyStatements
+
+-- they stand for too many statements
+pub record HasTooMany (bytes : List ℕ) : Type 0 where
+  pub within : length bytes ≤ script_limit
+  pub line : ℕ
+  pub refused : IsRefused bytes line TooManyStatements
+
+-- they spell a script that can't be run yet, for what stands on this line
+pub record IsStopped (line : ℕ) (bytes : List ℕ) : Type 0 where
+  pub within : length bytes ≤ script_limit
+  pub script : Script
+  pub spelled : Spells bytes script
+  pub stops : StopsAt script line
+
+-- they are refused, or spell a script that can't be run
+abbrev pub IsNotRun : ℕ → FaultKind → List ℕ → Type 0
+IsNotRun line kind bytes = IsFaulty line kind bytes ⊎ ((kind ≡ Syntax) × IsStopped line bytes)
+
+-- they spell this script, each statement of it can be run, and no job traps
+pub record IsRun (script : Script) (bytes : List ℕ) : Type 0 where
   pub within : length bytes ≤ script_limit
   pub spelled : Spells bytes script
-  pub accepted : IsAccepted script
-  pub plain : IsPlain script
-
--- and none of its jobs traps
-pub record IsRun (script : Script) (bytes : List ℕ) : Type 0 where
-  pub read : IsRead script bytes
+  pub built : unbuilt_at script ≡ None
   pub no_trap : HasNoTrap script
 
--- they are within the limit, and spell no script that runs
-pub record IsRefused (bytes : List ℕ) : Type 0 where
-  pub within : length bytes ≤ script_limit
-  pub none : (script : Script) → IsRun script bytes → ⊥
+-- What a script answers: it stops at a line, or it runs.
+pub data Outcome (script : Script) (status : ℕ) (text : List ℕ) : Type 0 where
+  Stops : (line : ℕ) → StopsAt script line → status ≡ 3 → text ≡ script_refused_line line Syntax → Outcome script status text
+  Runs : unbuilt_at script ≡ None → HasNoTrap script → status ≡ status_of script no_table → text ≡ output_of script no_table → Outcome script status text
 
 -- THE FILE THAT THE WORDS NAME
 
@@ -53,10 +73,6 @@ ScriptHasIfTold words bytes P = IsSomeAnd (script_word words) (λ name. IfSome (
 abbrev pub usage_text : List ℕ
 usage_text = codes "usage: frame_run SCRIPT\n"
 
--- no line and no kind is told until every form of a script is read
-abbrev pub refused_text : List ℕ
-refused_text = codes "script refused\n"
-
 -- THE ANSWERS
 
 -- The first step that refuses, or the run: the status and the text, and what has to be so.
@@ -65,7 +81,9 @@ pub data Cause (words : List (List ℕ)) (bytes : List ℕ → Option (List ℕ)
   Usage : script_word words ≡ None → status ≡ 2 → text ≡ usage_text → Cause words bytes risen failed status text
   Unread : IsSomeAnd (script_word words) (λ name. risen × (failed ≡ Some name)) → status ≡ 6 → text ≡ no_script_line → Cause words bytes risen failed status text
   TooLong : ScriptHasIfTold words bytes IsTooLong → status ≡ 9 → text ≡ script_size_line → Cause words bytes risen failed status text
-  Refused : ScriptHasIfTold words bytes IsRefused → status ≡ 3 → text ≡ refused_text → Cause words bytes risen failed status text
+  Refused : (line : ℕ) (kind : FaultKind) → ScriptHasIfTold words bytes (IsFaulty line kind) → status ≡ 3 → text ≡ script_refused_line line kind → Cause words bytes risen failed status text
+  TooMany : ScriptHasIfTold words bytes HasTooMany → status ≡ 9 → text ≡ statements_line → Cause words bytes risen failed status text
+  Stopped : (line : ℕ) → ScriptHasIfTold words bytes (IsStopped line) → status ≡ 3 → text ≡ script_refused_line line Syntax → Cause words bytes risen failed status text
   Ran : (script : Script) → ScriptHasIfTold words bytes (IsRun script) → status ≡ status_of script no_table → text ≡ output_of script no_table → Cause words bytes risen failed status text
 
 -- What became of a status and its text: all was written, or the sink failed, or memory was wanting before the first byte.
@@ -85,6 +103,11 @@ pub data IsDue (result status : ℕ) (unread untaken : Type 0) : Type 0 where
   NotRead : result ≡ 6 → unread → IsDue result status unread untaken
   NotTaken : result ≡ 7 → untaken → IsDue result status unread untaken
   NoMemory : result ≡ 8 → IsDue result status unread untaken
+
+-- and with it this text
+pub record AreDue (result status : ℕ) (old new : Option (List ℕ)) (text : List ℕ) (unread untaken : Type 0) : Type 0 where
+  pub status_is : IsDue result status unread untaken
+  pub text_is : result ≡ status → Appends old new text
 
 -- the statuses that there are
 abbrev pub IsStatus : ℕ → Type 0

@@ -1,4 +1,5 @@
 pub mod Words
+pub mod Built
 pub mod Answers
 pub mod Held
 pub mod Progress

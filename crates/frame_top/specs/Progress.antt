@@ -14,6 +14,7 @@ use Rattle.frame_ast.specs.Refusals.{pending}
 use Rattle.frame_ast.specs.Scripts.{act_all}
 use Rattle.frame_ast.specs.States.{ScriptState, at_start}
 use Rattle.native_array.specs.declared.array.ArrayAt.{ArrayAt}
+use Rattle.frame_top.specs.Built.{job_line}
 use Rattle.frame_top.specs.Held.{Holds}
 
 abbrev pub set_of : Script → Setting
@@ -54,6 +55,8 @@ pub record Makes (script : Script) (i : ℕ) (arrays : List ArrayAt) (used total
   pub arrays_are : (n : ℕ) → n < length arrays → slice_get kinds n ≡ Some ArrayName
   pub fits : Fits script kinds (length arrays) i
   pub plain : IsTrue (plain_orders (orders (drop i script.statements.items)))
+  -- no job was scheduled
+  pub first_job : job_line script.statements.items ≡ job_line (drop i script.statements.items)
   pub room : used + sum (map (λ x. array_length x.act) (drop i script.statements.items)) ≤ total
   pub limit : total ≤ 1048576
 

@@ -4,7 +4,8 @@ ghost use Rattle.job_base.specs.Cells.{cell_list};
 ghost use Rattle.frame_ast.specs.Accepted.{IsAccepted, literal_fits};
 ghost use Rattle.frame_ast.specs.Contents.{Cells};
 ghost use Rattle.frame_ast.specs.Orders.{new_array};
-ghost use Rattle.frame_ast.specs.Plain.{IsPlain, array_length};
+ghost use Rattle.frame_ast.specs.Plain.{array_length};
+ghost use Rattle.frame_top.specs.Built.{IsBuilt};
 ghost use Rattle.frame_top.specs.Progress.{set_of, HasMade};
 ghost use Rattle.frame_top.specs.Held.{Puts};
 
@@ -12,8 +13,8 @@ use frame_ast::script::{Order, Script};
 use job_base::{Mem, NoMemory, Word};
 use native_array::ArrayAt;
 
-// How many words the array takes that a statement makes.
-fn array_words(order: &Order) -> u32
+/// How many words the array takes that a statement makes.
+pub fn array_words(order: &Order) -> u32
     ensures { result ≡ array_length order.now }
 {
     match order {
@@ -89,7 +90,7 @@ pub fn make_arrays<M: Mem>(
     mem: &mut M,
 ) -> Result<usize, NoMemory>
     requires accepted { IsAccepted script.now }
-    requires plain { IsPlain script.now }
+    requires built { IsBuilt script.now }
     requires total { sum (map (λ x. array_length x.act) script.now.statements.items) ≡ total }
     requires none { length arrays.old.items ≡ 0 }
     requires writable { (w : ℕ) → w < total → IsTrue (M.writable mem.old w) }

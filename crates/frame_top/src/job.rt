@@ -1,8 +1,9 @@
 // The job of a script.
-ghost use Rattle.std.specs.Prelude.{◌≡◌, ◌<◌, ◌≤◌, ℕ, [], Some, length, slice_get, IsTrue, IfOk, OnOk, IsErrOf};
+ghost use Rattle.std.specs.Prelude.{◌≡◌, ◌<◌, ◌≤◌, ℕ, [], Some, length, slice_get, IsTrue, IfOk, OnOk};
 ghost use Rattle.frame_ast.specs.Accepted.{IsAccepted};
-ghost use Rattle.frame_ast.specs.Plain.{IsPlain, HasNoTrap};
+ghost use Rattle.frame_ast.specs.Plain.{HasNoTrap};
 ghost use Rattle.frame_ast.specs.declared.script.Arg.{Arg as ArgTree};
+ghost use Rattle.frame_top.specs.Built.{IsBuilt, job_line};
 ghost use Rattle.frame_top.specs.Held.{Bound};
 ghost use Rattle.frame_top.specs.Progress.{HasMade, IsReady};
 
@@ -15,8 +16,8 @@ use std::alloc::Global;
 /// Why nothing is printed.
 #[derive(Clone, Copy, Debug, PartialEq, Eq)]
 pub enum Stop {
-    /// The job of the script traps.
-    Trapped,
+    /// The job of the script traps. This is the line of its `schedule`.
+    Trapped(u32),
     NoMemory,
 }
 
@@ -68,13 +69,14 @@ pub fn run_job<M: Mem>(
     mem: &mut M,
 ) -> Result<usize, Stop>
     requires accepted { IsAccepted script.now }
-    requires plain { IsPlain script.now }
+    requires built { IsBuilt script.now }
     requires made { HasMade script.now made arrays.now words (M.cells mem.old) }
     requires unbound { length room.old.binds.items ≡ 0 }
     requires readable { (w : ℕ) → w < words → IsTrue (M.readable mem.old w) }
     requires writable { (w : ℕ) → w < words → IsTrue (M.writable mem.old w) }
     ensures ready { IfOk result (λ i. IsReady script.now i arrays.now words (M.cells mem.new)) }
-    ensures trapped { IsErrOf result Stop.Trapped → HasNoTrap script.now → ⊥ }
+    ensures trapped { (line : ℕ) → result ≡ Err (Stop.Trapped line) → HasNoTrap script.now → ⊥ }
+    ensures line { (line : ℕ) → result ≡ Err (Stop.Trapped line) → job_line script.now.statements.items ≡ Some line }
     ensures readable { M.readable mem.new ≡ M.readable mem.old }
 {
     let Some(statement) = script.statements.get(made) else {
@@ -90,6 +92,6 @@ pub fn run_job<M: Mem>(
     let kernel = &script.kernels[*kernel as usize];
     match execute(kernel, &room.binds, None, &mut room.scratch, mem) {
         Ok(()) => Ok(made + 2),
-        Err(_) => Err(Stop::Trapped),
+        Err(_) => Err(Stop::Trapped(statement.line)),
     }
 }

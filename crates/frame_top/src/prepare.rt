@@ -1,8 +1,9 @@
 // All that is done before the first line is printed.
-ghost use Rattle.std.specs.Prelude.{◌≡◌, ◌≤◌, ℕ, ℤ, pos, length, map, sum, nat_lt, replicate, IfOk, OnOk, IsErrOf};
+ghost use Rattle.std.specs.Prelude.{◌≡◌, ◌≤◌, ℕ, pos, Some, length, nat_lt, replicate, IfOk};
 ghost use Rattle.job_base.specs.Cells.{cells_of};
 ghost use Rattle.frame_ast.specs.Accepted.{IsAccepted};
-ghost use Rattle.frame_ast.specs.Plain.{IsPlain, HasNoTrap, array_length};
+ghost use Rattle.frame_ast.specs.Plain.{HasNoTrap};
+ghost use Rattle.frame_top.specs.Built.{IsBuilt, job_line};
 ghost use Rattle.frame_top.specs.Progress.{CanPrint};
 
 use crate::arrays::{make_arrays, words_needed};
@@ -44,9 +45,10 @@ fn set_up(alloc: Global, names: usize, words: u32) -> Result<Setup, NoMemory>
 /// Makes the arrays of a script and runs its job.
 pub fn prepare(alloc: Global, script: &Script) -> Result<Prepared, Stop>
     requires accepted { IsAccepted script.now }
-    requires plain { IsPlain script.now }
+    requires built { IsBuilt script.now }
     ensures ready { IfOk result (λ p. CanPrint script.now p.prints p.arrays.items (cells_of p.mem) (λ w. nat_lt w (length p.mem))) }
-    ensures trapped { IsErrOf result Stop.Trapped → HasNoTrap script.now → ⊥ }
+    ensures trapped { (line : ℕ) → result ≡ Err (Stop.Trapped line) → HasNoTrap script.now → ⊥ }
+    ensures line { (line : ℕ) → result ≡ Err (Stop.Trapped line) → job_line script.now.statements.items ≡ Some line }
 {
     let words = words_needed(script);
     let Ok(mut setup) = set_up(alloc, script.names.len(), words) else {

@@ -18,7 +18,15 @@ const TRAPPING: &str =
 
 const AGAIN: &str = "array x 2 = 1 2\narray x 1 = -7\narray e 0\nprint x\nprint e\n";
 
+const LEFT_PENDING: &str = "array x 4\narray y 4\nschedule h triple(x, y)\n";
+
+const ONE_FOR_BOTH: &str = "array x 4\nschedule h triple(x, x)\ncomplete h\n";
+
 const USAGE: &str = "usage: frame_run SCRIPT\n";
+
+// Nine blocks, each inside the one before.
+const DEEP: &[u8] =
+    b"repeat 1 {\nrepeat 1 {\nrepeat 1 {\nrepeat 1 {\nrepeat 1 {\nrepeat 1 {\nrepeat 1 {\nrepeat 1 {\nrepeat 1 {\nflush\n}\n}\n}\n}\n}\n}\n}\n}\n}\n";
 
 // Runs the words on a file `s`.
 fn answer(alloc: Global, words: &[&str], source: &[u8], sink: &mut MemSink) -> Result<u8, Fail> {
@@ -44,8 +52,10 @@ fn scripts(rt: HostRuntime) -> Result<(), Fail> {
     let alloc = rt.alloc();
     let rows = [
         (TRIPLE, 0, "y = [3, 6, 9, 12]\n"),
-        (WITHOUT_COMPLETE, 3, "script refused\n"),
-        (TRAPPING, 3, "script refused\n"),
+        (WITHOUT_COMPLETE, 3, "script refused line 5: syntax\n"),
+        (LEFT_PENDING, 3, "script refused line 4: syntax\n"),
+        (ONE_FOR_BOTH, 3, "script refused line 3: syntax\n"),
+        (TRAPPING, 3, "script refused line 4: syntax\n"),
         (AGAIN, 0, "x = [-7]\ne = []\n"),
     ];
     for (source, status, text) in rows {
@@ -55,9 +65,67 @@ fn scripts(rt: HostRuntime) -> Result<(), Fail> {
             .ok_or("memory")?;
         assert_eq!(rt;
             answer(alloc, &["s"], source.as_bytes(), &mut sink)?,
-            status
+            status,
+            "{source}"
         );
-        assert_eq!(rt; sink.bytes(), text.as_bytes());
+        assert_eq!(rt; sink.bytes(), text.as_bytes(), "{source}");
+    }
+    Ok(())
+}
+
+// What is told of files that are refused, by the line and the kind of their first fault.
+#[test]
+fn refusals(rt: HostRuntime) -> Result<(), Fail> {
+    let alloc = rt.alloc();
+    let rows: [(&[u8], u8, &str); 13] = [
+        (b"array a", 3, "script refused line 1: syntax\n"),
+        (b"\xff", 3, "script refused line 1: syntax\n"),
+        (
+            b"array a 2 = 1",
+            3,
+            "script refused line 1: kind mismatch\n",
+        ),
+        (
+            b"array a 1\nlist a 1",
+            3,
+            "script refused line 2: kind mismatch\n",
+        ),
+        (DEEP, 3, "script refused line 9: limit\n"),
+        (
+            b"array a 9223372036854775808",
+            3,
+            "script refused line 1: limit\n",
+        ),
+        (
+            b"parallel over(a: wo array by 0) { }",
+            3,
+            "script refused line 1: limit\n",
+        ),
+        (b"print x", 3, "script refused line 1: unknown name\n"),
+        (
+            b"job f(a: wo array) { a[0] = a[0]; }",
+            3,
+            "script refused line 1: read of write-only\n",
+        ),
+        (
+            b"job f(a: ro array) { a[0] = 1; }",
+            3,
+            "script refused line 1: write of read-only\n",
+        ),
+        (
+            b"job f(i: int, i: int) { }",
+            3,
+            "script refused line 1: duplicate name\n",
+        ),
+        (b"repeat 65536 {\nflush\n}\nflush", 9, "limit: statements\n"),
+        (b"list l 4\nprint l", 3, "script refused line 1: syntax\n"),
+    ];
+    for (source, status, text) in rows {
+        let mut sink = MemSink::new(alloc, 100, 100, Vec::new(alloc))
+            .ok()
+            .ok_or("memory")?;
+        assert_eq!(rt; answer(alloc, &["s"], source, &mut sink)?, status, "{text}");
+        assert_eq!(rt; sink.bytes(), text.as_bytes(), "{text}");
     }
     Ok(())
 }
@@ -98,9 +166,12 @@ fn a_sink_that_fails(rt: HostRuntime) -> Result<(), Fail> {
 #[test]
 fn a_file_that_is_too_long(rt: HostRuntime) -> Result<(), Fail> {
     let alloc = rt.alloc();
-    let rows = [(16_384usize, 0u8, ""), (16_385, 9, "limit: script size\n")];
+    let rows = [
+        (16_777_216usize, 0u8, ""),
+        (16_777_217, 9, "limit: script size\n"),
+    ];
     for (size, status, text) in rows {
-        let source = vec![in alloc; b'\n'; size]?;
+        let source = vec![in alloc; b'#'; size]?;
         let mut sink = MemSink::new(alloc, 100, 100, Vec::new(alloc))
             .ok()
             .ok_or("memory")?;

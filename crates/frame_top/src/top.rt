@@ -1,40 +1,33 @@
 // The top call.
-ghost use Rattle.std.specs.Prelude.{◌⊎◌, ◌≡◌, ◌≢◌, ◌<◌, ◌≤◌, List, [], length, map, nat_lt, None, Some, IsSomeAnd, string_bytes};
+ghost use Rattle.std.specs.Prelude.{◌⊎◌, ◌≡◌, ◌<◌, ◌≤◌, ℕ, List, [], length, map, nat_lt, None, Some, IsSomeAnd, string_bytes};
 ghost use Rattle.std.specs.Io.KnownBytes.{Appends};
 ghost use Rattle.job_base.specs.Faults.{Rose};
+ghost use Rattle.frame_ast.specs.declared.kernel.FaultKind.{FaultKind as Fault};
+ghost use Rattle.frame_ast.specs.declared.kernel.FaultKind.TheVariants.{Syntax};
 ghost use Rattle.frame_ast.specs.declared.script.Script.{Script as ScriptTree};
+ghost use Rattle.frame_ast.specs.Accepted.{IsAccepted};
 ghost use Rattle.frame_top.specs.Progress.{CanPrint};
 ghost use Rattle.job_base.specs.Cells.{cells_of};
-ghost use Rattle.frame_ast.specs.Answers.{no_script_line, script_size_line};
+ghost use Rattle.frame_ast.specs.Answers.{no_script_line, script_refused_line, script_size_line, statements_line};
 ghost use Rattle.frame_ast.specs.Orders.{no_table};
 ghost use Rattle.frame_ast.specs.Scripts.{status_of, output_of};
-ghost use Rattle.frame_top.specs.Answers.{Answers, Cause, IsDue, IsRefused, IsRun, IsStatus, IsTooLong, ScriptHas, ScriptHasIfTold, TakesPart, Told, refused_text, usage_text};
+ghost use Rattle.frame_top.specs.Answers.{Answers, AreDue, Cause, HasTooMany, IsDue, IsFaulty, IsNotRun, IsRun, IsStatus, IsStopped, IsTooLong, Outcome, ScriptHas, ScriptHasIfTold, TakesPart, Told, usage_text};
 ghost use Rattle.frame_top.specs.Words.{script_word};
 
+use crate::built::unbuilt;
 use crate::job::Stop;
 use crate::lines::print_lines;
 use crate::prepare::{Prepared, prepare};
+use crate::refusal::{refuse, say, say_fault};
 use crate::words::script_name;
+use frame_ast::kernel::FaultKind;
 use frame_ast::script::Script;
-use frame_print::print_text;
+use frame_script::{LoadFault, parse_script};
 use job_base::{FileFault, Files, Gate, Sink};
-use plain_script::{LoadFault, read_script};
 use std::alloc::Global;
 
 /// The greatest size of a script file, in bytes.
-const SCRIPT_LIMIT: u64 = 16_384;
-
-// Writes the text of a status.
-fn say<S: Sink>(status: u8, text: &[u8], sink: &mut S) -> u8
-    ensures status { (result ≡ status) ⊎ (result ≡ 7) }
-    ensures later { S.faults sink.old ≤ S.faults sink.new }
-    ensures told { Told (S.taken sink.old) (S.taken sink.new) (S.faults sink.old) (S.faults sink.new) status text.now result }
-{
-    match print_text(text, sink) {
-        Ok(()) => status,
-        Err(_) => 7,
-    }
-}
+const SCRIPT_LIMIT: u64 = 16_777_216;
 
 // Prints what a prepared script prints.
 fn print_all<S: Sink>(script: &Script, prepared: &mut Prepared, sink: &mut S) -> u8
@@ -46,6 +39,22 @@ fn print_all<S: Sink>(script: &Script, prepared: &mut Prepared, sink: &mut S) ->
     match print_lines(script, from, &prepared.arrays, &mut prepared.mem, sink) {
         Ok(()) => 0,
         Err(_) => 7,
+    }
+}
+
+// Runs a script, where it can be run.
+fn run<S: Sink>(alloc: Global, script: &Script, sink: &mut S) -> u8
+    requires { IsAccepted script.now }
+    ensures status { IsStatus result }
+    ensures answer { Answers (Outcome script.now) (S.taken sink.old) (S.taken sink.new) (S.faults sink.old) (S.faults sink.new) result }
+{
+    if let Some(line) = unbuilt(script) {
+        return refuse(alloc, line, FaultKind::Syntax, sink);
+    }
+    match prepare(alloc, script) {
+        Ok(mut prepared) => print_all(script, &mut prepared, sink),
+        Err(Stop::Trapped(line)) => refuse(alloc, line, FaultKind::Syntax, sink),
+        Err(Stop::NoMemory) => 8,
     }
 }
 
@@ -65,32 +74,29 @@ fn answer<F: Files, S: Sink>(alloc: Global, words: &[String], files: &mut F, sin
         Err(FileFault::TooLong) => return say(9, b"limit: script size\n", sink),
         Err(FileFault::NoMemory) => return 8,
     };
-    let script = match read_script(alloc, &source) {
+    let script = match parse_script(alloc, &source) {
         Ok(script) => script,
-        Err(LoadFault::Refused) => return say(3, b"script refused\n", sink),
+        Err(LoadFault::Refused { line, kind }) => return say_fault(alloc, line, kind, sink),
         Err(LoadFault::NoMemory) => return 8,
     };
-    match prepare(alloc, &script) {
-        Ok(mut prepared) => print_all(&script, &mut prepared, sink),
-        Err(Stop::Trapped) => say(3, b"script refused\n", sink),
-        Err(Stop::NoMemory) => 8,
-    }
+    run(alloc, &script, sink)
 }
 
 /// Reads the script that the words name, runs it, and answers the exit status of the program.
 ///
-/// The words are exactly SCRIPT. A file of at most 16,384 bytes is run where it spells an accepted script of the forms
-/// that are built so far, and no job of it traps. `gate` is passed round each piece once there are workers.
+/// The words are exactly SCRIPT. A file of at most 16,777,216 bytes is refused for its first fault, or else for the first
+/// statement that `unbuilt` finds, or for the `schedule` of a job that traps; the last two can't be run yet. Every other
+/// file is run. `gate` is passed round each piece once there are workers.
 ///
 /// | Status | Text |
 /// |---|---|
 /// | 0 | what the script prints |
 /// | 2 | the usage line: the words are no command |
-/// | 3 | `script refused` |
+/// | 3 | `script refused line L: KIND` |
 /// | 6 | `cannot read script`: a read failed, which `files` counts |
 /// | 7 | some first bytes of another text: `sink` failed, which it counts |
 /// | 8 | nothing: memory was not found |
-/// | 9 | `limit: script size` |
+/// | 9 | `limit: script size`, or `limit: statements` |
 pub fn run_frame<F: Files, S: Sink, G: Gate>(
     alloc: Global,
     words: &[String],
@@ -110,25 +116,26 @@ pub fn run_frame<F: Files, S: Sink, G: Gate>(
     ensures ran { result ≡ 0 → ScriptHasIfTold (map (λ w. string_bytes w) words.now) (F.bytes files.old) (λ b. (script : ScriptTree) × IsRun script b
         × (status_of script no_table ≡ 0) × Appends (S.taken sink.old) (S.taken sink.new) (output_of script no_table)) }
     ensures usage { result ≡ 2 → script_word (map (λ w. string_bytes w) words.now) ≡ None }
-    ensures refused { result ≡ 3 → ScriptHasIfTold (map (λ w. string_bytes w) words.now) (F.bytes files.old) IsRefused }
+    ensures refused { result ≡ 3 → (line : ℕ) × (kind : Fault) × ScriptHasIfTold (map (λ w. string_bytes w) words.now) (F.bytes files.old) (IsNotRun line kind) × Appends (S.taken sink.old) (S.taken sink.new) (script_refused_line line kind) }
     ensures unread { result ≡ 6 → IsSomeAnd (script_word (map (λ w. string_bytes w) words.now)) (λ name. Rose (F.faults files.old) (F.faults files.new) × (F.last_failed files.new ≡ Some name)) }
     ensures untaken { result ≡ 7 → Rose (S.faults sink.old) (S.faults sink.new) }
     ensures no_memory { result ≡ 8 → Appends (S.taken sink.old) (S.taken sink.new) [] }
-    ensures too_long { result ≡ 9 → ScriptHasIfTold (map (λ w. string_bytes w) words.now) (F.bytes files.old) IsTooLong }
+    ensures too_long { result ≡ 9 → (ScriptHasIfTold (map (λ w. string_bytes w) words.now) (F.bytes files.old) IsTooLong × Appends (S.taken sink.old) (S.taken sink.new) script_size_line)
+        ⊎ (ScriptHasIfTold (map (λ w. string_bytes w) words.now) (F.bytes files.old) HasTooMany × Appends (S.taken sink.old) (S.taken sink.new) statements_line) }
 
     // The text that is written with it.
     ensures usage_line { result ≡ 2 → Appends (S.taken sink.old) (S.taken sink.new) usage_text }
-    ensures refused_line { result ≡ 3 → Appends (S.taken sink.old) (S.taken sink.new) refused_text }
     ensures unread_line { result ≡ 6 → Appends (S.taken sink.old) (S.taken sink.new) no_script_line }
-    ensures too_long_line { result ≡ 9 → Appends (S.taken sink.old) (S.taken sink.new) script_size_line }
     ensures part { result ≡ 7 → TakesPart (Cause (map (λ w. string_bytes w) words.now) (F.bytes files.old) (Rose (F.faults files.old) (F.faults files.new)) (F.last_failed files.new)) (S.taken sink.old) (S.taken sink.new) }
 
     // When a status is due.
     ensures usage_due { script_word (map (λ w. string_bytes w) words.now) ≡ None → IsDue result 2 ⊥ (Rose (S.faults sink.old) (S.faults sink.new)) }
-    ensures refused_due { ScriptHas (map (λ w. string_bytes w) words.now) (F.bytes files.old) IsRefused →
-        IsDue result 3 (Rose (F.faults files.old) (F.faults files.new)) (Rose (S.faults sink.old) (S.faults sink.new)) }
-    ensures too_long_due { ScriptHas (map (λ w. string_bytes w) words.now) (F.bytes files.old) IsTooLong →
-        IsDue result 9 (Rose (F.faults files.old) (F.faults files.new)) (Rose (S.faults sink.old) (S.faults sink.new)) }
+    ensures too_long_due { ScriptHas (map (λ w. string_bytes w) words.now) (F.bytes files.old) IsTooLong → AreDue result 9 (S.taken sink.old) (S.taken sink.new) script_size_line (Rose (F.faults files.old) (F.faults files.new)) (Rose (S.faults sink.old) (S.faults sink.new)) }
+    ensures refused_due { (line : ℕ) (kind : Fault) → ScriptHas (map (λ w. string_bytes w) words.now) (F.bytes files.old) (IsFaulty line kind) →
+        AreDue result 3 (S.taken sink.old) (S.taken sink.new) (script_refused_line line kind) (Rose (F.faults files.old) (F.faults files.new)) (Rose (S.faults sink.old) (S.faults sink.new)) }
+    ensures too_many_due { ScriptHas (map (λ w. string_bytes w) words.now) (F.bytes files.old) HasTooMany → AreDue result 9 (S.taken sink.old) (S.taken sink.new) statements_line (Rose (F.faults files.old) (F.faults files.new)) (Rose (S.faults sink.old) (S.faults sink.new)) }
+    ensures stopped_due { (line : ℕ) → ScriptHas (map (λ w. string_bytes w) words.now) (F.bytes files.old) (IsStopped line) →
+        AreDue result 3 (S.taken sink.old) (S.taken sink.new) (script_refused_line line Syntax) (Rose (F.faults files.old) (F.faults files.new)) (Rose (S.faults sink.old) (S.faults sink.new)) }
 
     // What stays.
     ensures same { F.bytes files.new ≡ F.bytes files.old }

@@ -57,7 +57,7 @@ module _ (of : Expr → ℕ) (join : ℕ → ℕ → ℕ) (same_of : (e f : Expr
   same_measure _ _ (SameLayer.for {e = e} {f = f} {e2 = e2} {f2 = f2} same second inner) = λ i. 1 + join (same_of e f same i) (join (same_of e2 f2 second i) (all_joined join (inner i)))
   same_measure _ _ (SameLayer.while {e = e} {f = f} same inner) = λ i. 1 + join (same_of e f same i) (all_joined join (inner i))
 
-  same_measures : (xs ys : List Stmt) → SameBody xs ys → all_joined join (map (fold-Stmt ℕ (measured of join)) xs) ≡ all_joined join (map (fold-Stmt ℕ (measured of join)) ys)
+  pub same_measures : (xs ys : List Stmt) → SameBody xs ys → all_joined join (map (fold-Stmt ℕ (measured of join)) xs) ≡ all_joined join (map (fold-Stmt ℕ (measured of join)) ys)
   same_measures xs ys same = ap (all_joined join) (same_folds ℕ (measured of join) (measured of join) same_measure xs ys same)
 
 -- what forms ask of parameters
@@ -137,7 +137,7 @@ same_params_fit (p ∷ ps) [] same = absurd same
 same_params_fit (p ∷ ps) (q ∷ qs) same =
     λ i. param_fits (record p { kind = same.0.kind i; access = same.0.access i; by = same.0.by i }) && same_params_fit ps qs same.1 i
 
-same_count : (ps qs : List Param) → Pairwise SameParam ps qs → length ps ≡ length qs
+pub same_count : (ps qs : List Param) → Pairwise SameParam ps qs → length ps ≡ length qs
 same_count [] [] same = refl
 same_count [] (q ∷ qs) same = absurd same
 same_count (p ∷ ps) [] same = absurd same

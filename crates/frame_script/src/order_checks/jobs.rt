@@ -13,15 +13,13 @@ ghost use Rattle.frame_script.specs.Checks.{Checked, among, Gives, IsPlace, AreA
 ghost use Rattle.frame_script.specs.Scheduled.{IsBehind};
 ghost use Rattle.frame_script.specs.Raw as Form;
 
-use crate::checks::{HAS_ELEMENTS, handles, limited, made, refused, signed, used};
+use crate::checks::{HAS_ELEMENTS, MOST_ELEMENTS, handles, limited, made, refused, signed, used};
 use crate::raw::{RawArg, RawNumber, RawSizes};
 use crate::{Kernels, NameKind, Names, OrderFault, Source};
 use frame_ast::kernel::{FaultKind, Kernel, ParamKind};
 use frame_ast::script::{Arg, Order};
 use job_base::Access;
 use std::alloc::Global;
-
-const MOST_ELEMENTS: u32 = 1_048_576;
 
 // ARGUMENTS
 

@@ -9,17 +9,14 @@ ghost use Rattle.frame_script.specs.Spelling.{Says, names_with};
 ghost use Rattle.frame_script.specs.Checks.{Checked, Gives, bare};
 
 use crate::checks::{
-    CONTAINERS, all_signed, handles, is_among, limited, made, maybe_signed, refused, short,
-    short_column, used,
+    CONTAINERS, MOST_ELEMENTS, all_signed, handles, is_among, limited, made, maybe_signed, refused,
+    short, short_column, used,
 };
 use crate::raw::RawNumber;
 use crate::{NameKind, Names, OrderFault, Source};
 use frame_ast::kernel::FaultKind;
 use frame_ast::script::{Life, Order};
 use std::alloc::Global;
-
-/// The greatest length of an array, and of what is like it.
-const MOST_ELEMENTS: u32 = 1_048_576;
 
 // An array that is given values has as many as its length says.
 fn counted(source: Source<'_>, at: u32, values: &[RawNumber]) -> Result<(), OrderFault>

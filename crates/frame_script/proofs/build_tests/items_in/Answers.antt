@@ -8,11 +8,11 @@ use Rattle.frame_script.proofs.build_tests.items_in.Goals as goal
 
 pub file_events-requires-clause-few : goal.file_events-requires-clause-few
 file_events-requires-clause-few c =
-    let size : length c.deref.result.now ≡ length (tokens_of c.args.source.now) = ap length (c.deref.ensures.value ∙ c.in_ok-tokens.ensures) in
+    let size : length c.deref.result.now ≡ length (tokens_of c.args.source.now) = ap length (c.deref.ensures.value ∙ c.in_ok-tokens.ensures.tokens) in
     omega (arith, tokens_of-few c.args.source.now)
 
 pub file_events-requires-clause-ended : goal.file_events-requires-clause-ended
-file_events-requires-clause-ended c = subst (λ ts. IsEnded (kinds ts)) (sym (c.deref.ensures.value ∙ c.in_ok-tokens.ensures)) (kinds_of-ended c.args.source.now)
+file_events-requires-clause-ended c = subst (λ ts. IsEnded (kinds ts)) (sym (c.deref.ensures.value ∙ c.in_ok-tokens.ensures.tokens)) (kinds_of-ended c.args.source.now)
 
 pub items_of-requires : goal.items_of-requires
 items_of-requires c =

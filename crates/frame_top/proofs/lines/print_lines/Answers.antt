@@ -1,4 +1,4 @@
-use Rattle.std.proofs.Common.{◌<◌, ◌+◌, ℕ, Bool, IsTrue, List, length, take, get_or, subst, sym, refl, arith}
+use Rattle.std.proofs.Common.{◌<◌, ℕ, Bool, IsTrue, List, length, take, get_or, subst, sym, refl, arith}
 use Rattle.std.specs.Io.KnownBytes.{Appends}
 use Rattle.frame_ast.specs.Contents.{Cells}
 use Rattle.frame_top.proofs.Printing.{printing_starts, print_next, at_array, name_text_is, line_is_at, in_printing_more, print_stops}

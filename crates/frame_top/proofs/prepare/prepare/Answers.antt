@@ -19,7 +19,7 @@ run_job-requires-clause-writable c = still_may _ _ _ c.in-Ok-make_arrays.ensures
 
 pub returns-in-Ok-run_job-clause-ready : goal.returns-in-Ok-run_job-clause-ready
 returns-in-Ok-run_job-clause-ready c =
-    let lengths = c.requires.plain.lengths in
+    let lengths = c.requires.built.lengths in
     let words = c.words_needed-words.ensures in
     record {
       total = c.words_needed-words.result;

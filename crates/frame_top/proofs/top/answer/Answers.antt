@@ -1,8 +1,7 @@
-use Rattle.std.proofs.Common.{◌≤◌, length, Err, ap, refl, subst, sym}
-use Rattle.frame_top.specs.Answers.{Usage, Unread, TooLong, Refused, Ran, Caused, IsRun, IsRefused}
-use Rattle.frame_top.proofs.Clear.{spells_none, one_traps}
-use Rattle.frame_top.proofs.Known.{known, at_some}
-use Rattle.frame_top.proofs.Printing.{ends_without_trap}
+use Rattle.std.proofs.Common.{Err, ap, refl}
+use Rattle.frame_top.specs.Answers.{Usage, Unread, TooLong, Caused}
+use Rattle.frame_top.proofs.Known.{at_some}
+use Rattle.frame_top.proofs.Telling.{fault_told, script_told}
 use Rattle.frame_top.proofs.top.answer.Goals as goal
 
 pub returns-in_default-clause-answer : goal.returns-in_default-clause-answer
@@ -22,24 +21,10 @@ returns-in-Err-TooLong-clause-answer g c =
 pub returns-in-Err-Refused-clause-answer : goal.returns-in-Err-Refused-clause-answer
 returns-in-Err-Refused-clause-answer g c =
     let r = c.in-Ok.ensures in
-    let never = c.in-Err-Refused.ensures.refused (ap Err c.in-Err-Refused.field-0-is) in
-    let here : IsRefused c.deref.result.now = spells_none _ (subst (λ b. length b ≤ 16384) (sym c.deref.ensures.value) r.within) (λ s read. never s read.spelled read.accepted read.plain) in
-    Caused _ _ (Refused (at_some _ _ _ c.in-Some.ensures (known _ _ IsRefused r.bytes (subst IsRefused c.deref.ensures.value here))) refl refl) c.say-in-Err-Refused.ensures.told
+    let f = c.in-Err-Refused in
+    fault_told _ _ _ _ _ _ _ c.in-Some.ensures r.bytes c.deref.ensures.value r.within f.line f.kind _ _ _ _ _ (f.ensures.refused f.line f.kind (ap Err f.field-0-is)) c.say_fault.ensures.refused c.say_fault.ensures.too_many
 
-pub returns-in-Ok-prepare-clause-answer : goal.returns-in-Ok-prepare-clause-answer
-returns-in-Ok-prepare-clause-answer g c =
+pub returns-clause-answer : goal.returns-clause-answer
+returns-clause-answer g c =
     let r = c.in-Ok.ensures in
-    let s = c.in-Ok-read_script.script in
-    let read = c.in-Ok-read_script.ensures in
-    let p = c.in-Ok-prepare.ensures.ready in
-    let here : IsRun s c.deref.result.now = record { read = record { within = subst (λ b. length b ≤ 16384) (sym c.deref.ensures.value) r.within; spelled = read.spelled; accepted = read.accepted; plain = read.plain }; no_trap = ends_without_trap _ _ _ _ _ p.ready.prints } in
-    Caused _ _ (Ran s (at_some _ _ _ c.in-Some.ensures (known _ _ (IsRun s) r.bytes (subst (IsRun s) c.deref.ensures.value here))) refl refl) c.print_all.ensures.told
-
-pub returns-in-Err-Trapped-clause-answer : goal.returns-in-Err-Trapped-clause-answer
-returns-in-Err-Trapped-clause-answer g c =
-    let r = c.in-Ok.ensures in
-    let s = c.in-Ok-read_script.script in
-    let read = c.in-Ok-read_script.ensures in
-    let traps = c.in-Err-Trapped.ensures.trapped (ap Err c.in-Err-Trapped.field-0-is) in
-    let here : IsRefused c.deref.result.now = one_traps _ s (record { within = subst (λ b. length b ≤ 16384) (sym c.deref.ensures.value) r.within; spelled = read.spelled; accepted = read.accepted; plain = read.plain }) traps in
-    Caused _ _ (Refused (at_some _ _ _ c.in-Some.ensures (known _ _ IsRefused r.bytes (subst IsRefused c.deref.ensures.value here))) refl refl) c.say-in-Err-Trapped.ensures.told
+    script_told _ _ _ _ _ _ _ c.in-Some.ensures r.bytes c.deref.ensures.value r.within c.in-Ok-parse_script.script _ _ _ _ _ c.in-Ok-parse_script.ensures.script c.run.ensures.answer

@@ -1,0 +1,209 @@
+-- A schedule without a fault fits.
+use Rattle.std.proofs.Common.{◌≡◌, ℕ, ◌≤◌, Bool, true, false, ◌&&◌, ℤ, Vec, Global, List, [], ◌∷◌, length, map, Option, None, Some, is_some, slice_get, refl, sym, ◌∙◌, ap, subst, arith, unwrap_or}
+use Rattle.std.specs.List.{list_all}
+use Rattle.std.specs.Str.{bytes_eq}
+use Rattle.std.specs.String.{string_bytes}
+use Rattle.std.proofs.lemmas.Bool.{and_from, and_parts, eqb-true, eq-eqb, false≢true}
+use Rattle.std.proofs.lemmas.Slice.Eq.{bytes_eq-Decides}
+use Rattle.frame_ast.specs.declared.kernel.Kernel.{Kernel}
+use Rattle.frame_ast.specs.declared.kernel.Param.{Param}
+use Rattle.frame_ast.specs.declared.kernel.ParamKind.{ParamKind}
+use Rattle.frame_ast.specs.declared.kernel.ParamKind.TheVariants as param
+use Rattle.frame_ast.specs.declared.script.Arg.{Arg}
+use Rattle.frame_ast.specs.declared.script.Order.TheVariants as order
+use Rattle.frame_ast.specs.Schedules.{is_array, writes_to}
+use Rattle.frame_ast.specs.Accepted.{NameKind as Kind, ArrayName, SliceName, ViewName, ListName, RefName, MapName, StreamName, HandleName, uses, args_fit, arg_fits, waive_fits, cut_fits, defer_fits, one_of, schedule_fits, all_used}
+use Rattle.frame_ast.specs.Accepted as accepted
+use Rattle.frame_script.specs.declared.kind.NameKind.TheVariants as kind
+use Rattle.frame_script.specs.declared.raw.RawArg.{RawArg}
+use Rattle.frame_script.specs.declared.raw.RawArg.TheVariants.{Name, Number}
+use Rattle.frame_script.specs.declared.raw.RawSizes.{RawSizes}
+use Rattle.frame_script.specs.declared.raw.RawSizes.TheVariants as sizes
+use Rattle.frame_script.specs.declared.source.Source.{Source}
+use Rattle.frame_script.specs.Sources.{text_at}
+use Rattle.frame_script.specs.Names.{kind_of}
+use Rattle.frame_script.specs.Names as names
+use Rattle.frame_script.specs.Raw.{Schedule}
+use Rattle.frame_script.specs.Faults.{Scope, first, kinds_for, is_deferred, arg_fault, args_faults, sizes_fit, room_fits, has_room, takes, kernel_fault, sizes_faults, kernel_in, param_in, waived_fault, waive_fault, scheduled_faults, order_faults}
+use Rattle.frame_script.specs.Spelling.{place_of, kernel_place, param_place, params_of, params_named, arg_of, cut_of, defer_of, names_after}
+use Rattle.frame_script.proofs.NumberLemmas.{holds_from}
+use Rattle.frame_script.proofs.JobLemmas.{found_at}
+use Rattle.frame_script.proofs.AcceptingPlaces.{found}
+use Rattle.frame_script.proofs.AcceptingNames.{Leads, leads_all, scene, first_parts, join_parts, used, handles_used, make}
+use Rattle.frame_script.proofs.AcceptingFits.{Fits, limits}
+
+-- KERNELS AND PARAMETERS
+
+-- a kernel that is known stands at its place among all
+kernel_known : (earlier kernels : List Kernel) (text : List ℕ) (k : Kernel) → Leads earlier kernels → kernel_in earlier text ≡ Some k →
+    (slice_get kernels (kernel_place kernels text) ≡ Some k) × (kernel_in kernels text ≡ Some k)
+kernel_known earlier kernels text k leads h =
+    let f = found (λ j. bytes_eq text (string_bytes j.name)) earlier kernels leads.more k leads.is h in
+    (ap (λ o. slice_get kernels (unwrap_or o 0)) f.at ∙ f.there, found_at (λ j. bytes_eq text (string_bytes j.name)) kernels f.place f.at ∙ f.there)
+
+param_known : (params : List Param) (text : List ℕ) (p : Param) → param_in params text ≡ Some p → slice_get params (param_place params text) ≡ Some p
+param_known params text p h =
+    let all = leads_all params in
+    let f = found (λ j. bytes_eq text (string_bytes j.name)) params params all.more p all.is h in
+    ap (λ o. slice_get params (unwrap_or o 0)) f.at ∙ f.there
+
+-- ARGUMENTS
+
+kinds_alike : (k : ParamKind) (deferred : Bool) → map kind_of (kinds_for k deferred) ≡ accepted.kinds_for k deferred
+kinds_alike param.Int deferred = refl
+kinds_alike param.Array true = refl
+kinds_alike param.Array false = refl
+kinds_alike param.List deferred = refl
+kinds_alike param.Ref deferred = refl
+kinds_alike param.Map deferred = refl
+kinds_alike param.Stream deferred = refl
+
+-- after `defer` an array takes more kinds
+array_wider : (o : Option Kind) → accepted.kind_in o (accepted.kinds_for param.Array false) ≡ true → accepted.kind_in o (accepted.kinds_for param.Array true) ≡ true
+array_wider None h = h
+array_wider (Some ArrayName) h = refl
+array_wider (Some SliceName) h = refl
+array_wider (Some ViewName) h = refl
+array_wider (Some ListName) h = refl
+array_wider (Some RefName) h = cc
+array_wider (Some MapName) h = cc
+array_wider (Some StreamName) h = cc
+array_wider (Some HandleName) h = cc
+
+wider : (k : ParamKind) (o : Option Kind) → accepted.kind_in o (accepted.kinds_for k false) ≡ true → accepted.kind_in o (accepted.kinds_for k true) ≡ true
+wider param.Int o h = h
+wider param.Array o h = array_wider o h
+wider param.List o h = h
+wider param.Ref o h = h
+wider param.Map o h = h
+wider param.Stream o h = h
+
+widened : (k : ParamKind) (o : Option Kind) (d e : Bool) → (d ≡ true → e ≡ true) → accepted.kind_in o (accepted.kinds_for k d) ≡ true → accepted.kind_in o (accepted.kinds_for k e) ≡ true
+widened k o true true more h = h
+widened k o true false more h = absurd (false≢true (more refl))
+widened k o false true more h = wider k o h
+widened k o false false more h = h
+
+-- the list after `defer` by its name is that by its place
+deferred_alike : (s : Source) (all : List names.Name) (cut : RawSizes) (at : ℕ) → is_deferred s cut at ≡ true → accepted.is_deferred (defer_of s all cut) (place_of s all at) ≡ true
+deferred_alike s all sizes.None at h = h
+deferred_alike s all (sizes.Length len batch) at h = h
+deferred_alike s all (sizes.Defer list batch) at h =
+    let same : text_at s list ≡ text_at s at = (bytes_eq-Decides _ _).0 h in
+    eq-eqb _ _ (ap (λ t. unwrap_or (names.place_in all t) 0) same)
+
+module _ (s : Source) (here all : List names.Name) (made : ℕ) (cut : RawSizes) (leads : Leads here all) (enough : length here ≤ made) where
+  argument : (p : Param) (a : RawArg) → arg_fault s here cut p.kind a ≡ None → arg_fits (scene all made) (defer_of s all cut) p (arg_of s all a) ≡ true
+  argument p (Name at) h =
+      let u = and_parts _ _ (used s here all made (kinds_for p.kind (is_deferred s cut at)) at leads enough h) in
+      let fits : accepted.kind_in (slice_get (scene all made).kinds (place_of s all at)) (accepted.kinds_for p.kind (is_deferred s cut at)) ≡ true =
+      ap (accepted.kind_in (slice_get (scene all made).kinds (place_of s all at))) (sym (kinds_alike p.kind (is_deferred s cut at))) ∙ u.1 in
+      and_from _ _ u.0 (widened p.kind _ (is_deferred s cut at) _ (deferred_alike s all cut at) fits)
+  argument p (Number n) h = holds_from _ _ _ (first_parts _ _ h).0
+
+  pub arguments : (params : List Param) (args : List RawArg) → length args ≡ length params → first (args_faults s here cut params args) ≡ None →
+      args_fit (scene all made) (defer_of s all cut) params (map (arg_of s all) args) ≡ true
+  arguments [] [] many h = refl
+  arguments [] (a ∷ args) many h = absurd (omega arith)
+  arguments (p ∷ params) [] many h = absurd (omega arith)
+  arguments (p ∷ params) (a ∷ args) many h =
+      let q = first_parts _ _ h in
+      and_from _ _ (argument p a q.0) (arguments params args (omega arith) q.1)
+
+  -- SIZES
+
+  deferring : (k : Kernel) → first (sizes_faults s here cut) ≡ None → room_fits (has_room k) cut ≡ true → defer_fits (scene all made) k (defer_of s all cut) ≡ true
+  deferring k h room = by cut h room
+    where
+      by : (z : RawSizes) → first (sizes_faults s here z) ≡ None → room_fits (has_room k) z ≡ true → defer_fits (scene all made) k (defer_of s all z) ≡ true
+      by sizes.None h room = refl
+      by (sizes.Length len batch) h room = refl
+      by (sizes.Defer list batch) h room =
+          let p = first_parts _ _ h in
+          let n = limits s _ _ batch (first_parts _ _ p.1).0 in
+          and_from _ _ (and_from _ _ (used s here all made (kind.List ∷ []) list leads enough p.0) (and_from _ _ n.0 n.1)) room
+
+-- a parallel kernel has exactly one of the two sizes, and another one none
+one : (s : Source) (all : List names.Name) (parallel : Bool) (cut : RawSizes) → sizes_fit parallel cut ≡ true → one_of parallel (is_some (cut_of s cut)) (is_some (defer_of s all cut)) ≡ true
+one s all true sizes.None h = h
+one s all false sizes.None h = refl
+one s all true (sizes.Length len batch) h = refl
+one s all false (sizes.Length len batch) h = h
+one s all true (sizes.Defer list batch) h = refl
+one s all false (sizes.Defer list batch) h = h
+
+cutting : (s : Source) (here : List names.Name) (cut : RawSizes) → first (sizes_faults s here cut) ≡ None → cut_fits (cut_of s cut) ≡ true
+cutting s here sizes.None h = refl
+cutting s here (sizes.Length len batch) h =
+    let p = first_parts _ _ h in
+    let n = limits s _ _ batch (first_parts _ _ p.1).0 in
+    and_from _ _ (limits s _ _ len p.0).1 (and_from _ _ n.0 n.1)
+cutting s here (sizes.Defer list batch) h = refl
+
+-- WAIVED NAMES
+
+waived_param : (parallel : Bool) (o : Option Param) (at : ℕ) → waived_fault parallel o at ≡ None → (p : Param) × (o ≡ Some p) × ((parallel && (is_array p.kind && writes_to p.access)) ≡ true)
+waived_param parallel None at h = cc
+waived_param parallel (Some p) at h = (p, refl, holds_from _ _ _ h)
+
+waived : (s : Source) (k : Kernel) (waive : List ℕ) → first (map (waive_fault s k) waive) ≡ None →
+    list_all (λ x. k.parallel && waive_fits (slice_get k.params.items x)) (map (λ at. param_place k.params.items (text_at s at)) waive) ≡ true
+waived s k [] h = refl
+waived s k (at ∷ waive) h =
+    let q = first_parts _ _ h in
+    let p = waived_param k.parallel (param_in k.params.items (text_at s at)) at q.0 in
+    and_from _ _ (ap (λ o. k.parallel && waive_fits o) (param_known k.params.items (text_at s at) p.0 p.1) ∙ p.2) (waived s k waive q.1)
+
+-- SCHEDULES
+
+-- a kernel that a schedule without a fault names is known
+kernel_named : (s : Source) (here : List names.Name) (o : Option Kernel) (at : ℕ) (args : List RawArg) (cut : RawSizes) (waive after : List ℕ) → first (scheduled_faults s here o at args cut waive after) ≡ None →
+    (k : Kernel) × (o ≡ Some k) × (first (scheduled_faults s here (Some k) at args cut waive after) ≡ None)
+kernel_named s here None at args cut waive after h = absurd (some_fault (first_parts _ _ h).0)
+  where
+    some_fault : {A : Type 0} {x : A} → ◌≡◌ {A = Option A} (Some x) None → ⊥
+    some_fault e = cc
+kernel_named s here (Some k) at args cut waive after h = (k, refl, h)
+
+behind : (s : Source) (here all : List names.Name) (made : ℕ) (k : Kernel) (at : ℕ) (args : List RawArg) (cut : RawSizes) (waive after : List ℕ) → Leads here all → length here ≤ made →
+    first (scheduled_faults s here (Some k) at args cut waive after) ≡ None →
+    schedule_fits (scene all made) (Some k) (map (arg_of s all) args) (cut_of s cut) (defer_of s all cut) (map (λ x. param_place k.params.items (text_at s x)) waive) (map (place_of s all) after) ≡ true
+behind s here all made k at args cut waive after leads enough h =
+    let p = first_parts (kernel_fault k at args cut) _ h in
+    let f = first_parts _ _ p.0 in
+    let t = and_parts _ _ (holds_from (takes k args cut) _ _ f.0) in
+    let room : room_fits (has_room k) cut ≡ true = holds_from _ _ _ (first_parts _ _ f.1).0 in
+    let q = join_parts (args_faults s here cut k.params.items args) _ p.1 in
+    let r = join_parts (sizes_faults s here cut) _ q.1 in
+    let w = join_parts (map (waive_fault s k) waive) _ r.1 in
+    and_from _ _
+    (and_from _ _ (arguments s here all made cut leads enough k.params.items args (eqb-true _ _ t.0) q.0) (one s all k.parallel cut t.1))
+    (and_from _ _
+    (and_from _ _ (cutting s here cut r.0) (deferring s here all made cut leads enough k r.0 room))
+    (and_from _ _ (waived s k waive w.0) (handles_used s here all made after leads enough w.1)))
+
+abbrev Scheduled : Source → List names.Name → ℕ → Option Kernel → List Arg → RawSizes → (waive after : List ℕ) → Type 0
+Scheduled s all made o args cut waive after = schedule_fits (scene all made) o args (cut_of s cut) (defer_of s all cut) waive after ≡ true
+
+pub schedule_fitting : (s : Source) (c : Scope) (all : List names.Name) (made : ℕ) (literals : List (List ℤ)) (kernels : List Kernel) (rest inside at : ℕ) → length c.names ≤ made →
+    (auto : Bool) (handle kernel : ℕ) (args : List RawArg) (cut : RawSizes) (waive after : List ℕ) (given : Vec Arg Global) (waives handles : Vec ℕ Global) →
+    Leads (names_after s c.names (Schedule auto handle kernel args cut waive after)) all → Leads c.kernels kernels →
+    first (order_faults s c at (Schedule auto handle kernel args cut waive after)) ≡ None →
+    given.items ≡ map (arg_of s all) args →
+    waives.items ≡ map (λ x. param_place (params_named s kernels kernel) (text_at s x)) waive →
+    handles.items ≡ map (place_of s all) after →
+    Fits all made literals kernels rest inside (names_after s c.names (Schedule auto handle kernel args cut waive after))
+    (order.Schedule auto (place_of s all handle) (kernel_place kernels (text_at s kernel)) given (cut_of s cut) (defer_of s all cut) waives handles)
+schedule_fitting s c all made literals kernels rest inside at enough auto handle kernel args cut waive after given waives handles leads earlier h args_are waive_are after_are =
+    let p = first_parts _ _ h in
+    let m = make s c.names all made kind.Handle handle leads enough p.0 in
+    let k = kernel_named s c.names (kernel_in c.kernels (text_at s kernel)) kernel args cut waive after p.1 in
+    let there = kernel_known c.kernels kernels (text_at s kernel) k.0 earlier k.1 in
+    let params : params_named s kernels kernel ≡ k.0.params.items = ap params_of there.1 in
+    let waived_are : waives.items ≡ map (λ x. param_place k.0.params.items (text_at s x)) waive = waive_are ∙ ap (λ ps. map (λ x. param_place ps (text_at s x)) waive) params in
+    let fits = behind s c.names all made k.0 kernel args cut waive after m.leads enough k.2 in
+    let with_args : Scheduled s all made (Some k.0) given.items cut waives.items handles.items =
+    subst (λ xs. Scheduled s all made (Some k.0) xs cut waives.items handles.items) (sym args_are)
+    (subst (λ xs. Scheduled s all made (Some k.0) (map (arg_of s all) args) cut xs handles.items) (sym waived_are)
+    (subst (λ xs. Scheduled s all made (Some k.0) (map (arg_of s all) args) cut (map (λ x. param_place k.0.params.items (text_at s x)) waive) xs) (sym after_are) fits)) in
+    (and_from _ _ m.fits (subst (λ o. Scheduled s all made o given.items cut waives.items handles.items) (sym there.0) with_args), m.enough)

@@ -1,0 +1,57 @@
+-- What a statement says that has no list of values and no block.
+use Rattle.std.proofs.Common.{◌≡◌, ℕ, List, [], Some, None, IsTrue, refl}
+use Rattle.frame_ast.specs.declared.kernel.Kernel.{Kernel}
+use Rattle.frame_ast.specs.declared.script.Order.{Order}
+use Rattle.frame_script.specs.declared.source.Source.{Source}
+use Rattle.frame_script.specs.declared.raw.RawOrder.{RawOrder}
+use Rattle.frame_script.specs.declared.raw.RawOrder.TheVariants as raw
+use Rattle.frame_script.specs.Raw.{OrderForm, NewArray, NewColumn, NewList, NewReference, NewMap, NewStream, Slice, View, Copy, Set, Add, Put, Remove, Clear, SetCapacity, Schedule, Combine, Complete, Dispose, DisposeAuto, Print, Flush, Frame, Repeat, When, form_of, closing}
+use Rattle.frame_script.specs.Faults.{Scope, order_faults}
+use Rattle.frame_script.specs.Names.{Name}
+use Rattle.frame_script.specs.Spelling.{Says}
+use Rattle.frame_script.specs.Files.{literals_of}
+use Rattle.frame_script.specs.Checks.{is_plain, among}
+
+-- it says the same behind other lists of values
+pub said_behind : (s : Source) (names : List Name) (kernels : List Kernel) (literals : ℕ) (x : RawOrder) (o : Order) → IsTrue (is_plain x) →
+    Says s names kernels 0 0 (form_of x) o → Says s names kernels literals 0 (form_of x) o
+said_behind s names kernels literals (raw.Array name len life (Some values)) o plain says = absurd cc
+said_behind s names kernels literals (raw.Array name len life None) o plain says = says
+said_behind s names kernels literals (raw.Repeat count) o plain says = absurd cc
+said_behind s names kernels literals (raw.When name sign value) o plain says = absurd cc
+said_behind s names kernels literals _ o plain says = says
+
+pub no_list : (s : Source) (x : RawOrder) → IsTrue (is_plain x) → [] ≡ literals_of s (form_of x)
+no_list s (raw.Array name len life (Some values)) plain = absurd cc
+no_list s (raw.Array name len life None) plain = refl
+no_list s (raw.Repeat count) plain = absurd cc
+no_list s (raw.When name sign value) plain = absurd cc
+no_list s _ plain = refl
+
+-- it has the same faults at whatever token it begins and in whatever block it stands
+pub plain_faults : (s : Source) (c : Scope) (at : ℕ) (x : OrderForm) → closing x ≡ None → order_faults s (among c.names c.kernels) 0 x ≡ order_faults s c at x
+plain_faults s c at (NewArray name len life values) h = refl
+plain_faults s c at (NewColumn name column life) h = refl
+plain_faults s c at (NewList name n life) h = refl
+plain_faults s c at (NewReference name life value) h = refl
+plain_faults s c at (NewMap name n life) h = refl
+plain_faults s c at (NewStream name count room life) h = refl
+plain_faults s c at (Slice name of start len) h = refl
+plain_faults s c at (View name of) h = refl
+plain_faults s c at (Copy name of) h = refl
+plain_faults s c at (Set name index value) h = refl
+plain_faults s c at (Add name one two) h = refl
+plain_faults s c at (Put name key value) h = refl
+plain_faults s c at (Remove name index) h = refl
+plain_faults s c at (Clear name) h = refl
+plain_faults s c at (SetCapacity name n) h = refl
+plain_faults s c at (Schedule auto handle kernel args cut waive after) h = refl
+plain_faults s c at (Combine name of) h = refl
+plain_faults s c at (Complete auto name) h = refl
+plain_faults s c at (Dispose name after handle) h = refl
+plain_faults s c at (DisposeAuto name handle) h = refl
+plain_faults s c at (Print name) h = refl
+plain_faults s c at Flush h = refl
+plain_faults s c at Frame h = refl
+plain_faults s c at (Repeat n) h = absurd cc
+plain_faults s c at (When name test value) h = absurd cc

@@ -1,0 +1,19 @@
+use Rattle.std.proofs.Common.{[], ◌∷◌, arith}
+use Rattle.frame_script.specs.Items.{outside}
+use Rattle.frame_script.proofs.GoingSteps.{at_first}
+use Rattle.frame_script.proofs.walk.walk_file.Goals as goal
+
+pub loop-walk-init : goal.loop-walk-init
+loop-walk-init c =
+    let file = c.requires.file in
+    let w = c.new-walk.ensures in
+    record {
+      within = omega arith;
+      walking = record {
+        whole = file.items;
+        spells = file.spells;
+        left = file.items ∷ [];
+        opens = outside file.spells;
+        is = at_first c.args.source file.items c.new-walk.result file.stand w.names w.kernels w.literals w.written w.tested w.around;
+      };
+    }

@@ -1,0 +1,69 @@
+-- Which script the bytes of a file spell, or for what they are refused.
+use Rattle.std.specs.Prelude.{◌≡◌, ℕ, true, List, slice_get, Option, Some, None}
+use Rattle.frame_ast.specs.declared.kernel.FaultKind.{FaultKind}
+use Rattle.frame_ast.specs.declared.kernel.FaultKind.TheVariants.{Syntax, TooLong}
+use Rattle.frame_ast.specs.declared.script.Script.{Script}
+use Rattle.frame_grammar.specs.declared.symbols.Nonterminal.TheVariants.{File}
+use Rattle.frame_grammar.specs.declared.symbols.Event.{Event}
+use Rattle.frame_grammar.specs.Sentences.{IsOnlySentence, IsFault}
+use Rattle.kernel_code.specs.declared.token.Token.{Token}
+use Rattle.kernel_code.specs.declared.check.StaticFault.{StaticFault}
+use Rattle.kernel_code.specs.Tokens.{tokens_of}
+use Rattle.kernel_code.specs.Parsing.{kinds}
+use Rattle.frame_script.specs.declared.source.Source.{Source}
+use Rattle.frame_script.specs.Raw.{RawItems, SpellsItems}
+use Rattle.frame_script.specs.Sources.{line_at}
+use Rattle.frame_script.specs.Faults.{Scope}
+use Rattle.frame_script.specs.Files.{at_start, IsFaultless, HasFault, too_long, IsScriptOf}
+
+-- The bytes of a file and its tokens, which derive a file of these items.
+pub record HasItems (bytes : List ℕ) (s : Source) (items : RawItems) : Type 0 where
+  pub bytes_are : s.bytes.now ≡ bytes
+  pub tokens_are : s.tokens.now ≡ tokens_of bytes
+  pub read : ℕ
+  pub events : List Event
+  pub sentence : IsOnlySentence File (kinds (tokens_of bytes)) read events
+  pub spells : SpellsItems true events items
+
+-- The bytes spell this script.
+pub record Spells (bytes : List ℕ) (script : Script) : Type 0 where
+  pub source : Source
+  pub items : RawItems
+  pub has_items : HasItems bytes source items
+  pub within : too_long source items ≡ None
+  pub script_is : IsScriptOf source items script
+
+-- The tokens derive no file, and this is the line of the first token with which none goes on.
+pub record HasNoSyntax (bytes : List ℕ) (line : ℕ) : Type 0 where
+  pub place : ℕ
+  pub token : Token
+  pub fault : IsFault File (kinds (tokens_of bytes)) place
+  pub stands : slice_get (tokens_of bytes) place ≡ Some token
+  pub on_line : line ≡ token.line
+
+-- The items have a static fault, and the first one is of this kind, at a token of this line.
+pub record HasStaticFault (bytes : List ℕ) (line : ℕ) (kind : FaultKind) : Type 0 where
+  pub source : Source
+  pub items : RawItems
+  pub has_items : HasItems bytes source items
+  pub fault : StaticFault
+  pub has_fault : HasFault source fault at_start items
+  pub on_line : line ≡ line_at source fault.at
+  pub of_kind : kind ≡ fault.kind
+
+-- The items have no fault, but stand for too many statements, and the first one too many begins on this line.
+pub record HasTooMany (bytes : List ℕ) (line : ℕ) : Type 0 where
+  pub source : Source
+  pub items : RawItems
+  pub has_items : HasItems bytes source items
+  pub known : Scope
+  pub faultless : IsFaultless source at_start items known
+  pub at : ℕ
+  pub excess : too_long source items ≡ Some at
+  pub on_line : line ≡ line_at source at
+
+-- The bytes are refused for a token of this line.
+pub data IsRefused (bytes : List ℕ) (line : ℕ) (kind : FaultKind) : Type 0 where
+  syntax : kind ≡ Syntax → HasNoSyntax bytes line → IsRefused bytes line kind
+  static : HasStaticFault bytes line kind → IsRefused bytes line kind
+  too_many : kind ≡ TooLong → HasTooMany bytes line → IsRefused bytes line kind

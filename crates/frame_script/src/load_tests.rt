@@ -1,0 +1,515 @@
+//! Whole files: the script that each spells, or the line and kind of its first fault.
+
+ghost use Rattle.std.specs.Prelude.{◌≤◌, length};
+
+use crate::{LoadFault, parse_script};
+use frame_ast::script::{Arg, Order, Script};
+use std::alloc::Global;
+use std::fmt::Write;
+use std::test::Fail;
+
+/// The kernels that stand before each text, on three lines.
+const KERNELS: &str = "job fill(a: wo array, n: int) { }
+parallel scale(x: ro array, y: wo array) { }
+job each(l: rw list, r: rw ref, m: rw map, s: wo stream) { }
+";
+
+fn write_places(text: &mut String, places: &[u32]) -> Result<(), Fail> {
+    write!(text, "[")?;
+    for place in places {
+        write!(text, " {place}")?;
+    }
+    write!(text, " ]")?;
+    Ok(())
+}
+
+fn write_args(text: &mut String, args: &[Arg]) -> Result<(), Fail> {
+    for arg in args {
+        match arg {
+            Arg::Name(name) => write!(text, " {name}")?,
+            Arg::Number(number) => write!(text, " ={number}")?,
+        }
+    }
+    Ok(())
+}
+
+/// A statement that makes a container or a value.
+fn write_making(text: &mut String, order: &Order) -> Result<(), Fail> {
+    match order {
+        Order::Array {
+            name,
+            len,
+            life,
+            values,
+        } => write!(text, "array {name} {len} {life:?} {values:?}")?,
+        Order::Column { name, column, life } => {
+            write!(text, "column {name} {} {life:?}", column.len())?
+        }
+        Order::List { name, cap, life } => write!(text, "list {name} {cap} {life:?}")?,
+        Order::Reference { name, life, value } => {
+            write!(text, "reference {name} {life:?} {value:?}")?
+        }
+        Order::Map { name, cap, life } => write!(text, "map {name} {cap} {life:?}")?,
+        Order::Stream {
+            name,
+            count,
+            room,
+            life,
+        } => write!(text, "stream {name} {count} {room} {life:?}")?,
+        Order::Slice {
+            name,
+            of,
+            start,
+            len,
+        } => write!(text, "slice {name} {of} {start} {len}")?,
+        Order::View { name, of } => write!(text, "view {name} {of}")?,
+        Order::Copy { name, of } => write!(text, "copy {name} {of}")?,
+        _ => write_change(text, order)?,
+    }
+    Ok(())
+}
+
+/// A statement that changes or prints a container.
+fn write_change(text: &mut String, order: &Order) -> Result<(), Fail> {
+    match order {
+        Order::Set { name, at, value } => write!(text, "set {name} {at:?} {value}")?,
+        Order::Add {
+            name,
+            first,
+            second,
+        } => write!(text, "add {name} {first} {second:?}")?,
+        Order::Put { name, key, value } => write!(text, "put {name} {key} {value}")?,
+        Order::Remove { name, at } => write!(text, "remove {name} {at}")?,
+        Order::Clear { name } => write!(text, "clear {name}")?,
+        Order::SetCapacity { name, cap } => write!(text, "setcapacity {name} {cap}")?,
+        Order::Print { name } => write!(text, "print {name}")?,
+        Order::Flush => write!(text, "flush")?,
+        Order::Frame => write!(text, "frame")?,
+        Order::When {
+            name,
+            sign,
+            value,
+            count,
+        } => write!(text, "when {name} {sign:?} {value} {count}")?,
+        _ => write_job(text, order)?,
+    }
+    Ok(())
+}
+
+/// A statement about jobs.
+fn write_job(text: &mut String, order: &Order) -> Result<(), Fail> {
+    match order {
+        Order::Schedule {
+            auto,
+            handle,
+            kernel,
+            args,
+            cut,
+            defer,
+            waive,
+            after,
+        } => {
+            write!(text, "schedule {auto} {handle} {kernel}")?;
+            write_args(text, args.as_slice())?;
+            if let Some((len, batch)) = cut {
+                write!(text, " cut {len} {batch}")?;
+            }
+            if let Some((list, batch)) = defer {
+                write!(text, " defer {list} {batch}")?;
+            }
+            write_places(text, waive.as_slice())?;
+            write_places(text, after.as_slice())?;
+        }
+        Order::Combine { name, of } => {
+            write!(text, "combine {name}")?;
+            write_places(text, of.as_slice())?;
+        }
+        Order::Complete { name } => write!(text, "complete {name}")?,
+        Order::CompleteAuto { name } => write!(text, "complete auto {name}")?,
+        Order::Dispose {
+            name,
+            after,
+            handle,
+        } => {
+            write!(text, "dispose {name}")?;
+            write_places(text, after.as_slice())?;
+            write!(text, "{handle:?}")?;
+        }
+        Order::DisposeAuto { name, handle } => write!(text, "dispose auto {name} {handle}")?,
+        _ => write!(text, "?")?,
+    }
+    Ok(())
+}
+
+/// The names, the lists of values and the statements, each with its line.
+fn shown(alloc: Global, script: &Script) -> Result<String, Fail> {
+    let mut text = String::new(alloc);
+    for name in &script.names {
+        write!(text, "{name} ")?;
+    }
+    for values in &script.literals {
+        write!(text, "(")?;
+        for value in values {
+            write!(text, " {value}")?;
+        }
+        write!(text, " ) ")?;
+    }
+    for statement in &script.statements {
+        write!(text, "{}: ", statement.line)?;
+        write_making(&mut text, &statement.act)?;
+        write!(text, "; ")?;
+    }
+    Ok(text)
+}
+
+/// What a file gives: its script, or its refusal.
+fn outcome(alloc: Global, source: &[u8]) -> Result<String, Fail>
+    requires { length source.now ≤ 16777216 }
+{
+    match parse_script(alloc, source) {
+        Ok(script) => shown(alloc, &script),
+        Err(LoadFault::Refused { line, kind }) => {
+            let mut told = String::new(alloc);
+            write!(told, "{line}: {kind:?}")?;
+            Ok(told)
+        }
+        Err(LoadFault::NoMemory) => Ok(String::from_str(alloc, "no memory")?),
+    }
+}
+
+/// What a text gives behind the kernels.
+fn behind_kernels(alloc: Global, text: &str) -> Result<String, Fail> {
+    let mut whole = String::from_str(alloc, KERNELS)?;
+    whole.push_str(text)?;
+    let source = whole.as_bytes();
+    if source.len() < 100_000 {
+        return outcome(alloc, source);
+    }
+    Ok(whole)
+}
+
+#[test]
+fn each_statement_is_read(rt: HostRuntime) -> Result<(), Fail> {
+    let alloc = rt.alloc();
+    let rows: [(&str, &str); 28] = [
+        ("", ""),
+        ("\n# nothing\n \t\r\n", ""),
+        (
+            "array a 2 tempjob = -1 7",
+            "a ( -1 7 ) 4: array 0 2 TempJob Some(0); ",
+        ),
+        (
+            "array a 3\narray b 0 temp",
+            "a b 4: array 0 3 Persistent None; 5: array 1 0 Temp None; ",
+        ),
+        (
+            "column c \"p q\" persistent",
+            "c 4: column 0 3 Persistent; ",
+        ),
+        ("list l 1048576", "l 4: list 0 1048576 Persistent; "),
+        (
+            "reference r temp = -9223372036854775808",
+            "r 4: reference 0 Temp Some(-9223372036854775808); ",
+        ),
+        ("map m 4096", "m 4: map 0 4096 Persistent; "),
+        (
+            "stream s 65536 1024",
+            "s 4: stream 0 65536 1024 Persistent; ",
+        ),
+        (
+            "array a 4\nslice b a 1 2\nslice c b 0 1",
+            "a b c 4: array 0 4 Persistent None; 5: slice 1 0 1 2; 6: slice 2 1 0 1; ",
+        ),
+        (
+            "list l 1\nview v l\ncopy w v",
+            "l v w 4: list 0 1 Persistent; 5: view 1 0; 6: copy 2 1; ",
+        ),
+        (
+            "array a 1\nset a -1 = 5",
+            "a 4: array 0 1 Persistent None; 5: set 0 Some(-1) 5; ",
+        ),
+        (
+            "reference r\nset r = 5",
+            "r 4: reference 0 Persistent None; 5: set 0 None 5; ",
+        ),
+        (
+            "list l 1\nadd l 5\nremove l 0\nclear l\nsetcapacity l 2",
+            "l 4: list 0 1 Persistent; 5: add 0 5 None; 6: remove 0 0; 7: clear 0; 8: setcapacity 0 2; ",
+        ),
+        (
+            "map m 1\nadd m 5 6\nput m -5 7\nremove m 5\nclear m",
+            "m 4: map 0 1 Persistent; 5: add 0 5 Some(6); 6: put 0 -5 7; 7: remove 0 5; 8: clear 0; ",
+        ),
+        (
+            "array a 1\nschedule h fill(a, -3)\ncomplete h\nprint a",
+            "a h 4: array 0 1 Persistent None; 5: schedule false 1 0 0 =-3[ ][ ]; 6: complete 1; 7: print 0; ",
+        ),
+        (
+            "array a 1\nschedule h scale(a, a) 9 2 waive y after h",
+            "5: UnknownName",
+        ),
+        (
+            "array a 1\ncombine g\nschedule auto h scale(a, a) 9 2 waive y after g g",
+            "a g h 4: array 0 1 Persistent None; 5: combine 1[ ]; 6: schedule true 2 1 0 0 cut 9 2[ 1 ][ 1 1 ]; ",
+        ),
+        (
+            "list l 1\nschedule h scale(l, l) defer l 3",
+            "l h 4: list 0 1 Persistent; 5: schedule false 1 1 0 0 defer 0 3[ ][ ]; ",
+        ),
+        (
+            "list l 1\nreference r\nmap m 1\nstream s 1 1\nschedule h each(l, r, m, s)",
+            "l r m s h 4: list 0 1 Persistent; 5: reference 1 Persistent None; 6: map 2 1 Persistent; 7: stream 3 1 1 Persistent; 8: schedule false 4 2 0 1 2 3[ ][ ]; ",
+        ),
+        (
+            "array a 1\ncomplete auto a\ndispose auto a as d\ndispose a\ndispose a after d d as e\ncombine d e",
+            "a d e 4: array 0 1 Persistent None; 5: complete auto 0; 6: dispose auto 0 1; 7: dispose 0[ ]None; 8: dispose 0[ 1 1 ]Some(2); 9: combine 1[ 2 ]; ",
+        ),
+        ("flush\nframe\n", "4: flush; 5: frame; "),
+        (
+            "repeat 3 {\n\nflush\n}\nframe",
+            "6: flush; 6: flush; 6: flush; 8: frame; ",
+        ),
+        (
+            "repeat 2 {\nflush\nrepeat 2 {\nframe\n}\n}",
+            "5: flush; 7: frame; 7: frame; 5: flush; 7: frame; 7: frame; ",
+        ),
+        (
+            "repeat 2 {\narray a 1 = 3\n}\narray b 1 = 4",
+            "a b ( 3 ) ( 4 ) 5: array 0 1 Persistent Some(0); 5: array 0 1 Persistent Some(0); 7: array 1 1 Persistent Some(1); ",
+        ),
+        (
+            "reference r\nwhen r <= -2 {\nrepeat 2 {\nflush\n}\nlist l 1\n}\nprint l",
+            "r l 4: reference 0 Persistent None; 5: when 0 Le -2 3; 7: flush; 7: flush; 9: list 1 1 Persistent; 11: print 1; ",
+        ),
+        (
+            "reference r\nrepeat 2 {\nwhen r != 0 {\n}\n}",
+            "r 4: reference 0 Persistent None; 6: when 0 Ne 0 0; 6: when 0 Ne 0 0; ",
+        ),
+        (
+            "job late() { }\nschedule h late()\nprint h",
+            "6: KindMismatch",
+        ),
+    ];
+    for (text, expected) in rows {
+        assert_eq!(rt; behind_kernels(alloc, text)?.as_str(), expected, "{text}");
+    }
+    Ok(())
+}
+
+#[test]
+fn unknown_names_and_kinds_are_refused(rt: HostRuntime) -> Result<(), Fail> {
+    let alloc = rt.alloc();
+    let rows: [(&str, &str); 41] = [
+        ("print x", "4: UnknownName"),
+        ("array a 1\nprint x", "5: UnknownName"),
+        ("copy b a", "4: UnknownName"),
+        ("combine g g", "4: UnknownName"),
+        ("repeat 2 {\nprint a\narray a 1\n}", "5: UnknownName"),
+        ("schedule h none()", "4: UnknownName"),
+        ("schedule h late()\njob late() { }", "4: UnknownName"),
+        ("array a 1\nschedule h fill(a, 1) after g", "5: UnknownName"),
+        (
+            "array a 1\nschedule h scale(a, a) 1 1 waive a",
+            "5: UnknownName",
+        ),
+        (
+            "array a 1\nschedule h scale(a, a) defer l 1",
+            "5: UnknownName",
+        ),
+        ("job bad() { var x = y; }\nprint x", "4: UnknownName"),
+        ("print x\njob bad() { var x = y; }", "4: UnknownName"),
+        ("job fill() { }", "4: DuplicateName"),
+        ("array a 1\nlist a 1", "5: KindMismatch"),
+        ("array a 2 = 1", "4: KindMismatch"),
+        ("array a 99999999999999999999 = 1", "4: KindMismatch"),
+        ("array a 1\nschedule h fill(a)", "5: KindMismatch"),
+        ("array a 1\nschedule h fill(a, 1) 1 1", "5: KindMismatch"),
+        ("array a 1\nschedule h scale(a, a)", "5: KindMismatch"),
+        ("array a 1\nschedule h scale(a, 1) 1 1", "5: KindMismatch"),
+        ("array a 1\nschedule h fill(a, a)", "5: KindMismatch"),
+        ("list l 1\nschedule h scale(l, l) 1 1", "5: KindMismatch"),
+        (
+            "array a 1\nschedule h scale(a, a) 1 1 waive x",
+            "5: KindMismatch",
+        ),
+        (
+            "array a 1\nschedule h scale(a, a) defer a 1",
+            "5: KindMismatch",
+        ),
+        ("array a 1\nschedule a fill(a, 1)", "5: KindMismatch"),
+        ("array a 1\ncomplete a", "5: KindMismatch"),
+        ("combine h\nprint h", "5: KindMismatch"),
+        ("combine h\ncopy g h", "5: KindMismatch"),
+        ("reference r\nset r 0 = 1", "5: KindMismatch"),
+        ("array a 1\nset a = 1", "5: KindMismatch"),
+        ("list l 1\nadd l 1 2", "5: KindMismatch"),
+        ("map m 1\nadd m 1", "5: KindMismatch"),
+        ("list l 1\nput l 1 2", "5: KindMismatch"),
+        ("array a 1\nremove a 0", "5: KindMismatch"),
+        ("reference r\nclear r", "5: KindMismatch"),
+        ("map m 1\nsetcapacity m 1", "5: KindMismatch"),
+        ("list l 1\nslice s l 0 0", "5: KindMismatch"),
+        ("array a 1\nview v a", "5: KindMismatch"),
+        ("list l 1\nview v l\ndispose v", "6: KindMismatch"),
+        ("list l 1\ncopy m l\nmap m 1", "6: KindMismatch"),
+        ("array a 1\nwhen a == 1 {\nflush\n}", "5: KindMismatch"),
+    ];
+    for (text, expected) in rows {
+        assert_eq!(rt; behind_kernels(alloc, text)?.as_str(), expected, "{text}");
+    }
+    Ok(())
+}
+
+#[test]
+fn limits_are_refused(rt: HostRuntime) -> Result<(), Fail> {
+    let alloc = rt.alloc();
+    let rows: [(&str, &str); 24] = [
+        ("array a 1048577", "4: Limit"),
+        ("list l 1048577", "4: Limit"),
+        ("map m 4097", "4: Limit"),
+        ("stream s 65537 1", "4: Limit"),
+        ("stream s 1 1025", "4: Limit"),
+        ("array a 1\nslice b a 1048577 0", "5: Limit"),
+        ("reference r = 9223372036854775808", "4: Limit"),
+        ("reference r = -9223372036854775809", "4: Limit"),
+        ("array a 18446744073709551617", "4: Limit"),
+        ("repeat 0 {\n}", "4: Limit"),
+        ("repeat 65537 {\nprint x\n}", "4: Limit"),
+        ("array a 1\nschedule h scale(a, a) 4 0", "5: Limit"),
+        ("array a 1\nschedule h scale(a, a) 1048577 1", "5: Limit"),
+        ("array a 1\nschedule h scale(a, a) 1 1048577", "5: Limit"),
+        ("list l 1\nschedule h scale(l, l) defer l 0", "5: Limit"),
+        (
+            "reference r\nwhen r == 1 {\nwhen r == 1 {\n}\n}",
+            "6: Limit",
+        ),
+        (
+            "repeat 1 {\nrepeat 1 {\nrepeat 1 {\nrepeat 1 {\nrepeat 1 {\nrepeat 1 {\nrepeat 1 {\nrepeat 1 {\nflush\n}\n}\n}\n}\n}\n}\n}\n}",
+            "12: flush; ",
+        ),
+        (
+            "repeat 1 {\nrepeat 1 {\nrepeat 1 {\nrepeat 1 {\nrepeat 1 {\nrepeat 1 {\nrepeat 1 {\nrepeat 1 {\nrepeat 1 {\n}\n}\n}\n}\n}\n}\n}\n}\n}",
+            "12: Limit",
+        ),
+        (
+            "reference r\nrepeat 1 {\nrepeat 1 {\nrepeat 1 {\nrepeat 1 {\nrepeat 1 {\nrepeat 1 {\nrepeat 1 {\nrepeat 1 {\nwhen r == 0 {\n}\n}\n}\n}\n}\n}\n}\n}\n}",
+            "13: Limit",
+        ),
+        (
+            "repeat 65536 {\nrepeat 65536 {\nrepeat 65536 {\nrepeat 65536 {\nrepeat 65536 {\nrepeat 65536 {\nrepeat 65536 {\nrepeat 65536 {\n}\n}\n}\n}\n}\n}\n}\n}",
+            "",
+        ),
+        (
+            "repeat 65536 {\nrepeat 65536 {\nrepeat 65536 {\nrepeat 65536 {\nrepeat 65536 {\nrepeat 65536 {\nrepeat 65536 {\nrepeat 65536 {\nflush\n}\n}\n}\n}\n}\n}\n}\n}",
+            "12: TooLong",
+        ),
+        ("repeat 65536 {\nflush\n}\nframe", "7: TooLong"),
+        ("repeat 65536 {\nflush\n}\nframe\nprint x", "8: UnknownName"),
+        (
+            "reference r\nrepeat 1025 {\nflush\nwhen r == 0 {\n}\n}",
+            "7: TooLong",
+        ),
+    ];
+    for (text, expected) in rows {
+        assert_eq!(rt; behind_kernels(alloc, text)?.as_str(), expected, "{text}");
+    }
+    Ok(())
+}
+
+#[test]
+fn syntax_comes_before_every_other_fault(rt: HostRuntime) -> Result<(), Fail> {
+    let alloc = rt.alloc();
+    let rows: [(&str, &str); 23] = [
+        ("array a", "4: Syntax"),
+        ("print x\narray", "5: Syntax"),
+        ("print x\narray\n", "5: Syntax"),
+        ("repeat 2 { flush\n}", "4: Syntax"),
+        ("repeat 2 {\nflush }", "5: Syntax"),
+        ("repeat 2 {\nflush\n", "6: Syntax"),
+        ("repeat 1 {\njob x() { }\n}", "5: Syntax"),
+        ("}", "4: Syntax"),
+        ("flush flush", "4: Syntax"),
+        ("array a 1 =", "4: Syntax"),
+        ("array a 1 = - - 1", "4: Syntax"),
+        ("array a 1 = 1 temp", "4: Syntax"),
+        ("column c p", "4: Syntax"),
+        ("combine", "4: Syntax"),
+        ("array a 1\ndispose a as d", "5: Syntax"),
+        ("array a 1\ndispose a after as d", "5: Syntax"),
+        ("schedule h fill(1,)", "4: Syntax"),
+        ("schedule h fill(1) 1", "4: Syntax"),
+        ("reference r\nwhen r = 1 {\n}", "5: Syntax"),
+        ("print if", "4: Syntax"),
+        ("print x $", "4: Syntax"),
+        ("job bad() {", "4: Syntax"),
+        ("job bad() { } flush", "4: Syntax"),
+    ];
+    for (text, expected) in rows {
+        assert_eq!(rt; behind_kernels(alloc, text)?.as_str(), expected, "{text}");
+    }
+    Ok(())
+}
+
+/// A text with a part so many times.
+fn repeated(alloc: Global, head: &str, part: &str, count: u32, tail: &str) -> Result<String, Fail> {
+    let mut text = String::new(alloc);
+    text.push_str(head)?;
+    for _ in 0..count {
+        text.push_str(part)?;
+    }
+    text.push_str(tail)?;
+    Ok(text)
+}
+
+#[test]
+fn limits_of_length_are_met_at_one_more(rt: HostRuntime) -> Result<(), Fail> {
+    let alloc = rt.alloc();
+    let rows: [(&str, &str, u32, &str, &str); 8] = [
+        ("list ", "a", 65, " 1", "1: Limit"),
+        ("print ", "a", 65, "", "1: UnknownName"),
+        (
+            "column c \"",
+            "a",
+            256,
+            "\"",
+            "c 1: column 0 256 Persistent; ",
+        ),
+        ("column c \"", "a", 257, "\"", "1: Limit"),
+        ("", "flush\n", 65_537, "", "65537: TooLong"),
+        ("", "job k() { }\n", 2, "", "2: DuplicateName"),
+        (
+            "parallel k(",
+            "",
+            0,
+            "a: ro array, b: ro array, c: ro array, d: ro array, e: ro array, f: ro array, g: ro array, h: ro array, i: ro array, j: ro array, k: ro array, l: ro array, m: ro array, n: ro array, o: ro array, p: ro array) { }\nlist z 1\nschedule q k(z, z, z, z, z, z, z, z, z, z, z, z, z, z, z, z) defer z 1",
+            "3: Limit",
+        ),
+        ("\u{FEFF}", "\n", 3, "flush", "4: flush; "),
+    ];
+    for (head, part, count, tail, expected) in rows {
+        let text = repeated(alloc, head, part, count, tail)?;
+        let source = text.as_bytes();
+        if source.len() < 1_000_000 {
+            assert_eq!(rt;
+                outcome(alloc, source)?.as_str(),
+                expected,
+                "{head}{part} {count}"
+            );
+        }
+    }
+    assert_eq!(rt; outcome(alloc, b"\xFF")?.as_str(), "1: Syntax");
+    Ok(())
+}
+
+#[test]
+fn as_many_statements_as_there_may_be(rt: HostRuntime) -> Result<(), Fail> {
+    let alloc = rt.alloc();
+    match parse_script(
+        alloc,
+        b"reference r\nrepeat 1024 {\nwhen r == 0 {\nrepeat 62 {\nflush\n}\n}\n}\nrepeat 1023 {\nframe\n}",
+    ) {
+        Ok(script) => assert_eq!(rt; script.statements.len(), 65_536),
+        Err(_) => assert!(rt; false, "refused"),
+    }
+    Ok(())
+}

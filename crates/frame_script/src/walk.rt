@@ -1,0 +1,243 @@
+//! Goes over the items of a file, and writes out the script that they spell.
+
+ghost use Rattle.std.specs.Prelude.{◌≡◌, ◌<◌, ◌≤◌, ◌^◌, ◌++◌, ℕ, [], ◌∷◌, None, Some, false, length, IfOk, MatchOption};
+ghost use Rattle.frame_ast.specs.declared.kernel.FaultKind.{FaultKind};
+ghost use Rattle.kernel_code.specs.Parsing.{kinds};
+ghost use Rattle.kernel_code.specs.Legible.{NamesAreText, NamesStand};
+ghost use Rattle.frame_script.specs.Raw.{form_of, closing, Repeat, When, IsFile};
+ghost use Rattle.frame_script.specs.Sources.{line_at};
+ghost use Rattle.frame_script.specs.Faults.{first, order_faults};
+ghost use Rattle.frame_script.specs.Checks.{Gives, Refuses};
+ghost use Rattle.frame_script.specs.Writing.{nothing_written};
+ghost use Rattle.frame_script.specs.Walking.{lists_of, lists_in, scope_of, Tells, TakesSingle, TakesRepeat, TakesWhen, Takes, Leaves, IsWalking, IsThrough, RefusesItems};
+
+use crate::order_checks::{check_repeat, check_when};
+use crate::raw::{RawNumber, RawOrder};
+use crate::walk_kernel::add_kernel;
+use crate::walk_order::{make_name, order_said};
+use crate::written::Written;
+use crate::{Kernels, LoadFault, Names, OrderFault, RawItem, Source, raw_item};
+use frame_ast::script::Statement;
+use frame_grammar::Event;
+use job_base::NoMemory;
+use std::alloc::Global;
+
+/// What is known behind some items of a file, and the part of its script that they are.
+#[derive(Drop)]
+pub struct Walk<'a> {
+    pub names: Names<'a>,
+    pub kernels: Kernels<'a>,
+    pub literals: Vec<Vec<i64>>,
+    pub written: Written,
+    /// Whether one of the open blocks is a `when`.
+    pub tested: bool,
+    /// The same around each open block, the outermost first.
+    pub around: Vec<bool>,
+}
+
+// A count, as a script holds it.
+fn count_of(len: usize) -> Result<u32, NoMemory>
+    ensures { IfOk result (λ count. count ≡ len) }
+{
+    if len > u32::MAX as usize {
+        return Err(NoMemory);
+    }
+    Ok(len as u32)
+}
+
+// Keeps the list of values of a statement, where it has one.
+fn keep_list(literals: &mut Vec<Vec<i64>>, list: Option<Vec<i64>>) -> Result<(), NoMemory>
+    ensures { IfOk result (λ _. lists_in literals.new ≡ lists_in literals.old ++ lists_of list) }
+{
+    if let Some(list) = list {
+        literals.push(list)?;
+    }
+    Ok(())
+}
+
+// The refusal of a file for a fault of a statement.
+fn told(source: Source<'_>, fault: OrderFault) -> LoadFault
+    ensures { (line : ℕ) (kind : FaultKind) → result ≡ LoadFault.Refused line kind → Tells source.entry fault line kind }
+{
+    match fault {
+        OrderFault::Refused(fault) => LoadFault::Refused {
+            line: source.line(fault.at),
+            kind: fault.kind,
+        },
+        OrderFault::NoMemory => LoadFault::NoMemory,
+    }
+}
+
+impl<'a> Walk<'a> {
+    /// Before the first item.
+    fn new(alloc: Global) -> Self
+        ensures names { result.names ≡ [] }
+        ensures kernels { result.kernels ≡ [] }
+        ensures literals { result.literals.items ≡ [] }
+        ensures written { result.written ≡ nothing_written }
+        ensures tested { result.tested ≡ false }
+        ensures around { result.around.items ≡ [] }
+    {
+        Walk {
+            names: Names::new(alloc),
+            kernels: Kernels::new(alloc),
+            literals: Vec::new(alloc),
+            written: Written::new(alloc),
+            tested: false,
+            around: Vec::new(alloc),
+        }
+    }
+
+    // A statement without a block.
+    fn single(
+        &mut self,
+        alloc: Global,
+        source: Source<'a>,
+        at: u32,
+        raw: &RawOrder,
+    ) -> Result<(), OrderFault>
+        requires { closing (form_of raw.now) ≡ None }
+        ensures { Gives (first (order_faults source.entry (scope_of self.old) at (form_of raw.now))) (λ _. TakesSingle source.entry at (form_of raw.now) self.old self.new) result }
+    {
+        let literals = count_of(self.literals.len())?;
+        let (act, list) = order_said(alloc, source, &self.names, &self.kernels, literals, raw)?;
+        make_name(source, &mut self.names, raw)?;
+        self.written.add(Statement {
+            line: source.line(at),
+            act,
+        })?;
+        keep_list(&mut self.literals, list)?;
+        Ok(())
+    }
+
+    // What stands before the brace of a `repeat`.
+    fn open_repeat(&mut self, source: Source<'a>, at: u32, count: u32) -> Result<(), OrderFault>
+        ensures { Gives (first (order_faults source.entry (scope_of self.old) at (Repeat count))) (λ _. TakesRepeat source.entry count self.old self.new) result }
+    {
+        let blocks = count_of(self.around.len())?;
+        let count = check_repeat(source, blocks, at, count)?;
+        self.written.open_repeat(count)?;
+        self.around.push(self.tested)?;
+        Ok(())
+    }
+
+    // What stands before the brace of a `when`.
+    fn open_when(
+        &mut self,
+        source: Source<'a>,
+        at: u32,
+        name: u32,
+        sign: u32,
+        value: RawNumber,
+    ) -> Result<(), OrderFault>
+        ensures { Gives (first (order_faults source.entry (scope_of self.old) at (When name sign value))) (λ _. TakesWhen source.entry at (When name sign value) self.old self.new) result }
+    {
+        let blocks = count_of(self.around.len())?;
+        let act = check_when(
+            source,
+            &self.names,
+            blocks,
+            self.tested,
+            at,
+            name,
+            sign,
+            value,
+        )?;
+        self.written.open_when(Statement {
+            line: source.line(at),
+            act,
+        })?;
+        self.around.push(self.tested)?;
+        self.tested = true;
+        Ok(())
+    }
+
+    // The end of a block.
+    fn close(&mut self, alloc: Global) -> Result<(), NoMemory>
+        requires inside { 0 < length self.old.around.items }
+        requires open { 0 < length self.old.written.blocks }
+        ensures { IfOk result (λ _. Leaves self.old self.new) }
+    {
+        self.written.close(alloc)?;
+        match self.around.pop() {
+            Some(tested) => self.tested = tested,
+            None => unreachable!(),
+        }
+        Ok(())
+    }
+
+    // A statement; of `repeat` and `when`, what stands before the brace.
+    fn order(
+        &mut self,
+        alloc: Global,
+        source: Source<'a>,
+        at: u32,
+        raw: &RawOrder,
+    ) -> Result<(), OrderFault>
+        ensures { Gives (first (order_faults source.entry (scope_of self.old) at (form_of raw.now))) (λ _. Takes source.entry at (form_of raw.now) self.old self.new) result }
+    {
+        match raw {
+            RawOrder::Repeat { count } => self.open_repeat(source, at, *count),
+            RawOrder::When { name, sign, value } => {
+                self.open_when(source, at, *name, *sign, *value)
+            }
+            _ => self.single(alloc, source, at, raw),
+        }
+    }
+
+    /// Goes over the item at an event. Answers the event behind it, or none where no item is left.
+    fn step(
+        &mut self,
+        alloc: Global,
+        source: Source<'a>,
+        events: &[Event],
+        at: usize,
+    ) -> Result<Option<usize>, LoadFault>
+        requires few { length source.tokens.now < 2 ^ 32 }
+        requires text { NamesAreText source.bytes.now source.tokens.now }
+        requires named { NamesStand (kinds source.tokens.now) events.now }
+        requires within { at ≤ length events.now }
+        requires walking { IsWalking source events.now at self.old }
+        ensures walked { IfOk result (λ found. MatchOption found (IsThrough source.entry events.now self.new) (λ next. (at < next) × (next ≤ length events.now) × IsWalking source.entry events.now next self.new)) }
+        ensures refused { (line : ℕ) (kind : FaultKind) → result ≡ Err (LoadFault.Refused line kind) → RefusesItems source.entry events.now line kind }
+    {
+        match raw_item(alloc, events, at)? {
+            RawItem::None => Ok(None),
+            RawItem::Kernel { next } => {
+                add_kernel(alloc, source, &mut self.kernels, &events[at..next])?;
+                Ok(Some(next))
+            }
+            RawItem::Order { first, order, next } => {
+                match self.order(alloc, source, first, &order) {
+                    Ok(()) => Ok(Some(next)),
+                    Err(fault) => Err(told(source, fault)),
+                }
+            }
+            RawItem::End { next } => {
+                self.close(alloc)?;
+                Ok(Some(next))
+            }
+        }
+    }
+}
+
+/// Goes over all items of a file.
+pub fn walk_file<'a>(
+    alloc: Global,
+    source: Source<'a>,
+    events: &[Event],
+) -> Result<Walk<'a>, LoadFault>
+    requires few { length source.tokens.now < 2 ^ 32 }
+    requires text { NamesAreText source.bytes.now source.tokens.now }
+    requires named { NamesStand (kinds source.tokens.now) events.now }
+    requires file { IsFile (kinds source.tokens.now) events.now }
+    ensures through { IfOk result (λ walk. IsThrough source.entry events.now walk) }
+    ensures refused { (line : ℕ) (kind : FaultKind) → result ≡ Err (LoadFault.Refused line kind) → RefusesItems source.entry events.now line kind }
+{
+    let mut walk = Walk::new(alloc);
+    let mut at = 0;
+    while let Some(next) = walk.step(alloc, source, events, at)? {
+        at = next;
+    }
+    Ok(walk)
+}

@@ -1,0 +1,106 @@
+//! One statement of a file: what it says, and the name that it makes.
+
+ghost use Rattle.std.specs.Prelude.{◌≡◌, [], ◌∷◌, None, Some, MatchOption, IsTrue, IfOk};
+ghost use Rattle.frame_script.specs.Raw.{form_of, closing, NewArray};
+ghost use Rattle.frame_script.specs.Faults.{first, order_faults, made_by};
+ghost use Rattle.frame_script.specs.Spelling.{Says, names_after};
+ghost use Rattle.frame_script.specs.Files.{literals_of};
+ghost use Rattle.frame_script.specs.Checks.{Gives, among, is_plain};
+ghost use Rattle.frame_script.specs.Walking.{lists_of};
+
+use crate::order_checks::{Valued, check_order, valued_array};
+use crate::raw::RawOrder;
+use crate::{Kernels, NameKind, Names, OrderFault, Source};
+use frame_ast::script::Order;
+use job_base::NoMemory;
+use std::alloc::Global;
+
+/// The name that a statement makes, and what it then stands for.
+fn made_name(source: Source<'_>, names: &Names<'_>, raw: &RawOrder) -> Option<(u32, NameKind)>
+    ensures { result ≡ made_by source.entry names.now (form_of raw.now) }
+{
+    match raw {
+        RawOrder::Array { name, .. } => Some((*name, NameKind::Array)),
+        RawOrder::Column { name, .. } => Some((*name, NameKind::Array)),
+        RawOrder::List { name, .. } => Some((*name, NameKind::List)),
+        RawOrder::Reference { name, .. } => Some((*name, NameKind::Reference)),
+        RawOrder::Map { name, .. } => Some((*name, NameKind::Map)),
+        RawOrder::Stream { name, .. } => Some((*name, NameKind::Stream)),
+        RawOrder::Slice { name, .. } => Some((*name, NameKind::Slice)),
+        RawOrder::View { name, .. } => Some((*name, NameKind::View)),
+        RawOrder::Copy { name, of } => match names.get(source.text(*of)) {
+            None => None,
+            Some((_, kind)) => Some((*name, kind)),
+        },
+        RawOrder::Schedule { handle, .. } => Some((*handle, NameKind::Handle)),
+        RawOrder::Combine { name, .. } => Some((*name, NameKind::Handle)),
+        RawOrder::Dispose { handle, .. } => match handle {
+            None => None,
+            Some(handle) => Some((*handle, NameKind::Handle)),
+        },
+        RawOrder::DisposeAuto { handle, .. } => Some((*handle, NameKind::Handle)),
+        _ => None,
+    }
+}
+
+/// Makes the name that a statement makes, where it makes one.
+pub fn make_name<'a>(
+    source: Source<'a>,
+    names: &mut Names<'a>,
+    raw: &RawOrder,
+) -> Result<(), NoMemory>
+    ensures { IfOk result (λ _. names.new ≡ names_after source.entry names.old (form_of raw.now)) }
+{
+    let Some((at, kind)) = made_name(source, names, raw) else {
+        return Ok(());
+    };
+    if names.len() == u32::MAX {
+        return Err(NoMemory);
+    }
+    names.make(source.text(at), kind)
+}
+
+// An array with values.
+fn valued(raw: &RawOrder) -> Option<Valued<'_>>
+    ensures { MatchOption result (closing (form_of raw.now) ≡ None → IsTrue (is_plain raw.now)) (λ text. form_of raw.now ≡ NewArray text.name text.len text.life (Some text.values.now)) }
+{
+    match raw {
+        RawOrder::Array {
+            name,
+            len,
+            life,
+            values: Some(values),
+        } => Some(Valued {
+            name: *name,
+            len: *len,
+            life: *life,
+            values: values.as_slice(),
+        }),
+        _ => None,
+    }
+}
+
+/// What a statement without a block says, behind so many lists of values; and its own list, where
+/// it has one.
+pub fn order_said(
+    alloc: Global,
+    source: Source<'_>,
+    names: &Names<'_>,
+    kernels: &Kernels<'_>,
+    literals: u32,
+    raw: &RawOrder,
+) -> Result<(Order, Option<Vec<i64>>), OrderFault>
+    requires { closing (form_of raw.now) ≡ None }
+    ensures { Gives (first (order_faults source.entry (among names.now kernels.now) 0 (form_of raw.now))) (λ r. Says source.entry (names_after source.entry names.now (form_of raw.now)) kernels.now literals 0 (form_of raw.now) r.0 × (lists_of r.1 ≡ literals_of source.entry (form_of raw.now))) result }
+{
+    match valued(raw) {
+        Some(text) => {
+            let (order, list) = valued_array(alloc, source, names, literals, text)?;
+            Ok((order, Some(list)))
+        }
+        None => {
+            let order = check_order(alloc, source, names, kernels, raw)?;
+            Ok((order, None))
+        }
+    }
+}

@@ -1,0 +1,187 @@
+//! The statements of a script, written out while its text is read.
+
+ghost use Rattle.std.specs.Prelude.{◌≡◌, ◌<◌, ◌≤◌, ◌-◌, Some, None, length, take, drop, IfOk, reverse, MatchResult};
+ghost use Rattle.frame_script.specs.Writing.{Writing, is_test, fits_in, nothing_written, put, opened, with_count, count_at, PutsCopies, PutsRepeated, Closes};
+ghost use Rattle.frame_script.specs.declared.written.OpenBlock.TheVariants as block;
+
+use crate::copies::copy_of;
+use frame_ast::script::{Order, Statement};
+use job_base::NoMemory;
+use std::alloc::Global;
+use std::marker::Model;
+
+/// How many statements a script may have.
+const MOST_STATEMENTS: usize = 65_536;
+
+/// How many of them may be `when`.
+const MOST_TESTS: u32 = 1_024;
+
+/// A block whose end hasn't been read.
+#[derive(Clone, Copy, Debug, PartialEq, Eq)]
+pub enum OpenBlock {
+    /// Its statements begin at a place, and are to stand so many times.
+    Repeat { start: u32, count: u32 },
+    /// The `when` stands at a place, and its statements behind it.
+    When { at: u32 },
+}
+
+/// The statements that a text was written out to so far, up to the first for which there is no room.
+#[derive(Drop)]
+pub struct Written {
+    statements: Vec<Statement>,
+    /// How many of them are `when`.
+    tests: u32,
+    /// The line of the first statement for which there is no room.
+    over: Option<u32>,
+    /// The open blocks, the innermost last.
+    blocks: Vec<OpenBlock>,
+}
+
+fn is_test(order: &Order) -> bool
+    ensures { result ≡ is_test order.now }
+{
+    match order {
+        Order::When { .. } => true,
+        _ => false,
+    }
+}
+
+fn set_count(order: &mut Order, behind: u32)
+    ensures { order.new ≡ with_count behind order.old }
+{
+    match order {
+        Order::When { count, .. } => *count = behind,
+        _ => {}
+    }
+}
+
+impl Model for Written {
+    ghost Value = { Writing };
+
+    ghost view = { λ s. record { statements = s.statements.items; tests = s.tests; over = s.over; blocks = reverse s.blocks.items } };
+
+    ghost invariant = { λ s. length s.statements.items ≤ 65536 };
+}
+
+impl Written {
+    /// Nothing is written, and no block is open.
+    pub fn new(alloc: Global) -> Self
+        ensures { result ≡ nothing_written }
+    {
+        Written {
+            statements: Vec::new(alloc),
+            tests: 0,
+            over: None,
+            blocks: Vec::new(alloc),
+        }
+    }
+
+    // Whether there is room for one more statement.
+    fn has_room(&self, order: &Order) -> bool
+        ensures { result ≡ fits_in (length self.now.statements) self.now.tests order.now }
+    {
+        self.statements.len() < MOST_STATEMENTS && (!is_test(order) || self.tests < MOST_TESTS)
+    }
+
+    /// A statement comes next.
+    pub fn add(&mut self, statement: Statement) -> Result<(), NoMemory>
+        ensures { IfOk result (λ _. self.new ≡ put self.old statement) }
+    {
+        if self.over.is_some() {
+            return Ok(());
+        }
+        if !self.has_room(&statement.act) {
+            self.over = Some(statement.line);
+            return Ok(());
+        }
+        if is_test(&statement.act) {
+            self.tests += 1;
+        }
+        self.statements.push(statement)?;
+        Ok(())
+    }
+
+    /// The block of a `repeat` comes next.
+    pub fn open_repeat(&mut self, count: u32) -> Result<(), NoMemory>
+        ensures { IfOk result (λ _. self.new ≡ opened (block.Repeat (length self.old.statements) count) self.old) }
+    {
+        let start = self.statements.len() as u32;
+        self.blocks.push(OpenBlock::Repeat { start, count })?;
+        Ok(())
+    }
+
+    /// A `when` comes next, and then its block.
+    pub fn open_when(&mut self, statement: Statement) -> Result<(), NoMemory>
+        ensures { IfOk result (λ _. self.new ≡ opened (block.When (length self.old.statements)) (put self.old statement)) }
+    {
+        let at = self.statements.len() as u32;
+        self.add(statement)?;
+        self.blocks.push(OpenBlock::When { at })?;
+        Ok(())
+    }
+
+    // Statements between two places come once more.
+    fn copy(&mut self, alloc: Global, start: usize, end: usize) -> Result<(), NoMemory>
+        requires order { start ≤ end }
+        requires within { end ≤ length self.old.statements }
+        ensures { IfOk result (λ _. PutsCopies (drop start (take end self.old.statements)) self.old self.new) }
+    {
+        for at in start..end {
+            let statement = copy_of(alloc, &self.statements[at])?;
+            self.add(statement)?;
+        }
+        Ok(())
+    }
+
+    // The statements from a place on are to stand so many times. Where there are none, that many times none aren't counted through.
+    fn repeat(&mut self, alloc: Global, start: usize, count: u32) -> Result<(), NoMemory>
+        ensures { IfOk result (λ _. PutsRepeated (count - 1) (drop start self.old.statements) self.old self.new) }
+    {
+        let end = self.statements.len();
+        if end <= start {
+            return Ok(());
+        }
+        for _ in 1..count {
+            if self.over.is_some() {
+                return Ok(());
+            }
+            self.copy(alloc, start, end)?;
+        }
+        Ok(())
+    }
+
+    // A `when` counts the statements behind it. One for which there was no room isn't there.
+    fn count(&mut self, at: usize)
+        ensures { self.new ≡ record self.old { statements = count_at at self.old.statements } }
+    {
+        let len = self.statements.len();
+        if at < len {
+            set_count(&mut self.statements[at].act, (len - at - 1) as u32);
+        }
+    }
+
+    /// The innermost block ends here.
+    pub fn close(&mut self, alloc: Global) -> Result<(), NoMemory>
+        requires { 0 < length self.old.blocks }
+        ensures { IfOk result (λ _. Closes self.old self.new) }
+    {
+        match self.blocks.pop() {
+            Some(OpenBlock::Repeat { start, count }) => self.repeat(alloc, start as usize, count),
+            Some(OpenBlock::When { at }) => {
+                self.count(at as usize);
+                Ok(())
+            }
+            None => unreachable!(),
+        }
+    }
+
+    /// The statements, or the line of the first for which there is no room.
+    pub fn finish(self) -> Result<Vec<Statement>, u32>
+        ensures { MatchResult result (λ statements. (self.over ≡ None) × (statements.items ≡ self.statements)) (λ line. self.over ≡ Some line) }
+    {
+        match self.over {
+            None => Ok(self.statements),
+            Some(line) => Err(line),
+        }
+    }
+}

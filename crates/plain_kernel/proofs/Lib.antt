@@ -1,6 +1,0 @@
-pub mod Steps
-pub mod Exprs
-pub mod Stmts
-pub mod ParamLists
-pub mod Spelled
-pub mod Kernels

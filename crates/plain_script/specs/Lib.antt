@@ -1,9 +1,0 @@
-pub mod Lines
-pub mod Spelling
-pub mod Forms
-pub mod Following
-pub mod Adding
-pub mod Printing
-pub mod KernelReading
-pub mod JobReading
-pub mod Whole

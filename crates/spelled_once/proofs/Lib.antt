@@ -1,0 +1,13 @@
+pub mod Raws
+pub mod Sources
+pub mod Items
+pub mod RawKernels
+pub mod Trees
+pub mod Blocks
+pub mod Kernels
+pub mod Bare
+pub mod Scopes
+pub mod Faults
+pub mod Syntax
+pub mod Statements
+pub mod Laws

@@ -1,0 +1,51 @@
+-- What is read of a file, wherever its bytes and its tokens lie in memory.
+use Rattle.std.proofs.Common.{ℕ, ◌≡◌, refl, sym, ◌∙◌, subst, ap, List}
+use Rattle.frame_ast.specs.declared.kernel.Kernel.{Kernel}
+use Rattle.frame_ast.specs.declared.script.Order.{Order}
+use Rattle.kernel_code.specs.declared.token.Token.{Token}
+use Rattle.frame_script.specs.declared.source.Source.{Source}
+use Rattle.frame_script.specs.Sources.{line_at, number_at}
+use Rattle.frame_script.specs.Raw.{OrderForm}
+use Rattle.frame_script.specs.Names.{Name}
+use Rattle.frame_script.specs.Faults.{Scope, order_faults}
+use Rattle.frame_script.specs.Spelling.{Says}
+use Rattle.frame_script.specs.Files.{after_order, literals_of}
+
+pub record SameFile (s t : Source) : Type 0 where
+  pub bytes : s.bytes.now ≡ t.bytes.now
+  pub tokens : s.tokens.now ≡ t.tokens.now
+
+abbrev pub placed : Source → List ℕ → List Token → Source
+placed s bytes tokens = record s { bytes = record s.bytes { now = bytes }; tokens = record s.tokens { now = tokens } }
+
+-- what depends on the bytes and the tokens alone
+abbrev pub ByText : {X : Type 0} → (Source → X) → Type 0
+ByText f = (s t : Source) → f (placed s t.bytes.now t.tokens.now) ≡ f t
+
+pub by_text : {X : Type 0} (f : Source → X) → ByText f → (s t : Source) → SameFile s t → f s ≡ f t
+by_text f by s t same =
+    sym (by s s) ∙ ap (λ bytes. f (placed s bytes s.tokens.now)) same.bytes ∙ ap (λ tokens. f (placed s t.bytes.now tokens)) same.tokens ∙ by s t
+
+-- and what is said of them
+pub by_text_said : (f : Source → Type 0) → ((s t : Source) → f (placed s t.bytes.now t.tokens.now) → f t) → ((s t : Source) → f t → f (placed s t.bytes.now t.tokens.now)) → (s t : Source) → SameFile s t → f s → f t
+by_text_said f out in_ s t same x =
+    out s t (subst (λ tokens. f (placed s t.bytes.now tokens)) same.tokens (subst (λ bytes. f (placed s bytes s.tokens.now)) same.bytes (in_ s s x)))
+
+module _ (s t : Source) (same : SameFile s t) where
+  pub same_line : (at : ℕ) → line_at s at ≡ line_at t at
+  same_line at = by_text (λ x. line_at x at) (λ s t. refl) s t same
+
+  pub same_number : (at : ℕ) → number_at s at ≡ number_at t at
+  same_number at = by_text (λ x. number_at x at) (λ s t. refl) s t same
+
+  pub same_faults : (c : Scope) (at : ℕ) (form : OrderForm) → order_faults s c at form ≡ order_faults t c at form
+  same_faults c at form = by_text (λ x. order_faults x c at form) (λ s t. refl) s t same
+
+  pub same_after : (c : Scope) (form : OrderForm) → after_order s c form ≡ after_order t c form
+  same_after c form = by_text (λ x. after_order x c form) (λ s t. refl) s t same
+
+  pub same_literals : (form : OrderForm) → literals_of s form ≡ literals_of t form
+  same_literals form = by_text (λ x. literals_of x form) (λ s t. refl) s t same
+
+  pub same_says : (names : List Name) (kernels : List Kernel) (literals count : ℕ) (form : OrderForm) (o : Order) → Says s names kernels literals count form o → Says t names kernels literals count form o
+  same_says names kernels literals count form o = by_text_said (λ x. Says x names kernels literals count form o) (λ s t h. h) (λ s t h. h) s t same
