@@ -7,6 +7,8 @@ mod execution;
 mod fit;
 mod read;
 #[cfg(test)]
+mod rows;
+#[cfg(test)]
 mod tests;
 
 pub use execution::run;

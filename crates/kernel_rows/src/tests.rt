@@ -1,163 +1,11 @@
 // Kernels and what they have to do, in rows: values that were worked out by hand, in the words where containers keep
 // them.
-ghost use Rattle.std.specs.Prelude.{◌≡◌, ◌≤◌, length, is_some};
-ghost use Rattle.frame_ast.specs.Checked.{IsChecked};
-ghost use Rattle.kernel_exec.specs.Conditions.{BindsFit};
-ghost use Rattle.kernel_rows.specs.Standing.{AreBelow};
 
-use crate::{fits, kernel_at, run};
-use frame_ast::kernel::Kernel;
-use job_base::mem::{FlatMem, Mem};
-use job_base::{Trap, Word};
-use kernel_code::{TokenKind, lex};
-use kernel_exec::{Bind, Scratch};
-use native_array::{ArrayAt, RefAt};
-use native_list::ListAt;
-use native_map::MapAt;
-use native_stream::StreamAt;
+use crate::rows::{CELLS, Row, array, list, map, run_text, show, single, stream, try_rows, view};
+use job_base::mem::FlatMem;
 use std::alloc::Global;
-use std::fmt::Write;
 use std::process::Abort;
 use std::test::Fail;
-
-// The cells of every row.
-const CELLS: u32 = 64;
-
-// Kernels, the binds of which each takes as many as it has parameters, how many indexes parallel ones have, the words
-// from one on to before another that are shown after them, and what is told then: the traps, and the cells.
-type Row<'a> = (&'a str, &'a [Bind], u32, u32, u32, &'a str);
-
-fn array(start: u32, len: u32, own: u32) -> Bind {
-    Bind::Array {
-        at: ArrayAt { start, len },
-        own,
-    }
-}
-
-fn single(start: u32) -> Bind {
-    Bind::Ref(RefAt { start })
-}
-
-fn list(start: u32, cap: u32) -> Bind {
-    Bind::List(ListAt { start, cap })
-}
-
-fn map(start: u32, cap: u32) -> Bind {
-    Bind::Map(MapAt { start, cap })
-}
-
-fn stream(start: u32, count: u32, room: u32, own: bool) -> Bind {
-    Bind::Stream {
-        at: StreamAt { start, count, room },
-        own,
-    }
-}
-
-// Number i, where a kernel is parallel.
-fn index_at(parallel: bool, i: u32) -> Option<u32>
-    ensures { is_some result ≡ parallel }
-{
-    if parallel { Some(i) } else { None }
-}
-
-fn tell(index: Option<u32>, ended: Result<(), Trap>, told: &mut String) -> Result<(), Fail> {
-    if let Err(trap) = ended {
-        match index {
-            Some(i) => write!(told, "{i} {trap:?}; ")?,
-            None => write!(told, "{trap:?}; ")?,
-        }
-    }
-    Ok(())
-}
-
-// Runs a kernel once, or at each index in order.
-fn run_all(
-    kernel: &Kernel,
-    binds: &[Bind],
-    indexes: u32,
-    mem: &mut FlatMem,
-    scratch: &mut Scratch,
-    told: &mut String,
-) -> Result<(), Fail>
-    requires checked { IsChecked kernel.now }
-    requires fit { BindsFit kernel.now binds.now }
-    requires below { AreBelow binds.now (length mem.old) }
-    ensures { length mem.new ≡ length mem.old }
-{
-    let turns = if kernel.parallel { indexes } else { 1 };
-    for i in 0..turns {
-        let index = index_at(kernel.parallel, i);
-        let ended = run(kernel, binds, index, scratch, mem);
-        tell(index, ended, told)?;
-    }
-    Ok(())
-}
-
-// Runs the kernels of a text, in order.
-fn run_text(
-    alloc: Global,
-    text: &str,
-    binds: &[Bind],
-    indexes: u32,
-    mem: &mut FlatMem,
-    told: &mut String,
-) -> Result<(), Fail>
-    requires { length mem.old ≡ 64 }
-    ensures { length mem.new ≡ 64 }
-{
-    let source = text.as_bytes();
-    if source.len() > 16_777_216 {
-        return Ok(());
-    }
-    let tokens = lex(alloc, source)?;
-    let mut scratch = Scratch::new(alloc)?;
-    let mut at = 0u32;
-    for _ in 0..8 {
-        if at as usize >= tokens.len().saturating_sub(1) {
-            break;
-        }
-        if matches!(tokens[at as usize].kind, TokenKind::Line) {
-            at = at.saturating_add(1);
-            continue;
-        }
-        let (kernel, next) = kernel_at(alloc, source, &tokens, at)?;
-        let taken = &binds[..kernel.params.len().min(binds.len())];
-        if fits(&kernel, taken, CELLS) {
-            run_all(&kernel, taken, indexes, mem, &mut scratch, told)?;
-        } else {
-            told.push_str("no fit; ")?;
-        }
-        at = next;
-    }
-    Ok(())
-}
-
-fn show(mem: &mut FlatMem, from: u32, to: u32, told: &mut String) -> Result<(), Fail>
-    requires { length mem.old ≡ 64 }
-{
-    for w in from..to.min(CELLS) {
-        let cell = mem.load(Word(w));
-        write!(told, "{cell} ")?;
-    }
-    Ok(())
-}
-
-// What a row's kernels do.
-fn told(alloc: Global, row: &Row<'_>) -> Result<String, Fail> {
-    let (text, binds, indexes, from, to, _) = *row;
-    let mut told = String::new(alloc);
-    let mut mem = FlatMem::new(alloc, CELLS)?;
-    run_text(alloc, text, binds, indexes, &mut mem, &mut told)?;
-    show(&mut mem, from, to, &mut told)?;
-    Ok(told)
-}
-
-fn try_rows(rt: &impl Abort, alloc: Global, rows: &[Row<'_>]) -> Result<(), Fail> {
-    for row in rows {
-        assert_eq!(rt; told(alloc, row)?.as_str(), row.5, "{}", row.0);
-    }
-    Ok(())
-}
 
 // The places that an index owns.
 #[test]
@@ -166,21 +14,65 @@ fn own_places(rt: HostRuntime) -> Result<(), Fail> {
         parallel shift(b: rw array) { b[index + 1] = b[index] + 1; }";
     let scale = "job count_up(x: wo array) { for k in 0..5 { x[k] = k + 1; } }
         parallel scale(x: ro array, y: wo array) { y[index] = x[index] * 3; }";
-    let pairs = "parallel pairs(a: rw array by 2) { a[index * 2] = index; a[index * 2 + 1] = index + 10; }";
+    let pairs =
+        "parallel pairs(a: rw array by 2) { a[index * 2] = index; a[index * 2 + 1] = index + 10; }";
     let over = "parallel over(a: wo array by 2) { a[index * 2] = 7; a[index * 2 + 2] = 8; }";
-    let emit = "parallel emit(s: wo stream) { begin s[index] { for k in 0..index % 4 { write(s, index); } } }";
+    let emit =
+        "parallel emit(s: wo stream) { begin s[index] { for k in 0..index % 4 { write(s, index); } } }";
     let others = "parallel own(s: wo stream) { begin s[index] { } }
         parallel others(s: wo stream) { begin s[1 - index] { } }";
     let outside = "parallel outside(a: wo array, s: wo stream) { a[index] = 1; begin s[4] { } }";
     let rows: [Row<'_>; 8] = [
-        (shift, &[array(0, 4, 1)], 3, 0, 4, "0 OwnIndex; 1 OwnIndex; 2 OwnIndex; 1 0 0 0 "),
+        (
+            shift,
+            &[array(0, 4, 1)],
+            3,
+            0,
+            4,
+            "0 OwnIndex; 1 OwnIndex; 2 OwnIndex; 1 0 0 0 ",
+        ),
         (shift, &[array(0, 4, 0)], 3, 0, 4, "1 2 3 4 "),
-        (scale, &[array(0, 5, 0), array(5, 4, 1)], 5, 5, 9, "4 Range; 3 6 9 12 "),
+        (
+            scale,
+            &[array(0, 5, 0), array(5, 4, 1)],
+            5,
+            5,
+            9,
+            "4 Range; 3 6 9 12 ",
+        ),
         (pairs, &[array(0, 6, 2)], 3, 0, 6, "0 10 1 11 2 12 "),
-        (over, &[array(0, 6, 2)], 3, 0, 6, "0 OwnIndex; 1 OwnIndex; 2 Range; 7 0 7 0 7 0 "),
-        (emit, &[stream(0, 4, 2, true)], 4, 0, 12, "3 Full; 1 0 0 2 1 0 3 2 2 3 3 3 "),
-        (others, &[stream(0, 2, 0, true)], 2, 0, 2, "0 OwnIndex; 1 OwnIndex; 1 1 "),
-        (outside, &[array(0, 2, 1), stream(2, 4, 0, true)], 1, 0, 6, "0 Range; 1 0 0 0 0 0 "),
+        (
+            over,
+            &[array(0, 6, 2)],
+            3,
+            0,
+            6,
+            "0 OwnIndex; 1 OwnIndex; 2 Range; 7 0 7 0 7 0 ",
+        ),
+        (
+            emit,
+            &[stream(0, 4, 2, true)],
+            4,
+            0,
+            12,
+            "3 Full; 1 0 0 2 1 0 3 2 2 3 3 3 ",
+        ),
+        (
+            others,
+            &[stream(0, 2, 0, true)],
+            2,
+            0,
+            2,
+            "0 OwnIndex; 1 OwnIndex; 1 1 ",
+        ),
+        (
+            outside,
+            &[array(0, 2, 1), stream(2, 4, 0, true)],
+            1,
+            0,
+            6,
+            "0 Range; 1 0 0 0 0 0 ",
+        ),
     ];
     try_rows(&rt, rt.alloc(), &rows)
 }
@@ -188,7 +80,8 @@ fn own_places(rt: HostRuntime) -> Result<(), Fail> {
 // Each trap, after a store that stays and before one that isn't done.
 #[test]
 fn traps(rt: HostRuntime) -> Result<(), Fail> {
-    let overflow = "job edge(a: rw array) { a[0] = 9223372036854775807; a[1] = -9223372036854775807 - 1; a[2] = 0; }
+    let overflow =
+        "job edge(a: rw array) { a[0] = 9223372036854775807; a[1] = -9223372036854775807 - 1; a[2] = 0; }
         job edge_of(a: rw array) { a[1] = 5; a[0] = a[0] + 1; a[2] = 9; }";
     let divisor = "job divisor(a: wo array) { a[0] = 1; a[1] = 1 % 0; }";
     let slow = "job slow(a: rw array) { var k = 0; while k < 300000 { k = k + 1; } a[0] = 1 / 0; }";
@@ -197,20 +90,57 @@ fn traps(rt: HostRuntime) -> Result<(), Fail> {
     let own = "parallel own(a: wo array) { a[index] = 1; a[1 - index] = 2; a[index] = 3; }";
     let full = "job full(a: wo array, l: rw list) { add(l, 7); a[0] = 1; add(l, 8); a[1] = 1; }";
     let missing = "job missing(a: wo array, m: rw map) { a[0] = 1; a[1] = m[5]; }";
-    let present = "job present(a: wo array, m: rw map) { add(m, 1, 2); a[0] = 1; add(m, 1, 3); a[1] = 1; }";
-    let written = "job written(a: wo array, s: wo stream) { begin s[0] { write(s, 4); } a[0] = 1; begin s[0] { } a[1] = 1; }";
+    let present =
+        "job present(a: wo array, m: rw map) { add(m, 1, 2); a[0] = 1; add(m, 1, 3); a[1] = 1; }";
+    let written =
+        "job written(a: wo array, s: wo stream) { begin s[0] { write(s, 4); } a[0] = 1; begin s[0] { } a[1] = 1; }";
     let budget = "job budget(a: wo array) { a[0] = 1; while 1 { } a[1] = 1; }";
     let rows: [Row<'_>; 11] = [
-        (overflow, &[array(0, 3, 0)], 0, 0, 3, "Overflow; 9223372036854775807 5 0 "),
+        (
+            overflow,
+            &[array(0, 3, 0)],
+            0,
+            0,
+            3,
+            "Overflow; 9223372036854775807 5 0 ",
+        ),
         (divisor, &[array(0, 2, 0)], 0, 0, 2, "ZeroDivisor; 1 0 "),
         (slow, &[array(0, 1, 0)], 0, 0, 1, "ZeroDivisor; 0 "),
         (quick, &[array(0, 1, 0)], 0, 0, 1, "Range; 0 "),
         (range, &[array(0, 2, 0)], 0, 0, 2, "Range; 1 0 "),
         (own, &[array(0, 2, 1)], 1, 0, 2, "0 OwnIndex; 1 0 "),
-        (full, &[array(0, 2, 0), list(2, 1)], 0, 0, 4, "Full; 1 0 1 7 "),
-        (missing, &[array(0, 2, 0), map(2, 1)], 0, 0, 2, "MissingKey; 1 0 "),
-        (present, &[array(0, 2, 0), map(2, 1)], 0, 0, 2, "PresentKey; 1 0 "),
-        (written, &[array(0, 2, 0), stream(2, 1, 1, false)], 0, 0, 4, "Written; 1 0 2 4 "),
+        (
+            full,
+            &[array(0, 2, 0), list(2, 1)],
+            0,
+            0,
+            4,
+            "Full; 1 0 1 7 ",
+        ),
+        (
+            missing,
+            &[array(0, 2, 0), map(2, 1)],
+            0,
+            0,
+            2,
+            "MissingKey; 1 0 ",
+        ),
+        (
+            present,
+            &[array(0, 2, 0), map(2, 1)],
+            0,
+            0,
+            2,
+            "PresentKey; 1 0 ",
+        ),
+        (
+            written,
+            &[array(0, 2, 0), stream(2, 1, 1, false)],
+            0,
+            0,
+            4,
+            "Written; 1 0 2 4 ",
+        ),
         (budget, &[array(0, 2, 0)], 0, 0, 2, "Budget; 1 0 "),
     ];
     try_rows(&rt, rt.alloc(), &rows)
@@ -223,7 +153,8 @@ fn steps(rt: HostRuntime) -> Result<(), Fail> {
     let store = "job steps(r: wo ref) { for k in 0..999998 { } r = 1; }";
     let test = "job steps(r: wo ref) { for k in 0..999999 { } r = 1; }";
     let turns = "job steps(r: wo ref) { var k = 0; while k < 499998 { k = k + 1; } r = 1; }";
-    let more = "job steps(r: wo ref) { var k = 0; var j = 0; while k < 499998 { k = k + 1; } r = 1; }";
+    let more =
+        "job steps(r: wo ref) { var k = 0; var j = 0; while k < 499998 { k = k + 1; } r = 1; }";
     let rows: [Row<'_>; 5] = [
         (exact, &[single(0)], 0, 0, 1, "1 "),
         (store, &[single(0)], 0, 0, 1, "Budget; 0 "),
@@ -240,22 +171,88 @@ fn containers(rt: HostRuntime) -> Result<(), Fail> {
     let keys = "job fill(m: rw map, t: wo ref) { t = 7; add(m, 1, 5); add(m, 2, 6); }
         job keys(m: rw map, t: wo ref) { var r = 0; r = try_add(m, 1, 9); t = r; add(m, 3, 3); }
         job tell(m: ro map, t: ro ref, o: wo array) { o[0] = len(m); o[1] = m[1]; o[2] = m[2]; o[3] = has(m, 3); }";
-    let removal = "job removal(m: rw map, t: wo ref, o: wo array) { var y = 9; add(m, 1, 5); y = remove(m, 1); o[0] = y;
+    let removal =
+        "job removal(m: rw map, t: wo ref, o: wo array) { var y = 9; add(m, 1, 5); y = remove(m, 1); o[0] = y;
             y = remove(m, 1); o[1] = y; o[2] = len(m); y = try_add(m, 4, 8); o[3] = y; clear(m); t = has(m, 4); m[4] = 1; m[4] = 2; t = m[4]; t = m[3]; }";
-    let items = "job items(l: rw list, o: wo array) { add(l, 5); add(l, 6); add(l, 7); remove(l, 0); o[0] = len(l);
+    let items =
+        "job items(l: rw list, o: wo array) { add(l, 5); add(l, 6); add(l, 7); remove(l, 0); o[0] = len(l);
             o[1] = l[0]; o[2] = l[1]; o[3] = l[2]; }";
-    let cleared = "job cleared(l: rw list, o: wo array) { add(l, 5); l[0] = 6; o[0] = l[0]; clear(l); o[1] = len(l) + 1;
+    let cleared =
+        "job cleared(l: rw list, o: wo array) { add(l, 5); l[0] = 6; o[0] = l[0]; clear(l); o[1] = len(l) + 1;
             remove(l, 0); }";
     let entries = "job entries(s: wo stream) { begin s[1] { write(s, 8); write(s, 9); } }
         job tell(s: ro stream, o: wo array) { o[0] = count(s, 0) + 1; o[1] = count(s, 1); o[2] = at(s, 1, 1); o[3] = at(s, 1, 2); }";
     let indexes = "job tell(s: ro stream, o: wo array) { o[0] = len(s); o[1] = count(s, 2); }";
     let rows: [Row<'_>; 6] = [
-        (keys, &[map(0, 2), single(13), array(14, 4, 0)], 0, 13, 18, "Full; 0 2 5 6 0 "),
-        (removal, &[map(0, 2), single(13), array(14, 4, 0)], 0, 13, 18, "MissingKey; 2 1 0 0 1 "),
-        (items, &[list(0, 4), array(5, 4, 0)], 0, 5, 9, "Range; 2 7 6 0 "),
-        (cleared, &[list(0, 4), array(5, 4, 0)], 0, 5, 9, "Range; 6 1 0 0 "),
-        (entries, &[stream(0, 2, 2, false), array(6, 4, 0)], 0, 6, 10, "Range; 1 2 9 0 "),
-        (indexes, &[stream(0, 2, 2, false), array(6, 4, 0)], 0, 6, 10, "Range; 2 0 0 0 "),
+        (
+            keys,
+            &[map(0, 2), single(13), array(14, 4, 0)],
+            0,
+            13,
+            18,
+            "Full; 0 2 5 6 0 ",
+        ),
+        (
+            removal,
+            &[map(0, 2), single(13), array(14, 4, 0)],
+            0,
+            13,
+            18,
+            "MissingKey; 2 1 0 0 1 ",
+        ),
+        (
+            items,
+            &[list(0, 4), array(5, 4, 0)],
+            0,
+            5,
+            9,
+            "Range; 2 7 6 0 ",
+        ),
+        (
+            cleared,
+            &[list(0, 4), array(5, 4, 0)],
+            0,
+            5,
+            9,
+            "Range; 6 1 0 0 ",
+        ),
+        (
+            entries,
+            &[stream(0, 2, 2, false), array(6, 4, 0)],
+            0,
+            6,
+            10,
+            "Range; 1 2 9 0 ",
+        ),
+        (
+            indexes,
+            &[stream(0, 2, 2, false), array(6, 4, 0)],
+            0,
+            6,
+            10,
+            "Range; 2 0 0 0 ",
+        ),
     ];
     try_rows(&rt, rt.alloc(), &rows)
+}
+
+// What a kernel does through views of a list that has two elements.
+fn told_through_view(alloc: Global) -> Result<String, Fail> {
+    let mut told = String::new(alloc);
+    let mut mem = FlatMem::new(alloc, CELLS)?;
+    let fill = "job fill(l: rw list) { add(l, 5); add(l, 6); }";
+    run_text(alloc, fill, &[list(0, 4)], 0, &mut mem, &mut told)?;
+    let double =
+        "parallel double(v: rw array, o: wo array) { v[index] = v[index] * 2; o[index] = len(v); }";
+    let binds = [view(0, 4, 1), array(5, 4, 1)];
+    run_text(alloc, double, &binds, 3, &mut mem, &mut told)?;
+    show(&mut mem, 0, 9, &mut told)?;
+    Ok(told)
+}
+
+#[test]
+fn views(rt: HostRuntime) -> Result<(), Fail> {
+    let told = told_through_view(rt.alloc())?;
+    assert_eq!(&rt; told.as_str(), "2 Range; 2 10 12 0 0 2 2 0 0 ");
+    Ok(())
 }
