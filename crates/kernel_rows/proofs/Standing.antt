@@ -4,10 +4,8 @@ use Rattle.std.proofs.lemmas.Bool.Decides.{nat_tests}
 use Rattle.std.proofs.lemmas.Option.{get_or_from_slice_get}
 use Rattle.frame_ast.specs.declared.kernel.Param.{Param}
 use Rattle.frame_ast.specs.declared.kernel.Kernel.{Kernel}
-use Rattle.frame_ast.specs.Checked.{may_write}
 use Rattle.kernel_exec.specs.declared.binds.Bind.{Bind}
 use Rattle.kernel_exec.specs.Binds.{kind_of, end_of, IsWordOf}
-use Rattle.kernel_exec.specs.Footprint.{IsLength, IsRead, IsWritten}
 use Rattle.kernel_exec.specs.Conditions.{BindsFit, MayRead, MayWrite}
 use Rattle.kernel_exec.proofs.Rights.{reads_word, writes_word}
 use Rattle.kernel_rows.specs.Standing.{AreBelow, AreOfKinds, Apart, ApartFrom, AreApart}

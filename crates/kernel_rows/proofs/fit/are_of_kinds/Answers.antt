@@ -1,4 +1,4 @@
-use Rattle.std.proofs.Common.{◌≡◌, ℕ, Some, slice_get, arith}
+use Rattle.std.proofs.Common.{◌≡◌, Some, slice_get, arith}
 use Rattle.std.proofs.lemmas.Option.{slice_get_within}
 use Rattle.frame_ast.specs.declared.kernel.Param.{Param}
 use Rattle.kernel_exec.specs.declared.binds.Bind.{Bind}

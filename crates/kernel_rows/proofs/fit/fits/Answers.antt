@@ -1,4 +1,4 @@
-use Rattle.std.proofs.Common.{subst, sym, arith, rules}
+use Rattle.std.proofs.Common.{subst, arith, rules}
 use Rattle.kernel_rows.specs.Standing.{AreOfKinds}
 use Rattle.kernel_rows.proofs.Standing.{fit_all}
 use Rattle.kernel_rows.proofs.fit.fits.Goals as goal
