@@ -1,6 +1,5 @@
 -- What a statement says stays the same when more names and kernels are known.
-use Rattle.std.proofs.Common.{◌≡◌, ℕ, Bool, true, false, ◌≤◌, arith, nat_le, nat_lt, List, [], ◌∷◌, ◌++◌, length, map, Option, Some, None, refl, sym, ◌∙◌, ap, subst, unwrap_or, ◌&&◌}
-use Rattle.std.proofs.lemmas.Bool.Decides.{nat_tests}
+use Rattle.std.proofs.Common.{◌≡◌, ℕ, Bool, true, false, arith, List, [], ◌∷◌, ◌++◌, length, map, Option, Some, None, refl, sym, ◌∙◌, ap, subst, unwrap_or}
 use Rattle.frame_ast.specs.declared.kernel.FaultKind.{FaultKind}
 use Rattle.frame_ast.specs.declared.kernel.Param.{Param}
 use Rattle.kernel_code.specs.declared.check.StaticFault.{StaticFault}
@@ -11,11 +10,9 @@ use Rattle.frame_script.specs.declared.raw.RawArg.TheVariants as arg
 use Rattle.frame_script.specs.declared.raw.RawSizes.{RawSizes}
 use Rattle.frame_script.specs.declared.raw.RawSizes.TheVariants as sizes
 use Rattle.frame_script.specs.declared.source.Source.{Source}
-use Rattle.frame_ast.specs.declared.kernel.FaultKind.TheVariants.{Limit}
-use Rattle.frame_script.specs.Raw.{Repeat}
 use Rattle.frame_script.specs.Sources.{text_at, number_at}
 use Rattle.frame_script.specs.Names.{Name, place_in}
-use Rattle.frame_script.specs.Faults.{Scope, first, order_faults, limit_fault, unless, misfit, use_fault, handles_faults, args_faults, arg_fault, sizes_faults}
+use Rattle.frame_script.specs.Faults.{first, unless, misfit, use_fault, handles_faults, args_faults, arg_fault, sizes_faults}
 use Rattle.frame_script.specs.Spelling.{place_of, names_with, arg_of, defer_of}
 use Rattle.frame_script.specs.Walking.{KeepsNames}
 use Rattle.frame_script.proofs.PlaceLemmas.{kind_missing, place_kept, new_place}
@@ -107,12 +104,3 @@ same_defer s names final m (sizes.Length len batch) keeps h = refl
 same_defer s names final m (sizes.Defer list batch) keeps h =
     let p = parted (use_fault s names _ list) _ h in
     ap (λ place. Some (place, number_at s batch)) (same_used s names final m _ list keeps p.0)
-
--- a count without a fault is at least 1
-least : (n most : ℕ) → (nat_le 1 n && nat_le n most) ≡ true → 1 ≤ n
-least n most h = grind (arith, nat_tests)
-
-pub counted : (s : Source) (c : Scope) (at count : ℕ) → first (order_faults s c at (Repeat count)) ≡ None → 1 ≤ number_at s count
-counted s c at count none =
-    let p = parted (unless (nat_lt c.blocks 8) Limit at) (limit_fault s 1 65536 count ∷ []) none in
-    least (number_at s count) 65536 (holds (nat_le 1 (number_at s count) && nat_le (number_at s count) 65536) Limit count (parted (limit_fault s 1 65536 count) [] p.1).0)

@@ -1,5 +1,5 @@
 -- Which script the bytes of a file spell, or for what they are refused.
-use Rattle.std.specs.Prelude.{◌≡◌, ℕ, true, List, slice_get, Option, Some, None}
+use Rattle.std.specs.Prelude.{◌≡◌, ℕ, true, List, slice_get, Some, None}
 use Rattle.frame_ast.specs.declared.kernel.FaultKind.{FaultKind}
 use Rattle.frame_ast.specs.declared.kernel.FaultKind.TheVariants.{Syntax, TooLong}
 use Rattle.frame_ast.specs.declared.script.Script.{Script}

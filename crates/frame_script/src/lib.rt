@@ -11,6 +11,8 @@ mod build_words;
 mod checks;
 mod copies;
 mod fault;
+#[cfg(test)]
+mod fault_tests;
 mod kernels;
 mod kind;
 mod load;

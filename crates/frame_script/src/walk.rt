@@ -1,13 +1,12 @@
 //! Goes over the items of a file, and writes out the script that they spell.
 
-ghost use Rattle.std.specs.Prelude.{◌≡◌, ◌<◌, ◌≤◌, ◌^◌, ◌++◌, ℕ, [], ◌∷◌, None, Some, false, length, IfOk, MatchOption};
+ghost use Rattle.std.specs.Prelude.{◌≡◌, ◌<◌, ◌≤◌, ◌^◌, ◌++◌, ℕ, [], None, Some, false, length, IfOk, MatchOption};
 ghost use Rattle.frame_ast.specs.declared.kernel.FaultKind.{FaultKind};
 ghost use Rattle.kernel_code.specs.Parsing.{kinds};
 ghost use Rattle.kernel_code.specs.Legible.{NamesAreText, NamesStand};
 ghost use Rattle.frame_script.specs.Raw.{form_of, closing, Repeat, When, IsFile};
-ghost use Rattle.frame_script.specs.Sources.{line_at};
 ghost use Rattle.frame_script.specs.Faults.{first, order_faults};
-ghost use Rattle.frame_script.specs.Checks.{Gives, Refuses};
+ghost use Rattle.frame_script.specs.Checks.{Gives};
 ghost use Rattle.frame_script.specs.Writing.{nothing_written};
 ghost use Rattle.frame_script.specs.Walking.{lists_of, lists_in, scope_of, Tells, TakesSingle, TakesRepeat, TakesWhen, Takes, Leaves, IsWalking, IsThrough, RefusesItems};
 

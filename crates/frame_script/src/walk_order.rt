@@ -1,6 +1,6 @@
 //! One statement of a file: what it says, and the name that it makes.
 
-ghost use Rattle.std.specs.Prelude.{◌≡◌, [], ◌∷◌, None, Some, MatchOption, IsTrue, IfOk};
+ghost use Rattle.std.specs.Prelude.{◌≡◌, None, Some, MatchOption, IsTrue, IfOk};
 ghost use Rattle.frame_script.specs.Raw.{form_of, closing, NewArray};
 ghost use Rattle.frame_script.specs.Faults.{first, order_faults, made_by};
 ghost use Rattle.frame_script.specs.Spelling.{Says, names_after};

@@ -1,4 +1,4 @@
-use Rattle.std.proofs.Common.{rules, arith, ◌≡◌, ◌∙◌, ◌<◌, ◌-◌, ◌^◌, ◌++◌, ◌∷◌, [], None, sym, ap, subst, length, string_bytes}
+use Rattle.std.proofs.Common.{rules, ◌≡◌, ◌∙◌, ◌<◌, ◌-◌, ◌^◌, ◌++◌, ◌∷◌, [], None, sym, length}
 use Rattle.frame_script.specs.KernelIndex.{kernel_at}
 use Rattle.frame_script.proofs.NameLemmas.{on_ok}
 use Rattle.frame_script.proofs.KernelLemmas.{kernel_added}

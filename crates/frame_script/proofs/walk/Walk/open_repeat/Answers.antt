@@ -4,7 +4,7 @@ use Rattle.frame_script.specs.Faults.{first, order_faults}
 use Rattle.frame_script.specs.Writing.{opened}
 use Rattle.frame_script.specs.declared.written.OpenBlock.TheVariants as block
 use Rattle.frame_script.specs.Walking.{scope_of}
-use Rattle.frame_script.proofs.KeptSays.{counted}
+use Rattle.frame_script.proofs.WritingRepeatCounts.{repeats_once}
 use Rattle.frame_script.proofs.walk.Walk.open_repeat.Goals as goal
 
 pub returns : goal.returns
@@ -18,7 +18,7 @@ returns c =
       record {
         enters = record { names = refl; kernels = refl; literals = refl; around = c.in_ok-push.ensures.items };
         tested = refl;
-        least = counted s (scope_of old) c.args.at c.args.count none;
+        least = repeats_once s (scope_of old) c.args.at c.args.count none;
         written = c.in_ok-open_repeat.ensures ∙ ap (λ n. opened (block.Repeat (length old.written.statements) n) old.written) c.in_ok-count.ensures.1;
       },
     )
