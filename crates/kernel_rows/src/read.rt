@@ -1,0 +1,25 @@
+// Kernels from texts.
+ghost use Rattle.std.specs.Prelude.{◌≡◌, ◌≤◌, ◌<◌, length, IfOk};
+ghost use Rattle.frame_ast.specs.Checked.{IsChecked};
+ghost use Rattle.kernel_code.specs.Tokens.{tokens_of};
+
+use frame_ast::kernel::Kernel;
+use kernel_code::{KernelFault, Token, check_kernel, parse_kernel};
+use std::alloc::Global;
+
+/// The kernel that begins at a token of a file with no earlier kernels, and the place of the token behind it.
+pub fn kernel_at(
+    alloc: Global,
+    source: &[u8],
+    tokens: &[Token],
+    at: u32,
+) -> Result<(Kernel, u32), KernelFault>
+    requires few { length source.now ≤ 16777216 }
+    requires lexed { tokens.now ≡ tokens_of source.now }
+    requires within { at < length tokens.now }
+    ensures checked { IfOk result (λ found. IsChecked found.0) }
+{
+    let (raw, next) = parse_kernel(alloc, source, tokens, at)?;
+    let kernel = check_kernel(alloc, &raw, &[])?;
+    Ok((kernel, next))
+}
