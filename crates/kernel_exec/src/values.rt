@@ -17,9 +17,9 @@ use frame_ast::kernel::{Expr, Operator};
 use job_base::Trap;
 use job_base::mem::Mem;
 
-// The value of two operands. Both sides were evaluated.
+/// The value of two operands. Both sides were evaluated.
 #[inline(always)]
-fn operated(op: Operator, m: i64, n: i64) -> Result<i64, Trap>
+pub fn operated(op: Operator, m: i64, n: i64) -> Result<i64, Trap>
     ensures { result ≡ operate op m n }
 {
     match op {
