@@ -63,6 +63,19 @@ fn aside(outcome: Result<i64, Trap>, trap: &mut Trap) -> Option<i64>
     }
 }
 
+// `x[index]`, for which no place is evaluated.
+#[inline(never)]
+fn own_element<M: Mem>(x: u32, call: &Call<'_>, trap: &mut Trap, mem: &mut M) -> Option<i64>
+    requires param { IsTrue (meets call.now.kernel.now.params.items x read_elements) }
+    requires call { IsCall call.now.kernel.now call.now.binds.now call.now.index (M.readable mem.old) (M.writable mem.old) }
+    ensures value { valued result trap.new ≡ get_word call.now.index (pos call.now.index) (bind_at call.now.binds.now x) (M.cells mem.old) }
+    ensures cells { M.cells mem.new ≡ M.cells mem.old }
+    ensures readable { M.readable mem.new ≡ M.readable mem.old }
+    ensures writable { M.writable mem.new ≡ M.writable mem.old }
+{
+    aside(element(x, i64::from(call.index), call, mem), trap)
+}
+
 // The value of an expression. A number of its own is read here; a form with parts is left to its function.
 #[cycle(value)]
 #[inline(always)]
@@ -86,7 +99,10 @@ fn number<M: Mem>(
         Expr::Index => Some(i64::from(call.index)),
         Expr::Local(k) => Some(locals[*k as usize]),
         Expr::Value(x) => Some(single(*x, call, mem)),
-        Expr::Element(x, place) => element_at(*x, place, call, locals, trap, mem),
+        Expr::Element(x, place) => match &**place {
+            Expr::Index => own_element(*x, call, trap, mem),
+            _ => element_at(*x, place, call, locals, trap, mem),
+        },
         Expr::Length(x) => Some(i64::from(length(*x, call, mem))),
         Expr::Has(x, key) => has_at(*x, key, call, locals, trap, mem),
         Expr::Count(x, index) => count_at(*x, index, call, locals, trap, mem),
