@@ -94,8 +94,10 @@ fn traps(rt: HostRuntime) -> Result<(), Fail> {
         "job present(a: wo array, m: rw map) { add(m, 1, 2); a[0] = 1; add(m, 1, 3); a[1] = 1; }";
     let written =
         "job written(a: wo array, s: wo stream) { begin s[0] { write(s, 4); } a[0] = 1; begin s[0] { } a[1] = 1; }";
+    let twice =
+        "job twice(s: wo stream) { begin s[0] { write(s, 5); } begin s[2] { } begin s[0] { } }";
     let budget = "job budget(a: wo array) { a[0] = 1; while 1 { } a[1] = 1; }";
-    let rows: [Row<'_>; 11] = [
+    let rows: [Row<'_>; 12] = [
         (
             overflow,
             &[array(0, 3, 0)],
@@ -140,6 +142,14 @@ fn traps(rt: HostRuntime) -> Result<(), Fail> {
             0,
             4,
             "Written; 1 0 2 4 ",
+        ),
+        (
+            twice,
+            &[stream(0, 3, 1, false)],
+            0,
+            0,
+            6,
+            "Written; 2 5 0 0 1 0 ",
         ),
         (budget, &[array(0, 2, 0)], 0, 0, 2, "Budget; 1 0 "),
     ];
