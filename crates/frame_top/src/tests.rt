@@ -77,7 +77,7 @@ fn scripts(rt: HostRuntime) -> Result<(), Fail> {
 #[test]
 fn refusals(rt: HostRuntime) -> Result<(), Fail> {
     let alloc = rt.alloc();
-    let rows: [(&[u8], u8, &str); 13] = [
+    let rows: [(&[u8], u8, &str); 14] = [
         (b"array a", 3, "script refused line 1: syntax\n"),
         (b"\xff", 3, "script refused line 1: syntax\n"),
         (
@@ -119,6 +119,12 @@ fn refusals(rt: HostRuntime) -> Result<(), Fail> {
         ),
         (b"repeat 65536 {\nflush\n}\nflush", 9, "limit: statements\n"),
         (b"list l 4\nprint l", 3, "script refused line 1: syntax\n"),
+        // The second of three jobs can't be run yet.
+        (
+            b"job bump(a: rw array) { a[0] = a[0] + 1; }\narray a 1 = 1\nrepeat 3 {\nschedule h bump(a)\ncomplete h\n}\nprint a",
+            3,
+            "script refused line 4: syntax\n",
+        ),
     ];
     for (source, status, text) in rows {
         let mut sink = MemSink::new(alloc, 100, 100, Vec::new(alloc))
