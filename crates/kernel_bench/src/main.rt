@@ -3,7 +3,7 @@
 //! A word is how many times it runs, 1 where none is given. So the time of an index is the difference of two runs.
 #![tactic(auto)]
 
-ghost use Rattle.std.specs.Prelude.{◌≡◌, ◌<◌, ◌*◌, ◌^◌, length};
+ghost use Rattle.std.specs.Prelude.{◌≡◌, ◌<◌, ◌*◌, ◌^◌, length, IfSome};
 ghost use Rattle.frame_ast.specs.Checked.{IsChecked};
 
 use frame_ast::kernel::Kernel;
@@ -74,6 +74,15 @@ fn run_all(kernel: &Kernel, len: u32, rounds: u32, scratch: &mut Scratch, mem: &
     true
 }
 
+// So many cells with numbers in them, where memory is found.
+fn filled(alloc: Global, cells: u32) -> Option<FlatMem>
+    ensures { IfSome result (λ mem. length mem ≡ cells) }
+{
+    let mut mem = FlatMem::new(alloc, cells).ok()?;
+    fill(&mut mem, cells);
+    Some(mem)
+}
+
 // The checksum after so many runs over arrays of this length, where memory is found and nothing traps.
 fn mixed(alloc: Global, len: u32, rounds: u32) -> Option<i64>
     requires { 3 * len < 2 ^ 32 }
@@ -89,9 +98,8 @@ fn mixed(alloc: Global, len: u32, rounds: u32) -> Option<i64>
     let Ok((kernel, _)) = kernel_at(alloc, source, &tokens, 0) else {
         return None;
     };
-    let mut mem = FlatMem::new(alloc, 3 * len).ok()?;
+    let mut mem = filled(alloc, 3 * len)?;
     let mut scratch = Scratch::new(alloc).ok()?;
-    fill(&mut mem, 3 * len);
     if run_all(&kernel, len, rounds, &mut scratch, &mut mem) {
         Some(checksum(&mut mem, 2 * len, 3 * len))
     } else {

@@ -1,7 +1,9 @@
 // Kernels from texts.
-ghost use Rattle.std.specs.Prelude.{◌≡◌, ◌≤◌, ◌<◌, length, IfOk};
+ghost use Rattle.std.specs.Prelude.{◌≡◌, ◌≤◌, ◌<◌, ℕ, length, IfOk};
+ghost use Rattle.frame_ast.specs.declared.kernel.FaultKind.{FaultKind};
 ghost use Rattle.frame_ast.specs.Checked.{IsChecked};
 ghost use Rattle.kernel_code.specs.Tokens.{tokens_of};
+ghost use Rattle.kernel_rows.specs.Texts.{IsKernelAt, IsRefusedAt};
 
 use frame_ast::kernel::Kernel;
 use kernel_code::{KernelFault, Token, check_kernel, parse_kernel};
@@ -18,6 +20,8 @@ pub fn kernel_at(
     requires lexed { tokens.now ≡ tokens_of source.now }
     requires within { at < length tokens.now }
     ensures checked { IfOk result (λ found. IsChecked found.0) }
+    ensures kernel { IfOk result (λ found. IsKernelAt source.now tokens.now at found.1 found.0) }
+    ensures refused { (line : ℕ) (kind : FaultKind) → result ≡ Err (KernelFault.Refused line kind) → IsRefusedAt source.now tokens.now at line kind }
 {
     let (raw, next) = parse_kernel(alloc, source, tokens, at)?;
     let kernel = check_kernel(alloc, &raw, &[])?;
