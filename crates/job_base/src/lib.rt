@@ -5,10 +5,12 @@
 //! and a test hands in the ones in memory that stand beside the traits.
 #![tactic(auto)]
 
-pub mod files;
-pub mod gate;
-pub mod mem;
-pub mod sink;
+mod files;
+mod gate;
+pub mod laws;
+pub mod limits;
+mod mem;
+mod sink;
 #[cfg(test)]
 mod tests;
 
@@ -43,7 +45,7 @@ pub struct Span {
     pub len: u32,
 }
 
-/// Memory was not found. Every call may answer it that takes an allocator, and no other cause does.
+/// Memory was not found. It is the one answer that no clause ties to a cause.
 #[derive(Clone, Copy, Debug, PartialEq, Eq)]
 pub struct NoMemory;
 
@@ -110,7 +112,8 @@ pub enum Refusal {
     NotParallel,
     /// One container for two parameters of which one writes.
     Alias,
-    /// Jobs that aren't completed use the container; the greatest of them.
+    /// Jobs that the script hasn't completed and the statement doesn't wait for use the container, and one of the two
+    /// writes; the greatest of them.
     Pending(JobId),
     /// The words that may be live at once don't suffice.
     StoreFull,

@@ -7,8 +7,7 @@ ghost use Rattle.std.specs.Prelude.{◌≡◌, ◌<◌, ◌*◌, ◌^◌, length
 ghost use Rattle.frame_ast.specs.Checked.{IsChecked};
 
 use frame_ast::kernel::Kernel;
-use job_base::Word;
-use job_base::mem::{FlatMem, Mem};
+use job_base::{FlatMem, Mem, Word};
 use kernel_code::lex;
 use kernel_exec::{Bind, Scratch};
 use kernel_rows::{fits, kernel_at, run};

@@ -11,8 +11,7 @@ ghost use Rattle.kernel_exec.specs.Words.{refusal_at, after_call, begin_word};
 ghost use Rattle.kernel_exec.specs.Conditions.{IsBegun};
 
 use crate::binds::Bind;
-use job_base::Trap;
-use job_base::mem::Mem;
+use job_base::{Mem, Trap};
 use native_array::ArrayAt;
 use native_stream::StreamAt;
 

@@ -14,8 +14,7 @@ ghost use Rattle.kernel_exec.specs.Runs.{valued};
 use crate::call::Call;
 use crate::reads::{count, element, has, item, length, single};
 use frame_ast::kernel::{Expr, Operator};
-use job_base::Trap;
-use job_base::mem::Mem;
+use job_base::{Mem, Trap};
 
 /// The value of two operands. Both sides were evaluated.
 #[inline(always)]

@@ -5,8 +5,7 @@ ghost use Rattle.kernel_exec.specs.Conditions.{BindsFit};
 ghost use Rattle.kernel_rows.specs.Standing.{AreBelow};
 
 use frame_ast::kernel::Kernel;
-use job_base::Trap;
-use job_base::mem::FlatMem;
+use job_base::{FlatMem, Trap};
 use kernel_exec::{Bind, Scratch, execute};
 
 /// Runs a kernel at an index, or once, on binds that stand in the memory.

@@ -6,8 +6,7 @@ ghost use Rattle.kernel_rows.specs.Standing.{AreBelow};
 
 use crate::{fits, kernel_at, run};
 use frame_ast::kernel::Kernel;
-use job_base::mem::{FlatMem, Mem};
-use job_base::{Trap, Word};
+use job_base::{FlatMem, Mem, Trap, Word};
 use kernel_code::{TokenKind, lex};
 use kernel_exec::{Bind, Scratch};
 use native_array::{ArrayAt, RefAt};

@@ -2,7 +2,7 @@
 // them.
 
 use crate::rows::{CELLS, Row, array, list, map, run_text, show, single, stream, try_rows, view};
-use job_base::mem::FlatMem;
+use job_base::FlatMem;
 use std::alloc::Global;
 use std::process::Abort;
 use std::test::Fail;

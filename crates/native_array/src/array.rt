@@ -6,8 +6,7 @@ ghost use Rattle.native_array.specs.Words.{IsAllowedAt, get_words, set_words};
 ghost use Rattle.native_array.specs.Effects.{get_effect, set_effect};
 ghost use Rattle.native_array.specs.Slices.{slice_of, IsPartOf};
 
-use job_base::mem::Mem;
-use job_base::{Trap, Word};
+use job_base::{Mem, Trap, Word};
 
 /// An array of `len` elements, whose words begin at `start`.
 ///

@@ -4,8 +4,7 @@ ghost use Rattle.native_array.specs.Layout.{IsRefForm};
 ghost use Rattle.native_array.specs.Words.{value_words, set_value_words};
 ghost use Rattle.native_array.specs.Effects.{value_effect, set_value_effect};
 
-use job_base::Word;
-use job_base::mem::Mem;
+use job_base::{Mem, Word};
 
 /// One value, whose word is `start`.
 ///

@@ -4,8 +4,7 @@ ghost use Rattle.job_base.specs.Forms.{AreAllowed};
 ghost use Rattle.native_array.specs.Layout.{end_of};
 
 use crate::{ArrayAt, RefAt};
-use job_base::mem::{FlatMem, Mem};
-use job_base::{Trap, Word};
+use job_base::{FlatMem, Mem, Trap, Word};
 use std::process::Abort;
 use std::test::Fail;
 

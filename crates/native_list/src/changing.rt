@@ -6,8 +6,7 @@ ghost use Rattle.native_list.specs.Conditions.{MayAdd, MayRemove};
 ghost use Rattle.native_list.specs.Effects.{add_effect, remove_effect, clear_effect};
 
 use crate::ListAt;
-use job_base::mem::Mem;
-use job_base::{Trap, Word};
+use job_base::{Mem, Trap, Word};
 
 impl ListAt {
     /// Adds an element at the end. `Full` where the length is the capacity: a list in words never grows.

@@ -8,8 +8,7 @@ ghost use Rattle.native_list.specs.Effects.{len_effect, array_effect};
 ghost use Rattle.native_list.specs.Views.{IsViewOf};
 
 use crate::ListAt;
-use job_base::mem::Mem;
-use job_base::{Trap, Word};
+use job_base::{Mem, Trap, Word};
 use native_array::ArrayAt;
 
 impl ListAt {

@@ -4,8 +4,7 @@ ghost use Rattle.job_base.specs.Forms.{AreAllowed};
 ghost use Rattle.native_list.specs.Layout.{end_of};
 
 use crate::ListAt;
-use job_base::mem::{FlatMem, Mem};
-use job_base::{Trap, Word};
+use job_base::{FlatMem, Mem, Trap, Word};
 use native_array::ArrayAt;
 use std::process::Abort;
 use std::test::Fail;

@@ -8,8 +8,7 @@ ghost use Rattle.native_map.specs.Effects.{put_effect, add_effect, try_add_effec
 
 use crate::MapAt;
 use crate::search::Spot;
-use job_base::mem::Mem;
-use job_base::{Trap, Word};
+use job_base::{Mem, Trap, Word};
 
 impl MapAt {
     // A new pair in a free place, unless the map is full.

@@ -8,8 +8,7 @@ ghost use Rattle.native_map.specs.Table.{places, flag_word, key_word, value_word
 ghost use Rattle.native_map.specs.Layout.{StandsFor};
 
 use crate::MapAt;
-use job_base::Word;
-use job_base::mem::Mem;
+use job_base::{Mem, Word};
 
 // How many places the table has.
 pub fn places(cap: u32) -> u64

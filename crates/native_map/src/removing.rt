@@ -9,8 +9,7 @@ ghost use Rattle.native_map.specs.Effects.{remove_effect, clear_effect};
 use crate::MapAt;
 use crate::place::{distance, home, next_place, places};
 use crate::search::Spot;
-use job_base::Word;
-use job_base::mem::Mem;
+use job_base::{Mem, Word};
 
 impl MapAt {
     // Whether the search for the key at place j passes place i.

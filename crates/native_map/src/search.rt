@@ -8,8 +8,7 @@ ghost use Rattle.native_map.specs.Effects.{get_effect, has_effect};
 
 use crate::MapAt;
 use crate::place::{home, next_place, places};
-use job_base::Trap;
-use job_base::mem::Mem;
+use job_base::{Mem, Trap};
 
 /// Where the search for a key ended.
 pub enum Spot {

@@ -3,8 +3,7 @@ ghost use Rattle.job_base.specs.Forms.{AreAllowed};
 ghost use Rattle.native_map.specs.Table.{places, end_of};
 
 use crate::*;
-use job_base::mem::{FlatMem, Mem};
-use job_base::{NoMemory, Trap};
+use job_base::{FlatMem, Mem, NoMemory, Trap};
 use std::alloc::Global;
 use std::process::Abort;
 use std::test::Fail;

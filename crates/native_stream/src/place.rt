@@ -6,8 +6,7 @@ ghost use Rattle.native_stream.specs.Layout.{mark_word, item_word, end_of, Stand
 ghost use Rattle.native_stream.specs.Words.{MayUse, is_written, is_written_at, item_count};
 
 use crate::StreamAt;
-use job_base::mem::Mem;
-use job_base::{Trap, Word};
+use job_base::{Mem, Trap, Word};
 
 /// How many words a stream takes. All of them 0 stand for the unwritten stream.
 pub fn words_of(count: u32, room: u32) -> u64

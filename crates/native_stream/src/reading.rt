@@ -6,8 +6,7 @@ ghost use Rattle.native_stream.specs.Effects.{items_effect, at_effect};
 
 use crate::StreamAt;
 use crate::place::place_in;
-use job_base::Trap;
-use job_base::mem::Mem;
+use job_base::{Mem, Trap};
 
 impl StreamAt {
     /// How many items index `i` has; an unwritten one has none. `Range` where `i` is below 0 or not below the count.

@@ -4,8 +4,7 @@ ghost use Rattle.job_base.specs.Forms.{AreAllowed};
 ghost use Rattle.native_stream.specs.Layout.{end_of};
 
 use crate::{StreamAt, words_of};
-use job_base::mem::{FlatMem, Mem};
-use job_base::{NoMemory, Trap, Word};
+use job_base::{FlatMem, Mem, NoMemory, Trap, Word};
 use std::alloc::Global;
 use std::process::Abort;
 use std::test::Fail;

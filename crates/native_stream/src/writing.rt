@@ -7,8 +7,7 @@ ghost use Rattle.native_stream.specs.Effects.{begin_effect, write_effect, clear_
 
 use crate::StreamAt;
 use crate::place::place_in;
-use job_base::Trap;
-use job_base::mem::Mem;
+use job_base::{Mem, Trap};
 
 impl StreamAt {
     /// Begins index `i`, which then counts as written, with no items. `Range` where `i` is below 0 or not below the
