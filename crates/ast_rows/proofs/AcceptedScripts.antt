@@ -5,7 +5,9 @@ use Rattle.std.specs.Prelude.{count_by}
 use Rattle.frame_ast.specs.declared.script.Script.{Script}
 use Rattle.frame_ast.specs.declared.kernel.Kernel.{Kernel}
 use Rattle.frame_ast.specs.Checked.{IsChecked}
-use Rattle.frame_ast.specs.Accepted.{NameKind, ArrayName, RefName, MapName, HandleName, statements_fit, up_to, is_when, IsAccepted}
+use Rattle.frame_ast.specs.declared.name_kind.NameKind.{NameKind}
+use Rattle.frame_ast.specs.declared.name_kind.NameKind.TheVariants.{Array as ArrayName, Reference as RefName, Map as MapName, Handle as HandleName}
+use Rattle.frame_ast.specs.Accepted.{statements_fit, up_to, is_when, IsAccepted}
 use Rattle.ast_rows.proofs.Trees.{Place}
 use Rattle.ast_rows.proofs.Kernel.{Text, kernel}
 use Rattle.ast_rows.proofs.Kernels.{kernels}

@@ -80,7 +80,7 @@ abbrev pub len : ℕ → Written
 len x at = Expr.Length x
 
 abbrev binary : Operator → Written → Written → Written
-binary op e f at = Expr.Binary' op (child at) (e at) (child at) (f at)
+binary op e f at = Expr.Binary' op (child at) (e at) (f at)
 
 abbrev pub has : ℕ → Written → Written
 has x e at = Expr.Has' x (child at) (e at)

@@ -1,6 +1,6 @@
-mod Trees
-mod Kernel
-mod Kernels
+pub mod Trees
+pub mod Kernel
+pub mod Kernels
 mod Script
 mod RowsKernels
 mod RowsConflicts
@@ -10,7 +10,7 @@ mod RowsLifetimes
 mod RowsParallel
 mod RowsAutomatic
 mod RowsTraps
-mod CheckedKernels
+pub mod CheckedKernels
 mod Steps
 mod Limits
 mod Spans

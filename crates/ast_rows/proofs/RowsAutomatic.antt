@@ -2,6 +2,7 @@
 use Prim.Native.String.{String}
 use Rattle.std.proofs.Common.{refl, ℕ, List, [], ◌∷◌, ◌++◌}
 use Rattle.std.specs.Fmt.{digits}
+use Rattle.frame_ast.specs.Lists.{first_some}
 use Rattle.frame_ast.specs.declared.script.Sign.{Sign}
 use Rattle.frame_ast.specs.Kernels.{fresh}
 use Rattle.frame_ast.specs.JobRuns.{full_steps, deferred_steps}
@@ -18,7 +19,7 @@ automatic_dependencies : Gives ("x" ∷ "y" ∷ "t" ∷ "h1" ∷ "h2" ∷ []) (l
     ∷ complete_auto "t"
     ∷ print "t"
     ∷ [])) no_table "t = 30\n" 0
-unfolding fresh full_steps deferred_steps digits
+unfolding fresh full_steps deferred_steps digits first_some
 automatic_dependencies = computed (λ at. refl)
 
 -- array a 1 = 5 / reference t / reference u / schedule auto w bump(a) / schedule auto r1 peek(a, t) / schedule auto r2 peek(a, u)
@@ -36,7 +37,7 @@ automatic_disposal : Gives ("a" ∷ "t" ∷ "u" ∷ "w" ∷ "r1" ∷ "r2" ∷ "w
     ∷ print "t"
     ∷ print "u"
     ∷ [])) no_table "t = 6\nu = 6\n" 0
-unfolding fresh full_steps deferred_steps digits
+unfolding fresh full_steps deferred_steps digits first_some
 automatic_disposal = computed (λ at. refl)
 
 -- reference t / array a 1 = 6 / schedule h peek(a, t) / complete h / when t > 3 { / set a 0 = 1 / print a / } / when t < 3 { / print a / } / print t
@@ -62,7 +63,7 @@ block_said = lines 13 (
     ∷ [])
 
 block_by_value : Gives block_names block_said no_table "a = [1]\nt = 6\n" 0
-unfolding fresh full_steps deferred_steps digits
+unfolding fresh full_steps deferred_steps digits first_some
 block_by_value = computed (λ at. refl)
 
 -- reference t / array a 1 / schedule h bump(a) / when t == 0 { / print t / } / complete h / print a
@@ -77,7 +78,7 @@ block_while_busy : Gives ("t" ∷ "a" ∷ "h" ∷ []) (lines 13 (
     complete "h"
     ∷ print "a"
     ∷ [])) no_table "refused 16: busy job 1\na = [1]\n" 1
-unfolding fresh full_steps deferred_steps digits
+unfolding fresh full_steps deferred_steps digits first_some
 block_while_busy = computed (λ at. refl)
 
 -- reference t / when t == 1 { / array b 2 / } / print b
@@ -89,7 +90,7 @@ name_of_a_passed_block : Gives ("t" ∷ "b" ∷ []) (lines 13 (
     ++ lines 17 (
     print "b"
     ∷ [])) no_table "refused 17: disposed b\n" 1
-unfolding fresh full_steps deferred_steps digits
+unfolding fresh full_steps deferred_steps digits first_some
 name_of_a_passed_block = computed (λ at. refl)
 
 -- reference t = 2 / when t <= 2 { / print t / } / when t >= 3 { / print t / } / when t != 2 { / print t / } / when t == 2 { / print t / }
@@ -110,5 +111,5 @@ comparisons_of_when : Gives ("t" ∷ []) (lines 1 (
     when "t" Sign.Eq 2 1
     ∷ print "t"
     ∷ [])) no_table "t = 2\nt = 2\n" 0
-unfolding fresh full_steps deferred_steps digits
+unfolding fresh full_steps deferred_steps digits first_some
 comparisons_of_when = computed (λ at. refl)

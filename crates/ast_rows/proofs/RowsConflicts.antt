@@ -2,6 +2,7 @@
 use Prim.Native.String.{String}
 use Rattle.std.proofs.Common.{refl, ℕ, List, [], ◌∷◌, ◌++◌}
 use Rattle.std.specs.Fmt.{digits}
+use Rattle.frame_ast.specs.Lists.{first_some}
 use Rattle.frame_ast.specs.Kernels.{fresh}
 use Rattle.frame_ast.specs.JobRuns.{full_steps, deferred_steps}
 use Rattle.frame_ast.specs.Orders.{no_table}
@@ -15,7 +16,7 @@ first_script : Gives ("x" ∷ "y" ∷ "h" ∷ []) (lines 2 (
     ∷ complete "h"
     ∷ print "y"
     ∷ [])) no_table "y = [3, 6, 9, 12]\n" 0
-unfolding fresh full_steps deferred_steps digits
+unfolding fresh full_steps deferred_steps digits first_some
 first_script = computed (λ at. refl)
 
 -- the same without its line `complete h`
@@ -25,7 +26,7 @@ print_of_a_pending_write : Gives ("x" ∷ "y" ∷ "h" ∷ []) (lines 2 (
     ∷ schedule "h" "triple" ("x" ∷ "y" ∷ []) plain
     ∷ print "y"
     ∷ [])) no_table "refused 5: pending job 1 on y\n" 1
-unfolding fresh full_steps deferred_steps digits
+unfolding fresh full_steps deferred_steps digits first_some
 print_of_a_pending_write = computed (λ at. refl)
 
 -- array x 4 = 1 2 3 4 / array y 4 / reference t / schedule h1 scale(x, y) 4 2 / schedule h2 total(y, t) after h1 / complete h2 / print t
@@ -44,7 +45,7 @@ total_said = lines 13 (
     ∷ [])
 
 total_after_scale : Gives total_names total_said no_table "t = 30\n" 0
-unfolding fresh full_steps deferred_steps digits
+unfolding fresh full_steps deferred_steps digits first_some
 total_after_scale = computed (λ at. refl)
 
 -- the same without `after h1`: h2 is the default handle, and completing it completes nothing
@@ -57,7 +58,7 @@ total_without_waiting : Gives ("x" ∷ "y" ∷ "t" ∷ "h1" ∷ "h2" ∷ []) (li
     ∷ complete "h2"
     ∷ print "t"
     ∷ [])) no_table "refused 17: pending job 1 on y\nt = 0\n" 1
-unfolding fresh full_steps deferred_steps digits
+unfolding fresh full_steps deferred_steps digits first_some
 total_without_waiting = computed (λ at. refl)
 
 -- array a 1 / array b 1 / schedule h1 bump(a) / schedule h2 bump(b) after h1 / schedule h3 bump(a) after h2 / complete h3 / print a / print b
@@ -72,7 +73,7 @@ dependency_through_another_job : Gives ("a" ∷ "b" ∷ "h1" ∷ "h2" ∷ "h3" �
     ∷ print "a"
     ∷ print "b"
     ∷ [])) no_table "a = [2]\nb = [1]\n" 0
-unfolding fresh full_steps deferred_steps digits
+unfolding fresh full_steps deferred_steps digits first_some
 dependency_through_another_job = computed (λ at. refl)
 
 -- array a 1 = 5 / reference t / reference u / schedule w bump(a) / schedule r1 peek(a, t) after w / schedule r2 peek(a, u) after w
@@ -88,7 +89,7 @@ writer_behind_one_of_two_readers : Gives ("a" ∷ "t" ∷ "u" ∷ "w" ∷ "r1" �
     ∷ complete "r2"
     ∷ print "a"
     ∷ [])) no_table "refused 19: pending job 2 on a\na = [6]\n" 1
-unfolding fresh full_steps deferred_steps digits
+unfolding fresh full_steps deferred_steps digits first_some
 writer_behind_one_of_two_readers = computed (λ at. refl)
 
 -- array a 1 / schedule h1 bump(a) / schedule h2 bump(a) after h1 / schedule h3 bump(a) / complete h2 / print a
@@ -100,7 +101,7 @@ latest_writer_is_named : Gives ("a" ∷ "h1" ∷ "h2" ∷ "h3" ∷ []) (lines 13
     ∷ complete "h2"
     ∷ print "a"
     ∷ [])) no_table "refused 16: pending job 2 on a\na = [2]\n" 1
-unfolding fresh full_steps deferred_steps digits
+unfolding fresh full_steps deferred_steps digits first_some
 latest_writer_is_named = computed (λ at. refl)
 
 -- array a 1 = 4 / reference t / reference u / schedule r1 peek(a, t) / schedule r2 peek(a, u) / print a / set a 0 = 9 / print t
@@ -114,7 +115,7 @@ readers_share : Gives ("a" ∷ "t" ∷ "u" ∷ "r1" ∷ "r2" ∷ []) (lines 13 (
     ∷ set "a" 0 9
     ∷ print "t"
     ∷ [])) no_table "a = [4]\nrefused 19: pending job 2 on a\nrefused 20: pending job 1 on t\n" 1
-unfolding fresh full_steps deferred_steps digits
+unfolding fresh full_steps deferred_steps digits first_some
 readers_share = computed (λ at. refl)
 
 -- array a 2 = 1 2 / slice v a 0 1 / reference t / schedule h pair(a, v) / schedule h both(a, v, t) / complete h / print t
@@ -127,7 +128,7 @@ slice_beside_its_array : Gives ("a" ∷ "v" ∷ "t" ∷ "h" ∷ []) (lines 13 (
     ∷ complete "h"
     ∷ print "t"
     ∷ [])) no_table "refused 16: alias v\nt = 2\n" 1
-unfolding fresh full_steps deferred_steps digits
+unfolding fresh full_steps deferred_steps digits first_some
 slice_beside_its_array = computed (λ at. refl)
 
 -- array a 4 = 1 2 3 4 / slice v a 0 2 / slice w a 2 2 / schedule h1 bump(v) / schedule h2 bump(w) / schedule h2 bump(w) after h1
@@ -142,7 +143,7 @@ slices_of_one_array : Gives ("a" ∷ "v" ∷ "w" ∷ "h1" ∷ "h2" ∷ []) (line
     ∷ complete "h2"
     ∷ print "a"
     ∷ [])) no_table "refused 17: pending job 1 on w\na = [2, 2, 4, 4]\n" 1
-unfolding fresh full_steps deferred_steps digits
+unfolding fresh full_steps deferred_steps digits first_some
 slices_of_one_array = computed (λ at. refl)
 
 -- array a 1 = 1 / repeat 3 { / schedule h bump(a) / complete h / } / print a
@@ -164,7 +165,7 @@ repeat_is_written_out : Gives ("a" ∷ "h" ∷ []) (lines 13 (
     ++ lines 18 (
     print "a"
     ∷ [])) no_table "a = [4]\n" 0
-unfolding fresh full_steps deferred_steps digits
+unfolding fresh full_steps deferred_steps digits first_some
 repeat_is_written_out = computed (λ at. refl)
 
 -- a whole file: job triple(..) / array x 1 / schedule h triple(x, x)
@@ -172,7 +173,7 @@ array_given_twice : Gives ("x" ∷ "h" ∷ []) (lines 2 (
     array "x" 1
     ∷ schedule "h" "triple" ("x" ∷ "x" ∷ []) plain
     ∷ [])) no_table "refused 3: alias x\n" 1
-unfolding fresh full_steps deferred_steps digits
+unfolding fresh full_steps deferred_steps digits first_some
 array_given_twice = computed (λ at. refl)
 
 -- array a 1 / array b 1 / schedule h1 bump(a) / schedule h2 bump(b) / combine h h1 h2 / complete h / print b
@@ -185,5 +186,5 @@ union_of_handles : Gives ("a" ∷ "b" ∷ "h1" ∷ "h2" ∷ "h" ∷ []) (lines 1
     ∷ complete "h"
     ∷ print "b"
     ∷ [])) no_table "b = [1]\n" 0
-unfolding fresh full_steps deferred_steps digits
+unfolding fresh full_steps deferred_steps digits first_some
 union_of_handles = computed (λ at. refl)

@@ -2,6 +2,7 @@
 use Prim.Native.String.{String}
 use Rattle.std.proofs.Common.{refl, ℕ, List, [], ◌∷◌}
 use Rattle.std.specs.Fmt.{digits}
+use Rattle.frame_ast.specs.Lists.{first_some}
 use Rattle.frame_ast.specs.declared.script.Life.{Life}
 use Rattle.frame_ast.specs.Kernels.{fresh}
 use Rattle.frame_ast.specs.JobRuns.{full_steps, deferred_steps}
@@ -17,7 +18,7 @@ copy_of_a_disposed_array : Gives ("a" ∷ "b" ∷ "c" ∷ []) (lines 13 (
     ∷ print "b"
     ∷ print "c"
     ∷ [])) no_table "refused 17: disposed b\nc = [3, 4]\n" 1
-unfolding fresh full_steps deferred_steps digits
+unfolding fresh full_steps deferred_steps digits first_some
 copy_of_a_disposed_array = computed (λ at. refl)
 
 -- array a 2 = 1 2 / reference t / schedule h peek(a, t) / dispose a after h as d / array b 2 = 8 9 / complete d / array c 2 / print t / print b
@@ -38,7 +39,7 @@ reused_said = lines 13 (
     ∷ [])
 
 words_reused_after_the_reader : Gives reused_names reused_said no_table "t = 1\nb = [8, 9]\n" 0
-unfolding fresh full_steps deferred_steps digits
+unfolding fresh full_steps deferred_steps digits first_some
 words_reused_after_the_reader = computed (λ at. refl)
 
 -- list a 1048575 / array b 1 / print b / dispose a / array b 1 / print b
@@ -51,7 +52,7 @@ full_store : Gives ("a" ∷ "b" ∷ []) (lines 13 (
     ∷ array "b" 1
     ∷ print "b"
     ∷ [])) no_table "refused 14: store full\nrefused 15: disposed b\nb = [0]\n" 1
-unfolding fresh full_steps deferred_steps digits
+unfolding fresh full_steps deferred_steps digits first_some
 full_store = computed (λ at. refl)
 
 -- list a 1048575 / schedule h grow(a) / dispose a after h as d / array b 1 / complete d / array b 1 / print b
@@ -65,7 +66,7 @@ words_held_by_a_job : Gives ("a" ∷ "h" ∷ "d" ∷ "b" ∷ []) (lines 13 (
     ∷ array "b" 1
     ∷ print "b"
     ∷ [])) no_table "refused 16: store full\nb = [0]\n" 1
-unfolding fresh full_steps deferred_steps digits
+unfolding fresh full_steps deferred_steps digits first_some
 words_held_by_a_job = computed (λ at. refl)
 
 -- array a 2 temp = 1 2 / print a / schedule h bump(a) / frame / print a / array b 2 / print b
@@ -78,7 +79,7 @@ temp_ends_with_its_frame : Gives ("a" ∷ "h" ∷ "b" ∷ []) (lines 13 (
     ∷ array "b" 2
     ∷ print "b"
     ∷ [])) no_table "a = [1, 2]\nrefused 15: temp a\nrefused 17: disposed a\nb = [0, 0]\n" 1
-unfolding fresh full_steps deferred_steps digits
+unfolding fresh full_steps deferred_steps digits first_some
 temp_ends_with_its_frame = computed (λ at. refl)
 
 -- array a 1 tempjob / schedule h bump(a) / frame / frame / frame / frame / complete h / print a / dispose a / frame
@@ -94,7 +95,7 @@ tempjob_is_overdue : Gives ("a" ∷ "h" ∷ []) (lines 13 (
     ∷ dispose "a"
     ∷ frame
     ∷ [])) no_table "overdue 18: a made on line 13\na = [1]\n" 0
-unfolding fresh full_steps deferred_steps digits
+unfolding fresh full_steps deferred_steps digits first_some
 tempjob_is_overdue = computed (λ at. refl)
 
 -- list l 9 / list k 1048564 / setcapacity l 5 / setcapacity l 0
@@ -105,5 +106,5 @@ full_store_before_range : Gives ("l" ∷ "k" ∷ []) (lines 1 (
     ∷ setcapacity "l" 5
     ∷ setcapacity "l" 0
     ∷ [])) no_table "refused 3: store full\nrefused 4: range\n" 1
-unfolding fresh full_steps deferred_steps digits
+unfolding fresh full_steps deferred_steps digits first_some
 full_store_before_range = computed (λ at. refl)

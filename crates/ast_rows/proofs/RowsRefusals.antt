@@ -1,6 +1,7 @@
 -- The order of causes, the value that is named, and what a refused statement still does.
 use Rattle.std.proofs.Common.{refl, [], ◌∷◌}
 use Rattle.std.specs.Fmt.{digits}
+use Rattle.frame_ast.specs.Lists.{first_some}
 use Rattle.frame_ast.specs.Kernels.{fresh}
 use Rattle.frame_ast.specs.JobRuns.{full_steps, deferred_steps}
 use Rattle.frame_ast.specs.Orders.{no_table}
@@ -14,7 +15,7 @@ greatest_blocker_is_named : Gives ("a" ∷ "b" ∷ "h1" ∷ "h2" ∷ "h3" ∷ []
     ∷ schedule "h2" "bump" ("b" ∷ []) plain
     ∷ schedule "h3" "pair" ("a" ∷ "b" ∷ []) plain
     ∷ [])) no_table "refused 5: pending job 2 on b\n" 1
-unfolding fresh full_steps deferred_steps digits
+unfolding fresh full_steps deferred_steps digits first_some
 greatest_blocker_is_named = computed (λ at. refl)
 
 -- array a 1 / array b 1 / reference t / schedule g bump(a) / dispose b / schedule h both(a, b, t)
@@ -26,7 +27,7 @@ disposed_before_pending : Gives ("a" ∷ "b" ∷ "t" ∷ "g" ∷ "h" ∷ []) (li
     ∷ dispose "b"
     ∷ schedule "h" "both" ("a" ∷ "b" ∷ "t" ∷ []) plain
     ∷ [])) no_table "refused 6: disposed b\n" 1
-unfolding fresh full_steps deferred_steps digits
+unfolding fresh full_steps deferred_steps digits first_some
 disposed_before_pending = computed (λ at. refl)
 
 -- array a 1 / array b 1 / reference t / dispose b / dispose a / schedule h both(a, b, t)
@@ -38,7 +39,7 @@ first_value_is_named : Gives ("a" ∷ "b" ∷ "t" ∷ "h" ∷ []) (lines 1 (
     ∷ dispose "a"
     ∷ schedule "h" "both" ("a" ∷ "b" ∷ "t" ∷ []) plain
     ∷ [])) no_table "refused 6: disposed a\n" 1
-unfolding fresh full_steps deferred_steps digits
+unfolding fresh full_steps deferred_steps digits first_some
 first_value_is_named = computed (λ at. refl)
 
 -- array a 1 / schedule h bump(a) / dispose a / combine g / dispose a after g as d / complete d / print a / complete h / dispose a after h as d / print a
@@ -55,7 +56,7 @@ disposal_waits_for_users : Gives ("a" ∷ "h" ∷ "g" ∷ "d" ∷ []) (lines 1 (
     ∷ dispose_after "a" ("h" ∷ []) "d"
     ∷ print "a"
     ∷ [])) no_table "refused 3: pending job 1 on a\nrefused 5: pending job 1 on a\nrefused 7: pending job 1 on a\nrefused 10: disposed a\n" 1
-unfolding fresh full_steps deferred_steps digits
+unfolding fresh full_steps deferred_steps digits first_some
 disposal_waits_for_users = computed (λ at. refl)
 
 -- list l 1 / add l 1 / view v l / add l 2 / print v / print l
@@ -67,7 +68,7 @@ full_list_breaks_views : Gives ("l" ∷ "v" ∷ []) (lines 1 (
     ∷ print "v"
     ∷ print "l"
     ∷ [])) no_table "refused 4: full\nrefused 5: stale view v\nl = [1]\n" 1
-unfolding fresh full_steps deferred_steps digits
+unfolding fresh full_steps deferred_steps digits first_some
 full_list_breaks_views = computed (λ at. refl)
 
 -- list l 1 / view v l / setcapacity l 0 / print v
@@ -77,7 +78,7 @@ small_capacity_breaks_views : Gives ("l" ∷ "v" ∷ []) (lines 1 (
     ∷ setcapacity "l" 0
     ∷ print "v"
     ∷ [])) no_table "refused 3: range\nrefused 4: stale view v\n" 1
-unfolding fresh full_steps deferred_steps digits
+unfolding fresh full_steps deferred_steps digits first_some
 small_capacity_breaks_views = computed (λ at. refl)
 
 -- list l 1 / list k 1048570 / view v l / setcapacity l 5 / print v
@@ -88,7 +89,7 @@ full_store_breaks_no_view : Gives ("l" ∷ "k" ∷ "v" ∷ []) (lines 1 (
     ∷ setcapacity "l" 5
     ∷ print "v"
     ∷ [])) no_table "refused 4: store full\nv = []\n" 1
-unfolding fresh full_steps deferred_steps digits
+unfolding fresh full_steps deferred_steps digits first_some
 full_store_breaks_no_view = computed (λ at. refl)
 
 -- list l 2 / view v l / schedule h grow(l) / complete h / print v / print l
@@ -100,7 +101,7 @@ job_breaks_views : Gives ("l" ∷ "v" ∷ "h" ∷ []) (lines 1 (
     ∷ print "v"
     ∷ print "l"
     ∷ [])) no_table "refused 5: stale view v\nl = [7, 8]\n" 1
-unfolding fresh full_steps deferred_steps digits
+unfolding fresh full_steps deferred_steps digits first_some
 job_breaks_views = computed (λ at. refl)
 
 -- list l 3 / add l 1 / view v l / set v 0 = 4 / print v / print l
@@ -112,7 +113,7 @@ view_is_written_through : Gives ("l" ∷ "v" ∷ []) (lines 1 (
     ∷ print "v"
     ∷ print "l"
     ∷ [])) no_table "v = [4]\nl = [4]\n" 0
-unfolding fresh full_steps deferred_steps digits
+unfolding fresh full_steps deferred_steps digits first_some
 view_is_written_through = computed (λ at. refl)
 
 -- array a 2 / set a 2 = 1 / list l 2 / add l 1 / set l 1 = 5 / set l 0 = 6 / print l
@@ -125,7 +126,7 @@ set_past_the_end : Gives ("a" ∷ "l" ∷ []) (lines 1 (
     ∷ set "l" 0 6
     ∷ print "l"
     ∷ [])) no_table "refused 2: range\nrefused 5: range\nl = [6]\n" 1
-unfolding fresh full_steps deferred_steps digits
+unfolding fresh full_steps deferred_steps digits first_some
 set_past_the_end = computed (λ at. refl)
 
 -- array a 1 = 1 / copy b a / array a 1 = 2 / print a / print b
@@ -136,5 +137,5 @@ name_made_again : Gives ("a" ∷ "b" ∷ []) (lines 1 (
     ∷ print "a"
     ∷ print "b"
     ∷ [])) no_table "a = [2]\nb = [1]\n" 0
-unfolding fresh full_steps deferred_steps digits
+unfolding fresh full_steps deferred_steps digits first_some
 name_made_again = computed (λ at. refl)

@@ -1,6 +1,7 @@
 -- Traps: stores before a trap stay, and the least trap is told.
 use Rattle.std.proofs.Common.{refl, pos, negsuc, [], ◌∷◌}
 use Rattle.std.specs.Fmt.{digits}
+use Rattle.frame_ast.specs.Lists.{first_some}
 use Rattle.frame_ast.specs.declared.script.Life.{Life}
 use Rattle.frame_ast.specs.Kernels.{fresh}
 use Rattle.frame_ast.specs.JobRuns.{full_steps, deferred_steps}
@@ -9,7 +10,7 @@ use Rattle.ast_rows.proofs.Script.{Gives, computed, lines, array, print, plain, 
 
 -- a script of no bytes
 empty_script : Gives [] [] no_table "" 0
-unfolding fresh full_steps deferred_steps digits
+unfolding fresh full_steps deferred_steps digits first_some
 empty_script = computed (λ at. refl)
 
 -- array a 1 / array b 1 / schedule h1 slow(a) / schedule h2 quick(b)
@@ -19,7 +20,7 @@ traps_of_two_jobs : Gives ("a" ∷ "b" ∷ "h1" ∷ "h2" ∷ []) (lines 13 (
     ∷ schedule "h1" "slow" ("a" ∷ []) plain
     ∷ schedule "h2" "quick" ("b" ∷ []) plain
     ∷ [])) no_table "trap job 1 index 0: zero-divisor\ntraps 2\n" 5
-unfolding fresh full_steps deferred_steps digits
+unfolding fresh full_steps deferred_steps digits first_some
 traps_of_two_jobs = computed (λ at. refl)
 
 -- a whole file: job edge(..) / array a 3 = 9223372036854775807 -9223372036854775808 0 / schedule h edge(a) / complete h / print a
@@ -29,5 +30,5 @@ stores_before_an_overflow : Gives ("a" ∷ "h" ∷ []) (lines 2 (
     ∷ complete "h"
     ∷ print "a"
     ∷ [])) no_table "a = [9223372036854775807, 5, 0]\ntrap job 1 index 0: overflow\ntraps 1\n" 5
-unfolding fresh full_steps deferred_steps digits
+unfolding fresh full_steps deferred_steps digits first_some
 stores_before_an_overflow = computed (λ at. refl)

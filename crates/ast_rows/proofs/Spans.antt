@@ -1,6 +1,7 @@
 -- Where the words of a script lie.
 use Rattle.std.proofs.Common.{◌≡◌, refl, sym, subst, ℕ, zero, suc, ◌+◌, ◌<◌, Bool, true, false, ◌&&◌, not, List, map, arith, lit<, lit≤}
 use Rattle.std.specs.Fmt.{digits}
+use Rattle.frame_ast.specs.Lists.{first_some}
 use Rattle.frame_ast.specs.Kernels.{fresh}
 use Rattle.frame_ast.specs.JobRuns.{full_steps, deferred_steps, Run}
 use Rattle.frame_ast.specs.Orders.{no_table, setting}
@@ -83,7 +84,7 @@ with_runs : (starts : Starts) (at : Place) → FitsWith starts at (map (run at) 
 with_runs starts at h = subst (FitsWith starts at) (sym (same_runs at kernels)) h
 
 spans : (at : Place) → FitsWith starts at (map (run at) kernels)
-unfolding fresh full_steps deferred_steps digits
+unfolding fresh full_steps deferred_steps digits first_some
 spans at =
     (first_fit _ 2 0 refl, (first_fit _ 1 2 refl, (tt, (tt, (first_fit _ 2 3 refl, (tt, (first_fit _ 2 0 refl, (tt, (tt, tt)))))))))
 
@@ -98,7 +99,7 @@ higher (suc (suc zero)) = 4
 higher (suc (suc (suc n))) = 0
 
 b_not_lowest : (at : Place) → FitsWith higher at (map (run at) kernels) → ⊥
-unfolding fresh full_steps deferred_steps digits
+unfolding fresh full_steps deferred_steps digits first_some
 b_not_lowest at h = h.1.1.1.1.0.lowest 3 (lit< tt) (free_by _ 3 2 refl)
 
 b_too_high : (at : Place) → FitsAt higher at → ⊥
@@ -112,7 +113,7 @@ over_t (suc (suc zero)) = 3
 over_t (suc (suc (suc n))) = 1
 
 c_not_free : (at : Place) → FitsWith over_t at (map (run at) kernels) → ⊥
-unfolding fresh full_steps deferred_steps digits
+unfolding fresh full_steps deferred_steps digits first_some
 c_not_free at h = false≢true (sym (h.1.1.1.1.1.1.0.free 2 (lit≤ tt) (lit< tt)))
 
 c_over_t : (at : Place) → FitsAt over_t at → ⊥

@@ -2,10 +2,11 @@
 use Rattle.std.specs.Prelude.{◌≡◌, ℕ, zero, suc, ◌+◌, ◌-◌, ◌*◌, max, min, nat_eq, if◌then◌else◌, List, [], ◌∷◌, ◌++◌}
 use Rattle.std.specs.Int.{div_ceil}
 use Rattle.job_base.specs.declared.Span.{Span}
+use Rattle.job_base.specs.declared.limits.TheConstants.{MOST_PIECES}
 
--- the batch, or n divided by 64, rounded up, where that is more
+-- the batch, or n divided by the most pieces, rounded up, where that is more
 abbrev pub step_of : ℕ → ℕ → ℕ
-step_of n batch = max batch (div_ceil n 64)
+step_of n batch = max batch (div_ceil n MOST_PIECES)
 
 abbrev pub count_of : ℕ → ℕ → ℕ
 count_of n step = if nat_eq n 0 then 1 else div_ceil n step

@@ -2,8 +2,8 @@
 ghost use Rattle.std.specs.Prelude.{◌≡◌, ◌+◌, ◌*◌, ◌<◌, ◌≤◌};
 ghost use Rattle.batch_cut.specs.Cuts.{count_of, piece_of, IsCovered};
 
-use crate::{MOST_INDEXES, MOST_PIECES};
 use job_base::Span;
+use job_base::limits::{MOST_INDEXES, MOST_PIECES};
 
 /// The cut of the indexes `0..n` into pieces of `step` indexes, the last of which may be shorter.
 #[derive(Clone, Copy, Debug, PartialEq, Eq)]
@@ -13,10 +13,10 @@ pub struct Cut {
 }
 
 impl Cut {
-    /// How many pieces there are: 1 to 64. No index makes one empty piece.
+    /// How many pieces there are: 1 to [`MOST_PIECES`]. No index makes one empty piece.
     pub fn count(&self) -> u32
         requires step { (1 ≤ self.now.step) × (self.now.step ≤ MOST_INDEXES) }
-        requires indexes { self.now.n ≤ 64 * self.now.step }
+        requires indexes { self.now.n ≤ MOST_PIECES * self.now.step }
         ensures count { result ≡ count_of self.now.n self.now.step }
         ensures few { (1 ≤ result) × (result ≤ MOST_PIECES) }
         ensures cover { IsCovered self.now.n self.now.step result }
@@ -31,7 +31,7 @@ impl Cut {
     /// The indexes of piece k.
     pub fn range(&self, k: u32) -> Span
         requires step { (1 ≤ self.now.step) × (self.now.step ≤ MOST_INDEXES) }
-        requires indexes { self.now.n ≤ 64 * self.now.step }
+        requires indexes { self.now.n ≤ MOST_PIECES * self.now.step }
         requires piece { k < count_of self.now.n self.now.step }
         ensures piece { result ≡ piece_of self.now.n self.now.step k }
         ensures within { result.start + result.len ≤ self.now.n }

@@ -1,5 +1,6 @@
 use crate::*;
 use job_base::Span;
+use job_base::limits::MOST_INDEXES;
 
 // The length and the batch, the step, how many pieces there are, and the last piece.
 #[test]

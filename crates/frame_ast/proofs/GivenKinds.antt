@@ -1,6 +1,6 @@
 -- The arguments of an accepted schedule fit the parameters.
 use Rattle.std.proofs.Common.{◌≡◌, refl, ◌∙◌, ℕ, Bool, true, false, List, [], ◌∷◌, ◌++◌, map, Option, None, Some, slice_get}
-use Rattle.std.specs.Prelude.{not, cond, find}
+use Rattle.std.specs.Prelude.{not, cond, find, option_map}
 use Rattle.std.specs.List.{list_any}
 use Rattle.std.proofs.lemmas.Bool.{and_parts, not-false, false≢true}
 use Rattle.job_base.specs.declared.Refusal.{Refusal}
@@ -14,10 +14,12 @@ use Rattle.frame_ast.specs.declared.script.Order.{Order}
 use Rattle.frame_ast.specs.declared.script.Order.TheVariants.{Schedule}
 use Rattle.frame_ast.specs.States.{Value, ScriptState, container_of, is_alive}
 use Rattle.frame_ast.specs.Schedules.{Given, given_args, given_length, givens, seen_as, arguments_of}
-use Rattle.frame_ast.specs.Refusals.{naming, disposed}
+use Rattle.frame_ast.specs.Refusals.{refused, disposed}
 use Rattle.frame_ast.specs.Orders.{Setting, setting, params_of}
 use Rattle.frame_ast.specs.Checks.{refusal}
-use Rattle.frame_ast.specs.Accepted.{NameKind, same_kind, ListName, RefName, MapName, StreamName, HandleName, Names, kinds_for, is_int, is_deferred, makes, arg_fits, args_fit, order_fits}
+use Rattle.frame_ast.specs.declared.name_kind.NameKind.{NameKind}
+use Rattle.frame_ast.specs.declared.name_kind.NameKind.TheVariants.{List as ListName, Reference as RefName, Map as MapName, Stream as StreamName, Handle as HandleName}
+use Rattle.frame_ast.specs.Accepted.{same_kind, Names, kinds_for, is_int, is_deferred, makes, arg_fits, args_fit, order_fits}
 use Rattle.frame_ast.specs.Kinds.{kind_of, IsOfKind, HoldsKinds, kind_given, FitKinds, ArgumentsFit, SchedulesFit}
 use Rattle.frame_ast.proofs.Naming.{one_kind, is_used, args_of, fits_there}
 use Rattle.frame_ast.proofs.NameKinds.{first_none, whole_kind, names_keep_their_kinds}
@@ -49,10 +51,10 @@ dead s n = not (is_alive s (s.values n))
 abbrev name_of : Given → ℕ
 name_of v = v.need.name
 
-none_found : (test : ℕ → Bool) (n : ℕ) (more : List ℕ) → find test (n ∷ more) ≡ None → (test n ≡ false) × (find test more ≡ None)
+pub none_found : (test : ℕ → Bool) (n : ℕ) (more : List ℕ) → find test (n ∷ more) ≡ None → (test n ≡ false) × (find test more ≡ None)
 none_found test n more = elim (test n) as (λ b. cond b (Some n) (find test more) ≡ None → (b ≡ false) × (find test more ≡ None)) [ true ↦ λ h. absurd cc | false ↦ λ h. (refl, h) ]
 
-none_named : (cause : Refusal) (o : Option ℕ) → naming cause o ≡ None → o ≡ None
+pub none_named : (cause : Refusal) (o : Option ℕ) → option_map (refused cause) o ≡ None → o ≡ None
 none_named cause None h = refl
 none_named cause (Some n) h = absurd cc
 

@@ -3,7 +3,8 @@ use Rattle.std.proofs.Common.{◌≡◌, refl, sym, ap, ◌∙◌, subst, ℕ, �
 use Rattle.std.proofs.lemmas.List.{length-append, length-take, length-drop, length-replicate}
 use Rattle.frame_ast.specs.Contents.{Contents, Cells, Single, Items, Pairs, Entries, IsHeld, elements, with_elements}
 use Rattle.frame_ast.specs.States.{Value, ScriptState, container_of, value_elements, with_value_elements}
-use Rattle.frame_ast.specs.Accepted.{NameKind, ArrayName}
+use Rattle.frame_ast.specs.declared.name_kind.NameKind.{NameKind}
+use Rattle.frame_ast.specs.declared.name_kind.NameKind.TheVariants.{Array as ArrayName}
 use Rattle.frame_ast.specs.Forms.{form_of, IsKept}
 use Rattle.frame_ast.specs.Kinds.{kind_of, IsOfKind}
 use Rattle.frame_ast.proofs.Forms.{kept_cells, kept_items, same_kept}

@@ -12,7 +12,8 @@ use Rattle.frame_ast.specs.States.{Value, ScriptState, with_at, container_of, co
 use Rattle.frame_ast.specs.Schedules.{Given, writes_to, is_list, givens, seen_as, arguments_of, left_in, leave_all}
 use Rattle.frame_ast.specs.Orders.{Setting, params_of}
 use Rattle.frame_ast.specs.Effects.{accept, all_broken}
-use Rattle.frame_ast.specs.Accepted.{NameKind, Names, args_fit}
+use Rattle.frame_ast.specs.declared.name_kind.NameKind.{NameKind}
+use Rattle.frame_ast.specs.Accepted.{Names, args_fit}
 use Rattle.frame_ast.specs.Forms.{IsKept, AreHeld, AreKept}
 use Rattle.frame_ast.specs.Kinds.{IsOfKind, HoldsKinds}
 use Rattle.frame_ast.proofs.Forms.{same_kept, then_kept}

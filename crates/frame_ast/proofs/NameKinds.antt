@@ -1,6 +1,6 @@
 -- Along an accepted script each name holds a value of its kind, and each container what it can hold.
 use Rattle.std.proofs.Common.{◌≡◌, refl, sym, ap, ◌∙◌, subst, ℕ, zero, suc, ◌+◌, ◌≤◌, Bool, true, false, ◌&&◌, ◌⊎◌, ⊎_elim, ℤ, List, [], ◌∷◌, length, take, drop, Option, None, Some, slice_get, Result, Ok, Err, arith}
-use Rattle.std.specs.Prelude.{nat_eq, nat_lt, nat_le, not, IfOk, cond, if◌then◌else◌}
+use Rattle.std.specs.Prelude.{option_map, nat_eq, nat_lt, nat_le, not, IfOk, cond, if◌then◌else◌}
 use Rattle.std.proofs.lemmas.Bool.{eqb-true, eq-eqb, ltb-false, leb-true, not-false, and_parts, false≢true}
 use Rattle.job_base.specs.declared.Trap.{Trap}
 use Rattle.job_base.specs.declared.Trap.TheVariants.{Range}
@@ -14,12 +14,16 @@ use Rattle.frame_ast.specs.declared.script.Statement.{Statement}
 use Rattle.frame_ast.specs.Contents.{Contents, Cells, Single, Items, Pairs, Entries, IsHeld, elements, set_at, cleared}
 use Rattle.frame_ast.specs.Jobs.{only}
 use Rattle.frame_ast.specs.States.{Value, ScriptState, at_start, with_at, with_name, with_contents, container_of, container_at, contents_at, is_alive, value_elements}
-use Rattle.frame_ast.specs.Refusals.{Refused, first_cause, naming, if_so, disposed}
+use Rattle.frame_ast.specs.Refusals.{Refused, refused, disposed}
+use Rattle.frame_ast.specs.Lists.{first_some, some_if}
 use Rattle.frame_ast.specs.Orders.{Setting, setting, params_of, new_array, set_in, add_in, capacity_in, part_of}
 use Rattle.frame_ast.specs.Checks.{refusal}
 use Rattle.frame_ast.specs.Effects.{lost, effect, make, accept, changed, dispose, breaks_views, broken_by, views_broken, list_broken}
 use Rattle.frame_ast.specs.Scripts.{decided, act_or_pass, act, act_all}
-use Rattle.frame_ast.specs.Accepted.{NameKind, ArrayName, SliceName, ViewName, ListName, RefName, MapName, StreamName, HandleName, Names, sliceable, container, set_kinds, args_fit, order_fits, made_after, block_of, statements_fit, uses, makes, copies}
+use Rattle.frame_ast.specs.declared.name_kind.NameKind.{NameKind}
+use Rattle.frame_ast.specs.declared.name_kind.NameKind.TheVariants.{Array as ArrayName, Slice as SliceName, View as ViewName, List as ListName, Reference as RefName, Map as MapName, Stream as StreamName, Handle as HandleName}
+use Rattle.frame_ast.specs.declared.name_kind.TheConstants.{SLICEABLE, CONTAINERS}
+use Rattle.frame_ast.specs.Accepted.{Names, set_kinds, args_fit, order_fits, made_after, block_of, statements_fit, uses, makes, copies}
 use Rattle.frame_ast.specs.Orders.{made_by}
 use Rattle.frame_ast.specs.Forms.{IsKept}
 use Rattle.frame_ast.specs.Kinds.{kind_of, IsOfKind, HoldsKinds, NamesKeepTheirKinds}
@@ -120,17 +124,18 @@ array_held g len (Some n) = tt
 
 -- SLICES AND VIEWS
 
-pub first_none : (o : Option Refused) (more : List (Option Refused)) → first_cause (o ∷ more) ≡ None → (o ≡ None) × (first_cause more ≡ None)
+pub first_none : (o : Option Refused) (more : List (Option Refused)) → first_some (o ∷ more) ≡ None → (o ≡ None) × (first_some more ≡ None)
+unfolding first_some
 first_none None more h = (refl, h)
 first_none (Some r) more h = absurd cc
 
-if_so_none : (b : Bool) (cause : Refusal) (name : ℕ) → if_so b cause name ≡ None → b ≡ false
-if_so_none true cause name h = absurd cc
-if_so_none false cause name h = refl
+some_if_none : (b : Bool) (r : Refused) → some_if b r ≡ None → b ≡ false
+some_if_none true r h = absurd cc
+some_if_none false r h = refl
 
 -- a name that isn't refused as disposed stands for a container
 pub lives : (s : ScriptState) (name : ℕ) → disposed s (name ∷ []) ≡ None → is_alive s (s.values name) ≡ true
-lives s name = elim (is_alive s (s.values name)) as (λ b. naming Disposed (cond (not b) (Some name) None) ≡ None → b ≡ true) [ true ↦ λ h. refl | false ↦ λ h. absurd cc ]
+lives s name = elim (is_alive s (s.values name)) as (λ b. option_map (refused Disposed) (cond (not b) (Some name) None) ≡ None → b ≡ true) [ true ↦ λ h. refl | false ↦ λ h. absurd cc ]
 
 -- and where it is of none of the kinds that stand for a part or a view, for a whole container
 pub whole_kind : (s : ScriptState) (kind : NameKind) (v : Value) → is_alive s v ≡ true → IsOfKind s kind v → (kind ≡ SliceName → ⊥) → (kind ≡ ViewName → ⊥) → kind_of (s.contents (container_of v)) ≡ kind
@@ -141,11 +146,11 @@ whole_kind s kind (Value.View c number) alive h slice view = absurd (view h.0)
 whole_kind s kind (Value.Handle jobs) alive h slice view = absurd (false≢true alive)
 
 -- a slice that isn't refused lies within what it is of
-slice_within : (s : ScriptState) (of start len : ℕ) → first_cause (disposed s (of ∷ []) ∷ if_so (not (nat_le (start + len) (length (value_elements (s.values of) (contents_at s of))))) PastRange of ∷ []) ≡ None → start + len ≤ length (value_elements (s.values of) (contents_at s of))
+slice_within : (s : ScriptState) (of start len : ℕ) → first_some (disposed s (of ∷ []) ∷ some_if (not (nat_le (start + len) (length (value_elements (s.values of) (contents_at s of))))) (refused PastRange of) ∷ []) ≡ None → start + len ≤ length (value_elements (s.values of) (contents_at s of))
 slice_within s of start len none =
     let fits : Bool = nat_le (start + len) (length (value_elements (s.values of) (contents_at s of))) in
-    let past : Option Refused = if_so (not fits) PastRange of in
-    leb-true (start + len) (length (value_elements (s.values of) (contents_at s of))) (not-false fits (if_so_none (not fits) PastRange of (first_none past [] (first_none (disposed s (of ∷ [])) (past ∷ []) none).1).0))
+    let past : Option Refused = some_if (not fits) (refused PastRange of) in
+    leb-true (start + len) (length (value_elements (s.values of) (contents_at s of))) (not-false fits (some_if_none (not fits) (refused PastRange of) (first_none past [] (first_none (disposed s (of ∷ [])) (past ∷ []) none).1).0))
 
 no_slices : (c : Contents) → kind_of c ≡ SliceName → ⊥
 no_slices (Cells xs) h = cc
@@ -219,9 +224,9 @@ effect_kinds g keep line ns rest inside s (Reference name life value) fits none 
 effect_kinds g keep line ns rest inside s (Map name cap life) fits none k = made_kinds ns.kinds line name life _ s (makes_kind ns name MapName (and_parts _ _ fits).0) (omega arith, refl) k
 effect_kinds g keep line ns rest inside s (Stream name count room life) fits none k = made_kinds ns.kinds line name life _ s (makes_kind ns name StreamName (and_parts _ _ fits).0) (unwritten_room room count) k
 effect_kinds g keep line ns rest inside s (Slice name of start len) fits none k =
-    let names = and_parts (makes ns name SliceName && uses ns of sliceable) _ fits in
-    let both = and_parts (makes ns name SliceName) (uses ns of sliceable) names.0 in
-    let used = is_used ns of sliceable both.1 in
+    let names = and_parts (makes ns name SliceName && uses ns of SLICEABLE) _ fits in
+    let both = and_parts (makes ns name SliceName) (uses ns of SLICEABLE) names.0 in
+    let used = is_used ns of SLICEABLE both.1 in
     named_kinds ns.kinds name (part_of (s.values of) start len) s (λ kind at.
     subst (λ j. IsOfKind s j (part_of (s.values of) start len)) (sym (makes_kind ns name SliceName both.0 kind at))
     (part_kind s used.kind (s.values of) start len (two_kinds used.kind ArrayName SliceName used.fits) (k.names of used.kind used.at) (slice_within s of start len none))) k
@@ -233,8 +238,8 @@ effect_kinds g keep line ns rest inside s (View name of) fits none k =
     subst (λ j. IsOfKind s j (Value.View (container_at s of) (s.view (container_at s of)))) (sym (makes_kind ns name ViewName both.0 kind at))
     (view_kind s (s.values of) (lives s of none) held)) k
 effect_kinds g keep line ns rest inside s (Copy name of) fits none k =
-    let both = and_parts (uses ns of container) (copies ns name (slice_get ns.kinds of)) fits in
-    let used = is_used ns of container both.0 in
+    let both = and_parts (uses ns of CONTAINERS) (copies ns name (slice_get ns.kinds of)) fits in
+    let used = is_used ns of CONTAINERS both.0 in
     named_kinds ns.kinds name (s.values of) s (λ kind at.
     subst (λ j. IsOfKind s j (s.values of)) (sym (copies_kind ns name of used.kind used.at both.1 kind at)) (k.names of used.kind used.at)) k
 effect_kinds g keep line ns rest inside s (Set name at value) fits none k =

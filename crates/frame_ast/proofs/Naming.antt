@@ -1,31 +1,20 @@
 -- What an accepted script says of the names of a statement.
-use Rattle.std.proofs.Common.{◌≡◌, refl, sym, ap, ◌∙◌, subst, ℕ, zero, suc, true, false, ◌⊎◌, inl, inr, length, ⊎_elim, List, [], ◌∷◌, get_or, Option, None, Some, slice_get}
+use Rattle.std.proofs.Common.{◌≡◌, refl, subst, ℕ, zero, suc, true, false, ◌⊎◌, inl, inr, length, ⊎_elim, List, [], ◌∷◌, Option, None, Some, slice_get}
 use Rattle.std.specs.Prelude.{nat_lt, nat_le}
 use Rattle.std.specs.List.{list_any}
-use Rattle.std.proofs.lemmas.Bool.{eqb-true, and_parts, or_cases, false≢true}
+use Rattle.std.proofs.lemmas.Bool.{and_parts, or_cases, false≢true}
 use Rattle.frame_ast.specs.declared.kernel.Kernel.{Kernel}
 use Rattle.frame_ast.specs.declared.script.Arg.{Arg}
 use Rattle.frame_ast.specs.declared.script.Order.{Order}
 use Rattle.frame_ast.specs.declared.script.Statement.{Statement}
 use Rattle.frame_ast.specs.Orders.{Setting, kernel_params, made_by}
-use Rattle.frame_ast.specs.Accepted.{NameKind, ArrayName, SliceName, ViewName, ListName, RefName, MapName, StreamName, HandleName, number_of, same_kind, Names, kind_in, uses, makes, copies, args_fit, schedule_fits, order_fits, made_after, block_of, statements_fit}
-
--- the kind of a number
-abbrev kind_at : ℕ → NameKind
-kind_at n = get_or (ArrayName ∷ SliceName ∷ ViewName ∷ ListName ∷ RefName ∷ MapName ∷ StreamName ∷ HandleName ∷ []) n ArrayName
-
-kind_back : (k : NameKind) → kind_at (number_of k) ≡ k
-kind_back ArrayName = refl
-kind_back SliceName = refl
-kind_back ViewName = refl
-kind_back ListName = refl
-kind_back RefName = refl
-kind_back MapName = refl
-kind_back StreamName = refl
-kind_back HandleName = refl
+use denote.Enum.Bare.{same_true}
+use Rattle.frame_ast.specs.contracts.name_kind.NameKind.{the_type}
+use Rattle.frame_ast.specs.declared.name_kind.NameKind.{NameKind}
+use Rattle.frame_ast.specs.Accepted.{same_kind, Names, kind_in, uses, makes, copies, args_fit, schedule_fits, order_fits, made_after, block_of, statements_fit}
 
 kinds_equal : (a b : NameKind) → same_kind a b ≡ true → a ≡ b
-kinds_equal a b h = sym (kind_back a) ∙ ap kind_at (eqb-true (number_of a) (number_of b) h) ∙ kind_back b
+kinds_equal a b h = same_true the_type tt a b h
 
 pub one_kind : (kind k : NameKind) → list_any (same_kind kind) (k ∷ []) ≡ true → kind ≡ k
 one_kind kind k h = ⊎_elim (λ e. kinds_equal kind k e) (λ e. absurd (false≢true e)) (or_cases (same_kind kind k) false h)

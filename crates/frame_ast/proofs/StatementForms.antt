@@ -14,7 +14,9 @@ use Rattle.frame_ast.specs.Refusals.{Refused, disposed, stale, pending, store_fu
 use Rattle.frame_ast.specs.Orders.{Setting, setting, new_list, add_in, capacity_in}
 use Rattle.frame_ast.specs.Checks.{refusal}
 use Rattle.frame_ast.specs.Effects.{effect, changed, views_broken, list_broken}
-use Rattle.frame_ast.specs.Accepted.{NameKind, ListName, HandleName, Names, set_kinds, makes, uses, order_fits}
+use Rattle.frame_ast.specs.declared.name_kind.NameKind.{NameKind}
+use Rattle.frame_ast.specs.declared.name_kind.NameKind.TheVariants.{List as ListName, Handle as HandleName}
+use Rattle.frame_ast.specs.Accepted.{Names, set_kinds, makes, uses, order_fits}
 use Rattle.frame_ast.specs.Forms.{form_of, form_after, StatementsKeepForms}
 use Rattle.frame_ast.specs.Kinds.{kind_of, IsOfKind, HoldsKinds}
 use Rattle.frame_ast.proofs.Forms.{Keeps, put_pair_kept, remove_kept, cleared_kept}

@@ -89,7 +89,8 @@ begin_in width index i (Single z) = Err Range
 begin_in width index i (Items cap xs) = Err Range
 begin_in width index i (Pairs cap ps) = Err Range
 begin_in width index i (Entries room es) =
-    then_value (if_owned width index i (place_in (length es) i)) (λ k. then_value (begin_index es i) (λ fs. Ok (Entries room fs)))
+    then_value (if_owned width index i (place_in (length es) i)) (λ k.
+    then_value (begin_index es i) (λ fs. Ok (Entries room fs)))
 
 abbrev pub write_place : ℤ → Contents → ℤ → Result Contents Trap
 write_place i (Cells xs) v = Err Range

@@ -1,4 +1,9 @@
 -- When jobs block the use of a container.
+--
+-- Decided here is which jobs conflict with a use of a container, which of them block it because nothing orders them
+-- before it, which of them a refusal names, and what the automatic set of a statement is. Which uses a statement has is
+-- a matter of `Schedules` and `Checks`; that a blocked statement is refused, and in which order causes are asked, of
+-- `Refusals`. Jobs, their ancestors and completions stand in `Jobs`.
 use Rattle.std.specs.Prelude.{ℕ, Bool, false, ◌&&◌, ◌||◌, not, nat_eq, if◌then◌else◌, List, [], ◌∷◌}
 use Rattle.frame_ast.specs.Jobs.{Jobs, nobody, only, ancestors_in, greatest, any_job, Book, happens_before}
 
@@ -10,7 +15,8 @@ pub record Uses : Type 0 where
 abbrev pub unused : Uses
 unused = record { users = nobody; writers = nobody }
 
--- Two uses of one container conflict where at least one of them writes: the jobs whose use conflicts with a reading or a writing one.
+-- Two uses of one container conflict where at least one of them writes: the jobs whose use conflicts with a reading or
+-- a writing one.
 abbrev pub conflicts : Uses → Bool → Jobs
 conflicts u writes j = u.writers j || (writes && u.users j)
 

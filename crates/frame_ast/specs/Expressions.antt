@@ -98,9 +98,11 @@ value_of operations index (Negative' p e) locals s =
 value_of operations index (Not' p e) locals s =
     then_value (value_of operations index e locals s) (λ n. Ok (one_if (not (holds n))))
 value_of operations index (And' p e q f) locals s =
-    then_value (value_of operations index e locals s) (λ m. also (holds m) (λ _. value_of operations index f locals s))
+    then_value (value_of operations index e locals s) (λ m.
+    also (holds m) (λ _. value_of operations index f locals s))
 value_of operations index (Or' p e q f) locals s =
-    then_value (value_of operations index e locals s) (λ m. otherwise (holds m) (λ _. value_of operations index f locals s))
-value_of operations index (Binary' op p e q f) locals s =
+    then_value (value_of operations index e locals s) (λ m.
+    otherwise (holds m) (λ _. value_of operations index f locals s))
+value_of operations index (Binary' op p e f) locals s =
     then_value (value_of operations index e locals s) (λ m.
     then_value (value_of operations index f locals s) (λ n. operate op m n))

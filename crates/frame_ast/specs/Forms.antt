@@ -42,7 +42,8 @@ AreKept (old ∷ olds) [] = ⊥
 AreKept (old ∷ olds) (new ∷ news) = IsKept old new × AreKept olds news
 
 abbrev pub JobsKeepForms : Type 0
-JobsKeepForms = (k : Kernel) → IsChecked k → (widths : List ℕ) (steps n : ℕ) (args : List Contents) → AreHeld args → AreKept args (run_of k widths steps n args).store
+JobsKeepForms = (k : Kernel) → IsChecked k → (widths : List ℕ) (steps n : ℕ) (args : List Contents) → AreHeld args →
+    AreKept args (run_of k widths steps n args).store
 
 -- A STATEMENT KEEPS THE FORM OF EACH CONTAINER, BUT THAT `setcapacity` GIVES A LIST ITS NEW CAPACITY
 
@@ -52,7 +53,9 @@ form_after s (SetCapacity name cap) c = if nat_eq c (container_at s name) then n
 form_after s _ c = form_of (s.contents c)
 
 abbrev pub StatementsKeepForms : Type 0
-StatementsKeepForms = (script : Script) → IsAccepted script → (table : Table) (n : ℕ) (x : Statement) → slice_get script.statements.items n ≡ Some x →
+StatementsKeepForms = (script : Script) → IsAccepted script → (table : Table) (n : ℕ) (x : Statement) →
+    slice_get script.statements.items n ≡ Some x →
     let g = setting script table in
     let s = final g (take n script.statements.items) in
-    refusal g s x.act ≡ None → (c : ℕ) → c < s.made → form_of ((effect g x.line s x.act).contents c) ≡ form_after s x.act c
+    refusal g s x.act ≡ None → (c : ℕ) → c < s.made →
+    form_of ((effect g x.line s x.act).contents c) ≡ form_after s x.act c

@@ -1,6 +1,8 @@
--- What a job does: Execute after Execute, each with fresh locals and its steps, whether the earlier ones trapped or not.
-use Rattle.std.specs.Prelude.{ℕ, zero, suc, ◌+◌, Bool, true, false, List, [], ◌∷◌, ◌++◌, Option, None, Some}
+-- What a job does: Execute after Execute, each with fresh locals and its steps, whether the earlier ones trapped or
+-- not.
+use Rattle.std.specs.Prelude.{ℕ, zero, suc, ◌+◌, ◌-◌, Bool, true, false, List, [], ◌∷◌, ◌++◌, Option, None, Some}
 use Rattle.job_base.specs.declared.Trap.{Trap}
+use Rattle.job_base.specs.declared.limits.TheConstants.{MOST_STEPS}
 use Rattle.frame_ast.specs.declared.kernel.Stmt.{Stmt}
 use Rattle.frame_ast.specs.declared.kernel.Kernel.{Kernel}
 use Rattle.frame_ast.specs.Contents.{Contents}
@@ -36,12 +38,12 @@ abbrev pub job_run : {S : Type 0} → (ℕ → Operations S) → Bool → List S
 job_run operations parallel body steps n s =
     indexes (λ index s. execution (operations index) body steps index s) (executes parallel n) 0 s
 
--- the steps of each Execute, and those of a job whose length is deferred
+-- the steps of each Execute, and those of a job whose length is deferred: its guard takes one
 unfoldable pub full_steps : ℕ
-full_steps = 1000000
+full_steps = MOST_STEPS
 
 unfoldable pub deferred_steps : ℕ
-deferred_steps = 999999
+deferred_steps = MOST_STEPS - 1
 
 -- What a job of a kernel does, by the widths of its own-index rule, its steps, its length and its arguments.
 abbrev pub Run : Type 0

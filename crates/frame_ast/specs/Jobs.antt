@@ -13,7 +13,8 @@ only k j = nat_eq j k
 abbrev pub both : Jobs → Jobs → Jobs
 both a b j = a j || b j
 
--- The jobs that a set leads to: from the newest of n jobs down, where a job is wanted, its dependency set is wanted too.
+-- The jobs that a set leads to: from the newest of n jobs down, where a job is wanted, its dependency set is wanted
+-- too.
 abbrev pub ancestors : (ℕ → Jobs) → ℕ → Jobs → Jobs
 ancestors deps zero wanted = wanted
 ancestors deps (suc n) wanted = ancestors deps n (λ k. wanted k || (wanted (suc n) && deps (suc n) k))
@@ -32,7 +33,8 @@ greatest set (suc n) = if set (suc n) then suc n else greatest set n
 abbrev pub any_job : Jobs → ℕ → Bool
 any_job set n = not (nat_eq (greatest set n) 0)
 
--- What the script thread knows of jobs: how many were scheduled, the dependency set of each, and which it has completed.
+-- What the script thread knows of jobs: how many were scheduled, the dependency set of each, and which it has
+-- completed.
 pub record Book : Type 0 where
   pub count : ℕ
   pub deps : ℕ → Jobs

@@ -1,6 +1,12 @@
--- What a kernel does: its statements, with a count of the steps that are left.
+-- What a kernel does: one Execute of its body, statement after statement.
+--
+-- Decided here is in which order things happen in a kernel: what is evaluated when, where a step is spent, and what
+-- stays where a statement traps. Arguments are kept in any way that gives the operations of `Expressions`; `Arguments`,
+-- which comes next, keeps them as contents and has the own-index rule. How often a kernel is executed, at which indexes
+-- and with how many steps is a matter of `JobRuns`.
 use Rattle.std.specs.Prelude.{ℕ, zero, suc, Bool, true, false, ℤ, pos, negsuc, ◌+ℤ◌, ◌-ℤ◌, List, [], ◌∷◌, map, get_or, set, Option, Some, None, Result, Ok, Err, replicate}
 use Rattle.job_base.specs.declared.Trap.{Trap}
+use Rattle.job_base.specs.declared.limits.TheConstants.{MOST_LOCALS, MOST_PARAMS}
 use Rattle.job_base.specs.declared.Trap.TheVariants.{Budget}
 use Rattle.frame_ast.specs.declared.kernel.Expr.{Expr}
 use Rattle.frame_ast.specs.declared.kernel.Stmt.{Stmt}
@@ -8,11 +14,15 @@ use Rattle.frame_ast.specs.declared.kernel.Stmt.TheOpen.{Stmt-F, Assign, SetValu
 use Rattle.frame_ast.specs.declared.kernel.Stmt.TheFolds.{fold-Stmt}
 use Rattle.frame_ast.specs.Expressions.{Operations, holds, one_if, value_of}
 
--- the steps that are left, the locals, the index that each stream parameter has begun, and what the arguments are kept in
+-- the state between two statements
 pub record State (S : Type 0) : Type 0 where
+  -- how many steps are left
   pub steps : ℕ
+  -- the values of locals, by their numbers
   pub locals : List ℤ
+  -- the index that each parameter has begun last, by its number; only a stream begins one, and `write` goes to it
   pub begun : List ℤ
+  -- what the arguments are kept in
   pub store : S
 
 -- how a run ends; stores before a trap stay
@@ -74,7 +84,8 @@ turns zero k i body s = spend s (λ s. Goes s)
 turns (suc n) k i body s =
     spend s (λ s. then_do (body (with_local k i s)) (turns n k (i +ℤ pos 1) body))
 
--- turns as long as the test holds, at most as many as there are steps
+-- Turns as long as the test holds. The number only bounds the recursion: each turn spends a step at least, so the steps
+-- run out first.
 abbrev pub turns_while : {S : Type 0} → ℕ → (State S → Result ℤ Trap) → Action S → Action S
 turns_while zero test body s = Traps Budget s.store
 turns_while (suc n) test body s =
@@ -94,7 +105,8 @@ try_add_action operations y x k v false s = changes (operations.add_pair x k v s
 -- `y = remove(m, e)`
 abbrev pub remove_key_action : {S : Type 0} → Operations S → ℕ → ℕ → ℤ → Action S
 remove_key_action operations y x k s =
-    Goes (record s { locals = set s.locals y (one_if (operations.has x k s.store)); store = operations.remove_key x k s.store })
+    let was_there = one_if (operations.has x k s.store) in
+    Goes (record s { locals = set s.locals y was_there; store = operations.remove_key x k s.store })
 
 -- `begin s[e] { .. }`
 abbrev pub begin_action : {S : Type 0} → Operations S → ℕ → ℤ → Action S → Action S
@@ -117,13 +129,15 @@ act_of operations eval (Add x e) s = with_value (eval e s) s (λ v. changes (ope
 act_of operations eval (AddPair x e f) s =
     with_value (eval e s) s (λ k. with_value (eval f s) s (λ v. changes (operations.add_pair x k v s.store) s))
 act_of operations eval (TryAdd y x e f) s =
-    with_value (eval e s) s (λ k. with_value (eval f s) s (λ v. try_add_action operations y x k v (operations.has x k s.store) s))
+    with_value (eval e s) s (λ k. with_value (eval f s) s (λ v.
+    try_add_action operations y x k v (operations.has x k s.store) s))
 act_of operations eval (RemoveAt x e) s = with_value (eval e s) s (λ i. changes (operations.remove_at x i s.store) s)
 act_of operations eval (RemoveKey y x e) s = with_value (eval e s) s (λ k. remove_key_action operations y x k s)
 act_of operations eval (Clear x) s = Goes (record s { store = operations.clear x s.store })
 act_of operations eval (Write x e) s =
     with_value (eval e s) s (λ v. changes (operations.write x (get_or s.begun x (pos 0)) v s.store) s)
-act_of operations eval (Begin x e body) s = with_value (eval e s) s (λ i. begin_action operations x i (in_turn body.items) s)
+act_of operations eval (Begin x e body) s =
+    with_value (eval e s) s (λ i. begin_action operations x i (in_turn body.items) s)
 act_of operations eval (If e body other) s =
     with_value (eval e s) s (λ z. choose (holds z) (in_turn body.items) (in_turn other.items) s)
 act_of operations eval (For k e f body) s = for_action eval k e f (in_turn body.items) s
@@ -131,7 +145,8 @@ act_of operations eval (While e body) s = turns_while s.steps (eval e) (in_turn 
 
 -- a step is spent before each statement
 abbrev pub statement : {S : Type 0} → Operations S → ℕ → Stmt-F (Action S) → Action S
-statement operations index layer s = spend s (act_of operations (λ e s. value_of operations index e s.locals s.store) layer)
+statement operations index layer s =
+    spend s (act_of operations (λ e s. value_of operations index e s.locals s.store) layer)
 
 abbrev pub meaning : {S : Type 0} → Operations S → ℕ → Stmt → Action S
 meaning {S} operations index = fold-Stmt (Action S) (statement operations index)
@@ -140,9 +155,14 @@ meaning {S} operations index = fold-Stmt (Action S) (statement operations index)
 abbrev pub body_meaning : {S : Type 0} → Operations S → ℕ → List Stmt → Action S
 body_meaning operations index body = in_turn (map (meaning operations index) body)
 
--- Before an Execute: each of the 64 locals is 0, and no stream has begun an index.
+-- Before an Execute: each of the locals that a kernel can have is 0, and no stream has begun an index.
 unfoldable pub fresh : {S : Type 0} → ℕ → S → State S
-fresh steps s = record { steps = steps; locals = replicate 64 (pos 0); begun = replicate 16 (pos 0); store = s }
+fresh steps s = record {
+  steps = steps;
+  locals = replicate MOST_LOCALS (pos 0);
+  begun = replicate MOST_PARAMS (pos 0);
+  store = s;
+}
 
 abbrev pub store_after : {S : Type 0} → Outcome S → S
 store_after (Goes s) = s.store

@@ -1,4 +1,4 @@
-pub mod Lists
+-- promises: what kernels and scripts mean, which of them a text can give, and the laws of both
 pub mod Contents
 pub mod Expressions
 pub mod Kernels
@@ -14,13 +14,15 @@ pub mod Orders
 pub mod Checks
 pub mod Effects
 pub mod Scripts
-pub mod Checked
 pub mod Limits
 pub mod Ranges
-pub mod Laws
 pub mod Answers
+pub mod Checked
 pub mod Accepted
-pub mod Simulation
-pub mod Plain
+pub mod Laws
 pub mod Forms
 pub mod Kinds
+pub mod Fitting
+-- for this crate's own contracts, and for those that cite them
+pub mod Lists
+pub mod Simulation

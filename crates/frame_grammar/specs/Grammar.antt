@@ -340,13 +340,15 @@ body_of production.LinedEnd = LINED_END
 body_of production.LinedLine = LINED_LINE
 body_of production.LinedStatement = LINED_STATEMENT
 
--- Where n tokens stand before them, these symbols derive these tokens, with these events. A nonterminal derives what the body of one of
--- its productions does. An action derives no token: it is an event, with the number of tokens before it.
+-- Where n tokens stand before them, these symbols derive these tokens, with these events. A nonterminal derives what
+-- the body of one of its productions does. An action derives no token: it is an event, with the number of tokens before
+-- it.
 pub data Derives : ℕ → List Event → List Symbol → List TokenKind → Type 0 where
   nothing : {n : ℕ} → Derives n [] [] []
   terminal : {n : ℕ} {events : List Event} {ss : List Symbol} {ks : List TokenKind} (k : TokenKind) →
       Derives (suc n) events ss ks → Derives n events (symbol.Terminal k ∷ ss) (k ∷ ks)
   action : {n : ℕ} {events : List Event} {ss : List Symbol} {ks : List TokenKind} (a : Action) →
       Derives n events ss ks → Derives n (record { action = a; place = n } ∷ events) (symbol.Action a ∷ ss) ks
-  expanded : {n : ℕ} {events : List Event} {ss : List Symbol} {ks : List TokenKind} (p : Production) {head : Nonterminal} →
+  expanded : {n : ℕ} {events : List Event} {ss : List Symbol} {ks : List TokenKind}
+      (p : Production) {head : Nonterminal} →
       head_of p ≡ head → Derives n events (body_of p ++ ss) ks → Derives n events (symbol.Nonterminal head ∷ ss) ks

@@ -57,14 +57,19 @@ first_of [] = None
 first_of (k ∷ ks) = Some k
 
 -- The stack ss is where the parser is after the events done and the tokens read, and place is their number.
-pub record IsReached (start : Nonterminal) (place : ℕ) (done : List Event) (read : List TokenKind) (ss : List Symbol) : Type 0 where
-  pub sound : (es : List Event) (ks : List TokenKind) → Derives place es ss ks → IsSentence start (done ++ es) (read ++ ks)
-  pub complete : (es : List Event) (ks : List TokenKind) → IsSentence start es (read ++ ks) → (rest : List Event) × (es ≡ done ++ rest) × Derives place rest ss ks
+pub record IsReached (start : Nonterminal) (place : ℕ) (done : List Event) (read : List TokenKind)
+    (ss : List Symbol) : Type 0 where
+  pub sound : (es : List Event) (ks : List TokenKind) → Derives place es ss ks →
+      IsSentence start (done ++ es) (read ++ ks)
+  pub complete : (es : List Event) (ks : List TokenKind) → IsSentence start es (read ++ ks) → (rest : List Event)
+      × (es ≡ done ++ rest) × Derives place rest ss ks
   pub clear : IsClear ss
 
 -- The same, if this token is ahead.
-pub record IsReachedAt (start : Nonterminal) (ahead : TokenKind) (place : ℕ) (done : List Event) (read : List TokenKind) (ss : List Symbol) : Type 0 where
-  pub sound : (es : List Event) (ks : List TokenKind) → Derives place es ss ks → IsSentence start (done ++ es) (read ++ ks)
+pub record IsReachedAt (start : Nonterminal) (ahead : TokenKind) (place : ℕ) (done : List Event) (read : List TokenKind)
+    (ss : List Symbol) : Type 0 where
+  pub sound : (es : List Event) (ks : List TokenKind) → Derives place es ss ks →
+      IsSentence start (done ++ es) (read ++ ks)
   pub complete : (es : List Event) (ks : List TokenKind) → first_of ks ≡ Some ahead → IsSentence start es (read ++ ks) →
       (rest : List Event) × (es ≡ done ++ rest) × Derives place rest ss ks
   pub clear : IsClear ss
@@ -72,7 +77,8 @@ pub record IsReachedAt (start : Nonterminal) (ahead : TokenKind) (place : ℕ) (
 -- The step took the token ahead.
 abbrev pub Takes : TokenKind → ℕ → List Event → List Symbol → List Event → List Symbol → Type 0
 Takes ahead place done ss done' ss' =
-    ((start : Nonterminal) (read : List TokenKind) → IsReachedAt start ahead place done read ss → IsReached start (place + 1) done' (read ++ ahead ∷ []) ss')
+    ((start : Nonterminal) (read : List TokenKind) → IsReachedAt start ahead place done read ss →
+    IsReached start (place + 1) done' (read ++ ahead ∷ []) ss')
     × (closes ss ≡ true → (ss' ≡ []) ⊎ (closes ss' ≡ true))
 
 -- No sentence has the token ahead there.

@@ -24,10 +24,11 @@ IsViable start tokens = (rest : List TokenKind) × (events : List Event) × IsSe
 pub record IsOnlySentence (start : Nonterminal) (tokens : List TokenKind) (n : ℕ) (events : List Event) : Type 0 where
   pub within : n ≤ length tokens
   pub sentence : IsSentence start events (take n tokens)
-  pub only : (m : ℕ) (others : List Event) → m ≤ length tokens → IsSentence start others (take m tokens) → (m ≡ n) × (others ≡ events)
+  pub only : (m : ℕ) (others : List Event) → m ≤ length tokens → IsSentence start others (take m tokens) → (m ≡ n)
+      × (others ≡ events)
 
--- The tokens begin with no sentence, and the token at this place is the first such that the tokens up to it and with it are no viable
--- prefix.
+-- The tokens begin with no sentence, and the token at this place is the first such that the tokens up to it and with it
+-- are no viable prefix.
 pub record IsFault (start : Nonterminal) (tokens : List TokenKind) (place : ℕ) : Type 0 where
   pub within : place < length tokens
   pub before : IsViable start (take place tokens)

@@ -2,11 +2,11 @@
 //! predictive parser that needs no call stack.
 #![tactic(auto)]
 
-pub mod bodies;
-pub mod choices;
-pub mod parser;
-pub mod symbols;
-pub mod table;
+mod bodies;
+mod choices;
+mod parser;
+mod symbols;
+mod table;
 #[cfg(test)]
 mod tests;
 

@@ -131,8 +131,10 @@ pub fn parse<T: HasKind>(
     requires start { IsStart start }
     requires few { length tokens.now < 2 ^ 32 }
     requires ended { IsEnded (map T.kind_of tokens.now) }
-    ensures sentence { IfOk result (λ found. IsOnlySentence start (map T.kind_of tokens.now) found.read found.events.items) }
-    ensures fault { (place : ℕ) → result ≡ Err (ParseError.Syntax place) → IsFault start (map T.kind_of tokens.now) place }
+    ensures sentence { IfOk result
+        (λ found. IsOnlySentence start (map T.kind_of tokens.now) found.read found.events.items) }
+    ensures fault { (place : ℕ) → result ≡ Err (ParseError.Syntax place) →
+        IsFault start (map T.kind_of tokens.now) place }
 {
     let mut stack = Vec::new(alloc);
     stack.push(Symbol::Nonterminal(start))?;

@@ -21,5 +21,6 @@ mod tests;
 
 pub use container::print_container;
 pub use lines::{print_overdue, print_text, print_traps};
+pub use outgoing::{Outgoing, ROOM};
 pub use refusal::print_refusal;
 pub use report::Report;

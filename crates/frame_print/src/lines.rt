@@ -10,7 +10,7 @@ ghost use Rattle.frame_print.specs.Reports.{IsReportOf};
 use crate::outgoing::Outgoing;
 use crate::report::Report;
 use itoa::Buffer;
-use job_base::{Sink, SinkFault, Trap, write_text};
+use job_base::{Sink, SinkFault, Trap};
 
 // Writes some parts, one behind the other.
 fn print_parts<S: Sink>(parts: &[&[u8]], sink: &mut S) -> Result<(), SinkFault>
@@ -24,14 +24,21 @@ fn print_parts<S: Sink>(parts: &[&[u8]], sink: &mut S) -> Result<(), SinkFault>
     out.flush(sink)
 }
 
-/// Writes a text as it is, with the line feeds that it has.
+/// Writes a text as it is, with the line feeds that it has: write by write, until all of it is taken or a write fails.
 pub fn print_text<S: Sink>(text: &[u8], sink: &mut S) -> Result<(), SinkFault>
     ensures text { Writes (S.taken sink.old) (S.taken sink.new) result text.now }
     ensures count { OnOk result (S.faults sink.new ≡ S.faults sink.old) }
     ensures cause { OnErr result (Rose (S.faults sink.old) (S.faults sink.new)) }
     ensures later { S.faults sink.old ≤ S.faults sink.new }
 {
-    write_text(text, sink)
+    let mut rest = text;
+    while !rest.is_empty() {
+        match sink.write(rest) {
+            Ok(n) => rest = &rest[n..],
+            Err(fault) => return Err(fault),
+        }
+    }
+    Ok(())
 }
 
 /// Writes the line of a container that is overdue at the `frame` of line `line`: `name` and `made` are those of the

@@ -5,17 +5,18 @@ ghost use Rattle.job_base.specs.Faults.{Rose};
 ghost use Rattle.job_base.specs.Texts.{Writes};
 ghost use Rattle.frame_print.specs.Gathering.{Gathers, joined, comma_before};
 
+use crate::lines::print_text;
 use itoa::Buffer;
-use job_base::{Sink, SinkFault, write_text};
+use job_base::{Sink, SinkFault};
 use std::marker::Model;
 
-/// How many bytes wait at most.
-pub(crate) const ROOM: usize = 16_384;
+/// How many bytes of a text wait at most before a sink takes them.
+pub const ROOM: usize = 16_384;
 
-/// The bytes of a text that no sink has taken yet. They wait on the stack, so that a sink is called for thousands of
-/// bytes at a time.
+/// The bytes of a text that no sink has taken yet, at most [`ROOM`] of them. They wait on the stack, so that a sink is
+/// called for thousands of bytes at a time. What still waits when it is dropped is lost: end with [`Outgoing::flush`].
 #[derive(Drop)]
-pub(crate) struct Outgoing {
+pub struct Outgoing {
     bytes: [u8; ROOM],
     len: usize,
 }
@@ -32,7 +33,8 @@ impl Model for Outgoing {
 }
 
 impl Outgoing {
-    pub(crate) fn new() -> Outgoing
+    /// With nothing that waits.
+    pub fn new() -> Outgoing
         ensures { result ≡ [] }
     {
         Outgoing {
@@ -60,20 +62,20 @@ impl Outgoing {
     }
 
     /// Hands the bytes that wait to the sink.
-    pub(crate) fn flush<S: Sink>(&mut self, sink: &mut S) -> Result<(), SinkFault>
+    pub fn flush<S: Sink>(&mut self, sink: &mut S) -> Result<(), SinkFault>
         ensures text { Writes (S.taken sink.old) (S.taken sink.new) result self.old }
         ensures none { OnOk result (self.new ≡ []) }
         ensures count { OnOk result (S.faults sink.new ≡ S.faults sink.old) }
         ensures cause { OnErr result (Rose (S.faults sink.old) (S.faults sink.new)) }
         ensures later { S.faults sink.old ≤ S.faults sink.new }
     {
-        write_text(&self.bytes[..self.len], sink)?;
+        print_text(&self.bytes[..self.len], sink)?;
         self.len = 0;
         Ok(())
     }
 
     /// Puts a part of the text behind what waits.
-    pub(crate) fn put<S: Sink>(&mut self, part: &[u8], sink: &mut S) -> Result<(), SinkFault>
+    pub fn put<S: Sink>(&mut self, part: &[u8], sink: &mut S) -> Result<(), SinkFault>
         ensures text { Gathers (S.taken sink.old) self.old (S.taken sink.new) self.new result part.now }
         ensures count { OnOk result (S.faults sink.new ≡ S.faults sink.old) }
         ensures cause { OnErr result (Rose (S.faults sink.old) (S.faults sink.new)) }
@@ -88,15 +90,11 @@ impl Outgoing {
             self.keep(part);
             return Ok(());
         }
-        write_text(part, sink)
+        print_text(part, sink)
     }
 
     /// Puts some parts of the text, one behind the other.
-    pub(crate) fn put_all<S: Sink>(
-        &mut self,
-        parts: &[&[u8]],
-        sink: &mut S,
-    ) -> Result<(), SinkFault>
+    pub fn put_all<S: Sink>(&mut self, parts: &[&[u8]], sink: &mut S) -> Result<(), SinkFault>
         ensures text { Gathers (S.taken sink.old) self.old (S.taken sink.new) self.new result (joined parts.now) }
         ensures count { OnOk result (S.faults sink.new ≡ S.faults sink.old) }
         ensures cause { OnErr result (Rose (S.faults sink.old) (S.faults sink.new)) }

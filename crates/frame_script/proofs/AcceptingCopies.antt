@@ -6,8 +6,9 @@ use Rattle.frame_ast.specs.declared.script.Statement.{Statement}
 use Rattle.frame_ast.specs.declared.script.Order.{Order}
 use Rattle.frame_ast.specs.declared.script.Order.TheVariants as order
 use Rattle.frame_ast.specs.declared.script.Sign.{Sign}
-use Rattle.frame_ast.specs.Accepted.{RefName, uses, order_fits, made_after, is_when, block_of, statements_fit}
+use Rattle.frame_ast.specs.Accepted.{uses, order_fits, made_after, is_when, block_of, statements_fit}
 use Rattle.frame_ast.specs.Orders.{made_by}
+use Rattle.frame_ast.specs.declared.name_kind.NameKind.TheVariants as kind
 use Rattle.frame_script.specs.Names.{Name}
 use Rattle.frame_script.specs.Files.{Repeated}
 use Rattle.frame_script.proofs.AcceptingPlaces.{le_test}
@@ -65,7 +66,7 @@ module _ (all : List Name) (literals : List (List ℤ)) (kernels : List Kernel) 
 
   -- a `when` outside of another one, with the statements of its block
   pub lead_when : (first last name : ℕ) (sign : Sign) (value : ℤ) (x : Statement) (body : List Statement) → x.act ≡ order.When name sign value (length body) →
-      ((made : ℕ) → first ≤ made → uses (scene all made) name (RefName ∷ []) ≡ true) → Lead true first last body → Lead false first last (x ∷ body)
+      ((made : ℕ) → first ≤ made → uses (scene all made) name (kind.Reference ∷ []) ≡ true) → Lead true first last body → Lead false first last (x ∷ body)
   lead_when first last name sign value x body is used within more k fit made enough =
       let Whole : Order → Type 0 =
       λ o. (order_fits (scene all made) literals kernels (length (body ++ more)) 0 o

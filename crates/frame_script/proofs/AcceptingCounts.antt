@@ -10,7 +10,9 @@ use Rattle.frame_ast.specs.declared.script.Statement.{Statement}
 use Rattle.frame_ast.specs.Accepted.{is_when}
 use Rattle.kernel_code.specs.declared.raw.RawKernel.{RawKernel}
 use Rattle.kernel_code.specs.declared.check.StaticFault.{StaticFault}
-use Rattle.kernel_code.specs.StaticFaults.{or_else, fault_at, fault_if, lowest, number_of, kernel_name_fault, first_fault, text_at}
+use Rattle.std.specs.Option.{option_or}
+use Rattle.frame_ast.specs.Lists.{some_if}
+use Rattle.kernel_code.specs.StaticFaults.{fault_at, lowest, number_of, kernel_name_fault, first_fault, text_at}
 use Rattle.frame_script.specs.declared.source.Source.{Source}
 use Rattle.frame_script.specs.Sources.{number_at}
 use Rattle.frame_script.specs.Names.{Name}
@@ -98,9 +100,9 @@ few_statements s all kernels items xs spells is h = within_room 65536 1024 (mark
 
 -- KERNELS
 
-or_else_none : (a b : Option StaticFault) → or_else a b ≡ None → a ≡ None
-or_else_none None b h = refl
-or_else_none (Some f) b h = cc
+or_none : (a b : Option StaticFault) → option_or a b ≡ None → a ≡ None
+or_none None b h = refl
+or_none (Some f) b h = cc
 
 fault_at_none : (at : ℕ) (o : Option FaultKind) → fault_at at o ≡ None → o ≡ None
 fault_at_none at None h = refl
@@ -120,9 +122,9 @@ lowest_first None b h = refl
 lowest_first (Some j) None h = cc
 lowest_first (Some j) (Some k) h = absurd (either (nat_le (number_of j) (number_of k)) j k h)
 
-fault_if_none : (k : FaultKind) (b : Bool) → fault_if k b ≡ None → b ≡ false
-fault_if_none k true h = cc
-fault_if_none k false h = refl
+some_if_none : (b : Bool) (k : FaultKind) → some_if b k ≡ None → b ≡ false
+some_if_none true k h = cc
+some_if_none false k h = refl
 
 below : (n : ℕ) → nat_le 256 n ≡ false → n < 256
 below n h = grind (arith, nat_tests)
@@ -130,8 +132,8 @@ below n h = grind (arith, nat_tests)
 -- a kernel without a fault has fewer than 256 before it
 room_before : (raw : RawKernel) (earlier : List CheckedKernel) → first_fault raw earlier ≡ None → length earlier < 256
 room_before raw earlier h =
-    let name = fault_at_none _ (kernel_name_fault earlier (text_at raw raw.name)) (or_else_none _ _ h) in
-    below (length earlier) (fault_if_none _ _ (lowest_first _ _ (lowest_none _ _ name)))
+    let name = fault_at_none _ (kernel_name_fault earlier (text_at raw raw.name)) (or_none _ _ h) in
+    below (length earlier) (some_if_none _ _ (lowest_first _ _ (lowest_none _ _ name)))
 
 pub few_kernels : (s : Source) (items : RawItems) {c last : Scope} → IsFaultless s c items last → length c.kernels ≤ 256 → length last.kernels ≤ 256
 few_kernels s Nothing files.nothing few = few

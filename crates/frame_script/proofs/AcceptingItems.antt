@@ -4,14 +4,15 @@ use Rattle.std.proofs.lemmas.Bool.{and_parts}
 use Rattle.frame_grammar.specs.declared.symbols.Event.{Event}
 use Rattle.frame_ast.specs.declared.kernel.Kernel.{Kernel as CheckedKernel}
 use Rattle.frame_ast.specs.declared.script.Statement.{Statement}
-use Rattle.frame_script.specs.declared.kind.NameKind.TheVariants as kind
+use Rattle.frame_ast.specs.declared.name_kind.NameKind.TheVariants as kind
+use Rattle.frame_ast.specs.Lists.{first_some}
 use Rattle.frame_script.specs.declared.raw.RawNumber.{RawNumber}
 use Rattle.frame_script.specs.declared.source.Source.{Source}
 use Rattle.frame_script.specs.Sources.{number_at, signed_at}
 use Rattle.frame_script.specs.Names.{Name}
 use Rattle.frame_script.specs.Raw.{OrderForm, Repeat, When, RawItems, Nothing, Kernel, Single, Block, SpellsOrder, SpellsItems, closing}
 use Rattle.frame_script.specs.Raw as raw
-use Rattle.frame_script.specs.Faults.{Scope, first, order_faults}
+use Rattle.frame_script.specs.Faults.{Scope, order_faults}
 use Rattle.frame_script.specs.Spelling.{place_of, names_after}
 use Rattle.frame_script.specs.Files.{IsFaultless, IsStatement, StandFor, Repeated, literals_of, literals_in, after_order, after_block, in_block}
 use Rattle.frame_script.specs.Files as files
@@ -44,7 +45,7 @@ module _ (s : Source) (all : List Name) (kernels : List CheckedKernel) (literals
   Fitting c last xs = Lead all literals kernels c.tested (length c.names) (length last.names) xs
 
   -- a statement without a block
-  one_fits : (c : Scope) (at place : ℕ) {es : List Event} (form : OrderForm) (x : Statement) → SpellsOrder es form → closing form ≡ None → first (order_faults s c at form) ≡ None →
+  one_fits : (c : Scope) (at place : ℕ) {es : List Event} (form : OrderForm) (x : Statement) → SpellsOrder es form → closing form ≡ None → first_some (order_faults s c at form) ≡ None →
       Leads (names_after s c.names form) all → Leads c.kernels kernels → Stands literals place (literals_of s form) →
       IsStatement s all kernels place 0 at form x → Fitting c (after_order s c form) (x ∷ [])
   one_fits c at place form x spells single none leads earlier stands is =
@@ -52,7 +53,7 @@ module _ (s : Source) (all : List Name) (kernels : List CheckedKernel) (literals
       (λ made rest inside enough. order_fitting s c all made literals kernels rest inside at place enough form spells single x.act leads earlier stands none is.says)
 
   -- the copies of a `repeat`
-  repeat_fits : (c middle : Scope) (at n place : ℕ) (inner : RawItems) (xs : List Statement) → first (order_faults s c at (Repeat n)) ≡ None → length c.names ≤ length middle.names →
+  repeat_fits : (c middle : Scope) (at n place : ℕ) (inner : RawItems) (xs : List Statement) → first_some (order_faults s c at (Repeat n)) ≡ None → length c.names ≤ length middle.names →
       ((ys : List Statement) → StandFor s all kernels place inner ys → Fitting (in_block c (Repeat n)) middle ys) →
       Repeated (number_at s n) (StandFor s all kernels place inner) xs → Fitting c middle xs
   repeat_fits c middle at n place inner xs none le each copies =
@@ -62,7 +63,7 @@ module _ (s : Source) (all : List Name) (kernels : List CheckedKernel) (literals
       (number_at s n) xs (le_from _ _ some.0) copies
 
   -- a `when` and the statements of its block
-  when_fits : (c middle : Scope) (at name sign place : ℕ) (value : RawNumber) (x : Statement) (body : List Statement) → first (order_faults s c at (When name sign value)) ≡ None → Leads c.names all →
+  when_fits : (c middle : Scope) (at name sign place : ℕ) (value : RawNumber) (x : Statement) (body : List Statement) → first_some (order_faults s c at (When name sign value)) ≡ None → Leads c.names all →
       IsStatement s all kernels place (length body) at (When name sign value) x → Fitting (in_block c (When name sign value)) middle body → Fitting c middle (x ∷ body)
   when_fits c middle at name sign place value x body none leads is within =
       let p = first_parts _ _ none in

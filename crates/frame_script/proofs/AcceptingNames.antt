@@ -1,20 +1,19 @@
 -- Names of a statement without a fault fit where it stands, among all names of the script.
-use Rattle.std.proofs.Common.{◌≡◌, ℕ, ◌+◌, ◌<◌, ◌≤◌, Bool, true, false, ◌||◌, cond, max, List, [], ◌∷◌, ◌++◌, length, map, Option, None, Some, is_some, slice_get, find, refl, sym, ◌∙◌, ap, subst, arith, unwrap_or, length-append, append_assoc, append-nil}
-use Rattle.std.specs.List.{list_any}
+use Rattle.std.proofs.Common.{◌≡◌, ℕ, ◌+◌, ◌<◌, ◌≤◌, true, cond, max, List, [], ◌∷◌, ◌++◌, length, map, Option, None, Some, is_some, slice_get, find, refl, sym, ◌∙◌, ap, subst, arith, unwrap_or, length-append, append_assoc, append-nil}
 use Rattle.std.specs.Option.{option_map}
 use Rattle.std.proofs.lemmas.Bool.{and_from}
-use Rattle.std.proofs.lemmas.Bool.Decides.{nat_tests}
 use Rattle.std.proofs.lemmas.Option.{slice_get-map}
 use Rattle.std.proofs.lemmas.Slice.Eq.{bytes_eq-Decides}
-use Rattle.frame_ast.specs.Accepted.{NameKind as Kind, HandleName, number_of, same_kind, Names, handle, uses, makes, all_used, made_after}
+use Rattle.frame_ast.specs.Accepted.{is_among, Names, uses, makes, all_used, made_after}
 use Rattle.frame_ast.specs.Accepted as accepted
 use Rattle.kernel_code.specs.declared.check.StaticFault.{StaticFault}
-use Rattle.frame_script.specs.declared.kind.NameKind.{NameKind}
-use Rattle.frame_script.specs.declared.kind.NameKind.TheVariants as kind
+use Rattle.frame_ast.specs.declared.name_kind.NameKind.{NameKind}
+use Rattle.frame_ast.specs.declared.name_kind.NameKind.TheVariants as kind
+use Rattle.frame_ast.specs.Lists.{first_some}
 use Rattle.frame_script.specs.declared.source.Source.{Source}
 use Rattle.frame_script.specs.Sources.{text_at}
-use Rattle.frame_script.specs.Names.{Name, kind_of, is_same, is_among, is_called, place_in, kind_in}
-use Rattle.frame_script.specs.Faults.{first, misfit, use_fault, agrees, make_fault, handles_faults}
+use Rattle.frame_script.specs.Names.{Name, is_called, place_in, kind_in}
+use Rattle.frame_script.specs.Faults.{misfit, use_fault, agrees, make_fault, handles_faults}
 use Rattle.frame_script.specs.Spelling.{place_of, names_with}
 use Rattle.frame_script.proofs.NumberLemmas.{holds_from}
 use Rattle.frame_script.proofs.PlaceLemmas.{first_made}
@@ -24,34 +23,22 @@ use Rattle.frame_script.proofs.AcceptingPlaces.{le_test, lt_test, found, some_at
 -- FAULTS
 
 -- of parts without a first fault none has one
-pub first_parts : (a : Option StaticFault) (more : List (Option StaticFault)) → first (a ∷ more) ≡ None → (a ≡ None) × (first more ≡ None)
-unfolding first
+pub first_parts : (a : Option StaticFault) (more : List (Option StaticFault)) → first_some (a ∷ more) ≡ None → (a ≡ None) × (first_some more ≡ None)
+unfolding first_some
 first_parts None more h = (refl, h)
 first_parts (Some f) more h = cc
 
-pub join_parts : (as' more : List (Option StaticFault)) → first (as' ++ more) ≡ None → (first as' ≡ None) × (first more ≡ None)
-unfolding first
+pub join_parts : (as' more : List (Option StaticFault)) → first_some (as' ++ more) ≡ None → (first_some as' ≡ None) × (first_some more ≡ None)
+unfolding first_some
 join_parts [] more h = (refl, h)
 join_parts (None ∷ as') more h = join_parts as' more h
 join_parts (Some f ∷ as') more h = cc
 
 -- KINDS
 
-same_back : (a b : Kind) → same_kind a b ≡ same_kind b a
-same_back a b = grind (arith, nat_tests)
-
-or_both : (a b c d : Bool) → a ≡ c → (b ≡ true → d ≡ true) → (a || b) ≡ true → (c || d) ≡ true
-or_both true b c d same rest h = ap (λ x. x || d) (sym same)
-or_both false b c d same rest h = ap (λ x. x || d) (sym same) ∙ rest h
-
--- a kind that is among those of a statement is one that the meaning takes
-pub among_kinds : (k : NameKind) (kinds : List NameKind) → is_among k kinds ≡ true → list_any (same_kind (kind_of k)) (map kind_of kinds) ≡ true
-among_kinds k [] h = h
-among_kinds k (j ∷ kinds) h = or_both (is_same j k) (is_among k kinds) _ _ (same_back (kind_of j) (kind_of k)) (among_kinds k kinds) h
-
 -- the kinds of names, and where so many of them are made
-abbrev pub kinds_of : List Name → List Kind
-kinds_of names = map (λ n. kind_of n.kind) names
+abbrev pub kinds_of : List Name → List NameKind
+kinds_of names = map (λ n. n.kind) names
 
 abbrev pub scene : List Name → ℕ → Names
 scene names made = record { kinds = kinds_of names; made = made }
@@ -76,7 +63,7 @@ leads_length xs ys a = omega (arith, ap length a.is, length-append xs a.more)
 pub record IsKnown (s : Source) (here all : List Name) (k : NameKind) (at : ℕ) : Type 0 where
   pub within : place_of s all at < length here
   pub stays : place_of s all at ≡ place_of s here at
-  pub kind : slice_get (kinds_of all) (place_of s all at) ≡ Some (kind_of k)
+  pub kind : slice_get (kinds_of all) (place_of s all at) ≡ Some k
 
 known_from : (o : Option Name) (k : NameKind) → option_map (λ n. n.kind) o ≡ Some k → (x : Name) × (o ≡ Some x) × (x.kind ≡ k)
 known_from None k h = cc
@@ -90,7 +77,7 @@ known s here all k at leads h =
     record {
       within = rw place f.within;
       stays = place ∙ sym (ap (λ o. unwrap_or o 0) f.first);
-      kind = rw place (slice_get-map (λ n. kind_of n.kind) all f.place ∙ ap (option_map (λ n. kind_of n.kind)) f.there ∙ ap (λ j. Some (kind_of j)) x.2);
+      kind = rw place (slice_get-map (λ n. n.kind) all f.place ∙ ap (option_map (λ n. n.kind)) f.there ∙ ap (λ j. Some j) x.2);
     }
 
 -- the kind of a name that fits
@@ -98,19 +85,19 @@ pub misfit_none : (o : Option NameKind) (kinds : List NameKind) (at : ℕ) → m
 misfit_none None kinds at h = cc
 misfit_none (Some k) kinds at h = (k, refl, holds_from _ _ _ h)
 
-kind_fits : (o : Option Kind) (k : NameKind) (kinds : List NameKind) → o ≡ Some (kind_of k) → is_among k kinds ≡ true → accepted.kind_in o (map kind_of kinds) ≡ true
-kind_fits o k kinds is h = rw is (among_kinds k kinds h)
+kind_fits : (o : Option NameKind) (k : NameKind) (kinds : List NameKind) → o ≡ Some k → is_among k kinds ≡ true → accepted.kind_in o kinds ≡ true
+kind_fits o k kinds is h = rw is h
 
 -- a name that is used without a fault
 pub used : (s : Source) (here all : List Name) (made : ℕ) (kinds : List NameKind) (at : ℕ) → Leads here all → length here ≤ made → use_fault s here kinds at ≡ None →
-    uses (scene all made) (place_of s all at) (map kind_of kinds) ≡ true
+    uses (scene all made) (place_of s all at) kinds ≡ true
 used s here all made kinds at leads enough h =
     let k = misfit_none (kind_in here (text_at s at)) kinds at h in
     let n = known s here all k.0 at leads k.1 in
     and_from _ _ (lt_test _ _ (omega (arith, n.within, enough))) (kind_fits _ k.0 kinds n.kind k.2)
 
 -- handles that are used without a fault
-pub handles_used : (s : Source) (here all : List Name) (made : ℕ) (ats : List ℕ) → Leads here all → length here ≤ made → first (handles_faults s here ats) ≡ None →
+pub handles_used : (s : Source) (here all : List Name) (made : ℕ) (ats : List ℕ) → Leads here all → length here ≤ made → first_some (handles_faults s here ats) ≡ None →
     all_used (scene all made) (map (place_of s all) ats) ≡ true
 handles_used s here all made [] leads enough h = refl
 handles_used s here all made (at ∷ ats) leads enough h =
@@ -121,7 +108,7 @@ handles_used s here all made (at ∷ ats) leads enough h =
 
 -- a name that is made fits, and afterwards as many names are made as are known
 pub record IsMade (s : Source) (here after all : List Name) (made : ℕ) (k : NameKind) (at : ℕ) : Type 0 where
-  pub fits : makes (scene all made) (place_of s all at) (kind_of k) ≡ true
+  pub fits : makes (scene all made) (place_of s all at) k ≡ true
   pub enough : length after ≤ max made (place_of s all at + 1)
   pub leads : Leads here all
 

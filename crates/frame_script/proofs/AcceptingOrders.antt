@@ -4,10 +4,11 @@ use Rattle.frame_grammar.specs.declared.symbols.Event.{Event}
 use Rattle.frame_ast.specs.declared.kernel.Kernel.{Kernel}
 use Rattle.frame_ast.specs.declared.script.Order.{Order}
 use Rattle.frame_ast.specs.Accepted.{is_when}
+use Rattle.frame_ast.specs.Lists.{first_some}
 use Rattle.frame_script.specs.declared.source.Source.{Source}
 use Rattle.frame_script.specs.Names.{Name}
 use Rattle.frame_script.specs.Raw.{OrderForm, NewArray, NewColumn, NewList, NewReference, NewMap, NewStream, Slice, View, Copy, Set, Add, Put, Remove, Clear, SetCapacity, Schedule, Combine, Complete, Dispose, DisposeAuto, Print, Flush, Frame, Repeat, When, SpellsOrder, closing}
-use Rattle.frame_script.specs.Faults.{Scope, first, order_faults}
+use Rattle.frame_script.specs.Faults.{Scope, order_faults}
 use Rattle.frame_script.specs.Files.{literals_of}
 use Rattle.frame_script.specs.Spelling.{Says, names_after}
 use Rattle.frame_script.proofs.AcceptingNames.{Leads}
@@ -20,7 +21,7 @@ module _ (s : Source) (c : Scope) (all : List Name) (made : ℕ) (literals : Lis
   -- a statement of this form that says this order
   abbrev IsFitting : OrderForm → Type 0
   IsFitting form = (o : Order) → Leads (names_after s c.names form) all → Leads c.kernels kernels → Stands literals place (literals_of s form) →
-      first (order_faults s c at form) ≡ None → Says s all kernels place 0 form o → Fits all made literals kernels rest inside (names_after s c.names form) o
+      first_some (order_faults s c at form) ≡ None → Says s all kernels place 0 form o → Fits all made literals kernels rest inside (names_after s c.names form) o
 
   fits_as : (form : OrderForm) (o said : Order) → o ≡ said → Fits all made literals kernels rest inside (names_after s c.names form) said →
       Fits all made literals kernels rest inside (names_after s c.names form) o

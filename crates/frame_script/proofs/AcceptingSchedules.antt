@@ -12,19 +12,20 @@ use Rattle.frame_ast.specs.declared.kernel.ParamKind.TheVariants as param
 use Rattle.frame_ast.specs.declared.script.Arg.{Arg}
 use Rattle.frame_ast.specs.declared.script.Order.TheVariants as order
 use Rattle.frame_ast.specs.Schedules.{is_array, writes_to}
-use Rattle.frame_ast.specs.Accepted.{NameKind as Kind, ArrayName, SliceName, ViewName, ListName, RefName, MapName, StreamName, HandleName, uses, args_fit, arg_fits, waive_fits, cut_fits, defer_fits, one_of, schedule_fits, all_used}
+use Rattle.frame_ast.specs.Accepted.{kinds_for, guard_fits, uses, args_fit, arg_fits, waive_fits, cut_fits, defer_fits, one_of, schedule_fits, all_used}
 use Rattle.frame_ast.specs.Accepted as accepted
-use Rattle.frame_script.specs.declared.kind.NameKind.TheVariants as kind
+use Rattle.frame_ast.specs.declared.name_kind.NameKind.{NameKind}
+use Rattle.frame_ast.specs.declared.name_kind.NameKind.TheVariants as kind
+use Rattle.frame_ast.specs.Lists.{first_some}
 use Rattle.frame_script.specs.declared.raw.RawArg.{RawArg}
 use Rattle.frame_script.specs.declared.raw.RawArg.TheVariants.{Name, Number}
 use Rattle.frame_script.specs.declared.raw.RawSizes.{RawSizes}
 use Rattle.frame_script.specs.declared.raw.RawSizes.TheVariants as sizes
 use Rattle.frame_script.specs.declared.source.Source.{Source}
 use Rattle.frame_script.specs.Sources.{text_at}
-use Rattle.frame_script.specs.Names.{kind_of}
 use Rattle.frame_script.specs.Names as names
 use Rattle.frame_script.specs.Raw.{Schedule}
-use Rattle.frame_script.specs.Faults.{Scope, first, kinds_for, is_deferred, arg_fault, args_faults, sizes_fit, room_fits, has_room, takes, kernel_fault, sizes_faults, kernel_in, param_in, waived_fault, waive_fault, scheduled_faults, order_faults}
+use Rattle.frame_script.specs.Faults.{Scope, is_deferred, arg_fault, args_faults, sizes_fit, room_fits, takes, kernel_fault, sizes_faults, kernel_in, param_in, waived_fault, waive_fault, scheduled_faults, order_faults}
 use Rattle.frame_script.specs.Spelling.{place_of, kernel_place, param_place, params_of, params_named, arg_of, cut_of, defer_of, names_after}
 use Rattle.frame_script.proofs.NumberLemmas.{holds_from}
 use Rattle.frame_script.proofs.JobLemmas.{found_at}
@@ -49,28 +50,19 @@ param_known params text p h =
 
 -- ARGUMENTS
 
-kinds_alike : (k : ParamKind) (deferred : Bool) → map kind_of (kinds_for k deferred) ≡ accepted.kinds_for k deferred
-kinds_alike param.Int deferred = refl
-kinds_alike param.Array true = refl
-kinds_alike param.Array false = refl
-kinds_alike param.List deferred = refl
-kinds_alike param.Ref deferred = refl
-kinds_alike param.Map deferred = refl
-kinds_alike param.Stream deferred = refl
-
 -- after `defer` an array takes more kinds
-array_wider : (o : Option Kind) → accepted.kind_in o (accepted.kinds_for param.Array false) ≡ true → accepted.kind_in o (accepted.kinds_for param.Array true) ≡ true
+array_wider : (o : Option NameKind) → accepted.kind_in o (kinds_for param.Array false) ≡ true → accepted.kind_in o (kinds_for param.Array true) ≡ true
 array_wider None h = h
-array_wider (Some ArrayName) h = refl
-array_wider (Some SliceName) h = refl
-array_wider (Some ViewName) h = refl
-array_wider (Some ListName) h = refl
-array_wider (Some RefName) h = cc
-array_wider (Some MapName) h = cc
-array_wider (Some StreamName) h = cc
-array_wider (Some HandleName) h = cc
+array_wider (Some kind.Array) h = refl
+array_wider (Some kind.Slice) h = refl
+array_wider (Some kind.View) h = refl
+array_wider (Some kind.List) h = refl
+array_wider (Some kind.Reference) h = cc
+array_wider (Some kind.Map) h = cc
+array_wider (Some kind.Stream) h = cc
+array_wider (Some kind.Handle) h = cc
 
-wider : (k : ParamKind) (o : Option Kind) → accepted.kind_in o (accepted.kinds_for k false) ≡ true → accepted.kind_in o (accepted.kinds_for k true) ≡ true
+wider : (k : ParamKind) (o : Option NameKind) → accepted.kind_in o (kinds_for k false) ≡ true → accepted.kind_in o (kinds_for k true) ≡ true
 wider param.Int o h = h
 wider param.Array o h = array_wider o h
 wider param.List o h = h
@@ -78,7 +70,7 @@ wider param.Ref o h = h
 wider param.Map o h = h
 wider param.Stream o h = h
 
-widened : (k : ParamKind) (o : Option Kind) (d e : Bool) → (d ≡ true → e ≡ true) → accepted.kind_in o (accepted.kinds_for k d) ≡ true → accepted.kind_in o (accepted.kinds_for k e) ≡ true
+widened : (k : ParamKind) (o : Option NameKind) (d e : Bool) → (d ≡ true → e ≡ true) → accepted.kind_in o (kinds_for k d) ≡ true → accepted.kind_in o (kinds_for k e) ≡ true
 widened k o true true more h = h
 widened k o true false more h = absurd (false≢true (more refl))
 widened k o false true more h = wider k o h
@@ -96,12 +88,10 @@ module _ (s : Source) (here all : List names.Name) (made : ℕ) (cut : RawSizes)
   argument : (p : Param) (a : RawArg) → arg_fault s here cut p.kind a ≡ None → arg_fits (scene all made) (defer_of s all cut) p (arg_of s all a) ≡ true
   argument p (Name at) h =
       let u = and_parts _ _ (used s here all made (kinds_for p.kind (is_deferred s cut at)) at leads enough h) in
-      let fits : accepted.kind_in (slice_get (scene all made).kinds (place_of s all at)) (accepted.kinds_for p.kind (is_deferred s cut at)) ≡ true =
-      ap (accepted.kind_in (slice_get (scene all made).kinds (place_of s all at))) (sym (kinds_alike p.kind (is_deferred s cut at))) ∙ u.1 in
-      and_from _ _ u.0 (widened p.kind _ (is_deferred s cut at) _ (deferred_alike s all cut at) fits)
+      and_from _ _ u.0 (widened p.kind _ (is_deferred s cut at) _ (deferred_alike s all cut at) u.1)
   argument p (Number n) h = holds_from _ _ _ (first_parts _ _ h).0
 
-  pub arguments : (params : List Param) (args : List RawArg) → length args ≡ length params → first (args_faults s here cut params args) ≡ None →
+  pub arguments : (params : List Param) (args : List RawArg) → length args ≡ length params → first_some (args_faults s here cut params args) ≡ None →
       args_fit (scene all made) (defer_of s all cut) params (map (arg_of s all) args) ≡ true
   arguments [] [] many h = refl
   arguments [] (a ∷ args) many h = absurd (omega arith)
@@ -112,10 +102,10 @@ module _ (s : Source) (here all : List names.Name) (made : ℕ) (cut : RawSizes)
 
   -- SIZES
 
-  deferring : (k : Kernel) → first (sizes_faults s here cut) ≡ None → room_fits (has_room k) cut ≡ true → defer_fits (scene all made) k (defer_of s all cut) ≡ true
+  deferring : (k : Kernel) → first_some (sizes_faults s here cut) ≡ None → room_fits (guard_fits k) cut ≡ true → defer_fits (scene all made) k (defer_of s all cut) ≡ true
   deferring k h room = by cut h room
     where
-      by : (z : RawSizes) → first (sizes_faults s here z) ≡ None → room_fits (has_room k) z ≡ true → defer_fits (scene all made) k (defer_of s all z) ≡ true
+      by : (z : RawSizes) → first_some (sizes_faults s here z) ≡ None → room_fits (guard_fits k) z ≡ true → defer_fits (scene all made) k (defer_of s all z) ≡ true
       by sizes.None h room = refl
       by (sizes.Length len batch) h room = refl
       by (sizes.Defer list batch) h room =
@@ -132,7 +122,7 @@ one s all false (sizes.Length len batch) h = h
 one s all true (sizes.Defer list batch) h = refl
 one s all false (sizes.Defer list batch) h = h
 
-cutting : (s : Source) (here : List names.Name) (cut : RawSizes) → first (sizes_faults s here cut) ≡ None → cut_fits (cut_of s cut) ≡ true
+cutting : (s : Source) (here : List names.Name) (cut : RawSizes) → first_some (sizes_faults s here cut) ≡ None → cut_fits (cut_of s cut) ≡ true
 cutting s here sizes.None h = refl
 cutting s here (sizes.Length len batch) h =
     let p = first_parts _ _ h in
@@ -146,7 +136,7 @@ waived_param : (parallel : Bool) (o : Option Param) (at : ℕ) → waived_fault 
 waived_param parallel None at h = cc
 waived_param parallel (Some p) at h = (p, refl, holds_from _ _ _ h)
 
-waived : (s : Source) (k : Kernel) (waive : List ℕ) → first (map (waive_fault s k) waive) ≡ None →
+waived : (s : Source) (k : Kernel) (waive : List ℕ) → first_some (map (waive_fault s k) waive) ≡ None →
     list_all (λ x. k.parallel && waive_fits (slice_get k.params.items x)) (map (λ at. param_place k.params.items (text_at s at)) waive) ≡ true
 waived s k [] h = refl
 waived s k (at ∷ waive) h =
@@ -157,8 +147,8 @@ waived s k (at ∷ waive) h =
 -- SCHEDULES
 
 -- a kernel that a schedule without a fault names is known
-kernel_named : (s : Source) (here : List names.Name) (o : Option Kernel) (at : ℕ) (args : List RawArg) (cut : RawSizes) (waive after : List ℕ) → first (scheduled_faults s here o at args cut waive after) ≡ None →
-    (k : Kernel) × (o ≡ Some k) × (first (scheduled_faults s here (Some k) at args cut waive after) ≡ None)
+kernel_named : (s : Source) (here : List names.Name) (o : Option Kernel) (at : ℕ) (args : List RawArg) (cut : RawSizes) (waive after : List ℕ) → first_some (scheduled_faults s here o at args cut waive after) ≡ None →
+    (k : Kernel) × (o ≡ Some k) × (first_some (scheduled_faults s here (Some k) at args cut waive after) ≡ None)
 kernel_named s here None at args cut waive after h = absurd (some_fault (first_parts _ _ h).0)
   where
     some_fault : {A : Type 0} {x : A} → ◌≡◌ {A = Option A} (Some x) None → ⊥
@@ -166,13 +156,13 @@ kernel_named s here None at args cut waive after h = absurd (some_fault (first_p
 kernel_named s here (Some k) at args cut waive after h = (k, refl, h)
 
 behind : (s : Source) (here all : List names.Name) (made : ℕ) (k : Kernel) (at : ℕ) (args : List RawArg) (cut : RawSizes) (waive after : List ℕ) → Leads here all → length here ≤ made →
-    first (scheduled_faults s here (Some k) at args cut waive after) ≡ None →
+    first_some (scheduled_faults s here (Some k) at args cut waive after) ≡ None →
     schedule_fits (scene all made) (Some k) (map (arg_of s all) args) (cut_of s cut) (defer_of s all cut) (map (λ x. param_place k.params.items (text_at s x)) waive) (map (place_of s all) after) ≡ true
 behind s here all made k at args cut waive after leads enough h =
     let p = first_parts (kernel_fault k at args cut) _ h in
     let f = first_parts _ _ p.0 in
     let t = and_parts _ _ (holds_from (takes k args cut) _ _ f.0) in
-    let room : room_fits (has_room k) cut ≡ true = holds_from _ _ _ (first_parts _ _ f.1).0 in
+    let room : room_fits (guard_fits k) cut ≡ true = holds_from _ _ _ (first_parts _ _ f.1).0 in
     let q = join_parts (args_faults s here cut k.params.items args) _ p.1 in
     let r = join_parts (sizes_faults s here cut) _ q.1 in
     let w = join_parts (map (waive_fault s k) waive) _ r.1 in
@@ -188,7 +178,7 @@ Scheduled s all made o args cut waive after = schedule_fits (scene all made) o a
 pub schedule_fitting : (s : Source) (c : Scope) (all : List names.Name) (made : ℕ) (literals : List (List ℤ)) (kernels : List Kernel) (rest inside at : ℕ) → length c.names ≤ made →
     (auto : Bool) (handle kernel : ℕ) (args : List RawArg) (cut : RawSizes) (waive after : List ℕ) (given : Vec Arg Global) (waives handles : Vec ℕ Global) →
     Leads (names_after s c.names (Schedule auto handle kernel args cut waive after)) all → Leads c.kernels kernels →
-    first (order_faults s c at (Schedule auto handle kernel args cut waive after)) ≡ None →
+    first_some (order_faults s c at (Schedule auto handle kernel args cut waive after)) ≡ None →
     given.items ≡ map (arg_of s all) args →
     waives.items ≡ map (λ x. param_place (params_named s kernels kernel) (text_at s x)) waive →
     handles.items ≡ map (place_of s all) after →

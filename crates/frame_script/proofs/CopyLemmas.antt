@@ -2,11 +2,14 @@
 use Rattle.std.proofs.Common.{◌≡◌, ℕ, Bool, true, false, cond, List, [], ◌∷◌, Option, Some, None, refl, ◌∙◌, subst}
 use Rattle.kernel_code.specs.declared.check.StaticFault.{StaticFault}
 use Rattle.frame_ast.specs.declared.kernel.FaultKind.TheVariants.{UnknownName, KindMismatch}
+use Rattle.frame_ast.specs.Lists.{first_some}
 use Rattle.frame_script.specs.declared.fault.OrderFault.{OrderFault}
-use Rattle.frame_script.specs.declared.kind.NameKind.{NameKind}
+use Rattle.frame_ast.specs.declared.name_kind.NameKind.{NameKind}
 use Rattle.frame_script.specs.declared.source.Source.{Source}
-use Rattle.frame_script.specs.Names.{Name, is_among, container}
-use Rattle.frame_script.specs.Faults.{first, unless, misfit, copy_fault, long_fault, make_fault}
+use Rattle.frame_script.specs.Names.{Name}
+use Rattle.frame_ast.specs.Accepted.{is_among}
+use Rattle.frame_ast.specs.declared.name_kind.TheConstants.{CONTAINERS}
+use Rattle.frame_script.specs.Faults.{unless, misfit, copy_fault, long_fault, make_fault}
 use Rattle.frame_ast.specs.declared.script.Order.TheVariants as order
 use Rattle.frame_script.specs.Faults.{made_alike}
 use Rattle.frame_script.specs.Spelling.{place_of, names_with}
@@ -15,7 +18,7 @@ use Rattle.frame_script.proofs.FaultLemmas.{first_next, first_here, first_end, f
 
 -- the first fault of `copy`, by what its source stands for
 abbrev pub copy_first : Source → List Name → (name of : ℕ) → Option NameKind → Option StaticFault
-copy_first s names name of o = first (copy_fault s names o name ∷ misfit o container of ∷ [])
+copy_first s names name of o = first_some (copy_fault s names o name ∷ misfit o CONTAINERS of ∷ [])
 
 pub unknown_long : (s : Source) (names : List Name) (name of : ℕ) (o : Option NameKind) (e : OrderFault) → None ≡ o → Refuses (long_fault s name) e →
     Refuses (copy_first s names name of o) e
@@ -29,25 +32,25 @@ unknown_source s names name of o is h =
 
 -- faults where the source's kind isn't one that can be copied, or is one
 abbrev by_test : Source → List Name → (name of : ℕ) → NameKind → Bool → Option StaticFault
-by_test s names name of k b = first (cond b (make_fault s names k name) (long_fault s name) ∷ unless b KindMismatch of ∷ [])
+by_test s names name of k b = first_some (cond b (make_fault s names k name) (long_fault s name) ∷ unless b KindMismatch of ∷ [])
 
-pub other_long : (s : Source) (names : List Name) (name of : ℕ) (o : Option NameKind) (k : NameKind) (e : OrderFault) → Some k ≡ o → false ≡ is_among k container → Refuses (long_fault s name) e →
+pub other_long : (s : Source) (names : List Name) (name of : ℕ) (o : Option NameKind) (k : NameKind) (e : OrderFault) → Some k ≡ o → false ≡ is_among k CONTAINERS → Refuses (long_fault s name) e →
     Refuses (copy_first s names name of o) e
 other_long s names name of o k e is test h =
     subst (λ j. Refuses (copy_first s names name of j) e) is (subst (λ b. Refuses (by_test s names name of k b) e) test (refuses_here (long_fault s name) _ e h))
 
-pub other_source : (s : Source) (names : List Name) (name of : ℕ) (o : Option NameKind) (k : NameKind) → Some k ≡ o → false ≡ is_among k container → long_fault s name ≡ None →
+pub other_source : (s : Source) (names : List Name) (name of : ℕ) (o : Option NameKind) (k : NameKind) → Some k ≡ o → false ≡ is_among k CONTAINERS → long_fault s name ≡ None →
     copy_first s names name of o ≡ Some (record { at = of; kind = KindMismatch })
 other_source s names name of o k is test h =
     subst (λ j. copy_first s names name of j ≡ Some (record { at = of; kind = KindMismatch })) is
     (subst (λ b. by_test s names name of k b ≡ Some (record { at = of; kind = KindMismatch })) test (first_next (long_fault s name) _ h ∙ first_here _ [] _ refl))
 
-pub copy_unmade : (s : Source) (names : List Name) (name of : ℕ) (o : Option NameKind) (k : NameKind) (e : OrderFault) → Some k ≡ o → true ≡ is_among k container → Refuses (make_fault s names k name) e →
+pub copy_unmade : (s : Source) (names : List Name) (name of : ℕ) (o : Option NameKind) (k : NameKind) (e : OrderFault) → Some k ≡ o → true ≡ is_among k CONTAINERS → Refuses (make_fault s names k name) e →
     Refuses (copy_first s names name of o) e
 copy_unmade s names name of o k e is test h =
     subst (λ j. Refuses (copy_first s names name of j) e) is (subst (λ b. Refuses (by_test s names name of k b) e) test (refuses_here (make_fault s names k name) _ e h))
 
-pub copy_good : (s : Source) (names : List Name) (name of : ℕ) (o : Option NameKind) (k : NameKind) → Some k ≡ o → true ≡ is_among k container → make_fault s names k name ≡ None →
+pub copy_good : (s : Source) (names : List Name) (name of : ℕ) (o : Option NameKind) (k : NameKind) → Some k ≡ o → true ≡ is_among k CONTAINERS → make_fault s names k name ≡ None →
     copy_first s names name of o ≡ None
 copy_good s names name of o k is test h =
     subst (λ j. copy_first s names name of j ≡ None) is

@@ -1,58 +1,58 @@
 -- The first of several faults.
 use Rattle.std.proofs.Common.{◌≡◌, List, [], ◌∷◌, ◌++◌, Option, Some, None, Result, Ok, Err, IsErrAnd, refl, sym, ◌∙◌, subst}
 use Rattle.kernel_code.specs.declared.check.StaticFault.{StaticFault}
+use Rattle.frame_ast.specs.Lists.{first_some}
 use Rattle.frame_script.specs.declared.fault.OrderFault.{OrderFault}
 use Rattle.frame_script.specs.declared.fault.OrderFault.TheVariants.{Refused, NoMemory}
-use Rattle.frame_script.specs.Faults.{first}
 use Rattle.frame_script.specs.Checks.{Refuses, Gives}
 
-pub first_end : first [] ≡ None
-unfolding first
+pub first_end : first_some {A = StaticFault} [] ≡ None
+unfolding first_some
 first_end = refl
 
-pub first_next : (a : Option StaticFault) (more : List (Option StaticFault)) → a ≡ None → first (a ∷ more) ≡ first more
-unfolding first
+pub first_next : (a : Option StaticFault) (more : List (Option StaticFault)) → a ≡ None → first_some (a ∷ more) ≡ first_some more
+unfolding first_some
 first_next None more h = refl
 first_next (Some f) more h = cc
 
-pub first_here : (a : Option StaticFault) (more : List (Option StaticFault)) (f : StaticFault) → a ≡ Some f → first (a ∷ more) ≡ Some f
-unfolding first
+pub first_here : (a : Option StaticFault) (more : List (Option StaticFault)) (f : StaticFault) → a ≡ Some f → first_some (a ∷ more) ≡ Some f
+unfolding first_some
 first_here None more f h = cc
 first_here (Some g) more f h = h
 
 -- of a statement without a fault no part has one
-pub first_none : (a : Option StaticFault) (more : List (Option StaticFault)) → a ≡ None → first more ≡ None → first (a ∷ more) ≡ None
+pub first_none : (a : Option StaticFault) (more : List (Option StaticFault)) → a ≡ None → first_some more ≡ None → first_some (a ∷ more) ≡ None
 first_none a more h e = first_next a more h ∙ e
 
-pub refuses_here : (a : Option StaticFault) (more : List (Option StaticFault)) (e : OrderFault) → Refuses a e → Refuses (first (a ∷ more)) e
+pub refuses_here : (a : Option StaticFault) (more : List (Option StaticFault)) (e : OrderFault) → Refuses a e → Refuses (first_some (a ∷ more)) e
 refuses_here a more (Refused f) h = first_here a more f h
 refuses_here a more NoMemory h = tt
 
-pub refuses_next : (a : Option StaticFault) (more : List (Option StaticFault)) (e : OrderFault) → a ≡ None → Refuses (first more) e → Refuses (first (a ∷ more)) e
+pub refuses_next : (a : Option StaticFault) (more : List (Option StaticFault)) (e : OrderFault) → a ≡ None → Refuses (first_some more) e → Refuses (first_some (a ∷ more)) e
 refuses_next a more (Refused f) none h = first_next a more none ∙ h
 refuses_next a more NoMemory none h = tt
 
 -- the same of several lists one after another
-pub first_join : (as' more : List (Option StaticFault)) → first as' ≡ None → first (as' ++ more) ≡ first more
-unfolding first
+pub first_join : (as' more : List (Option StaticFault)) → first_some as' ≡ None → first_some (as' ++ more) ≡ first_some more
+unfolding first_some
 first_join [] more h = refl
 first_join (None ∷ as') more h = first_join as' more h
 first_join (Some f ∷ as') more h = cc
 
-pub first_both : (as' more : List (Option StaticFault)) → first as' ≡ None → first more ≡ None → first (as' ++ more) ≡ None
+pub first_both : (as' more : List (Option StaticFault)) → first_some as' ≡ None → first_some more ≡ None → first_some (as' ++ more) ≡ None
 first_both as' more h e = first_join as' more h ∙ e
 
-join_here : (as' more : List (Option StaticFault)) (f : StaticFault) → first as' ≡ Some f → first (as' ++ more) ≡ Some f
-unfolding first
+join_here : (as' more : List (Option StaticFault)) (f : StaticFault) → first_some as' ≡ Some f → first_some (as' ++ more) ≡ Some f
+unfolding first_some
 join_here [] more f h = cc
 join_here (None ∷ as') more f h = join_here as' more f h
 join_here (Some g ∷ as') more f h = h
 
-pub refuses_left : (as' more : List (Option StaticFault)) (e : OrderFault) → Refuses (first as') e → Refuses (first (as' ++ more)) e
+pub refuses_left : (as' more : List (Option StaticFault)) (e : OrderFault) → Refuses (first_some as') e → Refuses (first_some (as' ++ more)) e
 refuses_left as' more (Refused f) h = join_here as' more f h
 refuses_left as' more NoMemory h = tt
 
-pub refuses_right : (as' more : List (Option StaticFault)) (e : OrderFault) → first as' ≡ None → Refuses (first more) e → Refuses (first (as' ++ more)) e
+pub refuses_right : (as' more : List (Option StaticFault)) (e : OrderFault) → first_some as' ≡ None → Refuses (first_some more) e → Refuses (first_some (as' ++ more)) e
 refuses_right as' more (Refused f) none h = first_join as' more none ∙ h
 refuses_right as' more NoMemory none h = tt
 

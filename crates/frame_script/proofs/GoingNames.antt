@@ -11,7 +11,7 @@ use Rattle.kernel_code.specs.declared.token.Token.{Token}
 use Rattle.kernel_code.specs.Legible.{NamesAreText}
 use Rattle.kernel_code.specs.StaticFaults.{token_text}
 use Rattle.kernel_code.specs.Parsing.{kinds}
-use Rattle.frame_script.specs.declared.kind.NameKind.{NameKind}
+use Rattle.frame_ast.specs.declared.name_kind.NameKind.{NameKind}
 use Rattle.frame_script.specs.declared.source.Source.{Source}
 use Rattle.frame_script.specs.Raw.{OrderForm, NewArray, NewColumn, NewList, NewReference, NewMap, NewStream, Slice, View, Copy, Schedule, Combine, Dispose, DisposeAuto, Stands, OrderStands}
 use Rattle.frame_script.specs.Sources.{text_at}

@@ -10,12 +10,13 @@ use Rattle.kernel_code.specs.declared.check.StaticFault.{StaticFault}
 use Rattle.kernel_code.specs.Parsing.{kinds}
 use Rattle.kernel_code.specs.Legible.{NamesAreText}
 use Rattle.frame_ast.specs.declared.script.Statement.{Statement}
+use Rattle.frame_ast.specs.Lists.{first_some}
 use Rattle.frame_script.specs.declared.raw.RawNumber.{RawNumber}
 use Rattle.frame_script.specs.declared.source.Source.{Source}
 use Rattle.frame_script.specs.declared.walk.Walk.{Walk}
 use Rattle.frame_script.specs.Raw.{OrderForm, RawItems, Nothing, Kernel, Single, Block, KernelForm, Repeat, When, closing, ItemsStand}
 use Rattle.frame_script.specs.Names.{Name}
-use Rattle.frame_script.specs.Faults.{Scope, first, order_faults}
+use Rattle.frame_script.specs.Faults.{Scope, order_faults}
 use Rattle.frame_script.specs.Spelling.{Says}
 use Rattle.frame_script.specs.Files.{IsStatement, at_start, after_order, after_kernel, in_block, is_when, literals_of, literals_in, nothing, kernel, behind_kernel}
 use Rattle.frame_script.specs.Writing.{Completes, nothing_written}
@@ -68,7 +69,7 @@ regrouped : {A : Type 0} (kept own more rest : List A) → (kept ++ own) ++ (mor
 regrouped kept own more rest = append_assoc kept own (more ++ rest) ∙ ap (λ x. kept ++ x) (sym (append_assoc own more rest))
 
 -- the statement in the end
-stated : (s : Source) (at : ℕ) (form : OrderForm) (old new : Walk) (names : List Name) (kernels : List CheckedKernel) → first (order_faults s (scope_of old) at form) ≡ None →
+stated : (s : Source) (at : ℕ) (form : OrderForm) (old new : Walk) (names : List Name) (kernels : List CheckedKernel) → first_some (order_faults s (scope_of old) at form) ≡ None →
     (t : TakesSingle s at form old new) → KeepsNames new.names names → KeepsKernels old.kernels kernels → IsStatement s names kernels (length old.literals.items) 0 at form t.statement
 stated s at form old new names kernels none t keeps more = record {
   line = t.is.line;
@@ -78,7 +79,7 @@ stated s at form old new names kernels none t keeps more = record {
 }
 
 pub past_a_single : (s : Source) (whole more : RawItems) (rest : List RawItems) (at : ℕ) (form : OrderForm) (old new : Walk) → NamesAreText s.bytes.now s.tokens.now → closing form ≡ None →
-    first (order_faults s (scope_of old) at form) ≡ None → TakesSingle s at form old new → IsAt s whole old (Single at form more ∷ rest) → IsAt s whole new (more ∷ rest)
+    first_some (order_faults s (scope_of old) at form) ≡ None → TakesSingle s at form old new → IsAt s whole old (Single at form more ∷ rest) → IsAt s whole new (more ∷ rest)
 past_a_single s whole more rest at form old new texts no_block none t is =
     let scope : scope_of new ≡ after_order s (scope_of old) form = same_scope t.names t.kernels (ap (λ v. length v.items) t.around) t.tested in
     let around : reverse new.around.items ≡ reverse old.around.items = ap (λ v. reverse v.items) t.around in
@@ -141,7 +142,7 @@ in_around old new e = ap reverse e.around ∙ reverse-append old.around.items (o
 depth_of : (old : Walk) → (scope_of old).blocks ≡ length (reverse old.around.items)
 depth_of old = sym (length-reverse old.around.items)
 
-pub into_a_block : (s : Source) (whole inner more : RawItems) (rest : List RawItems) (at : ℕ) (head : OrderForm) (old new : Walk) → first (order_faults s (scope_of old) at head) ≡ None →
+pub into_a_block : (s : Source) (whole inner more : RawItems) (rest : List RawItems) (at : ℕ) (head : OrderForm) (old new : Walk) → first_some (order_faults s (scope_of old) at head) ≡ None →
     Enters old new → new.tested ≡ (scope_of old).tested || is_when head →
     ((names : List Name) (kernels : List CheckedKernel) → KeepsNames old.names names → KeepsKernels old.kernels kernels → Completes s names kernels (length old.literals.items) new.written (inner ∷ more ∷ rest) whole) →
     IsAt s whole old (Block at head inner more ∷ rest) → IsAt s whole new (inner ∷ more ∷ rest)
@@ -170,7 +171,7 @@ or_so : (b : Bool) → true ≡ b || true
 or_so true = refl
 or_so false = refl
 
-pub into_a_repeat : (s : Source) (whole inner more : RawItems) (rest : List RawItems) (at n : ℕ) (old new : Walk) → first (order_faults s (scope_of old) at (Repeat n)) ≡ None →
+pub into_a_repeat : (s : Source) (whole inner more : RawItems) (rest : List RawItems) (at n : ℕ) (old new : Walk) → first_some (order_faults s (scope_of old) at (Repeat n)) ≡ None →
     TakesRepeat s n old new → IsAt s whole old (Block at (Repeat n) inner more ∷ rest) → IsAt s whole new (inner ∷ more ∷ rest)
 into_a_repeat s whole inner more rest at n old new none t is =
     into_a_block s whole inner more rest at (Repeat n) old new none t.enters (t.tested ∙ or_not old.tested)
@@ -179,7 +180,7 @@ into_a_repeat s whole inner more rest at n old new none t is =
     is
 
 -- a `when` says the same whatever kernels and lists stand before it
-when_says : (s : Source) (at name test : ℕ) (value : RawNumber) (old : Walk) (names : List Name) (kernels : List CheckedKernel) (x : Statement) → first (order_faults s (scope_of old) at (When name test value)) ≡ None →
+when_says : (s : Source) (at name test : ℕ) (value : RawNumber) (old : Walk) (names : List Name) (kernels : List CheckedKernel) (x : Statement) → first_some (order_faults s (scope_of old) at (When name test value)) ≡ None →
     KeepsNames old.names names → KeepsKernels old.kernels kernels →
     IsStatement s old.names [] 0 0 at (When name test value) x → IsStatement s names kernels (length old.literals.items) 0 at (When name test value) x
 when_says s at name test value old names kernels x none keeps more is = record {
@@ -187,7 +188,7 @@ when_says s at name test value old names kernels x none keeps more is = record {
   says = says_kept s (scope_of old) names kernels (When name test value) at (length old.literals.items) 0 x.act none keeps more is.says;
 }
 
-pub into_a_when : (s : Source) (whole inner more : RawItems) (rest : List RawItems) (at name test : ℕ) (value : RawNumber) (old new : Walk) → first (order_faults s (scope_of old) at (When name test value)) ≡ None →
+pub into_a_when : (s : Source) (whole inner more : RawItems) (rest : List RawItems) (at name test : ℕ) (value : RawNumber) (old new : Walk) → first_some (order_faults s (scope_of old) at (When name test value)) ≡ None →
     TakesWhen s at (When name test value) old new → IsAt s whole old (Block at (When name test value) inner more ∷ rest) → IsAt s whole new (inner ∷ more ∷ rest)
 into_a_when s whole inner more rest at name test value old new none t is =
     into_a_block s whole inner more rest at (When name test value) old new none t.enters (t.tested ∙ or_so old.tested)

@@ -7,6 +7,7 @@ use Rattle.std.proofs.lemmas.List.Folds.{find_at}
 use Rattle.std.proofs.lemmas.Option.{slice_get-get_or, slice_get_past}
 use Rattle.kernel_code.specs.declared.check.StaticFault.{StaticFault}
 use Rattle.frame_ast.specs.declared.kernel.Param.{Param}
+use Rattle.frame_ast.specs.Lists.{first_some}
 use Rattle.frame_script.specs.declared.fault.OrderFault.{OrderFault}
 use Rattle.frame_script.specs.declared.raw.RawArg.{RawArg}
 use Rattle.frame_script.specs.declared.raw.RawSizes.{RawSizes}
@@ -18,7 +19,7 @@ use Rattle.frame_ast.specs.Schedules.{is_array, writes_to}
 use Rattle.std.specs.Str.{bytes_eq}
 use Rattle.std.specs.String.{string_bytes}
 use Rattle.frame_script.specs.Sources.{text_at}
-use Rattle.frame_script.specs.Faults.{first, unless, waive_fault, waived_fault, arg_fault, args_faults}
+use Rattle.frame_script.specs.Faults.{unless, waive_fault, waived_fault, arg_fault, args_faults}
 use Rattle.frame_script.specs.KernelIndex.{kernel_at}
 use Rattle.frame_script.specs.Checks.{Refuses}
 use Rattle.frame_script.proofs.FaultLemmas.{first_next, first_end, refuses_here}
@@ -52,23 +53,23 @@ args_front s names sizes params args i p a hp ha =
     ∙ ap (λ as'. args_faults s names sizes (get_or params i p ∷ drop (suc i) params) as') (drop-cons args i a ha))
 
 pub args_passed : (s : Source) (names : List Name) (sizes : RawSizes) (params : List Param) (args : List RawArg) (i : ℕ) (p : Param) (a : RawArg) (all : Option StaticFault) →
-    i < length params → i < length args → all ≡ first (args_faults s names sizes (drop i params) (drop i args)) →
-    p ≡ get_or params i p → arg_fault s names sizes p.kind (get_or args i a) ≡ None → all ≡ first (args_faults s names sizes (drop (i + 1) params) (drop (i + 1) args))
+    i < length params → i < length args → all ≡ first_some (args_faults s names sizes (drop i params) (drop i args)) →
+    p ≡ get_or params i p → arg_fault s names sizes p.kind (get_or args i a) ≡ None → all ≡ first_some (args_faults s names sizes (drop (i + 1) params) (drop (i + 1) args))
 args_passed s names sizes params args i p a all hp ha is same none =
-    is ∙ (ap first (args_front s names sizes params args i p a hp ha)
+    is ∙ (ap first_some (args_front s names sizes params args i p a hp ha)
     ∙ first_next _ _ (ap (λ q. arg_fault s names sizes q.kind (get_or args i a)) (sym same) ∙ none))
 
 pub args_stopped : (s : Source) (names : List Name) (sizes : RawSizes) (params : List Param) (args : List RawArg) (i : ℕ) (p : Param) (a : RawArg) (all : Option StaticFault) (e : OrderFault) →
-    i < length params → i < length args → all ≡ first (args_faults s names sizes (drop i params) (drop i args)) →
+    i < length params → i < length args → all ≡ first_some (args_faults s names sizes (drop i params) (drop i args)) →
     p ≡ get_or params i p → Refuses (arg_fault s names sizes p.kind (get_or args i a)) e → Refuses all e
 args_stopped s names sizes params args i p a all e hp ha is same r =
-    subst (λ o. Refuses o e) (sym (is ∙ ap first (args_front s names sizes params args i p a hp ha)))
+    subst (λ o. Refuses o e) (sym (is ∙ ap first_some (args_front s names sizes params args i p a hp ha)))
     (refuses_here _ _ e (subst (λ q. Refuses (arg_fault s names sizes q.kind (get_or args i a)) e) same r))
 
 pub args_ended : (s : Source) (names : List Name) (sizes : RawSizes) (params : List Param) (args : List RawArg) (i : ℕ) (all : Option StaticFault) →
-    length params ≤ i → all ≡ first (args_faults s names sizes (drop i params) (drop i args)) → all ≡ None
+    length params ≤ i → all ≡ first_some (args_faults s names sizes (drop i params) (drop i args)) → all ≡ None
 args_ended s names sizes params args i all h is =
-    is ∙ (ap (λ ps. first (args_faults s names sizes ps (drop i args))) (drop_all i params h) ∙ first_end)
+    is ∙ (ap (λ ps. first_some (args_faults s names sizes ps (drop i args))) (drop_all i params h) ∙ first_end)
 
 -- WAIVED NAMES
 

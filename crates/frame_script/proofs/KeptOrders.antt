@@ -5,8 +5,9 @@ use Rattle.std.specs.Option.{option_map}
 use Rattle.frame_ast.specs.declared.kernel.Kernel.{Kernel}
 use Rattle.frame_ast.specs.declared.script.Order.{Order}
 use Rattle.frame_ast.specs.declared.script.Order.TheVariants as order
-use Rattle.frame_script.specs.declared.kind.NameKind.{NameKind}
-use Rattle.frame_script.specs.declared.kind.NameKind.TheVariants as kind
+use Rattle.frame_ast.specs.declared.name_kind.NameKind.{NameKind}
+use Rattle.frame_ast.specs.declared.name_kind.NameKind.TheVariants as kind
+use Rattle.frame_ast.specs.Lists.{first_some}
 use Rattle.frame_script.specs.declared.raw.RawArg.{RawArg}
 use Rattle.frame_script.specs.declared.raw.RawSizes.{RawSizes}
 use Rattle.frame_script.specs.declared.source.Source.{Source}
@@ -15,14 +16,14 @@ use Rattle.std.specs.List.{slice_get}
 use Rattle.frame_script.specs.Signs.{sign_in}
 use Rattle.frame_script.specs.Sources.{text_at, number_at, signed_at}
 use Rattle.frame_script.specs.Names.{Name, kind_in}
-use Rattle.frame_script.specs.Faults.{Scope, first, order_faults, use_fault, misfit, kernel_in, takes, scheduled_faults, args_faults, sizes_faults, waive_fault, handles_faults, kernel_fault, made, made_alike}
+use Rattle.frame_script.specs.Faults.{Scope, order_faults, use_fault, misfit, kernel_in, takes, scheduled_faults, args_faults, sizes_faults, waive_fault, handles_faults, kernel_fault, made, made_alike}
 use Rattle.frame_script.specs.Spelling.{Says, names_after, names_with, place_of, literal_of, kernel_place, params_of, params_named, param_place, cut_of, defer_of, complete_of}
 use Rattle.frame_script.specs.Walking.{KeepsNames, KeepsKernels}
 use Rattle.frame_script.proofs.KeptSays.{parted, joined, holds, same_used, same_made, same_handles, same_args, same_defer}
 
 -- what is said of a scope, in a greater one
 abbrev pub Stays : Source → Scope → List Name → List Kernel → OrderForm → Type 0
-Stays s c names kernels form = (at literals count : ℕ) (o : Order) → first (order_faults s c at form) ≡ None →
+Stays s c names kernels form = (at literals count : ℕ) (o : Order) → first_some (order_faults s c at form) ≡ None →
     KeepsNames (names_after s c.names form) names → KeepsKernels c.kernels kernels →
     Says s (names_after s c.names form) c.kernels literals count form o → Says s names kernels literals count form o
 
@@ -66,7 +67,7 @@ takes_all : (k : Kernel) (args : List RawArg) (cut : RawSizes) → takes k args 
 takes_all k args cut h = grind (arith, nat_tests)
 
 schedule_known : (s : Source) (c : Scope) (names : List Name) (kernels : List Kernel) (auto : Bool) (handle kernel : ℕ) (args : List RawArg) (cut : RawSizes) (waive after : List ℕ) (k : Kernel) →
-    kernel_in c.kernels (text_at s kernel) ≡ Some k → first (scheduled_faults s c.names (Some k) kernel args cut waive after) ≡ None →
+    kernel_in c.kernels (text_at s kernel) ≡ Some k → first_some (scheduled_faults s c.names (Some k) kernel args cut waive after) ≡ None →
     (at literals count : ℕ) (o : Order) → KeepsNames (names_with s c.names (Some (handle, kind.Handle))) names → KeepsKernels c.kernels kernels →
     Says s (names_with s c.names (Some (handle, kind.Handle))) c.kernels literals count (Schedule auto handle kernel args cut waive after) o →
     Says s names kernels literals count (Schedule auto handle kernel args cut waive after) o
@@ -92,7 +93,7 @@ schedule_known s c names kernels auto handle kernel args cut waive after k is no
     )
 
 schedule_by : (s : Source) (c : Scope) (names : List Name) (kernels : List Kernel) (auto : Bool) (handle kernel : ℕ) (args : List RawArg) (cut : RawSizes) (waive after : List ℕ) →
-    (k : Option Kernel) → kernel_in c.kernels (text_at s kernel) ≡ k → first (scheduled_faults s c.names k kernel args cut waive after) ≡ None →
+    (k : Option Kernel) → kernel_in c.kernels (text_at s kernel) ≡ k → first_some (scheduled_faults s c.names k kernel args cut waive after) ≡ None →
     (at literals count : ℕ) (o : Order) → KeepsNames (names_with s c.names (Some (handle, kind.Handle))) names → KeepsKernels c.kernels kernels →
     Says s (names_with s c.names (Some (handle, kind.Handle))) c.kernels literals count (Schedule auto handle kernel args cut waive after) o →
     Says s names kernels literals count (Schedule auto handle kernel args cut waive after) o

@@ -4,7 +4,8 @@ use Rattle.frame_ast.specs.declared.kernel.FaultKind.{FaultKind}
 use Rattle.frame_ast.specs.declared.kernel.Param.{Param}
 use Rattle.kernel_code.specs.declared.check.StaticFault.{StaticFault}
 use Rattle.frame_ast.specs.declared.script.Arg.TheVariants as given
-use Rattle.frame_script.specs.declared.kind.NameKind.{NameKind}
+use Rattle.frame_ast.specs.declared.name_kind.NameKind.{NameKind}
+use Rattle.frame_ast.specs.Lists.{first_some}
 use Rattle.frame_script.specs.declared.raw.RawArg.{RawArg}
 use Rattle.frame_script.specs.declared.raw.RawArg.TheVariants as arg
 use Rattle.frame_script.specs.declared.raw.RawSizes.{RawSizes}
@@ -12,20 +13,20 @@ use Rattle.frame_script.specs.declared.raw.RawSizes.TheVariants as sizes
 use Rattle.frame_script.specs.declared.source.Source.{Source}
 use Rattle.frame_script.specs.Sources.{text_at, number_at}
 use Rattle.frame_script.specs.Names.{Name, place_in}
-use Rattle.frame_script.specs.Faults.{first, unless, misfit, use_fault, handles_faults, args_faults, arg_fault, sizes_faults}
+use Rattle.frame_script.specs.Faults.{unless, misfit, use_fault, handles_faults, args_faults, arg_fault, sizes_faults}
 use Rattle.frame_script.specs.Spelling.{place_of, names_with, arg_of, defer_of}
 use Rattle.frame_script.specs.Walking.{KeepsNames}
 use Rattle.frame_script.proofs.PlaceLemmas.{kind_missing, place_kept, new_place}
 
 -- PARTS WITHOUT A FAULT
 
-pub parted : (a : Option StaticFault) (more : List (Option StaticFault)) → first (a ∷ more) ≡ None → (a ≡ None) × (first more ≡ None)
-unfolding first
+pub parted : (a : Option StaticFault) (more : List (Option StaticFault)) → first_some (a ∷ more) ≡ None → (a ≡ None) × (first_some more ≡ None)
+unfolding first_some
 parted None more h = (refl, h)
 parted (Some f) more h = cc
 
-pub joined : (xs ys : List (Option StaticFault)) → first (xs ++ ys) ≡ None → (first xs ≡ None) × (first ys ≡ None)
-unfolding first
+pub joined : (xs ys : List (Option StaticFault)) → first_some (xs ++ ys) ≡ None → (first_some xs ≡ None) × (first_some ys ≡ None)
+unfolding first_some
 joined [] ys h = (refl, h)
 joined (None ∷ xs) ys h = joined xs ys h
 joined (Some f ∷ xs) ys h = cc
@@ -75,7 +76,7 @@ pair_same : {A : Type 0} (x y : A) (xs ys : List A) → x ≡ y → xs ≡ ys �
 pair_same x y xs ys e f = ap (λ z. z ∷ xs) e ∙ ap (λ zs. y ∷ zs) f
 
 pub same_handles : (s : Source) (names final : List Name) (m : Option (ℕ × NameKind)) (ats : List ℕ) → KeepsNames (names_with s names m) final →
-    first (handles_faults s names ats) ≡ None → map (place_of s (names_with s names m)) ats ≡ map (place_of s final) ats
+    first_some (handles_faults s names ats) ≡ None → map (place_of s (names_with s names m)) ats ≡ map (place_of s final) ats
 same_handles s names final m [] keeps h = refl
 same_handles s names final m (at ∷ ats) keeps h =
     let p = parted (use_fault s names (_) at) (handles_faults s names ats) h in
@@ -89,7 +90,7 @@ same_arg s names final m cut p (arg.Name at) keeps h = ap (λ n. given.Name n) (
 same_arg s names final m cut p (arg.Number n) keeps h = refl
 
 pub same_args : (s : Source) (names final : List Name) (m : Option (ℕ × NameKind)) (cut : RawSizes) (params : List Param) (args : List RawArg) → KeepsNames (names_with s names m) final →
-    length args ≡ length params → first (args_faults s names cut params args) ≡ None → map (arg_of s (names_with s names m)) args ≡ map (arg_of s final) args
+    length args ≡ length params → first_some (args_faults s names cut params args) ≡ None → map (arg_of s (names_with s names m)) args ≡ map (arg_of s final) args
 same_args s names final m cut params [] keeps same h = refl
 same_args s names final m cut [] (a ∷ args) keeps same h = cc
 same_args s names final m cut (p ∷ params) (a ∷ args) keeps same h =
@@ -98,7 +99,7 @@ same_args s names final m cut (p ∷ params) (a ∷ args) keeps same h =
     pair_same (arg_of s (names_with s names m) a) (arg_of s final a) _ _ (same_arg s names final m cut p a keeps r.0) (same_args s names final m cut params args keeps e r.1)
 
 pub same_defer : (s : Source) (names final : List Name) (m : Option (ℕ × NameKind)) (cut : RawSizes) → KeepsNames (names_with s names m) final →
-    first (sizes_faults s names cut) ≡ None → defer_of s (names_with s names m) cut ≡ defer_of s final cut
+    first_some (sizes_faults s names cut) ≡ None → defer_of s (names_with s names m) cut ≡ defer_of s final cut
 same_defer s names final m sizes.None keeps h = refl
 same_defer s names final m (sizes.Length len batch) keeps h = refl
 same_defer s names final m (sizes.Defer list batch) keeps h =

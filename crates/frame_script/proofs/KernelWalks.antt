@@ -11,8 +11,10 @@ use Rattle.frame_grammar.specs.declared.symbols.Event.{Event}
 use Rattle.kernel_code.specs.declared.raw.RawKernel.{RawKernel}
 use Rattle.kernel_code.specs.declared.check.StaticFault.{StaticFault}
 use Rattle.kernel_code.specs.declared.fault.KernelFault.TheVariants.{Refused}
-use Rattle.kernel_code.specs.StaticFaults.{text_at, token_text, token_line, first_fault, fault_if, fault_at, length_fault, lowest, kernel_name_fault, params_fault, or_else, nodes_fault, TellsFault}
-use Rattle.kernel_code.proofs.NoFaults.{or_else-none, fault_at-none, lowest-none, fault_if-none}
+use Rattle.std.specs.Option.{option_or}
+use Rattle.frame_ast.specs.Lists.{some_if}
+use Rattle.kernel_code.specs.StaticFaults.{text_at, token_text, token_line, first_fault, fault_at, length_fault, lowest, kernel_name_fault, params_fault, nodes_fault, TellsFault}
+use Rattle.kernel_code.proofs.NoFaults.{option_or-none, fault_at-none, lowest-none, some_if-none}
 use Rattle.frame_script.specs.declared.fault.LoadFault.{LoadFault}
 use Rattle.frame_script.specs.declared.fault.LoadFault.TheVariants as load
 use Rattle.frame_script.specs.declared.source.Source.{Source}
@@ -42,11 +44,11 @@ called_from text (k ∷ ks) n h =
 pub name_free : (raw : RawKernel) (kernels : List Kernel) (text : List ℕ) → first_fault raw kernels ≡ None → text ≡ text_at raw raw.name → kernel_at kernels text ≡ None
 name_free raw kernels text none is =
     let name = text_at raw raw.name in
-    let first = or_else-none (fault_at raw.name (kernel_name_fault kernels name)) (or_else (params_fault raw 0 raw.params.items) (nodes_fault raw 0 raw.nodes.items)) none in
+    let first = option_or-none (fault_at raw.name (kernel_name_fault kernels name)) (option_or (params_fault raw 0 raw.params.items) (nodes_fault raw 0 raw.nodes.items)) none in
     let clear = fault_at-none raw.name (kernel_name_fault kernels name) first.0 in
     let any = list_any (λ k. bytes_eq (string_bytes k.name) name) kernels in
-    let rest = lowest (fault_if Limit (_)) (length_fault name) in
-    let other : any ≡ false = fault_if-none DuplicateName any ((lowest-none (fault_if DuplicateName any) rest clear).0) in
+    let rest = lowest (some_if (_) Limit) (length_fault name) in
+    let other : any ≡ false = some_if-none any DuplicateName ((lowest-none (some_if any DuplicateName) rest clear).0) in
     subst (λ t. kernel_at kernels t ≡ None) (sym is) (position_from-zero (λ k. bytes_eq name (string_bytes k.name)) kernels ∙ called_from name kernels 0 other)
 
 -- a token of a kernel is one of the file

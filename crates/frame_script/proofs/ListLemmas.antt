@@ -3,8 +3,8 @@ use Rattle.std.proofs.Common.{◌≡◌, ℕ, ◌+◌, ◌<◌, ◌≤◌, List,
 use Rattle.std.proofs.lemmas.List.{map-append, drop_all, take_all}
 use Rattle.std.proofs.Math.Seq.{take-suc}
 use Rattle.kernel_code.specs.declared.check.StaticFault.{StaticFault}
+use Rattle.frame_ast.specs.Lists.{first_some}
 use Rattle.frame_script.specs.declared.fault.OrderFault.{OrderFault}
-use Rattle.frame_script.specs.Faults.{first}
 use Rattle.frame_script.specs.Checks.{Refuses}
 use Rattle.frame_script.proofs.FaultLemmas.{first_next, first_end, refuses_here}
 
@@ -12,17 +12,17 @@ front : {A : Type 0} (f : A → Option StaticFault) (xs : List A) (i : ℕ) (d :
 front f xs i d h = rw (add-one i) (ap (map f) (drop-cons xs i d h))
 
 -- the first fault of all is that of those that are left, past one without a fault
-pub passed_more : {A : Type 0} (f : A → Option StaticFault) (xs : List A) (i : ℕ) (d : A) (all : Option StaticFault) → i < length xs → all ≡ first (map f (drop i xs)) →
-    f (get_or xs i d) ≡ None → all ≡ first (map f (drop (i + 1) xs))
-passed_more f xs i d all h is none = is ∙ (ap first (front f xs i d h) ∙ first_next (f (get_or xs i d)) (map f (drop (i + 1) xs)) none)
+pub passed_more : {A : Type 0} (f : A → Option StaticFault) (xs : List A) (i : ℕ) (d : A) (all : Option StaticFault) → i < length xs → all ≡ first_some (map f (drop i xs)) →
+    f (get_or xs i d) ≡ None → all ≡ first_some (map f (drop (i + 1) xs))
+passed_more f xs i d all h is none = is ∙ (ap first_some (front f xs i d h) ∙ first_next (f (get_or xs i d)) (map f (drop (i + 1) xs)) none)
 
-pub stopped_here : {A : Type 0} (f : A → Option StaticFault) (xs : List A) (i : ℕ) (d : A) (all : Option StaticFault) (e : OrderFault) → i < length xs → all ≡ first (map f (drop i xs)) →
+pub stopped_here : {A : Type 0} (f : A → Option StaticFault) (xs : List A) (i : ℕ) (d : A) (all : Option StaticFault) (e : OrderFault) → i < length xs → all ≡ first_some (map f (drop i xs)) →
     Refuses (f (get_or xs i d)) e → Refuses all e
 stopped_here f xs i d all e h is r =
-    subst (λ o. Refuses o e) (sym (is ∙ ap first (front f xs i d h))) (refuses_here (f (get_or xs i d)) (map f (drop (i + 1) xs)) e r)
+    subst (λ o. Refuses o e) (sym (is ∙ ap first_some (front f xs i d h))) (refuses_here (f (get_or xs i d)) (map f (drop (i + 1) xs)) e r)
 
-pub all_passed : {A : Type 0} (f : A → Option StaticFault) (xs : List A) (i : ℕ) (all : Option StaticFault) → length xs ≤ i → all ≡ first (map f (drop i xs)) → all ≡ None
-all_passed f xs i all h is = is ∙ (ap (λ ys. first (map f ys)) (drop_all i xs h) ∙ first_end)
+pub all_passed : {A : Type 0} (f : A → Option StaticFault) (xs : List A) (i : ℕ) (all : Option StaticFault) → length xs ≤ i → all ≡ first_some (map f (drop i xs)) → all ≡ None
+all_passed f xs i all h is = is ∙ (ap (λ ys. first_some (map f ys)) (drop_all i xs h) ∙ first_end)
 
 -- one more is kept
 pub kept_more : {A B : Type 0} (g : A → B) (xs : List A) (i : ℕ) (d : A) (y : B) (ys : List B) → i < length xs → ys ≡ map g (take i xs) → y ≡ g (get_or xs i d) →

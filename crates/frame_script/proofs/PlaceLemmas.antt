@@ -9,14 +9,14 @@ use Rattle.std.proofs.lemmas.List.{length-map}
 use Rattle.std.proofs.lemmas.List.Folds.{find_at}
 use Rattle.std.proofs.lemmas.Option.{slice_get-map, slice_get-get_or, slice_get_past}
 use Rattle.frame_script.specs.declared.names.Entry.{Entry}
-use Rattle.frame_script.specs.declared.kind.NameKind.{NameKind}
+use Rattle.frame_ast.specs.declared.name_kind.NameKind.{NameKind}
 use Rattle.frame_script.specs.declared.source.Source.{Source}
 use Rattle.frame_script.specs.Names.{Name, place_in, kind_in, with_name, is_called}
 use Rattle.frame_script.specs.Index.{known_of}
 use Rattle.frame_script.specs.Sources.{text_at}
 use Rattle.frame_script.specs.Spelling.{place_of, names_with}
 use Rattle.frame_ast.specs.declared.kernel.FaultKind.TheVariants.{KindMismatch}
-use Rattle.frame_script.specs.Names.{is_among}
+use Rattle.frame_ast.specs.Accepted.{is_among}
 use Rattle.frame_script.specs.Faults.{unless, agrees, remake_fault}
 use Rattle.frame_script.specs.Checks.{IsPlace}
 use Rattle.frame_script.proofs.NameLemmas.{place_in-push}

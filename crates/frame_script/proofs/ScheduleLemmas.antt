@@ -4,12 +4,13 @@ use Rattle.std.specs.List.{slice_get}
 use Rattle.kernel_code.specs.declared.check.StaticFault.{StaticFault}
 use Rattle.frame_ast.specs.declared.kernel.Kernel.{Kernel}
 use Rattle.frame_ast.specs.declared.kernel.FaultKind.TheVariants.{UnknownName}
+use Rattle.frame_ast.specs.Lists.{first_some}
 use Rattle.frame_script.specs.declared.fault.OrderFault.{OrderFault}
 use Rattle.frame_script.specs.declared.raw.RawArg.{RawArg}
 use Rattle.frame_script.specs.declared.raw.RawSizes.{RawSizes}
 use Rattle.frame_script.specs.declared.source.Source.{Source}
 use Rattle.frame_script.specs.Names.{Name}
-use Rattle.frame_script.specs.Faults.{first, scheduled_faults, kernel_in}
+use Rattle.frame_script.specs.Faults.{scheduled_faults, kernel_in}
 use Rattle.frame_script.specs.KernelIndex.{kernel_at}
 use Rattle.frame_script.specs.Checks.{Refuses}
 use Rattle.frame_script.proofs.FaultLemmas.{first_next, first_here, first_none, refuses_next}
@@ -22,19 +23,19 @@ pub kernel_found : (kernels : List Kernel) (text : List ℕ) (place : ℕ) (k : 
 kernel_found kernels text place k h is = sym (found_at _ kernels place (sym h) ∙ is)
 
 pub schedule_unknown : (s : Source) (names : List Name) (o : Option Kernel) (at : ℕ) (args : List RawArg) (sizes : RawSizes) (waive after : List ℕ) (a : Option StaticFault) →
-    a ≡ None → None ≡ o → first (a ∷ scheduled_faults s names o at args sizes waive after) ≡ Some (record { at = at; kind = UnknownName })
+    a ≡ None → None ≡ o → first_some (a ∷ scheduled_faults s names o at args sizes waive after) ≡ Some (record { at = at; kind = UnknownName })
 schedule_unknown s names o at args sizes waive after a none is =
-    subst (λ j. first (a ∷ scheduled_faults s names j at args sizes waive after) ≡ Some (record { at = at; kind = UnknownName })) is
+    subst (λ j. first_some (a ∷ scheduled_faults s names j at args sizes waive after) ≡ Some (record { at = at; kind = UnknownName })) is
     (first_next a _ none ∙ first_here _ [] _ refl)
 
 pub schedule_refused : (s : Source) (names : List Name) (o : Option Kernel) (k : Kernel) (at : ℕ) (args : List RawArg) (sizes : RawSizes) (waive after : List ℕ) (a : Option StaticFault) (e : OrderFault) →
-    a ≡ None → Some k ≡ o → Refuses (first (scheduled_faults s names (Some k) at args sizes waive after)) e →
-    Refuses (first (a ∷ scheduled_faults s names o at args sizes waive after)) e
+    a ≡ None → Some k ≡ o → Refuses (first_some (scheduled_faults s names (Some k) at args sizes waive after)) e →
+    Refuses (first_some (a ∷ scheduled_faults s names o at args sizes waive after)) e
 schedule_refused s names o k at args sizes waive after a e none is r =
-    subst (λ j. Refuses (first (a ∷ scheduled_faults s names j at args sizes waive after)) e) is (refuses_next a _ e none r)
+    subst (λ j. Refuses (first_some (a ∷ scheduled_faults s names j at args sizes waive after)) e) is (refuses_next a _ e none r)
 
 pub schedule_good : (s : Source) (names : List Name) (o : Option Kernel) (k : Kernel) (at : ℕ) (args : List RawArg) (sizes : RawSizes) (waive after : List ℕ) (a : Option StaticFault) →
-    a ≡ None → Some k ≡ o → first (scheduled_faults s names (Some k) at args sizes waive after) ≡ None →
-    first (a ∷ scheduled_faults s names o at args sizes waive after) ≡ None
+    a ≡ None → Some k ≡ o → first_some (scheduled_faults s names (Some k) at args sizes waive after) ≡ None →
+    first_some (a ∷ scheduled_faults s names o at args sizes waive after) ≡ None
 schedule_good s names o k at args sizes waive after a none is r =
-    subst (λ j. first (a ∷ scheduled_faults s names j at args sizes waive after) ≡ None) is (first_none a _ none r)
+    subst (λ j. first_some (a ∷ scheduled_faults s names j at args sizes waive after) ≡ None) is (first_none a _ none r)

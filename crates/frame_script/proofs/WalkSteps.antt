@@ -6,6 +6,7 @@ use Rattle.frame_grammar.specs.declared.symbols.Action.{Action}
 use Rattle.frame_grammar.specs.declared.symbols.Event.{Event}
 use Rattle.kernel_code.specs.declared.check.StaticFault.{StaticFault}
 use Rattle.kernel_code.specs.Legible.{NamesAreText}
+use Rattle.frame_ast.specs.Lists.{first_some}
 use Rattle.frame_script.specs.declared.fault.OrderFault.{OrderFault}
 use Rattle.frame_script.specs.declared.fault.OrderFault.TheVariants.{Refused, NoMemory}
 use Rattle.frame_script.specs.declared.raw.RawOrder.{RawOrder}
@@ -13,7 +14,7 @@ use Rattle.frame_script.specs.declared.source.Source.{Source}
 use Rattle.frame_script.specs.declared.walk.Walk.{Walk}
 use Rattle.frame_script.specs.Raw.{OrderForm, Repeat, When, RawItems, Nothing, Kernel, Single, Block, KernelForm, closing, form_of, SpellsItems, kernel}
 use Rattle.frame_script.specs.Items.{SpellsOpen, outside, inside, LeadsKernel, LeadsSingle, LeadsBlock, LeadsOut}
-use Rattle.frame_script.specs.Faults.{first, order_faults}
+use Rattle.frame_script.specs.Faults.{order_faults}
 use Rattle.frame_script.specs.Checks.{Refuses}
 use Rattle.frame_script.specs.Files.{HasFault, at_start, in_kernel, in_single, in_head}
 use Rattle.frame_script.specs.Walking.{AddsKernel, RefusesKernel, Tells, scope_of, IsAt, TakesSingle, Takes, Leaves, IsWalking, RefusesItems}
@@ -67,7 +68,7 @@ taken_single s at (Repeat n) old new no_block t = absurd cc
 taken_single s at (When name test value) old new no_block t = absurd cc
 taken_single s at _ old new no_block t = t
 
-taken_block : (s : Source) (whole inner more : RawItems) (rest : List RawItems) (at : ℕ) (head : OrderForm) (end : Action) (old new : Walk) → closing head ≡ Some end → first (order_faults s (scope_of old) at head) ≡ None →
+taken_block : (s : Source) (whole inner more : RawItems) (rest : List RawItems) (at : ℕ) (head : OrderForm) (end : Action) (old new : Walk) → closing head ≡ Some end → first_some (order_faults s (scope_of old) at head) ≡ None →
     Takes s at head old new → IsAt s whole old (Block at head inner more ∷ rest) → IsAt s whole new (inner ∷ more ∷ rest)
 taken_block s whole inner more rest at (Repeat n) end old new closes none t is = into_a_repeat s whole inner more rest at n old new none t is
 taken_block s whole inner more rest at (When name test value) end old new closes none t is = into_a_when s whole inner more rest at name test value old new none t is
@@ -75,7 +76,7 @@ taken_block s whole inner more rest at _ end old new closes none t is = absurd c
 
 pub went_past_order : (s : Source) (events : List Event) (at place : ℕ) (order : RawOrder) (next : ℕ) (w new : Walk) → NamesAreText s.bytes.now s.tokens.now → (g : IsWalking s events at w) →
     LeadsSingle events place order next g.left ⊎ LeadsBlock events place order next g.left →
-    first (order_faults s (scope_of w) place (form_of order)) ≡ None → Takes s place (form_of order) w new → IsWalking s events next new
+    first_some (order_faults s (scope_of w) place (form_of order)) ≡ None → Takes s place (form_of order) w new → IsWalking s events next new
 went_past_order s events at place order next w new texts g (inl one) none t = record {
   whole = g.whole;
   spells = g.spells;
@@ -93,7 +94,7 @@ went_past_order s events at place order next w new texts g (inr block) none t = 
 
 order_fault : (s : Source) (events : List Event) (at place : ℕ) (order : RawOrder) (next : ℕ) (w : Walk) (fault : StaticFault) (g : IsWalking s events at w) →
     LeadsSingle events place order next g.left ⊎ LeadsBlock events place order next g.left →
-    first (order_faults s (scope_of w) place (form_of order)) ≡ Some fault → HasFault s fault at_start g.whole
+    first_some (order_faults s (scope_of w) place (form_of order)) ≡ Some fault → HasFault s fault at_start g.whole
 order_fault s events at place order next w fault g (inl one) found =
     let here : IsAt s g.whole w (Single place (form_of order) one.more ∷ one.around) = subst (IsAt s g.whole w) one.items_are g.is in
     here.faulty fault (fault_here s fault (scope_of w) _ (Single place (form_of order) one.more) one.around (in_single found))
@@ -103,7 +104,7 @@ order_fault s events at place order next w fault g (inr block) found =
 
 pub refused_in_order : (s : Source) (events : List Event) (at place : ℕ) (order : RawOrder) (next : ℕ) (w : Walk) (fault : OrderFault) (line : ℕ) (kind : FaultKind) (g : IsWalking s events at w) →
     LeadsSingle events place order next g.left ⊎ LeadsBlock events place order next g.left →
-    Refuses (first (order_faults s (scope_of w) place (form_of order))) fault → Tells s fault line kind → RefusesItems s events line kind
+    Refuses (first_some (order_faults s (scope_of w) place (form_of order))) fault → Tells s fault line kind → RefusesItems s events line kind
 refused_in_order s events at place order next w NoMemory line kind g leads refuses tells = absurd tells
 refused_in_order s events at place order next w (Refused fault) line kind g leads refuses tells = record {
   whole = g.whole;

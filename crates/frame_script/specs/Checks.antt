@@ -1,7 +1,8 @@
 -- What the check of a part of a statement answers: its first fault, or what it says.
 use Rattle.std.specs.Prelude.{◌≡◌, ℕ, map, Bool, true, false, List, [], Option, Some, None, Result, MatchResult}
 use Rattle.kernel_code.specs.declared.check.StaticFault.{StaticFault}
-use Rattle.frame_script.specs.declared.kind.NameKind.{NameKind}
+use Rattle.frame_ast.specs.declared.name_kind.NameKind.{NameKind}
+use Rattle.frame_ast.specs.Lists.{first_some}
 use Rattle.frame_script.specs.declared.source.Source.{Source}
 use Rattle.frame_script.specs.Names.{Name}
 use Rattle.frame_ast.specs.declared.script.Arg.{Arg}
@@ -12,7 +13,7 @@ use Rattle.frame_script.specs.declared.raw.RawSizes.{RawSizes}
 use Rattle.frame_ast.specs.declared.kernel.Kernel.{Kernel}
 use Rattle.frame_ast.specs.declared.script.Order.{Order}
 use Rattle.frame_script.specs.Raw.{OrderForm}
-use Rattle.frame_script.specs.Faults.{Scope, first, order_faults}
+use Rattle.frame_script.specs.Faults.{Scope, order_faults}
 use Rattle.frame_script.specs.Spelling.{place_of, names_with, names_after, arg_of, defer_of, Says}
 use Rattle.frame_script.specs.declared.fault.OrderFault.{OrderFault}
 use Rattle.frame_script.specs.declared.fault.OrderFault.TheVariants.{Refused, NoMemory}
@@ -37,7 +38,8 @@ ArePlaces s names ats places = (m : Option (ℕ × NameKind)) → places ≡ map
 -- the check of a statement
 
 abbrev pub Checked : Source → Scope → (literals at : ℕ) → OrderForm → Result Order OrderFault → Type 0
-Checked s c literals at form = Gives (first (order_faults s c at form)) (Says s (names_after s c.names form) c.kernels literals 0 form)
+Checked s c literals at form =
+    Gives (first_some (order_faults s c at form)) (Says s (names_after s c.names form) c.kernels literals 0 form)
 
 -- names alone
 abbrev pub bare : List Name → Scope

@@ -1,6 +1,7 @@
 -- The first static fault of a file, and the script that it spells.
 use Rattle.std.specs.Prelude.{◌≡◌, ℕ, zero, suc, ◌+◌, Bool, true, false, ◌||◌, ℤ, List, [], ◌∷◌, ◌++◌, length, map, Option, None, Some, string_bytes}
 use Rattle.frame_grammar.specs.declared.symbols.Event.{Event}
+use Rattle.job_base.specs.declared.limits.TheConstants.{MOST_STATEMENTS, MOST_TESTS}
 use Rattle.kernel_code.specs.declared.raw.RawKernel.{RawKernel}
 use Rattle.kernel_code.specs.declared.check.StaticFault.{StaticFault}
 use Rattle.kernel_code.specs.Raw.{SpellsRaw}
@@ -9,11 +10,12 @@ use Rattle.kernel_code.specs.Trees.{IsKernelOf}
 use Rattle.frame_ast.specs.declared.kernel.Kernel.{Kernel as CheckedKernel}
 use Rattle.frame_ast.specs.declared.script.Statement.{Statement}
 use Rattle.frame_ast.specs.declared.script.Script.{Script}
+use Rattle.frame_ast.specs.Lists.{first_some}
 use Rattle.frame_script.specs.declared.source.Source.{Source}
 use Rattle.frame_script.specs.Raw.{RawItems, Nothing, Kernel, Single, Block, KernelForm, OrderForm, NewArray, When, Repeat}
 use Rattle.frame_script.specs.Sources.{line_at, number_at, signed_at}
 use Rattle.frame_script.specs.Names.{Name as Known}
-use Rattle.frame_script.specs.Faults.{Scope, first, order_faults}
+use Rattle.frame_script.specs.Faults.{Scope, order_faults}
 use Rattle.frame_script.specs.Spelling.{Says, names_after}
 
 -- FAULTS
@@ -49,16 +51,17 @@ pub record IsRawOf (s : Source) (events : List Event) (raw : RawKernel) : Type 0
 -- no item has a fault, and behind them this is known
 pub data IsFaultless (s : Source) : Scope → RawItems → Scope → Type 0 where
   nothing : {c : Scope} → IsFaultless s c Nothing c
-  kernel : {c end : Scope} {events : List Event} {form : KernelForm} {more : RawItems} (raw : RawKernel) (k : CheckedKernel) →
+  kernel : {c end : Scope} {events : List Event} {form : KernelForm} {more : RawItems} (raw : RawKernel)
+      (k : CheckedKernel) →
       IsRawOf s events raw → first_fault raw c.kernels ≡ None → IsKernelOf raw k →
       IsFaultless s (after_kernel c k) more end →
       IsFaultless s c (Kernel events form more) end
   single : {c end : Scope} {at : ℕ} {order : OrderForm} {more : RawItems} →
-      first (order_faults s c at order) ≡ None →
+      first_some (order_faults s c at order) ≡ None →
       IsFaultless s (after_order s c order) more end →
       IsFaultless s c (Single at order more) end
   block : {c end : Scope} {at : ℕ} {head : OrderForm} {inner more : RawItems} (last : Scope) →
-      first (order_faults s c at head) ≡ None →
+      first_some (order_faults s c at head) ≡ None →
       IsFaultless s (in_block c head) inner last →
       IsFaultless s (after_block c last) more end →
       IsFaultless s c (Block at head inner more) end
@@ -68,26 +71,27 @@ pub data HasFault (s : Source) (fault : StaticFault) : Scope → RawItems → Ty
   in_kernel : {c : Scope} {events : List Event} {form : KernelForm} {more : RawItems} (raw : RawKernel) →
       IsRawOf s events raw → first_fault raw c.kernels ≡ Some fault →
       HasFault s fault c (Kernel events form more)
-  behind_kernel : {c : Scope} {events : List Event} {form : KernelForm} {more : RawItems} (raw : RawKernel) (k : CheckedKernel) →
+  behind_kernel : {c : Scope} {events : List Event} {form : KernelForm} {more : RawItems} (raw : RawKernel)
+      (k : CheckedKernel) →
       IsRawOf s events raw → first_fault raw c.kernels ≡ None → IsKernelOf raw k →
       HasFault s fault (after_kernel c k) more →
       HasFault s fault c (Kernel events form more)
   in_single : {c : Scope} {at : ℕ} {order : OrderForm} {more : RawItems} →
-      first (order_faults s c at order) ≡ Some fault →
+      first_some (order_faults s c at order) ≡ Some fault →
       HasFault s fault c (Single at order more)
   behind_single : {c : Scope} {at : ℕ} {order : OrderForm} {more : RawItems} →
-      first (order_faults s c at order) ≡ None →
+      first_some (order_faults s c at order) ≡ None →
       HasFault s fault (after_order s c order) more →
       HasFault s fault c (Single at order more)
   in_head : {c : Scope} {at : ℕ} {head : OrderForm} {inner more : RawItems} →
-      first (order_faults s c at head) ≡ Some fault →
+      first_some (order_faults s c at head) ≡ Some fault →
       HasFault s fault c (Block at head inner more)
   in_inner : {c : Scope} {at : ℕ} {head : OrderForm} {inner more : RawItems} →
-      first (order_faults s c at head) ≡ None →
+      first_some (order_faults s c at head) ≡ None →
       HasFault s fault (in_block c head) inner →
       HasFault s fault c (Block at head inner more)
   behind_block : {c : Scope} {at : ℕ} {head : OrderForm} {inner more : RawItems} (last : Scope) →
-      first (order_faults s c at head) ≡ None →
+      first_some (order_faults s c at head) ≡ None →
       IsFaultless s (in_block c head) inner last →
       HasFault s fault (after_block c last) more →
       HasFault s fault c (Block at head inner more)
@@ -113,15 +117,17 @@ Repeated (suc n) Is statements =
     (one rest : List Statement) × (statements ≡ one ++ rest) × Is one × Repeated n Is rest
 
 -- the statement of a text, on the line of its first token
-pub record IsStatement (s : Source) (names : List Known) (kernels : List CheckedKernel) (literals count at : ℕ) (form : OrderForm) (x : Statement) : Type 0 where
+pub record IsStatement (s : Source) (names : List Known) (kernels : List CheckedKernel) (literals count at : ℕ)
+    (form : OrderForm) (x : Statement) : Type 0 where
   pub line : x.line ≡ line_at s at
   pub says : Says s names kernels literals count form x.act
 
--- The statements that items stand for, where so many lists of values stand before them. A `repeat` stands for as many copies of its block
--- as it says; a `when` is a statement, and those of its block follow it.
+-- The statements that items stand for, where so many lists of values stand before them. A `repeat` stands for as many
+-- copies of its block as it says; a `when` is a statement, and those of its block follow it.
 abbrev pub StandFor : Source → List Known → List CheckedKernel → ℕ → RawItems → List Statement → Type 0
 StandFor s names kernels literals Nothing statements = statements ≡ []
-StandFor s names kernels literals (Kernel events form more) statements = StandFor s names kernels literals more statements
+StandFor s names kernels literals (Kernel events form more) statements =
+    StandFor s names kernels literals more statements
 StandFor s names kernels literals (Single at order more) statements =
     (x : Statement) × (rest : List Statement) × (statements ≡ x ∷ rest)
     × IsStatement s names kernels literals 0 at order x
@@ -155,15 +161,20 @@ marks_of s (Single at order more) = record { at = at; tested = false } ∷ marks
 marks_of s (Block at (Repeat n) inner more) = copies_of (number_at s n) (marks_of s inner) ++ marks_of s more
 marks_of s (Block at head inner more) = record { at = at; tested = true } ∷ marks_of s inner ++ marks_of s more
 
--- the place of the first statement for which there is no room, with room for so many statements and so many `when` among them
+-- the place of the first statement for which there is no room, with room for so many statements and so many `when`
+-- among them
 abbrev pub excess : (room tests : ℕ) → List Mark → Option ℕ
 excess room tests [] = None
 excess zero tests (m ∷ more) = Some m.at
-excess (suc room) tests (m ∷ more) = elim m.tested [ false ↦ excess room tests more | true ↦ elim tests [ zero ↦ Some m.at | suc left ↦ excess room left more ] ]
+excess (suc room) tests (m ∷ more) =
+    elim m.tested [
+      | false ↦ excess room tests more
+      | true ↦ elim tests [ zero ↦ Some m.at | suc left ↦ excess room left more ]
+    ]
 
 -- the place of the first statement too many
 abbrev pub too_long : Source → RawItems → Option ℕ
-too_long s items = excess 65536 1024 (marks_of s items)
+too_long s items = excess MOST_STATEMENTS MOST_TESTS (marks_of s items)
 
 -- SCRIPTS
 

@@ -8,11 +8,12 @@ use Rattle.frame_script.specs.declared.build_item.RawItem.{RawItem}
 use Rattle.frame_script.specs.declared.build_item.RawItem.TheVariants as item
 use Rattle.frame_script.specs.Raw.{OrderForm, KernelForm, RawItems, Nothing, Kernel, Single, Block, closing, form_of, SpellsKernel, SpellsItems}
 
--- What events spell where blocks are open: what is left of the items of the innermost block, of the one around it, and so on, and last of
--- the items outside blocks.
+-- What events spell where blocks are open: what is left of the items of the innermost block, of the one around it, and
+-- so on, and last of the items outside blocks.
 pub data SpellsOpen : List Event → List RawItems → Type 0 where
   outside : {events : List Event} {items : RawItems} → SpellsItems true events items → SpellsOpen events (items ∷ [])
-  inside : {events : List Event} {items around : RawItems} {more : List RawItems} (end : Action) (q : ℕ) (head : OrderForm) (is rest : List Event) →
+  inside : {events : List Event} {items around : RawItems} {more : List RawItems} (end : Action) (q : ℕ)
+      (head : OrderForm) (is rest : List Event) →
       closing head ≡ Some end → SpellsItems false is items → SpellsOpen rest (around ∷ more) →
       events ≡ is ++ on end q ∷ rest →
       SpellsOpen events (items ∷ around ∷ more)
@@ -29,7 +30,8 @@ pub record LeadsKernel (all : List Event) (at next : ℕ) (items : List RawItems
   pub left : SpellsOpen (drop next all) (more ∷ around)
 
 -- this statement without a block comes first
-pub record LeadsSingle (all : List Event) (first : ℕ) (order : RawOrder) (next : ℕ) (items : List RawItems) : Type 0 where
+pub record LeadsSingle (all : List Event) (first : ℕ) (order : RawOrder) (next : ℕ)
+    (items : List RawItems) : Type 0 where
   pub more : RawItems
   pub around : List RawItems
   pub no_block : closing (form_of order) ≡ None
@@ -37,7 +39,8 @@ pub record LeadsSingle (all : List Event) (first : ℕ) (order : RawOrder) (next
   pub left : SpellsOpen (drop next all) (more ∷ around)
 
 -- this statement with a block comes first, and its block is open behind it
-pub record LeadsBlock (all : List Event) (first : ℕ) (order : RawOrder) (next : ℕ) (items : List RawItems) : Type 0 where
+pub record LeadsBlock (all : List Event) (first : ℕ) (order : RawOrder) (next : ℕ)
+    (items : List RawItems) : Type 0 where
   pub end : Action
   pub inner : RawItems
   pub more : RawItems

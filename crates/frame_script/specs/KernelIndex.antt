@@ -5,6 +5,7 @@ use Rattle.std.specs.Ordering.{nat_cmp}
 use Rattle.std.specs.Str.{bytes_eq}
 use Rattle.std.specs.BTreeMap.{BTreeMap, get_by}
 use Rattle.std.specs.Borrow.{Bor}
+use Rattle.job_base.specs.declared.limits.TheConstants.{MOST_PARAMS}
 use Rattle.frame_ast.specs.declared.kernel.Kernel.{Kernel}
 use Rattle.frame_ast.specs.Checked.{body_nodes, body_depth}
 use Rattle.frame_script.specs.declared.kernels.Size.{Size}
@@ -19,5 +20,5 @@ size_of k = record { nodes = body_nodes k.body.statements.items; depth = body_de
 pub record IsKernelIndex (places : BTreeMap (Bor (List ℕ)) ℕ) (kernels : List Kernel) (sizes : List Size) : Type 0 where
   pub few : length kernels < 2 ^ 32
   pub finds : (text : List ℕ) → get_by (λ k. slice_cmp nat_cmp text k.now) places ≡ kernel_at kernels text
-  pub small : (place : ℕ) (k : Kernel) → slice_get kernels place ≡ Some k → length k.params.items ≤ 16
+  pub small : (place : ℕ) (k : Kernel) → slice_get kernels place ≡ Some k → length k.params.items ≤ MOST_PARAMS
   pub sized : sizes ≡ map size_of kernels

@@ -65,7 +65,8 @@ form_of (raw.Put name key value) = Put name key value
 form_of (raw.Remove name at) = Remove name at
 form_of (raw.Clear name) = Clear name
 form_of (raw.SetCapacity name cap) = SetCapacity name cap
-form_of (raw.Schedule auto handle kernel args sizes waive after) = Schedule auto handle kernel args.items sizes waive.items after.items
+form_of (raw.Schedule auto handle kernel args sizes waive after) =
+    Schedule auto handle kernel args.items sizes waive.items after.items
 form_of (raw.Combine name of) = Combine name of.items
 form_of (raw.Complete auto name) = Complete auto name
 form_of (raw.Dispose name after handle) = Dispose name after.items handle
@@ -83,8 +84,9 @@ pub record KernelForm : Type 0 where
   pub params : List RawParam
   pub body : RawBlock
 
--- Items: none, or a first one and those behind it. An item is a kernel, which these events spell; a statement with its first token; or
--- one of `repeat` and `when` with its first token, what stands before its brace, and the statements inside.
+-- Items: none, or a first one and those behind it. An item is a kernel, which these events spell; a statement with its
+-- first token; or one of `repeat` and `when` with its first token, what stands before its brace, and the statements
+-- inside.
 pub data RawItems : Type 0 where
   Nothing : RawItems
   Kernel : List Event → KernelForm → RawItems → RawItems
@@ -123,7 +125,8 @@ pub data SpellsNumbers : List Event → List RawNumber → Type 0 where
   none : {events : List Event} →
       events ≡ [] →
       SpellsNumbers events []
-  also : {events : List Event} (es rest : List Event) {n : RawNumber} {ns : List RawNumber} → SpellsSigned es n → SpellsNumbers rest ns →
+  also : {events : List Event} (es rest : List Event) {n : RawNumber} {ns : List RawNumber} → SpellsSigned es n →
+      SpellsNumbers rest ns →
       events ≡ es ++ rest →
       SpellsNumbers events (n ∷ ns)
 
@@ -132,7 +135,8 @@ pub data SpellsValues : List Event → Option (List RawNumber) → Type 0 where
   none : {events : List Event} (q : ℕ) →
       events ≡ on action.NoValues q ∷ [] →
       SpellsValues events None
-  some : {events : List Event} (o q : ℕ) (es : List Event) {n : RawNumber} {ns : List RawNumber} → SpellsNumbers es (n ∷ ns) →
+  some : {events : List Event} (o q : ℕ) (es : List Event) {n : RawNumber} {ns : List RawNumber} →
+      SpellsNumbers es (n ∷ ns) →
       events ≡ on action.OpenValues o ∷ es ++ on action.CloseValues q ∷ [] →
       SpellsValues events (Some (n ∷ ns))
 
@@ -154,7 +158,8 @@ pub data SpellsArgs : List Event → List RawArg → Type 0 where
   none : {events : List Event} →
       events ≡ [] →
       SpellsArgs events []
-  also : {events : List Event} (es rest : List Event) {a : RawArg} {as' : List RawArg} → SpellsArg es a → SpellsArgs rest as' →
+  also : {events : List Event} (es rest : List Event) {a : RawArg} {as' : List RawArg} → SpellsArg es a →
+      SpellsArgs rest as' →
       events ≡ es ++ rest →
       SpellsArgs events (a ∷ as')
 
@@ -196,7 +201,8 @@ auto_action false = action.NotAuto
 
 -- the events that spell a statement, behind its start; of `repeat` and `when`, up to the opening of the block
 pub data SpellsOrder : List Event → OrderForm → Type 0 where
-  array : {events : List Event} {x n : ℕ} {life : Life} {values : Option (List RawNumber)} (a : Action) (p q : ℕ) (vs : List Event) → SpellsLife a life → SpellsValues vs values →
+  array : {events : List Event} {x n : ℕ} {life : Life} {values : Option (List RawNumber)} (a : Action) (p q : ℕ)
+      (vs : List Event) → SpellsLife a life → SpellsValues vs values →
       events ≡ on action.Name x ∷ on action.Number n ∷ on a p ∷ vs ++ on action.ArrayStatement q ∷ [] →
       SpellsOrder events (NewArray x n life values)
   column : {events : List Event} {x n : ℕ} {life : Life} (a : Action) (p q : ℕ) → SpellsLife a life →
@@ -205,7 +211,8 @@ pub data SpellsOrder : List Event → OrderForm → Type 0 where
   list : {events : List Event} {x n : ℕ} {life : Life} (a : Action) (p q : ℕ) → SpellsLife a life →
       events ≡ on action.Name x ∷ on action.Number n ∷ on a p ∷ on action.ListStatement q ∷ [] →
       SpellsOrder events (NewList x n life)
-  reference : {events : List Event} {x : ℕ} {life : Life} {value : Option RawNumber} (a : Action) (p q : ℕ) (vs : List Event) → SpellsLife a life → SpellsMaybe vs value →
+  reference : {events : List Event} {x : ℕ} {life : Life} {value : Option RawNumber} (a : Action) (p q : ℕ)
+      (vs : List Event) → SpellsLife a life → SpellsMaybe vs value →
       events ≡ on action.Name x ∷ on a p ∷ vs ++ on action.ReferenceStatement q ∷ [] →
       SpellsOrder events (NewReference x life value)
   mapped : {events : List Event} {x n : ℕ} {life : Life} (a : Action) (p q : ℕ) → SpellsLife a life →
@@ -215,7 +222,8 @@ pub data SpellsOrder : List Event → OrderForm → Type 0 where
       events ≡ on action.Name x ∷ on action.Number n ∷ on action.Number m ∷ on a p ∷ on action.StreamStatement q ∷ [] →
       SpellsOrder events (NewStream x n m life)
   slice : {events : List Event} {x y n m : ℕ} (q : ℕ) →
-      events ≡ on action.Name x ∷ on action.Name y ∷ on action.Number n ∷ on action.Number m ∷ on action.SliceStatement q ∷ [] →
+      events ≡ on action.Name x ∷ on action.Name y ∷ on action.Number n ∷ on action.Number m
+      ∷ on action.SliceStatement q ∷ [] →
       SpellsOrder events (Slice x y n m)
   view : {events : List Event} {x y : ℕ} (q : ℕ) →
       events ≡ on action.Name x ∷ on action.Name y ∷ on action.ViewStatement q ∷ [] →
@@ -223,13 +231,16 @@ pub data SpellsOrder : List Event → OrderForm → Type 0 where
   copy : {events : List Event} {x y : ℕ} (q : ℕ) →
       events ≡ on action.Name x ∷ on action.Name y ∷ on action.CopyStatement q ∷ [] →
       SpellsOrder events (Copy x y)
-  set : {events : List Event} {x : ℕ} {at : Option RawNumber} {value : RawNumber} (q : ℕ) (is vs : List Event) → SpellsMaybe is at → SpellsSigned vs value →
+  set : {events : List Event} {x : ℕ} {at : Option RawNumber} {value : RawNumber} (q : ℕ) (is vs : List Event) →
+      SpellsMaybe is at → SpellsSigned vs value →
       events ≡ on action.Name x ∷ is ++ (vs ++ on action.SetStatement q ∷ []) →
       SpellsOrder events (Set x at value)
-  add : {events : List Event} {x : ℕ} {first : RawNumber} {second : Option RawNumber} (q : ℕ) (is vs : List Event) → SpellsSigned is first → SpellsMaybe vs second →
+  add : {events : List Event} {x : ℕ} {first : RawNumber} {second : Option RawNumber} (q : ℕ) (is vs : List Event) →
+      SpellsSigned is first → SpellsMaybe vs second →
       events ≡ on action.Name x ∷ is ++ (vs ++ on action.AddToStatement q ∷ []) →
       SpellsOrder events (Add x first second)
-  put : {events : List Event} {x : ℕ} {key value : RawNumber} (q : ℕ) (is vs : List Event) → SpellsSigned is key → SpellsSigned vs value →
+  put : {events : List Event} {x : ℕ} {key value : RawNumber} (q : ℕ) (is vs : List Event) → SpellsSigned is key →
+      SpellsSigned vs value →
       events ≡ on action.Name x ∷ is ++ (vs ++ on action.PutStatement q ∷ []) →
       SpellsOrder events (Put x key value)
   remove : {events : List Event} {x : ℕ} {at : RawNumber} (q : ℕ) (is : List Event) → SpellsSigned is at →
@@ -241,7 +252,8 @@ pub data SpellsOrder : List Event → OrderForm → Type 0 where
   set_capacity : {events : List Event} {x n : ℕ} (q : ℕ) →
       events ≡ on action.Name x ∷ on action.Number n ∷ on action.SetCapacityStatement q ∷ [] →
       SpellsOrder events (SetCapacity x n)
-  schedule : {events : List Event} {auto : Bool} {h k : ℕ} {args : List RawArg} {cut : RawSizes} {waive after : List ℕ} (u o c q : ℕ) (as' ss ws fs : List Event) →
+  schedule : {events : List Event} {auto : Bool} {h k : ℕ} {args : List RawArg} {cut : RawSizes} {waive after : List ℕ}
+      (u o c q : ℕ) (as' ss ws fs : List Event) →
       SpellsArgs as' args → SpellsSizes ss cut → SpellsWaived ws waive → SpellsAfter fs after →
       events ≡ on (auto_action auto) u ∷ on action.Name h ∷ on action.Name k ∷ on action.OpenArguments o
       ∷ as' ++ (on action.CloseArguments c ∷ ss ++ (ws ++ (fs ++ on action.ScheduleStatement q ∷ []))) →
@@ -256,7 +268,8 @@ pub data SpellsOrder : List Event → OrderForm → Type 0 where
       events ≡ on action.Name x ∷ on action.DisposeStatement q ∷ [] →
       SpellsOrder events (Dispose x [] None)
   dispose_after : {events : List Event} {x y h : ℕ} {ys : List ℕ} (o a q : ℕ) →
-      events ≡ on action.Name x ∷ on action.OpenNames o ∷ names_events (y ∷ ys) ++ on action.After a ∷ on action.Name h ∷ on action.DisposeAfterStatement q ∷ [] →
+      events ≡ on action.Name x ∷ on action.OpenNames o ∷ names_events (y ∷ ys) ++ on action.After a ∷ on action.Name h
+      ∷ on action.DisposeAfterStatement q ∷ [] →
       SpellsOrder events (Dispose x (y ∷ ys) (Some h))
   dispose_auto : {events : List Event} {x h : ℕ} (q : ℕ) →
       events ≡ on action.Name x ∷ on action.Name h ∷ on action.DisposeAutoStatement q ∷ [] →
@@ -318,13 +331,17 @@ pub data SpellsItems : (outside : Bool) → List Event → RawItems → Type 0 w
   nothing : {outside : Bool} {events : List Event} →
       events ≡ [] →
       SpellsItems outside events Nothing
-  kernel : {events : List Event} {es : List Event} {k : KernelForm} (rest : List Event) {more : RawItems} → SpellsKernel es k → SpellsItems true rest more →
+  kernel : {events : List Event} {es : List Event} {k : KernelForm} (rest : List Event) {more : RawItems} →
+      SpellsKernel es k → SpellsItems true rest more →
       events ≡ es ++ rest →
       SpellsItems true events (Kernel es k more)
-  single : {outside : Bool} {events : List Event} {at : ℕ} {order : OrderForm} (es rest : List Event) {more : RawItems} → SpellsOrder es order → closing order ≡ None → SpellsItems outside rest more →
+  single : {outside : Bool} {events : List Event} {at : ℕ} {order : OrderForm}
+      (es rest : List Event) {more : RawItems} → SpellsOrder es order → closing order ≡ None →
+      SpellsItems outside rest more →
       events ≡ on action.StartStatement at ∷ es ++ rest →
       SpellsItems outside events (Single at order more)
-  block : {outside : Bool} {events : List Event} {at : ℕ} {head : OrderForm} (end : Action) (q : ℕ) (hs is rest : List Event) {inner more : RawItems} →
+  block : {outside : Bool} {events : List Event} {at : ℕ} {head : OrderForm} (end : Action) (q : ℕ)
+      (hs is rest : List Event) {inner more : RawItems} →
       SpellsOrder hs head → closing head ≡ Some end → SpellsItems false is inner → SpellsItems outside rest more →
       events ≡ on action.StartStatement at ∷ hs ++ (is ++ on end q ∷ rest) →
       SpellsItems outside events (Block at head inner more)
@@ -380,40 +397,53 @@ IsTest _ = ⊥
 
 -- each place that a statement tells is that of a token of its kind
 abbrev pub OrderStands : List TokenKind → OrderForm → Type 0
-OrderStands kinds (NewArray x n life values) = Stands kinds token.Name x × Stands kinds token.Number n × ValuesStand kinds values
+OrderStands kinds (NewArray x n life values) =
+    Stands kinds token.Name x × Stands kinds token.Number n × ValuesStand kinds values
 OrderStands kinds (NewColumn x n life) = Stands kinds token.Name x × Stands kinds token.Text n
 OrderStands kinds (NewList x n life) = Stands kinds token.Name x × Stands kinds token.Number n
 OrderStands kinds (NewReference x life value) = Stands kinds token.Name x × MaybeStands kinds value
 OrderStands kinds (NewMap x n life) = Stands kinds token.Name x × Stands kinds token.Number n
-OrderStands kinds (NewStream x n m life) = Stands kinds token.Name x × Stands kinds token.Number n × Stands kinds token.Number m
-OrderStands kinds (Slice x y n m) = Stands kinds token.Name x × Stands kinds token.Name y × Stands kinds token.Number n × Stands kinds token.Number m
+OrderStands kinds (NewStream x n m life) =
+    Stands kinds token.Name x × Stands kinds token.Number n × Stands kinds token.Number m
+OrderStands kinds (Slice x y n m) =
+    Stands kinds token.Name x × Stands kinds token.Name y × Stands kinds token.Number n × Stands kinds token.Number m
 OrderStands kinds (View x y) = Stands kinds token.Name x × Stands kinds token.Name y
 OrderStands kinds (Copy x y) = Stands kinds token.Name x × Stands kinds token.Name y
-OrderStands kinds (Set x at value) = Stands kinds token.Name x × MaybeStands kinds at × Stands kinds token.Number value.at
-OrderStands kinds (Add x first second) = Stands kinds token.Name x × Stands kinds token.Number first.at × MaybeStands kinds second
-OrderStands kinds (Put x key value) = Stands kinds token.Name x × Stands kinds token.Number key.at × Stands kinds token.Number value.at
+OrderStands kinds (Set x at value) =
+    Stands kinds token.Name x × MaybeStands kinds at × Stands kinds token.Number value.at
+OrderStands kinds (Add x first second) =
+    Stands kinds token.Name x × Stands kinds token.Number first.at × MaybeStands kinds second
+OrderStands kinds (Put x key value) =
+    Stands kinds token.Name x × Stands kinds token.Number key.at × Stands kinds token.Number value.at
 OrderStands kinds (Remove x at) = Stands kinds token.Name x × Stands kinds token.Number at.at
 OrderStands kinds (Clear x) = Stands kinds token.Name x
 OrderStands kinds (SetCapacity x n) = Stands kinds token.Name x × Stands kinds token.Number n
 OrderStands kinds (Schedule auto h k args cut waive after) =
-    Stands kinds token.Name h × Stands kinds token.Name k × ArgsStand kinds args × SizesStand kinds cut × StandEach kinds token.Name waive × StandEach kinds token.Name after
+    Stands kinds token.Name h × Stands kinds token.Name k × ArgsStand kinds args × SizesStand kinds cut
+    × StandEach kinds token.Name waive × StandEach kinds token.Name after
 OrderStands kinds (Combine x of) = Stands kinds token.Name x × StandEach kinds token.Name of
 OrderStands kinds (Complete auto x) = Stands kinds token.Name x
-OrderStands kinds (Dispose x after h) = Stands kinds token.Name x × StandEach kinds token.Name after × MaybeNameStands kinds h
+OrderStands kinds (Dispose x after h) =
+    Stands kinds token.Name x × StandEach kinds token.Name after × MaybeNameStands kinds h
 OrderStands kinds (DisposeAuto x h) = Stands kinds token.Name x × Stands kinds token.Name h
 OrderStands kinds (Print x) = Stands kinds token.Name x
 OrderStands kinds Flush = Unit {0}
 OrderStands kinds Frame = Unit {0}
 OrderStands kinds (Repeat n) = Stands kinds token.Number n
-OrderStands kinds (When x s value) = Stands kinds token.Name x × ((test : TokenKind) × Stands kinds test s × IsTest test) × Stands kinds token.Number value.at
+OrderStands kinds (When x s value) =
+    Stands kinds token.Name x × ((test : TokenKind) × Stands kinds test s × IsTest test)
+    × Stands kinds token.Number value.at
 
--- A token stands at each place: a name, a Number, a Text or a comparison where its statement tells one, any token where it starts. The
--- places of kernels are among the tokens.
+-- A token stands at each place: a name, a Number, a Text or a comparison where its statement tells one, any token where
+-- it starts. The places of kernels are among the tokens.
 abbrev pub ItemsStand : List TokenKind → RawItems → Type 0
 ItemsStand kinds Nothing = Unit {0}
 ItemsStand kinds (Kernel events k more) = IsKernel events (length kinds) × ItemsStand kinds more
-ItemsStand kinds (Single at order more) = ((first : TokenKind) × Stands kinds first at) × OrderStands kinds order × ItemsStand kinds more
-ItemsStand kinds (Block at head inner more) = ((first : TokenKind) × Stands kinds first at) × OrderStands kinds head × ItemsStand kinds inner × ItemsStand kinds more
+ItemsStand kinds (Single at order more) =
+    ((first : TokenKind) × Stands kinds first at) × OrderStands kinds order × ItemsStand kinds more
+ItemsStand kinds (Block at head inner more) =
+    ((first : TokenKind) × Stands kinds first at) × OrderStands kinds head × ItemsStand kinds inner
+    × ItemsStand kinds more
 
 -- the events spell items of a file with tokens of these kinds
 pub record IsFile (kinds : List TokenKind) (events : List Event) : Type 0 where

@@ -26,7 +26,17 @@ abbrev pub no_numbers : LastNumbers
 no_numbers = record { former = 0; latest = 0; former_operator = 0; operator = 0; former_signed = None; signed = None }
 
 abbrev pub no_words : Words
-no_words = record { names = no_names; numbers = no_numbers; len = 0; life = Persistent; auto = false; sizes = sizes.None; is_listing = false; has_values = false }
+no_words =
+    record {
+      names = no_names;
+      numbers = no_numbers;
+      len = 0;
+      life = Persistent;
+      auto = false;
+      sizes = sizes.None;
+      is_listing = false;
+      has_values = false;
+    }
 
 abbrev pub with_name : ℕ → Words → Words
 with_name q w = record w { names = record w.names { former = w.names.latest; latest = q } }
@@ -54,7 +64,8 @@ words_after action.LifeTempJob q w = record w { life = TempJob }
 words_after action.Auto q w = record w { auto = true }
 words_after action.NoValues q w = record w { len = w.numbers.latest }
 words_after action.OpenValues q w = record w { len = w.numbers.latest; has_values = true }
-words_after action.OpenArguments q w = record w { names = record w.names { handle = w.names.former; kernel = w.names.latest } }
+words_after action.OpenArguments q w =
+    record w { names = record w.names { handle = w.names.former; kernel = w.names.latest } }
 words_after action.SizesLength q w = record w { sizes = sizes.Length w.numbers.former w.numbers.latest }
 words_after action.SizesDefer q w = record w { sizes = sizes.Defer w.names.latest w.numbers.latest }
 words_after action.OpenNames q w = record w { names = record w.names { opener = w.names.latest }; is_listing = true }
@@ -62,8 +73,8 @@ words_after action.Waived q w = record w { is_listing = false }
 words_after action.After q w = record w { is_listing = false }
 words_after _ q w = w
 
--- What has been read: its words, an array's values, a schedule's arguments, the list of names that is being read or was last, and the
--- names after `waive`.
+-- What has been read: its words, an array's values, a schedule's arguments, the list of names that is being read or was
+-- last, and the names after `waive`.
 pub record Reading : Type 0 where
   pub words : Words
   pub values : List RawNumber
@@ -72,7 +83,14 @@ pub record Reading : Type 0 where
   pub waive : List ℕ
 
 abbrev pub reading_of : Reader → Reading
-reading_of r = record { words = r.words; values = r.values.items; args = r.args.items; names = r.names.items; waive = r.waive.items }
+reading_of r =
+    record {
+      words = r.words;
+      values = r.values.items;
+      args = r.args.items;
+      names = r.names.items;
+      waive = r.waive.items;
+    }
 
 abbrev pub nothing_read : Reading
 nothing_read = record { words = no_words; values = []; args = []; names = []; waive = [] }
@@ -80,10 +98,13 @@ nothing_read = record { words = no_words; values = []; args = []; names = []; wa
 -- what has been read, when this event comes at this place and leaves these words
 abbrev pub lists_after : Action → ℕ → Words → Reading → Reading
 lists_after action.Name q w r = record r { words = w; names = if w.is_listing then r.names ++ q ∷ [] else r.names }
-lists_after action.MinusNumber q w r = record r { words = w; values = if w.has_values then r.values ++ signed_of w.numbers.signed ∷ [] else r.values }
-lists_after action.PlainNumber q w r = record r { words = w; values = if w.has_values then r.values ++ signed_of w.numbers.signed ∷ [] else r.values }
+lists_after action.MinusNumber q w r =
+    record r { words = w; values = if w.has_values then r.values ++ signed_of w.numbers.signed ∷ [] else r.values }
+lists_after action.PlainNumber q w r =
+    record r { words = w; values = if w.has_values then r.values ++ signed_of w.numbers.signed ∷ [] else r.values }
 lists_after action.NameArgument q w r = record r { words = w; args = r.args ++ arg.Name w.names.latest ∷ [] }
-lists_after action.NumberArgument q w r = record r { words = w; args = r.args ++ arg.Number (signed_of w.numbers.signed) ∷ [] }
+lists_after action.NumberArgument q w r =
+    record r { words = w; args = r.args ++ arg.Number (signed_of w.numbers.signed) ∷ [] }
 lists_after action.Waived q w r = record r { words = w; names = r.waive; waive = r.names }
 lists_after _ q w r = record r { words = w }
 
@@ -154,8 +175,10 @@ worded a w = used a w
 
 -- the statement that is whole with this event
 abbrev pub finished : Action → Reading → OrderForm
-finished action.ArrayStatement r = NewArray r.words.names.latest r.words.len r.words.life (if r.words.has_values then Some r.values else None)
-finished action.ScheduleStatement r = Schedule r.words.auto r.words.names.handle r.words.names.kernel r.args r.words.sizes r.waive r.names
+finished action.ArrayStatement r =
+    NewArray r.words.names.latest r.words.len r.words.life (if r.words.has_values then Some r.values else None)
+finished action.ScheduleStatement r =
+    Schedule r.words.auto r.words.names.handle r.words.names.kernel r.args r.words.sizes r.waive r.names
 finished action.CombineStatement r = Combine r.words.names.opener r.names
 finished action.DisposeStatement r = Dispose r.words.names.latest r.names None
 finished action.DisposeAfterStatement r = Dispose r.words.names.opener r.names (Some r.words.names.latest)
@@ -164,7 +187,8 @@ finished a r = worded a r.words
 -- the statement that the events spell from here on, and the events behind it
 abbrev pub order_from : Reading → List Event → Option (OrderForm × List Event)
 order_from r [] = None
-order_from r (e ∷ es) = if ends e.action then Some (finished e.action r, es) else order_from (step e.action e.place r) es
+order_from r (e ∷ es) =
+    if ends e.action then Some (finished e.action r, es) else order_from (step e.action e.place r) es
 
 -- whether the event closes a kernel
 abbrev pub closes : Action → Bool

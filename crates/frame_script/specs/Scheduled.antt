@@ -10,7 +10,8 @@ use Rattle.frame_script.specs.Names.{Name}
 use Rattle.frame_script.specs.Spelling.{cut_of, param_place}
 use Rattle.frame_script.specs.Checks.{AreArgs, IsDefer, ArePlaces}
 
-pub record IsBehind (s : Source) (names : List Name) (k : Kernel) (args : List RawArg) (sizes : RawSizes) (waive after : List ℕ) (b : Behind) : Type 0 where
+pub record IsBehind (s : Source) (names : List Name) (k : Kernel) (args : List RawArg) (sizes : RawSizes)
+    (waive after : List ℕ) (b : Behind) : Type 0 where
   pub args_are : AreArgs s names args b.args.items
   pub cut_is : b.cut ≡ cut_of s sizes
   pub defer_is : IsDefer s names sizes b.defer

@@ -1,4 +1,5 @@
--- Which statement of a script a statement's text says, where it has no fault. An unknown name has no place, and stands as 0 here.
+-- Which statement of a script a statement's text says, where it has no fault. An unknown name has no place, and stands
+-- as 0 here.
 use Rattle.std.specs.Prelude.{◌≡◌, ℕ, Bool, true, false, Vec, List, [], map, Option, None, Some, unwrap_or, position, slice_get, string_bytes}
 use Rattle.std.specs.declared.alloc.Global.{Global}
 use Rattle.std.specs.Option.{option_map}
@@ -15,7 +16,7 @@ use Rattle.frame_script.specs.declared.raw.RawArg.TheVariants.{Name, Number}
 use Rattle.frame_script.specs.declared.raw.RawSizes.{RawSizes}
 use Rattle.frame_script.specs.declared.raw.RawSizes.TheVariants as sizes
 use Rattle.frame_script.specs.declared.source.Source.{Source}
-use Rattle.frame_script.specs.declared.kind.NameKind.{NameKind}
+use Rattle.frame_ast.specs.declared.name_kind.NameKind.{NameKind}
 use Rattle.frame_script.specs.Raw.{OrderForm, NewArray, NewColumn, NewList, NewReference, NewMap, NewStream, Slice, View, Copy, Set, Add, Put, Remove, Clear, SetCapacity, Schedule, Combine, Complete, Dispose, DisposeAuto, Print, Flush, Frame, Repeat, When}
 use Rattle.frame_script.specs.Signs.{sign_in}
 use Rattle.frame_script.specs.Sources.{text_at, column_at, number_at, signed_at}
@@ -68,17 +69,19 @@ complete_of true name = order.CompleteAuto name
 
 -- STATEMENTS
 
--- where these names are known, these are the kernels and so many lists of values stand before it; `count` is how many statements its
--- block has, where it is a `when`
+-- where these names are known, these are the kernels and so many lists of values stand before it; `count` is how many
+-- statements its block has, where it is a `when`
 abbrev pub Says : Source → List Known → List Kernel → (literals count : ℕ) → OrderForm → Order → Type 0
 Says s names kernels literals count (NewArray name len life values) o =
     o ≡ order.Array (place_of s names name) (number_at s len) life (literal_of literals values)
 Says s names kernels literals count (NewColumn name column life) o =
     (bytes : Vec ℕ Global) × (bytes.items ≡ column_at s column) × (o ≡ order.Column (place_of s names name) bytes life)
-Says s names kernels literals count (NewList name cap life) o = o ≡ order.List (place_of s names name) (number_at s cap) life
+Says s names kernels literals count (NewList name cap life) o =
+    o ≡ order.List (place_of s names name) (number_at s cap) life
 Says s names kernels literals count (NewReference name life value) o =
     o ≡ order.Reference (place_of s names name) life (option_map (signed_at s) value)
-Says s names kernels literals count (NewMap name cap life) o = o ≡ order.Map (place_of s names name) (number_at s cap) life
+Says s names kernels literals count (NewMap name cap life) o =
+    o ≡ order.Map (place_of s names name) (number_at s cap) life
 Says s names kernels literals count (NewStream name indexes room life) o =
     o ≡ order.Stream (place_of s names name) (number_at s indexes) (number_at s room) life
 Says s names kernels literals count (Slice name of start len) o =
@@ -93,15 +96,18 @@ Says s names kernels literals count (Put name key value) o =
     o ≡ order.Put (place_of s names name) (signed_at s key) (signed_at s value)
 Says s names kernels literals count (Remove name at) o = o ≡ order.Remove (place_of s names name) (signed_at s at)
 Says s names kernels literals count (Clear name) o = o ≡ order.Clear (place_of s names name)
-Says s names kernels literals count (SetCapacity name cap) o = o ≡ order.SetCapacity (place_of s names name) (number_at s cap)
+Says s names kernels literals count (SetCapacity name cap) o =
+    o ≡ order.SetCapacity (place_of s names name) (number_at s cap)
 Says s names kernels literals count (Schedule auto handle kernel args cut waive after) o =
     (given : Vec Arg Global) × (waived : Vec ℕ Global) × (handles : Vec ℕ Global)
     × (given.items ≡ map (arg_of s names) args)
     × (waived.items ≡ map (λ at. param_place (params_named s kernels kernel) (text_at s at)) waive)
     × (handles.items ≡ map (place_of s names) after)
-    × (o ≡ order.Schedule auto (place_of s names handle) (kernel_place kernels (text_at s kernel)) given (cut_of s cut) (defer_of s names cut) waived handles)
+    × (o ≡ order.Schedule auto (place_of s names handle) (kernel_place kernels (text_at s kernel)) given (cut_of s cut)
+    (defer_of s names cut) waived handles)
 Says s names kernels literals count (Combine name of) o =
-    (handles : Vec ℕ Global) × (handles.items ≡ map (place_of s names) of) × (o ≡ order.Combine (place_of s names name) handles)
+    (handles : Vec ℕ Global) × (handles.items ≡ map (place_of s names) of)
+    × (o ≡ order.Combine (place_of s names name) handles)
 Says s names kernels literals count (Complete auto name) o = o ≡ complete_of auto (place_of s names name)
 Says s names kernels literals count (Dispose name after handle) o =
     (handles : Vec ℕ Global) × (handles.items ≡ map (place_of s names) after)

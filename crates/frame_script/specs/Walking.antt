@@ -43,7 +43,8 @@ pub record AddsKernel (s : Source) (events : List Event) (old new : List Checked
   pub added : new ≡ old ++ kernel ∷ []
 
 -- these events spell a kernel whose first fault is of this kind, at a token of this line
-pub record RefusesKernel (s : Source) (events : List Event) (known : List CheckedKernel) (line : ℕ) (kind : FaultKind) : Type 0 where
+pub record RefusesKernel (s : Source) (events : List Event) (known : List CheckedKernel) (line : ℕ)
+    (kind : FaultKind) : Type 0 where
   pub raw : RawKernel
   pub fault : StaticFault
   pub is_raw : IsRawOf s events raw
@@ -72,10 +73,11 @@ lists_in literals = map (λ v. v.items) literals.items
 
 -- behind a block, which was open where one of the blocks around it is a `when` or none
 abbrev pub behind : Scope → Bool → List Bool → Scope → Scope
-behind c tested around last = record { names = last.names; kernels = c.kernels; blocks = length around; tested = tested }
+behind c tested around last =
+    record { names = last.names; kernels = c.kernels; blocks = length around; tested = tested }
 
--- WHAT IS LEFT: of the innermost open block, of the one around it, and so on. Of each block it is told whether one of those around it is a
--- `when`, the innermost first.
+-- WHAT IS LEFT: of the innermost open block, of the one around it, and so on. Of each block it is told whether one of
+-- those around it is a `when`, the innermost first.
 
 -- what is left has no fault, and behind it this is known
 abbrev pub LeftFaultless : Source → Scope → List Bool → List RawItems → Scope → Type 0
@@ -89,7 +91,8 @@ abbrev pub LeftFaulty : Source → StaticFault → Scope → List Bool → List 
 LeftFaulty s fault c around [] = ⊥
 LeftFaulty s fault c [] (items ∷ rest) = HasFault s fault c items
 LeftFaulty s fault c (tested ∷ around) (items ∷ rest) =
-    HasFault s fault c items ⊎ ((last : Scope) × IsFaultless s c items last × LeftFaulty s fault (behind c tested around last) around rest)
+    HasFault s fault c items ⊎ ((last : Scope) × IsFaultless s c items last
+    × LeftFaulty s fault (behind c tested around last) around rest)
 
 abbrev pub literals_left : Source → List RawItems → List (List ℤ)
 literals_left s [] = []
@@ -99,15 +102,18 @@ abbrev pub LeftStand : List TokenKind → List RawItems → Type 0
 LeftStand kinds [] = Unit {0}
 LeftStand kinds (items ∷ rest) = ItemsStand kinds items × LeftStand kinds rest
 
--- What the walk has of the whole where this is left: of every file that begins so, what is left decides on faults; and whatever names and
--- kernels are known in the end, the statements so far are those of the whole.
+-- What the walk has of the whole where this is left: of every file that begins so, what is left decides on faults; and
+-- whatever names and kernels are known in the end, the statements so far are those of the whole.
 pub record IsAt (s : Source) (whole : RawItems) (w : Walk) (left : List RawItems) : Type 0 where
   pub deep : length left ≡ 1 + length w.around.items
   pub stand : LeftStand (kinds s.tokens.now) left
-  pub faultless : (end : Scope) → LeftFaultless s (scope_of w) (reverse w.around.items) left end → IsFaultless s at_start whole end
-  pub faulty : (fault : StaticFault) → LeftFaulty s fault (scope_of w) (reverse w.around.items) left → HasFault s fault at_start whole
+  pub faultless : (end : Scope) → LeftFaultless s (scope_of w) (reverse w.around.items) left end →
+      IsFaultless s at_start whole end
+  pub faulty : (fault : StaticFault) → LeftFaulty s fault (scope_of w) (reverse w.around.items) left →
+      HasFault s fault at_start whole
   pub literals : lists_in w.literals ++ literals_left s left ≡ literals_in s whole
-  pub written : (names : List Name) (kernels : List CheckedKernel) → KeepsNames w.names names → KeepsKernels w.kernels kernels →
+  pub written : (names : List Name) (kernels : List CheckedKernel) → KeepsNames w.names names →
+      KeepsKernels w.kernels kernels →
       Completes s names kernels (length w.literals.items) w.written left whole
   pub texts : All (λ n. IsUtf8 n.text) w.names
   pub checked : All IsChecked w.kernels

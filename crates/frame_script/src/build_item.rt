@@ -42,7 +42,8 @@ fn count(events: &[Event]) -> usize
 pub fn raw_item(alloc: Global, events: &[Event], at: usize) -> Result<RawItem, AllocError>
     requires within { at ≤ length events.now }
     requires spelled { IsOpen (drop at events.now) }
-    ensures { IfOk result (λ item. (items : List RawItems) → SpellsOpen (drop at events.now) items → Leads events.now at item items) }
+    ensures { IfOk result (λ item. (items : List RawItems) → SpellsOpen (drop at events.now) items →
+        Leads events.now at item items) }
 {
     if at == count(events) {
         return Ok(RawItem::None);

@@ -1,6 +1,7 @@
 ghost use Rattle.frame_script.specs.Items.{IsOpen};
 
-use crate::{RawItem, file_events, raw_item};
+use crate::build_file::file_events;
+use crate::build_item::{RawItem, raw_item};
 use frame_grammar::Event;
 use kernel_code::lex;
 use std::alloc::Global;

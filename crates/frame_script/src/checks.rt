@@ -2,40 +2,20 @@
 
 ghost use Rattle.std.specs.Prelude.{◌≡◌, ℕ, map, ◌<◌, ◌-◌, ◌^◌, ⊤, Some, None, length, IfOk, IfErr, MatchResult, min};
 ghost use Rattle.std.specs.Option.{option_map};
-ghost use Rattle.std.specs.List.{list_any};
+ghost use Rattle.frame_ast.specs.Lists.{first_some};
 ghost use Rattle.frame_script.specs.Sources.{text_at, number_at, signed_at, column_at};
-ghost use Rattle.frame_script.specs.Names.{is_same, is_among};
-ghost use Rattle.frame_script.specs.Faults.{limit_fault, signed_fault, first, handles_faults, column_fault, use_fault, remake_fault, make_fault, long_fault, value_fault};
+ghost use Rattle.frame_ast.specs.Accepted.{is_among};
+ghost use Rattle.frame_script.specs.Faults.{limit_fault, signed_fault, handles_faults, column_fault, use_fault, remake_fault, make_fault, long_fault, value_fault};
 ghost use Rattle.frame_script.specs.Spelling.{place_of, names_with};
 ghost use Rattle.frame_script.specs.Checks.{Gives, IsPlace, ArePlaces};
 
 use crate::raw::RawNumber;
-use crate::{NameKind, Names, OrderFault, Source};
+use crate::{Names, OrderFault, Source};
 use frame_ast::kernel::FaultKind;
-use kernel_code::check::StaticFault;
+use frame_ast::name_kind::NameKind;
+use job_base::limits::{MOST_COLUMN_BYTES, MOST_NAME_BYTES};
+use kernel_code::StaticFault;
 use std::alloc::Global;
-
-/// The greatest length, capacity and batch.
-pub const MOST_ELEMENTS: u32 = 1_048_576;
-
-/// The kinds of containers.
-pub const CONTAINERS: [NameKind; 7] = [
-    NameKind::Slice,
-    NameKind::View,
-    NameKind::Array,
-    NameKind::List,
-    NameKind::Reference,
-    NameKind::Map,
-    NameKind::Stream,
-];
-
-/// The kinds of what has elements.
-pub const HAS_ELEMENTS: [NameKind; 4] = [
-    NameKind::Array,
-    NameKind::Slice,
-    NameKind::View,
-    NameKind::List,
-];
 
 /// The refusal by this fault.
 pub fn refused<T>(kind: FaultKind, at: u32) -> Result<T, OrderFault>
@@ -75,19 +55,14 @@ pub fn signed(source: Source<'_>, number: RawNumber) -> Result<i64, OrderFault>
 pub fn is_among(kind: NameKind, kinds: &[NameKind]) -> bool
     ensures { result ≡ is_among kind kinds.now }
 {
-    for known in kinds {
-        if *known == kind {
-            return true;
-        }
-    }
-    false
+    kinds.iter().any(|known| kind == *known)
 }
 
-/// A name of at most 64 bytes.
+/// A name that isn't too long.
 pub fn short(source: Source<'_>, at: u32) -> Result<(), OrderFault>
     ensures { Gives (long_fault source.entry at) (λ _. ⊤) result }
 {
-    if source.text(at).len() > 64 {
+    if source.text(at).len() > MOST_NAME_BYTES as usize {
         return refused(FaultKind::Limit, at);
     }
     Ok(())
@@ -118,7 +93,8 @@ fn place_made(
     kind: NameKind,
     at: u32,
 ) -> Result<u32, OrderFault>
-    ensures { Gives (remake_fault source.entry names.now kind at) (λ place. place ≡ place_of source.entry (names_with source.entry names.now (Some (at, kind))) at) result }
+    ensures { Gives (remake_fault source.entry names.now kind at)
+        (λ place. place ≡ place_of source.entry (names_with source.entry names.now (Some (at, kind))) at) result }
 {
     let Some((place, known)) = names.get(source.text(at)) else {
         return Ok(names.len());
@@ -136,7 +112,8 @@ pub fn made(
     kind: NameKind,
     at: u32,
 ) -> Result<u32, OrderFault>
-    ensures { Gives (make_fault source.entry names.now kind at) (λ place. place ≡ place_of source.entry (names_with source.entry names.now (Some (at, kind))) at) result }
+    ensures { Gives (make_fault source.entry names.now kind at)
+        (λ place. place ≡ place_of source.entry (names_with source.entry names.now (Some (at, kind))) at) result }
 {
     let place = place_made(source, names, kind, at)?;
     short(source, at)?;
@@ -166,7 +143,8 @@ pub fn handles(
     names: &Names<'_>,
     handles: &[u32],
 ) -> Result<Vec<u32>, OrderFault>
-    ensures { Gives (first (handles_faults source.entry names.now handles.now)) (λ places. ArePlaces source.entry names.now handles.now places.items) result }
+    ensures { Gives (first_some (handles_faults source.entry names.now handles.now))
+        (λ places. ArePlaces source.entry names.now handles.now places.items) result }
 {
     let mut places = Vec::new(alloc);
     for handle in handles {
@@ -182,7 +160,8 @@ pub fn all_signed(
     source: Source<'_>,
     numbers: &[RawNumber],
 ) -> Result<Vec<i64>, OrderFault>
-    ensures { Gives (first (map (signed_fault source.entry) numbers.now)) (λ values. values.items ≡ map (signed_at source.entry) numbers.now) result }
+    ensures { Gives (first_some (map (signed_fault source.entry) numbers.now))
+        (λ values. values.items ≡ map (signed_at source.entry) numbers.now) result }
 {
     let mut values = Vec::new(alloc);
     for number in numbers {
@@ -192,12 +171,12 @@ pub fn all_signed(
     Ok(values)
 }
 
-/// A Text of at most 256 bytes, without its quotes.
+/// The Text of a column, without its quotes, where it isn't too long.
 pub fn short_column<'a>(source: Source<'a>, at: u32) -> Result<&'a [u8], OrderFault>
     ensures { Gives (column_fault source.entry at) (λ text. text.now ≡ column_at source.entry at) result }
 {
     let text = source.column(at);
-    if text.len() > 256 {
+    if text.len() > MOST_COLUMN_BYTES as usize {
         return refused(FaultKind::Limit, at);
     }
     Ok(text)

@@ -2,7 +2,7 @@
 
 use frame_ast::kernel::FaultKind;
 use job_base::NoMemory;
-use kernel_code::check::StaticFault;
+use kernel_code::StaticFault;
 use std::alloc::{AllocError, AllocFailed};
 
 /// Why a statement gives none of a script.

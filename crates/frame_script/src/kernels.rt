@@ -5,16 +5,19 @@ ghost use Rattle.frame_ast.specs.declared.kernel.Kernel.{Kernel};
 ghost use Rattle.std.specs.Coded.{codes};
 ghost use Rattle.frame_ast.specs.contracts.kernel.Stmt as e;
 ghost use Rattle.frame_ast.specs.contracts.kernel.Expr as f;
+ghost use Rattle.frame_ast.specs.Accepted.{guard_fits};
 ghost use Rattle.frame_script.specs.KernelIndex.{IsKernelIndex, kernel_at, size_of};
-ghost use Rattle.frame_script.specs.Faults.{has_room};
 
 use frame_ast::kernel::Kernel;
 use job_base::NoMemory;
+use job_base::limits::{
+    GUARD_DEPTH, GUARD_NODES, GUARD_PARAMS, MOST_DEPTH, MOST_NODES, MOST_PARAMS,
+};
 use std::alloc::Global;
 use std::collections::BTreeMap;
 use std::marker::Model;
 
-/// How many nodes a kernel's statements have, and how deep the deepest is.
+/// How many nodes statements have, and how deep the deepest is.
 #[derive(Clone, Copy, Debug, PartialEq, Eq)]
 pub struct Size {
     pub nodes: u32,
@@ -63,18 +66,20 @@ impl<'a> Kernels<'a> {
     pub fn kernel(&self, place: u32) -> &Kernel
         requires { place < length self.now }
         ensures kernel { slice_get self.now place ≡ Some result.now }
-        ensures few { length result.now.params.items ≤ 16 }
+        ensures few { length result.now.params.items ≤ MOST_PARAMS }
     {
         &self.kernels[place as usize]
     }
 
-    /// Whether the kernel at a place has room for one more parameter and one more node around its statements.
+    /// Whether the kernel at a place has room for the guard of a deferred job.
     pub fn has_room(&self, place: u32) -> bool
         requires { place < length self.now }
-        ensures { IfSome (slice_get self.now place) (λ k. result ≡ has_room k) }
+        ensures { IfSome (slice_get self.now place) (λ k. result ≡ guard_fits k) }
     {
         let size = self.sizes[place as usize];
-        self.kernels[place as usize].params.len() <= 15 && size.nodes <= 4091 && size.depth <= 63
+        self.kernels[place as usize].params.len() <= (MOST_PARAMS - GUARD_PARAMS) as usize
+            && size.nodes <= MOST_NODES - GUARD_NODES
+            && size.depth <= MOST_DEPTH - GUARD_DEPTH
     }
 
     /// All kernels.
@@ -96,7 +101,7 @@ impl<'a> Kernels<'a> {
         requires name { text.now ≡ string_bytes kernel.name }
         requires other { kernel_at self.old text.now ≡ None }
         requires few { length self.old < 2 ^ 32 - 1 }
-        requires small { length kernel.params.items ≤ 16 }
+        requires small { length kernel.params.items ≤ MOST_PARAMS }
         requires size { size ≡ size_of kernel }
         ensures { IfOk result (λ _. self.new ≡ self.old ++ kernel ∷ []) }
     {

@@ -14,14 +14,13 @@ mod fault;
 #[cfg(test)]
 mod fault_tests;
 mod kernels;
-mod kind;
 mod load;
 #[cfg(test)]
 mod load_tests;
 mod measure;
 mod names;
 mod order_checks;
-pub mod raw;
+mod raw;
 mod source;
 mod walk;
 mod walk_kernel;
@@ -30,16 +29,12 @@ mod written;
 #[cfg(test)]
 mod written_tests;
 
-pub use build::{ReadOrder, raw_order};
-pub use build_file::file_events;
-pub use build_item::{RawItem, raw_item};
-pub use build_kernel::kernel_len;
-pub use fault::{LoadFault, OrderFault};
-pub use kernels::{Kernels, Size};
-pub use kind::NameKind;
+pub use fault::LoadFault;
+pub(crate) use fault::OrderFault;
+pub use frame_ast::script::{Arg, Order, Script, Sign, Statement};
+pub(crate) use kernels::Kernels;
+pub use kernels::Size;
 pub use load::parse_script;
 pub use measure::size_of;
-pub use names::Names;
-pub use order_checks::{Valued, check_order, check_repeat, check_when, valued_array};
-pub use source::Source;
-pub use written::Written;
+pub(crate) use names::Names;
+pub(crate) use source::Source;

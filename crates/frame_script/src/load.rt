@@ -1,14 +1,16 @@
 //! Reads a file as a script.
 
 ghost use Rattle.std.specs.Prelude.{◌≡◌, ◌≤◌, ℕ, Some, All, length, IfOk, IsUtf8};
+ghost use Rattle.job_base.specs.declared.limits.TheConstants.{MOST_SCRIPT_BYTES};
 ghost use Rattle.frame_ast.specs.declared.kernel.FaultKind.{FaultKind};
 ghost use Rattle.frame_ast.specs.declared.kernel.FaultKind.TheVariants.{TooLong};
 ghost use Rattle.frame_ast.specs.Accepted.{IsAccepted};
 ghost use Rattle.frame_script.specs.Loading.{Spells, IsRefused};
 ghost use Rattle.frame_script.specs.Walking.{Gathers};
 
+use crate::build_file::file_events;
 use crate::walk::{Walk, walk_file};
-use crate::{LoadFault, Source, file_events};
+use crate::{LoadFault, Source};
 use frame_ast::kernel::FaultKind;
 use frame_ast::script::Script;
 use frame_grammar::ParseError;
@@ -19,7 +21,8 @@ use std::alloc::Global;
 fn script_of(alloc: Global, walk: Walk<'_>) -> Result<Script, LoadFault>
     requires { All (λ name. IsUtf8 name.text) walk.names }
     ensures script { IfOk result (λ script. Gathers walk.entry script) }
-    ensures excess { (line : ℕ) (kind : FaultKind) → result ≡ Err (LoadFault.Refused line kind) → (kind ≡ TooLong) × (walk.entry.written.over ≡ Some line) }
+    ensures excess { (line : ℕ) (kind : FaultKind) → result ≡ Err (LoadFault.Refused line kind) → (kind ≡ TooLong)
+        × (walk.entry.written.over ≡ Some line) }
 {
     let names = walk.names.texts(alloc)?;
     match walk.written.finish() {
@@ -39,13 +42,14 @@ fn script_of(alloc: Global, walk: Walk<'_>) -> Result<Script, LoadFault>
 /// The script that the bytes of a file spell.
 ///
 /// A file is refused for its first fault: of syntax, else the first static fault in the order of the
-/// tokens, else `TooLong` where it stands for more than 65,536 statements or more than 1,024 of
-/// `when`, each `repeat` written out.
+/// tokens, else `TooLong` where it stands for more than `MOST_STATEMENTS` statements or more than
+/// `MOST_TESTS` of `when`, each `repeat` written out.
 pub fn parse_script(alloc: Global, source: &[u8]) -> Result<Script, LoadFault>
-    requires { length source.now ≤ 16777216 }
+    requires { length source.now ≤ MOST_SCRIPT_BYTES }
     ensures script { IfOk result (λ script. Spells source.now script) }
     ensures accepted { IfOk result IsAccepted }
-    ensures refused { (line : ℕ) (kind : FaultKind) → result ≡ Err (LoadFault.Refused line kind) → IsRefused source.now line kind }
+    ensures refused { (line : ℕ) (kind : FaultKind) → result ≡ Err (LoadFault.Refused line kind) →
+        IsRefused source.now line kind }
 {
     let tokens = lex(alloc, source)?;
     let found = match file_events(alloc, &tokens) {

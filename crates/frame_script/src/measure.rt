@@ -1,6 +1,7 @@
 //! How many nodes a checked kernel's statements have, and how deep the deepest is.
 
 ghost use Rattle.std.specs.Prelude.{◌≡◌, ◌≤◌, ◌+◌, ◌<◌};
+ghost use Rattle.job_base.specs.declared.limits.TheConstants.{MOST_NODES};
 ghost use Rattle.frame_ast.specs.Checked.{IsChecked, expr_nodes, body_nodes};
 ghost use Rattle.frame_script.specs.KernelIndex.{size_of};
 ghost use Rattle.frame_script.specs.Measures.{expr_size, statement_nodes, statement_size, body_size, beside, over};
@@ -10,7 +11,7 @@ use frame_ast::kernel::{Expr, Kernel, Stmt};
 
 const LEAF: Size = Size { nodes: 1, depth: 1 };
 
-/// Those of a kernel, which are small since it is checked.
+/// How many nodes the statements of a checked kernel have, and how deep the deepest is.
 pub fn size_of(kernel: &Kernel) -> Size
     requires { IsChecked kernel.now }
     ensures { result ≡ size_of kernel.now }
@@ -20,7 +21,7 @@ pub fn size_of(kernel: &Kernel) -> Size
 
 // Two trees side by side.
 fn beside(a: Size, b: Size) -> Size
-    requires small { a.nodes + b.nodes ≤ 4096 }
+    requires small { a.nodes + b.nodes ≤ MOST_NODES }
     requires shallow { a.depth ≤ a.nodes }
     requires shallow_too { b.depth ≤ b.nodes }
     ensures size { result ≡ beside a b }
@@ -34,7 +35,7 @@ fn beside(a: Size, b: Size) -> Size
 
 // A node over a tree.
 fn over(a: Size) -> Size
-    requires small { a.nodes < 4096 }
+    requires small { a.nodes < MOST_NODES }
     requires shallow { a.depth ≤ a.nodes }
     ensures size { result ≡ over a }
     ensures shallow { result.depth ≤ result.nodes }
@@ -46,7 +47,7 @@ fn over(a: Size) -> Size
 }
 
 fn expr(e: &Expr) -> Size
-    requires { expr_nodes e.now ≤ 4096 }
+    requires { expr_nodes e.now ≤ MOST_NODES }
     ensures size { result ≡ expr_size e.now }
     ensures shallow { result.depth ≤ result.nodes }
 {
@@ -64,13 +65,16 @@ fn expr(e: &Expr) -> Size
         Expr::Not(e) => over(expr(e)),
         Expr::And(e, f) => over(beside(expr(e), expr(f))),
         Expr::Or(e, f) => over(beside(expr(e), expr(f))),
-        Expr::Binary(_, e, f) => over(beside(expr(e), expr(f))),
+        Expr::Binary(_, sides) => {
+            let (e, f) = &**sides;
+            over(beside(expr(e), expr(f)))
+        }
     }
 }
 
 #[cycle(measure)]
 fn statement(s: &Stmt) -> Size
-    requires { statement_nodes s.now ≤ 4096 }
+    requires { statement_nodes s.now ≤ MOST_NODES }
     ensures size { result ≡ statement_size s.now }
     ensures shallow { result.depth ≤ result.nodes }
 {
@@ -95,7 +99,7 @@ fn statement(s: &Stmt) -> Size
 // Statements side by side.
 #[cycle(measure)]
 fn block(body: &[Stmt]) -> Size
-    requires { body_nodes body.now ≤ 4096 }
+    requires { body_nodes body.now ≤ MOST_NODES }
     ensures size { result ≡ body_size body.now }
     ensures shallow { result.depth ≤ result.nodes }
 {

@@ -1,10 +1,10 @@
 //! The names of a script, in the order of their first making.
 
 ghost use Rattle.std.specs.Prelude.{◌≡◌, ℕ, All, ◌<◌, ◌-◌, ◌^◌, List, [], length, map, IfOk, OnErr, MatchOption, slice_get, Some, None, IsUtf8, string_bytes};
-ghost use Rattle.frame_script.specs.Names.{Name, is_same, is_among, place_in, kind_in, with_name};
+ghost use Rattle.frame_script.specs.Names.{Name, place_in, kind_in, with_name};
 ghost use Rattle.frame_script.specs.Index.{known_of, IsIndex};
 
-use crate::NameKind;
+use frame_ast::name_kind::NameKind;
 use job_base::NoMemory;
 use std::alloc::Global;
 use std::collections::BTreeMap;

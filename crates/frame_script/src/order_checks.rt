@@ -2,10 +2,11 @@
 
 ghost use Rattle.std.specs.Prelude.{◌≡◌, false, ⊤, ◌&&◌, nat_lt, IsTrue, [], ◌∷◌};
 ghost use Rattle.frame_ast.specs.declared.kernel.FaultKind.TheVariants.{Limit};
+ghost use Rattle.frame_ast.specs.Lists.{first_some};
 ghost use Rattle.frame_script.specs.Raw.{form_of, Repeat, When};
 ghost use Rattle.frame_script.specs.Sources.{number_at};
 ghost use Rattle.frame_script.specs.Names.{Name};
-ghost use Rattle.frame_script.specs.Faults.{first, unless, order_faults, limit_fault};
+ghost use Rattle.frame_script.specs.Faults.{unless, order_faults, limit_fault};
 ghost use Rattle.frame_script.specs.Checks.{Checked, Gives, among, is_plain};
 
 mod changes;
@@ -14,9 +15,11 @@ mod makes;
 
 use crate::checks::{limited, refused, signed, used};
 use crate::raw::{RawNumber, RawOrder};
-use crate::{Kernels, NameKind, Names, OrderFault, Source};
+use crate::{Kernels, Names, OrderFault, Source};
 use frame_ast::kernel::FaultKind;
+use frame_ast::name_kind::NameKind;
 use frame_ast::script::Order;
+use job_base::limits::{MOST_BLOCKS, MOST_REPEATS};
 use jobs::{Schedule, check_schedule};
 pub use makes::{Valued, valued_array};
 use std::alloc::Global;
@@ -117,11 +120,11 @@ pub fn check_order(
     }
 }
 
-// A block stands at most 8 deep, and no `when` in another.
+// A block stands in at most so many others, and no `when` in another.
 fn opened(blocks: u32, allowed: bool, at: u32) -> Result<(), OrderFault>
-    ensures { Gives (unless (nat_lt blocks 8 && allowed) Limit at) (λ _. ⊤) result }
+    ensures { Gives (unless (nat_lt blocks MOST_BLOCKS && allowed) Limit at) (λ _. ⊤) result }
 {
-    if blocks < 8 && allowed {
+    if blocks < MOST_BLOCKS && allowed {
         Ok(())
     } else {
         refused(FaultKind::Limit, at)
@@ -130,10 +133,12 @@ fn opened(blocks: u32, allowed: bool, at: u32) -> Result<(), OrderFault>
 
 /// The count of a `repeat` that stands in so many blocks and begins at a place.
 pub fn check_repeat(source: Source<'_>, blocks: u32, at: u32, count: u32) -> Result<u32, OrderFault>
-    ensures { Gives (first (order_faults source.entry (record { names = []; kernels = []; blocks = blocks; tested = false }) at (Repeat count))) (λ n. n ≡ number_at source.entry count) result }
+    ensures { Gives (first_some (order_faults source.entry
+        (record { names = []; kernels = []; blocks = blocks; tested = false }) at (Repeat count)))
+        (λ n. n ≡ number_at source.entry count) result }
 {
     opened(blocks, true, at)?;
-    let count = limited(source, 1, 65_536, count)?;
+    let count = limited(source, 1, MOST_REPEATS, count)?;
     Ok(count)
 }
 
@@ -149,7 +154,8 @@ pub fn check_when(
     sign: u32,
     value: RawNumber,
 ) -> Result<Order, OrderFault>
-    ensures { Checked source.entry (record { names = names.now; kernels = []; blocks = blocks; tested = tested }) 0 at (When name sign value) result }
+    ensures { Checked source.entry (record { names = names.now; kernels = []; blocks = blocks; tested = tested }) 0 at
+        (When name sign value) result }
 {
     opened(blocks, !tested, at)?;
     let name = used(source, names, &[NameKind::Reference], name)?;

@@ -4,18 +4,20 @@ ghost use Rattle.std.specs.Prelude.{◌≡◌, ◌<◌, ◌≤◌, ◌^◌, ◌+
 ghost use Rattle.frame_ast.specs.declared.kernel.FaultKind.{FaultKind};
 ghost use Rattle.kernel_code.specs.Parsing.{kinds};
 ghost use Rattle.kernel_code.specs.Legible.{NamesAreText, NamesStand};
+ghost use Rattle.frame_ast.specs.Lists.{first_some};
 ghost use Rattle.frame_script.specs.Raw.{form_of, closing, Repeat, When, IsFile};
-ghost use Rattle.frame_script.specs.Faults.{first, order_faults};
+ghost use Rattle.frame_script.specs.Faults.{order_faults};
 ghost use Rattle.frame_script.specs.Checks.{Gives};
 ghost use Rattle.frame_script.specs.Writing.{nothing_written};
 ghost use Rattle.frame_script.specs.Walking.{lists_of, lists_in, scope_of, Tells, TakesSingle, TakesRepeat, TakesWhen, Takes, Leaves, IsWalking, IsThrough, RefusesItems};
 
+use crate::build_item::{RawItem, raw_item};
 use crate::order_checks::{check_repeat, check_when};
 use crate::raw::{RawNumber, RawOrder};
 use crate::walk_kernel::add_kernel;
 use crate::walk_order::{make_name, order_said};
 use crate::written::Written;
-use crate::{Kernels, LoadFault, Names, OrderFault, RawItem, Source, raw_item};
+use crate::{Kernels, LoadFault, Names, OrderFault, Source};
 use frame_ast::script::Statement;
 use frame_grammar::Event;
 use job_base::NoMemory;
@@ -56,7 +58,8 @@ fn keep_list(literals: &mut Vec<Vec<i64>>, list: Option<Vec<i64>>) -> Result<(),
 
 // The refusal of a file for a fault of a statement.
 fn told(source: Source<'_>, fault: OrderFault) -> LoadFault
-    ensures { (line : ℕ) (kind : FaultKind) → result ≡ LoadFault.Refused line kind → Tells source.entry fault line kind }
+    ensures { (line : ℕ) (kind : FaultKind) → result ≡ LoadFault.Refused line kind →
+        Tells source.entry fault line kind }
 {
     match fault {
         OrderFault::Refused(fault) => LoadFault::Refused {
@@ -96,7 +99,8 @@ impl<'a> Walk<'a> {
         raw: &RawOrder,
     ) -> Result<(), OrderFault>
         requires { closing (form_of raw.now) ≡ None }
-        ensures { Gives (first (order_faults source.entry (scope_of self.old) at (form_of raw.now))) (λ _. TakesSingle source.entry at (form_of raw.now) self.old self.new) result }
+        ensures { Gives (first_some (order_faults source.entry (scope_of self.old) at (form_of raw.now)))
+            (λ _. TakesSingle source.entry at (form_of raw.now) self.old self.new) result }
     {
         let literals = count_of(self.literals.len())?;
         let (act, list) = order_said(alloc, source, &self.names, &self.kernels, literals, raw)?;
@@ -111,7 +115,8 @@ impl<'a> Walk<'a> {
 
     // What stands before the brace of a `repeat`.
     fn open_repeat(&mut self, source: Source<'a>, at: u32, count: u32) -> Result<(), OrderFault>
-        ensures { Gives (first (order_faults source.entry (scope_of self.old) at (Repeat count))) (λ _. TakesRepeat source.entry count self.old self.new) result }
+        ensures { Gives (first_some (order_faults source.entry (scope_of self.old) at (Repeat count)))
+            (λ _. TakesRepeat source.entry count self.old self.new) result }
     {
         let blocks = count_of(self.around.len())?;
         let count = check_repeat(source, blocks, at, count)?;
@@ -129,7 +134,8 @@ impl<'a> Walk<'a> {
         sign: u32,
         value: RawNumber,
     ) -> Result<(), OrderFault>
-        ensures { Gives (first (order_faults source.entry (scope_of self.old) at (When name sign value))) (λ _. TakesWhen source.entry at (When name sign value) self.old self.new) result }
+        ensures { Gives (first_some (order_faults source.entry (scope_of self.old) at (When name sign value)))
+            (λ _. TakesWhen source.entry at (When name sign value) self.old self.new) result }
     {
         let blocks = count_of(self.around.len())?;
         let act = check_when(
@@ -173,7 +179,8 @@ impl<'a> Walk<'a> {
         at: u32,
         raw: &RawOrder,
     ) -> Result<(), OrderFault>
-        ensures { Gives (first (order_faults source.entry (scope_of self.old) at (form_of raw.now))) (λ _. Takes source.entry at (form_of raw.now) self.old self.new) result }
+        ensures { Gives (first_some (order_faults source.entry (scope_of self.old) at (form_of raw.now)))
+            (λ _. Takes source.entry at (form_of raw.now) self.old self.new) result }
     {
         match raw {
             RawOrder::Repeat { count } => self.open_repeat(source, at, *count),
@@ -197,8 +204,10 @@ impl<'a> Walk<'a> {
         requires named { NamesStand (kinds source.tokens.now) events.now }
         requires within { at ≤ length events.now }
         requires walking { IsWalking source events.now at self.old }
-        ensures walked { IfOk result (λ found. MatchOption found (IsThrough source.entry events.now self.new) (λ next. (at < next) × (next ≤ length events.now) × IsWalking source.entry events.now next self.new)) }
-        ensures refused { (line : ℕ) (kind : FaultKind) → result ≡ Err (LoadFault.Refused line kind) → RefusesItems source.entry events.now line kind }
+        ensures walked { IfOk result (λ found. MatchOption found (IsThrough source.entry events.now self.new)
+            (λ next. (at < next) × (next ≤ length events.now) × IsWalking source.entry events.now next self.new)) }
+        ensures refused { (line : ℕ) (kind : FaultKind) → result ≡ Err (LoadFault.Refused line kind) →
+            RefusesItems source.entry events.now line kind }
     {
         match raw_item(alloc, events, at)? {
             RawItem::None => Ok(None),
@@ -231,7 +240,8 @@ pub fn walk_file<'a>(
     requires named { NamesStand (kinds source.tokens.now) events.now }
     requires file { IsFile (kinds source.tokens.now) events.now }
     ensures through { IfOk result (λ walk. IsThrough source.entry events.now walk) }
-    ensures refused { (line : ℕ) (kind : FaultKind) → result ≡ Err (LoadFault.Refused line kind) → RefusesItems source.entry events.now line kind }
+    ensures refused { (line : ℕ) (kind : FaultKind) → result ≡ Err (LoadFault.Refused line kind) →
+        RefusesItems source.entry events.now line kind }
 {
     let mut walk = Walk::new(alloc);
     let mut at = 0;

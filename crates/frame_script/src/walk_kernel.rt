@@ -25,7 +25,8 @@ pub fn add_kernel<'a>(
     requires text { NamesAreText source.bytes.now source.tokens.now }
     requires named { NamesStand (kinds source.tokens.now) events.now }
     ensures added { IfOk result (λ _. AddsKernel source.entry events.now kernels.old kernels.new) }
-    ensures refused { (line : ℕ) (kind : FaultKind) → result ≡ Err (LoadFault.Refused line kind) → RefusesKernel source.entry events.now kernels.old line kind }
+    ensures refused { (line : ℕ) (kind : FaultKind) → result ≡ Err (LoadFault.Refused line kind) →
+        RefusesKernel source.entry events.now kernels.old line kind }
 {
     let raw = raw_kernel(alloc, source.bytes, source.tokens, events)?;
     let kernel = match check_kernel(alloc, &raw, kernels.as_slice()) {

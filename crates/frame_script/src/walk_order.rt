@@ -1,8 +1,9 @@
 //! One statement of a file: what it says, and the name that it makes.
 
 ghost use Rattle.std.specs.Prelude.{◌≡◌, None, Some, MatchOption, IsTrue, IfOk};
+ghost use Rattle.frame_ast.specs.Lists.{first_some};
 ghost use Rattle.frame_script.specs.Raw.{form_of, closing, NewArray};
-ghost use Rattle.frame_script.specs.Faults.{first, order_faults, made_by};
+ghost use Rattle.frame_script.specs.Faults.{order_faults, made_by};
 ghost use Rattle.frame_script.specs.Spelling.{Says, names_after};
 ghost use Rattle.frame_script.specs.Files.{literals_of};
 ghost use Rattle.frame_script.specs.Checks.{Gives, among, is_plain};
@@ -10,7 +11,8 @@ ghost use Rattle.frame_script.specs.Walking.{lists_of};
 
 use crate::order_checks::{Valued, check_order, valued_array};
 use crate::raw::RawOrder;
-use crate::{Kernels, NameKind, Names, OrderFault, Source};
+use crate::{Kernels, Names, OrderFault, Source};
+use frame_ast::name_kind::NameKind;
 use frame_ast::script::Order;
 use job_base::NoMemory;
 use std::alloc::Global;
@@ -62,7 +64,8 @@ pub fn make_name<'a>(
 
 // An array with values.
 fn valued(raw: &RawOrder) -> Option<Valued<'_>>
-    ensures { MatchOption result (closing (form_of raw.now) ≡ None → IsTrue (is_plain raw.now)) (λ text. form_of raw.now ≡ NewArray text.name text.len text.life (Some text.values.now)) }
+    ensures { MatchOption result (closing (form_of raw.now) ≡ None → IsTrue (is_plain raw.now))
+        (λ text. form_of raw.now ≡ NewArray text.name text.len text.life (Some text.values.now)) }
 {
     match raw {
         RawOrder::Array {
@@ -91,7 +94,9 @@ pub fn order_said(
     raw: &RawOrder,
 ) -> Result<(Order, Option<Vec<i64>>), OrderFault>
     requires { closing (form_of raw.now) ≡ None }
-    ensures { Gives (first (order_faults source.entry (among names.now kernels.now) 0 (form_of raw.now))) (λ r. Says source.entry (names_after source.entry names.now (form_of raw.now)) kernels.now literals 0 (form_of raw.now) r.0 × (lists_of r.1 ≡ literals_of source.entry (form_of raw.now))) result }
+    ensures { Gives (first_some (order_faults source.entry (among names.now kernels.now) 0 (form_of raw.now)))
+        (λ r. Says source.entry (names_after source.entry names.now (form_of raw.now)) kernels.now literals 0
+        (form_of raw.now) r.0 × (lists_of r.1 ≡ literals_of source.entry (form_of raw.now))) result }
 {
     match valued(raw) {
         Some(text) => {

@@ -1,20 +1,16 @@
 //! The statements of a script, written out while its text is read.
 
 ghost use Rattle.std.specs.Prelude.{◌≡◌, ◌<◌, ◌≤◌, ◌-◌, Some, None, length, take, drop, IfOk, reverse, MatchResult};
+ghost use Rattle.job_base.specs.declared.limits.TheConstants.{MOST_STATEMENTS};
 ghost use Rattle.frame_script.specs.Writing.{Writing, is_test, fits_in, nothing_written, put, opened, with_count, count_at, PutsCopies, PutsRepeated, Closes};
 ghost use Rattle.frame_script.specs.declared.written.OpenBlock.TheVariants as block;
 
 use crate::copies::copy_of;
 use frame_ast::script::{Order, Statement};
 use job_base::NoMemory;
+use job_base::limits::{MOST_STATEMENTS, MOST_TESTS};
 use std::alloc::Global;
 use std::marker::Model;
-
-/// How many statements a script may have.
-const MOST_STATEMENTS: usize = 65_536;
-
-/// How many of them may be `when`.
-const MOST_TESTS: u32 = 1_024;
 
 /// A block whose end hasn't been read.
 #[derive(Clone, Copy, Debug, PartialEq, Eq)]
@@ -58,9 +54,14 @@ fn set_count(order: &mut Order, behind: u32)
 impl Model for Written {
     ghost Value = { Writing };
 
-    ghost view = { λ s. record { statements = s.statements.items; tests = s.tests; over = s.over; blocks = reverse s.blocks.items } };
+    ghost view = { λ s. record {
+      statements = s.statements.items;
+      tests = s.tests;
+      over = s.over;
+      blocks = reverse s.blocks.items;
+    } };
 
-    ghost invariant = { λ s. length s.statements.items ≤ 65536 };
+    ghost invariant = { λ s. length s.statements.items ≤ MOST_STATEMENTS };
 }
 
 impl Written {
@@ -80,7 +81,8 @@ impl Written {
     fn has_room(&self, order: &Order) -> bool
         ensures { result ≡ fits_in (length self.now.statements) self.now.tests order.now }
     {
-        self.statements.len() < MOST_STATEMENTS && (!is_test(order) || self.tests < MOST_TESTS)
+        self.statements.len() < MOST_STATEMENTS as usize
+            && (!is_test(order) || self.tests < MOST_TESTS)
     }
 
     /// A statement comes next.
@@ -112,7 +114,8 @@ impl Written {
 
     /// A `when` comes next, and then its block.
     pub fn open_when(&mut self, statement: Statement) -> Result<(), NoMemory>
-        ensures { IfOk result (λ _. self.new ≡ opened (block.When (length self.old.statements)) (put self.old statement)) }
+        ensures { IfOk result (λ _. self.new ≡ opened (block.When (length self.old.statements))
+            (put self.old statement)) }
     {
         let at = self.statements.len() as u32;
         self.add(statement)?;
@@ -133,7 +136,8 @@ impl Written {
         Ok(())
     }
 
-    // The statements from a place on are to stand so many times. Where there are none, that many times none aren't counted through.
+    // The statements from a place on are to stand so many times. Where there are none, that many times none aren't
+    // counted through.
     fn repeat(&mut self, alloc: Global, start: usize, count: u32) -> Result<(), NoMemory>
         ensures { IfOk result (λ _. PutsRepeated (count - 1) (drop start self.old.statements) self.old self.new) }
     {
@@ -177,7 +181,8 @@ impl Written {
 
     /// The statements, or the line of the first for which there is no room.
     pub fn finish(self) -> Result<Vec<Statement>, u32>
-        ensures { MatchResult result (λ statements. (self.over ≡ None) × (statements.items ≡ self.statements)) (λ line. self.over ≡ Some line) }
+        ensures { MatchResult result (λ statements. (self.over ≡ None) × (statements.items ≡ self.statements))
+            (λ line. self.over ≡ Some line) }
     {
         match self.over {
             None => Ok(self.statements),

@@ -1,4 +1,4 @@
-use crate::Written;
+use crate::written::Written;
 use frame_ast::script::{Arg, Life, Order, Sign, Statement};
 use std::alloc::Global;
 use std::fmt::Write;

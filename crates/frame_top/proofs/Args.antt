@@ -9,7 +9,7 @@ use Rattle.frame_ast.specs.declared.script.Arg.{Arg}
 use Rattle.frame_ast.specs.declared.script.Arg.TheVariants.{Name, Number}
 use Rattle.frame_ast.specs.Accepted.{Names, kind_in, kinds_for, is_int, arg_fits, args_fit}
 use Rattle.frame_ast.specs.Lists.{member}
-use Rattle.frame_ast.specs.Plain.{names_once}
+use Rattle.frame_top.specs.Built.{names_once}
 use Rattle.frame_ast.specs.Schedules.{is_array}
 use Rattle.frame_top.specs.Built.{is_array_param}
 use Rattle.frame_top.proofs.Facts.{lt_of}

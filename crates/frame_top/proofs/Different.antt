@@ -4,7 +4,7 @@ use Rattle.std.specs.List.{list_any}
 use Rattle.frame_ast.specs.declared.script.Arg.{Arg}
 use Rattle.frame_ast.specs.declared.script.Arg.TheVariants.{Name, Number}
 use Rattle.frame_ast.specs.Lists.{member}
-use Rattle.frame_ast.specs.Plain.{names_once}
+use Rattle.frame_top.specs.Built.{names_once}
 use Rattle.frame_top.specs.Built.{has_name}
 use Rattle.frame_top.proofs.Binding.{take_more}
 

@@ -4,10 +4,13 @@ use Rattle.std.proofs.lemmas.Bool.Decides.{nat_tests}
 use Rattle.std.proofs.lemmas.Grind.{common_steps}
 use Rattle.frame_ast.specs.declared.script.Life.{Life}
 use Rattle.frame_ast.specs.declared.script.Life.TheVariants.{Temp, TempJob, Persistent}
-use Rattle.frame_ast.specs.Accepted.{NameKind, ArrayName, SliceName, ViewName, ListName, RefName, MapName, StreamName, HandleName, kind_in, literal_fits, has_length, container}
+use Rattle.frame_ast.specs.declared.name_kind.NameKind.{NameKind}
+use Rattle.frame_ast.specs.declared.name_kind.NameKind.TheVariants.{Array as ArrayName, Slice as SliceName, View as ViewName, List as ListName, Reference as RefName, Map as MapName, Stream as StreamName, Handle as HandleName}
+use Rattle.frame_ast.specs.declared.name_kind.TheConstants.{CONTAINERS}
+use Rattle.frame_ast.specs.Accepted.{kind_in, literal_fits, has_length}
 use Rattle.frame_ast.specs.Contents.{words_of}
 use Rattle.frame_ast.specs.Orders.{Setting, new_array}
-use Rattle.frame_ast.specs.Plain.{is_persistent}
+use Rattle.frame_top.specs.Built.{is_persistent}
 
 pub persistent_is : (life : Life) → IsTrue (is_persistent life) → life ≡ Persistent
 persistent_is Temp h = cc
@@ -54,7 +57,7 @@ handle_kind None h = cc
 handle_kind (Some k) h = ap Some (only_handle k h)
 
 -- a handle's name is of no container
-pub no_container : (o : Option NameKind) → o ≡ Some HandleName → IsTrue (kind_in o container) → ⊥
+pub no_container : (o : Option NameKind) → o ≡ Some HandleName → IsTrue (kind_in o CONTAINERS) → ⊥
 no_container None e h = cc
 no_container (Some ArrayName) e h = cc
 no_container (Some SliceName) e h = cc

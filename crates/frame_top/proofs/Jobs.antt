@@ -1,4 +1,5 @@
 -- The job of a script: its arguments as words, and the arrays that it leaves.
+use Rattle.job_base.specs.declared.limits.TheConstants.{MOST_LIVE_WORDS}
 use Rattle.std.proofs.Common.{◌≡◌, ◌≢◌, ◌∙◌, ◌⊎◌, inl, inr, ⊎_elim, ℕ, zero, suc, ◌<◌, ◌≤◌, ◌^◌, Bool, true, false, not, IsTrue, ℤ, List, [], ◌∷◌, length, get_or, Option, Some, None, slice_get, refl, sym, ap, subst, arith}
 use Rattle.std.proofs.lemmas.Option.{slice_get_within, slice_get-get_or}
 use Rattle.job_base.specs.Cells.{cell_list}
@@ -10,7 +11,7 @@ use Rattle.frame_ast.specs.declared.script.Arg.{Arg}
 use Rattle.frame_ast.specs.declared.script.Arg.TheVariants.{Name, Number}
 use Rattle.frame_ast.specs.Checked.{is_read, may_write, written_param}
 use Rattle.frame_ast.specs.Contents.{Contents, Cells}
-use Rattle.frame_ast.specs.Plain.{names_once}
+use Rattle.frame_top.specs.Built.{names_once}
 use Rattle.frame_ast.specs.Schedules.{writes_to, arguments_of, leave_all}
 use Rattle.frame_ast.specs.States.{ScriptState, container_at}
 use Rattle.native_array.specs.declared.array.ArrayAt.{ArrayAt}
@@ -75,7 +76,7 @@ args_stand arrays used cells s params args binds call = record {
       stands_one cells b q.1 _ q.4 (argument_at s params args x q.0 (container_at s q.0) p.0 _ p.1 q.2 (call.named.arrays x p.0 p.1) (h.whole q.0 q.1 q.3) (h.elements q.0 q.1 q.3));
 }
 
-pub binds_fit : (arrays : List ArrayAt) (used : ℕ) (cells : ℕ → ℤ) (s : ScriptState) (k : Kernel) (args : List Arg) (binds : List Bind) → used ≤ 1048576 → IsCall arrays used cells s k.params.items args binds → BindsFit k binds
+pub binds_fit : (arrays : List ArrayAt) (used : ℕ) (cells : ℕ → ℤ) (s : ScriptState) (k : Kernel) (args : List Arg) (binds : List Bind) → used ≤ MOST_LIVE_WORDS → IsCall arrays used cells s k.params.items args binds → BindsFit k binds
 binds_fit arrays used cells s k args binds room call = record {
   count = call.bound.count ∙ call.named.count;
   kinds = λ x p b ep e. ap kind_of (call.bound.each x b e).4 ∙ sym (call.named.arrays x p ep);

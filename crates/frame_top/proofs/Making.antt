@@ -1,4 +1,5 @@
 -- A new array.
+use Rattle.job_base.specs.declared.limits.TheConstants.{MOST_LIVE_WORDS}
 use Rattle.std.proofs.Common.{◌≡◌, ◌≢◌, ◌∙◌, ◌⊎◌, inl, inr, ⊎_elim, ℕ, zero, suc, ◌+◌, ◌<◌, ◌≤◌, Bool, true, false, if◌then◌else◌, ℤ, List, Some, None, slice_get, refl, sym, ap, subst, arith, add-one}
 use Rattle.std.proofs.lemmas.Bool.Decides.{nat_tests}
 use Rattle.job_base.specs.Cells.{cell_list}
@@ -64,7 +65,7 @@ live_le : (s : ScriptState) (n : ℕ) → live_below s n ≤ words_below s.conte
 live_le s zero = omega arith
 live_le s (suc n) = either_le (is_live s n) (live_below s n) (words_below s.contents n) (words_of (s.contents n)) (live_le s n)
 
-pub has_room : (s : ScriptState) (words name used : ℕ) → words_below s.contents s.made ≡ used → used + words ≤ 1048576 → store_full s words name ≡ None
+pub has_room : (s : ScriptState) (words name used : ℕ) → words_below s.contents s.made ≡ used → used + words ≤ MOST_LIVE_WORDS → store_full s words name ≡ None
 has_room s words name used e h = let l = live_le s s.made in grind (arith, nat_tests)
 
 words_kept : (contents : ℕ → Contents) (made n : ℕ) (c : Contents) → n ≤ made → words_below (with_at contents made c) n ≡ words_below contents n

@@ -5,13 +5,14 @@ use Rattle.frame_ast.specs.declared.kernel.FaultKind.TheVariants.{Syntax, TooLon
 use Rattle.frame_ast.specs.declared.script.Script.{Script}
 use Rattle.frame_ast.specs.Answers.{script_refused_line, script_size_line, statements_line}
 use Rattle.frame_ast.specs.Orders.{no_table}
-use Rattle.frame_ast.specs.Plain.{HasNoTrap}
+use Rattle.frame_ast.specs.Scripts.{HasNoTrap}
 use Rattle.frame_ast.specs.Scripts.{status_of, output_of}
 use Rattle.frame_script.specs.Loading.{Spells, IsRefused}
 use Rattle.same_trees.specs.Same.{SameScript}
 use Rattle.same_trees.proofs.Scripts.{same_scripts_run_alike, same_scripts_have_no_trap}
 use Rattle.spelled_once.proofs.Laws.{scripts_are_spelled_once, refusals_are_once, spelled_is_not_refused}
-use Rattle.frame_top.specs.Answers.{script_limit, IsTooLong, IsFaulty, HasTooMany, IsStopped, IsRun, Outcome, Stops, Runs}
+use Rattle.job_base.specs.declared.limits.TheConstants.{MOST_SCRIPT_BYTES}
+use Rattle.frame_top.specs.Answers.{IsTooLong, IsFaulty, HasTooMany, IsStopped, IsRun, Outcome, Stops, Runs}
 use Rattle.frame_top.specs.Built.{StopsAt, Unbuilt, Trapping, unbuilt_at}
 use Rattle.frame_top.proofs.SameBuilt.{same_unbuilt, same_job_line}
 
@@ -56,7 +57,7 @@ pub data Means (status : ℕ) (text : List ℕ) (bytes : List ℕ) : Type 0 wher
   long : IsTooLong bytes → status ≡ 9 → text ≡ script_size_line → Means status text bytes
   fault : (line : ℕ) (kind : FaultKind) → IsFaulty line kind bytes → status ≡ 3 → text ≡ script_refused_line line kind → Means status text bytes
   many : HasTooMany bytes → status ≡ 9 → text ≡ statements_line → Means status text bytes
-  script : (s : Script) → length bytes ≤ script_limit → Spells bytes s → Outcome s status text → Means status text bytes
+  script : (s : Script) → length bytes ≤ MOST_SCRIPT_BYTES → Spells bytes s → Outcome s status text → Means status text bytes
 
 pub stopped_means : (line : ℕ) (bytes : List ℕ) → IsStopped line bytes → Means 3 (script_refused_line line Syntax) bytes
 stopped_means line bytes h = script h.script h.within h.spelled (Stops line h.stops refl refl)
@@ -64,7 +65,7 @@ stopped_means line bytes h = script h.script h.within h.spelled (Stops line h.st
 pub run_means : (s : Script) (bytes : List ℕ) → IsRun s bytes → Means (status_of s no_table) (output_of s no_table) bytes
 run_means s bytes h = script s h.within h.spelled (Runs h.built h.no_trap refl refl)
 
-too_long : (bytes : List ℕ) → IsTooLong bytes → length bytes ≤ script_limit → ⊥
+too_long : (bytes : List ℕ) → IsTooLong bytes → length bytes ≤ MOST_SCRIPT_BYTES → ⊥
 too_long bytes h w = omega arith
 
 fault_once : (bytes : List ℕ) (line line' : ℕ) (kind kind' : FaultKind) → IsRefused bytes line kind → IsRefused bytes line' kind' → script_refused_line line kind ≡ script_refused_line line' kind'

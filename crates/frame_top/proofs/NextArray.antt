@@ -1,4 +1,5 @@
 -- The statements that make arrays, one after another.
+use Rattle.job_base.specs.declared.limits.TheConstants.{MOST_ELEMENTS}
 use Rattle.std.proofs.Common.{◌≡◌, ◌≢◌, ◌∙◌, ℕ, ◌+◌, ◌<◌, ◌≤◌, ◌⊎◌, inl, inr, ◌&&◌, Bool, max, IsTrue, ℤ, pos, List, [], ◌∷◌, length, drop, map, sum, get_or, Option, Some, None, slice_get, refl, sym, ap, subst, arith}
 use Rattle.std.specs.Prelude.{if◌then◌else◌}
 use Rattle.job_base.specs.Cells.{cell_list}
@@ -7,13 +8,15 @@ use Rattle.frame_ast.specs.declared.script.Life.TheVariants.{Persistent}
 use Rattle.frame_ast.specs.declared.script.Order.TheVariants.{Array}
 use Rattle.frame_ast.specs.declared.script.Statement.{Statement}
 use Rattle.frame_ast.specs.declared.script.Script.{Script}
-use Rattle.frame_ast.specs.Accepted.{NameKind, ArrayName, Names, makes, kind_in, up_to, literal_fits, order_fits, statements_fit, made_after, block_of}
+use Rattle.frame_ast.specs.declared.name_kind.NameKind.{NameKind}
+use Rattle.frame_ast.specs.declared.name_kind.NameKind.TheVariants.{Array as ArrayName}
+use Rattle.frame_ast.specs.Accepted.{Names, makes, kind_in, up_to, literal_fits, order_fits, statements_fit, made_after, block_of}
 use Rattle.frame_ast.specs.Jobs.{empty_book}
 use Rattle.frame_ast.specs.Orders.{made_by, new_array}
 use Rattle.frame_ast.specs.Checks.{refusal}
 use Rattle.frame_ast.specs.Contents.{Cells, words_of}
 use Rattle.frame_ast.specs.Effects.{make, effect}
-use Rattle.frame_ast.specs.Plain.{is_persistent, plain_orders, array_length}
+use Rattle.frame_top.specs.Built.{is_persistent, plain_orders, array_length}
 use Rattle.frame_ast.specs.States.{ScriptState}
 use Rattle.native_array.specs.declared.array.ArrayAt.{ArrayAt}
 use Rattle.frame_top.specs.Built.{is_schedule, job_line}
@@ -45,7 +48,7 @@ array_next script i arrays used total cells x name len life values m h e is = re
   lasting = persistent_is life (first_true (is_persistent life) _ plain);
   known = le_of name (length arrays) (first_true _ (kind_in (slice_get m.kinds name) (ArrayName ∷ [])) (first_true (makes ns name ArrayName) _ order));
   kind = array_kind (slice_get m.kinds name) (second_true _ (kind_in (slice_get m.kinds name) (ArrayName ∷ [])) (first_true (makes ns name ArrayName) _ order));
-  literal = second_true (up_to 1048576 len) _ (second_true (makes ns name ArrayName) _ order);
+  literal = second_true (up_to MOST_ELEMENTS len) _ (second_true (makes ns name ArrayName) _ order);
   plain = second_true (is_persistent life) _ plain;
   fits = record { statements = second_true (order_fits ns (literals_of script) script.kernels.items (length rest) 0 (Array name len life values)) _ all };
   room = room;

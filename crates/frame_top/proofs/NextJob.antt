@@ -11,7 +11,9 @@ use Rattle.frame_ast.specs.declared.script.Order.{Order}
 use Rattle.frame_ast.specs.declared.script.Order.TheVariants.{Schedule}
 use Rattle.frame_ast.specs.declared.script.Statement.{Statement}
 use Rattle.frame_ast.specs.declared.script.Script.{Script}
-use Rattle.frame_ast.specs.Accepted.{NameKind, HandleName, Names, makes, order_fits, schedule_fits, args_fit, statements_fit, made_after, block_of, one_of}
+use Rattle.frame_ast.specs.declared.name_kind.NameKind.{NameKind}
+use Rattle.frame_ast.specs.declared.name_kind.NameKind.TheVariants.{Handle as HandleName}
+use Rattle.frame_ast.specs.Accepted.{Names, makes, order_fits, schedule_fits, args_fit, statements_fit, made_after, block_of, one_of}
 use Rattle.frame_ast.specs.Arguments.{arguments}
 use Rattle.frame_ast.specs.Checks.{refusal}
 use Rattle.frame_ast.specs.Contents.{Contents, Cells}
@@ -20,7 +22,8 @@ use Rattle.frame_ast.specs.JobRuns.{Ran, Run, run_of, no_run, full_steps, trap_a
 use Rattle.frame_ast.specs.Jobs.{Book, only}
 use Rattle.frame_ast.specs.Kernels.{Outcome, execution, store_after, trap_after}
 use Rattle.frame_ast.specs.Orders.{Setting, params_of, is_parallel, made_by, kernel_params, kernel_parallel}
-use Rattle.frame_ast.specs.Plain.{plain_orders, is_given, names_once, completes_then_prints}
+use Rattle.frame_top.specs.Built.{plain_orders, names_once, completes_then_prints}
+use Rattle.std.specs.Prelude.{is_some}
 use Rattle.frame_ast.specs.Refusals.{schedule_refusal}
 use Rattle.frame_ast.specs.Schedules.{givens, arguments_of, leave_all, widths_from}
 use Rattle.frame_ast.specs.States.{Value, JobTrap, ScriptState, container_of, container_at}
@@ -73,7 +76,7 @@ second_false : (a b : Bool) → a || b ≡ false → b ≡ false
 second_false true b h = cc
 second_false false b h = h
 
-none_given : {A : Type 0} (o : Option A) → is_given o ≡ false → o ≡ None
+none_given : {A : Type 0} (o : Option A) → is_some o ≡ false → o ≡ None
 none_given None h = refl
 none_given (Some x) h = cc
 
@@ -116,20 +119,20 @@ job_next script i arrays used total cells x auto name kernel args cut defer waiv
     plain : IsTrue (plain_orders (Schedule auto name kernel args cut defer waive after ∷ orders (drop (i + 1) script.statements.items)))
     plain = subst (λ o. IsTrue (plain_orders (o ∷ orders (drop (i + 1) script.statements.items)))) is (subst (λ xs. IsTrue (plain_orders (orders xs))) next m.plain)
 
-    options : auto || (is_given cut || is_given defer) ≡ false
-    options = not_true (auto || (is_given cut || is_given defer)) (first_true (not (auto || (is_given cut || is_given defer))) _ plain)
+    options : auto || (is_some cut || is_some defer) ≡ false
+    options = not_true (auto || (is_some cut || is_some defer)) (first_true (not (auto || (is_some cut || is_some defer))) _ plain)
 
     lists : length waive.items + length after.items ≡ 0
-    lists = eq_of (length waive.items + length after.items) 0 (first_true (nat_eq (length waive.items + length after.items) 0) _ (second_true (not (auto || (is_given cut || is_given defer))) _ plain))
+    lists = eq_of (length waive.items + length after.items) 0 (first_true (nat_eq (length waive.items + length after.items) 0) _ (second_true (not (auto || (is_some cut || is_some defer))) _ plain))
 
     last : IsTrue (names_once [] args.items && completes_then_prints name (orders (drop (i + 1) script.statements.items)))
-    last = second_true (nat_eq (length waive.items + length after.items) 0) _ (second_true (not (auto || (is_given cut || is_given defer))) _ plain)
+    last = second_true (nat_eq (length waive.items + length after.items) 0) _ (second_true (not (auto || (is_some cut || is_some defer))) _ plain)
 
     simple : IsSimple auto cut defer waive.items after.items
     simple = record {
-      auto_is = first_false auto (is_given cut || is_given defer) options;
-      cut_is = none_given cut (first_false (is_given cut) (is_given defer) (second_false auto (is_given cut || is_given defer) options));
-      defer_is = none_given defer (second_false (is_given cut) (is_given defer) (second_false auto (is_given cut || is_given defer) options));
+      auto_is = first_false auto (is_some cut || is_some defer) options;
+      cut_is = none_given cut (first_false (is_some cut) (is_some defer) (second_false auto (is_some cut || is_some defer) options));
+      defer_is = none_given defer (second_false (is_some cut) (is_some defer) (second_false auto (is_some cut || is_some defer) options));
       waive_is = no_item waive.items (let l = lists in omega arith);
       after_is = no_item after.items (let l = lists in omega arith);
     }

@@ -1,4 +1,5 @@
 -- The statements that print, one after another.
+use Rattle.job_base.specs.declared.limits.TheConstants.{MOST_LIVE_WORDS}
 use Rattle.std.proofs.Common.{◌≡◌, ◌∙◌, ℕ, zero, suc, ◌+◌, ◌<◌, ◌≤◌, Bool, true, false, ◌&&◌, IsTrue, ℤ, List, [], ◌∷◌, ◌++◌, length, map, drop, get_or, nat_lt, Option, Some, None, slice_get, String, Global, string_bytes, take, Err, append-nil, append_assoc, refl, sym, ap, subst, arith}
 use Rattle.std.specs.Io.KnownBytes.{Appends}
 use Rattle.job_base.specs.Cells.{cell_list}
@@ -7,15 +8,19 @@ use Rattle.frame_ast.specs.declared.script.Order.{Order}
 use Rattle.frame_ast.specs.declared.script.Order.TheVariants.{Print}
 use Rattle.frame_ast.specs.declared.script.Statement.{Statement}
 use Rattle.frame_ast.specs.declared.script.Script.{Script}
-use Rattle.frame_ast.specs.Accepted.{NameKind, uses, kind_in, container, order_fits, statements_fit, made_after, block_of}
+use Rattle.frame_ast.specs.declared.name_kind.NameKind.{NameKind}
+use Rattle.frame_ast.specs.declared.name_kind.TheConstants.{CONTAINERS}
+use Rattle.frame_ast.specs.Accepted.{uses, kind_in, order_fits, statements_fit, made_after, block_of}
 use Rattle.frame_ast.specs.Checks.{refusal}
 use Rattle.frame_ast.specs.Conflicts.{Need}
 use Rattle.frame_ast.specs.Contents.{Cells}
 use Rattle.frame_ast.specs.Effects.{effect}
 use Rattle.frame_ast.specs.Jobs.{nobody}
 use Rattle.frame_ast.specs.Orders.{Setting, made_by, name_text, no_table}
-use Rattle.frame_ast.specs.Plain.{prints_alone, HasNoTrap}
-use Rattle.frame_ast.specs.Refusals.{Refused, first_cause, pending}
+use Rattle.frame_top.specs.Built.{prints_alone}
+use Rattle.frame_ast.specs.Scripts.{HasNoTrap}
+use Rattle.frame_ast.specs.Lists.{first_some}
+use Rattle.frame_ast.specs.Refusals.{Refused, pending}
 use Rattle.frame_ast.specs.Schedules.{need_of}
 use Rattle.frame_ast.specs.Scripts.{act, act_or_pass, act_all, decided, output_at, output_of, status_by, status_at, status_of}
 use Rattle.frame_ast.specs.States.{ScriptState, at_start, value_elements, is_alive, is_stale}
@@ -37,7 +42,7 @@ pub record PrintNext (script : Script) (i : ℕ) (arrays : List ArrayAt) (made n
   pub fits : Fits script kinds made (i + 1)
   pub plain : IsTrue (prints_alone (orders (drop (i + 1) script.statements.items)))
 
-some_kind : (kinds : List NameKind) (n : ℕ) → IsTrue (kind_in (slice_get kinds n) container) → n < length kinds
+some_kind : (kinds : List NameKind) (n : ℕ) → IsTrue (kind_in (slice_get kinds n) CONTAINERS) → n < length kinds
 some_kind [] n h = cc
 some_kind (k ∷ kinds) zero h = omega arith
 some_kind (k ∷ kinds) (suc n) h = let l = some_kind kinds n h in omega arith
@@ -59,14 +64,15 @@ print_next script i arrays total cells x name m h e is = record {
     all : IsTrue (order_fits (names_before m.kinds m.made) (literals_of script) script.kernels.items (length (drop (i + 1) script.statements.items)) 0 (Print name) && statements_fit (names_before m.kinds m.made) (literals_of script) script.kernels.items 0 (drop (i + 1) script.statements.items))
     all = subst (λ o. IsTrue (order_fits (names_before m.kinds m.made) (literals_of script) script.kernels.items (length (drop (i + 1) script.statements.items)) 0 o && statements_fit (names_before m.kinds (made_after m.made (made_by o))) (literals_of script) script.kernels.items (block_of o 0) (drop (i + 1) script.statements.items))) is (subst (λ xs. IsTrue (statements_fit (names_before m.kinds m.made) (literals_of script) script.kernels.items 0 xs)) next m.fits.statements)
 
-    order : IsTrue (uses (names_before m.kinds m.made) name container)
+    order : IsTrue (uses (names_before m.kinds m.made) name CONTAINERS)
     order = first_true _ (statements_fit (names_before m.kinds m.made) (literals_of script) script.kernels.items 0 (drop (i + 1) script.statements.items)) all
 
-    kind : IsTrue (kind_in (slice_get m.kinds name) container)
+    kind : IsTrue (kind_in (slice_get m.kinds name) CONTAINERS)
     kind = second_true (nat_lt name m.made) _ order
 
-three_causes : (a b c : Option Refused) → a ≡ None → b ≡ None → c ≡ None → first_cause (a ∷ b ∷ c ∷ []) ≡ None
-three_causes a b c p q r = let all : a ∷ b ∷ c ∷ [] ≡ None ∷ None ∷ None ∷ [] = cc in ap first_cause all
+three_causes : (a b c : Option Refused) → a ≡ None → b ≡ None → c ≡ None → first_some (a ∷ b ∷ c ∷ []) ≡ None
+unfolding first_some
+three_causes a b c p q r = let all : a ∷ b ∷ c ∷ [] ≡ None ∷ None ∷ None ∷ [] = cc in ap first_some all
 
 -- the line that the print of an array appends
 abbrev pub line_at : Script → ℕ → List ℤ → List ℕ
@@ -144,7 +150,7 @@ prints_keep g (x ∷ xs) s h p = by x.act refl h (λ t q. prints_keep g xs t q)
 -- what the loop over the prints keeps
 pub record InPrinting (script : Script) (i : ℕ) (arrays : List ArrayAt) (cells cells' : ℕ → ℤ) (may_read may_read' : ℕ → Bool) (old now : Option (List ℕ)) (faults faults' : ℕ) : Type 0 where
   pub total : ℕ
-  pub small : total ≤ 1048576
+  pub small : total ≤ MOST_LIVE_WORDS
   pub prints : Prints script i arrays total cells
   pub reads : (w : ℕ) → w < total → IsTrue (may_read w)
   pub written : Appends old now (state_at script i).lines

@@ -8,12 +8,15 @@ use Rattle.frame_ast.specs.declared.script.Order.{Order}
 use Rattle.frame_ast.specs.declared.script.Order.TheVariants.{Array, Schedule, Complete, Print}
 use Rattle.frame_ast.specs.declared.script.Statement.{Statement}
 use Rattle.frame_ast.specs.declared.script.Script.{Script}
-use Rattle.frame_ast.specs.Accepted.{NameKind, kind_in, container, order_fits, statements_fit, made_after, block_of}
+use Rattle.frame_ast.specs.declared.name_kind.NameKind.{NameKind}
+use Rattle.frame_ast.specs.declared.name_kind.TheConstants.{CONTAINERS}
+use Rattle.frame_ast.specs.Accepted.{kind_in, order_fits, statements_fit, made_after, block_of}
 use Rattle.frame_ast.specs.Conflicts.{Need, Uses, blocking, conflicts}
 use Rattle.frame_ast.specs.Effects.{accept, complete, effect}
 use Rattle.frame_ast.specs.Jobs.{Book, Jobs, only, nobody, greatest, with_completed, ancestors, ancestors_in, happens_before}
 use Rattle.frame_ast.specs.Orders.{made_by}
-use Rattle.frame_ast.specs.Plain.{HasNoTrap, plain_orders, completes_then_prints, prints_alone}
+use Rattle.frame_top.specs.Built.{plain_orders, completes_then_prints, prints_alone}
+use Rattle.frame_ast.specs.Scripts.{HasNoTrap}
 use Rattle.frame_ast.specs.Refusals.{pending, pending_on}
 use Rattle.frame_ast.specs.Checks.{refusal}
 use Rattle.frame_ast.specs.Scripts.{act, act_all}
@@ -137,7 +140,7 @@ completed script i arrays used total cells cells' name kernel args k m room j t 
         let one : IsTrue (order_fits (names_before m.kinds (max (length arrays) (name + 1))) (literals_of script) script.kernels.items (length y.1) 0 (Complete name) && statements_fit (names_before m.kinds (max (length arrays) (name + 1))) (literals_of script) script.kernels.items 0 y.1) = subst (λ o. IsTrue (order_fits (names_before m.kinds (max (length arrays) (name + 1))) (literals_of script) script.kernels.items (length y.1) 0 o && statements_fit (names_before m.kinds (made_after (max (length arrays) (name + 1)) (made_by o))) (literals_of script) script.kernels.items (block_of o 0) y.1)) y.3 all in
         subst (λ xs. IsTrue (statements_fit (names_before m.kinds (max (length arrays) (name + 1))) (literals_of script) script.kernels.items 0 xs)) (sym rest_is) (second_true (order_fits (names_before m.kinds (max (length arrays) (name + 1))) (literals_of script) script.kernels.items (length y.1) 0 (Complete name)) _ one)
 
-    known : (n : ℕ) → n < max (length arrays) (name + 1) → IsTrue (kind_in (slice_get m.kinds n) container) → n < length arrays
+    known : (n : ℕ) → n < max (length arrays) (name + 1) → IsTrue (kind_in (slice_get m.kinds n) CONTAINERS) → n < length arrays
     known n l h = ⊎_elim (λ e. absurd (no_container (slice_get m.kinds n) (ap (slice_get m.kinds) e ∙ j.kind) h)) (λ e. let w = j.known in omega arith) (same_or n name)
 
 -- a script whose job traps has a trap

@@ -1,4 +1,5 @@
 -- A script of which nothing is unbuilt can be run.
+use Rattle.job_base.specs.declared.limits.TheConstants.{MOST_LIVE_WORDS}
 use Rattle.std.proofs.Common.{◌≡◌, ◌∙◌, ℕ, zero, suc, ◌+◌, ◌-◌, ◌<◌, ◌≤◌, Bool, true, false, ◌&&◌, ◌||◌, not, nat_eq, IsTrue, List, [], ◌∷◌, length, take, drop, get_or, map, sum, Option, Some, None, slice_get, refl, sym, ap, subst, arith}
 use Rattle.std.specs.Prelude.{if◌then◌else◌}
 use Rattle.std.specs.List.{list_all}
@@ -7,8 +8,9 @@ use Rattle.frame_ast.specs.declared.script.Order.{Order}
 use Rattle.frame_ast.specs.declared.script.Order.TheVariants.{Array, Schedule, Complete, Print}
 use Rattle.frame_ast.specs.declared.script.Statement.{Statement}
 use Rattle.frame_ast.specs.declared.script.Script.{Script}
-use Rattle.frame_ast.specs.Plain.{array_length, completes_then_prints, is_given, is_persistent, names_once, plain_orders, prints_alone}
-use Rattle.frame_top.specs.Built.{word_limit, IsBuilt, completes, handle_of, has_built_kernel, is_built_array, is_built_job, is_built_kernel, is_print, unbuilt_at, unbuilt_behind, unbuilt_complete, unbuilt_job, unbuilt_prints}
+use Rattle.frame_top.specs.Built.{array_length, completes_then_prints, is_persistent, names_once, plain_orders, prints_alone}
+use Rattle.std.specs.Prelude.{is_some}
+use Rattle.frame_top.specs.Built.{IsBuilt, completes, handle_of, has_built_kernel, is_built_array, is_built_job, is_built_kernel, is_print, unbuilt_at, unbuilt_behind, unbuilt_complete, unbuilt_job, unbuilt_prints}
 use Rattle.frame_top.specs.Progress.{orders}
 use Rattle.frame_top.proofs.Facts.{le_of}
 use Rattle.frame_top.proofs.Printing.{nothing_left}
@@ -27,7 +29,7 @@ not_none l e = cc
 record AreBuilt (kernels : List Kernel) (used : ℕ) (xs : List Statement) : Type 0 where
   plain : IsTrue (plain_orders (orders xs))
   kernel : IsTrue (list_all (has_built_kernel kernels) (orders xs))
-  room : used + sum (map (λ x. array_length x.act) xs) ≤ word_limit
+  room : used + sum (map (λ x. array_length x.act) xs) ≤ MOST_LIVE_WORDS
 
 -- only prints
 record ArePrints (kernels : List Kernel) (xs : List Statement) : Type 0 where
@@ -97,8 +99,8 @@ ends kernels line handle (x ∷ more) e = by (completes handle x.act) refl e
 
 job_plain : (kernels : List Kernel) (o : Order) (os : List Order) → IsTrue (is_built_job kernels o) → IsTrue (completes_then_prints (handle_of o) os) → IsTrue (plain_orders (o ∷ os))
 job_plain kernels (Schedule auto handle kernel args cut defer waive after) os h p =
-    let options = first_true (not (auto || (is_given cut || is_given defer))) _ h in
-    let rest = second_true (not (auto || (is_given cut || is_given defer))) _ h in
+    let options = first_true (not (auto || (is_some cut || is_some defer))) _ h in
+    let rest = second_true (not (auto || (is_some cut || is_some defer))) _ h in
     let lists = first_true (nat_eq (length waive.items + length after.items) 0) _ rest in
     let once = first_true (names_once [] args.items) (is_built_kernel (slice_get kernels kernel)) (second_true (nat_eq (length waive.items + length after.items) 0) _ rest) in
     both _ _ options (both _ _ lists (both _ _ once p))
@@ -106,7 +108,7 @@ job_plain kernels _ os h p = cc
 
 job_kernel : (kernels : List Kernel) (o : Order) → IsTrue (is_built_job kernels o) → IsTrue (has_built_kernel kernels o)
 job_kernel kernels (Schedule auto handle kernel args cut defer waive after) h =
-    let rest = second_true (not (auto || (is_given cut || is_given defer))) _ h in
+    let rest = second_true (not (auto || (is_some cut || is_some defer))) _ h in
     second_true (names_once [] args.items) (is_built_kernel (slice_get kernels kernel)) (second_true (nat_eq (length waive.items + length after.items) 0) _ rest)
 job_kernel kernels _ h = cc
 
@@ -119,7 +121,7 @@ prints_plain [] h = refl
 prints_plain (Print name ∷ os) h = h
 prints_plain (_ ∷ os) h = cc
 
-job : (kernels : List Kernel) (used : ℕ) (xs : List Statement) → used ≤ word_limit → unbuilt_job kernels xs ≡ None → AreBuilt kernels used xs
+job : (kernels : List Kernel) (used : ℕ) (xs : List Statement) → used ≤ MOST_LIVE_WORDS → unbuilt_job kernels xs ≡ None → AreBuilt kernels used xs
 job kernels used [] h e = record { plain = refl; kernel = refl; room = omega arith }
 job kernels used (x ∷ more) h e = by (is_built_job kernels x.act) refl e
   where
@@ -145,15 +147,15 @@ array_kernel : (kernels : List Kernel) (used : ℕ) (o : Order) → IsTrue (is_b
 array_kernel kernels used (Array name len life values) h = refl
 array_kernel kernels used _ h = cc
 
-pub array_room : (used : ℕ) (o : Order) → IsTrue (is_built_array used o) → used + array_length o ≤ word_limit
-array_room used (Array name len life values) h = le_of (used + len) word_limit (second_true (is_persistent life) _ h)
+pub array_room : (used : ℕ) (o : Order) → IsTrue (is_built_array used o) → used + array_length o ≤ MOST_LIVE_WORDS
+array_room used (Array name len life values) h = le_of (used + len) MOST_LIVE_WORDS (second_true (is_persistent life) _ h)
 array_room used _ h = cc
 
-behind : (kernels : List Kernel) (used : ℕ) (xs : List Statement) → used ≤ word_limit → unbuilt_behind kernels used xs ≡ None → AreBuilt kernels used xs
+behind : (kernels : List Kernel) (used : ℕ) (xs : List Statement) → used ≤ MOST_LIVE_WORDS → unbuilt_behind kernels used xs ≡ None → AreBuilt kernels used xs
 behind kernels used [] h e = record { plain = refl; kernel = refl; room = omega arith }
 behind kernels used (x ∷ more) h e = by (is_built_array used x.act) refl e (behind kernels (used + array_length x.act) more)
   where
-    by : (b : Bool) → is_built_array used x.act ≡ b → (if b then unbuilt_behind kernels (used + array_length x.act) more else unbuilt_job kernels (x ∷ more)) ≡ None → (used + array_length x.act ≤ word_limit → unbuilt_behind kernels (used + array_length x.act) more ≡ None → AreBuilt kernels (used + array_length x.act) more) → AreBuilt kernels used (x ∷ more)
+    by : (b : Bool) → is_built_array used x.act ≡ b → (if b then unbuilt_behind kernels (used + array_length x.act) more else unbuilt_job kernels (x ∷ more)) ≡ None → (used + array_length x.act ≤ MOST_LIVE_WORDS → unbuilt_behind kernels (used + array_length x.act) more ≡ None → AreBuilt kernels (used + array_length x.act) more) → AreBuilt kernels used (x ∷ more)
     by true is e after =
         let rest = after (array_room used x.act is) e in
         record {

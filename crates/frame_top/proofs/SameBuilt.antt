@@ -8,7 +8,8 @@ use Rattle.frame_ast.specs.declared.script.Order.{Order}
 use Rattle.frame_ast.specs.declared.script.Order.TheVariants.{Schedule}
 use Rattle.frame_ast.specs.declared.script.Statement.{Statement}
 use Rattle.frame_ast.specs.declared.script.Script.{Script}
-use Rattle.frame_ast.specs.Plain.{array_length, is_given, names_once}
+use Rattle.frame_top.specs.Built.{array_length, names_once}
+use Rattle.std.specs.Prelude.{is_some}
 use Rattle.frame_ast.specs.Schedules.{is_array}
 use Rattle.same_trees.specs.Same.{Pairwise, SameKernel, SameOrder, SameParam, SameScript, SameStatement}
 use Rattle.frame_top.specs.Built.{completes, handle_of, is_array_param, is_built_array, is_built_job, is_built_kernel, is_over_arrays, is_print, is_schedule, job_line, unbuilt_at, unbuilt_behind, unbuilt_complete, unbuilt_job, unbuilt_prints}
@@ -79,13 +80,13 @@ same_job : (ks : List Kernel) (x y : Order) → SameOrder x y → is_built_job k
 same_job ks x y SameOrder.itself = refl
 same_job ks _ _ (SameOrder.column bytes) = refl
 same_job ks _ _ (SameOrder.schedule {auto = auto} {kernel = kernel} {cut = cut} {defer = defer} args waive after) =
-    λ i. not (auto || (is_given cut || is_given defer)) && (nat_eq (length (waive i) + length (after i)) 0 && (names_once [] (args i) && is_built_kernel (slice_get ks kernel)))
+    λ i. not (auto || (is_some cut || is_some defer)) && (nat_eq (length (waive i) + length (after i)) 0 && (names_once [] (args i) && is_built_kernel (slice_get ks kernel)))
 same_job ks _ _ (SameOrder.combine of) = refl
 same_job ks _ _ (SameOrder.dispose after) = refl
 
 job_of_same : (ks ls : List Kernel) (x : Order) → Pairwise SameKernel ks ls → is_built_job ks x ≡ is_built_job ls x
 job_of_same ks ls (Schedule auto handle kernel args cut defer waive after) s =
-    ap (λ b. not (auto || (is_given cut || is_given defer)) && (nat_eq (length waive.items + length after.items) 0 && (names_once [] args.items && b))) (same_kernel ks ls kernel s)
+    ap (λ b. not (auto || (is_some cut || is_some defer)) && (nat_eq (length waive.items + length after.items) 0 && (names_once [] args.items && b))) (same_kernel ks ls kernel s)
 job_of_same ks ls _ s = refl
 
 -- STATEMENTS

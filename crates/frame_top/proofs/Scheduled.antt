@@ -1,6 +1,6 @@
 -- A schedule of different arrays isn't refused where no job is pending.
 use Rattle.std.proofs.Common.{◌≡◌, ◌≢◌, ◌∙◌, ℕ, zero, suc, ◌<◌, Bool, true, false, ◌&&◌, not, IsTrue, ℤ, List, [], ◌∷◌, ◌++◌, length, map, nat_eq, Option, Some, None, slice_get, refl, sym, ap, subst, arith}
-use Rattle.std.specs.Prelude.{find}
+use Rattle.std.specs.Prelude.{find, option_map}
 use Rattle.std.specs.List.{list_any}
 use Rattle.std.proofs.lemmas.Bool.Decides.{nat_tests}
 use Rattle.frame_ast.specs.declared.kernel.Param.{Param}
@@ -10,9 +10,9 @@ use Rattle.frame_ast.specs.declared.script.Arg.{Arg}
 use Rattle.frame_ast.specs.declared.script.Arg.TheVariants.{Name, Number}
 use Rattle.frame_ast.specs.Conflicts.{blocking}
 use Rattle.frame_ast.specs.Jobs.{Book, empty_book, greatest}
-use Rattle.frame_ast.specs.Lists.{member}
-use Rattle.frame_ast.specs.Plain.{names_once}
-use Rattle.frame_ast.specs.Refusals.{Refused, first_cause, jobs_named, pending_on, is_temp, first_given, schedule_refusal, naming}
+use Rattle.frame_ast.specs.Lists.{member, first_some}
+use Rattle.frame_top.specs.Built.{names_once}
+use Rattle.frame_ast.specs.Refusals.{Refused, refused, jobs_named, pending_on, is_temp, first_given, schedule_refusal}
 use Rattle.frame_ast.specs.Schedules.{Given, writes_to, is_shared, alias, first_alias, given_args, givens, need_of}
 use Rattle.frame_ast.specs.States.{ScriptState, container_at, is_alive, is_stale}
 use Rattle.native_array.specs.declared.array.ArrayAt.{ArrayAt}
@@ -124,18 +124,19 @@ no_aliases arrays used cells s seen before (p ∷ params) (Name m ∷ args) h n 
     let rest = no_aliases arrays used cells s (m ∷ seen) (before ++ g ∷ []) params args h (tail_named (length arrays) p params (Name m) args n) (each_pushed (IsGood s (length arrays)) before g gs q) (each_pushed (λ a. member a.need.name (m ∷ seen) ≡ true) before g (seen_more seen m before are) (self_member m seen)) (second_true (not (member m seen)) (names_once (m ∷ seen) args) o) in
     (rw here rest)
 
-no_causes : (a b c d e f : Option Refused) → a ≡ None → b ≡ None → c ≡ None → d ≡ None → e ≡ None → f ≡ None → first_cause (a ∷ b ∷ c ∷ d ∷ e ∷ f ∷ []) ≡ None
+no_causes : (a b c d e f : Option Refused) → a ≡ None → b ≡ None → c ≡ None → d ≡ None → e ≡ None → f ≡ None → first_some (a ∷ b ∷ c ∷ d ∷ e ∷ f ∷ []) ≡ None
+unfolding first_some
 no_causes a b c d e f p q r s t u =
     let all : a ∷ b ∷ c ∷ d ∷ e ∷ f ∷ [] ≡ None ∷ None ∷ None ∷ None ∷ None ∷ None ∷ [] = cc in
-    ap first_cause all
+    ap first_some all
 
 pub accepts : (arrays : List ArrayAt) (used : ℕ) (cells : ℕ → ℤ) (s : ScriptState) (params : List Param) (args : List Arg) → Holds arrays used cells s → s.book ≡ empty_book → AreNamed (length arrays) params args → IsTrue (names_once [] args) → schedule_refusal s false false (givens s params args None) [] ≡ None
 accepts arrays used cells s params args h book n o =
     let gs = all_good arrays used cells s params args h n in
     no_causes _ _ _ _ _ _
-    (ap (naming _) (no_name s (length arrays) (λ m. not (is_alive s (s.values m))) (givens s params args None) gs (λ g q. ap not q.alive)))
-    (ap (naming _) (no_name s (length arrays) (λ m. is_stale s (s.values m)) (givens s params args None) gs (λ g q. q.fresh)))
-    (ap (naming _) (no_given s (length arrays) (λ g. false && (g.need.writes && is_shared g.kind)) (givens s params args None) gs (λ g q. refl)))
-    (ap (naming _) (no_given s (length arrays) (λ g. is_temp (s.life g.need.container)) (givens s params args None) gs (λ g q. q.lasting)))
-    (ap (naming _) (no_aliases arrays used cells s [] [] params args h n tt tt o))
+    (ap (option_map (refused _)) (no_name s (length arrays) (λ m. not (is_alive s (s.values m))) (givens s params args None) gs (λ g q. ap not q.alive)))
+    (ap (option_map (refused _)) (no_name s (length arrays) (λ m. is_stale s (s.values m)) (givens s params args None) gs (λ g q. q.fresh)))
+    (ap (option_map (refused _)) (no_given s (length arrays) (λ g. false && (g.need.writes && is_shared g.kind)) (givens s params args None) gs (λ g q. refl)))
+    (ap (option_map (refused _)) (no_given s (length arrays) (λ g. is_temp (s.life g.need.container)) (givens s params args None) gs (λ g q. q.lasting)))
+    (ap (option_map (refused _)) (no_aliases arrays used cells s [] [] params args h n tt tt o))
     (ap (λ (b : Book). pending_on s.uses (map (λ v. v.need) (givens s params args None)) (greatest (blocking b s.uses (jobs_named s []) (map (λ v. v.need) (givens s params args None))) b.count)) book)

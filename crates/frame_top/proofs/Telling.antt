@@ -5,17 +5,18 @@ use Rattle.frame_ast.specs.declared.kernel.FaultKind.TheVariants.{Syntax, Unknow
 use Rattle.frame_ast.specs.declared.script.Script.{Script}
 use Rattle.frame_ast.specs.Answers.{script_refused_line, statements_line}
 use Rattle.frame_script.specs.Loading.{Spells, IsRefused}
-use Rattle.frame_top.specs.Answers.{script_limit, Answers, Caused, Early, Cause, HasTooMany, IsFaulty, IsRun, IsStopped, Outcome, Refused, Stopped, Ran, Runs, Stops, Told, TooMany}
+use Rattle.job_base.specs.declared.limits.TheConstants.{MOST_SCRIPT_BYTES}
+use Rattle.frame_top.specs.Answers.{Answers, Caused, Early, Cause, HasTooMany, IsFaulty, IsRun, IsStopped, Outcome, Refused, Stopped, Ran, Runs, Stops, Told, TooMany}
 use Rattle.frame_top.specs.Words.{script_word}
 use Rattle.frame_top.proofs.Known.{known, at_some}
 
-module _ (words : List (List ℕ)) (bytes : List ℕ → Option (List ℕ)) (risen : Type 0) (failed : Option (List ℕ)) (name source read : List ℕ) (named : script_word words ≡ Some name) (told : IfSome (bytes name) (λ b. read ≡ b)) (same : source ≡ read) (within : length read ≤ script_limit) where
+module _ (words : List (List ℕ)) (bytes : List ℕ → Option (List ℕ)) (risen : Type 0) (failed : Option (List ℕ)) (name source read : List ℕ) (named : script_word words ≡ Some name) (told : IfSome (bytes name) (λ b. read ≡ b)) (same : source ≡ read) (within : length read ≤ MOST_SCRIPT_BYTES) where
   -- what the code has read is told of the file
   has : (P : List ℕ → Type 0) → P source → IfSome (bytes name) P
   has P p = known (bytes name) read P told (subst P same p)
 
-  short : length source ≤ script_limit
-  short = subst (λ b. length b ≤ script_limit) (sym same) within
+  short : length source ≤ MOST_SCRIPT_BYTES
+  short = subst (λ b. length b ≤ MOST_SCRIPT_BYTES) (sym same) within
 
   one_of : (script : Script) (status : ℕ) (text : List ℕ) → Spells source script → Outcome script status text → Cause words bytes risen failed status text
   one_of script status text spelled (Stops line stops is says) =

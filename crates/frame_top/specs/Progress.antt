@@ -1,20 +1,23 @@
 -- How far a script of the plain forms has come, with its arrays as words.
 use Rattle.std.specs.Prelude.{◌≡◌, ℕ, zero, suc, ◌+◌, ◌<◌, ◌≤◌, Bool, true, false, IsTrue, ℤ, List, [], ◌∷◌, length, map, sum, take, drop, Some, None, slice_get}
+use Rattle.job_base.specs.declared.limits.TheConstants.{MOST_LIVE_WORDS}
 use Rattle.frame_ast.specs.declared.script.Statement.{Statement}
 use Rattle.frame_ast.specs.declared.script.Order.{Order}
 use Rattle.frame_ast.specs.declared.script.Order.TheVariants.{Array}
 use Rattle.frame_ast.specs.declared.script.Script.{Script}
-use Rattle.frame_ast.specs.Accepted.{NameKind, ArrayName, kind_in, container, statements_fit}
+use Rattle.frame_ast.specs.declared.name_kind.NameKind.{NameKind}
+use Rattle.frame_ast.specs.declared.name_kind.NameKind.TheVariants.{Array as ArrayName}
+use Rattle.frame_ast.specs.declared.name_kind.TheConstants.{CONTAINERS}
+use Rattle.frame_ast.specs.Accepted.{kind_in, statements_fit}
 use Rattle.frame_ast.specs.Contents.{Contents, words_of}
 use Rattle.frame_ast.specs.Conflicts.{Need}
 use Rattle.frame_ast.specs.Jobs.{nobody, empty_book}
 use Rattle.frame_ast.specs.Orders.{Setting, setting, no_table}
-use Rattle.frame_ast.specs.Plain.{plain_orders, prints_alone, array_length}
 use Rattle.frame_ast.specs.Refusals.{pending}
 use Rattle.frame_ast.specs.Scripts.{act_all}
 use Rattle.frame_ast.specs.States.{ScriptState, at_start}
 use Rattle.native_array.specs.declared.array.ArrayAt.{ArrayAt}
-use Rattle.frame_top.specs.Built.{job_line}
+use Rattle.frame_top.specs.Built.{plain_orders, prints_alone, array_length, job_line}
 use Rattle.frame_top.specs.Held.{Holds}
 
 abbrev pub set_of : Script → Setting
@@ -35,7 +38,8 @@ pub record IsQuiet (s : ScriptState) : Type 0 where
 
 -- the statements from i on fit, where so many names are made
 pub record Fits (script : Script) (kinds : List NameKind) (made i : ℕ) : Type 0 where
-  pub statements : IsTrue (statements_fit (record { kinds = kinds; made = made }) (map (λ v. v.items) script.literals.items) script.kernels.items 0 (drop i script.statements.items))
+  pub statements : IsTrue (statements_fit (record { kinds = kinds; made = made })
+      (map (λ v. v.items) script.literals.items) script.kernels.items 0 (drop i script.statements.items))
 
 -- the words of the containers below n
 abbrev pub words_below : (ℕ → Contents) → ℕ → ℕ
@@ -58,7 +62,7 @@ pub record Makes (script : Script) (i : ℕ) (arrays : List ArrayAt) (used total
   -- no job was scheduled
   pub first_job : job_line script.statements.items ≡ job_line (drop i script.statements.items)
   pub room : used + sum (map (λ x. array_length x.act) (drop i script.statements.items)) ≤ total
-  pub limit : total ≤ 1048576
+  pub limit : total ≤ MOST_LIVE_WORDS
 
 -- the statement that comes next makes no array
 abbrev pub makes_none : List Order → Bool
@@ -80,7 +84,7 @@ pub record Prints (script : Script) (i : ℕ) (arrays : List ArrayAt) (total : �
   pub kinds : List NameKind
   pub each : length kinds ≡ length script.names.items
   pub made : ℕ
-  pub known : (n : ℕ) → n < made → IsTrue (kind_in (slice_get kinds n) container) → n < length arrays
+  pub known : (n : ℕ) → n < made → IsTrue (kind_in (slice_get kinds n) CONTAINERS) → n < length arrays
   pub fits : Fits script kinds made i
   pub plain : IsTrue (prints_alone (orders (drop i script.statements.items)))
 
@@ -90,8 +94,9 @@ pub record IsReady (script : Script) (i : ℕ) (arrays : List ArrayAt) (total : 
   pub no_line : (state_at script i).lines ≡ []
 
 -- the words of the arrays may be read, and only prints are left
-pub record CanPrint (script : Script) (i : ℕ) (arrays : List ArrayAt) (cells : ℕ → ℤ) (readable : ℕ → Bool) : Type 0 where
+pub record CanPrint (script : Script) (i : ℕ) (arrays : List ArrayAt) (cells : ℕ → ℤ) (readable : ℕ → Bool) :
+    Type 0 where
   pub total : ℕ
-  pub small : total ≤ 1048576
+  pub small : total ≤ MOST_LIVE_WORDS
   pub ready : IsReady script i arrays total cells
   pub may_read : (w : ℕ) → w < total → IsTrue (readable w)

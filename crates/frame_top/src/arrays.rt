@@ -4,8 +4,8 @@ ghost use Rattle.job_base.specs.Cells.{cell_list};
 ghost use Rattle.frame_ast.specs.Accepted.{IsAccepted, literal_fits};
 ghost use Rattle.frame_ast.specs.Contents.{Cells};
 ghost use Rattle.frame_ast.specs.Orders.{new_array};
-ghost use Rattle.frame_ast.specs.Plain.{array_length};
-ghost use Rattle.frame_top.specs.Built.{IsBuilt};
+ghost use Rattle.job_base.specs.declared.limits.TheConstants.{MOST_LIVE_WORDS};
+ghost use Rattle.frame_top.specs.Built.{IsBuilt, array_length};
 ghost use Rattle.frame_top.specs.Progress.{set_of, HasMade};
 ghost use Rattle.frame_top.specs.Held.{Puts};
 
@@ -25,7 +25,7 @@ pub fn array_words(order: &Order) -> u32
 
 /// How many words all arrays of a script take.
 pub fn words_needed(script: &Script) -> u32
-    requires { sum (map (λ x. array_length x.act) script.now.statements.items) ≤ 1048576 }
+    requires { sum (map (λ x. array_length x.act) script.now.statements.items) ≤ MOST_LIVE_WORDS }
     ensures { result ≡ sum (map (λ x. array_length x.act) script.now.statements.items) }
 {
     let mut words = 0;

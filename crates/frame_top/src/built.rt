@@ -1,15 +1,13 @@
 // What the program can't run yet.
 ghost use Rattle.std.specs.Prelude.{◌≡◌, ◌≤◌, [], None, slice_get};
 ghost use Rattle.std.specs.List.{list_all, list_any};
-ghost use Rattle.frame_ast.specs.Plain.{names_once};
-ghost use Rattle.frame_top.specs.Built.{IsBuilt, handle_of, has_name, is_built_array, is_built_job, is_array_param, is_built_kernel, is_over_arrays, unbuilt_at, unbuilt_complete, unbuilt_job, unbuilt_prints};
+ghost use Rattle.job_base.specs.declared.limits.TheConstants.{MOST_LIVE_WORDS};
+ghost use Rattle.frame_top.specs.Built.{IsBuilt, names_once, handle_of, has_name, is_built_array, is_built_job, is_array_param, is_built_kernel, is_over_arrays, unbuilt_at, unbuilt_complete, unbuilt_job, unbuilt_prints};
 
 use crate::arrays::array_words;
 use frame_ast::kernel::{Kernel, Param, ParamKind};
 use frame_ast::script::{Arg, Life, Order, Script, Statement};
-
-/// The words of all arrays that a script may make.
-const WORD_LIMIT: u32 = 1_048_576;
+use job_base::limits::MOST_LIVE_WORDS;
 
 // Whether parameters are arrays.
 fn are_arrays(params: &[Param]) -> bool
@@ -71,7 +69,7 @@ fn names_once(args: &[Arg]) -> bool
 
 // Whether a statement makes an array that there is room for behind `used` words.
 fn is_built_array(used: u32, order: &Order) -> bool
-    requires { used ≤ 1048576 }
+    requires { used ≤ MOST_LIVE_WORDS }
     ensures { result ≡ is_built_array used order.now }
 {
     match order {
@@ -79,7 +77,7 @@ fn is_built_array(used: u32, order: &Order) -> bool
             len,
             life: Life::Persistent,
             ..
-        } => *len <= WORD_LIMIT - used,
+        } => *len <= MOST_LIVE_WORDS - used,
         _ => false,
     }
 }
@@ -158,9 +156,9 @@ fn unbuilt_job(kernels: &[Kernel], statements: &[Statement]) -> Option<u32>
 
 /// The line of the first statement that the program can't run yet, if there is one.
 ///
-/// It runs `array` statements, then at most one `schedule` with the `complete` of its handle, and then `print` statements.
-/// The arrays are persistent and have at most 1,048,576 elements in all. The job is of a `job` kernel over arrays alone,
-/// its arguments are different names, and no option is given.
+/// It runs `array` statements, then at most one `schedule` with the `complete` of its handle, and then `print`
+/// statements. The arrays are persistent and have no more elements in all than words may be live. The job is of a `job`
+/// kernel over arrays alone, its arguments are different names, and no option is given.
 pub fn unbuilt(script: &Script) -> Option<u32>
     ensures line { result ≡ unbuilt_at script.now }
     ensures built { result ≡ None → IsBuilt script.now }

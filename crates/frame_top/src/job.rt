@@ -1,13 +1,14 @@
 // The job of a script.
 ghost use Rattle.std.specs.Prelude.{◌≡◌, ◌<◌, ◌≤◌, ℕ, [], Some, length, slice_get, IsTrue, IfOk, OnOk};
 ghost use Rattle.frame_ast.specs.Accepted.{IsAccepted};
-ghost use Rattle.frame_ast.specs.Plain.{HasNoTrap};
+ghost use Rattle.frame_ast.specs.Scripts.{HasNoTrap};
 ghost use Rattle.frame_ast.specs.declared.script.Arg.{Arg as ArgTree};
 ghost use Rattle.frame_top.specs.Built.{IsBuilt, job_line};
 ghost use Rattle.frame_top.specs.Held.{Bound};
 ghost use Rattle.frame_top.specs.Progress.{HasMade, IsReady};
 
 use frame_ast::script::{Arg, Order, Script};
+use job_base::limits::MOST_PARAMS;
 use job_base::{Mem, NoMemory};
 use kernel_exec::{Bind, Scratch, execute};
 use native_array::ArrayAt;
@@ -34,7 +35,7 @@ impl Room {
         ensures { IfOk result (λ r. length r.binds.items ≡ 0) }
     {
         Ok(Room {
-            binds: Vec::with_capacity(alloc, 16)?,
+            binds: Vec::with_capacity(alloc, MOST_PARAMS as usize)?,
             scratch: Scratch::new(alloc)?,
         })
     }
@@ -42,7 +43,8 @@ impl Room {
 
 // The arrays of the arguments.
 fn bind(args: &[Arg], arrays: &[ArrayAt], binds: &mut Vec<Bind>) -> Result<(), NoMemory>
-    requires named { (x : ℕ) (a : ArgTree) → slice_get args.now x ≡ Some a → (n : ℕ) × (a ≡ Arg.Name n) × (n < length arrays.now) }
+    requires named { (x : ℕ) (a : ArgTree) → slice_get args.now x ≡ Some a →
+        (n : ℕ) × (a ≡ Arg.Name n) × (n < length arrays.now) }
     requires none { length binds.old.items ≡ 0 }
     ensures { OnOk result (Bound arrays.now args.now binds.new.items) }
 {

@@ -2,7 +2,7 @@
 ghost use Rattle.std.specs.Prelude.{◌≡◌, ◌≤◌, ℕ, pos, Some, length, nat_lt, replicate, IfOk};
 ghost use Rattle.job_base.specs.Cells.{cells_of};
 ghost use Rattle.frame_ast.specs.Accepted.{IsAccepted};
-ghost use Rattle.frame_ast.specs.Plain.{HasNoTrap};
+ghost use Rattle.frame_ast.specs.Scripts.{HasNoTrap};
 ghost use Rattle.frame_top.specs.Built.{IsBuilt, job_line};
 ghost use Rattle.frame_top.specs.Progress.{CanPrint};
 

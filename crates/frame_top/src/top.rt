@@ -23,11 +23,9 @@ use crate::words::script_name;
 use frame_ast::kernel::FaultKind;
 use frame_ast::script::Script;
 use frame_script::{LoadFault, parse_script};
+use job_base::limits::MOST_SCRIPT_BYTES;
 use job_base::{FileFault, Files, Gate, Sink};
 use std::alloc::Global;
-
-/// The greatest size of a script file, in bytes.
-const SCRIPT_LIMIT: u64 = 16_777_216;
 
 // Prints what a prepared script prints.
 fn print_all<S: Sink>(script: &Script, prepared: &mut Prepared, sink: &mut S) -> u8
@@ -68,7 +66,7 @@ fn answer<F: Files, S: Sink>(alloc: Global, words: &[String], files: &mut F, sin
     let Some(name) = script_name(words) else {
         return say(2, b"usage: frame_run SCRIPT\n", sink);
     };
-    let source = match files.read(alloc, name, SCRIPT_LIMIT) {
+    let source = match files.read(alloc, name, u64::from(MOST_SCRIPT_BYTES)) {
         Ok(source) => source,
         Err(FileFault::Failed) => return say(6, b"cannot read script\n", sink),
         Err(FileFault::TooLong) => return say(9, b"limit: script size\n", sink),
@@ -84,9 +82,9 @@ fn answer<F: Files, S: Sink>(alloc: Global, words: &[String], files: &mut F, sin
 
 /// Reads the script that the words name, runs it, and answers the exit status of the program.
 ///
-/// The words are exactly SCRIPT. A file of at most 16,777,216 bytes is refused for its first fault, or else for the first
-/// statement that `unbuilt` finds, or for the `schedule` of a job that traps; the last two can't be run yet. Every other
-/// file is run. `gate` is passed round each piece once there are workers.
+/// The words are exactly SCRIPT. A file of at most `MOST_SCRIPT_BYTES` is refused for its first fault, or else for the
+/// first statement that `unbuilt` finds, or for the `schedule` of a job that traps; the last two can't be run yet.
+/// Every other file is run. `gate` is passed round each piece once there are workers.
 ///
 /// | Status | Text |
 /// |---|---|
@@ -104,8 +102,8 @@ pub fn run_frame<F: Files, S: Sink, G: Gate>(
     sink: &mut S,
     gate: &G,
 ) -> u8
-    // THE HEADLINE. Where the words name a file whose bytes spell a script that runs, the status is that of the script's
-    // meaning, unless a read failed, the sink failed or memory was wanting; and then the bytes are its output.
+    // THE HEADLINE. Where the words name a file whose bytes spell a script that runs, the status is that of the
+    // script's meaning, unless a read failed, the sink failed or memory was wanting; and then the bytes are its output.
     ensures headline { (script : ScriptTree) → ScriptHas (map (λ w. string_bytes w) words.now) (F.bytes files.old) (IsRun script) →
         IsDue result (status_of script no_table) (Rose (F.faults files.old) (F.faults files.new)) (Rose (S.faults sink.old) (S.faults sink.new)) }
     ensures headline_bytes { (script : ScriptTree) → ScriptHas (map (λ w. string_bytes w) words.now) (F.bytes files.old) (IsRun script) →

@@ -5,19 +5,23 @@
 //! and a test hands in the ones in memory that stand beside the traits.
 #![tactic(auto)]
 
+mod counting_gate;
 mod files;
 mod gate;
 pub mod laws;
 pub mod limits;
 mod mem;
+mod order_gate;
 mod sink;
 #[cfg(test)]
 mod tests;
 
+pub use counting_gate::CountingGate;
 pub use files::{FileFault, Files, MemFiles};
 pub use gate::{Gate, OpenGate};
 pub use mem::{FlatMem, Mem};
-pub use sink::{MemSink, NullSink, Sink, SinkFault, write_text};
+pub use order_gate::OrderGate;
+pub use sink::{MemSink, NullSink, Sink, SinkFault};
 use std::alloc::{AllocError, AllocFailed};
 
 /// The number of a container, in the order of making from 0.

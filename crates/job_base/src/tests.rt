@@ -54,23 +54,21 @@ fn files_in_memory(rt: HostRuntime) -> Result<(), Fail> {
     Ok(())
 }
 
-// The text `t = 30` and its line feed through sinks of some room and step, of which some writes fail.
+// Writes of seven bytes to sinks of some room and step, of which some writes fail.
 #[test]
 fn sinks_in_memory(rt: HostRuntime) -> Result<(), Fail> {
     let alloc = rt.alloc();
     let table = [
-        (100, 1, [].as_slice(), "t = 30\n", 0),
-        (100, 1, [2].as_slice(), "t ", 1),
-        (100, 100, [0].as_slice(), "", 1),
-        (100, 3, [3].as_slice(), "t = 30\n", 0),
-        (0, 1, [].as_slice(), "", 1),
-        (5, 2, [].as_slice(), "t = 3", 1),
-        (7, 7, [].as_slice(), "t = 30\n", 0),
+        (100, 1, [].as_slice(), Ok(1), "t", 0),
+        (100, 100, [0].as_slice(), Err(SinkFault), "", 1),
+        (100, 3, [3].as_slice(), Ok(3), "t =", 0),
+        (0, 1, [].as_slice(), Err(SinkFault), "", 1),
+        (5, 9, [].as_slice(), Ok(5), "t = 3", 0),
+        (7, 7, [].as_slice(), Ok(7), "t = 30\n", 0),
     ];
-    for (room, step, failing, taken, faults) in table {
+    for (room, step, failing, answer, taken, faults) in table {
         let mut sink = MemSink::new(alloc, room, step, numbers(alloc, failing)?)?;
-        let written = write_text(b"t = 30\n", &mut sink);
-        assert_eq!(rt; written.is_err(), faults == 1, "room {room}, step {step}");
+        assert_eq!(rt; sink.write(b"t = 30\n"), answer, "room {room}, step {step}");
         assert_eq!(rt; sink.bytes(), taken.as_bytes(), "room {room}, step {step}");
         assert_eq!(rt; sink.faults(), faults, "room {room}, step {step}");
     }
@@ -81,9 +79,27 @@ fn sinks_in_memory(rt: HostRuntime) -> Result<(), Fail> {
 fn nothing_is_kept(rt: HostRuntime) {
     let mut sink = NullSink::new();
     assert_eq!(rt; sink.write(b"t = 30\n"), Ok(7));
-    assert_eq!(rt; write_text(b"t = 30\n", &mut sink), Ok(()));
     OpenGate.enter(0, PieceId(0));
     OpenGate.leave(0, PieceId(0));
+}
+
+// One thread alone: what comes second is seen only where it has come already.
+#[test]
+fn gates_in_one_thread(rt: HostRuntime) -> Result<(), Fail> {
+    for (order, met) in [([0, 1], true), ([1, 0], false)] {
+        let gate = CountingGate::new(PieceId(1), PieceId(0), 3);
+        let kept = OrderGate::new(rt.alloc(), vec![in rt.alloc(); PieceId(0), PieceId(1)]?, 3)?;
+        for piece in order {
+            gate.enter(0, PieceId(piece));
+            gate.leave(0, PieceId(piece));
+            kept.enter(0, PieceId(piece));
+            kept.leave(0, PieceId(piece));
+        }
+        kept.enter(0, PieceId(2));
+        assert_eq!(rt; gate.met(), met, "{order:?}");
+        assert_eq!(rt; kept.kept(), met, "{order:?}");
+    }
+    Ok(())
 }
 
 fn may_move<T: Send>(_: &T) {}
@@ -94,6 +110,12 @@ fn may_be_shared<T: Sync>(_: &T) {}
 #[test]
 fn threads_may_have_them(rt: HostRuntime) -> Result<(), Fail> {
     may_be_shared(&OpenGate);
+    let counting = CountingGate::new(PieceId(0), PieceId(1), 0);
+    may_be_shared(&counting);
+    may_move(&counting);
+    let ordering = OrderGate::new(rt.alloc(), Vec::new(rt.alloc()), 0)?;
+    may_be_shared(&ordering);
+    may_move(&ordering);
     may_move(&NullSink::new());
     may_move(&MemSink::new(rt.alloc(), 1, 1, Vec::new(rt.alloc()))?);
     Ok(())

@@ -1,5 +1,5 @@
 -- The rows of a book are the ancestors of single jobs, and unions of rows are the ancestors of sets.
-use Rattle.std.proofs.Common.{◌≡◌, ℕ, suc, ◌+◌, ◌-◌, ◌<◌, ◌≤◌, ⊎_elim, ◌⊎◌, inl, inr, true, ◌&&◌, ◌||◌, List, [], ◌∷◌, ◌++◌, length, slice_index_or, refl, sym, ap, subst, ◌∙◌, arith}
+use Rattle.std.proofs.Common.{◌≡◌, ℕ, suc, ◌+◌, ◌-◌, ◌<◌, ◌≤◌, ⊎_elim, ◌⊎◌, inl, inr, Bool, true, false, if◌then◌else◌, ◌&&◌, ◌||◌, List, [], ◌∷◌, ◌++◌, length, slice_index_or, refl, sym, ap, subst, subst₂, ◌∙◌, arith}
 use Rattle.std.specs.Prelude.{nat_eq, nat_lt}
 use Rattle.std.proofs.lemmas.Bool.{or_left, or_right, or_cases, and_parts, and_from, eq-eqb, eqb-true, ltb-true, cases_eq, cases_lt}
 use Rattle.std.proofs.lemmas.List.{get_or_append_left}
@@ -9,7 +9,7 @@ use Rattle.frame_ast.specs.Laws.{AreUpTo, IsBook}
 use Rattle.frame_ast.proofs.Ancestry.{contains, least, closes, grows, through}
 use Rattle.frame_ast.proofs.Known.{job_book, completed_book}
 use Rattle.job_handle.specs.declared.handle.Handle.{Handle}
-use Rattle.job_handle.specs.Sets.{bit_of, jobs_of}
+use Rattle.job_handle.specs.Sets.{bit_of, jobs_of, HaveOwnJobs}
 use Rattle.job_handle.specs.Books.{AreRowsOf, IsUnion}
 use Rattle.job_handle.proofs.Booleans.{not_both, same_test}
 
@@ -34,13 +34,13 @@ module _ (made : ℕ) (table : List Handle) (ended h : Handle) where
   none_yet all e = record {
     sub = λ b F k t. absurd (not_both t (λ i. e i k));
     closed = λ b F m k t a. absurd (not_both t (λ i. e i m));
-    cover = λ b F m less le g. absurd (omega arith);
+    cover = λ m less le g. absurd (omega arith);
   }
 
   -- the row of job i + 1
-  pub one_more : (all more row : Handle) (i : ℕ) → IsUnion made table ended h all (suc i) → i < made → jobs_of h (suc i) ≡ true → row ≡ slice_index_or table i row
+  pub one_more : (all more row : Handle) (i : ℕ) → IsUnion made table ended h all (suc i) → i < made → jobs_of h (suc i) ≡ true → row ≡ slice_index_or table i row → jobs_of row (suc i) ≡ true
       → jobs_of more ≡ both (jobs_of all) (jobs_of row) → IsUnion made table ended h more i
-  one_more all more row i C lt wanted at e = record {
+  one_more all more row i C lt wanted at own e = record {
     sub = λ b F k t. ⊎_elim
         (λ a. C.sub b F k a)
         (λ a. through b.deps b.count F.known.older (jobs_of h) (suc i) (contains b.deps b.count (jobs_of h) (suc i) wanted) k (in_row b F k a))
@@ -49,9 +49,9 @@ module _ (made : ℕ) (table : List Handle) (ended h : Handle) where
         (λ l. or_left (jobs_of all k) (jobs_of row k) (C.closed b F m k l a))
         (λ r. or_right (jobs_of all k) (jobs_of row k) (of_row b F k (through b.deps b.count F.known.older (only (suc i)) m (in_row b F m r) k a)))
         (or_cases (jobs_of all m) (jobs_of row m) (sym (is m) ∙ t));
-    cover = λ b F m less le g. is m ∙ ⊎_elim
-        (λ q. or_right (jobs_of all m) (jobs_of row m) (of_row b F m (subst (λ x. ancestors_in b (only (suc i)) x ≡ true) (sym q) (itself b (suc i)))))
-        (λ ne. or_left (jobs_of all m) (jobs_of row m) (C.cover b F m (omega arith) le g))
+    cover = λ m less le g. is m ∙ ⊎_elim
+        (λ q. or_right (jobs_of all m) (jobs_of row m) (subst (λ x. jobs_of row x ≡ true) (sym q) own))
+        (λ ne. or_left (jobs_of all m) (jobs_of row m) (C.cover m (omega arith) le g))
         (cases_eq m (suc i));
   }
     where
@@ -72,9 +72,9 @@ module _ (made : ℕ) (table : List Handle) (ended h : Handle) where
   passed_by all left less C there = record {
     sub = C.sub;
     closed = C.closed;
-    cover = λ b F m low le g. ⊎_elim
+    cover = λ m low le g. ⊎_elim
         (λ before. there m low before g)
-        (λ after. C.cover b F m after le g)
+        (λ after. C.cover m after le g)
         (within m);
   }
     where
@@ -84,7 +84,10 @@ module _ (made : ℕ) (table : List Handle) (ended h : Handle) where
   pub all_there : (all : Handle) → IsUnion made table ended h all 0 → AreUpTo made (jobs_of h) → (b : Book) → AreRowsOf made table ended b → (k : ℕ) → jobs_of all k ≡ ancestors_in b (jobs_of h) k
   all_there all C known b F k = same_test (jobs_of all k) (ancestors_in b (jobs_of h) k)
       (λ t. C.sub b F k t)
-      (λ t. let m = from_one b F.known (jobs_of h) k t in C.closed b F m.0 k (C.cover b F m.0 (low h m.0 m.1) (known m.0 m.1).1 m.1) m.2)
+      (λ t. let m = from_one b F.known (jobs_of h) k t in C.closed b F m.0 k (C.cover m.0 (low h m.0 m.1) (known m.0 m.1).1 m.1) m.2)
+
+  pub all_own : (all : Handle) → IsUnion made table ended h all 0 → AreUpTo made (jobs_of h) → (k : ℕ) → jobs_of h k ≡ true → jobs_of all k ≡ true
+  all_own all C known k t = let range = known k t in C.cover k range.0 range.1 t
 
 -- WHAT IS COMPLETED
 
@@ -170,6 +173,21 @@ adds made table ended h all one row size is single e known b F = record {
   where
     among : AreUpTo b.count (jobs_of h)
     among = known_in made table ended h known b F
+
+-- the row of the new job has it
+own_added : (made : ℕ) (table : List Handle) (one all row : Handle) → length table ≡ made → HaveOwnJobs made table → jobs_of one ≡ only (made + 1) → jobs_of row ≡ both (jobs_of all) (jobs_of one)
+    → HaveOwnJobs (made + 1) (table ++ row ∷ [])
+own_added made table one all row size own single e j d lt = ⊎_elim
+    (λ q. ap (λ x. jobs_of x (suc j)) (ap (λ i. slice_index_or (table ++ row ∷ []) i d) (let i : j ≡ length table = omega arith in i) ∙ get_or-append_seam table row [] d)
+    ∙ (λ x. e x (suc j)) ∙ or_right (jobs_of all (suc j)) (jobs_of one (suc j)) ((λ x. single x (suc j)) ∙ eq-eqb (suc j) (made + 1) (omega arith)))
+    (λ ne. ap (λ x. jobs_of x (suc j)) (get_or_append_left table (row ∷ []) d j (omega arith)) ∙ own j d (omega arith))
+    (cases_eq j made)
+
+-- the rows after a push that may have found no memory
+pub own_pushed : (ok : Bool) (made made' : ℕ) (table table' : List Handle) (one all row : Handle) → length table ≡ made → HaveOwnJobs made table → jobs_of one ≡ only (made + 1) → jobs_of row ≡ both (jobs_of all) (jobs_of one)
+    → made' ≡ (if ok then made + 1 else made) → table' ≡ (if ok then table ++ row ∷ [] else table) → HaveOwnJobs made' table'
+own_pushed true made made' table table' one all row size own single e n t = subst₂ (λ m l. HaveOwnJobs m l) (sym n) (sym t) (own_added made table one all row size own single e)
+own_pushed false made made' table table' one all row size own single e n t = subst₂ (λ m l. HaveOwnJobs m l) (sym n) (sym t) own
 
 pub no_jobs : {made : ℕ} {table : List Handle} {ended : Handle} → made ≡ 0 → jobs_of ended ≡ nobody → AreRowsOf made table ended empty_book
 no_jobs z e = record {

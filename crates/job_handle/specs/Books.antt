@@ -25,4 +25,4 @@ StandsFor book b = AreRowsOf (vec_len book.rows) book.rows.items book.completed 
 pub record IsUnion (made : ℕ) (table : List Handle) (ended h all : Handle) (left : ℕ) : Type 0 where
   pub sub : (b : Book) → AreRowsOf made table ended b → (k : ℕ) → jobs_of all k ≡ true → ancestors_in b (jobs_of h) k ≡ true
   pub closed : (b : Book) → AreRowsOf made table ended b → (m k : ℕ) → jobs_of all m ≡ true → ancestors_in b (only m) k ≡ true → jobs_of all k ≡ true
-  pub cover : (b : Book) → AreRowsOf made table ended b → (m : ℕ) → left < m → m ≤ made → jobs_of h m ≡ true → jobs_of all m ≡ true
+  pub cover : (m : ℕ) → left < m → m ≤ made → jobs_of h m ≡ true → jobs_of all m ≡ true

@@ -1,7 +1,8 @@
 -- The set of jobs that a handle is.
-use Rattle.std.specs.Prelude.{ℕ, zero, suc, ◌-◌, ◌/◌, ◌%◌, Bool, ◌&&◌, not, nat_eq, nat_lt, List, slice_index, Option, None, Some}
+use Rattle.std.specs.Prelude.{◌≡◌, ℕ, zero, suc, ◌+◌, ◌-◌, ◌/◌, ◌%◌, ◌<◌, Bool, true, ◌&&◌, not, nat_eq, nat_lt, List, slice_index, slice_index_or, Option, None, Some}
 use Rattle.std.specs.Int.{bit_at}
 use Rattle.job_base.specs.declared.JobId.{JobId}
+use Rattle.job_base.specs.declared.limits.TheConstants.{MOST_JOBS}
 use Rattle.frame_ast.specs.Jobs.{Jobs}
 use Rattle.job_handle.specs.declared.handle.Handle.{Handle}
 
@@ -9,9 +10,13 @@ use Rattle.job_handle.specs.declared.handle.Handle.{Handle}
 abbrev pub bit_of : List ℕ → ℕ → Bool
 bit_of words i = nat_eq (bit_at (slice_index words (i / 64)) (i % 64)) 1
 
--- Job j, 1 to 4,096, is bit j - 1. The bound is said here, since an array has no length in a clause.
+-- Job j, 1 to `MOST_JOBS`, is bit j - 1. The bound is said here, since an array has no length in a clause.
 abbrev pub jobs_of : Handle → Jobs
-jobs_of h j = (nat_lt 0 j && nat_lt j 4097) && bit_of h.words (j - 1)
+jobs_of h j = (nat_lt 0 j && nat_lt j (MOST_JOBS + 1)) && bit_of h.words (j - 1)
+
+-- row j - 1 has job j
+abbrev pub HaveOwnJobs : ℕ → List Handle → Type 0
+HaveOwnJobs made table = (j : ℕ) (d : Handle) → j < made → jobs_of (slice_index_or table j d) (suc j) ≡ true
 
 -- the jobs of a set that aren't in another one
 abbrev pub outside : Jobs → Jobs → Jobs

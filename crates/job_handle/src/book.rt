@@ -1,12 +1,14 @@
 // The jobs of a script, each with all that it waits for.
 ghost use Rattle.std.specs.Prelude.{◌≡◌, ℕ, ◌+◌, ◌<◌, ◌≤◌, ◌↔◌, IfOk, OnOk, OnErr, IsErr, is_ok, if◌then◌else◌, vec_len, vec_capacity, true};
+ghost use Rattle.job_base.specs.declared.limits.TheConstants.{MOST_JOBS};
+ghost use Rattle.job_handle.specs.Sets.{HaveOwnJobs};
 
-use crate::MOST_JOBS;
-use crate::handle::Handle;
+use crate::handle::{Handle, WORD_JOBS};
+use job_base::limits::MOST_JOBS;
 use job_base::{JobId, NoMemory};
 use std::alloc::Global;
 
-/// The book has 4,096 jobs.
+/// The book has [`MOST_JOBS`] jobs.
 #[derive(Clone, Copy, Debug, PartialEq, Eq)]
 pub struct BookFull;
 
@@ -19,13 +21,14 @@ pub struct JobBook {
     // Row j - 1 is that of job j.
     rows: Vec<Handle>,
     completed: Handle,
-    ghost room: { (vec_len rows ≤ 4096) × (4096 ≤ vec_capacity rows) },
+    ghost own: { HaveOwnJobs (vec_len rows) rows.items },
+    ghost room: { (vec_len rows ≤ MOST_JOBS) × (MOST_JOBS ≤ vec_capacity rows) },
 }
 
 impl JobBook {
-    ghost use Rattle.frame_ast.specs.Jobs.{Book, empty_book, ancestors_in, happens_before, greatest, with_job, with_completed};
+    ghost use Rattle.frame_ast.specs.Jobs.{Book, empty_book, ancestors_in, happens_before, with_job, with_completed};
     ghost use Rattle.frame_ast.specs.Laws.{AreUpTo};
-    ghost use Rattle.job_handle.specs.Sets.{jobs_of, outside, job_numbered};
+    ghost use Rattle.job_handle.specs.Sets.{jobs_of};
     ghost use Rattle.job_handle.specs.Books.{count_of, StandsFor};
 
     /// No job. All memory of the book is taken here.
@@ -38,7 +41,7 @@ impl JobBook {
         })
     }
 
-    /// How many jobs there are, at most 4,096.
+    /// How many jobs there are, at most [`MOST_JOBS`].
     pub fn count(&self) -> u32
         ensures count { result ≡ count_of self.now }
         ensures few { result ≤ MOST_JOBS }
@@ -49,7 +52,7 @@ impl JobBook {
     /// One more job, which waits for the jobs of `deps`. It has the next number.
     pub fn add(&mut self, deps: &Handle) -> Result<JobId, BookFull>
         requires { AreUpTo (count_of self.old) (jobs_of deps.now) }
-        ensures full { IsErr result ↔ count_of self.old ≡ 4096 }
+        ensures full { IsErr result ↔ count_of self.old ≡ MOST_JOBS }
         ensures number { IfOk result (λ j. j.0 ≡ count_of self.old + 1) }
         ensures few { IfOk result (λ j. j.0 ≤ MOST_JOBS) }
         ensures count { count_of self.new ≡ (if is_ok result then count_of self.old + 1 else count_of self.old) }
@@ -87,14 +90,6 @@ impl JobBook {
         self.completed.has(j)
     }
 
-    /// The greatest job of `h` that wasn't completed, or none.
-    pub fn latest_pending(&self, h: &Handle) -> Option<JobId>
-        requires { AreUpTo (count_of self.now) (jobs_of h.now) }
-        ensures { (b : Book) → StandsFor self.now b → result ≡ job_numbered (greatest (outside (jobs_of h.now) b.completed) b.count) }
-    {
-        h.latest_outside(&self.completed)
-    }
-
     /// Whether a job of the book is in `h`, or an ancestor of a job of it.
     pub fn depends(&self, h: &Handle, j: JobId) -> bool
         requires jobs { AreUpTo (count_of self.now) (jobs_of h.now) }
@@ -107,16 +102,17 @@ impl JobBook {
     /// The jobs of `h` and all their ancestors. For a statement, make it once.
     pub fn closure(&self, h: &Handle) -> Handle
         requires { AreUpTo (count_of self.now) (jobs_of h.now) }
-        ensures { (b : Book) → StandsFor self.now b → (k : ℕ) → jobs_of result k ≡ ancestors_in b (jobs_of h.now) k }
+        ensures all { (b : Book) → StandsFor self.now b → (k : ℕ) → jobs_of result k ≡ ancestors_in b (jobs_of h.now) k }
+        ensures own { (k : ℕ) → jobs_of h.now k ≡ true → jobs_of result k ≡ true }
     {
         // From the newest job down: a row that is taken brings all that it leads to, so a job that is there already adds
-        // nothing, and neither does a word of 64 that are. A job that waits for all earlier ones then takes few rows.
+        // nothing, and neither does a whole word of them. A job that waits for all earlier ones then takes few rows.
         let mut all = Handle::empty();
         let mut left = self.rows.len();
         while left > 0 {
-            let word = (left - 1) / 64;
+            let word = (left - 1) / WORD_JOBS;
             if all.has_word_of(h, word) {
-                left = word * 64;
+                left = word * WORD_JOBS;
             } else {
                 let j = JobId(left as u32);
                 if h.has(j) && !all.has(j) {

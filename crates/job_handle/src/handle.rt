@@ -4,19 +4,22 @@ ghost use Rattle.frame_ast.specs.Jobs.{nobody, only, both, greatest};
 ghost use Rattle.frame_ast.specs.Laws.{AreUpTo};
 ghost use Rattle.job_handle.specs.Sets.{jobs_of, outside, job_numbered};
 
-use crate::MOST_JOBS;
 use job_base::JobId;
+use job_base::limits::MOST_JOBS;
 
-// The words of a handle, of 64 jobs each.
+// The jobs of a word, a bit for each.
+pub(crate) const WORD_JOBS: usize = 64;
+
+// The words of a handle.
 const WORDS: usize = 64;
 
-/// A set of jobs, each of them 1 to 4,096. Unity's handle stands for a job; this one, like one that was combined, for
+/// A set of jobs, each of them 1 to [`MOST_JOBS`]. Unity's handle stands for a job; this one, like one that was combined, for
 /// several.
 ///
 /// <https://docs.unity3d.com/ScriptReference/Unity.Jobs.JobHandle.html>
 #[derive(Clone, Copy)]
 pub struct Handle {
-    // Job j is bit (j - 1) % 64 of word (j - 1) / 64.
+    // Job j is bit (j - 1) % WORD_JOBS of word (j - 1) / WORD_JOBS.
     words: [u64; WORDS],
 }
 
@@ -25,27 +28,27 @@ impl Handle {
     pub fn empty() -> Handle
         ensures { jobs_of result ≡ nobody }
     {
-        Handle { words: [0; 64] }
+        Handle { words: [0; WORDS] }
     }
 
-    /// One job, 1 to 4,096.
+    /// One job, 1 to [`MOST_JOBS`].
     pub fn of(j: JobId) -> Handle
         requires { (0 < j.0) × (j.0 ≤ MOST_JOBS) }
         ensures { jobs_of result ≡ only j.0 }
     {
-        let mut words = [0; 64];
+        let mut words = [0; WORDS];
         let at = (j.0 - 1) as usize;
-        words[at / 64] = 1u64 << (at % 64);
+        words[at / WORD_JOBS] = 1u64 << (at % WORD_JOBS);
         Handle { words }
     }
 
-    /// Whether a job, 1 to 4,096, is in the set.
+    /// Whether a job, 1 to [`MOST_JOBS`], is in the set.
     pub fn has(&self, j: JobId) -> bool
         requires { (0 < j.0) × (j.0 ≤ MOST_JOBS) }
         ensures { result ≡ jobs_of self.now j.0 }
     {
         let at = (j.0 - 1) as usize;
-        (self.words[at / 64] >> (at % 64)) & 1 == 1
+        (self.words[at / WORD_JOBS] >> (at % WORD_JOBS)) & 1 == 1
     }
 
     /// The union: the jobs of both.
@@ -55,7 +58,7 @@ impl Handle {
         ensures { jobs_of result ≡ both (jobs_of self.now) (jobs_of other.now) }
     {
         let mut words = self.words;
-        for i in 0..64 {
+        for i in 0..WORDS {
             words[i] |= other.words[i];
         }
         Handle { words }
@@ -67,9 +70,9 @@ impl Handle {
     {
         let mut left = MOST_JOBS;
         while left > 0 {
-            let word = (left - 1) / 64;
-            if other.has_word_of(self, word as usize) {
-                left = word * 64;
+            let word = (left as usize - 1) / WORD_JOBS;
+            if other.has_word_of(self, word) {
+                left = (word * WORD_JOBS) as u32;
             } else {
                 let j = JobId(left);
                 if self.has(j) && !other.has(j) {
@@ -81,10 +84,10 @@ impl Handle {
         None
     }
 
-    /// Whether this set has all that another has of the 64 jobs of word `at`. It is one step for all of them.
+    /// Whether this set has all that another has of the jobs of word `at`. It is one step for all of them.
     pub(crate) fn has_word_of(&self, other: &Handle, at: usize) -> bool
-        requires { at < 64 }
-        ensures { IsTrue result → (k : ℕ) → 64 * at < k → k ≤ 64 * at + 64 → jobs_of other.now k ≡ true → jobs_of self.now k ≡ true }
+        requires { at < WORDS }
+        ensures { IsTrue result → (k : ℕ) → WORD_JOBS * at < k → k ≤ WORD_JOBS * at + WORD_JOBS → jobs_of other.now k ≡ true → jobs_of self.now k ≡ true }
     {
         self.words[at] | other.words[at] == self.words[at]
     }

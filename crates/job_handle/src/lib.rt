@@ -14,6 +14,3 @@ mod tests;
 
 pub use book::{BookFull, JobBook};
 pub use handle::Handle;
-
-/// The most jobs that a book has, and the greatest number of a job.
-pub const MOST_JOBS: u32 = 4_096;

@@ -5,6 +5,7 @@ ghost use Rattle.job_handle.specs.Books.{count_of};
 
 use crate::*;
 use job_base::JobId;
+use job_base::limits::MOST_JOBS;
 use std::process::Abort;
 use std::test::Fail;
 

@@ -1,21 +1,24 @@
-//! Runs a parallel kernel of about twenty operations over a million elements, and prints a checksum of what it wrote.
+//! Times two kernels over a million elements: a mix of operators over three arrays, and a heavy one over one array.
 //!
-//! A word is how many times it runs, 1 where none is given. So the time of an index is the difference of two runs.
+//! Two words are how many rounds each runs, 1 where none is given. What they wrote is told by checksums on standard output;
+//! the processor time of an index, in nanoseconds, on standard error. `tools/instructions` counts instructions.
 #![tactic(auto)]
 
-ghost use Rattle.std.specs.Prelude.{◌≡◌, ◌<◌, ◌*◌, ◌^◌, length, IfSome};
+ghost use Rattle.std.specs.Prelude.{◌≡◌, ◌<◌, ◌≤◌, ◌^◌, length, IfSome};
 ghost use Rattle.frame_ast.specs.Checked.{IsChecked};
 
 use frame_ast::kernel::Kernel;
-use job_base::{FlatMem, Mem, Word};
+use job_base::{FlatMem, Mem, Span, Word};
 use kernel_code::lex;
 use kernel_exec::{Bind, Scratch};
-use kernel_rows::{fits, kernel_at, run};
+use kernel_rows::{fits, kernel_at, run_indexes};
 use native_array::ArrayAt;
 use std::alloc::Global;
 use std::rt::Env;
+use std::time::{CpuClock, Duration};
 use std::{env, io};
 
+// Twelve operators, two remainders among them.
 const MIX: &str = "parallel mix(x: ro array, y: ro array, z: wo array) {
     var a = x[index] * 3 + y[index];
     var b = a * a % 1000003;
@@ -23,22 +26,36 @@ const MIX: &str = "parallel mix(x: ro array, y: ro array, z: wo array) {
     z[index] = b + a % 7;
 }";
 
+// Five statements and fourteen operators, of which an index runs one less.
+const HEAVY: &str = "parallel heavy(x: rw array) {
+    var a = x[index] * 3 + 7;
+    var b = (a * a + x[index]) % 1000003;
+    if b > 500000 { b = b - a; } else { b = b + a * 2; }
+    var c = (b - a) * 7 + index;
+    x[index] = (b + c * 2) % 1000003;
+}";
+
 const ELEMENTS: u32 = 1_048_576;
 
-fn array(start: u32, len: u32, own: u32) -> Bind {
+fn array(start: u32, own: u32) -> Bind {
     Bind::Array {
-        at: ArrayAt { start, len },
+        at: ArrayAt {
+            start,
+            len: ELEMENTS,
+        },
         own,
     }
 }
 
-fn fill(mem: &mut FlatMem, cells: u32)
-    requires { length mem.old ≡ cells }
-    ensures { length mem.new ≡ cells }
+// So many cells with numbers in them, where memory is found.
+fn filled(alloc: Global, cells: u32) -> Option<FlatMem>
+    ensures { IfSome result (λ mem. length mem ≡ cells) }
 {
+    let mut mem = FlatMem::new(alloc, cells).ok()?;
     for w in 0..cells {
         mem.store(Word(w), i64::from(w) * 7919 % 100_003);
     }
+    Some(mem)
 }
 
 // A checksum of the cells from one on.
@@ -52,41 +69,11 @@ fn checksum(mem: &mut FlatMem, from: u32, cells: u32) -> i64
     sum
 }
 
-// Runs a kernel so often at each index of its arrays, and says whether nothing trapped.
-fn run_all(kernel: &Kernel, len: u32, rounds: u32, scratch: &mut Scratch, mem: &mut FlatMem) -> bool
-    requires checked { IsChecked kernel.now }
-    requires few { 3 * len < 2 ^ 32 }
-    requires cells { length mem.old ≡ 3 * len }
-    ensures { length mem.new ≡ 3 * len }
+// The kernel of a text.
+fn kernel_of(alloc: Global, text: &str) -> Option<Kernel>
+    ensures { IfSome result (λ kernel. IsChecked kernel) }
 {
-    let binds = [array(0, len, 0), array(len, len, 0), array(2 * len, len, 1)];
-    if !kernel.parallel || !fits(kernel, &binds, 3 * len) {
-        return false;
-    }
-    for _ in 0..rounds {
-        for index in 0..len {
-            if run(kernel, &binds, Some(index), scratch, mem).is_err() {
-                return false;
-            }
-        }
-    }
-    true
-}
-
-// So many cells with numbers in them, where memory is found.
-fn filled(alloc: Global, cells: u32) -> Option<FlatMem>
-    ensures { IfSome result (λ mem. length mem ≡ cells) }
-{
-    let mut mem = FlatMem::new(alloc, cells).ok()?;
-    fill(&mut mem, cells);
-    Some(mem)
-}
-
-// The checksum after so many runs over arrays of this length, where memory is found and nothing traps.
-fn mixed(alloc: Global, len: u32, rounds: u32) -> Option<i64>
-    requires { 3 * len < 2 ^ 32 }
-{
-    let source = MIX.as_bytes();
+    let source = text.as_bytes();
     if source.len() > 1000 {
         return None;
     }
@@ -94,31 +81,104 @@ fn mixed(alloc: Global, len: u32, rounds: u32) -> Option<i64>
     if tokens.is_empty() {
         return None;
     }
-    let Ok((kernel, _)) = kernel_at(alloc, source, &tokens, 0) else {
-        return None;
-    };
-    let mut mem = filled(alloc, 3 * len)?;
-    let mut scratch = Scratch::new(alloc).ok()?;
-    if run_all(&kernel, len, rounds, &mut scratch, &mut mem) {
-        Some(checksum(&mut mem, 2 * len, 3 * len))
-    } else {
-        None
+    match kernel_at(alloc, source, &tokens, 0) {
+        Ok((kernel, _)) => Some(kernel),
+        Err(_) => None,
     }
 }
 
-fn rounds<R: Env + AllocGlobal>(rt: &R) -> u32 {
+// Runs a kernel so often at each index of its arrays, and says whether nothing trapped.
+fn run_all(
+    kernel: &Kernel,
+    binds: &[Bind],
+    cells: u32,
+    rounds: u32,
+    scratch: &mut Scratch,
+    mem: &mut FlatMem,
+) -> bool
+    requires checked { IsChecked kernel.now }
+    requires cells { length mem.old ≡ cells }
+    ensures { length mem.new ≡ cells }
+{
+    if !kernel.parallel || !fits(kernel, binds, cells) {
+        return false;
+    }
+    let span = Span {
+        start: 0,
+        len: ELEMENTS,
+    };
+    for _ in 0..rounds {
+        if run_indexes(kernel, binds, &span, scratch, mem).count != 0 {
+            return false;
+        }
+    }
+    true
+}
+
+// Nanoseconds an index of so many rounds.
+fn nanoseconds(took: Duration, rounds: u32) -> u128 {
+    let indexes = u128::from(rounds) * u128::from(ELEMENTS);
+    took.as_nanos().checked_div(indexes).unwrap_or(0)
+}
+
+// Runs the kernel of a text on cells with numbers in them; tells its time, and the checksum of the last array. None where
+// no memory is found or something traps.
+fn time<R: CpuClock + Eprint>(
+    rt: &R,
+    alloc: Global,
+    text: &str,
+    binds: &[Bind],
+    cells: u32,
+    rounds: u32,
+) -> io::Result<Option<i64>>
+    requires { ELEMENTS ≤ cells }
+{
+    let Some(kernel) = kernel_of(alloc, text) else {
+        return Ok(None);
+    };
+    let Some(mut mem) = filled(alloc, cells) else {
+        return Ok(None);
+    };
+    let Ok(mut scratch) = Scratch::new(alloc) else {
+        return Ok(None);
+    };
+    let start = rt.thread_cpu_time()?;
+    let ran = run_all(&kernel, binds, cells, rounds, &mut scratch, &mut mem);
+    let end = rt.thread_cpu_time()?;
+    if !ran {
+        return Ok(None);
+    }
+    let took = end.checked_sub(start).unwrap_or(Duration::ZERO);
+    eprintln!(rt; "{} ns an index", nanoseconds(took, rounds))?;
+    Ok(Some(checksum(&mut mem, cells - ELEMENTS, cells)))
+}
+
+// A word that is a number, and 1 where there is none.
+fn rounds<R: Env + AllocGlobal>(rt: &R, at: usize) -> u32 {
     let Ok(args) = env::args(rt) else {
         return 1;
     };
-    for word in args.skip(1) {
+    for word in args.skip(at) {
         return word.parse::<u32>().unwrap_or(1);
     }
     1
 }
 
 fn main(rt: HostRuntime) -> io::Result<()> {
-    match mixed(rt.alloc(), ELEMENTS, rounds(&rt)) {
-        Some(sum) => println!(rt; "checksum {sum}"),
-        None => println!(rt; "no memory"),
+    let three = [array(0, 0), array(ELEMENTS, 0), array(2 * ELEMENTS, 1)];
+    match time(&rt, rt.alloc(), MIX, &three, 3 * ELEMENTS, rounds(&rt, 1))? {
+        Some(sum) => println!(rt; "mix {sum}")?,
+        None => println!(rt; "mix: no memory")?,
+    }
+    match time(
+        &rt,
+        rt.alloc(),
+        HEAVY,
+        &[array(0, 1)],
+        ELEMENTS,
+        rounds(&rt, 2),
+    )? {
+        Some(sum) => println!(rt; "heavy {sum}"),
+        None => println!(rt; "heavy: no memory"),
     }
 }

@@ -13,7 +13,7 @@ use Rattle.kernel_code.specs.StaticFaults.{node_fault, nodes_fault, token_fault,
 use Rattle.kernel_code.specs.Known.{IsFaultless, has_name, meaning_if, name_named, name_stored, number_named, meaning_at, meanings_from}
 use Rattle.kernel_code.specs.Trees.{ExprOf, item, kind_at, joint_of}
 use Rattle.kernel_code.specs.Places.{is_leaf, is_one, is_two, IsFormed, StandsExpr, Ends, IsHere, IsAtomHere, Begins, whole, further, IsBuilt, IsResolved, leaf_of, IsOneOf, IsJoint}
-use Rattle.kernel_code.proofs.NoFaults.{or_else-none, node_fault-none}
+use Rattle.kernel_code.proofs.NoFaults.{option_or-none, node_fault-none}
 use Rattle.kernel_code.proofs.Leaves.{leaf_is, one_is, joint_is, is_parameter}
 
 -- NODES
@@ -26,8 +26,8 @@ none_at raw d k [] node h s = cc
 none_at raw d zero (n ∷ more) node h s =
     let e : n ≡ node = cc in
     let z : d ≡ d + 0 = omega arith in
-    subst (λ i. node_fault raw i node ≡ None) z (subst (λ m. node_fault raw d m ≡ None) e (or_else-none _ _ h).0)
-none_at raw d (suc k) (n ∷ more) node h s = shift raw d k node (none_at raw (d + 1) k more node (or_else-none _ _ h).1 s)
+    subst (λ i. node_fault raw i node ≡ None) z (subst (λ m. node_fault raw d m ≡ None) e (option_or-none _ _ h).0)
+none_at raw d (suc k) (n ∷ more) node h s = shift raw d k node (none_at raw (d + 1) k more node (option_or-none _ _ h).1 s)
 
 shift_meaning : (raw : RawKernel) (d k : ℕ) (node : RawNode) (ms : List Meaning) → slice_get ms k ≡ Some (meaning_at raw (d + 1 + k) node) → slice_get ms k ≡ Some (meaning_at raw (d + suc k) node)
 shift_meaning raw d k node ms h = let e : d + 1 + k ≡ d + suc k = omega arith in subst (λ n. slice_get ms k ≡ Some (meaning_at raw n node)) e h

@@ -16,7 +16,7 @@ use Rattle.kernel_code.specs.Raw.{RawExpr, Leaf, One, Two, Infix, RawBlock, Noth
 use Rattle.kernel_code.specs.StaticFaults.{value_at, params_fault, param_fault, param_kind_fault}
 use Rattle.kernel_code.specs.Trees.{width_at}
 use Rattle.kernel_code.specs.Places.{IsFormed, FitsSimple, FitsNested, IsFormedBlock, StandsExpr, StandsParts, StandsBlock, IsBlockHere}
-use Rattle.kernel_code.proofs.NoFaults.{or_else-none, fault_at-none, lowest-none, fault_if-none}
+use Rattle.kernel_code.proofs.NoFaults.{option_or-none, fault_at-none, lowest-none, some_if-none}
 
 -- FORMS
 
@@ -180,8 +180,8 @@ param-at raw d k [] p h s = cc
 param-at raw d zero (q ∷ more) p h s =
     let e : q ≡ p = cc in
     let z : d ≡ d + 0 = omega arith in
-    subst (λ i. param_fault raw i p ≡ None) z (subst (λ m. param_fault raw d m ≡ None) e (or_else-none _ _ h).0)
-param-at raw d (suc k) (q ∷ more) p h s = shift raw d k p (param-at raw (d + 1) k more p (or_else-none _ _ h).1 s)
+    subst (λ i. param_fault raw i p ≡ None) z (subst (λ m. param_fault raw d m ≡ None) e (option_or-none _ _ h).0)
+param-at raw d (suc k) (q ∷ more) p h s = shift raw d k p (param-at raw (d + 1) k more p (option_or-none _ _ h).1 s)
 
 zero_plus : (i : ℕ) → 0 + i ≡ i
 zero_plus i = omega arith
@@ -194,8 +194,8 @@ below16 k h = grind (arith, nat_tests)
 
 param-number : (raw : RawKernel) (k : ℕ) (p : RawParam) → params_fault raw 0 raw.params.items ≡ None → slice_get raw.params.items k ≡ Some p → k < 16
 param-number raw k p h s =
-    let none = fault_at-none _ _ (or_else-none _ _ (param-none raw k p h s)).0 in
-    below16 k (fault_if-none _ _ (lowest-none _ _ (lowest-none _ _ none).1).0)
+    let none = fault_at-none _ _ (option_or-none _ _ (param-none raw k p h s)).0 in
+    below16 k (some_if-none _ _ (lowest-none _ _ (lowest-none _ _ none).1).0)
 
 has-at : (ps : List RawParam) (k : ℕ) → k < length ps → (p : RawParam) × (slice_get ps k ≡ Some p)
 has-at [] k h = absurd (omega arith)
@@ -214,7 +214,7 @@ within-width n h = (grind (arith, nat_tests), grind (arith, nat_tests))
 
 pub width-of : (raw : RawKernel) (p : RawParam) (w : Option ℕ) → param_kind_fault raw p w ≡ None → (1 ≤ width_at raw w) × (width_at raw w ≤ 1024)
 width-of raw p None h = (omega arith, omega arith)
-width-of raw p (Some at) h = within-width (value_at raw at) (fault_if-none _ _ (fault_at-none _ _ (or_else-none _ _ h).1))
+width-of raw p (Some at) h = within-width (value_at raw at) (some_if-none _ _ (fault_at-none _ _ (option_or-none _ _ h).1))
 
 pub width-within : (raw : RawKernel) (k : ℕ) (p : RawParam) → params_fault raw 0 raw.params.items ≡ None → slice_get raw.params.items k ≡ Some p → (1 ≤ width_at raw p.width) × (width_at raw p.width ≤ 1024)
-width-within raw k p h s = width-of raw p p.width (or_else-none _ _ (param-none raw k p h s)).1
+width-within raw k p h s = width-of raw p p.width (option_or-none _ _ (param-none raw k p h s)).1

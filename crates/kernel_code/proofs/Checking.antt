@@ -14,6 +14,7 @@ pub checked : (events : List Event) (raw : RawKernel) (k : Kernel) (earlier : Li
 checked events raw k earlier s h is = record {
   fits = fitting.fits events raw k earlier s h is;
   params = limits.params events raw k earlier s h is;
+  widths = limits.widths events raw k earlier s h is;
   count = limits.count raw k earlier h is;
   locals = limits.locals raw k earlier h is;
   nodes = limits.nodes events raw k earlier s h is;

@@ -12,7 +12,7 @@ use Rattle.kernel_code.specs.declared.raw.RawKernel.{RawKernel}
 use Rattle.kernel_code.specs.Raw.{RawExpr, RawBlock, expr_size, block_size}
 use Rattle.kernel_code.specs.StaticFaults.{nodes_fault}
 use Rattle.kernel_code.specs.Trees.{ExprOf, number, index, variable, loop_variable, value, size, element, has, count, item, negative, opposite, both, either, between, BlockOf, nothing, var, set_local, set_value, set_place, set_try_add, set_remove, add_item, add_pair, remove, clear, write, begun, tested, counted, looped, branched}
-use Rattle.kernel_code.proofs.NoFaults.{fault_if-none, node_fault-none}
+use Rattle.kernel_code.proofs.NoFaults.{some_if-none, node_fault-none}
 use Rattle.kernel_code.proofs.BuiltExpressions.{none_at}
 
 pub expr-count : {raw : RawKernel} {i : ℕ} {e : RawExpr} {x : Expr} → ExprOf raw i e x → expr_nodes x ≡ expr_size e
@@ -74,7 +74,7 @@ pub node-number : (raw : RawKernel) (i : ℕ) → nodes_fault raw 0 raw.nodes.it
 node-number raw i h w =
     let q = has-at raw.nodes.items i w in
     let f = node_fault-none raw (0 + i) q.0 (none_at raw 0 i raw.nodes.items q.0 h q.1) in
-    let lt = below (0 + i) (or-left _ _ (fault_if-none _ _ f.size)) in omega arith
+    let lt = below (0 + i) (or-left _ _ (some_if-none _ _ f.size)) in omega arith
 
 pub few-nodes : (raw : RawKernel) → nodes_fault raw 0 raw.nodes.items ≡ None → length raw.nodes.items ≤ 4096
 few-nodes raw h = few (length raw.nodes.items) (λ i w. node-number raw i h w)

@@ -13,7 +13,7 @@ use Rattle.kernel_code.specs.declared.raw.RawKernel.{RawKernel}
 use Rattle.kernel_code.specs.Raw.{RawExpr, RawBlock, block_size, SpellsRaw}
 use Rattle.kernel_code.specs.StaticFaults.{depth_of, nodes_fault}
 use Rattle.kernel_code.specs.Trees.{ExprOf, number, index, variable, loop_variable, value, size, element, has, count, item, negative, opposite, both, either, between, BlockOf, nothing, var, set_local, set_value, set_place, set_try_add, set_remove, add_item, add_pair, remove, clear, write, begun, tested, counted, looped, branched}
-use Rattle.kernel_code.proofs.NoFaults.{fault_if-none, node_fault-none}
+use Rattle.kernel_code.proofs.NoFaults.{some_if-none, node_fault-none}
 use Rattle.kernel_code.proofs.BuiltExpressions.{none_at}
 use Rattle.kernel_code.proofs.BuiltKernels.{body-size}
 use Rattle.kernel_code.proofs.Counting.{has-at}
@@ -74,7 +74,7 @@ node-depth raw i h w =
     let same : 0 + i ≡ i = omega arith in
     let q = has-at raw.nodes.items i w in
     let f = node_fault-none raw (0 + i) q.0 (none_at raw 0 i raw.nodes.items q.0 h q.1) in
-    let le = at_most 64 (depth_of raw.nodes.items (0 + i)) (or_parts _ _ (fault_if-none _ _ f.size)).1 in
+    let le = at_most 64 (depth_of raw.nodes.items (0 + i)) (or_parts _ _ (some_if-none _ _ f.size)).1 in
     subst (λ k. depth_of raw.nodes.items k ≤ 64) same le
 
 few-levels : (raw : RawKernel) (d n : ℕ) → nodes_fault raw 0 raw.nodes.items ≡ None → length raw.nodes.items ≡ 0 + n → Reaches 0 n d raw.nodes.items → d ≤ 64

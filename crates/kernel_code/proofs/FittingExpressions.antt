@@ -1,26 +1,25 @@
 -- Expressions without faults fit.
-use Rattle.std.proofs.Common.{ℕ, ◌≡◌, ◌<◌, Bool, true, false, not, IsTrue, cond, List, map, length, Some, None, slice_get, refl, ap, ◌∙◌, arith}
-use Rattle.std.specs.Prelude.{◌||◌, nat_lt}
+use Rattle.std.proofs.Common.{ℕ, ◌≡◌, ◌<◌, Bool, true, false, not, IsTrue, List, map, length, Some, None, slice_get, refl, ap, ◌∙◌, arith}
+use Rattle.std.specs.Prelude.{nat_lt}
 use Rattle.std.proofs.lemmas.Bool.{and_from}
 use Rattle.std.proofs.lemmas.Bool.Decides.{nat_tests}
 use Rattle.job_base.specs.declared.Access.{Access}
 use Rattle.job_base.specs.declared.Access.TheVariants.{Read, Write as WriteOnly, Both as ReadWrite}
-use Rattle.frame_ast.specs.declared.kernel.FaultKind.TheVariants.{KindMismatch}
 use Rattle.frame_ast.specs.declared.kernel.Param.{Param}
 use Rattle.frame_ast.specs.declared.kernel.ParamKind.{ParamKind}
 use Rattle.frame_ast.specs.declared.kernel.ParamKind.TheVariants as kind
 use Rattle.frame_ast.specs.declared.kernel.Expr.{Expr}
-use Rattle.frame_ast.specs.Checked.{nothing, kind_meets, a_value, read_elements, read_map, read_stream, written_value, meets, has_length, expr_fits}
+use Rattle.frame_ast.specs.Checked.{written_value, meets, expr_fits}
 use Rattle.kernel_code.specs.declared.raw.RawForm.TheVariants as form
 use Rattle.kernel_code.specs.declared.raw.RawNode.{RawNode}
 use Rattle.kernel_code.specs.declared.raw.RawParam.{RawParam}
 use Rattle.kernel_code.specs.declared.raw.RawKernel.{RawKernel}
 use Rattle.kernel_code.specs.Raw.{RawExpr}
-use Rattle.kernel_code.specs.StaticFaults.{text_at, locals_of, measurable, assigned, access_fault, demand_fault, used_fault, nodes_fault}
+use Rattle.kernel_code.specs.StaticFaults.{text_at, locals_of, assigned, touch_fault, used_fault, nodes_fault}
 use Rattle.kernel_code.specs.Known.{IsFaultless}
 use Rattle.kernel_code.specs.Trees.{ExprOf, number, index, variable, loop_variable, value, size, element, has, count, item, negative, opposite, both, either, between, IsParameter, param_text, raw_param_text}
 use Rattle.kernel_code.specs.Places.{StandsExpr}
-use Rattle.kernel_code.proofs.NoFaults.{fault_if-none}
+use Rattle.kernel_code.proofs.NoFaults.{some_if-none}
 use Rattle.kernel_code.proofs.BuiltExpressions.{faultless_at}
 use Rattle.kernel_code.proofs.FittingNames.{variable-below, loop-below, is-used, demand-met, met}
 
@@ -36,21 +35,12 @@ pub record IsSound (raw : RawKernel) (parallel : Bool) (params : List Param) (lo
 pub lt-test : (k n : ℕ) → k < n → nat_lt k n ≡ true
 lt-test k n h = grind (arith, nat_tests)
 
-or-left : (a b : Bool) → a ≡ true → (a || b) ≡ true
-or-left true b h = refl
-or-left false b h = cc
-
-or-right : (a b : Bool) → b ≡ true → (a || b) ≡ true
-or-right true b h = refl
-or-right false b h = h
-
 not-false : (b : Bool) → not b ≡ false → b ≡ true
 not-false true h = refl
 not-false false h = cc
 
 -- `x = e` isn't for an `int`, which is only read
-assigned-met : (k : ParamKind) (a : Access) → (k ≡ kind.Int → a ≡ Read) → cond (kind_meets assigned k) (access_fault assigned a) (Some KindMismatch) ≡ None →
-    cond (kind_meets written_value k) (access_fault written_value a) (Some KindMismatch) ≡ None
+assigned-met : (k : ParamKind) (a : Access) → (k ≡ kind.Int → a ≡ Read) → touch_fault (assigned k) a ≡ None → touch_fault (written_value k) a ≡ None
 assigned-met kind.Int Read read h = cc
 assigned-met kind.Int WriteOnly read h = absurd (let e : WriteOnly ≡ Read = read refl in cc)
 assigned-met kind.Int ReadWrite read h = absurd (let e : ReadWrite ≡ Read = read refl in cc)
@@ -69,11 +59,6 @@ module _ (raw : RawKernel) (parallel : Bool) (params : List Param) (locals : ℕ
   pub below : (k : ℕ) → k < length (locals_of raw.nodes.items) → nat_lt k locals ≡ true
   below k h = lt-test k locals (let e = ok.count in omega arith)
 
-  length-met : (k : ParamKind) (x : ℕ) (r : RawParam) → slice_get raw.params.items x ≡ Some r → demand_fault (measurable k) r ≡ None → IsTrue (has_length params x)
-  length-met kind.List x r s h = or-right (meets params x (record nothing { array = true; stream = true })) _ (demand-met raw params ok.same x r (record nothing { list = true; map = true; reads = true }) s h)
-  length-met kind.Map x r s h = or-right (meets params x (record nothing { array = true; stream = true })) _ (demand-met raw params ok.same x r (record nothing { list = true; map = true; reads = true }) s h)
-  length-met k x r s h = or-left _ _ (demand-met raw params ok.same x r (record nothing { array = true; stream = true }) s h)
-
   pub value-met : (i name x : ℕ) → used_fault raw i form.SetName (text_at raw name) ≡ None → IsParameter raw i name x → IsTrue (meets params x written_value)
   value-met i name x h p =
       let u = is-used raw i name x form.SetName h p in
@@ -81,21 +66,20 @@ module _ (raw : RawKernel) (parallel : Bool) (params : List Param) (locals : ℕ
 
   pub expr-fits : {i : ℕ} {e : RawExpr} {x : Expr} → ExprOf raw i e x → StandsExpr raw.nodes.items i e → IsTrue (expr_fits parallel params locals x)
   expr-fits (number h) st = ap fit h
-  expr-fits (index h) st = ap fit h ∙ ok.is_parallel ∙ not-false raw.parallel (fault_if-none _ _ (fine _ _ st).token)
+  expr-fits (index h) st = ap fit h ∙ ok.is_parallel ∙ not-false raw.parallel (some_if-none _ _ (fine _ _ st).token)
   expr-fits (variable {i = i} {name = name} k n h) st = ap fit h ∙ below k (variable-below raw i name k n)
   expr-fits (loop_variable {i = i} {name = name} k n h) st = ap fit h ∙ below k (loop-below raw i name k n)
-  expr-fits (value {i = i} {name = name} k n h) st = ap fit h ∙ met raw params ok.same i name k form.Name a_value (λ _. refl) (fine _ _ st).name n
+  expr-fits (value {i = i} {name = name} k n h) st = ap fit h ∙ met raw params ok.same i name k form.Name (fine _ _ st).name n
   expr-fits (size {i = i} {name = name} k n h) st =
-      let u = is-used raw i name k form.Length (fine _ _ st).name n in
-      ap fit h ∙ length-met u.param.kind k u.param u.at u.demand
+      ap fit h ∙ met raw params ok.same i name k form.Length (fine _ _ st).name n
   expr-fits (element {i = i} {name = name} k n s h) st =
-      ap fit h ∙ and_from _ _ (met raw params ok.same i name k form.Element read_elements (λ _. refl) (fine _ _ st.0).name n) (expr-fits s st.1)
+      ap fit h ∙ and_from _ _ (met raw params ok.same i name k form.Element (fine _ _ st.0).name n) (expr-fits s st.1)
   expr-fits (has {i = i} {name = name} k n s h) st =
-      ap fit h ∙ and_from _ _ (met raw params ok.same i name k form.Has read_map (λ _. refl) (fine _ _ st.0).name n) (expr-fits s st.1)
+      ap fit h ∙ and_from _ _ (met raw params ok.same i name k form.Has (fine _ _ st.0).name n) (expr-fits s st.1)
   expr-fits (count {i = i} {name = name} k n s h) st =
-      ap fit h ∙ and_from _ _ (met raw params ok.same i name k form.Count read_stream (λ _. refl) (fine _ _ st.0).name n) (expr-fits s st.1)
+      ap fit h ∙ and_from _ _ (met raw params ok.same i name k form.Count (fine _ _ st.0).name n) (expr-fits s st.1)
   expr-fits (item {i = i} {name = name} k n s t h) st =
-      ap fit h ∙ and_from _ _ (met raw params ok.same i name k form.Item read_stream (λ _. refl) (fine _ _ st.0).name n) (and_from _ _ (expr-fits s st.1) (expr-fits t st.2))
+      ap fit h ∙ and_from _ _ (met raw params ok.same i name k form.Item (fine _ _ st.0).name n) (and_from _ _ (expr-fits s st.1) (expr-fits t st.2))
   expr-fits (negative m s h) st = ap fit h ∙ expr-fits s st.1
   expr-fits (opposite m s h) st = ap fit h ∙ expr-fits s st.1
   expr-fits (both j s t h) st = ap fit h ∙ and_from _ _ (expr-fits s st.0) (expr-fits t st.2)

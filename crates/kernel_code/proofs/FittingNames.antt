@@ -3,13 +3,11 @@ use Rattle.std.proofs.Common.{ℕ, zero, suc, ◌≡◌, ◌≤◌, ◌<◌, ◌
 use Rattle.std.specs.Prelude.{◌&&◌, option_map}
 use Rattle.std.specs.Str.{bytes_eq}
 use Rattle.std.proofs.lemmas.List.{length-append}
-use Rattle.std.proofs.lemmas.Bool.{and_from}
 use Rattle.job_base.specs.declared.Access.{Access}
 use Rattle.job_base.specs.declared.Access.TheVariants.{Read, Write as WriteOnly, Both}
 use Rattle.frame_ast.specs.declared.kernel.FaultKind.{FaultKind}
 use Rattle.frame_ast.specs.declared.kernel.Param.{Param}
-use Rattle.frame_ast.specs.declared.kernel.ParamKind.{ParamKind}
-use Rattle.frame_ast.specs.Checked.{Demand, kind_meets, access_meets, param_meets, meets}
+use Rattle.frame_ast.specs.Checked.{Touch, Demand, access_meets, touch_meets, param_meets, meets}
 use Rattle.kernel_code.specs.declared.raw.RawForm.{RawForm}
 use Rattle.kernel_code.specs.declared.raw.RawNode.{RawNode}
 use Rattle.kernel_code.specs.declared.raw.RawParam.{RawParam}
@@ -17,7 +15,9 @@ use Rattle.kernel_code.specs.declared.raw.RawKernel.{RawKernel}
 use Rattle.kernel_code.specs.declared.check.names.Named.{Named}
 use Rattle.kernel_code.specs.declared.check.names.Named.TheVariants.{Parameter, Variable, LoopVariable}
 use Rattle.kernel_code.specs.declared.check.names.Local.{Local}
-use Rattle.kernel_code.specs.StaticFaults.{text_at, declares, local_of, local_if, locals_from, locals_before, locals_of, or_else, as_local, in_scope, local_among, parameter, is_begun, demand_of, access_fault, demand_fault, block_fault, param_fault_of, use_fault, used_fault}
+use Rattle.std.specs.Option.{option_or}
+use Rattle.frame_ast.specs.Lists.{some_if}
+use Rattle.kernel_code.specs.StaticFaults.{text_at, declares, local_of, local_if, locals_from, locals_before, locals_of, as_local, in_scope, local_among, parameter, is_begun, demand_of, access_fault, touch_fault, demand_fault, block_fault, param_fault_of, use_fault, used_fault}
 use Rattle.kernel_code.specs.Known.{number_named}
 use Rattle.kernel_code.specs.Trees.{IsParameter, IsVariable, IsLoopVariable, param_text, raw_param_text}
 use Rattle.kernel_code.proofs.NoFaults.{lowest-none}
@@ -80,15 +80,15 @@ local-other raw i text k [] x h = cc
 local-other raw i text k (l ∷ ls) x h =
     other-pick (in_scope i l && bytes_eq (text_at raw l.name) text) l k x (local_among raw i text (k + 1) ls) (local-other raw i text (k + 1) ls x) h
 
-named-variable : (p : Option ℕ) (o : Option Named) (k : ℕ) → or_else (option_map (λ x. Parameter x) p) o ≡ Some (Variable k) → o ≡ Some (Variable k)
+named-variable : (p : Option ℕ) (o : Option Named) (k : ℕ) → option_or (option_map (λ x. Parameter x) p) o ≡ Some (Variable k) → o ≡ Some (Variable k)
 named-variable None o k h = h
 named-variable (Some x) o k h = cc
 
-named-loop : (p : Option ℕ) (o : Option Named) (k : ℕ) → or_else (option_map (λ x. Parameter x) p) o ≡ Some (LoopVariable k) → o ≡ Some (LoopVariable k)
+named-loop : (p : Option ℕ) (o : Option Named) (k : ℕ) → option_or (option_map (λ x. Parameter x) p) o ≡ Some (LoopVariable k) → o ≡ Some (LoopVariable k)
 named-loop None o k h = h
 named-loop (Some x) o k h = cc
 
-named-parameter : (p : Option ℕ) (o : Option Named) (x : ℕ) → (o ≡ Some (Parameter x) → ⊥) → or_else (option_map (λ x. Parameter x) p) o ≡ Some (Parameter x) → p ≡ Some x
+named-parameter : (p : Option ℕ) (o : Option Named) (x : ℕ) → (o ≡ Some (Parameter x) → ⊥) → option_or (option_map (λ x. Parameter x) p) o ≡ Some (Parameter x) → p ≡ Some x
 named-parameter None o x other h = absurd (other h)
 named-parameter (Some y) o x other h = cc
 
@@ -113,7 +113,7 @@ parameter-is raw i at x h =
 pub record IsUsed (raw : RawKernel) (i : ℕ) (f : RawForm) (x : ℕ) : Type 0 where
   pub param : RawParam
   pub at : slice_get raw.params.items x ≡ Some param
-  pub demand : demand_fault (demand_of f param.kind) param ≡ None
+  pub demand : demand_fault (demand_of f) param ≡ None
   pub block : block_fault f (is_begun raw i x) ≡ None
 
 used-param : (raw : RawKernel) (i : ℕ) (f : RawForm) (x : ℕ) (o : Option RawParam) → slice_get raw.params.items x ≡ o →
@@ -146,31 +146,32 @@ is-like raw (p ∷ ps) (q ∷ rs) (suc x) r same s =
     let l = is-like raw ps rs x r t s in
     record { param = l.param; at = l.at; kind = l.kind; access = l.access }
 
-may-none : (b : Bool) (k : FaultKind) → cond b (Some k) None ≡ None → not b ≡ true
+may-none : (b : Bool) (k : FaultKind) → some_if b k ≡ None → not b ≡ true
 may-none true k h = cc
 may-none false k h = refl
 
-access-met : (d : Demand) (a : Access) → access_fault d a ≡ None → access_meets d a ≡ true
-access-met d Read h = may-none d.writes _ h
-access-met d WriteOnly h = may-none d.reads _ h
-access-met d Both h = refl
+access-met : (t : Touch) (a : Access) → access_fault t a ≡ None → access_meets t a ≡ true
+access-met t Read h = may-none t.writes _ h
+access-met t WriteOnly h = may-none t.reads _ h
+access-met t Both h = refl
 
-kind-met : (b : Bool) (o : Option FaultKind) (k : FaultKind) → cond b o (Some k) ≡ None → (b ≡ true) × (o ≡ None)
-kind-met true o k h = (refl, h)
-kind-met false o k h = cc
+touch-met : (o : Option Touch) (a : Access) → touch_fault o a ≡ None → touch_meets o a ≡ true
+touch-met None a h = cc
+touch-met (Some t) a h = access-met t a h
 
 -- the demand is met where it has no fault
 pub demand-met : (raw : RawKernel) (params : List Param) → map param_text params ≡ map (raw_param_text raw) raw.params.items → (x : ℕ) (r : RawParam) (d : Demand) →
     slice_get raw.params.items x ≡ Some r → demand_fault d r ≡ None → IsTrue (meets params x d)
 demand-met raw params same x r d s h =
     let l = is-like raw params raw.params.items x r same s in
-    let both = kind-met (kind_meets d r.kind) _ _ h in
     ap (param_meets d) l.at
-    ∙ and_from _ _ (ap (kind_meets d) l.kind ∙ both.0) (ap (access_meets d) l.access ∙ access-met d r.access both.1)
+    ∙ ap (λ k. touch_meets (d k) l.param.access) l.kind
+    ∙ ap (touch_meets (d r.kind)) l.access
+    ∙ touch-met (d r.kind) r.access h
 
--- what a form asks of a parameter of any kind is met
-pub met : (raw : RawKernel) (params : List Param) → map param_text params ≡ map (raw_param_text raw) raw.params.items → (i name x : ℕ) (f : RawForm) (d : Demand) →
-    ((k : ParamKind) → demand_of f k ≡ d) → used_fault raw i f (text_at raw name) ≡ None → IsParameter raw i name x → IsTrue (meets params x d)
-met raw params same i name x f d asks h p =
+-- what a form asks of a parameter is met
+pub met : (raw : RawKernel) (params : List Param) → map param_text params ≡ map (raw_param_text raw) raw.params.items → (i name x : ℕ) (f : RawForm) →
+    used_fault raw i f (text_at raw name) ≡ None → IsParameter raw i name x → IsTrue (meets params x (demand_of f))
+met raw params same i name x f h p =
     let u = is-used raw i name x f h p in
-    demand-met raw params same x u.param d u.at (subst (λ z. demand_fault z u.param ≡ None) (asks u.param.kind) u.demand)
+    demand-met raw params same x u.param (demand_of f) u.at u.demand

@@ -3,13 +3,12 @@ use Rattle.std.proofs.Common.{ℕ, ◌≡◌, ◌≤◌, ◌<◌, ◌+◌, Bool,
 use Rattle.std.specs.Prelude.{nat_lt}
 use Rattle.std.proofs.lemmas.Bool.{and_from}
 use Rattle.frame_ast.specs.declared.kernel.Param.{Param}
-use Rattle.frame_ast.specs.declared.kernel.ParamKind.{ParamKind}
 use Rattle.frame_ast.specs.declared.kernel.Expr.{Expr}
 use Rattle.frame_ast.specs.declared.kernel.Stmt.{Stmt, out-Stmt}
 use Rattle.frame_ast.specs.declared.kernel.Stmt.TheOpen.{Stmt-F}
 use Rattle.frame_ast.specs.declared.kernel.Stmt.TheFolds.{fold_out-Stmt, map-Stmt}
 use Rattle.frame_ast.specs.Lists.{member}
-use Rattle.frame_ast.specs.Checked.{Demand, written_elements, written_list, written_map, changed_map, clearable, written_stream, meets, expr_fits, all_fit, statement_fits, stmt_fits}
+use Rattle.frame_ast.specs.Checked.{meets, expr_fits, all_fit, statement_fits, stmt_fits}
 use Rattle.kernel_code.specs.declared.raw.RawForm.{RawForm}
 use Rattle.kernel_code.specs.declared.raw.RawForm.TheVariants as form
 use Rattle.kernel_code.specs.declared.raw.RawNode.{RawNode}
@@ -60,8 +59,8 @@ module _ (raw : RawKernel) (parallel : Bool) (params : List Param) (locals : ℕ
   local : (i at k : ℕ) → IsVariable raw i at k → nat_lt k locals ≡ true
   local i at k h = below raw parallel params locals ok k (variable-below raw i at k h)
 
-  asked : (i name x : ℕ) (f : RawForm) (d : Demand) → ((k : ParamKind) → demand_of f k ≡ d) → used_fault raw i f (text_at raw name) ≡ None → IsParameter raw i name x → IsTrue (meets params x d)
-  asked i name x f d a h p = met raw params ok.same i name x f d a h p
+  asked : (i name x : ℕ) (f : RawForm) → used_fault raw i f (text_at raw name) ≡ None → IsParameter raw i name x → IsTrue (meets params x (demand_of f))
+  asked i name x f h p = met raw params ok.same i name x f h p
 
   is-written : (i name x e : ℕ) (opened : List ℕ) → used_fault raw i form.Write (text_at raw name) ≡ None → IsParameter raw i name x → i < e → AreOpen raw i i e opened → member x opened ≡ true
   is-written i name x e opened h p l o =
@@ -85,34 +84,34 @@ module _ (raw : RawKernel) (parallel : Bool) (params : List Param) (locals : ℕ
       and_from _ _ (stmt-is s _ opened o ∙ and_from _ _ (value-met raw parallel params locals ok i name k (name-fine i _ st.0) p) (part x st.1.0))
       (block-fits rest owner e opened st.2 (omega arith) (simple-behind raw i (a ∷ []) e opened st.0 st.1 now))
   block-fits (set_place {i = i} {name = name} {e = a} {g = g} {s = s} k p x y o rest) owner e opened st l now =
-      and_from _ _ (stmt-is s _ opened o ∙ and_from _ _ (asked i name k form.SetPlace written_elements (λ _. refl) (name-fine i _ st.0) p) (and_from _ _ (part x st.1.0) (part y (second-part raw.nodes.items i a g st.1))))
+      and_from _ _ (stmt-is s _ opened o ∙ and_from _ _ (asked i name k form.SetPlace (name-fine i _ st.0) p) (and_from _ _ (part x st.1.0) (part y (second-part raw.nodes.items i a g st.1))))
       (block-fits rest owner e opened st.2 (omega arith) (simple-behind raw i (a ∷ g ∷ []) e opened st.0 st.1 now))
   block-fits (set_try_add {i = i} {at = at} {name = name} {e = a} {g = g} {s = s} j k v p x y o rest) owner e opened st l now =
-      and_from _ _ (stmt-is s _ opened o ∙ and_from _ _ (local i at j v) (and_from _ _ (asked i name k form.SetTryAdd changed_map (λ _. refl) (name-fine i _ st.0) p) (and_from _ _ (part x st.1.0) (part y (second-part raw.nodes.items i a g st.1)))))
+      and_from _ _ (stmt-is s _ opened o ∙ and_from _ _ (local i at j v) (and_from _ _ (asked i name k form.SetTryAdd (name-fine i _ st.0) p) (and_from _ _ (part x st.1.0) (part y (second-part raw.nodes.items i a g st.1)))))
       (block-fits rest owner e opened st.2 (omega arith) (simple-behind raw i (a ∷ g ∷ []) e opened st.0 st.1 now))
   block-fits (set_remove {i = i} {at = at} {name = name} {e = a} {s = s} j k v p x o rest) owner e opened st l now =
-      and_from _ _ (stmt-is s _ opened o ∙ and_from _ _ (local i at j v) (and_from _ _ (asked i name k form.SetRemove changed_map (λ _. refl) (name-fine i _ st.0) p) (part x st.1.0)))
+      and_from _ _ (stmt-is s _ opened o ∙ and_from _ _ (local i at j v) (and_from _ _ (asked i name k form.SetRemove (name-fine i _ st.0) p) (part x st.1.0)))
       (block-fits rest owner e opened st.2 (omega arith) (simple-behind raw i (a ∷ []) e opened st.0 st.1 now))
   block-fits (add_item {i = i} {name = name} {e = a} {s = s} k p x o rest) owner e opened st l now =
-      and_from _ _ (stmt-is s _ opened o ∙ and_from _ _ (asked i name k form.AddItem written_list (λ _. refl) (name-fine i _ st.0) p) (part x st.1.0))
+      and_from _ _ (stmt-is s _ opened o ∙ and_from _ _ (asked i name k form.AddItem (name-fine i _ st.0) p) (part x st.1.0))
       (block-fits rest owner e opened st.2 (omega arith) (simple-behind raw i (a ∷ []) e opened st.0 st.1 now))
   block-fits (add_pair {i = i} {name = name} {e = a} {g = g} {s = s} k p x y o rest) owner e opened st l now =
-      and_from _ _ (stmt-is s _ opened o ∙ and_from _ _ (asked i name k form.AddPair written_map (λ _. refl) (name-fine i _ st.0) p) (and_from _ _ (part x st.1.0) (part y (second-part raw.nodes.items i a g st.1))))
+      and_from _ _ (stmt-is s _ opened o ∙ and_from _ _ (asked i name k form.AddPair (name-fine i _ st.0) p) (and_from _ _ (part x st.1.0) (part y (second-part raw.nodes.items i a g st.1))))
       (block-fits rest owner e opened st.2 (omega arith) (simple-behind raw i (a ∷ g ∷ []) e opened st.0 st.1 now))
   block-fits (remove {i = i} {name = name} {e = a} {s = s} k p x o rest) owner e opened st l now =
-      and_from _ _ (stmt-is s _ opened o ∙ and_from _ _ (asked i name k form.Remove written_list (λ _. refl) (name-fine i _ st.0) p) (part x st.1.0))
+      and_from _ _ (stmt-is s _ opened o ∙ and_from _ _ (asked i name k form.Remove (name-fine i _ st.0) p) (part x st.1.0))
       (block-fits rest owner e opened st.2 (omega arith) (simple-behind raw i (a ∷ []) e opened st.0 st.1 now))
   block-fits (clear {i = i} {name = name} {s = s} k p o rest) owner e opened st l now =
-      and_from _ _ (stmt-is s _ opened o ∙ asked i name k form.Clear clearable (λ _. refl) (name-fine i _ st.0) p)
+      and_from _ _ (stmt-is s _ opened o ∙ asked i name k form.Clear (name-fine i _ st.0) p)
       (block-fits rest owner e opened st.2 (omega arith) (simple-behind raw i [] e opened st.0 st.1 now))
   block-fits (write {i = i} {name = name} {e = a} {s = s} k p x o rest) owner e opened st l now =
       let ok-name = name-fine i _ st.0 in
-      and_from _ _ (stmt-is s _ opened o ∙ and_from _ _ (asked i name k form.Write written_stream (λ _. refl) ok-name p) (and_from _ _ (is-written i name k e opened ok-name p (omega arith) now) (part x st.1.0)))
+      and_from _ _ (stmt-is s _ opened o ∙ and_from _ _ (asked i name k form.Write ok-name p) (and_from _ _ (is-written i name k e opened ok-name p (omega arith) now) (part x st.1.0)))
       (block-fits rest owner e opened st.2 (omega arith) (simple-behind raw i (a ∷ []) e opened st.0 st.1 now))
   block-fits (begun {i = i} {name = name} {e = a} {s = s} {inner = b} k p x o inner rest) owner e opened st l now =
       let ok-name = name-fine i _ st.0 in
       let body = block-fits inner (Some i) (i + (1 + (expr_size a + 0)) + block_size b) (k ∷ opened) st.2 (omega arith) (begun-inside raw i (a ∷ []) e opened b st.0 st.1 k refl p (omega arith) now) in
-      and_from _ _ (stmt-is s _ opened o ∙ and_from _ _ (asked i name k form.Begin written_stream (λ _. refl) ok-name p) (and_from _ _ (is-begun i name k e opened ok-name p (omega arith) now) (and_from _ _ (part x st.1.0) body)))
+      and_from _ _ (stmt-is s _ opened o ∙ and_from _ _ (asked i name k form.Begin ok-name p) (and_from _ _ (is-begun i name k e opened ok-name p (omega arith) now) (and_from _ _ (part x st.1.0) body)))
       (block-fits rest owner e opened st.3 (omega arith) (nested-behind raw i (a ∷ []) e opened b st.0 st.1 st.2 now))
   block-fits (tested {i = i} {e = a} {s = s} {inner = b} {other = other} x o inner none rest) owner e opened st l now =
       let body = block-fits inner (Some i) e opened st.2 (omega arith) (nested-inside raw i (a ∷ []) e opened b st.0 st.1 refl now) in

@@ -15,7 +15,7 @@ use Rattle.kernel_code.specs.StaticFaults.{text_at, value_at, meaning_of, use_fa
 use Rattle.kernel_code.specs.Known.{has_name, meaning_if, number_named}
 use Rattle.kernel_code.specs.Trees.{Joint, Both, Either, By, ExprOf, number, index, variable, loop_variable, value, size, element, has, count, negative, opposite, both, either, between, IsParameter, kind_at, is_minus, joint_of}
 use Rattle.kernel_code.specs.Places.{is_leaf, is_one, value_named, leaf_of, IsOneOf, IsJoint}
-use Rattle.kernel_code.proofs.NoFaults.{lowest-none, fault_if-none}
+use Rattle.kernel_code.proofs.NoFaults.{lowest-none, some_if-none}
 
 -- forms whose name is a parameter
 abbrev pub takes_parameter : RawForm → Bool
@@ -82,7 +82,7 @@ value_is raw i at name (Some (LoopVariable k)) e h = loop_variable k (sym e) ref
 pub leaf_is : (raw : RawKernel) (i at name : ℕ) (f : RawForm) (named : Option Named) → IsTrue (is_leaf f) →
     token_fault raw i at f ≡ None → name_fault raw i name f ≡ None → named ≡ meaning_if (has_name f) raw i name →
     ExprOf raw i (Leaf f at name) (leaf_of raw f at named)
-leaf_is raw i at name form.Number named l t h e = number (ap (λ n. Number (pos n)) (below (value_at raw at) (fault_if-none _ _ t)))
+leaf_is raw i at name form.Number named l t h e = number (ap (λ n. Number (pos n)) (below (value_at raw at) (some_if-none _ _ t)))
 leaf_is raw i at name form.Index named l t h e = index refl
 leaf_is raw i at name form.Name named l t h e = value_is raw i at name named e (subst (λ m. use_fault raw i form.Name m ≡ None) (sym e) ((lowest-none _ _ h).0))
 leaf_is raw i at name form.Length named l t h e = size (number_named named) (is_parameter raw i name form.Length named refl h e) refl
@@ -106,7 +106,7 @@ pub joint_is : (raw : RawKernel) (i at : ℕ) (e g : RawExpr) (y z x : Expr) (j 
     ExprOf raw (i + (expr_size e + 1)) g z → IsJoint j y z x → ExprOf raw i (Infix at e g) x
 joint_is raw i at e g y z x Both h l r is = both h l r is.2
 joint_is raw i at e g y z x Either h l r is = either h l r is.2
-joint_is raw i at e g y z x (By op) h l r is = between op h l r is.2
+joint_is raw i at e g y z x (By op) h l r is = between op h l r is.1
 
 pub negative_is : (m : Bool) {p : _} (y : Expr) → m ≡ true → (q : _) × (Negative' p y ≡ (if m then Negative' q y else Not' q y))
 negative_is m {p} y h = (p, ap (λ b. cond b (Negative' p y) (Not' p y)) (sym h))

@@ -7,13 +7,13 @@ use Rattle.std.proofs.lemmas.List.{length-map, take_more, length-take}
 use Rattle.std.proofs.lemmas.Option.{get_or_from_slice_get}
 use Rattle.frame_grammar.specs.declared.symbols.Event.{Event}
 use Rattle.frame_ast.specs.declared.kernel.Kernel.{Kernel}
-use Rattle.frame_ast.specs.Checked.{param_fits, body_nodes, body_depth}
+use Rattle.frame_ast.specs.Checked.{param_fits, width_fits, body_nodes, body_depth}
 use Rattle.kernel_code.specs.declared.raw.RawNode.{RawNode}
 use Rattle.kernel_code.specs.declared.raw.RawKernel.{RawKernel}
 use Rattle.kernel_code.specs.Raw.{SpellsRaw}
 use Rattle.kernel_code.specs.StaticFaults.{declares, local_of, local_if, locals_from, locals_before, locals_of, node_fault, nodes_fault, params_fault, first_fault}
 use Rattle.kernel_code.specs.Trees.{param_text, raw_param_text, IsKernelOf}
-use Rattle.kernel_code.proofs.NoFaults.{or_else-none}
+use Rattle.kernel_code.proofs.NoFaults.{option_or-none}
 use Rattle.kernel_code.proofs.BuiltExpressions.{none_at}
 use Rattle.kernel_code.proofs.BuiltKernels.{body-size, few-params}
 use Rattle.kernel_code.proofs.Counting.{block-count, few-nodes, has-at}
@@ -51,11 +51,15 @@ few-locals raw h =
 
 -- where the whole kernel has no fault, its parameters and its nodes have none
 pub faultless : (raw : RawKernel) (earlier : List Kernel) → first_fault raw earlier ≡ None → (params_fault raw 0 raw.params.items ≡ None) × (nodes_fault raw 0 raw.nodes.items ≡ None)
-faultless raw earlier h = or_else-none _ _ (or_else-none _ _ h).1
+faultless raw earlier h = option_or-none _ _ (option_or-none _ _ h).1
 
 pub params : (events : List Event) (raw : RawKernel) (k : Kernel) (earlier : List Kernel) → SpellsRaw events raw → first_fault raw earlier ≡ None → IsKernelOf raw k →
     IsTrue (list_all param_fits k.params.items)
 params events raw k earlier s h is = parameters.params raw k.params.items s.with_params (faultless raw earlier h).0 is.params
+
+pub widths : (events : List Event) (raw : RawKernel) (k : Kernel) (earlier : List Kernel) → SpellsRaw events raw → first_fault raw earlier ≡ None → IsKernelOf raw k →
+    IsTrue (list_all (width_fits k.parallel) k.params.items)
+widths events raw k earlier s h is = parameters.widths raw k.parallel k.params.items is.parallel s.with_params (faultless raw earlier h).0 is.params
 
 pub count : (raw : RawKernel) (k : Kernel) (earlier : List Kernel) → first_fault raw earlier ≡ None → IsKernelOf raw k → IsTrue (nat_le (length k.params.items) 16)
 count raw k earlier h is =

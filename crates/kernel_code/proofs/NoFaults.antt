@@ -9,7 +9,9 @@ use Rattle.kernel_code.specs.declared.raw.RawNode.{RawNode}
 use Rattle.kernel_code.specs.declared.raw.RawKernel.{RawKernel}
 use Rattle.kernel_code.specs.declared.check.StaticFault.{StaticFault}
 use Rattle.kernel_code.specs.Known.{IsFaultless}
-use Rattle.kernel_code.specs.StaticFaults.{number_of, lowest, fault_if, fault_at, or_else, declares, locals_before, token_fault, size_fault, name_fault, node_fault}
+use Rattle.std.specs.Option.{option_or}
+use Rattle.frame_ast.specs.Lists.{some_if}
+use Rattle.kernel_code.specs.StaticFaults.{number_of, lowest, fault_at, declares, locals_before, token_fault, size_fault, name_fault, node_fault}
 
 choice-some : {A : Type 0} (b : Bool) (x y : A) → cond b (Some x) (Some y) ≡ None → ⊥
 choice-some true x y h = cc
@@ -20,23 +22,23 @@ lowest-none None b h = (refl, h)
 lowest-none (Some a) None h = cc
 lowest-none (Some a) (Some b) h = absurd (choice-some (leb (number_of a) (number_of b)) a b h)
 
-pub fault_if-none : (k : FaultKind) (b : Bool) → fault_if k b ≡ None → b ≡ false
-fault_if-none k true h = cc
-fault_if-none k false h = refl
+pub some_if-none : (b : Bool) (k : FaultKind) → some_if b k ≡ None → b ≡ false
+some_if-none true k h = cc
+some_if-none false k h = refl
 
 pub fault_at-none : (at : ℕ) (k : Option FaultKind) → fault_at at k ≡ None → k ≡ None
 fault_at-none at None h = refl
 fault_at-none at (Some k) h = cc
 
-pub or_else-none : (a b : Option StaticFault) → or_else a b ≡ None → (a ≡ None) × (b ≡ None)
-or_else-none None b h = (refl, h)
-or_else-none (Some a) b h = cc
+pub option_or-none : (a b : Option StaticFault) → option_or a b ≡ None → (a ≡ None) × (b ≡ None)
+option_or-none None b h = (refl, h)
+option_or-none (Some a) b h = cc
 
 two-none : (same : Bool) (f : ℕ) (a : Option FaultKind) (s : ℕ) (b : Option FaultKind) →
-    cond same (fault_at f (lowest a b)) (or_else (fault_at f a) (fault_at s b)) ≡ None → (a ≡ None) × (b ≡ None)
+    cond same (fault_at f (lowest a b)) (option_or (fault_at f a) (fault_at s b)) ≡ None → (a ≡ None) × (b ≡ None)
 two-none true f a s b h = lowest-none a b (fault_at-none f (lowest a b) h)
 two-none false f a s b h =
-    let both = or_else-none (fault_at f a) (fault_at s b) h in (fault_at-none f a both.0, fault_at-none s b both.1)
+    let both = option_or-none (fault_at f a) (fault_at s b) h in (fault_at-none f a both.0, fault_at-none s b both.1)
 
 pub node_fault-none : (raw : RawKernel) (i : ℕ) (node : RawNode) → node_fault raw i node ≡ None → IsFaultless raw i node
 node_fault-none raw i node h =
@@ -52,6 +54,6 @@ below : (n m : ℕ) → nat_le n m ≡ false → m < n
 below n m h = grind (arith, nat_tests)
 
 pub few-locals : (raw : RawKernel) (i name : ℕ) (f : RawForm) → name_fault raw i name f ≡ None → declares f ≡ true → length (locals_before raw.nodes.items i) < 64
-few-locals raw i name form.Var h d = below 64 _ (fault_if-none _ _ (lowest-none _ _ (lowest-none _ _ h).1).0)
-few-locals raw i name form.For h d = below 64 _ (fault_if-none _ _ (lowest-none _ _ (lowest-none _ _ h).1).0)
+few-locals raw i name form.Var h d = below 64 _ (some_if-none _ _ (lowest-none _ _ (lowest-none _ _ h).1).0)
+few-locals raw i name form.For h d = below 64 _ (some_if-none _ _ (lowest-none _ _ (lowest-none _ _ h).1).0)
 few-locals raw i name f h d = cc

@@ -9,7 +9,8 @@ use Rattle.kernel_code.specs.declared.check.names.Meaning.{Meaning}
 use Rattle.kernel_code.specs.declared.check.names.Named.{Named}
 use Rattle.kernel_code.specs.declared.check.streams.StreamBlock.{StreamBlock}
 use Rattle.kernel_code.specs.declared.check.StaticFault.{StaticFault}
-use Rattle.kernel_code.specs.StaticFaults.{declares, local_of, local_if, locals_from, locals_before, begun_among, node_fault, nodes_fault, or_else}
+use Rattle.std.specs.Option.{option_or}
+use Rattle.kernel_code.specs.StaticFaults.{declares, local_of, local_if, locals_from, locals_before, begun_among, node_fault, nodes_fault}
 use Rattle.kernel_code.specs.Known.{stands_in, is_block, answer_named, name_stored, meaning_at, meanings_from, IsKnown}
 use Rattle.kernel_code.proofs.NoFaults.{few-locals, node_fault-none}
 
@@ -90,20 +91,20 @@ known_next raw i node d locals locals' blocks blocks' meanings meanings' known h
     }
 
 pub nodes_fault-step : (raw : RawKernel) (i : ℕ) (nodes : List RawNode) (d : RawNode) → i < length nodes →
-    nodes_fault raw i (drop i nodes) ≡ or_else (node_fault raw i (get_or nodes i d)) (nodes_fault raw (i + 1) (drop (i + 1) nodes))
+    nodes_fault raw i (drop i nodes) ≡ option_or (node_fault raw i (get_or nodes i d)) (nodes_fault raw (i + 1) (drop (i + 1) nodes))
 nodes_fault-step raw i nodes d h = ap (nodes_fault raw i) (drop-cons nodes i d h) ∙ rw (add-one i) refl
 
 pub nodes_fault-passed : (raw : RawKernel) (i : ℕ) (nodes : List RawNode) (node d : RawNode) → i < length nodes → node ≡ get_or nodes i d → node_fault raw i node ≡ None →
     nodes_fault raw i (drop i nodes) ≡ nodes_fault raw (i + 1) (drop (i + 1) nodes)
 nodes_fault-passed raw i nodes node d h is none =
-    nodes_fault-step raw i nodes d h ∙ ap (λ n. or_else (node_fault raw i n) (nodes_fault raw (i + 1) (drop (i + 1) nodes))) (sym is)
-    ∙ ap (λ f. or_else f (nodes_fault raw (i + 1) (drop (i + 1) nodes))) none
+    nodes_fault-step raw i nodes d h ∙ ap (λ n. option_or (node_fault raw i n) (nodes_fault raw (i + 1) (drop (i + 1) nodes))) (sym is)
+    ∙ ap (λ f. option_or f (nodes_fault raw (i + 1) (drop (i + 1) nodes))) none
 
 pub nodes_fault-found : (raw : RawKernel) (i : ℕ) (nodes : List RawNode) (node d : RawNode) (f : StaticFault) → i < length nodes → node ≡ get_or nodes i d → node_fault raw i node ≡ Some f →
     nodes_fault raw i (drop i nodes) ≡ Some f
 nodes_fault-found raw i nodes node d f h is some =
-    nodes_fault-step raw i nodes d h ∙ ap (λ n. or_else (node_fault raw i n) (nodes_fault raw (i + 1) (drop (i + 1) nodes))) (sym is)
-    ∙ ap (λ f. or_else f (nodes_fault raw (i + 1) (drop (i + 1) nodes))) some
+    nodes_fault-step raw i nodes d h ∙ ap (λ n. option_or (node_fault raw i n) (nodes_fault raw (i + 1) (drop (i + 1) nodes))) (sym is)
+    ∙ ap (λ f. option_or f (nodes_fault raw (i + 1) (drop (i + 1) nodes))) some
 
 pub nodes_fault-end : (raw : RawKernel) (i : ℕ) (nodes : List RawNode) → length nodes ≤ i → nodes_fault raw i (drop i nodes) ≡ None
 nodes_fault-end raw i nodes h = ap (nodes_fault raw i) (drop_all i nodes h)

@@ -1,6 +1,7 @@
 -- What is known of the names of a kernel before a node.
 use Rattle.std.specs.Prelude.{◌≡◌, ℕ, ◌≤◌, nat_le, nat_lt, ◌==◌, ◌&&◌, Bool, true, false, if◌then◌else◌, List, [], ◌∷◌, ◌+◌, length, take, Option, Some, None}
 use Rattle.std.specs.List.{list_any}
+use Rattle.job_base.specs.declared.limits.TheConstants.{MOST_LOCALS}
 use Rattle.kernel_code.specs.declared.raw.RawForm.{RawForm}
 use Rattle.kernel_code.specs.declared.raw.RawForm.TheVariants as form
 use Rattle.kernel_code.specs.declared.raw.RawNode.{RawNode}
@@ -19,7 +20,8 @@ is_in x i b = (nat_le b.start i && nat_lt i b.end) && x == b.stream
 abbrev pub stands_in : ℕ → ℕ → List StreamBlock → Bool
 stands_in x i blocks = list_any (is_in x i) blocks
 
--- these blocks tell for each stream whether node i, or one behind it, stands in a `begin` block that began before node i
+-- these blocks tell for each stream whether node i, or one behind it, stands in a `begin` block that began before node
+-- i
 pub record AreBegun (raw : RawKernel) (i : ℕ) (blocks : List StreamBlock) : Type 0 where
   pub tell : (x j : ℕ) → i ≤ j → begun_among raw x j 0 (take i raw.nodes.items) ≡ stands_in x j blocks
 
@@ -68,12 +70,14 @@ meanings_from raw i (node ∷ more) = meaning_at raw i node ∷ meanings_from ra
 
 -- the block of node b, if it is a `begin` of a parameter
 abbrev pub is_block : RawKernel → (x i b : ℕ) → RawNode → Bool
-is_block raw x i b node = is_begin node.form && (is_inside i b node && is_number x (parameter raw (text_at raw node.name)))
+is_block raw x i b node =
+    is_begin node.form && (is_inside i b node && is_number x (parameter raw (text_at raw node.name)))
 
 -- what is kept when the nodes before node i have been looked at
-pub record IsKnown (raw : RawKernel) (i : ℕ) (ls : List Local) (bs : List StreamBlock) (ms : List Meaning) : Type 0 where
+pub record IsKnown (raw : RawKernel) (i : ℕ) (ls : List Local) (bs : List StreamBlock)
+    (ms : List Meaning) : Type 0 where
   pub locals : ls ≡ locals_before raw.nodes.items i
-  pub few : length ls ≤ 64
+  pub few : length ls ≤ MOST_LOCALS
   pub blocks : AreBegun raw i bs
   pub meanings : ms ≡ meanings_from raw 0 (take i raw.nodes.items)
 

@@ -13,11 +13,14 @@ use Rattle.kernel_code.specs.Raw.{IsRaw}
 
 -- the bytes of each token that is a name are text
 abbrev pub NamesAreText : List ℕ → List Token → Type 0
-NamesAreText source tokens = (k : ℕ) (token : Token) → slice_get tokens k ≡ Some token → token.kind ≡ Name → IsUtf8 (text_of source token)
+NamesAreText source tokens =
+    (k : ℕ) (token : Token) → slice_get tokens k ≡ Some token → token.kind ≡ Name → IsUtf8 (text_of source token)
 
 -- each name of which events tell stands at a token that is a name
 abbrev pub NamesStand : List TokenKind → List Event → Type 0
-NamesStand kinds events = (k : ℕ) (event : Event) → slice_get events k ≡ Some event → event.action ≡ action.Name → slice_get kinds event.place ≡ Some Name
+NamesStand kinds events =
+    (k : ℕ) (event : Event) → slice_get events k ≡ Some event → event.action ≡ action.Name →
+    slice_get kinds event.place ≡ Some Name
 
 -- the names of a kernel and of its parameters are text
 pub record IsLegible (raw : RawKernel) : Type 0 where

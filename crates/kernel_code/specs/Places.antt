@@ -47,7 +47,8 @@ IsFormed (Infix at e g) = IsFormed e × IsFormed g
 -- the nodes of an expression stand from node i on
 abbrev pub StandsExpr : List RawNode → ℕ → RawExpr → Type 0
 StandsExpr nodes i (Leaf f at name) = slice_get nodes i ≡ Some (expr_node f at name 0 0)
-StandsExpr nodes i (One f at name e) = (slice_get nodes i ≡ Some (expr_node f at name 0 (expr_size e))) × StandsExpr nodes (i + 1) e
+StandsExpr nodes i (One f at name e) =
+    (slice_get nodes i ≡ Some (expr_node f at name 0 (expr_size e))) × StandsExpr nodes (i + 1) e
 StandsExpr nodes i (Two f at name e g) =
     (slice_get nodes i ≡ Some (expr_node f at name 0 (expr_size e + expr_size g)))
     × StandsExpr nodes (i + 1) e × StandsExpr nodes (i + (1 + expr_size e)) g
@@ -77,7 +78,8 @@ abbrev pub is_infix : RawExpr → Bool
 is_infix (Infix at e g) = true
 is_infix _ = false
 
--- an expression that is no operator between two sides stands from node i on; an operator behind it may take it as a left side
+-- an expression that is no operator between two sides stands from node i on; an operator behind it may take it as a
+-- left side
 pub record IsAtomHere (raw : RawKernel) (i : ℕ) (e : RawExpr) : Type 0 where
   pub atom : is_infix e ≡ false
   pub formed : IsFormed e
@@ -118,7 +120,7 @@ IsOneOf raw _ at named y x = (p : _) × (x ≡ (if is_minus (kind_at raw at) the
 abbrev pub IsJoint : Joint → Expr → Expr → Expr → Type 0
 IsJoint Both y z x = (p q : _) × (x ≡ And' p y q z)
 IsJoint Either y z x = (p q : _) × (x ≡ Or' p y q z)
-IsJoint (By op) y z x = (p q : _) × (x ≡ Binary' op p y q z)
+IsJoint (By op) y z x = (p : _) × (x ≡ Binary' op p y z)
 
 -- STATEMENTS
 
@@ -140,7 +142,8 @@ StandsBlock nodes owner i (Nested f at name parts inner more) =
     × StandsBlock nodes (Some i) (i + (1 + parts_size parts)) inner
     × StandsBlock nodes owner (i + (1 + parts_size parts + block_size inner)) more
 StandsBlock nodes owner i (Branched at e first second more) =
-    (slice_get nodes i ≡ Some (statement_node form.IfElse at at owner (expr_size e) (block_size first) (block_size second)))
+    (slice_get nodes i ≡ Some (statement_node form.IfElse at at owner (expr_size e) (block_size first)
+    (block_size second)))
     × StandsExpr nodes (i + 1) e
     × StandsBlock nodes (Some i) (i + (1 + expr_size e)) first
     × StandsBlock nodes (Some i) (i + (1 + expr_size e + block_size first)) second
@@ -181,7 +184,8 @@ abbrev pub IsFormedBlock : RawBlock → Type 0
 IsFormedBlock Nothing = Unit {0}
 IsFormedBlock (Simple f at name parts more) = FitsSimple f parts × IsFormedBlock more
 IsFormedBlock (Nested f at name parts inner more) = FitsNested f parts × IsFormedBlock inner × IsFormedBlock more
-IsFormedBlock (Branched at e first second more) = IsFormed e × IsFormedBlock first × IsFormedBlock second × IsFormedBlock more
+IsFormedBlock (Branched at e first second more) =
+    IsFormed e × IsFormedBlock first × IsFormedBlock second × IsFormedBlock more
 
 -- node j is no operator between two sides
 abbrev pub NoOperator : List RawNode → ℕ → Type 0

@@ -44,7 +44,8 @@ abbrev pub block_size : RawBlock → ℕ
 block_size Nothing = 0
 block_size (Simple f at name parts more) = 1 + (parts_size parts + block_size more)
 block_size (Nested f at name parts inner more) = 1 + (parts_size parts + (block_size inner + block_size more))
-block_size (Branched at e first second more) = 1 + (expr_size e + (block_size first + (block_size second + block_size more)))
+block_size (Branched at e first second more) =
+    1 + (expr_size e + (block_size first + (block_size second + block_size more)))
 
 -- a node of an expression, with so many nodes under it before and behind it
 abbrev pub expr_node : RawForm → (at name before after : ℕ) → RawNode
@@ -65,7 +66,16 @@ parts_nodes (e ∷ more) = expr_nodes e ++ parts_nodes more
 -- a node of a statement, with so many nodes of expressions, of its first block and of its second one behind it
 abbrev pub statement_node : RawForm → (at name : ℕ) → Option ℕ → (heads first second : ℕ) → RawNode
 statement_node f at name owner heads first second =
-    record { form = f; at = at; name = name; owner = owner; before = 0; after = heads + (first + second); heads = heads; inside = first }
+    record {
+      form = f;
+      at = at;
+      name = name;
+      owner = owner;
+      before = 0;
+      after = heads + (first + second);
+      heads = heads;
+      inside = first;
+    }
 
 -- the nodes of a block of this owner, of which so many nodes of the kernel stand before the first
 abbrev pub block_nodes : Option ℕ → ℕ → RawBlock → List RawNode
@@ -102,8 +112,10 @@ PartsBelow n (e ∷ more) = ExprBelow n e × PartsBelow n more
 abbrev pub BlockBelow : ℕ → RawBlock → Type 0
 BlockBelow n Nothing = Unit {0}
 BlockBelow n (Simple f at name parts more) = (at < n) × (name < n) × PartsBelow n parts × BlockBelow n more
-BlockBelow n (Nested f at name parts inner more) = (at < n) × (name < n) × PartsBelow n parts × BlockBelow n inner × BlockBelow n more
-BlockBelow n (Branched at e first second more) = (at < n) × ExprBelow n e × BlockBelow n first × BlockBelow n second × BlockBelow n more
+BlockBelow n (Nested f at name parts inner more) =
+    (at < n) × (name < n) × PartsBelow n parts × BlockBelow n inner × BlockBelow n more
+BlockBelow n (Branched at e first second more) =
+    (at < n) × ExprBelow n e × BlockBelow n first × BlockBelow n second × BlockBelow n more
 
 -- every place that parameters tell is below n
 abbrev pub ParamsBelow : ℕ → List RawParam → Type 0
@@ -139,13 +151,15 @@ pub data SpellsExpr : List Event → RawExpr → Type 0 where
   count : {events : List Event} {at x : ℕ} (q : ℕ) (es : List Event) {e : RawExpr} → SpellsExpr es e →
       events ≡ on action.StartAtom at ∷ on action.Name x ∷ es ++ on action.CountAtom q ∷ [] →
       SpellsExpr events (One form.Count at x e)
-  item : {events : List Event} {at x : ℕ} (q : ℕ) (es gs : List Event) {e g : RawExpr} → SpellsExpr es e → SpellsExpr gs g →
+  item : {events : List Event} {at x : ℕ} (q : ℕ) (es gs : List Event) {e g : RawExpr} → SpellsExpr es e →
+      SpellsExpr gs g →
       events ≡ on action.StartAtom at ∷ on action.Name x ∷ es ++ (gs ++ on action.AtAtom q ∷ []) →
       SpellsExpr events (Two form.Item at x e g)
   unary : {events : List Event} {at : ℕ} (q : ℕ) (es : List Event) {e : RawExpr} → SpellsExpr es e →
       events ≡ on action.Operator at ∷ es ++ on action.Unary q ∷ [] →
       SpellsExpr events (One form.Unary at at e)
-  between : {events : List Event} {at : ℕ} (q : ℕ) (es gs : List Event) {e g : RawExpr} → SpellsExpr es e → SpellsExpr gs g →
+  between : {events : List Event} {at : ℕ} (q : ℕ) (es gs : List Event) {e g : RawExpr} → SpellsExpr es e →
+      SpellsExpr gs g →
       events ≡ es ++ on action.Operator at ∷ gs ++ on action.Binary q ∷ [] →
       SpellsExpr events (Infix at e g)
 
@@ -157,10 +171,12 @@ pub data SpellsSimple : List Event → (f : RawForm) (name : ℕ) → List RawEx
   set_name : {events : List Event} {x : ℕ} (q : ℕ) (es : List Event) {e : RawExpr} → SpellsExpr es e →
       events ≡ on action.Name x ∷ es ++ on action.SetName q ∷ [] →
       SpellsSimple events form.SetName x (e ∷ [])
-  set_place : {events : List Event} {x : ℕ} (q : ℕ) (es gs : List Event) {e g : RawExpr} → SpellsExpr es e → SpellsExpr gs g →
+  set_place : {events : List Event} {x : ℕ} (q : ℕ) (es gs : List Event) {e g : RawExpr} → SpellsExpr es e →
+      SpellsExpr gs g →
       events ≡ on action.Name x ∷ es ++ (gs ++ on action.SetPlace q ∷ []) →
       SpellsSimple events form.SetPlace x (e ∷ g ∷ [])
-  set_try_add : {events : List Event} {x : ℕ} (y q : ℕ) (es gs : List Event) {e g : RawExpr} → SpellsExpr es e → SpellsExpr gs g →
+  set_try_add : {events : List Event} {x : ℕ} (y q : ℕ) (es gs : List Event) {e g : RawExpr} → SpellsExpr es e →
+      SpellsExpr gs g →
       events ≡ on action.Name y ∷ on action.Name x ∷ es ++ (gs ++ on action.SetTryAdd q ∷ []) →
       SpellsSimple events form.SetTryAdd x (e ∷ g ∷ [])
   set_remove : {events : List Event} {x : ℕ} (y q : ℕ) (es : List Event) {e : RawExpr} → SpellsExpr es e →
@@ -169,7 +185,8 @@ pub data SpellsSimple : List Event → (f : RawForm) (name : ℕ) → List RawEx
   add_item : {events : List Event} {x : ℕ} (q : ℕ) (es : List Event) {e : RawExpr} → SpellsExpr es e →
       events ≡ on action.Name x ∷ es ++ on action.AddItem q ∷ [] →
       SpellsSimple events form.AddItem x (e ∷ [])
-  add_pair : {events : List Event} {x : ℕ} (q : ℕ) (es gs : List Event) {e g : RawExpr} → SpellsExpr es e → SpellsExpr gs g →
+  add_pair : {events : List Event} {x : ℕ} (q : ℕ) (es gs : List Event) {e g : RawExpr} → SpellsExpr es e →
+      SpellsExpr gs g →
       events ≡ on action.Name x ∷ es ++ (gs ++ on action.AddPair q ∷ []) →
       SpellsSimple events form.AddPair x (e ∷ g ∷ [])
   remove : {events : List Event} {x : ℕ} (q : ℕ) (es : List Event) {e : RawExpr} → SpellsExpr es e →
@@ -190,7 +207,8 @@ pub data SpellsHead : List Event → Action → (f : RawForm) (at name : ℕ) �
   tested : {events : List Event} {at : ℕ} (q : ℕ) (es : List Event) {e : RawExpr} → SpellsExpr es e →
       events ≡ es ++ on action.IfHead q ∷ [] →
       SpellsHead events action.IfStatement form.If at at (e ∷ [])
-  counted : {events : List Event} {at x : ℕ} (q : ℕ) (es gs : List Event) {e g : RawExpr} → SpellsExpr es e → SpellsExpr gs g →
+  counted : {events : List Event} {at x : ℕ} (q : ℕ) (es gs : List Event) {e g : RawExpr} → SpellsExpr es e →
+      SpellsExpr gs g →
       events ≡ on action.Name x ∷ es ++ (gs ++ on action.ForHead q ∷ []) →
       SpellsHead events action.ForStatement form.For at x (e ∷ g ∷ [])
   looped : {events : List Event} {at : ℕ} (q : ℕ) (es : List Event) {e : RawExpr} → SpellsExpr es e →
@@ -202,14 +220,22 @@ pub data SpellsBlock : List Event → RawBlock → Type 0 where
   nothing : {events : List Event} →
       events ≡ [] →
       SpellsBlock events Nothing
-  simple : {events : List Event} {at name : ℕ} {f : RawForm} {parts : List RawExpr} (es rest : List Event) {more : RawBlock} → SpellsSimple es f name parts → SpellsBlock rest more →
+  simple : {events : List Event} {at name : ℕ} {f : RawForm} {parts : List RawExpr}
+      (es rest : List Event) {more : RawBlock} → SpellsSimple es f name parts → SpellsBlock rest more →
       events ≡ on action.StartStatement at ∷ es ++ rest →
       SpellsBlock events (Simple f at name parts more)
-  nested : {events : List Event} {at name : ℕ} (o c q : ℕ) {f : RawForm} {end : Action} {parts : List RawExpr} (hs bs rest : List Event) {inner more : RawBlock} → SpellsHead hs end f at name parts → SpellsBlock bs inner → SpellsBlock rest more →
-      events ≡ on action.StartStatement at ∷ hs ++ on action.OpenBlock o ∷ bs ++ on action.CloseBlock c ∷ on end q ∷ rest →
+  nested : {events : List Event} {at name : ℕ} (o c q : ℕ) {f : RawForm} {end : Action} {parts : List RawExpr}
+      (hs bs rest : List Event) {inner more : RawBlock} → SpellsHead hs end f at name parts → SpellsBlock bs inner →
+      SpellsBlock rest more →
+      events ≡ on action.StartStatement at ∷ hs ++ on action.OpenBlock o ∷ bs ++ on action.CloseBlock c ∷ on end q
+      ∷ rest →
       SpellsBlock events (Nested f at name parts inner more)
-  branched : {events : List Event} {at : ℕ} (h o c o' c' q : ℕ) {e : RawExpr} (es bs bs' rest : List Event) {first second more : RawBlock} → SpellsExpr es e → SpellsBlock bs first → SpellsBlock bs' second → SpellsBlock rest more →
-      events ≡ on action.StartStatement at ∷ es ++ on action.IfHead h ∷ on action.OpenBlock o ∷ bs ++ on action.CloseBlock c ∷ on action.OpenBlock o' ∷ bs' ++ on action.CloseBlock c' ∷ on action.IfElseStatement q ∷ rest →
+  branched : {events : List Event} {at : ℕ} (h o c o' c' q : ℕ) {e : RawExpr}
+      (es bs bs' rest : List Event) {first second more : RawBlock} → SpellsExpr es e → SpellsBlock bs first →
+      SpellsBlock bs' second → SpellsBlock rest more →
+      events ≡ on action.StartStatement at ∷ es ++ on action.IfHead h ∷ on action.OpenBlock o ∷ bs
+      ++ on action.CloseBlock c ∷ on action.OpenBlock o' ∷ bs' ++ on action.CloseBlock c' ∷ on action.IfElseStatement q
+      ∷ rest →
       SpellsBlock events (Branched at e first second more)
 
 -- PARAMETERS
@@ -248,7 +274,8 @@ pub data SpellsParams : List Event → List RawParam → Type 0 where
   none : {events : List Event} →
       events ≡ [] →
       SpellsParams events []
-  param : {events : List Event} (q : ℕ) (ks rest : List Event) {p : RawParam} {more : List RawParam} → SpellsKind ks p → SpellsParams rest more →
+  param : {events : List Event} (q : ℕ) (ks rest : List Event) {p : RawParam} {more : List RawParam} → SpellsKind ks p →
+      SpellsParams rest more →
       events ≡ on action.Name p.name ∷ ks ++ on action.Parameter q ∷ rest →
       SpellsParams events (p ∷ more)
 
@@ -276,7 +303,8 @@ pub record SpellsRaw (events : List Event) (raw : RawKernel) : Type 0 where
 pub record IsWithin (raw : RawKernel) : Type 0 where
   pub name : raw.name < length raw.tokens.now
   pub params : (k : ℕ) (p : RawParam) → slice_get raw.params.items k ≡ Some p →
-      (p.name < length raw.tokens.now) × (p.word < length raw.tokens.now) × IfSome p.width (λ n. n < length raw.tokens.now)
+      (p.name < length raw.tokens.now) × (p.word < length raw.tokens.now)
+      × IfSome p.width (λ n. n < length raw.tokens.now)
   pub nodes : (k : ℕ) (n : RawNode) → slice_get raw.nodes.items k ≡ Some n →
       (n.at < length raw.tokens.now) × (n.name < length raw.tokens.now)
 

@@ -61,8 +61,8 @@ part_of action.WhileStatement = part.Nests form.While
 part_of action.IfElseStatement = part.Branches
 part_of _ = part.Nothing
 
--- What has been read: the parameters and the one that is being read, the nodes, those of them that are open, the innermost first, and
--- the first node of the expression that was whole last.
+-- What has been read: the parameters and the one that is being read, the nodes, those of them that are open, the
+-- innermost first, and the first node of the expression that was whole last.
 pub record Reading : Type 0 where
   pub params : List RawParam
   pub param : RawParam
@@ -71,7 +71,14 @@ pub record Reading : Type 0 where
   pub last : ℕ
 
 abbrev pub reading_of : Reader → Reading
-reading_of r = record { params = r.params.items; param = r.param; nodes = r.nodes.items; opened = reverse r.opened.items; last = r.last }
+reading_of r =
+    record {
+      params = r.params.items;
+      param = r.param;
+      nodes = r.nodes.items;
+      opened = reverse r.opened.items;
+      last = r.last;
+    }
 
 -- a parameter of this name of which nothing else has been read
 abbrev pub fresh : ℕ → RawParam
@@ -121,7 +128,16 @@ abbrev pub begun : (at : ℕ) (owner : Option ℕ) (before : ℕ) → Reading �
 begun at owner before s = record {
   params = s.params;
   param = s.param;
-  nodes = s.nodes ++ record { form = form.Number; at = at; name = at; owner = owner; before = before; after = 0; heads = 0; inside = 0 } ∷ [];
+  nodes = s.nodes ++ record {
+    form = form.Number;
+    at = at;
+    name = at;
+    owner = owner;
+    before = before;
+    after = 0;
+    heads = 0;
+    inside = 0;
+  } ∷ [];
   opened = length s.nodes ∷ s.opened;
   last = s.last;
 }

@@ -1,18 +1,23 @@
--- The static faults of a kernel: what its names are where they stand, what each form needs of its name, and which fault comes first.
+-- The static faults of a kernel: what its names are where they stand, what each form needs of its name, and which fault
+-- comes first.
 --
--- Nodes, locals and parameters are numbered from 0. A name that several things have is the parameter, else the first local.
+-- Nodes, locals and parameters are numbered from 0. A name that several things have is the parameter, else the first
+-- local.
 use Rattle.std.specs.Prelude.{◌≡◌, ℕ, ◌+◌, ◌-◌, ◌*◌, ◌==◌, nat_lt, nat_le, Bool, true, false, ◌&&◌, ◌||◌, not, is_some, if◌then◌else◌, List, [], ◌∷◌, ◌++◌, length, take, fold, position, slice_get, Option, None, Some, option_map}
+use Rattle.std.specs.Option.{option_or}
 use Rattle.std.specs.List.{list_any}
 use Rattle.std.specs.Str.{bytes_eq}
 use Rattle.std.specs.String.{string_bytes}
 use Rattle.job_base.specs.declared.Access.{Access}
 use Rattle.job_base.specs.declared.Access.TheVariants.{Read, Write as WriteOnly, Both}
+use Rattle.job_base.specs.declared.limits.TheConstants.{MOST_NAME_BYTES, MOST_LOCALS, MOST_NODES, MOST_DEPTH, MOST_PARAMS, MOST_WIDTH, MOST_KERNELS}
 use Rattle.frame_ast.specs.declared.kernel.FaultKind.{FaultKind}
 use Rattle.frame_ast.specs.declared.kernel.FaultKind.TheVariants.{Syntax, UnknownName, DuplicateName, KindMismatch, ReadOfWriteOnly, WriteOfReadOnly, Limit, TooLong}
 use Rattle.frame_ast.specs.declared.kernel.ParamKind.{ParamKind}
 use Rattle.frame_ast.specs.declared.kernel.ParamKind.TheVariants as kind
 use Rattle.frame_ast.specs.declared.kernel.Kernel.{Kernel}
-use Rattle.frame_ast.specs.Checked.{Demand, kind_meets, nothing, a_value, read_elements, read_map, read_stream, written_value, written_elements, written_list, written_map, changed_map, clearable, written_stream}
+use Rattle.frame_ast.specs.Lists.{some_if}
+use Rattle.frame_ast.specs.Checked.{Touch, Demand, written, nothing, a_value, read_elements, measurable, read_map, read_stream, written_elements, written_list, written_map, changed_map, clearable, written_stream}
 use Rattle.kernel_code.specs.declared.token.Token.{Token}
 use Rattle.kernel_code.specs.declared.fault.KernelFault.{KernelFault}
 use Rattle.kernel_code.specs.declared.fault.KernelFault.TheVariants.{Refused, NoMemory}
@@ -98,8 +103,8 @@ abbrev pub block_end : List RawNode → ℕ → Option ℕ → ℕ
 block_end nodes d None = length nodes
 block_end nodes d (Some p) = end_within nodes d p (slice_get nodes p)
 
--- The local of node d. A loop variable is in scope in the block of its `for`, any other local from the statement behind its `var`
--- to the end of the block.
+-- The local of node d. A loop variable is in scope in the block of its `for`, any other local from the statement behind
+-- its `var` to the end of the block.
 abbrev pub local_of : List RawNode → ℕ → RawNode → Local
 local_of nodes d node =
     let inner = d + 1 + node.heads in
@@ -113,7 +118,8 @@ local_if b l = if b then l ∷ [] else []
 -- the locals of these nodes, from node d on
 abbrev pub locals_from : List RawNode → ℕ → List RawNode → List Local
 locals_from nodes d [] = []
-locals_from nodes d (node ∷ more) = local_if (declares node.form) (local_of nodes d node) ++ locals_from nodes (d + 1) more
+locals_from nodes d (node ∷ more) =
+    local_if (declares node.form) (local_of nodes d node) ++ locals_from nodes (d + 1) more
 
 -- the locals that are declared before node i, in and out of scope
 abbrev pub locals_before : List RawNode → ℕ → List Local
@@ -129,10 +135,6 @@ locals_of nodes = locals_from nodes 0 nodes
 abbrev pub parameter : RawKernel → List ℕ → Option ℕ
 parameter raw text = position (λ p. bytes_eq (text_at raw p.name) text) raw.params.items
 
-abbrev pub or_else : {A : Type 0} → Option A → Option A → Option A
-or_else (Some x) later = Some x
-or_else None later = later
-
 -- what local k is
 abbrev pub as_local : Local → ℕ → Named
 as_local l k = if l.is_loop then LoopVariable k else Variable k
@@ -144,10 +146,12 @@ in_scope i l = nat_le l.start i && nat_lt i l.end
 abbrev pub local_among : RawKernel → ℕ → List ℕ → ℕ → List Local → Option Named
 local_among raw i text k [] = None
 local_among raw i text k (l ∷ more) =
-    if in_scope i l && bytes_eq (text_at raw l.name) text then Some (as_local l k) else local_among raw i text (k + 1) more
+    if in_scope i l && bytes_eq (text_at raw l.name) text then Some (as_local l k)
+    else local_among raw i text (k + 1) more
 
 abbrev pub meaning_among : RawKernel → List Local → ℕ → List ℕ → Option Named
-meaning_among raw locals i text = or_else (option_map (λ x. Parameter x) (parameter raw text)) (local_among raw i text 0 locals)
+meaning_among raw locals i text =
+    option_or (option_map (λ x. Parameter x) (parameter raw text)) (local_among raw i text 0 locals)
 
 -- what a name is at node i
 abbrev pub meaning_of : RawKernel → ℕ → List ℕ → Option Named
@@ -181,47 +185,47 @@ is_begun raw i x = begun_among raw x i 0 (take i raw.nodes.items)
 
 -- what `x = e` asks of a parameter: only a `ref` can be written, and an `int` only read
 abbrev pub assigned : Demand
-assigned = record written_value { int = true }
-
--- what `len(x)` asks: a list or a map is read
-abbrev pub measurable : ParamKind → Demand
-measurable kind.List = record nothing { list = true; map = true; reads = true }
-measurable kind.Map = record nothing { list = true; map = true; reads = true }
-measurable _ = record nothing { array = true; stream = true }
+assigned kind.Int = written
+assigned kind.Ref = written
+assigned _ = None
 
 -- what a form asks of the parameter that is its name
-abbrev pub demand_of : RawForm → ParamKind → Demand
-demand_of form.Name k = a_value
-demand_of form.Element k = read_elements
-demand_of form.Length k = measurable k
-demand_of form.Has k = read_map
-demand_of form.Count k = read_stream
-demand_of form.Item k = read_stream
-demand_of form.SetName k = assigned
-demand_of form.SetPlace k = written_elements
-demand_of form.SetTryAdd k = changed_map
-demand_of form.SetRemove k = changed_map
-demand_of form.AddItem k = written_list
-demand_of form.AddPair k = written_map
-demand_of form.Remove k = written_list
-demand_of form.Clear k = clearable
-demand_of form.Write k = written_stream
-demand_of form.Begin k = written_stream
-demand_of _ k = nothing
+abbrev pub demand_of : RawForm → Demand
+demand_of form.Name = a_value
+demand_of form.Element = read_elements
+demand_of form.Length = measurable
+demand_of form.Has = read_map
+demand_of form.Count = read_stream
+demand_of form.Item = read_stream
+demand_of form.SetName = assigned
+demand_of form.SetPlace = written_elements
+demand_of form.SetTryAdd = changed_map
+demand_of form.SetRemove = changed_map
+demand_of form.AddItem = written_list
+demand_of form.AddPair = written_map
+demand_of form.Remove = written_list
+demand_of form.Clear = clearable
+demand_of form.Write = written_stream
+demand_of form.Begin = written_stream
+demand_of _ = nothing
 
 -- why a parameter of this kind and access doesn't meet a demand
-abbrev pub access_fault : Demand → Access → Option FaultKind
-access_fault d Read = if d.writes then Some WriteOfReadOnly else None
-access_fault d WriteOnly = if d.reads then Some ReadOfWriteOnly else None
-access_fault d Both = None
+abbrev pub access_fault : Touch → Access → Option FaultKind
+access_fault t Read = some_if t.writes WriteOfReadOnly
+access_fault t WriteOnly = some_if t.reads ReadOfWriteOnly
+access_fault t Both = None
+
+abbrev pub touch_fault : Option Touch → Access → Option FaultKind
+touch_fault None a = Some KindMismatch
+touch_fault (Some t) a = access_fault t a
 
 abbrev pub demand_fault : Demand → RawParam → Option FaultKind
-demand_fault d p = if kind_meets d p.kind then access_fault d p.access else Some KindMismatch
+demand_fault d p = touch_fault (d p.kind) p.access
 
 -- a `write` stands in a `begin` block of its stream, a `begin` doesn't
 abbrev pub block_fault : RawForm → Bool → Option FaultKind
-block_fault form.Write begun = if begun then None else Some KindMismatch
-block_fault form.Begin begun = if begun then Some KindMismatch else None
+block_fault form.Write begun = some_if (not begun) KindMismatch
+block_fault form.Begin begun = some_if begun KindMismatch
 block_fault _ begun = None
 
 -- where a local can stand
@@ -258,16 +262,13 @@ lowest None b = b
 lowest (Some a) None = Some a
 lowest (Some a) (Some b) = if nat_le (number_of a) (number_of b) then Some a else Some b
 
-abbrev pub fault_if : FaultKind → Bool → Option FaultKind
-fault_if kind b = if b then Some kind else None
-
--- a name has at most 64 bytes
+-- a name isn't too long
 abbrev pub length_fault : List ℕ → Option FaultKind
-length_fault text = fault_if Limit (nat_lt 64 (length text))
+length_fault text = some_if (nat_lt MOST_NAME_BYTES (length text)) Limit
 
 abbrev pub param_fault_of : RawForm → Bool → Option RawParam → Option FaultKind
 param_fault_of f begun None = Some KindMismatch
-param_fault_of f begun (Some p) = lowest (demand_fault (demand_of f p.kind) p) (block_fault f begun)
+param_fault_of f begun (Some p) = lowest (demand_fault (demand_of f) p) (block_fault f begun)
 
 -- the fault of the name of a form at node i, by what the name is
 abbrev pub use_fault : RawKernel → ℕ → RawForm → Option Named → Option FaultKind
@@ -287,23 +288,25 @@ answer_fault raw (Some (Variable k)) = None
 answer_fault raw (Some (LoopVariable k)) = Some WriteOfReadOnly
 answer_fault raw (Some (Parameter x)) = param_answer_fault (slice_get raw.params.items x)
 
--- the fault of the name that node i declares: no parameter or local in scope has it, there are at most 64 locals
+-- the fault of the name that node i declares: no parameter or local in scope has it, and there aren't too many locals
 abbrev pub declared_fault : RawKernel → ℕ → List ℕ → Option FaultKind
 declared_fault raw i text =
-    lowest (fault_if DuplicateName (is_some (meaning_of raw i text)))
-    (lowest (fault_if Limit (nat_le 64 (length (locals_before raw.nodes.items i)))) (length_fault text))
+    lowest (some_if (is_some (meaning_of raw i text)) DuplicateName)
+    (lowest (some_if (nat_le MOST_LOCALS (length (locals_before raw.nodes.items i))) Limit) (length_fault text))
 
 -- what a node's own token says, its number and depth aside
 abbrev pub token_fault : RawKernel → ℕ → ℕ → RawForm → Option FaultKind
-token_fault raw i at form.Number = fault_if Limit (nat_lt 9223372036854775807 (value_at raw at))
-token_fault raw i at form.Index = fault_if UnknownName (not raw.parallel)
-token_fault raw i at form.SetTryAdd = lowest (answer_fault raw (meaning_of raw i (text_at raw at))) (length_fault (text_at raw at))
-token_fault raw i at form.SetRemove = lowest (answer_fault raw (meaning_of raw i (text_at raw at))) (length_fault (text_at raw at))
+token_fault raw i at form.Number = some_if (nat_lt 9223372036854775807 (value_at raw at)) Limit
+token_fault raw i at form.Index = some_if (not raw.parallel) UnknownName
+token_fault raw i at form.SetTryAdd =
+    lowest (answer_fault raw (meaning_of raw i (text_at raw at))) (length_fault (text_at raw at))
+token_fault raw i at form.SetRemove =
+    lowest (answer_fault raw (meaning_of raw i (text_at raw at))) (length_fault (text_at raw at))
 token_fault raw i at _ = None
 
--- at most 4,096 nodes, of depth 64 at most
+-- node i is one too many, or too deep
 abbrev pub size_fault : RawKernel → ℕ → Option FaultKind
-size_fault raw i = fault_if Limit (nat_le 4096 i || nat_lt 64 (depth_of raw.nodes.items i))
+size_fault raw i = some_if (nat_le MOST_NODES i || nat_lt MOST_DEPTH (depth_of raw.nodes.items i)) Limit
 
 abbrev pub used_fault : RawKernel → ℕ → RawForm → List ℕ → Option FaultKind
 used_fault raw i f text = lowest (use_fault raw i f (meaning_of raw i text)) (length_fault text)
@@ -329,61 +332,65 @@ fault_at at (Some kind) = Some (record { at = at; kind = kind })
 
 -- the first fault of two tokens, the first of which stands before the second or is the same
 abbrev pub first_of_two : (first : ℕ) → Option FaultKind → (second : ℕ) → Option FaultKind → Option StaticFault
-first_of_two first a second b = if first == second then fault_at first (lowest a b) else or_else (fault_at first a) (fault_at second b)
+first_of_two first a second b =
+    if first == second then fault_at first (lowest a b) else option_or (fault_at first a) (fault_at second b)
 
 -- the first fault of node i, in its own token and its name
 abbrev pub node_fault : RawKernel → ℕ → RawNode → Option StaticFault
 node_fault raw i node =
-    first_of_two node.at (lowest (token_fault raw i node.at node.form) (size_fault raw i)) node.name (name_fault raw i node.name node.form)
+    first_of_two node.at (lowest (token_fault raw i node.at node.form) (size_fault raw i)) node.name
+    (name_fault raw i node.name node.form)
 
 abbrev pub nodes_fault : RawKernel → ℕ → List RawNode → Option StaticFault
 nodes_fault raw i [] = None
-nodes_fault raw i (node ∷ more) = or_else (node_fault raw i node) (nodes_fault raw (i + 1) more)
+nodes_fault raw i (node ∷ more) = option_or (node_fault raw i node) (nodes_fault raw (i + 1) more)
 
--- the name of parameter k: no earlier parameter has it, and there are at most 16
+-- the name of parameter k: no earlier parameter has it, and there aren't too many
 abbrev pub param_name_fault : RawKernel → ℕ → List ℕ → Option FaultKind
 param_name_fault raw k text =
-    lowest (fault_if DuplicateName (list_any (λ p. bytes_eq (text_at raw p.name) text) (take k raw.params.items)))
-    (lowest (fault_if Limit (nat_le 16 k)) (length_fault text))
+    lowest (some_if (list_any (λ p. bytes_eq (text_at raw p.name) text) (take k raw.params.items)) DuplicateName)
+    (lowest (some_if (nat_le MOST_PARAMS k) Limit) (length_fault text))
 
 -- a stream isn't `rw`
 abbrev pub stream_fault : ParamKind → Access → Option FaultKind
 stream_fault kind.Stream Both = Some KindMismatch
 stream_fault _ _ = None
 
--- a width is 1 to 1,024, of a `wo` or `rw` array of a parallel kernel
+-- a width is written for a `wo` or `rw` array of a parallel kernel, and is at least 1
 abbrev pub width_word_fault : Bool → Access → Option FaultKind
 width_word_fault parallel Read = Some KindMismatch
-width_word_fault parallel WriteOnly = fault_if KindMismatch (not parallel)
-width_word_fault parallel Both = fault_if KindMismatch (not parallel)
+width_word_fault parallel WriteOnly = some_if (not parallel) KindMismatch
+width_word_fault parallel Both = some_if (not parallel) KindMismatch
 
 abbrev pub width_fault : ℕ → Option FaultKind
-width_fault width = fault_if Limit (width == 0 || nat_lt 1024 width)
+width_fault width = some_if (width == 0 || nat_lt MOST_WIDTH width) Limit
 
 -- what stands behind the name of a parameter
 abbrev pub param_kind_fault : RawKernel → RawParam → Option ℕ → Option StaticFault
 param_kind_fault raw p None = fault_at p.word (stream_fault p.kind p.access)
-param_kind_fault raw p (Some at) = or_else (fault_at p.word (width_word_fault raw.parallel p.access)) (fault_at at (width_fault (value_at raw at)))
+param_kind_fault raw p (Some at) =
+    option_or (fault_at p.word (width_word_fault raw.parallel p.access)) (fault_at at (width_fault (value_at raw at)))
 
 -- the first fault of parameter k
 abbrev pub param_fault : RawKernel → ℕ → RawParam → Option StaticFault
-param_fault raw k p = or_else (fault_at p.name (param_name_fault raw k (text_at raw p.name))) (param_kind_fault raw p p.width)
+param_fault raw k p =
+    option_or (fault_at p.name (param_name_fault raw k (text_at raw p.name))) (param_kind_fault raw p p.width)
 
 abbrev pub params_fault : RawKernel → ℕ → List RawParam → Option StaticFault
 params_fault raw k [] = None
-params_fault raw k (p ∷ more) = or_else (param_fault raw k p) (params_fault raw (k + 1) more)
+params_fault raw k (p ∷ more) = option_or (param_fault raw k p) (params_fault raw (k + 1) more)
 
--- the kernel's own name: no earlier kernel has it, and there are at most 256
+-- the kernel's own name: no earlier kernel has it, and there aren't too many
 abbrev pub kernel_name_fault : List Kernel → List ℕ → Option FaultKind
 kernel_name_fault earlier text =
-    lowest (fault_if DuplicateName (list_any (λ k. bytes_eq (string_bytes k.name) text) earlier))
-    (lowest (fault_if Limit (nat_le 256 (length earlier))) (length_fault text))
+    lowest (some_if (list_any (λ k. bytes_eq (string_bytes k.name) text) earlier) DuplicateName)
+    (lowest (some_if (nat_le MOST_KERNELS (length earlier)) Limit) (length_fault text))
 
 -- The first fault of a kernel behind earlier ones. Names, parameters and nodes stand in the order of their tokens.
 abbrev pub first_fault : RawKernel → List Kernel → Option StaticFault
 first_fault raw earlier =
-    or_else (fault_at raw.name (kernel_name_fault earlier (text_at raw raw.name)))
-    (or_else (params_fault raw 0 raw.params.items) (nodes_fault raw 0 raw.nodes.items))
+    option_or (fault_at raw.name (kernel_name_fault earlier (text_at raw raw.name)))
+    (option_or (params_fault raw 0 raw.params.items) (nodes_fault raw 0 raw.nodes.items))
 
 -- a refusal tells this fault, by its line
 abbrev pub TellsFault : RawKernel → Option StaticFault → KernelFault → Type 0

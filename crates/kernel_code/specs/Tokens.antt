@@ -32,8 +32,8 @@ token_at (Some kind) start end line = record { kind = kind; start = start; end =
 abbrev pub line_after : ℕ → ℕ → ℕ
 line_after byte line = if byte == 10 then line + 1 else line
 
--- The tokens from a place and a line on, where the first of these bytes, so many as the first number says, belong to a word that began
--- before them.
+-- The tokens from a place and a line on, where the first of these bytes, so many as the first number says, belong to a
+-- word that began before them.
 unfoldable pub tokens_from : (begun place line : ℕ) → List ℕ → List Token
 tokens_from begun place line [] = token_at (Some End) place place line
 tokens_from (suc begun) place line (byte ∷ bytes) = tokens_from begun (place + 1) line bytes

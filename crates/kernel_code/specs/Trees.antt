@@ -1,4 +1,5 @@
--- The kernel that a raw kernel without faults is: the same tree, with numbers by their value and names by what they are where they stand.
+-- The kernel that a raw kernel without faults is: the same tree, with numbers by their value and names by what they are
+-- where they stand.
 use Rattle.std.specs.Prelude.{◌≡◌, ℕ, ◌+◌, pos, Bool, true, false, List, [], ◌∷◌, length, map, Option, Some, None, slice_get}
 use Rattle.std.specs.String.{string_bytes}
 use Rattle.job_base.specs.declared.Access.{Access}
@@ -37,7 +38,21 @@ abbrev pub is_minus : TokenKind → Bool
 is_minus token.Minus = true
 is_minus _ = false
 
--- what joins two sides: `&&`, `||`, or an operator that evaluates both, of which `%` is the last
+-- the operators that evaluate both sides, of which `%` is the last
+abbrev pub operator_of : TokenKind → Operator
+operator_of token.Equal = operator.Equal
+operator_of token.NotEqual = operator.NotEqual
+operator_of token.Less = operator.Less
+operator_of token.LessEqual = operator.LessEqual
+operator_of token.Greater = operator.Greater
+operator_of token.GreaterEqual = operator.GreaterEqual
+operator_of token.Plus = operator.Plus
+operator_of token.Minus = operator.Minus
+operator_of token.Star = operator.Times
+operator_of token.Slash = operator.Divide
+operator_of _ = operator.Remainder
+
+-- what joins two sides: `&&`, `||`, or an operator that evaluates both
 pub data Joint : Type 0 where
   Both : Joint
   Either : Joint
@@ -46,17 +61,7 @@ pub data Joint : Type 0 where
 abbrev pub joint_of : TokenKind → Joint
 joint_of token.AndAnd = Both
 joint_of token.OrOr = Either
-joint_of token.Equal = By operator.Equal
-joint_of token.NotEqual = By operator.NotEqual
-joint_of token.Less = By operator.Less
-joint_of token.LessEqual = By operator.LessEqual
-joint_of token.Greater = By operator.Greater
-joint_of token.GreaterEqual = By operator.GreaterEqual
-joint_of token.Plus = By operator.Plus
-joint_of token.Minus = By operator.Minus
-joint_of token.Star = By operator.Times
-joint_of token.Slash = By operator.Divide
-joint_of _ = By operator.Remainder
+joint_of kind = By (operator_of kind)
 
 -- NAMES
 
@@ -79,28 +84,38 @@ Declares raw i k = k ≡ length (locals_before raw.nodes.items i)
 pub data ExprOf (raw : RawKernel) : ℕ → RawExpr → Expr → Type 0 where
   number : {i at name : ℕ} {x : Expr} → x ≡ Number (pos (value_at raw at)) → ExprOf raw i (Leaf form.Number at name) x
   index : {i at name : ℕ} {x : Expr} → x ≡ Index → ExprOf raw i (Leaf form.Index at name) x
-  variable : {i at name : ℕ} {x : Expr} (k : ℕ) → IsVariable raw i name k → x ≡ Local k → ExprOf raw i (Leaf form.Name at name) x
-  loop_variable : {i at name : ℕ} {x : Expr} (k : ℕ) → IsLoopVariable raw i name k → x ≡ Local k → ExprOf raw i (Leaf form.Name at name) x
-  value : {i at name : ℕ} {x : Expr} (k : ℕ) → IsParameter raw i name k → x ≡ Value k → ExprOf raw i (Leaf form.Name at name) x
-  size : {i at name : ℕ} {x : Expr} (k : ℕ) → IsParameter raw i name k → x ≡ Length k → ExprOf raw i (Leaf form.Length at name) x
-  element : {i at name : ℕ} {e : RawExpr} {x y : Expr} {p : _} (k : ℕ) → IsParameter raw i name k → ExprOf raw (i + 1) e y →
+  variable : {i at name : ℕ} {x : Expr} (k : ℕ) → IsVariable raw i name k → x ≡ Local k →
+      ExprOf raw i (Leaf form.Name at name) x
+  loop_variable : {i at name : ℕ} {x : Expr} (k : ℕ) → IsLoopVariable raw i name k → x ≡ Local k →
+      ExprOf raw i (Leaf form.Name at name) x
+  value : {i at name : ℕ} {x : Expr} (k : ℕ) → IsParameter raw i name k → x ≡ Value k →
+      ExprOf raw i (Leaf form.Name at name) x
+  size : {i at name : ℕ} {x : Expr} (k : ℕ) → IsParameter raw i name k → x ≡ Length k →
+      ExprOf raw i (Leaf form.Length at name) x
+  element : {i at name : ℕ} {e : RawExpr} {x y : Expr} {p : _} (k : ℕ) → IsParameter raw i name k →
+      ExprOf raw (i + 1) e y →
       x ≡ Element' k p y → ExprOf raw i (One form.Element at name e) x
   has : {i at name : ℕ} {e : RawExpr} {x y : Expr} {p : _} (k : ℕ) → IsParameter raw i name k → ExprOf raw (i + 1) e y →
       x ≡ Has' k p y → ExprOf raw i (One form.Has at name e) x
-  count : {i at name : ℕ} {e : RawExpr} {x y : Expr} {p : _} (k : ℕ) → IsParameter raw i name k → ExprOf raw (i + 1) e y →
+  count : {i at name : ℕ} {e : RawExpr} {x y : Expr} {p : _} (k : ℕ) → IsParameter raw i name k →
+      ExprOf raw (i + 1) e y →
       x ≡ Count' k p y → ExprOf raw i (One form.Count at name e) x
-  item : {i at name : ℕ} {e g : RawExpr} {x y z : Expr} {p q : _} (k : ℕ) → IsParameter raw i name k → ExprOf raw (i + 1) e y →
+  item : {i at name : ℕ} {e g : RawExpr} {x y z : Expr} {p q : _} (k : ℕ) → IsParameter raw i name k →
+      ExprOf raw (i + 1) e y →
       ExprOf raw (i + (1 + expr_size e)) g z → x ≡ Item' k p y q z → ExprOf raw i (Two form.Item at name e g) x
-  negative : {i at name : ℕ} {e : RawExpr} {x y : Expr} {p : _} → is_minus (kind_at raw at) ≡ true → ExprOf raw (i + 1) e y →
+  negative : {i at name : ℕ} {e : RawExpr} {x y : Expr} {p : _} → is_minus (kind_at raw at) ≡ true →
+      ExprOf raw (i + 1) e y →
       x ≡ Negative' p y → ExprOf raw i (One form.Unary at name e) x
-  opposite : {i at name : ℕ} {e : RawExpr} {x y : Expr} {p : _} → is_minus (kind_at raw at) ≡ false → ExprOf raw (i + 1) e y →
+  opposite : {i at name : ℕ} {e : RawExpr} {x y : Expr} {p : _} → is_minus (kind_at raw at) ≡ false →
+      ExprOf raw (i + 1) e y →
       x ≡ Not' p y → ExprOf raw i (One form.Unary at name e) x
   both : {i at : ℕ} {e g : RawExpr} {x y z : Expr} {p q : _} → joint_of (kind_at raw at) ≡ Both → ExprOf raw i e y →
       ExprOf raw (i + (expr_size e + 1)) g z → x ≡ And' p y q z → ExprOf raw i (Infix at e g) x
   either : {i at : ℕ} {e g : RawExpr} {x y z : Expr} {p q : _} → joint_of (kind_at raw at) ≡ Either → ExprOf raw i e y →
       ExprOf raw (i + (expr_size e + 1)) g z → x ≡ Or' p y q z → ExprOf raw i (Infix at e g) x
-  between : {i at : ℕ} {e g : RawExpr} {x y z : Expr} {p q : _} (op : Operator) → joint_of (kind_at raw at) ≡ By op → ExprOf raw i e y →
-      ExprOf raw (i + (expr_size e + 1)) g z → x ≡ Binary' op p y q z → ExprOf raw i (Infix at e g) x
+  between : {i at : ℕ} {e g : RawExpr} {x y z : Expr} {p : _} (op : Operator) → joint_of (kind_at raw at) ≡ By op →
+      ExprOf raw i e y →
+      ExprOf raw (i + (expr_size e + 1)) g z → x ≡ Binary' op p y z → ExprOf raw i (Infix at e g) x
 
 -- STATEMENTS: the nodes of the block stand from node i on
 
@@ -119,11 +134,14 @@ pub data BlockOf (raw : RawKernel) : ℕ → RawBlock → List Stmt → Type 0 w
       BlockOf raw (i + (1 + (expr_size e + 0))) more others →
       BlockOf raw i (Simple form.SetName at name (e ∷ []) more) (s ∷ others)
   set_place : {i at name : ℕ} {e g : RawExpr} {y z : Expr} {s : Stmt} {more : RawBlock} {others : List Stmt} (x : ℕ) →
-      IsParameter raw i name x → ExprOf raw (i + 1) e y → ExprOf raw (i + (1 + expr_size e)) g z → out-Stmt s ≡ Store x y z →
+      IsParameter raw i name x → ExprOf raw (i + 1) e y → ExprOf raw (i + (1 + expr_size e)) g z →
+      out-Stmt s ≡ Store x y z →
       BlockOf raw (i + (1 + (expr_size e + (expr_size g + 0)))) more others →
       BlockOf raw i (Simple form.SetPlace at name (e ∷ g ∷ []) more) (s ∷ others)
-  set_try_add : {i at name : ℕ} {e g : RawExpr} {y z : Expr} {s : Stmt} {more : RawBlock} {others : List Stmt} (k x : ℕ) →
-      IsVariable raw i at k → IsParameter raw i name x → ExprOf raw (i + 1) e y → ExprOf raw (i + (1 + expr_size e)) g z →
+  set_try_add : {i at name : ℕ} {e g : RawExpr} {y z : Expr} {s : Stmt} {more : RawBlock} {others : List Stmt}
+      (k x : ℕ) →
+      IsVariable raw i at k → IsParameter raw i name x → ExprOf raw (i + 1) e y →
+      ExprOf raw (i + (1 + expr_size e)) g z →
       out-Stmt s ≡ TryAdd k x y z →
       BlockOf raw (i + (1 + (expr_size e + (expr_size g + 0)))) more others →
       BlockOf raw i (Simple form.SetTryAdd at name (e ∷ g ∷ []) more) (s ∷ others)
@@ -136,7 +154,8 @@ pub data BlockOf (raw : RawKernel) : ℕ → RawBlock → List Stmt → Type 0 w
       BlockOf raw (i + (1 + (expr_size e + 0))) more others →
       BlockOf raw i (Simple form.AddItem at name (e ∷ []) more) (s ∷ others)
   add_pair : {i at name : ℕ} {e g : RawExpr} {y z : Expr} {s : Stmt} {more : RawBlock} {others : List Stmt} (x : ℕ) →
-      IsParameter raw i name x → ExprOf raw (i + 1) e y → ExprOf raw (i + (1 + expr_size e)) g z → out-Stmt s ≡ AddPair x y z →
+      IsParameter raw i name x → ExprOf raw (i + 1) e y → ExprOf raw (i + (1 + expr_size e)) g z →
+      out-Stmt s ≡ AddPair x y z →
       BlockOf raw (i + (1 + (expr_size e + (expr_size g + 0)))) more others →
       BlockOf raw i (Simple form.AddPair at name (e ∷ g ∷ []) more) (s ∷ others)
   remove : {i at name : ℕ} {e : RawExpr} {y : Expr} {s : Stmt} {more : RawBlock} {others : List Stmt} (x : ℕ) →
@@ -151,17 +170,20 @@ pub data BlockOf (raw : RawKernel) : ℕ → RawBlock → List Stmt → Type 0 w
       IsParameter raw i name x → ExprOf raw (i + 1) e y → out-Stmt s ≡ Write x y →
       BlockOf raw (i + (1 + (expr_size e + 0))) more others →
       BlockOf raw i (Simple form.Write at name (e ∷ []) more) (s ∷ others)
-  begun : {i at name : ℕ} {e : RawExpr} {y : Expr} {s : Stmt} {inner more : RawBlock} {others : List Stmt} {body : _} (x : ℕ) →
+  begun : {i at name : ℕ} {e : RawExpr} {y : Expr} {s : Stmt} {inner more : RawBlock} {others : List Stmt} {body : _}
+      (x : ℕ) →
       IsParameter raw i name x → ExprOf raw (i + 1) e y → out-Stmt s ≡ Begin x y body →
       BlockOf raw (i + (1 + (expr_size e + 0))) inner body.items →
       BlockOf raw (i + (1 + (expr_size e + 0) + block_size inner)) more others →
       BlockOf raw i (Nested form.Begin at name (e ∷ []) inner more) (s ∷ others)
-  tested : {i at name : ℕ} {e : RawExpr} {y : Expr} {s : Stmt} {inner more : RawBlock} {others : List Stmt} {body other : _} →
+  tested : {i at name : ℕ} {e : RawExpr} {y : Expr} {s : Stmt} {inner more : RawBlock} {others : List Stmt}
+      {body other : _} →
       ExprOf raw (i + 1) e y → out-Stmt s ≡ If y body other →
       BlockOf raw (i + (1 + (expr_size e + 0))) inner body.items → other.items ≡ [] →
       BlockOf raw (i + (1 + (expr_size e + 0) + block_size inner)) more others →
       BlockOf raw i (Nested form.If at name (e ∷ []) inner more) (s ∷ others)
-  counted : {i at name : ℕ} {e g : RawExpr} {y z : Expr} {s : Stmt} {inner more : RawBlock} {others : List Stmt} {body : _} (k : ℕ) →
+  counted : {i at name : ℕ} {e g : RawExpr} {y z : Expr} {s : Stmt} {inner more : RawBlock} {others : List Stmt}
+      {body : _} (k : ℕ) →
       Declares raw i k → ExprOf raw (i + 1) e y → ExprOf raw (i + (1 + expr_size e)) g z → out-Stmt s ≡ For k y z body →
       BlockOf raw (i + (1 + (expr_size e + (expr_size g + 0)))) inner body.items →
       BlockOf raw (i + (1 + (expr_size e + (expr_size g + 0)) + block_size inner)) more others →
@@ -171,7 +193,8 @@ pub data BlockOf (raw : RawKernel) : ℕ → RawBlock → List Stmt → Type 0 w
       BlockOf raw (i + (1 + (expr_size e + 0))) inner body.items →
       BlockOf raw (i + (1 + (expr_size e + 0) + block_size inner)) more others →
       BlockOf raw i (Nested form.While at name (e ∷ []) inner more) (s ∷ others)
-  branched : {i at : ℕ} {e : RawExpr} {y : Expr} {s : Stmt} {first second more : RawBlock} {others : List Stmt} {body other : _} →
+  branched : {i at : ℕ} {e : RawExpr} {y : Expr} {s : Stmt} {first second more : RawBlock} {others : List Stmt}
+      {body other : _} →
       ExprOf raw (i + 1) e y → out-Stmt s ≡ If y body other →
       BlockOf raw (i + (1 + expr_size e)) first body.items →
       BlockOf raw (i + (1 + expr_size e + block_size first)) second other.items →

@@ -1,7 +1,8 @@
 //! Checks a kernel: what its names are, whether they fit where they stand, and its limits.
 ghost use Rattle.std.specs.Prelude.{◌≡◌, ℕ, None, Some, IfOk, IfErr, OnOk};
+ghost use Rattle.std.specs.Option.{option_or};
 ghost use Rattle.frame_ast.specs.Checked.{IsChecked};
-ghost use Rattle.kernel_code.specs.StaticFaults.{text_at, fault_at, or_else, kernel_name_fault, params_fault, first_fault, TellsFault};
+ghost use Rattle.kernel_code.specs.StaticFaults.{text_at, fault_at, kernel_name_fault, params_fault, first_fault, TellsFault};
 ghost use Rattle.kernel_code.specs.Trees.{IsKernelOf};
 ghost use Rattle.kernel_code.specs.Legible.{IsParsed};
 
@@ -9,16 +10,16 @@ mod demands;
 mod depths;
 mod expressions;
 mod kernels;
-pub mod names;
+mod names;
 mod nodes;
 mod params;
 mod resolve;
 mod statements;
-pub mod streams;
+mod streams;
 mod texts;
 
 use crate::check::kernels::kernel_of;
-use crate::check::params::{fault_at, kernel_name_fault, or_else, params_fault};
+use crate::check::params::{fault_at, kernel_name_fault, params_fault};
 use crate::check::resolve::resolve;
 use crate::check::texts::{line_at, text_at};
 use crate::fault::KernelFault;
@@ -35,13 +36,11 @@ pub struct StaticFault {
 
 // The first fault of a kernel's name and parameters.
 fn head_fault(raw: &RawKernel<'_>, earlier: &[Kernel]) -> Option<StaticFault>
-    ensures { result ≡ or_else (fault_at raw.now.name (kernel_name_fault earlier.now (text_at raw.now raw.now.name))) (params_fault raw.now 0 raw.now.params.items) }
+    ensures { result ≡ option_or (fault_at raw.now.name (kernel_name_fault earlier.now (text_at raw.now raw.now.name)))
+        (params_fault raw.now 0 raw.now.params.items) }
 {
     let name = text_at(raw, raw.name);
-    or_else(
-        fault_at(raw.name, kernel_name_fault(earlier, name)),
-        params_fault(raw),
-    )
+    fault_at(raw.name, kernel_name_fault(earlier, name)).or(params_fault(raw))
 }
 
 // The refusal for a fault.

@@ -3,6 +3,7 @@
 ghost use Rattle.std.specs.Prelude.{◌≡◌, ◌<◌, ◌≤◌, ◌^◌, ℕ, length, IfOk};
 ghost use Rattle.frame_ast.specs.declared.kernel.FaultKind.{FaultKind};
 ghost use Rattle.frame_ast.specs.declared.kernel.FaultKind.TheVariants.{Syntax};
+ghost use Rattle.job_base.specs.declared.limits.TheConstants.{MOST_SCRIPT_BYTES};
 ghost use Rattle.kernel_code.specs.Raw.{SpellsRaw, IsKernel};
 ghost use Rattle.kernel_code.specs.Reading.{is_parallel};
 ghost use Rattle.kernel_code.specs.Tokens.{tokens_of};
@@ -81,12 +82,13 @@ pub fn parse_kernel<'a>(
     tokens: &'a [Token],
     at: u32,
 ) -> Result<(RawKernel<'a>, u32), KernelFault>
-    requires few { length source.now ≤ 16777216 }
+    requires few { length source.now ≤ MOST_SCRIPT_BYTES }
     requires lexed { tokens.now ≡ tokens_of source.now }
     requires within { at < length tokens.now }
     ensures kernel { IfOk result (λ found. StandsAt source.now tokens.now at found.1 found.0) }
     ensures parsed { IfOk result (λ found. IsParsed found.0) }
-    ensures fault { (line : ℕ) (kind : FaultKind) → result ≡ Err (KernelFault.Refused line kind) → (kind ≡ Syntax) × StopsAt tokens.now at line }
+    ensures fault { (line : ℕ) (kind : FaultKind) → result ≡ Err (KernelFault.Refused line kind) → (kind ≡ Syntax)
+        × StopsAt tokens.now at line }
 {
     let ahead = &tokens[at as usize..];
     let sentence = match parse(alloc, Nonterminal::Kernel, ahead) {

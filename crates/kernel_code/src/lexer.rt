@@ -1,5 +1,6 @@
 ghost use Rattle.std.specs.Prelude.{◌≡◌, ◌<◌, ◌≤◌, length, IfOk};
 ghost use Rattle.std.specs.List.{starts_with};
+ghost use Rattle.job_base.specs.declared.limits.TheConstants.{MOST_SCRIPT_BYTES};
 ghost use Rattle.kernel_code.specs.Tokens.{tokens_of, mark_len, line_after};
 ghost use Rattle.kernel_code.specs.Legible.{NamesAreText};
 
@@ -36,7 +37,7 @@ fn line_after(byte: u8, line: u32) -> u32
 /// follows it in its line. A byte that begins no token is a `Bad` token, so lexing itself finds no
 /// fault.
 pub fn lex(alloc: Global, source: &[u8]) -> Result<Vec<Token>, NoMemory>
-    requires { length source.now ≤ 16777216 }
+    requires { length source.now ≤ MOST_SCRIPT_BYTES }
     ensures tokens { IfOk result (λ tokens. tokens.items ≡ tokens_of source.now) }
     ensures text { IfOk result (λ tokens. NamesAreText source.now tokens.items) }
 {

@@ -5,7 +5,7 @@
 //! `check_kernel` looks the names up, and answers the kernel or its first static fault.
 #![tactic(auto)]
 
-pub mod check;
+mod check;
 #[cfg(test)]
 mod check_tests;
 mod fault;
@@ -14,7 +14,7 @@ mod kernel;
 mod kernel_tests;
 mod lexer;
 mod part;
-pub mod raw;
+mod raw;
 mod reader;
 mod spelling;
 #[cfg(test)]
@@ -22,9 +22,9 @@ mod tests;
 mod token;
 mod word;
 
-pub use check::check_kernel;
+pub use check::{StaticFault, check_kernel};
 pub use fault::KernelFault;
-pub use frame_ast::kernel::FaultKind;
+pub use frame_ast::kernel::{Body, FaultKind, Kernel, Param, ParamKind};
 pub use frame_grammar::TokenKind;
 pub use kernel::{parse_kernel, raw_kernel};
 pub use lexer::lex;

@@ -245,7 +245,8 @@ impl Reader {
 
     fn number(&mut self, place: u32) -> Result<(), AllocError>
         requires { length self.old.nodes.items < 2 ^ 32 }
-        ensures { IfOk result (λ _. reading_of self.new ≡ numbered (reading_of self.old).opened place (reading_of self.old)) }
+        ensures { IfOk result (λ _. reading_of self.new ≡ numbered (reading_of self.old).opened place
+            (reading_of self.old)) }
     {
         if self.opened.is_empty() {
             self.param.width = Some(place);

@@ -1,5 +1,5 @@
 -- Two runs at an index, from cells that agree on what it reads, go on alike, and change what it writes alone.
-use Rattle.std.proofs.Common.{◌≡◌, ◌≢◌, ◌∙◌, ℕ, ◌+◌, ◌≤◌, ◌<◌, ◌^◌, ℤ, pos, negsuc, Bool, true, false, IsTrue, List, [], length, Some, Result, Ok, Err, refl, sym, ap, subst, arith}
+use Rattle.std.proofs.Common.{◌≡◌, ◌≢◌, ◌∙◌, ℕ, ◌+◌, ◌<◌, ◌^◌, ℤ, pos, negsuc, Bool, true, false, IsTrue, List, Some, Result, Ok, Err, refl, sym, ap, subst, arith}
 use Rattle.std.specs.Prelude.{slice_get, if◌then◌else◌}
 use Rattle.std.proofs.lemmas.Bool.Decides.{nat_tests}
 use Rattle.job_base.specs.declared.Trap.{Trap}
@@ -10,9 +10,10 @@ use Rattle.frame_ast.specs.declared.kernel.ParamKind.TheVariants.{Stream as Stre
 use Rattle.frame_ast.specs.Contents.{then_value, place_in}
 use Rattle.frame_ast.specs.Arguments.{owns}
 use Rattle.frame_ast.specs.Checked.{param_meets, meets, read_stream, clearable, may_write, IsChecked}
-use Rattle.frame_ast.specs.Kernels.{Outcome, Goes, Traps, fresh, trap_after, store_after}
-use Rattle.frame_ast.specs.Simulation.{AlikeResults}
-use Rattle.frame_ast.proofs.Simulation.{and_left}
+use Rattle.frame_ast.specs.Kernels.{trap_after, store_after}
+use Rattle.frame_ast.specs.Simulation.{AlikeResults, Simulates}
+use Rattle.frame_ast.proofs.Demands.{param_met, written}
+use Rattle.frame_ast.proofs.Simulation.{execution_alike}
 use Rattle.native_stream.specs.Words.{begin_words}
 use Rattle.native_stream.proofs.Places.{in_place}
 use Rattle.kernel_exec.specs.declared.binds.Bind.{Bind}
@@ -23,10 +24,9 @@ use Rattle.kernel_exec.specs.Conditions.{BindsFit, IsBegun}
 use Rattle.kernel_exec.specs.Words.{after_call, words, begin_word}
 use Rattle.kernel_exec.specs.Laws.{AgreeOn, StayAlike, at_index}
 use Rattle.kernel_exec.proofs.Stand.{written_bind}
-use Rattle.kernel_exec.proofs.Rights.{owned_place, param_met, not_stream, written, read_word, stream_word, written_word}
+use Rattle.kernel_exec.proofs.Rights.{owned_place, not_stream, read_word, stream_word, written_word}
 use Rattle.kernel_exec.proofs.Using.{AgreeAt, Moved}
 use Rattle.kernel_exec.proofs.Touching as t
-use Rattle.kernel_exec.proofs.Pairs.{NearEnds, Safe, AreBegun, body_near}
 
 -- a place is the number that it is the place of
 place_is : (n k : ℕ) (i : ℤ) → place_in n i ≡ Ok k → i ≡ pos k
@@ -67,7 +67,7 @@ module _ (kernel : Kernel) (binds : List Bind) (index : ℕ) (checked : IsChecke
       let p = param_met clearable (slice_get params x) h in
       let kind = fit.kinds x p.0 (bind_at binds x) p.1 (written_bind kernel binds fit x (written params x clearable refl h)) in
       let met : IsTrue (param_meets clearable (Some p.0)) = subst (λ o. IsTrue (param_meets clearable o)) p.1 h in
-      not_stream p.0.kind (and_left _ _ met) (sym kind ∙ e)
+      not_stream p.0.kind p.0.access met (sym kind ∙ e)
 
   -- ---- what each operation keeps
 
@@ -94,8 +94,8 @@ module _ (kernel : Kernel) (binds : List Bind) (index : ℕ) (checked : IsChecke
     goes x c d (Err t) (Ok new') may r m = absurd m
     goes x c d (Err t) (Err u) may r m = m
 
-    safe : Safe R params (λ x i. IsBegun (bind_at binds x) index i) (words binds index)
-    safe = record {
+    words_alike : Simulates R params (λ x i. IsBegun (bind_at binds x) index i) (words binds index) (words binds index)
+    words_alike = record {
       value = λ x c d r. t.value_same index c d (bind_at binds x) (agree x c d r);
       len = λ x c d r. t.length_same index c d (bind_at binds x) (agree x c d r);
       get = λ x i c d r. t.get_same index c d (bind_at binds x) i (agree x c d r);
@@ -114,28 +114,7 @@ module _ (kernel : Kernel) (binds : List Bind) (index : ℕ) (checked : IsChecke
       write = λ x i v c d may begun r. goes x c d _ _ may r (t.write_moved index c d (bind_at binds x) i v begun (agree x c d r));
     }
 
-    few : length params ≤ 16
-    few = let h = checked.count in grind (arith, nat_tests, h)
-
-    abbrev Begun : List ℤ → Type 0
-    Begun = AreBegun R kernel.parallel params kernel.locals (λ x i. IsBegun (bind_at binds x) index i) (words binds index) safe index []
-
-    from_start : (steps : ℕ) → NearEnds R Begun (at_index kernel binds steps index a) (at_index kernel binds steps index b)
-    unfolding fresh
-    from_start steps =
-        body_near R kernel.parallel params kernel.locals (λ x i. IsBegun (bind_at binds x) index i) (words binds index) safe index few kernel.body.statements.items [] checked.fits (fresh steps a) (fresh steps b) (record {
-          steps = refl;
-          locals = refl;
-          begun = refl;
-          store = record { same = λ w e. e; left = λ w out. refl; right = λ w out. refl };
-          have = (refl, λ x m. cc);
-        })
-
-    ends : (B : List ℤ → Type 0) (o p : Outcome (ℕ → ℤ)) → NearEnds R B o p → (trap_after o ≡ trap_after p) × R (store_after o) (store_after p)
-    ends B (Goes s) (Goes t) r = (refl, r.store)
-    ends B (Goes s) (Traps u t) r = absurd r
-    ends B (Traps u s) (Goes t) r = absurd r
-    ends B (Traps t s) (Traps u r) e = (ap (λ t. Some t) e.0, e.1)
-
     pub alike_ends : (steps : ℕ) → (trap_after (at_index kernel binds steps index a) ≡ trap_after (at_index kernel binds steps index b)) × Alike kernel binds index a b (store_after (at_index kernel binds steps index a)) (store_after (at_index kernel binds steps index b))
-    alike_ends steps = ends Begun _ _ (from_start steps)
+    alike_ends steps =
+        let ends = execution_alike R kernel checked (λ x i. IsBegun (bind_at binds x) index i) (words binds index) (words binds index) words_alike steps index a b (record { same = λ w e. e; left = λ w out. refl; right = λ w out. refl }) in
+        (ends.trap, ends.store)

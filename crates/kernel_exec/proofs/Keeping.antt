@@ -7,8 +7,9 @@ use Rattle.job_base.proofs.Windows.{with_cell-other}
 use Rattle.frame_ast.specs.declared.kernel.Kernel.{Kernel}
 use Rattle.frame_ast.specs.Contents.{then_value, place_in}
 use Rattle.frame_ast.specs.Arguments.{owns, if_owned}
-use Rattle.frame_ast.specs.Checked.{may_write}
+use Rattle.frame_ast.specs.Checked.{clearable, may_write}
 use Rattle.frame_ast.specs.Simulation.{AlikeResults, Simulates}
+use Rattle.frame_ast.proofs.Demands.{written}
 use Rattle.native_array.specs.Words.{set_words as array_set}
 use Rattle.native_array.proofs.Forms.{set_form as array_set_form}
 use Rattle.native_list.specs.Words.{array_words, len_words, set_words as list_set}
@@ -26,7 +27,7 @@ use Rattle.kernel_exec.specs.Footprint.{IsLength}
 use Rattle.kernel_exec.specs.Words.{after_call, words, set_value_word, put_word, add_word, remove_at_word, add_pair_word, remove_key_word, clear_word, begin_word, write_word}
 use Rattle.kernel_exec.specs.Conditions.{BindsFit, IsUnwritten}
 use Rattle.kernel_exec.proofs.Changing.{IsBeyond, beyond, outside}
-use Rattle.kernel_exec.proofs.Stand.{written_bind}
+use Rattle.kernel_exec.proofs.Stand.{written_bind, AnyIndex}
 
 -- where it went on, the words beyond the bind stay
 abbrev pub Stays : Bind → (ℕ → ℤ) → Result (ℕ → ℤ) Trap → Type 0
@@ -169,21 +170,22 @@ module _ (kernel : Kernel) (binds : List Bind) (fit : BindsFit kernel binds) (be
       by (Ok new) s = keeps x c d new new h r refl s
       by (Err t) s = refl
 
-  pub words_keep : (index : ℕ) → Simulates (Kept kernel binds before) (may_write kernel.params.items) (words binds index) (words binds index)
+  pub words_keep : (index : ℕ) → Simulates (Kept kernel binds before) kernel.params.items AnyIndex (words binds index) (words binds index)
   words_keep index = record {
     value = λ x c d r. ap (λ (m : ℕ → ℤ). (words binds index).value x m) r.same;
     len = λ x c d r. ap (λ (m : ℕ → ℤ). (words binds index).len x m) r.same;
     get = λ x i c d r. ap (λ (m : ℕ → ℤ). (words binds index).get x i m) r.same;
     has = λ x k c d r. ap (λ (m : ℕ → ℤ). (words binds index).has x k m) r.same;
-    count = λ x i c d r. ap (λ (m : ℕ → ℤ). (words binds index).count x i m) r.same;
-    item = λ x i k c d r. ap (λ (m : ℕ → ℤ). (words binds index).item x i k m) r.same;
+    count = λ x i c d read r. ap (λ (m : ℕ → ℤ). (words binds index).count x i m) r.same;
+    item = λ x i k c d read r. ap (λ (m : ℕ → ℤ). (words binds index).item x i k m) r.same;
     set_value = λ x v c d h r. keeps x c d _ _ h r (ap (λ (m : ℕ → ℤ). (words binds index).set_value x v m) r.same) (set_value_stays c (bind_at binds x) v);
     put = λ x i v c d h r. goes x c d ((words binds index).put x i v) h r (put_stays c (bind_at binds x) index i v (fits x h));
     add = λ x v c d h r. goes x c d ((words binds index).add x v) h r (add_stays c (bind_at binds x) v);
     remove_at = λ x i c d h r. goes x c d ((words binds index).remove_at x i) h r (remove_at_stays c (bind_at binds x) i);
     add_pair = λ x k v c d h r. goes x c d ((words binds index).add_pair x k v) h r (add_pair_stays c (bind_at binds x) k v (fits x h));
     remove_key = λ x k c d h r. keeps x c d _ _ h r (ap (λ (m : ℕ → ℤ). (words binds index).remove_key x k m) r.same) (remove_key_stays c (bind_at binds x) k (fits x h));
-    clear = λ x c d h r. keeps x c d _ _ h r (ap (λ (m : ℕ → ℤ). (words binds index).clear x m) r.same) (clear_stays c (bind_at binds x));
+    clear = λ x c d h r. keeps x c d _ _ (written kernel.params.items x clearable refl h) r (ap (λ (m : ℕ → ℤ). (words binds index).clear x m) r.same) (clear_stays c (bind_at binds x));
     begin = λ x i c d h r. goes x c d ((words binds index).begin x i) h r (begin_stays c (bind_at binds x) index i);
-    write = λ x i v c d h r. goes x c d ((words binds index).write x i v) h r (write_stays c (bind_at binds x) i v);
+    begun = λ x i c new e. tt;
+    write = λ x i v c d h begun r. goes x c d ((words binds index).write x i v) h r (write_stays c (bind_at binds x) i v);
   }

@@ -1,3 +1,4 @@
+pub mod Asides
 pub mod AtBinds
 pub mod Reading
 pub mod Changing
@@ -7,9 +8,11 @@ pub mod Rights
 pub mod Loops
 pub mod Parts
 pub mod Ends
-pub mod Pairs
 pub mod Using
 pub mod Touching
 pub mod Footprints
 pub mod Pieces
 pub mod Apart
+pub mod NextIndex
+pub mod Dividing
+pub mod Owning

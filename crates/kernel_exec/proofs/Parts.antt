@@ -3,6 +3,7 @@ use Rattle.std.proofs.Common.{◌≡◌, ◌≢◌, ◌∙◌, ◌⊎◌, inl, i
 use Rattle.std.specs.Prelude.{not, ◌||◌}
 use Rattle.std.proofs.lemmas.Grind.{get_or-set_at}
 use Rattle.std.proofs.lemmas.Bool.Decides.{nat_tests}
+use Rattle.job_base.specs.declared.limits.TheConstants.{MOST_LOCALS, MOST_PARAMS}
 use Rattle.frame_ast.specs.declared.kernel.Kernel.{Kernel}
 use Rattle.frame_ast.specs.declared.kernel.Expr.{Expr}
 use Rattle.frame_ast.specs.declared.kernel.Stmt.{Stmt}
@@ -16,7 +17,7 @@ use Rattle.kernel_exec.specs.declared.binds.Bind.{Bind}
 use Rattle.kernel_exec.specs.Binds.{bind_at}
 use Rattle.kernel_exec.specs.Conditions.{IsBegun, StatementFits, BlockFits, KeepsBegun}
 use Rattle.kernel_exec.proofs.Stand.{same_or}
-use Rattle.kernel_exec.proofs.Rights.{has_param}
+use Rattle.frame_ast.proofs.Demands.{has_param}
 
 module _ (kernel : Kernel) where
   abbrev fits_expr : Expr → Bool
@@ -78,10 +79,10 @@ module _ (kernel : Kernel) where
     pub for_local : (k : ℕ) (e f : Expr) (body : _) → s ≡ For k e f body → k < kernel.locals
     for_local k e f body is = let h = and_left (nat_lt k kernel.locals) _ (parts (For k e f body) _ is (for_is k e f body fit.open_)) in grind (arith, nat_tests, h)
 
-    pub for_below : (k : ℕ) (e f : Expr) (body : _) → IsChecked kernel → s ≡ For k e f body → k < 64
+    pub for_below : (k : ℕ) (e f : Expr) (body : _) → IsChecked kernel → s ≡ For k e f body → k < MOST_LOCALS
     for_below k e f body checked is = let h = for_local k e f body is in let l = checked.locals in grind (arith, nat_tests, h, l)
 
-    pub begin_inside : (x : ℕ) (e : Expr) (body : _) → IsChecked kernel → s ≡ Begin x e body → length begun ≡ 16 → x < length begun
+    pub begin_inside : (x : ℕ) (e : Expr) (body : _) → IsChecked kernel → s ≡ Begin x e body → length begun ≡ MOST_PARAMS → x < length begun
     begin_inside x e body checked is full =
         let met = and_left (meets kernel.params.items x written_stream) _ (parts (Begin x e body) _ is (begin_is x e body fit.open_)) in
         let h = has_param kernel.params.items x written_stream met in

@@ -1,6 +1,6 @@
 -- Which words a call on an argument may use.
-use Rattle.std.proofs.Common.{◌≡◌, ◌∙◌, ◌≢◌, ℕ, zero, suc, ◌+◌, ◌*◌, ◌≤◌, ◌<◌, ◌^◌, nat_le, nat_lt, Bool, true, false, IsTrue, ℤ, pos, negsuc, ◌⊎◌, ⊎_elim, inl, inr, List, [], ◌∷◌, length, Option, Some, None, Ok, slice_get, refl, sym, ap, subst, arith}
-use Rattle.std.specs.Prelude.{not, ◌||◌, nat_abs}
+use Rattle.std.proofs.Common.{◌≡◌, ◌∙◌, ◌≢◌, ℕ, zero, suc, ◌+◌, ◌*◌, ◌≤◌, ◌<◌, ◌^◌, nat_le, nat_lt, Bool, true, false, IsTrue, ℤ, pos, negsuc, ◌⊎◌, inl, inr, List, [], ◌∷◌, length, Option, Some, None, Ok, slice_get, refl, sym, ap, subst, arith}
+use Rattle.std.specs.Prelude.{not, nat_abs}
 use Rattle.std.proofs.lemmas.Bool.Decides.{nat_tests}
 use Rattle.std.proofs.lemmas.Option.{slice_get_within}
 use Rattle.job_base.specs.declared.Access.{Access}
@@ -11,7 +11,8 @@ use Rattle.frame_ast.specs.declared.kernel.Param.{Param}
 use Rattle.frame_ast.specs.declared.kernel.Kernel.{Kernel}
 use Rattle.frame_ast.specs.Contents.{place_in}
 use Rattle.frame_ast.specs.Arguments.{owns}
-use Rattle.frame_ast.specs.Checked.{Demand, nothing, kind_meets, access_meets, param_meets, meets, has_length, read_stream, clearable, is_read, is_both, kind_fits, param_fits, may_write, written_param, IsChecked}
+use Rattle.frame_ast.specs.Checked.{touch_meets, param_meets, meets, read_stream, clearable, is_read, is_both, kind_fits, param_fits, may_write, IsChecked}
+use Rattle.frame_ast.proofs.Demands.{param_met}
 use Rattle.frame_ast.proofs.Simulation.{and_left, and_right}
 use Rattle.native_array.specs.declared.array.ArrayAt.{ArrayAt}
 use Rattle.native_list.specs.declared.ListAt.{ListAt}
@@ -82,40 +83,16 @@ list_element at cells k i e =
     let within : len_words at cells ≤ at.cap = length_within at.cap (cells at.start) in
     record { from = omega arith; below = omega arith }
 
-pub param_met : (d : Demand) (o : Option Param) → IsTrue (param_meets d o) → (p : Param) × (o ≡ Some p)
-param_met d None h = cc
-param_met d (Some p) h = (p, refl)
-
-pub has_param : (params : List Param) (x : ℕ) (d : Demand) → IsTrue (meets params x d) → x < length params
-has_param params x d h = let p = param_met d (slice_get params x) h in slice_get_within params x p.0 p.1
-
-either : (a b : Bool) → IsTrue (a || b) → IsTrue a ⊎ IsTrue b
-either true b h = inl refl
-either false b h = inr h
-
-writes_access : (d : Demand) (a : Access) → d.writes ≡ true → access_meets d a ≡ true → not (is_read a) ≡ true
-writes_access d Read w h = absurd (let no : not true ≡ true = subst (λ b. not b ≡ true) w h in cc)
-writes_access d WriteOnly w h = refl
-writes_access d Both w h = refl
-
--- a form that writes stands on a parameter that may be written
-pub written : (params : List Param) (x : ℕ) (d : Demand) → d.writes ≡ true → IsTrue (meets params x d) → IsTrue (may_write params x)
-written params x d w h = by (slice_get params x) h
-  where
-    by : (o : Option Param) → IsTrue (param_meets d o) → IsTrue (written_param o)
-    by None h = cc
-    by (Some p) h = writes_access d p.access w (and_right (kind_meets d p.kind) _ h)
-
 -- a stream that is read is only read
-only_read : (k : ParamKind) (p : Param) → IsTrue (kind_meets read_stream k) → IsTrue (access_meets read_stream p.access) → IsTrue (kind_fits p k) → is_read p.access ≡ true
-only_read IntKind p k a f = cc
-only_read ArrayKind p k a f = cc
-only_read ListKind p k a f = cc
-only_read RefKind p k a f = cc
-only_read MapKind p k a f = cc
-only_read StreamKind p k a f = by p.access a f
+only_read : (k : ParamKind) (p : Param) → IsTrue (touch_meets (read_stream k) p.access) → IsTrue (kind_fits p k) → is_read p.access ≡ true
+only_read IntKind p a f = cc
+only_read ArrayKind p a f = cc
+only_read ListKind p a f = cc
+only_read RefKind p a f = cc
+only_read MapKind p a f = cc
+only_read StreamKind p a f = by p.access a f
   where
-    by : (a : Access) → IsTrue (access_meets read_stream a) → IsTrue (not (is_both a)) → is_read a ≡ true
+    by : (a : Access) → IsTrue (touch_meets (read_stream StreamKind) a) → IsTrue (not (is_both a)) → is_read a ≡ true
     by Read a f = refl
     by WriteOnly a f = cc
     by Both a f = cc
@@ -160,7 +137,7 @@ module _ (kernel : Kernel) (binds : List Bind) (index : ℕ) (checked : IsChecke
       let n = fit.count in
       let met : IsTrue (param_meets read_stream (Some p.0)) = subst (λ o. IsTrue (param_meets read_stream o)) p.1 h in
       let fits = each_of param_fits params x p.0 checked.params p.1 in
-      let only = only_read p.0.kind p.0 (and_left _ _ met) (and_right (kind_meets read_stream p.0.kind) _ met) (and_left (kind_fits p.0 p.0.kind) _ fits) in
+      let only = only_read p.0.kind p.0 met (and_left (kind_fits p.0 p.0.kind) _ fits) in
       record { number = x; param = p.0; bind = bind_at binds x; has_param = p.1; has_bind = bind_here binds x (omega arith); reads = subst (λ r. ReadsBy r (bind_at binds x) index (index + 1) w) (sym only) i }
 
   pub written_word : (x w : ℕ) → IsTrue (may_write params x) → Uses (bind_at binds x) index (index + 1) w → IsWritten params binds index (index + 1) w
@@ -180,13 +157,6 @@ module _ (kernel : Kernel) (binds : List Bind) (index : ℕ) (may_load may_store
 
   pub may_change : IsTrue (may_write kernel.params.items x) → (w : ℕ) → Uses b index (index + 1) w → IsTrue (may_store w)
   may_change h w u = call.stores w (written_word kernel binds index call.checked call.fit x w h (subst (λ b. Uses b index (index + 1) w) is u))
-
--- the parameter of a `len` is one
-pub has_length_param : (params : List Param) (x : ℕ) → IsTrue (has_length params x) → x < length params
-has_length_param params x h =
-    let always = record nothing { array = true; stream = true } in
-    let reading = record nothing { list = true; map = true; reads = true } in
-    ⊎_elim (λ h. has_param params x always h) (λ h. has_param params x reading h) (either (meets params x always) (meets params x reading) h)
 
 -- the words of an index of a stream
 pub stream_index : (at : StreamAt) (own : Bool) (index k : ℕ) (i : ℤ) → place_in at.count i ≡ Ok k → IsTrue (owns (width_if own) index i) → (w : ℕ) → mark_word at k ≤ w → w < index_end at k → Uses (Stream at own) index (index + 1) w
@@ -211,13 +181,13 @@ may_remove at cells i readable writable r h =
     }
 
 -- what is cleared is a list or a map
-pub not_stream : (k : ParamKind) → IsTrue (kind_meets clearable k) → k ≢ StreamKind
-not_stream IntKind h e = cc
-not_stream ArrayKind h e = cc
-not_stream ListKind h e = cc
-not_stream RefKind h e = cc
-not_stream MapKind h e = cc
-not_stream StreamKind h e = cc
+pub not_stream : (k : ParamKind) (a : Access) → IsTrue (touch_meets (clearable k) a) → k ≢ StreamKind
+not_stream IntKind a h e = cc
+not_stream ArrayKind a h e = cc
+not_stream ListKind a h e = cc
+not_stream RefKind a h e = cc
+not_stream MapKind a h e = cc
+not_stream StreamKind a h e = cc
 
 clears_none : (b : Bind) (cells : ℕ → ℤ) → kind_of b ≢ StreamKind → ((at : ListAt) → b ≢ WholeList at) → ((at : MapAt) → b ≢ Map at) → cells ≡ clear_word b cells
 clears_none (Int z) cells kind list map = refl
@@ -236,7 +206,7 @@ clear_other kernel binds x b cells fit is h list map =
     let here = bind_here binds x (omega arith) in
     let kind = fit.kinds x p.0 (bind_at binds x) p.1 here in
     let met : IsTrue (param_meets clearable (Some p.0)) = subst (λ o. IsTrue (param_meets clearable o)) p.1 h in
-    clears_none (bind_at binds x) cells (λ e. not_stream p.0.kind (and_left _ _ met) (sym kind ∙ e)) (λ at e. list at (is ∙ e)) (λ at e. map at (is ∙ e))
+    clears_none (bind_at binds x) cells (λ e. not_stream p.0.kind p.0.access met (sym kind ∙ e)) (λ at e. list at (is ∙ e)) (λ at e. map at (is ∙ e))
 
 -- the words of an index that was begun
 pub begun_index : (at : StreamAt) (own : Bool) (b : Bind) (index : ℕ) (i z : ℤ) → Stream at own ≡ b → z ≡ i → IsBegun b index i → (w : ℕ) → mark_word at (nat_abs z) ≤ w → w < index_end at (nat_abs z) → Uses (Stream at own) index (index + 1) w

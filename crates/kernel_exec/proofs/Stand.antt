@@ -11,8 +11,9 @@ use Rattle.frame_ast.specs.declared.kernel.Kernel.{Kernel}
 use Rattle.frame_ast.specs.declared.kernel.ParamKind.TheVariants.{Int as IntKind}
 use Rattle.frame_ast.specs.Contents.{Contents, Cells, Items}
 use Rattle.frame_ast.specs.Arguments.{argument, changed, arguments, get_in, put_in, begin_in}
-use Rattle.frame_ast.specs.Checked.{is_read, kind_fits, param_fits, may_write, written_param, IsChecked}
+use Rattle.frame_ast.specs.Checked.{clearable, is_read, kind_fits, param_fits, may_write, written_param, IsChecked}
 use Rattle.frame_ast.specs.Simulation.{AlikeResults, Simulates}
+use Rattle.frame_ast.proofs.Demands.{written}
 use Rattle.frame_ast.proofs.Simulation.{and_left, and_right}
 use Rattle.native_array.proofs.Standing.{own_words_decide as array_decides}
 use Rattle.native_list.proofs.OwnWords.{own_words_decide as list_decides}
@@ -74,6 +75,10 @@ written_bind kernel binds fit x h =
     let n = fit.count in
     bind_here binds x (omega arith)
 
+-- nothing is asked of a begun index
+abbrev pub AnyIndex : ℕ → ℤ → Type 0
+AnyIndex x i = Unit {0}
+
 module _ (kernel : Kernel) (binds : List Bind) (is : IsChecked kernel) (fit : BindsFit kernel binds) where
   abbrev may : ℕ → Bool
   may = may_write kernel.params.items
@@ -115,21 +120,22 @@ module _ (kernel : Kernel) (binds : List Bind) (is : IsChecked kernel) (fit : Bi
       let kind : IntKind ≡ p.0.kind = ap kind_of (sym e) ∙ fit.kinds x p.0 (bind_at binds x) p.1 (here x h) in
       int_reads p.0 (sym kind) (each_of param_fits kernel.params.items x p.0 is.params p.1) p.2
 
-  pub words_stand : (index : ℕ) → Simulates (StandFor binds) (may_write kernel.params.items) (words binds index) (arguments (widths binds) index)
+  pub words_stand : (index : ℕ) → Simulates (StandFor binds) kernel.params.items AnyIndex (words binds index) (arguments (widths binds) index)
   words_stand index = record {
     value = λ x c s r. value_same c (bind_at binds x) (argument s x) (holds_at binds c s x r);
     len = λ x c s r. length_same c (bind_at binds x) (argument s x) (holds_at binds c s x r);
     get = λ x i c s r. get_same c (bind_at binds x) (argument s x) index i (holds_at binds c s x r) ∙ ap (λ w. get_in w index i (argument s x)) (sym (width_is binds x));
     has = λ x k c s r. has_same c (bind_at binds x) (argument s x) k (holds_at binds c s x r);
-    count = λ x i c s r. count_same c (bind_at binds x) (argument s x) i (holds_at binds c s x r);
-    item = λ x i k c s r. item_same c (bind_at binds x) (argument s x) i k (holds_at binds c s x r);
+    count = λ x i c s read r. count_same c (bind_at binds x) (argument s x) i (holds_at binds c s x r);
+    item = λ x i k c s read r. item_same c (bind_at binds x) (argument s x) i k (holds_at binds c s x r);
     set_value = λ x v c s h r. stands x c _ s _ h r (set_value_goes c (bind_at binds x) (argument s x) v (not_int x h) (holds_at binds c s x r));
     put = λ x i v c s h r. goes x c s _ _ h r (subst (λ w. Goes (bind_at binds x) c (put_word index i v (bind_at binds x) c) (put_in w index i v (argument s x))) (sym (width_is binds x)) (put_goes c (bind_at binds x) (argument s x) index i v (fits x h) (holds_at binds c s x r)));
     add = λ x v c s h r. goes x c s _ _ h r (add_goes c (bind_at binds x) (argument s x) v (holds_at binds c s x r));
     remove_at = λ x i c s h r. goes x c s _ _ h r (remove_at_goes c (bind_at binds x) (argument s x) i (holds_at binds c s x r));
     add_pair = λ x k v c s h r. goes x c s _ _ h r (add_pair_goes c (bind_at binds x) (argument s x) k v (fits x h) (holds_at binds c s x r));
     remove_key = λ x k c s h r. stands x c _ s _ h r (remove_key_goes c (bind_at binds x) (argument s x) k (fits x h) (holds_at binds c s x r));
-    clear = λ x c s h r. stands x c _ s _ h r (clear_goes c (bind_at binds x) (argument s x) (holds_at binds c s x r));
+    clear = λ x c s h r. stands x c _ s _ (written kernel.params.items x clearable refl h) r (clear_goes c (bind_at binds x) (argument s x) (holds_at binds c s x r));
     begin = λ x i c s h r. goes x c s _ _ h r (subst (λ w. Goes (bind_at binds x) c (begin_word index i (bind_at binds x) c) (begin_in w index i (argument s x))) (sym (width_is binds x)) (begin_goes c (bind_at binds x) (argument s x) index i (holds_at binds c s x r)));
-    write = λ x i v c s h r. goes x c s _ _ h r (write_goes c (bind_at binds x) (argument s x) i v (holds_at binds c s x r));
+    begun = λ x i c new e. tt;
+    write = λ x i v c s h begun r. goes x c s _ _ h r (write_goes c (bind_at binds x) (argument s x) i v (holds_at binds c s x r));
   }

@@ -1,4 +1,5 @@
--- The footprint of a job on its binds: which words the indexes from one on to before another read, and which they write.
+-- The footprint of a job on its binds: which words the indexes from one on to before another read, and which they write. A job that waives the
+-- own-index rule has width 0 at the binds that it waives; this file speaks of the widths that binds have.
 use Rattle.std.specs.Prelude.{◌≡◌, ℕ, zero, suc, ◌+◌, ◌*◌, ◌≤◌, ◌<◌, ◌⊎◌, Bool, true, false, List, Some, slice_get}
 use Rattle.job_base.specs.declared.Access.{Access}
 use Rattle.frame_ast.specs.declared.kernel.Param.{Param}

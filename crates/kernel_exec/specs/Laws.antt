@@ -3,11 +3,14 @@
 use Rattle.std.specs.Prelude.{◌≡◌, ◌≢◌, ◌⊎◌, ℕ, ◌+◌, ◌≤◌, IsTrue, ℤ, List, ◌++◌, Some, slice_get}
 use Rattle.frame_ast.specs.declared.kernel.Kernel.{Kernel}
 use Rattle.frame_ast.specs.declared.kernel.Param.{Param}
+use Rattle.frame_ast.specs.Contents.{Contents}
+use Rattle.frame_ast.specs.Arguments.{arguments}
 use Rattle.frame_ast.specs.Checked.{may_write, IsChecked}
 use Rattle.frame_ast.specs.Kernels.{Outcome, execution, store_after, trap_after}
 use Rattle.frame_ast.specs.JobRuns.{Ran, indexes}
 use Rattle.kernel_exec.specs.declared.binds.Bind.{Bind}
-use Rattle.kernel_exec.specs.Binds.{own_of}
+use Rattle.kernel_exec.specs.Binds.{own_of, widths}
+use Rattle.kernel_exec.specs.Layout.{StandFor}
 use Rattle.kernel_exec.specs.Words.{words}
 use Rattle.kernel_exec.specs.Footprint.{IsRead, IsWritten}
 use Rattle.kernel_exec.specs.Conditions.{BindsFit}
@@ -29,6 +32,24 @@ pub record IndexesAreCut : Type 0 where
   pub traps : (kernel : Kernel) (binds : List Bind) (steps m n from : ℕ) (cells : ℕ → ℤ)
       → (at_indexes kernel binds steps (m + n) from cells).traps
       ≡ (at_indexes kernel binds steps m from cells).traps ++ (at_indexes kernel binds steps n (from + m) (at_indexes kernel binds steps m from cells).store).traps
+
+-- ---- words and contents
+
+-- From words that stand for contents a kernel meets the trap that it meets on the contents, or none, and the words stand for the contents
+-- afterwards.
+pub record WordsStandForContents : Type 0 where
+  pub trap : (kernel : Kernel) (binds : List Bind) (steps index : ℕ) (cells : ℕ → ℤ) (contents : List Contents)
+      → IsChecked kernel
+      → BindsFit kernel binds
+      → StandFor binds cells contents
+      → trap_after (at_index kernel binds steps index cells)
+      ≡ trap_after (execution (arguments (widths binds) index) kernel.body.statements.items steps index contents)
+  pub contents : (kernel : Kernel) (binds : List Bind) (steps index : ℕ) (cells : ℕ → ℤ) (contents : List Contents)
+      → IsChecked kernel
+      → BindsFit kernel binds
+      → StandFor binds cells contents
+      → StandFor binds (store_after (at_index kernel binds steps index cells))
+      (store_after (execution (arguments (widths binds) index) kernel.body.statements.items steps index contents))
 
 -- ---- it changes what is written
 

@@ -5,3 +5,6 @@ pub mod Words
 pub mod Conditions
 pub mod Runs
 pub mod Laws
+pub mod Asides
+pub mod Machines
+pub mod Notes

@@ -1,6 +1,6 @@
 //! Laws of what kernels mean for words, and of their footprints. Each function does nothing: its contract is the law, as
 //! `specs/Laws` states it.
-ghost use Rattle.kernel_exec.specs.Laws.{FootprintsGrow, IndexesAreCut, OnlyWrittenWordsChange, OwnPartsAreApart, ReadWordsDecide, WrittenWordsAreRead};
+ghost use Rattle.kernel_exec.specs.Laws.{FootprintsGrow, IndexesAreCut, OnlyWrittenWordsChange, OwnPartsAreApart, ReadWordsDecide, WordsStandForContents, WrittenWordsAreRead};
 
 /// A checked kernel, at an index and at indexes that follow one another, changes no word but those that they write by
 /// their footprint.
@@ -32,4 +32,9 @@ pub fn footprints_grow()
 /// Where of each bind that may be written an index owns a part, what some indexes write is not read by others.
 pub fn own_parts_are_apart()
     ensures { OwnPartsAreApart }
+{}
+
+/// Where words stand for contents, a kernel does to the words what it does to the contents.
+pub fn words_stand_for_contents()
+    ensures { WordsStandForContents }
 {}

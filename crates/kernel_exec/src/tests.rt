@@ -2,8 +2,9 @@
 ghost use Rattle.std.specs.Prelude.{◌≡◌, ◌≤◌, ◌<◌, ◌^◌, [], ◌∷◌, map, length, true, false, IfOk, IsTrue};
 ghost use Rattle.frame_ast.specs.Checked.{IsChecked};
 
+use crate::machine::Machine;
+use crate::operators::apply;
 use crate::own::{owns, refusal};
-use crate::values::operated;
 use crate::{Bind, Scratch, execute};
 use frame_ast::kernel::{Body, Expr, Kernel, Operator, Param, ParamKind, Stmt};
 use job_base::{Access, FlatMem, Mem, NoMemory, Trap, Word};
@@ -12,11 +13,23 @@ use std::alloc::{AllocError, Global};
 use std::process::Abort;
 use std::test::Fail;
 
+// The value of two operands, or the trap that is put aside.
+fn operated(op: Operator, m: i64, n: i64, machine: &mut Machine) -> Result<i64, Trap> {
+    machine.trap = None;
+    let z = apply(op, m, n, machine);
+    match machine.trap {
+        None => Ok(z),
+        Some(trap) => Err(trap),
+    }
+}
+
+// Each twice on one machine, which has a reciprocal of the divisor the second time.
 #[test]
 fn operators(rt: HostRuntime) -> Result<(), Fail> {
     let (least, most) = (i64::MIN, i64::MAX);
     let overflow = Err(Trap::Overflow);
     let zero = Err(Trap::ZeroDivisor);
+    let mut machine = Machine::new();
     for (op, m, n, value) in [
         (Operator::Equal, least, least, Ok(1)),
         (Operator::NotEqual, least, most, Ok(1)),
@@ -38,13 +51,20 @@ fn operators(rt: HostRuntime) -> Result<(), Fail> {
         ),
         (Operator::Divide, least, -1, overflow),
         (Operator::Divide, -7, 2, Ok(-3)),
+        (Operator::Divide, most, most, Ok(1)),
+        (Operator::Divide, most, 3, Ok(3074457345618258602)),
+        (Operator::Divide, least, most, Ok(-1)),
         (Operator::Divide, most, 0, zero),
         (Operator::Remainder, least, -1, overflow),
         (Operator::Remainder, -7, 2, Ok(-1)),
         (Operator::Remainder, 7, -2, Ok(1)),
+        (Operator::Remainder, most, 1000003, Ok(675344)),
+        (Operator::Remainder, most, most, Ok(0)),
+        (Operator::Remainder, least, most, Ok(-1)),
         (Operator::Remainder, least, 0, zero),
     ] {
-        assert_eq!(&rt; operated(op, m, n), value);
+        assert_eq!(&rt; operated(op, m, n, &mut machine), value);
+        assert_eq!(&rt; operated(op, m, n, &mut machine), value);
     }
     Ok(())
 }
@@ -73,14 +93,19 @@ fn pairs(alloc: Global) -> Result<Kernel, AllocError>
     ensures parallel { IfOk result (λ k. k.parallel ≡ true) }
     ensures kinds { IfOk result (λ k. map (λ p. p.kind) k.params.items ≡ ParamKind.Array ∷ []) }
 {
-    let two = Box::new(alloc, Expr::Number(2))?;
-    let first = Expr::Binary(Operator::Times, Box::new(alloc, Expr::Index)?, two);
-    let two = Box::new(alloc, Expr::Number(2))?;
-    let even = Expr::Binary(Operator::Times, Box::new(alloc, Expr::Index)?, two);
-    let one = Box::new(alloc, Expr::Number(1))?;
-    let second = Expr::Binary(Operator::Plus, Box::new(alloc, even)?, one);
-    let ten = Box::new(alloc, Expr::Number(10))?;
-    let value = Expr::Binary(Operator::Plus, Box::new(alloc, Expr::Index)?, ten);
+    let first = Expr::Binary(
+        Operator::Times,
+        Box::new(alloc, (Expr::Index, Expr::Number(2)))?,
+    );
+    let even = Expr::Binary(
+        Operator::Times,
+        Box::new(alloc, (Expr::Index, Expr::Number(2)))?,
+    );
+    let second = Expr::Binary(Operator::Plus, Box::new(alloc, (even, Expr::Number(1)))?);
+    let value = Expr::Binary(
+        Operator::Plus,
+        Box::new(alloc, (Expr::Index, Expr::Number(10)))?,
+    );
     let a = Param {
         name: String::from_str(alloc, "a")?,
         kind: ParamKind::Array,

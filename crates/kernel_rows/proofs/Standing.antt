@@ -6,6 +6,7 @@ use Rattle.frame_ast.specs.declared.kernel.Param.{Param}
 use Rattle.frame_ast.specs.declared.kernel.Kernel.{Kernel}
 use Rattle.kernel_exec.specs.declared.binds.Bind.{Bind}
 use Rattle.kernel_exec.specs.Binds.{kind_of, end_of, IsWordOf}
+use Rattle.kernel_exec.specs.Footprint.{IsRead, IsWritten}
 use Rattle.kernel_exec.specs.Conditions.{BindsFit, MayRead, MayWrite}
 use Rattle.kernel_exec.proofs.Rights.{reads_word, writes_word}
 use Rattle.kernel_rows.specs.Standing.{AreBelow, AreOfKinds, Apart, ApartFrom, AreApart}
@@ -23,6 +24,12 @@ may_read kernel binds index n below w r = word_below binds n r.number w r.bind b
 
 pub may_write_all : (kernel : Kernel) (binds : List Bind) (index n : ℕ) → AreBelow binds n → MayWrite kernel binds index (λ w. nat_lt w n)
 may_write_all kernel binds index n below w r = word_below binds n r.number w r.bind below r.has_bind (writes_word _ r.bind _ _ w r.writes)
+
+pub may_read_span : (kernel : Kernel) (binds : List Bind) (from to n : ℕ) → AreBelow binds n → (w : ℕ) → IsRead kernel.params.items binds from to w → IsTrue (nat_lt w n)
+may_read_span kernel binds from to n below w r = word_below binds n r.number w r.bind below r.has_bind (reads_word _ r.bind _ _ w r.reads)
+
+pub may_write_span : (kernel : Kernel) (binds : List Bind) (from to n : ℕ) → AreBelow binds n → (w : ℕ) → IsWritten kernel.params.items binds from to w → IsTrue (nat_lt w n)
+may_write_span kernel binds from to n below w r = word_below binds n r.number w r.bind below r.has_bind (writes_word _ r.bind _ _ w r.writes)
 
 -- as many words that may be used are as many words
 at_most : (m n : ℕ) → nat_lt m n ≡ nat_lt m m → n ≤ m

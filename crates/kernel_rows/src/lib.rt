@@ -1,6 +1,7 @@
 //! Kernels as texts, run on binds over flat memory: rows of a text, what it is run on, and what it has to do.
 //!
-//! `kernel_at` reads a kernel, `fits` tests that binds suit it and stand in the memory, and `run` runs it at an index.
+//! `kernel_at` reads a kernel, `fits` tests that binds suit it and stand in the memory, `run` runs it at an
+//! index, and `run_indexes` at indexes that follow one another.
 #![tactic(auto)]
 
 mod execution;
@@ -11,6 +12,6 @@ mod rows;
 #[cfg(test)]
 mod tests;
 
-pub use execution::run;
+pub use execution::{run, run_indexes};
 pub use fit::fits;
 pub use read::kernel_at;

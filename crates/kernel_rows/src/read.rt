@@ -1,5 +1,6 @@
 // Kernels from texts.
 ghost use Rattle.std.specs.Prelude.{◌≡◌, ◌≤◌, ◌<◌, ℕ, length, IfOk};
+ghost use Rattle.job_base.specs.declared.limits.TheConstants.{MOST_SCRIPT_BYTES};
 ghost use Rattle.frame_ast.specs.declared.kernel.FaultKind.{FaultKind};
 ghost use Rattle.frame_ast.specs.Checked.{IsChecked};
 ghost use Rattle.kernel_code.specs.Tokens.{tokens_of};
@@ -16,7 +17,7 @@ pub fn kernel_at(
     tokens: &[Token],
     at: u32,
 ) -> Result<(Kernel, u32), KernelFault>
-    requires few { length source.now ≤ 16777216 }
+    requires few { length source.now ≤ MOST_SCRIPT_BYTES }
     requires lexed { tokens.now ≡ tokens_of source.now }
     requires within { at < length tokens.now }
     ensures checked { IfOk result (λ found. IsChecked found.0) }

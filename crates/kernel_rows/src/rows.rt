@@ -6,6 +6,7 @@ ghost use Rattle.kernel_rows.specs.Standing.{AreBelow};
 
 use crate::{fits, kernel_at, run};
 use frame_ast::kernel::Kernel;
+use job_base::limits::MOST_SCRIPT_BYTES;
 use job_base::{FlatMem, Mem, Trap, Word};
 use kernel_code::{TokenKind, lex};
 use kernel_exec::{Bind, Scratch};
@@ -111,7 +112,7 @@ pub fn run_text(
     ensures { length mem.new ≡ 64 }
 {
     let source = text.as_bytes();
-    if source.len() > 16_777_216 {
+    if source.len() > MOST_SCRIPT_BYTES as usize {
         return Ok(());
     }
     let tokens = lex(alloc, source)?;

@@ -156,6 +156,145 @@ fn traps(rt: HostRuntime) -> Result<(), Fail> {
     try_rows(&rt, rt.alloc(), &rows)
 }
 
+// Two parts that would trap: the left one is told, a place before its value, and a value before the store.
+#[test]
+fn first_trap(rt: HostRuntime) -> Result<(), Fail> {
+    let divisor = "job divisor(a: rw array) { a[0] = 1; a[1] = 1 / 0 + a[9]; a[0] = 9; }";
+    let range = "job range(a: rw array) { a[0] = 1; a[1] = a[9] + 1 / 0; a[0] = 9; }";
+    let deep = "job deep(a: rw array) { a[0] = 1; a[1] = (a[0] + a[9]) * (1 % 0); a[0] = 9; }";
+    let place = "job place(a: rw array) { a[0] = 1; a[1 / 0] = a[9]; a[0] = 9; }";
+    let value = "job value(a: rw array) { a[0] = 1; a[9] = 1 / 0; a[0] = 9; }";
+    let bounds = "job bounds(a: rw array) { a[0] = 1; for k in a[9]..1 / 0 { } a[0] = 9; }";
+    let key = "job key(a: rw array, m: rw map) { a[0] = 1; add(m, a[9], 1 / 0); a[0] = 9; }";
+    let both = "job both(a: rw array) { a[0] = 1; a[1] = a[9] && 1 / 0; a[0] = 9; }";
+    let neither = "job neither(a: rw array) { a[0] = 1; a[1] = 0 && 1 / 0; a[1] = 2 || 1 / 0; }";
+    let two = [array(0, 2, 0), map(2, 1)];
+    let rows: [Row<'_>; 9] = [
+        (divisor, &two, 0, 0, 2, "ZeroDivisor; 1 0 "),
+        (range, &two, 0, 0, 2, "Range; 1 0 "),
+        (deep, &two, 0, 0, 2, "Range; 1 0 "),
+        (place, &two, 0, 0, 2, "ZeroDivisor; 1 0 "),
+        (value, &two, 0, 0, 2, "ZeroDivisor; 1 0 "),
+        (bounds, &two, 0, 0, 2, "Range; 1 0 "),
+        (key, &two, 0, 0, 2, "Range; 1 0 "),
+        (both, &two, 0, 0, 2, "Range; 1 0 "),
+        (neither, &two, 0, 0, 2, "1 1 "),
+    ];
+    try_rows(&rt, rt.alloc(), &rows)
+}
+
+// The ends of 64 bits, and quotients and remainders of either sign, each also by a divisor that came before.
+#[test]
+fn ends(rt: HostRuntime) -> Result<(), Fail> {
+    let quotients =
+        "job quotients(a: wo array) { var l = -9223372036854775807 - 1; var m = 9223372036854775807;
+        a[0] = l / m; a[1] = l % m; a[2] = m / 3; a[3] = m / 3; a[4] = m % 10; a[5] = m % 10; a[6] = -7 / 2;
+        a[7] = -7 % 2; a[8] = 7 / -2; a[9] = 7 % -2; a[10] = m / m; a[11] = l / l; }";
+    let same =
+        "job same(a: wo array) { for k in 0..3 { a[k] = 100 / 7 * 1000 + 100 % 7 * 100 + (99 - k) % 23; } }";
+    let less = "job less(a: rw array) { a[0] = 1; a[1] = -9223372036854775807 - 2; a[0] = 9; }";
+    let product =
+        "job product(a: rw array) { a[0] = 1; a[1] = 4294967296 * 2147483648; a[0] = 9; }";
+    let minus =
+        "job minus(a: rw array) { a[0] = 1; a[1] = -(-9223372036854775807 - 1); a[0] = 9; }";
+    let quotient =
+        "job quotient(a: rw array) { a[0] = 1; a[1] = (-9223372036854775807 - 1) / -1; a[0] = 9; }";
+    let rest =
+        "job rest(a: rw array) { a[0] = 1; a[1] = (-9223372036854775807 - 1) % -1; a[0] = 9; }";
+    let least =
+        "job least(a: rw array) { a[0] = 1; a[1] = (-9223372036854775807 - 1) / 0; a[0] = 9; }";
+    let rows: [Row<'_>; 8] = [
+        (
+            quotients,
+            &[array(0, 12, 0)],
+            0,
+            0,
+            12,
+            "-1 -1 3074457345618258602 3074457345618258602 7 7 -3 -1 -3 1 1 1 ",
+        ),
+        (same, &[array(0, 3, 0)], 0, 0, 3, "14207 14206 14205 "),
+        (less, &[array(0, 2, 0)], 0, 0, 2, "Overflow; 1 0 "),
+        (product, &[array(0, 2, 0)], 0, 0, 2, "Overflow; 1 0 "),
+        (minus, &[array(0, 2, 0)], 0, 0, 2, "Overflow; 1 0 "),
+        (quotient, &[array(0, 2, 0)], 0, 0, 2, "Overflow; 1 0 "),
+        (rest, &[array(0, 2, 0)], 0, 0, 2, "Overflow; 1 0 "),
+        (least, &[array(0, 2, 0)], 0, 0, 2, "ZeroDivisor; 1 0 "),
+    ];
+    try_rows(&rt, rt.alloc(), &rows)
+}
+
+// The traps of every other form on a container.
+#[test]
+fn traps_of_forms(rt: HostRuntime) -> Result<(), Fail> {
+    let read =
+        "parallel reading(a: rw array) { a[index] = 1; a[index] = a[1 - index]; a[index] = 9; }";
+    let remove =
+        "job removing(a: wo array, l: rw list) { add(l, 5); a[0] = 1; remove(l, 1); a[0] = 9; }";
+    let element = "job element_of(a: wo array, l: rw list) { a[0] = 1; a[1] = l[0]; a[0] = 9; }";
+    let set = "job setting(a: wo array, l: rw list) { a[0] = 1; l[0] = 2; a[0] = 9; }";
+    let try_add =
+        "job tried(a: wo array, m: rw map) { var y = 0; y = try_add(m, 1, 2); a[0] = y; y = try_add(m, 2, 3); a[0] = 9; }";
+    let put = "job putting(a: wo array, m: rw map) { m[1] = 2; a[0] = 1; m[2] = 3; a[0] = 9; }";
+    let begin = "job begin_at(a: wo array, s: wo stream) { a[0] = 1; begin s[1] { a[0] = 9; } }";
+    let count =
+        "job count_at(a: wo array, s: ro stream) { a[0] = 1; a[1] = count(s, 1); a[0] = 9; }";
+    let item = "job item_at(a: wo array, s: ro stream) { a[0] = 1; a[1] = at(s, 0, 0); a[0] = 9; }";
+    let test = "job test_of(a: wo array) { a[0] = 1; if 1 / 0 { a[0] = 9; } a[0] = 9; }";
+    let turn =
+        "job turning(a: wo array) { for k in 0..3 { a[0] = k; a[1] = 1 / (1 - k); } a[0] = 9; }";
+    let endless = "job endless(a: wo array) { a[0] = 1; while 1 { while 0 { } } a[0] = 9; }";
+    let rows: [Row<'_>; 12] = [
+        (read, &[array(0, 2, 1)], 1, 0, 2, "0 OwnIndex; 1 0 "),
+        (
+            remove,
+            &[array(0, 2, 0), list(2, 1)],
+            0,
+            0,
+            4,
+            "Range; 1 0 1 5 ",
+        ),
+        (
+            element,
+            &[array(0, 2, 0), list(2, 1)],
+            0,
+            0,
+            2,
+            "Range; 1 0 ",
+        ),
+        (set, &[array(0, 2, 0), list(2, 1)], 0, 0, 2, "Range; 1 0 "),
+        (try_add, &[array(0, 2, 0), map(2, 1)], 0, 0, 2, "Full; 1 0 "),
+        (put, &[array(0, 2, 0), map(2, 1)], 0, 0, 2, "Full; 1 0 "),
+        (
+            begin,
+            &[array(0, 2, 0), stream(2, 1, 1, false)],
+            0,
+            0,
+            2,
+            "Range; 1 0 ",
+        ),
+        (
+            count,
+            &[array(0, 2, 0), stream(2, 1, 1, false)],
+            0,
+            0,
+            2,
+            "Range; 1 0 ",
+        ),
+        (
+            item,
+            &[array(0, 2, 0), stream(2, 1, 1, false)],
+            0,
+            0,
+            2,
+            "Range; 1 0 ",
+        ),
+        (test, &[array(0, 2, 0)], 0, 0, 2, "ZeroDivisor; 1 0 "),
+        (turn, &[array(0, 2, 0)], 0, 0, 2, "ZeroDivisor; 1 1 "),
+        (endless, &[array(0, 2, 0)], 0, 0, 2, "Budget; 1 0 "),
+    ];
+    try_rows(&rt, rt.alloc(), &rows)
+}
+
 // A step before each statement and before each test of a loop, the last one included: 1,000,000 in all.
 #[test]
 fn steps(rt: HostRuntime) -> Result<(), Fail> {

@@ -1,5 +1,6 @@
 -- Worked examples on the diamond. Each would fail if a definition were turned.
 use Rattle.std.specs.Prelude.{◌≡◌, ℕ, Bool, true, false, ◌||◌, nat_eq, if◌then◌else◌, [], ◌∷◌, ℤ, pos, Some, None}
+use Rattle.job_base.specs.declared.limits.TheConstants.{MOST_WORKERS}
 use Rattle.merge_laws.specs.Graph.{Cells, cells_before, IsWellOrdered, LeadsTo}
 use Rattle.merge_laws.specs.Core.{Lease, Core, IsSound}
 use Rattle.merge_laws.specs.Merge.{merged_cells, IsMerged, IsInPlace}
@@ -44,7 +45,7 @@ pub record IllegalRuns : Type 0 where
   pub twice : IsLegalRun diamond start (take 0 0 ∷ finish 0 0 ∷ take 0 0 ∷ []) → ⊥
   -- a seat that is busy, a seat past the last, and a segment at another seat, also where it is stolen
   pub busy : IsLegalRun diamond start (take 0 0 ∷ finish 0 0 ∷ take 1 1 ∷ take 1 2 ∷ []) → ⊥
-  pub past : IsLegalRun diamond start (take 0 0 ∷ finish 0 0 ∷ take 64 1 ∷ []) → ⊥
+  pub past : IsLegalRun diamond start (take 0 0 ∷ finish 0 0 ∷ take MOST_WORKERS 1 ∷ []) → ⊥
   pub segment_elsewhere : IsLegalRun diamond start (take 1 0 ∷ []) → ⊥
   pub segment_stolen : IsLegalRun diamond start (steal 1 0 0 ∷ []) → ⊥
   -- a finish of what isn't leased, and by another seat

@@ -45,7 +45,7 @@ pub data IsPredecessor (h : JobGraph) (q p : ℕ) : Type 0 where
 -- The graph of jobs is one of the graph of pieces.
 pub record IsOf (h : JobGraph) (g : PieceGraph) : Type 0 where
   pub count : g.count ≡ h.pieces
-  -- predecessors are of the four kinds alone
+  -- Predecessors are of the four kinds alone. A graph may have fewer; that the graph of a plan has them all is a clause of the plan.
   pub predecessor : (q p : ℕ) → g.precedes q p ≡ true → IsPredecessor h q p
   -- each piece is a segment or a job's
   pub each : (p : ℕ) → p < h.pieces → ((k : ℕ) × (k < h.segments) × (p ≡ h.segment_at k)) ⊎ ((j : ℕ) × (j < h.jobs) × (h.is_part p j ≡ true))

@@ -1,6 +1,7 @@
 -- Runs of a plan as lists of events: a worker takes a piece or steals one, and finishes it. Here leases are copied out, and the key of a lease
 -- is the number of the worker's seat.
 use Rattle.std.specs.Prelude.{◌≡◌, ℕ, ◌<◌, true, ◌⊎◌, List, [], ◌∷◌, nat_eq, if◌then◌else◌, pos, Option, Some, None}
+use Rattle.job_base.specs.declared.limits.TheConstants.{MOST_WORKERS}
 use Rattle.merge_laws.specs.Numbers.{has, IsOnce}
 use Rattle.merge_laws.specs.Graph.{Cells, PieceGraph, cells_before, IsWellOrdered}
 use Rattle.merge_laws.specs.Core.{Lease, Core}
@@ -26,10 +27,10 @@ pub data Event : Type 0 where
   steal : (seat victim piece : ℕ) → Event
   finish : (seat piece : ℕ) → Event
 
--- A free seat below 64 may take a piece that may begin. Segments are for the seat 0.
+-- A free seat below `MOST_WORKERS` may take a piece that may begin. Segments are for the seat 0.
 pub record MayTake (g : PieceGraph) (s : RunState) (seat piece : ℕ) : Type 0 where
   pub may_begin : MayBegin g (core_of s) piece
-  pub seat_below : seat < 64
+  pub seat_below : seat < MOST_WORKERS
   pub seat_free : s.lease seat ≡ None
   pub segment_first : g.is_segment piece ≡ true → seat ≡ 0
 

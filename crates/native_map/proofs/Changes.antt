@@ -11,7 +11,7 @@ use Rattle.native_map.specs.Words.{filled}
 use Rattle.native_map.specs.Layout.{HoldsPairs}
 use Rattle.native_map.proofs.Rising.{with_key-here, with_key-there, rising-with_key, length-with_key}
 use Rattle.native_map.proofs.Tables.{count_more, filled_table, filled_gives, rewritten_gives, IsTable, Gives}
-use Rattle.native_map.proofs.Laws.{home_below, ended, goes_past, key_there, built, the_table, the_gives, found, missed}
+use Rattle.native_map.proofs.Searches.{home_below, ended, goes_past, key_there, built, the_table, the_gives, found, missed}
 
 module _ (at : MapAt) (cells : ℕ → ℤ) (ps : List (ℤ × ℤ)) (s : HoldsPairs at cells ps) (k v : ℤ) where
   -- a new value of a key that is there

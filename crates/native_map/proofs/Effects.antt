@@ -13,12 +13,13 @@ use Rattle.native_map.specs.declared.search.Spot.TheVariants.{Held, Free}
 use Rattle.native_map.specs.Table.{places, flag_word, key_word, value_word, end_of, next_place, holds, place_of, spot_in, spot_of}
 use Rattle.native_map.specs.Words.{filled, shifted, emptied, is_full, put_words, put_words_in, add_words, add_words_in, add_words_at, try_add_words, try_add_words_in, try_add_words_at, remove_words, remove_words_in, counted, count_words, clear_words}
 use Rattle.native_map.specs.Layout.{HoldsPairs, StandsFor}
-use Rattle.native_map.specs.Effects.{done, put_effect, add_effect, try_add_effect, remove_effect}
+use Rattle.native_array.specs.Effects.{done}
+use Rattle.native_map.specs.Effects.{put_effect, add_effect, try_add_effect, remove_effect}
 use Rattle.native_map.proofs.Claims.{Becomes, SameOutside}
 use Rattle.native_map.proofs.Probing.{next_below}
 use Rattle.native_map.proofs.Tables.{count_none}
 use Rattle.native_map.proofs.Rising.{without_key-absent}
-use Rattle.native_map.proofs.Laws.{in_place, in_gap, nowhere, ending, ended, built, not_nowhere, found, missed, full_law}
+use Rattle.native_map.proofs.Searches.{in_place, in_gap, nowhere, ending, ended, built, not_nowhere, found, missed, full_law}
 use Rattle.native_map.proofs.Changes.{put_held, put_gap}
 use Rattle.native_map.proofs.Removal.{remove_held, shift_outside}
 

@@ -12,7 +12,7 @@ use Rattle.native_map.specs.Words.{shifted, put_words, put_words_in, add_words, 
 use Rattle.native_map.specs.Layout.{HoldsPairs, StandsFor, IsWordForm}
 use Rattle.native_map.specs.Effects.{put_effect, add_effect, try_add_effect, remove_effect, clear_effect, get_effect, has_effect, count_effect, next_effect}
 use Rattle.native_map.proofs.Claims.{Becomes, Alike}
-use Rattle.native_map.proofs.Laws.{get_law, has_law}
+use Rattle.native_map.proofs.Searches.{get_law, has_law}
 use Rattle.native_map.proofs.Nearest.{next_law}
 use Rattle.native_map.proofs.Effects.{put_law, put_outside, add_law, add_outside, try_add_law, try_add_outside, remove_law, remove_outside, clear_law, clear_outside, count_law}
 use Rattle.native_map.proofs.Readings.{put_reads, add_reads, try_add_reads, remove_reads, clear_reads, get_reads, has_reads, count_reads, next_reads}

@@ -5,7 +5,7 @@ pub mod Sizes
 pub mod Rising
 pub mod Claims
 pub mod Loops
-pub mod Laws
+pub mod Searches
 pub mod Changes
 pub mod Removal
 pub mod Effects

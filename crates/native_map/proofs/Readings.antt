@@ -12,7 +12,7 @@ use Rattle.native_map.specs.Words.{filled, copied, passes, shifted, emptied, is_
 use Rattle.std.proofs.lemmas.Bool.{true≢false}
 use Rattle.native_map.proofs.Claims.{Alike}
 use Rattle.native_map.proofs.Probing.{next_below}
-use Rattle.native_map.proofs.Laws.{in_place, in_gap, nowhere, ending, ended}
+use Rattle.native_map.proofs.Searches.{in_place, in_gap, nowhere, ending, ended}
 use Rattle.native_map.proofs.Standing.{same_place, same_held, same_key, same_value, same_found}
 
 -- the same answer, and cells that agree

@@ -18,7 +18,7 @@ use Rattle.native_map.proofs.Sizes.{map_room}
 use Rattle.native_map.proofs.Rising.{without_key-here, without_key-there, rising-without_key, length-without_key}
 use Rattle.native_map.proofs.Probing.{distance_below, distance_next, next_below}
 use Rattle.native_map.proofs.Tables.{count_more, opened, opened_gives, opened_on, IsTable, Gives, Shifts, freed, skipped, moved, moved_gives, moved_on, freed_gives}
-use Rattle.native_map.proofs.Laws.{home_below, Table, Given, ended, key_there, Flags, built, the_table, the_gives, a_gap, found}
+use Rattle.native_map.proofs.Searches.{home_below, Table, Given, ended, key_there, Flags, built, the_table, the_gives, a_gap, found}
 
 -- what is left where the hole of a table became free
 pub record Closed (at : MapAt) (cells after : ℕ → ℤ) (find : ℤ → Option ℤ) : Type 0 where

@@ -7,7 +7,8 @@ use Rattle.std.specs.Ordering.{int_cmp}
 use Rattle.frame_ast.specs.Contents.{Contents, Pairs, IsHeld}
 use Rattle.std.specs.Cmp.{int_cmp_total}
 use Rattle.frame_ast.specs.Arguments.{get_in, put_in}
-use Rattle.native_map.specs.Effects.{done, get_effect, put_effect}
+use Rattle.native_array.specs.Effects.{done}
+use Rattle.native_map.specs.Effects.{get_effect, put_effect}
 use Rattle.native_map.specs.declared.MapAt.{MapAt}
 use Rattle.native_map.specs.declared.search.Spot.TheVariants.{Held, Free}
 use Rattle.native_map.specs.Table.{places, flag_word, key_word, value_word, end_of, next_place, probe, home, holds, key_at, value_at, stops, place_of, spot_in, value_in, value_of}
@@ -15,7 +16,7 @@ use Rattle.native_map.specs.Layout.{HoldsPairs, StandsFor}
 use Rattle.native_map.proofs.Ints.{to_T}
 use Rattle.native_map.proofs.Probing.{next_below}
 use Rattle.native_map.proofs.Tables.{count_same}
-use Rattle.native_map.proofs.Laws.{home_below, in_place, in_gap, nowhere, ending, ended}
+use Rattle.native_map.proofs.Searches.{home_below, in_place, in_gap, nowhere, ending, ended}
 
 probe_same : (stops stops' : ℕ → Bool) (t : ℕ) → ((x : ℕ) → x < t → stops' x ≡ stops x) → (n p : ℕ) → p < t → probe stops' t n p ≡ probe stops t n p
 probe_same stops stops' t same zero p hp = refl

@@ -1,14 +1,10 @@
 -- The effect of each call on contents: its answer, and the contents after.
-use Rattle.std.specs.Prelude.{ℕ, ℤ, Bool, true, false, if◌then◌else◌, Option, Some, None, List, [], ◌∷◌, Result, Ok, Err}
+use Rattle.std.specs.Prelude.{ℕ, ℤ, Bool, true, false, if◌then◌else◌, Option, Some, None, List, [], ◌∷◌, Result, Ok}
 use Rattle.job_base.specs.declared.Trap.{Trap}
 use Rattle.frame_ast.specs.Contents.{Contents, value_of_key, has_key, present_value, put_key, add_key, cleared}
 use Rattle.frame_ast.specs.Arguments.{length_of, pairs_of, on_pairs, without}
+use Rattle.native_array.specs.Effects.{done}
 use Rattle.native_map.specs.Words.{is_above}
-
--- an operation has an answer where it succeeds, and its trap leaves the contents as they were
-abbrev pub done : {A : Type 0} → A → Contents → Result Contents Trap → Result A Trap × Contents
-done answer before (Ok after) = (Ok answer, after)
-done answer before (Err trap) = (Err trap, before)
 
 abbrev pub put_effect : ℤ → ℤ → Contents → Result (Unit {0}) Trap × Contents
 put_effect k v c = done tt c (on_pairs (λ cap ps. put_key cap ps k v) c)

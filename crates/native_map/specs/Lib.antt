@@ -1,4 +1,5 @@
 pub mod Table
 pub mod Words
 pub mod Layout
+pub mod Laws
 pub mod Effects

@@ -26,6 +26,7 @@
 #![tactic(auto)]
 
 mod adding;
+pub mod laws;
 mod listing;
 mod place;
 mod removing;

@@ -3,9 +3,8 @@ ghost use Rattle.std.specs.Prelude.{◌≡◌, ℕ, ℤ, pos, [], ◌+◌, ◌*�
 ghost use Rattle.std.specs.Ordering.{int_eq};
 ghost use Rattle.job_base.specs.Forms.{AreAllowed};
 ghost use Rattle.frame_ast.specs.Contents.{Pairs, words_of};
-ghost use Rattle.native_map.specs.declared.MapAt.{MapAt};
 ghost use Rattle.native_map.specs.Table.{places, flag_word, key_word, value_word, end_of, next_place, distance, mixed, home, holds, key_at};
-ghost use Rattle.native_map.specs.Layout.{StandsFor};
+ghost use Rattle.native_map.specs.Laws.{ZeroWordsAreEmpty};
 
 use crate::MapAt;
 use job_base::{Mem, Word};
@@ -24,7 +23,7 @@ pub fn words_of(cap: u32) -> u64
     ensures words { result ≡ words_of (Pairs cap []) }
     ensures places { result ≡ 3 * places cap + 1 }
     ensures most { result ≤ 12 * cap + 13 }
-    ensures empty { (at : MapAt) (cells : ℕ → ℤ) → ((w : ℕ) → at.start ≤ w → w < end_of at → cells w ≡ pos 0) → StandsFor at cells (Pairs at.cap []) }
+    ensures empty { ZeroWordsAreEmpty }
 {
     3 * places(cap) + 1
 }

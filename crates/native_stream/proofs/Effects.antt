@@ -11,7 +11,8 @@ use Rattle.frame_ast.specs.Contents.{Entries, items_of, place_in, then_value, it
 use Rattle.native_stream.specs.declared.StreamAt.{StreamAt}
 use Rattle.native_stream.specs.Layout.{mark_word, item_word, index_end, HoldsEntry, HoldsEntries, StandsFor}
 use Rattle.native_stream.specs.Words.{is_written_at, item_count, items_words, item_words, at_words, begun, begin_words, added, write_words, write_words_at, unmarked, clear_words}
-use Rattle.native_stream.specs.Effects.{done, begin_effect, write_effect, items_effect, at_effect, clear_effect}
+use Rattle.native_array.specs.Effects.{done}
+use Rattle.native_stream.specs.Effects.{begin_effect, write_effect, items_effect, at_effect, clear_effect}
 use Rattle.native_stream.proofs.Places.{in_place, place_in-below, marks_apart}
 use Rattle.native_stream.proofs.Standing.{written_is, count_is, holds_set, holds_unwritten}
 

@@ -1,13 +1,9 @@
 -- The effect of each call on contents: its answer, and the contents after.
-use Rattle.std.specs.Prelude.{ℕ, ℤ, pos, length, Result, Ok, Err}
+use Rattle.std.specs.Prelude.{ℕ, ℤ, pos, length, Result, Ok}
 use Rattle.job_base.specs.declared.Trap.{Trap}
 use Rattle.frame_ast.specs.Contents.{Contents, then_value, item_at, cleared}
 use Rattle.frame_ast.specs.Arguments.{items_in, begin_in, write_place}
-
--- an operation has an answer where it succeeds, and its trap leaves the contents as they were
-abbrev pub done : {A : Type 0} → A → Contents → Result Contents Trap → Result A Trap × Contents
-done answer before (Ok after) = (Ok answer, after)
-done answer before (Err trap) = (Err trap, before)
+use Rattle.native_array.specs.Effects.{done}
 
 -- No index is another's own here, which is width 0.
 abbrev pub begin_effect : ℤ → Contents → Result (Unit {0}) Trap × Contents

@@ -1,8 +1,8 @@
 // The words of an index: its mark and its items.
 ghost use Rattle.std.specs.Prelude.{◌≡◌, ℕ, ℤ, pos, None, replicate, ◌+◌, ◌*◌, ◌^◌, ◌<◌, ◌≤◌, IfOk};
 ghost use Rattle.frame_ast.specs.Contents.{Entries, place_in, words_of};
-ghost use Rattle.native_stream.specs.declared.StreamAt.{StreamAt};
-ghost use Rattle.native_stream.specs.Layout.{mark_word, item_word, end_of, StandsFor};
+ghost use Rattle.native_stream.specs.Layout.{mark_word, item_word, end_of};
+ghost use Rattle.native_stream.specs.Laws.{ZeroWordsAreUnwritten};
 ghost use Rattle.native_stream.specs.Words.{MayUse, is_written, is_written_at, item_count};
 
 use crate::StreamAt;
@@ -12,7 +12,7 @@ use job_base::{Mem, Trap, Word};
 pub fn words_of(count: u32, room: u32) -> u64
     ensures words { result ≡ words_of (Entries room (replicate count None)) }
     ensures number { result ≡ count * (room + 1) }
-    ensures unwritten { (at : StreamAt) (cells : ℕ → ℤ) → ((w : ℕ) → at.start ≤ w → w < end_of at → cells w ≡ pos 0) → StandsFor at cells (Entries at.room (replicate at.count None)) }
+    ensures unwritten { ZeroWordsAreUnwritten }
 {
     u64::from(count) * (u64::from(room) + 1)
 }

@@ -1,8 +1,9 @@
 -- A set of the jobs whose use conflicts, and the greatest of them that doesn't happen before.
-use Rattle.std.proofs.Common.{◌≡◌, ℕ, zero, suc, ◌-◌, ◌<◌, ◌≤◌, ⊎_elim, Bool, true, false, ◌&&◌, ◌||◌, Option, refl, sym, ap, subst, ◌∙◌, arith}
+use Rattle.std.proofs.Common.{◌≡◌, ℕ, zero, suc, ◌+◌, ◌-◌, ◌<◌, ◌≤◌, ⊎_elim, Bool, true, false, ◌&&◌, ◌||◌, Option, refl, sym, ap, subst, ◌∙◌, arith}
 use Rattle.std.specs.Prelude.{not, nat_eq, nat_lt, if◌then◌else◌}
 use Rattle.std.proofs.lemmas.Bool.{or_left, or_right, or_cases, and_parts, and_from, eqb-true, ltb-true, lt-ltb, false_from_ne_true}
 use Rattle.job_base.specs.declared.JobId.{JobId}
+use Rattle.job_base.specs.declared.limits.TheConstants.{MOST_JOBS}
 use Rattle.frame_ast.specs.Jobs.{Jobs, nobody, only, both, greatest, Book, happens_before}
 use Rattle.frame_ast.specs.Conflicts.{Uses, blocker}
 use Rattle.frame_ast.specs.Laws.{AreUpTo, AreUses}
@@ -19,7 +20,7 @@ use Rattle.safety_handle.proofs.Latest.{latest_decide}
 -- SETS
 
 low : (h : Handle) (k : ℕ) → jobs_of h k ≡ true → 0 < k
-low h k e = ltb-true 0 k (and_parts (nat_lt 0 k) (nat_lt k 4097) (and_parts (nat_lt 0 k && nat_lt k 4097) (bit_of h.words (k - 1)) e).0).0
+low h k e = ltb-true 0 k (and_parts (nat_lt 0 k) (nat_lt k (MOST_JOBS + 1)) (and_parts (nat_lt 0 k && nat_lt k (MOST_JOBS + 1)) (bit_of h.words (k - 1)) e).0).0
 
 pub one_writer : (h : Handle) (w : ℕ) (readers : Jobs) → jobs_of h ≡ only w → 0 < w → jobs_of h ≡ conflicting_in (record { writer = w; readers = readers }) false
 one_writer h w readers e some = λ i k. (is k) i
@@ -39,8 +40,8 @@ none k x not = sym (false_from_ne_true (nat_lt 0 k && (nat_eq k 0 || x)) (λ t.
 pub no_writer : (h : Handle) (readers : Jobs) → jobs_of h ≡ nobody → jobs_of h ≡ conflicting_in (record { writer = 0; readers = readers }) false
 no_writer h readers e = λ i k. ((λ i. e i k) ∙ none k false (λ t. not_both t refl)) i
 
-pub no_user : (h : Handle) → jobs_of h ≡ nobody → jobs_of h ≡ conflicting_in (record { writer = 0; readers = nobody }) true
-no_user h e = λ i k. ((λ i. e i k) ∙ none k false (λ t. not_both t refl)) i
+pub no_user : (h : Handle) (writes : Bool) → jobs_of h ≡ nobody → jobs_of h ≡ conflicting_in (record { writer = 0; readers = nobody }) writes
+no_user h writes e = λ i k. ((λ i. e i k) ∙ none k (writes && false) (λ t. not_both (and_parts writes false t).1 refl)) i
 
 pub with_readers : (writer readers all : Handle) (w : ℕ) → jobs_of writer ≡ conflicting_in (record { writer = w; readers = jobs_of readers }) false → jobs_of all ≡ both (jobs_of writer) (jobs_of readers)
     → jobs_of all ≡ conflicting_in (record { writer = w; readers = jobs_of readers }) true

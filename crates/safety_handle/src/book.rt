@@ -4,11 +4,12 @@ ghost use Rattle.frame_ast.specs.Laws.{AreUpTo};
 ghost use Rattle.job_handle.specs.Sets.{jobs_of};
 ghost use Rattle.job_handle.specs.Books.{count_of};
 ghost use Rattle.safety_handle.specs.Uses.{users_of, noted_read, noted_write};
-ghost use Rattle.safety_handle.specs.Entries.{state_of, no_state, fresh};
+ghost use Rattle.safety_handle.specs.Entries.{state_of, no_state, fresh, conflicting_in};
 ghost use Rattle.safety_handle.specs.Checks.{IsAnswer};
 
 use crate::entry::Entry;
 use crate::tag::{Blocked, Tag};
+use job_base::limits::{MOST_JOBS, MOST_STATEMENTS};
 use job_base::{JobId, NoMemory};
 use job_handle::{Handle, JobBook};
 use slot_store::{Slot, Version};
@@ -58,7 +59,10 @@ impl SafetyBook {
         }
     }
 
-    /// Whether a use that only reads, and waits for `deps`, may be made now: writers conflict with it.
+    /// Unity's `CheckReadAndThrow`: whether a use that only reads, and waits for `deps`, may be made now. Writers
+    /// conflict with it.
+    ///
+    /// <https://docs.unity3d.com/ScriptReference/Unity.Collections.LowLevel.Unsafe.AtomicSafetyHandle.CheckReadAndThrow.html>
     pub fn check_read(&self, tag: &Tag, deps: &Handle, jobs: &JobBook) -> Result<(), Blocked>
         requires { AreUpTo (count_of jobs.now) (jobs_of deps.now) }
         ensures { IsAnswer (state_of self.now tag.now.slot.0) tag.now jobs.now (jobs_of deps.now) false result }
@@ -66,7 +70,10 @@ impl SafetyBook {
         self.check(tag, deps, jobs, false)
     }
 
-    /// Whether a use that writes, and waits for `deps`, may be made now: every user conflicts with it.
+    /// Unity's `CheckWriteAndThrow`: whether a use that writes, and waits for `deps`, may be made now. Every user
+    /// conflicts with it.
+    ///
+    /// <https://docs.unity3d.com/ScriptReference/Unity.Collections.LowLevel.Unsafe.AtomicSafetyHandle.CheckWriteAndThrow.html>
     pub fn check_write(&self, tag: &Tag, deps: &Handle, jobs: &JobBook) -> Result<(), Blocked>
         requires { AreUpTo (count_of jobs.now) (jobs_of deps.now) }
         ensures { IsAnswer (state_of self.now tag.now.slot.0) tag.now jobs.now (jobs_of deps.now) true result }
@@ -74,7 +81,10 @@ impl SafetyBook {
         self.check(tag, deps, jobs, true)
     }
 
-    /// Whether the container may be disposed once `deps` ended: every user conflicts with it.
+    /// Unity's `CheckDeallocateAndThrow`: whether the container may be disposed once `deps` ended. Every user conflicts
+    /// with it.
+    ///
+    /// <https://docs.unity3d.com/ScriptReference/Unity.Collections.LowLevel.Unsafe.AtomicSafetyHandle.CheckDeallocateAndThrow.html>
     pub fn check_dispose(&self, tag: &Tag, deps: &Handle, jobs: &JobBook) -> Result<(), Blocked>
         requires { AreUpTo (count_of jobs.now) (jobs_of deps.now) }
         ensures { IsAnswer (state_of self.now tag.now.slot.0) tag.now jobs.now (jobs_of deps.now) true result }
@@ -82,11 +92,11 @@ impl SafetyBook {
         self.check(tag, deps, jobs, true)
     }
 
-    /// The newest job, 1 to 4,096, reads the container; its check answered Ok. A job that reads it through several
+    /// The newest job, 1 to [`MOST_JOBS`], reads the container; its check answered Ok. A job that reads it through several
     /// arguments is noted once.
     pub fn note_read(&mut self, slot: Slot, j: JobId)
         requires live { (state_of self.old slot.0).live ≡ true }
-        requires job { (0 < j.0) × (j.0 ≤ 4096) }
+        requires job { (0 < j.0) × (j.0 ≤ MOST_JOBS) }
         ensures slot { state_of self.new slot.0 ≡ record (state_of self.old slot.0) { latest = noted_read (state_of self.old slot.0).latest j.0 } }
         ensures others { (k : ℕ) → (k ≢ slot.0) → state_of self.new k ≡ state_of self.old k }
     {
@@ -94,10 +104,10 @@ impl SafetyBook {
         entry.note_read(j);
     }
 
-    /// The newest job, 1 to 4,096, writes the container; its check answered Ok.
+    /// The newest job, 1 to [`MOST_JOBS`], writes the container; its check answered Ok.
     pub fn note_write(&mut self, slot: Slot, j: JobId)
         requires live { (state_of self.old slot.0).live ≡ true }
-        requires job { (0 < j.0) × (j.0 ≤ 4096) }
+        requires job { (0 < j.0) × (j.0 ≤ MOST_JOBS) }
         ensures slot { state_of self.new slot.0 ≡ record (state_of self.old slot.0) { latest = noted_write (state_of self.old slot.0).latest j.0 } }
         ensures others { (k : ℕ) → (k ≢ slot.0) → state_of self.new k ≡ state_of self.old k }
     {
@@ -105,23 +115,32 @@ impl SafetyBook {
         entry.note_write(j);
     }
 
-    /// The last writer and the readers since. Once these are completed, every user is.
-    pub fn users(&self, slot: Slot) -> Handle
-        ensures { jobs_of result ≡ users_of (state_of self.now slot.0).latest }
+    /// The jobs that stand for all whose use conflicts: the last writer and, where the use writes, the readers since.
+    /// The others were completed, or are ancestors of the last writer.
+    pub fn conflicting(&self, slot: Slot, writes: bool) -> Handle
+        ensures { jobs_of result ≡ conflicting_in (state_of self.now slot.0).latest writes }
     {
         let at = slot.0 as usize;
         if at < self.entries.len() {
             let entry = &self.entries[at];
-            entry.conflicting(true)
+            entry.conflicting(writes)
         } else {
             Handle::empty()
         }
     }
 
-    /// The views of the list are broken. At most 65,536 times after each `enroll`.
+    /// The last writer and the readers since. Once these are completed, every user is.
+    pub fn users(&self, slot: Slot) -> Handle
+        ensures { jobs_of result ≡ users_of (state_of self.now slot.0).latest }
+    {
+        self.conflicting(slot, true)
+    }
+
+    /// The views of the list are broken. A statement does it once, so at most [`MOST_STATEMENTS`] times after an
+    /// `enroll`.
     pub fn bump_view(&mut self, slot: Slot)
         requires live { (state_of self.old slot.0).live ≡ true }
-        requires few { (state_of self.old slot.0).view < 65536 }
+        requires few { (state_of self.old slot.0).view < MOST_STATEMENTS }
         ensures slot { state_of self.new slot.0 ≡ record (state_of self.old slot.0) { view = (state_of self.old slot.0).view + 1 } }
         ensures others { (k : ℕ) → (k ≢ slot.0) → state_of self.new k ≡ state_of self.old k }
     {

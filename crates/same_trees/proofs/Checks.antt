@@ -1,7 +1,8 @@
 -- Where a kernel is checked, so is the same kernel.
-use Rattle.std.proofs.Common.{◌≡◌, refl, ap, subst, ◌∙◌, ℕ, zero, suc, ◌+◌, Bool, true, ◌&&◌, ◌||◌, IsTrue, List, [], ◌∷◌, map, nat_lt, nat_le}
+use Rattle.std.proofs.Common.{◌≡◌, refl, ap, subst, ◌∙◌, ℕ, zero, suc, ◌+◌, Bool, ◌&&◌, IsTrue, List, [], ◌∷◌, map, nat_lt, nat_le}
 use Rattle.std.specs.Prelude.{not, max, length}
 use Rattle.std.specs.List.{list_all}
+use Rattle.job_base.specs.declared.limits.TheConstants.{MOST_PARAMS, MOST_LOCALS, MOST_NODES, MOST_DEPTH}
 use Rattle.frame_ast.specs.declared.kernel.Param.{Param}
 use Rattle.frame_ast.specs.declared.kernel.Expr.{Expr}
 use Rattle.frame_ast.specs.declared.kernel.Expr.TheVariants.{Number, Index, Local, Value, Element', Length, Has', Count', Item', Negative', Not', And', Or', Binary'}
@@ -9,7 +10,7 @@ use Rattle.frame_ast.specs.declared.kernel.Stmt.{Stmt}
 use Rattle.frame_ast.specs.declared.kernel.Stmt.TheOpen.{Stmt-F}
 use Rattle.frame_ast.specs.declared.kernel.Stmt.TheFolds.{fold-Stmt}
 use Rattle.frame_ast.specs.Lists.{member}
-use Rattle.frame_ast.specs.Checked.{Demand, nothing, a_value, read_elements, read_map, read_stream, written_value, written_elements, written_list, written_map, changed_map, clearable, written_stream, has_length, kind_meets, access_meets, meets, expr_fits, all_fit, statement_fits, stmt_fits, param_fits, all_joined, measured, expr_nodes, expr_depth}
+use Rattle.frame_ast.specs.Checked.{Demand, a_value, measurable, read_elements, read_map, read_stream, written_value, written_elements, written_list, written_map, changed_map, clearable, written_stream, touch_meets, meets, expr_fits, all_fit, statement_fits, stmt_fits, param_fits, width_fits, all_joined, measured, expr_nodes, expr_depth}
 use Rattle.same_trees.specs.Same.{SameExpr, SameBody, SameParam, Pairwise}
 use Rattle.same_trees.specs.Laws.{SameKernelsAreChecked}
 use Rattle.same_trees.proofs.Folds.{SameLayer, same_folds}
@@ -66,7 +67,7 @@ same_demand : (ps qs : List Param) → Pairwise SameParam ps qs → (x : ℕ) (d
 same_demand [] [] same x d = refl
 same_demand [] (q ∷ qs) same x d = absurd same
 same_demand (p ∷ ps) [] same x d = absurd same
-same_demand (p ∷ ps) (q ∷ qs) same zero d = λ i. kind_meets d (same.0.kind i) && access_meets d (same.0.access i)
+same_demand (p ∷ ps) (q ∷ qs) same zero d = λ i. touch_meets (d (same.0.kind i)) (same.0.access i)
 same_demand (p ∷ ps) (q ∷ qs) same (suc x) d = same_demand ps qs same.1 x d
 
 module _ (parallel : Bool) (ps qs : List Param) (same : Pairwise SameParam ps qs) (locals : ℕ) where
@@ -79,16 +80,13 @@ module _ (parallel : Bool) (ps qs : List Param) (same : Pairwise SameParam ps qs
   abbrev in_q : Expr → Bool
   in_q = expr_fits parallel qs locals
 
-  same_length : (x : ℕ) → has_length ps x ≡ has_length qs x
-  same_length x = λ i. ask x (record nothing { array = true; stream = true }) i || ask x (record nothing { list = true; map = true; reads = true }) i
-
   fits_there : (e : Expr) → in_p e ≡ in_q e
   fits_there (Number n) = refl
   fits_there Index = refl
   fits_there (Local k) = refl
   fits_there (Value x) = ask x a_value
   fits_there (Element' x p e) = λ i. ask x read_elements i && fits_there e i
-  fits_there (Length x) = same_length x
+  fits_there (Length x) = ask x measurable
   fits_there (Has' x p e) = λ i. ask x read_map i && fits_there e i
   fits_there (Count' x p e) = λ i. ask x read_stream i && fits_there e i
   fits_there (Item' x p e q f) = λ i. ask x read_stream i && (fits_there e i && fits_there f i)
@@ -96,7 +94,7 @@ module _ (parallel : Bool) (ps qs : List Param) (same : Pairwise SameParam ps qs
   fits_there (Not' p e) = fits_there e
   fits_there (And' p e q f) = λ i. fits_there e i && fits_there f i
   fits_there (Or' p e q f) = λ i. fits_there e i && fits_there f i
-  fits_there (Binary' op p e q f) = λ i. fits_there e i && fits_there f i
+  fits_there (Binary' op p e f) = λ i. fits_there e i && fits_there f i
 
   same_fits : (e f : Expr) → SameExpr e f → in_p e ≡ in_q f
   same_fits e f SameExpr.itself = fits_there e
@@ -137,6 +135,13 @@ same_params_fit (p ∷ ps) [] same = absurd same
 same_params_fit (p ∷ ps) (q ∷ qs) same =
     λ i. param_fits (record p { kind = same.0.kind i; access = same.0.access i; by = same.0.by i }) && same_params_fit ps qs same.1 i
 
+same_widths : (parallel : Bool) (ps qs : List Param) → Pairwise SameParam ps qs → list_all (width_fits parallel) ps ≡ list_all (width_fits parallel) qs
+same_widths parallel [] [] same = refl
+same_widths parallel [] (q ∷ qs) same = absurd same
+same_widths parallel (p ∷ ps) [] same = absurd same
+same_widths parallel (p ∷ ps) (q ∷ qs) same =
+    λ i. width_fits parallel (record p { kind = same.0.kind i; access = same.0.access i; by = same.0.by i }) && same_widths parallel ps qs same.1 i
+
 pub same_count : (ps qs : List Param) → Pairwise SameParam ps qs → length ps ≡ length qs
 same_count [] [] same = refl
 same_count [] (q ∷ qs) same = absurd same
@@ -150,8 +155,9 @@ same_kernels_are_checked k l same is =
     record {
       fits = subst (λ b. IsTrue b) (same_bodies k.parallel k.params.items l.params.items same.params k.locals xs ys same.body ∙ (λ i. all_fit (map (stmt_fits (same.parallel i) l.params.items (same.locals i)) ys) [])) is.fits;
       params = subst (λ b. IsTrue b) (same_params_fit k.params.items l.params.items same.params) is.params;
-      count = subst (λ n. IsTrue (nat_le n 16)) (same_count k.params.items l.params.items same.params) is.count;
-      locals = subst (λ n. IsTrue (nat_le n 64)) same.locals is.locals;
-      nodes = subst (λ n. IsTrue (nat_le n 4096)) (same_measures expr_nodes (λ m n. m + n) same_nodes xs ys same.body) is.nodes;
-      depth = subst (λ n. IsTrue (nat_le n 64)) (same_measures expr_depth max same_depth xs ys same.body) is.depth;
+      widths = subst (λ b. IsTrue b) (same_widths k.parallel k.params.items l.params.items same.params ∙ (λ i. list_all (width_fits (same.parallel i)) l.params.items)) is.widths;
+      count = subst (λ n. IsTrue (nat_le n MOST_PARAMS)) (same_count k.params.items l.params.items same.params) is.count;
+      locals = subst (λ n. IsTrue (nat_le n MOST_LOCALS)) same.locals is.locals;
+      nodes = subst (λ n. IsTrue (nat_le n MOST_NODES)) (same_measures expr_nodes (λ m n. m + n) same_nodes xs ys same.body) is.nodes;
+      depth = subst (λ n. IsTrue (nat_le n MOST_DEPTH)) (same_measures expr_depth max same_depth xs ys same.body) is.depth;
     }

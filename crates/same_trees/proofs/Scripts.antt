@@ -8,7 +8,8 @@ use Rattle.frame_ast.specs.declared.script.Script.{Script}
 use Rattle.frame_ast.specs.Contents.{words_of}
 use Rattle.frame_ast.specs.States.{Value, ScriptState, at_start, with_name}
 use Rattle.frame_ast.specs.Schedules.{need_of, givens}
-use Rattle.frame_ast.specs.Refusals.{Refused, first_cause, disposed, pending, jobs_named, store_full, schedule_refusal}
+use Rattle.frame_ast.specs.Lists.{first_some}
+use Rattle.frame_ast.specs.Refusals.{Refused, disposed, pending, jobs_named, store_full, schedule_refusal}
 use Rattle.frame_ast.specs.Orders.{Table, no_table, Setting, setting, name_text, params_of, is_parallel, new_column}
 use Rattle.frame_ast.specs.Texts.{refused_line}
 use Rattle.frame_ast.specs.Checks.{refusal}
@@ -28,7 +29,7 @@ order_refusal g s _ _ (SameOrder.schedule {auto = auto} {kernel = kernel} {defer
     λ i. schedule_refusal s (is_parallel g kernel) auto (givens s (params_of g kernel) (args i) defer) (after i)
 order_refusal g s _ _ (SameOrder.combine of) = refl
 order_refusal g s _ _ (SameOrder.dispose {name = name} after) =
-    λ i. first_cause (disposed s (name ∷ []) ∷ pending s (jobs_named s (after i)) (need_of s name true ∷ []) ∷ [])
+    λ i. first_some (disposed s (name ∷ []) ∷ pending s (jobs_named s (after i)) (need_of s name true ∷ []) ∷ [])
 
 order_loss : (r : Refusal) (s : ScriptState) (x y : Order) → SameOrder x y → lost r x s ≡ lost r y s
 order_loss r s x y SameOrder.itself = refl

@@ -5,8 +5,7 @@ use Rattle.frame_ast.specs.declared.script.Script.{Script}
 use Rattle.frame_ast.specs.JobRuns.{run_of}
 use Rattle.frame_ast.specs.Checked.{IsChecked}
 use Rattle.frame_ast.specs.Orders.{Table, setting}
-use Rattle.frame_ast.specs.Scripts.{final, output_of, status_of}
-use Rattle.frame_ast.specs.Plain.{HasNoTrap}
+use Rattle.frame_ast.specs.Scripts.{final, HasNoTrap, output_of, status_of}
 use Rattle.same_trees.specs.Same.{SameKernel, SameScript}
 
 -- A kernel and a script are the same as themselves.

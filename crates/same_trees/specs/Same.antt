@@ -21,19 +21,23 @@ pub data SameExpr : Expr → Expr → Type 0 where
   element : {x p q : _} {e f : Expr} → SameExpr e f → SameExpr (Element' x p e) (Element' x q f)
   has : {x p q : _} {e f : Expr} → SameExpr e f → SameExpr (Has' x p e) (Has' x q f)
   count : {x p q : _} {e f : Expr} → SameExpr e f → SameExpr (Count' x p e) (Count' x q f)
-  item : {x p q p2 q2 : _} {e f e2 f2 : Expr} → SameExpr e f → SameExpr e2 f2 → SameExpr (Item' x p e p2 e2) (Item' x q f q2 f2)
+  item : {x p q p2 q2 : _} {e f e2 f2 : Expr} → SameExpr e f → SameExpr e2 f2 →
+      SameExpr (Item' x p e p2 e2) (Item' x q f q2 f2)
   negative : {p q : _} {e f : Expr} → SameExpr e f → SameExpr (Negative' p e) (Negative' q f)
   not : {p q : _} {e f : Expr} → SameExpr e f → SameExpr (Not' p e) (Not' q f)
   both : {p q p2 q2 : _} {e f e2 f2 : Expr} → SameExpr e f → SameExpr e2 f2 → SameExpr (And' p e p2 e2) (And' q f q2 f2)
   either : {p q p2 q2 : _} {e f e2 f2 : Expr} → SameExpr e f → SameExpr e2 f2 → SameExpr (Or' p e p2 e2) (Or' q f q2 f2)
-  binary : {op p q p2 q2 : _} {e f e2 f2 : Expr} → SameExpr e f → SameExpr e2 f2 → SameExpr (Binary' op p e p2 e2) (Binary' op q f q2 f2)
+  binary : {op p q : _} {e f e2 f2 : Expr} → SameExpr e f → SameExpr e2 f2 →
+      SameExpr (Binary' op p e e2) (Binary' op q f f2)
 
 -- STATEMENTS: the same form with the same numbers, the same expressions and the same blocks
 
 mutual
   pub data SameStmt : Stmt → Stmt → Type 0 where
-    assign : {s t : Stmt} {k : ℕ} {e f : Expr} → out-Stmt s ≡ Assign k e → out-Stmt t ≡ Assign k f → SameExpr e f → SameStmt s t
-    set_value : {s t : Stmt} {x : ℕ} {e f : Expr} → out-Stmt s ≡ SetValue x e → out-Stmt t ≡ SetValue x f → SameExpr e f → SameStmt s t
+    assign : {s t : Stmt} {k : ℕ} {e f : Expr} → out-Stmt s ≡ Assign k e → out-Stmt t ≡ Assign k f →
+        SameExpr e f → SameStmt s t
+    set_value : {s t : Stmt} {x : ℕ} {e f : Expr} → out-Stmt s ≡ SetValue x e → out-Stmt t ≡ SetValue x f →
+        SameExpr e f → SameStmt s t
     store : {s t : Stmt} {x : ℕ} {e f e2 f2 : Expr} →
         out-Stmt s ≡ Store x e e2 → out-Stmt t ≡ Store x f f2 → SameExpr e f → SameExpr e2 f2 → SameStmt s t
     add : {s t : Stmt} {x : ℕ} {e f : Expr} → out-Stmt s ≡ Add x e → out-Stmt t ≡ Add x f → SameExpr e f → SameStmt s t
@@ -41,13 +45,16 @@ mutual
         out-Stmt s ≡ AddPair x e e2 → out-Stmt t ≡ AddPair x f f2 → SameExpr e f → SameExpr e2 f2 → SameStmt s t
     try_add : {s t : Stmt} {y x : ℕ} {e f e2 f2 : Expr} →
         out-Stmt s ≡ TryAdd y x e e2 → out-Stmt t ≡ TryAdd y x f f2 → SameExpr e f → SameExpr e2 f2 → SameStmt s t
-    remove_at : {s t : Stmt} {x : ℕ} {e f : Expr} → out-Stmt s ≡ RemoveAt x e → out-Stmt t ≡ RemoveAt x f → SameExpr e f → SameStmt s t
+    remove_at : {s t : Stmt} {x : ℕ} {e f : Expr} → out-Stmt s ≡ RemoveAt x e → out-Stmt t ≡ RemoveAt x f →
+        SameExpr e f → SameStmt s t
     remove_key : {s t : Stmt} {y x : ℕ} {e f : Expr} →
         out-Stmt s ≡ RemoveKey y x e → out-Stmt t ≡ RemoveKey y x f → SameExpr e f → SameStmt s t
     clear : {s t : Stmt} {x : ℕ} → out-Stmt s ≡ Clear x → out-Stmt t ≡ Clear x → SameStmt s t
-    write : {s t : Stmt} {x : ℕ} {e f : Expr} → out-Stmt s ≡ Write x e → out-Stmt t ≡ Write x f → SameExpr e f → SameStmt s t
+    write : {s t : Stmt} {x : ℕ} {e f : Expr} → out-Stmt s ≡ Write x e → out-Stmt t ≡ Write x f → SameExpr e f →
+        SameStmt s t
     begin : {s t : Stmt} {x : ℕ} {e f : Expr} {body same_body : Vec Stmt Global} →
-        out-Stmt s ≡ Begin x e body → out-Stmt t ≡ Begin x f same_body → SameExpr e f → SameBody body.items same_body.items → SameStmt s t
+        out-Stmt s ≡ Begin x e body → out-Stmt t ≡ Begin x f same_body → SameExpr e f →
+        SameBody body.items same_body.items → SameStmt s t
     if_ : {s t : Stmt} {e f : Expr} {body same_body other same_other : Vec Stmt Global} →
         out-Stmt s ≡ If e body other → out-Stmt t ≡ If f same_body same_other →
         SameExpr e f → SameBody body.items same_body.items → SameBody other.items same_other.items → SameStmt s t
@@ -55,11 +62,13 @@ mutual
         out-Stmt s ≡ For k e e2 body → out-Stmt t ≡ For k f f2 same_body →
         SameExpr e f → SameExpr e2 f2 → SameBody body.items same_body.items → SameStmt s t
     while : {s t : Stmt} {e f : Expr} {body same_body : Vec Stmt Global} →
-        out-Stmt s ≡ While e body → out-Stmt t ≡ While f same_body → SameExpr e f → SameBody body.items same_body.items → SameStmt s t
+        out-Stmt s ≡ While e body → out-Stmt t ≡ While f same_body → SameExpr e f →
+        SameBody body.items same_body.items → SameStmt s t
 
   pub data SameBody : List Stmt → List Stmt → Type 0 where
     nothing : SameBody [] []
-    followed : {s t : Stmt} {more others : List Stmt} → SameStmt s t → SameBody more others → SameBody (s ∷ more) (t ∷ others)
+    followed : {s t : Stmt} {more others : List Stmt} → SameStmt s t → SameBody more others →
+        SameBody (s ∷ more) (t ∷ others)
 
 -- LISTS: as many, and each as the one at its place
 
@@ -92,10 +101,13 @@ pub data SameOrder : Order → Order → Type 0 where
   itself : {x : Order} → SameOrder x x
   column : {name life : _} {bytes same_bytes : Vec ℕ Global} →
       bytes.items ≡ same_bytes.items → SameOrder (Column name bytes life) (Column name same_bytes life)
-  schedule : {auto handle kernel cut defer : _} {args same_args : Vec Arg Global} {waive same_waive after same_after : Vec ℕ Global} →
+  schedule : {auto handle kernel cut defer : _} {args same_args : Vec Arg Global}
+      {waive same_waive after same_after : Vec ℕ Global} →
       args.items ≡ same_args.items → waive.items ≡ same_waive.items → after.items ≡ same_after.items →
-      SameOrder (Schedule auto handle kernel args cut defer waive after) (Schedule auto handle kernel same_args cut defer same_waive same_after)
-  combine : {name : ℕ} {of same_of : Vec ℕ Global} → of.items ≡ same_of.items → SameOrder (Combine name of) (Combine name same_of)
+      SameOrder (Schedule auto handle kernel args cut defer waive after)
+      (Schedule auto handle kernel same_args cut defer same_waive same_after)
+  combine : {name : ℕ} {of same_of : Vec ℕ Global} → of.items ≡ same_of.items →
+      SameOrder (Combine name of) (Combine name same_of)
   dispose : {name handle : _} {after same_after : Vec ℕ Global} →
       after.items ≡ same_after.items → SameOrder (Dispose name after handle) (Dispose name same_after handle)
 

@@ -1,9 +1,10 @@
 //! Two scripts whose trees differ only in where their parts lie in memory mean the same.
 //!
-//! A tree keeps its children in boxes, its blocks in vectors and its names in strings, so two trees that were read from one text are not
-//! equal: their pointers and capacities differ. `specs/Same` says when two kernels or two scripts are the same but for that. A function here
-//! does nothing: its contract is a law, as `specs/Laws` states it. Kernels that are the same run alike, and where one is checked so is the
-//! other; scripts that are the same have the same output, the same status and the same traps.
+//! A tree keeps its children in boxes, its blocks in vectors and its names in strings, so two trees that were read from
+//! one text are not equal: their pointers and capacities differ. `specs/Same` says when two kernels or two scripts are
+//! the same but for that. A function here does nothing: its contract is a law, as `specs/Laws` states it. Kernels that
+//! are the same run alike, and where one is checked so is the other; scripts that are the same have the same output,
+//! the same status and the same traps.
 #![tactic(auto)]
 
 ghost use Rattle.same_trees.specs.Laws.{KernelsAreThemselves, SameKernelsAreChecked, SameKernelsRunAlike, SameScriptsHaveNoTrap, SameScriptsRunAlike, ScriptsAreThemselves};

@@ -2,6 +2,7 @@
 use Rattle.std.proofs.Common.{◌≡◌, ℕ, zero, suc, ◌+◌, ◌-◌, ◌*◌, ◌<◌, ◌≤◌, ⊎_elim, Bool, true, false, if◌then◌else◌, nat_eq, List, [], ◌∷◌, ◌++◌, length, get_or, set, take, drop, slice_index, ap, sym, ◌∙◌, subst, arith, get_or-set_same, get_or-set_other}
 use Rattle.std.proofs.lemmas.Bool.{cases_eq}
 use Rattle.job_base.specs.declared.Span.{Span}
+use Rattle.slot_store.specs.declared.blocks.TheConstants.{BLOCK, BLOCKS}
 use Rattle.slot_store.specs.Spaces.{no_span, start_of, len_of, rest_after, AreHoles, IsPlace}
 use Rattle.slot_store.specs.Blocks.{block_of, AreBounded}
 use Rattle.slot_store.proofs.Cuts.{end_below, same_hole}
@@ -12,10 +13,10 @@ use Rattle.slot_store.proofs.Gives.{rises_to}
 pub block_rises : (v w : ℕ) → v ≤ w → block_of v ≤ block_of w
 block_rises v w le = omega arith
 
-pub block_below : (w b : ℕ) → w < b * 1024 → block_of w < b
+pub block_below : (w b : ℕ) → w < b * BLOCK → block_of w < b
 block_below w b lt = omega arith
 
-pub block_from : (w b : ℕ) → b < 2048 → b * 1024 ≤ w → b ≤ block_of w
+pub block_from : (w b : ℕ) → b < BLOCKS → b * BLOCK ≤ w → b ≤ block_of w
 block_from w b few le = omega arith
 
 -- BOUNDS
@@ -89,7 +90,7 @@ pub start_below : (xs : List Span) (i top : ℕ) → AreHoles 0 xs top → i < l
 start_below xs i top H lt = let e = end_below xs 0 i top H lt in block_rises (start_of xs i) top (omega arith)
 
 -- holes that start before a block aren't of it
-pub before_block : (xs : List Span) (block first k : ℕ) → IsPlace xs (block * 1024) first → k < first → block_of (start_of xs k) < block
+pub before_block : (xs : List Span) (block first k : ℕ) → IsPlace xs (block * BLOCK) first → k < first → block_of (start_of xs k) < block
 before_block xs block first k P lt = block_below (start_of xs k) block (P.before k lt)
 
 -- holes behind one of a later block are of later blocks

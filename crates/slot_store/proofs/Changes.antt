@@ -3,6 +3,7 @@ use Rattle.std.proofs.Common.{◌≡◌, ℕ, zero, suc, ◌+◌, ◌-◌, ◌<�
 use Rattle.std.proofs.lemmas.List.Sums.{sum_by-set, sum_by_push}
 use Rattle.std.proofs.lemmas.Bool.{cases_eq, cases_Bool, both_ways, eq-eqb, eqb-true, ne_eqb, cond-true, cond-false}
 use Rattle.job_base.specs.declared.Span.{Span}
+use Rattle.job_base.specs.declared.limits.TheConstants.{MOST_LIVE_WORDS}
 use Rattle.frame_ast.specs.Ranges.{IsFirstFit}
 use Rattle.slot_store.specs.declared.place.State.{State}
 use Rattle.slot_store.specs.declared.place.State.TheVariants.{Free, Taken, Held}
@@ -114,7 +115,7 @@ module _ (ps : List Place) (space numbers : FreeSpace) (waiting : List Waiting) 
 
     pub moved : (space' : FreeSpace) (top : ℕ) (between : ℕ → Bool) → is_taken (place_at ps s).state ≡ true → IsFirstFit (is_live space.holes.items space.top) len start
         → ((w : ℕ) → between w ≡ (is_live space.holes.items space.top w || has_word (record { start = start; len = len }) w)) → top ≤ max space.top (start + len)
-        → ((w : ℕ) → is_live space'.holes.items space'.top w ≡ (between w && not (has_word (place_at ps s).span w))) → space'.top ≤ top → count + len ≤ 1048576
+        → ((w : ℕ) → is_live space'.holes.items space'.top w ≡ (between w && not (has_word (place_at ps s).span w))) → space'.top ≤ top → count + len ≤ MOST_LIVE_WORDS
         → AreKept (set ps s (record { state = Taken; version = version; span = record { start = start; len = len } })) space' numbers waiting (count + len - (place_at ps s).span.len) (max peak (start + len))
     moved space' top between is_now fit first top_first after_it top_then few =
         let l = len_le in
@@ -150,7 +151,7 @@ module _ (ps : List Place) (space numbers : FreeSpace) (waiting : List Waiting) 
 pub moved_of : (ps : List Place) (space numbers : FreeSpace) (waiting : List Waiting) (count peak : ℕ) (K : AreKept ps space numbers waiting count peak) (s : ℕ) (known : s < length ps) (used : in_use (place_at ps s).state ≡ true) (x : Place) → x ≡ place_at ps s → (version len start : ℕ) (between space' : FreeSpace)
     → is_taken (place_at ps s).state ≡ true → IsFirstFit (is_live space.holes.items space.top) len start
     → ((w : ℕ) → is_live between.holes.items between.top w ≡ (is_live space.holes.items space.top w || has_word (record { start = start; len = len }) w)) → between.top ≤ max space.top (start + len)
-    → ((w : ℕ) → is_live space'.holes.items space'.top w ≡ (is_live between.holes.items between.top w && not (has_word x.span w))) → space'.top ≤ between.top → count + len ≤ 1048576
+    → ((w : ℕ) → is_live space'.holes.items space'.top w ≡ (is_live between.holes.items between.top w && not (has_word x.span w))) → space'.top ≤ between.top → count + len ≤ MOST_LIVE_WORDS
     → AreKept (set ps s (record { state = Taken; version = version; span = record { start = start; len = len } })) space' numbers waiting (count + len - x.span.len) (max peak (start + len))
 moved_of ps space numbers waiting count peak K s known used x e version len start between space' is_now fit first top_first after_it top_then few =
     subst (λ (y : Place). AreKept (set ps s (record { state = Taken; version = version; span = record { start = start; len = len } })) space' numbers waiting (count + len - y.span.len) (max peak (start + len))) (sym e)

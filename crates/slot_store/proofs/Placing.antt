@@ -3,6 +3,7 @@ use Rattle.std.proofs.Common.{◌≡◌, ◌≢◌, ℕ, zero, suc, ◌+◌, ◌
 use Rattle.std.proofs.lemmas.List.Sums.{sum_by-set}
 use Rattle.std.proofs.lemmas.Bool.{and_from, and_left, and_parts, or_cases, or_left, or_right, not_from_false, cases_lt, cases_eq, cases_Bool, both_ways, eq-eqb, ne_eqb, cond-true, cond-false}
 use Rattle.job_base.specs.declared.Span.{Span}
+use Rattle.job_base.specs.declared.limits.TheConstants.{MOST_LIVE_WORDS}
 use Rattle.frame_ast.specs.Ranges.{IsFirstFit}
 use Rattle.slot_store.specs.declared.place.State.{State}
 use Rattle.slot_store.specs.declared.place.State.TheVariants.{Free, Taken, Held}
@@ -127,7 +128,7 @@ module _ (ps : List Place) (space numbers space' numbers' : FreeSpace) (waiting 
 
     pub took : ((w : ℕ) → is_live numbers'.holes.items numbers'.top w ≡ (is_live numbers.holes.items numbers.top w || has_word (record { start = s; len = 1 }) w)) → numbers'.top ≤ max numbers.top (s + 1)
         → ((w : ℕ) → is_live space'.holes.items space'.top w ≡ (is_live space.holes.items space.top w || has_word (record { start = span.start; len = span.len }) w)) → space'.top ≤ max space.top (span.start + span.len)
-        → count + span.len ≤ 1048576 → AreKept (set ps s p) space' numbers' waiting (count + span.len) (max peak (span.start + span.len))
+        → count + span.len ≤ MOST_LIVE_WORDS → AreKept (set ps s p) space' numbers' waiting (count + span.len) (max peak (span.start + span.len))
     took slots slots_top live top few = record {
       words = λ w. live w ∙ (ap (λ b. b || has_word span w) (K.words w) ∙ (turn (some_live ps w) (has_word span w) (has_live (place_at ps s) w) (idle (place_at ps s) w was_free) ∙ sym (live_set ps s p known K.apart w)));
       slots = λ t. slots t ∙ (ap (λ b. is_live numbers.holes.items numbers.top t || b) (one_word s t) ∙ ⊎_elim

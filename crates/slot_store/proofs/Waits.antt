@@ -8,6 +8,7 @@ use Rattle.frame_ast.specs.Laws.{AreUpTo}
 use Rattle.frame_ast.proofs.Ancestry.{greatest_in, greatest_none}
 use Rattle.job_handle.specs.declared.handle.Handle.{Handle}
 use Rattle.job_handle.specs.Sets.{jobs_of, outside, job_numbered}
+use Rattle.job_base.specs.declared.limits.TheConstants.{MOST_JOBS}
 use Rattle.slot_store.specs.declared.place.State.{State}
 use Rattle.slot_store.specs.declared.place.State.TheVariants.{Free, Taken, Held}
 use Rattle.slot_store.specs.declared.place.Place.{Place}
@@ -33,10 +34,10 @@ not_held_if_free Free e = refl
 not_held_if_free Taken e = refl
 not_held_if_free (Held users) e = absurd (both_ways true e refl)
 
-pub among_all : (h : Handle) → AreUpTo 4096 (jobs_of h)
-among_all h j t = let p = and_parts _ _ t in let q = and_parts _ _ p.0 in let a = ltb-true 0 j q.0 in let b = ltb-true j 4097 q.1 in (a, omega arith)
+pub among_all : (h : Handle) → AreUpTo MOST_JOBS (jobs_of h)
+among_all h j t = let p = and_parts _ _ t in let q = and_parts _ _ p.0 in let a = ltb-true 0 j q.0 in let b = ltb-true j (MOST_JOBS + 1) q.1 in (a, omega arith)
 
-pub user_range : (q : State) (j : ℕ) → users_of q j ≡ true → (0 < j) × (j ≤ 4096)
+pub user_range : (q : State) (j : ℕ) → users_of q j ≡ true → (0 < j) × (j ≤ MOST_JOBS)
 user_range Free j u = absurd (both_ways false refl u)
 user_range Taken j u = absurd (both_ways false refl u)
 user_range (Held users) j u = among_all users j u
@@ -181,7 +182,7 @@ waits_removed ps held left n at s size done p W here all lt less moved gone = wa
 
 -- a bound of a handle's jobs
 bound : (h : Handle) → (n : ℕ) × AreUpTo n (jobs_of h)
-bound h = (4096, among_all h)
+bound h = (MOST_JOBS, among_all h)
 
 one_by : (set : Jobs) (n m : ℕ) (j : JobId) → m ≡ greatest set n → Some j ≡ job_numbered m → (0 < j.0) × (set j.0 ≡ true)
 one_by set n zero j q f = absurd (cc)

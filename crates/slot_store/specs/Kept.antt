@@ -1,6 +1,7 @@
 -- What the lists of a store keep.
 use Rattle.std.specs.Prelude.{◌≡◌, ℕ, ◌+◌, ◌<◌, ◌≤◌, true, false, List, length, sum_by, vec_len, vec_capacity, Vec}
 use Rattle.std.specs.declared.alloc.Global.{Global}
+use Rattle.job_base.specs.declared.limits.TheConstants.{MOST_LIVE_WORDS}
 use Rattle.job_handle.specs.declared.handle.Handle.{Handle}
 use Rattle.job_handle.specs.Sets.{jobs_of}
 use Rattle.slot_store.specs.declared.place.Place.{Place}
@@ -16,7 +17,7 @@ pub record AreKept (places : List Place) (space numbers : FreeSpace) (waiting : 
   pub slots : (s : ℕ) → is_live numbers.holes.items numbers.top s ≡ in_use (place_at places s).state
   pub apart : (s t w : ℕ) → has_live (place_at places s) w ≡ true → has_live (place_at places t) w ≡ true → s ≡ t
   pub live : count ≡ sum_by live_len places
-  pub few : count ≤ 1048576
+  pub few : count ≤ MOST_LIVE_WORDS
   pub below : space.top ≤ peak
   pub known : numbers.top ≤ length places
   pub held : (s : ℕ) → times waiting s ≡ held_once (place_at places s)

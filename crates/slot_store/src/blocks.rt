@@ -2,6 +2,7 @@
 ghost use Rattle.std.specs.Prelude.{◌≡◌, ℕ, ◌*◌, ◌<◌, ◌≤◌, length, slice_index, vec_len, IfOk, IfErr, IfSome, IfNone};
 ghost use Rattle.slot_store.specs.Spaces.{AreHoles, AreSmall, len_of, start_of};
 ghost use Rattle.slot_store.specs.Blocks.{AreBounded, block_of};
+ghost use Rattle.slot_store.specs.declared.blocks.TheConstants.{BLOCKS};
 
 use crate::search::holes_before;
 use job_base::{NoMemory, Span};
@@ -17,7 +18,7 @@ const BLOCKS: usize = 2_048;
 #[derive(Drop)]
 pub(crate) struct Bounds {
     pub(crate) lens: Vec<u32>,
-    ghost all: { vec_len lens ≡ 2048 },
+    ghost all: { vec_len lens ≡ BLOCKS },
 }
 
 impl Bounds {
@@ -44,7 +45,7 @@ impl Bounds {
 fn block_of(at: u32) -> usize
     ensures { result ≡ block_of at }
 {
-    (at / BLOCK).min(2_047) as usize
+    ((at / BLOCK) as usize).min(BLOCKS - 1)
 }
 
 /// The first hole that has `len` numbers.
@@ -68,7 +69,7 @@ pub(crate) fn first_fit(holes: &[Span], bounds: &mut Bounds, top: u32, len: u32)
 fn fit_in_block(holes: &[Span], bounds: &mut Bounds, block: usize, len: u32) -> Option<usize>
     requires some { 0 < len }
     requires holes { (top : ℕ) × AreHoles 0 holes.now top }
-    requires block { block < 2048 }
+    requires block { block < BLOCKS }
     requires bounded { AreBounded bounds.old.lens.items holes.now }
     ensures some { IfSome result (λ i. (i < length holes.now) × (len ≤ len_of holes.now i) × ((k : ℕ) → k < i → block ≤ block_of (start_of holes.now k) → len_of holes.now k < len)) }
     ensures none { IfNone result ((k : ℕ) → k < length holes.now → block_of (start_of holes.now k) ≡ block → len_of holes.now k < len) }
@@ -90,7 +91,7 @@ fn fit_in_block(holes: &[Span], bounds: &mut Bounds, block: usize, len: u32) -> 
 fn seek(holes: &[Span], block: usize, len: u32) -> Result<usize, u32>
     requires some { 0 < len }
     requires holes { (top : ℕ) × AreHoles 0 holes.now top }
-    requires block { block < 2048 }
+    requires block { block < BLOCKS }
     ensures ok { IfOk result (λ i. (i < length holes.now) × (len ≤ len_of holes.now i) × ((k : ℕ) → k < i → block ≤ block_of (start_of holes.now k) → len_of holes.now k < len)) }
     ensures err { IfErr result (λ most. (most < len) × ((k : ℕ) → k < length holes.now → block_of (start_of holes.now k) ≡ block → len_of holes.now k ≤ most)) }
 {

@@ -30,4 +30,4 @@ mod store;
 mod tests;
 
 pub use slot::{Slot, StoreFault, Taken, Version};
-pub use store::{MOST_WORDS, SlotStore};
+pub use store::SlotStore;

@@ -24,7 +24,7 @@ pub struct Taken {
 /// Why no range was taken. The store is as it was.
 #[derive(Clone, Copy, Debug, PartialEq, Eq)]
 pub enum StoreFault {
-    /// With the words that are live, the range would pass the 1,048,576 that may be live at once.
+    /// With the words that are live, the range would pass `MOST_LIVE_WORDS`.
     Full,
     /// Memory was not found for the store's own lists.
     NoMemory,

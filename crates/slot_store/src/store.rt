@@ -7,12 +7,10 @@ use crate::place::{Place, State, Waiting};
 use crate::room::reserve_all;
 use crate::slot::{Slot, StoreFault, Taken, Version};
 use crate::space::FreeSpace;
+use job_base::limits::MOST_LIVE_WORDS;
 use job_base::{JobId, NoMemory, Span};
 use job_handle::{Handle, JobBook};
 use std::alloc::Global;
-
-/// The words that may be live at once.
-pub const MOST_WORDS: u32 = 1_048_576;
 
 /// Slots for containers, and the words that they have.
 #[derive(Drop)]
@@ -66,8 +64,9 @@ impl SlotStore {
     pub fn take(&mut self, len: u32) -> Result<Taken, StoreFault>
         requires fits { peak_of self.old + len < 2 ^ 32 }
         requires slots { slots_in_use self.old < 4294967295 }
-        ensures full { (result ≡ Err StoreFault.Full) ↔ (1048576 < live_words_of self.old + len) }
+        ensures full { (result ≡ Err StoreFault.Full) ↔ (MOST_LIVE_WORDS < live_words_of self.old + len) }
         ensures fit { IfOk result (λ t. IsFirstFit (is_live_word self.old) len t.span.start) }
+        ensures low { IfOk result (λ t. t.span.start ≤ peak_of self.old) }
         ensures len { IfOk result (λ t. t.span.len ≡ len) }
         ensures free { IfOk result (λ t. in_use (place_of self.old t.slot.0).state ≡ false) }
         ensures lowest { IfOk result (λ t. (s : ℕ) → s < t.slot.0 → in_use (place_of self.old s).state ≡ true) }
@@ -92,8 +91,9 @@ impl SlotStore {
     pub fn regrow(&mut self, slot: Slot, len: u32) -> Result<Span, StoreFault>
         requires taken { is_taken (place_of self.old slot.0).state ≡ true }
         requires fits { peak_of self.old + len < 2 ^ 32 }
-        ensures full { (result ≡ Err StoreFault.Full) ↔ (1048576 < live_words_of self.old + len) }
+        ensures full { (result ≡ Err StoreFault.Full) ↔ (MOST_LIVE_WORDS < live_words_of self.old + len) }
         ensures fit { IfOk result (λ span. IsFirstFit (is_live_word self.old) len span.start) }
+        ensures low { IfOk result (λ span. span.start ≤ peak_of self.old) }
         ensures len { IfOk result (λ span. span.len ≡ len) }
         ensures places { IfOk result (λ span. (s : ℕ) → place_of self.new s ≡ (if nat_eq s slot.0 then taken (place_of self.old slot.0).version span else place_of self.old s)) }
         ensures live { OnOk result (live_words_of self.new + (place_of self.old slot.0).span.len ≡ live_words_of self.old + len) }
@@ -196,9 +196,9 @@ impl SlotStore {
 
     /// Whether `len` words more are too many at once.
     fn is_full_for(&self, len: u32) -> bool
-        ensures { IsTrue result ↔ (1048576 < live_words_of self.now + len) }
+        ensures { IsTrue result ↔ (MOST_LIVE_WORDS < live_words_of self.now + len) }
     {
-        len > MOST_WORDS - self.live_words
+        len > MOST_LIVE_WORDS - self.live_words
     }
 
     /// Makes room for one more range, and for all that are live to come back.
@@ -230,10 +230,11 @@ impl SlotStore {
     /// `take`, once there is room.
     fn take_ready(&mut self, len: u32) -> Taken
         requires ready { IsReady self.old }
-        requires few { live_words_of self.old + len ≤ 1048576 }
+        requires few { live_words_of self.old + len ≤ MOST_LIVE_WORDS }
         requires fits { peak_of self.old + len < 2 ^ 32 }
         requires slots { slots_in_use self.old < 4294967295 }
         ensures fit { IsFirstFit (is_live_word self.old) len result.span.start }
+        ensures low { result.span.start ≤ peak_of self.old }
         ensures len { result.span.len ≡ len }
         ensures free { in_use (place_of self.old result.slot.0).state ≡ false }
         ensures lowest { (s : ℕ) → s < result.slot.0 → in_use (place_of self.old s).state ≡ true }
@@ -265,9 +266,10 @@ impl SlotStore {
     fn regrow_ready(&mut self, slot: Slot, len: u32) -> Span
         requires ready { IsReady self.old }
         requires taken { is_taken (place_of self.old slot.0).state ≡ true }
-        requires few { live_words_of self.old + len ≤ 1048576 }
+        requires few { live_words_of self.old + len ≤ MOST_LIVE_WORDS }
         requires fits { peak_of self.old + len < 2 ^ 32 }
         ensures fit { IsFirstFit (is_live_word self.old) len result.start }
+        ensures low { result.start ≤ peak_of self.old }
         ensures len { result.len ≡ len }
         ensures places { (s : ℕ) → place_of self.new s ≡ (if nat_eq s slot.0 then taken (place_of self.old slot.0).version result else place_of self.old s) }
         ensures live { live_words_of self.new + (place_of self.old slot.0).span.len ≡ live_words_of self.old + len }
@@ -395,7 +397,7 @@ impl SlotStore {
     /// The number of words that are live: those of ranges that were taken and have not come back.
     pub fn live_words(&self) -> u32
         ensures count { result ≡ live_words_of self.now }
-        ensures few { result ≤ MOST_WORDS }
+        ensures few { result ≤ MOST_LIVE_WORDS }
     {
         self.live_words
     }

@@ -1,16 +1,18 @@
 -- What items mean in one place they mean in another, whatever is said of their kernels beside their events.
 use Rattle.std.proofs.Common.{ℕ, zero, suc, ◌+◌, ◌≡◌, true, false, List, ◌∷◌, ◌++◌, length, Option, refl, sym, ap, ◌∙◌, subst}
+use Rattle.job_base.specs.declared.limits.TheConstants.{MOST_STATEMENTS, MOST_TESTS}
 use Rattle.frame_ast.specs.declared.kernel.Kernel.{Kernel as CheckedKernel}
 use Rattle.frame_ast.specs.declared.script.Statement.{Statement}
 use Rattle.frame_ast.specs.declared.script.Script.{Script}
 use Rattle.frame_grammar.specs.declared.symbols.Event.{Event}
+use Rattle.frame_ast.specs.Lists.{first_some}
 use Rattle.kernel_code.specs.declared.raw.RawKernel.{RawKernel}
 use Rattle.kernel_code.specs.declared.check.StaticFault.{StaticFault}
 use Rattle.frame_script.specs.declared.source.Source.{Source}
 use Rattle.frame_script.specs.Sources.{number_at}
 use Rattle.frame_script.specs.Names.{Name}
 use Rattle.frame_script.specs.Raw.{OrderForm, Repeat, RawItems, Nothing, Kernel, Single, Block}
-use Rattle.frame_script.specs.Faults.{Scope, first, order_faults}
+use Rattle.frame_script.specs.Faults.{Scope, order_faults}
 use Rattle.frame_script.specs.Files.{IsRawOf, IsFaultless, HasFault, literals_of, literals_in, Repeated, IsStatement, StandFor, Mark, copies_of, marks_of, excess, too_long, IsScriptOf, in_block}
 use Rattle.frame_script.specs.Files as file
 use Rattle.spelled_once.proofs.Sources.{SameFile, same_line, same_number, same_faults, same_after, same_literals, same_says}
@@ -20,8 +22,8 @@ module _ (s t : Source) (same : SameFile s t) where
   raw_there : (events : List Event) (raw : RawKernel) → IsRawOf s events raw → IsRawOf t events raw
   raw_there events raw is = record { source = is.source ∙ same.bytes; tokens = is.tokens ∙ same.tokens; spells = is.spells }
 
-  fault_there : {X : Option StaticFault} (c : Scope) (at : ℕ) (form : OrderForm) → first (order_faults s c at form) ≡ X → first (order_faults t c at form) ≡ X
-  fault_there c at form e = ap first (sym (same_faults s t same c at form)) ∙ e
+  fault_there : {X : Option StaticFault} (c : Scope) (at : ℕ) (form : OrderForm) → first_some (order_faults s c at form) ≡ X → first_some (order_faults t c at form) ≡ X
+  fault_there c at form e = ap first_some (sym (same_faults s t same c at form)) ∙ e
 
   -- FAULTS
 
@@ -52,7 +54,7 @@ module _ (s t : Source) (same : SameFile s t) where
   marks_there (Block at _ inner more) = λ i. record { at = at; tested = true } ∷ marks_there inner i ++ marks_there more i
 
   pub too_long_there : (items : RawItems) → too_long s items ≡ too_long t (bare items)
-  too_long_there items = ap (excess 65536 1024) (marks_there items)
+  too_long_there items = ap (excess MOST_STATEMENTS MOST_TESTS) (marks_there items)
 
   -- SCRIPTS
 

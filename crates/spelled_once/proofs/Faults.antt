@@ -2,12 +2,13 @@
 use Rattle.std.proofs.Common.{◌≡◌, List, [], ◌∷◌, ◌++◌, Option, sym, ap, ◌∙◌}
 use Rattle.frame_ast.specs.declared.kernel.Kernel.{Kernel as CheckedKernel}
 use Rattle.frame_grammar.specs.declared.symbols.Event.{Event}
+use Rattle.frame_ast.specs.Lists.{first_some}
 use Rattle.kernel_code.specs.declared.raw.RawKernel.{RawKernel}
 use Rattle.kernel_code.specs.declared.check.StaticFault.{StaticFault}
 use Rattle.kernel_code.specs.StaticFaults.{first_fault}
 use Rattle.frame_script.specs.declared.source.Source.{Source}
 use Rattle.frame_script.specs.Raw.{OrderForm, RawItems}
-use Rattle.frame_script.specs.Faults.{Scope, first, order_faults}
+use Rattle.frame_script.specs.Faults.{Scope, order_faults}
 use Rattle.frame_script.specs.Files.{IsRawOf, IsFaultless, HasFault, after_order, after_kernel, in_block, after_block}
 use Rattle.frame_script.specs.Files as file
 use Rattle.same_trees.specs.Same.{SameKernel}
@@ -35,8 +36,8 @@ after_blocks c d inner inner' same within = record { others = λ i. after_block 
 
 module _ (s : Source) where
   -- the first fault of a statement, and of a kernel, in either of two scopes
-  at_order : (c d : Scope) → SameScope c d → (at : _) (form : OrderForm) (a b : Option StaticFault) → first (order_faults s c at form) ≡ a → first (order_faults s d at form) ≡ b → a ≡ b
-  at_order c d same at form a b x y = sym x ∙ ap first (same_order_faults s c d same at form) ∙ y
+  at_order : (c d : Scope) → SameScope c d → (at : _) (form : OrderForm) (a b : Option StaticFault) → first_some (order_faults s c at form) ≡ a → first_some (order_faults s d at form) ≡ b → a ≡ b
+  at_order c d same at form a b x y = sym x ∙ ap first_some (same_order_faults s c d same at form) ∙ y
 
   at_kernel : (c d : Scope) → SameScope c d → (events : List Event) (r t : RawKernel) → IsRawOf s events r → IsRawOf s events t → (a b : Option StaticFault) →
       first_fault r c.kernels ≡ a → first_fault t d.kernels ≡ b → a ≡ b

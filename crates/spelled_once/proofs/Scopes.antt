@@ -1,22 +1,26 @@
 -- A statement and a kernel have the same faults behind kernels that are the same.
-use Rattle.std.proofs.Common.{ℕ, ◌+◌, suc, ◌≡◌, Bool, true, false, ◌&&◌, nat_eq, nat_le, List, [], ◌∷◌, ◌++◌, length, map, Option, Some, None, refl, ap, ◌∙◌, subst, if◌then◌else◌}
+use Rattle.std.proofs.Common.{ℕ, ◌+◌, ◌-◌, suc, ◌≡◌, Bool, true, false, ◌&&◌, nat_eq, nat_le, List, [], ◌∷◌, ◌++◌, length, map, Option, Some, None, refl, ap, ◌∙◌, subst, if◌then◌else◌}
 use Rattle.std.specs.Prelude.{◌||◌, max, find, string_bytes}
 use Rattle.std.specs.List.{list_any}
 use Rattle.std.specs.Str.{bytes_eq}
+use Rattle.std.specs.Option.{option_or}
+use Rattle.job_base.specs.declared.limits.TheConstants.{MOST_KERNELS, MOST_PARAMS, MOST_NODES, MOST_DEPTH, GUARD_PARAMS, GUARD_NODES, GUARD_DEPTH}
+use Rattle.frame_ast.specs.Lists.{first_some, some_if}
+use Rattle.frame_ast.specs.Accepted.{up_to}
 use Rattle.frame_ast.specs.declared.kernel.FaultKind.TheVariants.{DuplicateName, KindMismatch, Limit}
 use Rattle.frame_ast.specs.declared.kernel.Param.{Param}
 use Rattle.frame_ast.specs.declared.kernel.Kernel.{Kernel as CheckedKernel}
 use Rattle.frame_ast.specs.Checked.{expr_nodes, expr_depth, body_nodes, body_depth}
 use Rattle.kernel_code.specs.declared.raw.RawKernel.{RawKernel}
-use Rattle.kernel_code.specs.StaticFaults.{text_at, or_else, fault_at, lowest, fault_if, length_fault, params_fault, nodes_fault, first_fault}
-use Rattle.frame_script.specs.declared.kind.NameKind.TheVariants as kind
+use Rattle.kernel_code.specs.StaticFaults.{text_at, fault_at, lowest, length_fault, params_fault, nodes_fault, first_fault}
+use Rattle.frame_ast.specs.declared.name_kind.NameKind.TheVariants as kind
 use Rattle.frame_script.specs.declared.raw.RawArg.{RawArg}
 use Rattle.frame_script.specs.declared.raw.RawSizes.{RawSizes}
 use Rattle.frame_script.specs.declared.source.Source.{Source}
 use Rattle.frame_script.specs.Sources as source
 use Rattle.frame_script.specs.Names.{Name}
 use Rattle.frame_script.specs.Raw.{OrderForm, Schedule}
-use Rattle.frame_script.specs.Faults.{Scope, first, unless, make_fault, sizes_fit, room_fits, kernel_fault, arg_fault, args_faults, sizes_faults, handles_faults, waived_fault, waive_fault, kernel_in, param_in, scheduled_faults, order_faults}
+use Rattle.frame_script.specs.Faults.{Scope, unless, make_fault, sizes_fit, room_fits, kernel_fault, arg_fault, args_faults, sizes_faults, handles_faults, waived_fault, waive_fault, kernel_in, param_in, scheduled_faults, order_faults}
 use Rattle.same_trees.specs.Same.{SameParam, SameKernel, Pairwise}
 use Rattle.same_trees.proofs.Checks.{same_nodes, same_depth, same_measures, same_count}
 
@@ -80,8 +84,8 @@ module _ (k l : CheckedKernel) (same : SameKernel k l) where
 
   same_kernel_fault : (at : ℕ) (args : List RawArg) (sizes : RawSizes) → kernel_fault k at args sizes ≡ kernel_fault l at args sizes
   same_kernel_fault at args sizes = λ i.
-      first (unless (nat_eq (length args) (count i) && sizes_fit (same.parallel i) sizes) KindMismatch at
-      ∷ unless (room_fits (nat_le (count i) 15 && (nat_le (nodes i) 4091 && nat_le (depth i) 63)) sizes) Limit at
+      first_some (unless (nat_eq (length args) (count i) && sizes_fit (same.parallel i) sizes) KindMismatch at
+      ∷ unless (room_fits (up_to (MOST_PARAMS - GUARD_PARAMS) (count i) && (up_to (MOST_NODES - GUARD_NODES) (nodes i) && up_to (MOST_DEPTH - GUARD_DEPTH) (depth i))) sizes) Limit at
       ∷ [])
 
   same_waived : (parallel : Bool) (p q : Option Param) (at : ℕ) → SameMaybe SameParam p q → waived_fault parallel p at ≡ waived_fault parallel q at
@@ -134,5 +138,5 @@ same_first_fault raw ks ls same =
     let text = text_at raw raw.name in
     let among = same_any SameKernel (λ k. bytes_eq (string_bytes k.name) text) (λ k. bytes_eq (string_bytes k.name) text) (λ k l is. ap (λ n. bytes_eq n text) is.name) ks ls same in
     let size = same_length SameKernel ks ls same in
-    λ i. or_else (fault_at raw.name (lowest (fault_if DuplicateName (among i)) (lowest (fault_if Limit (nat_le 256 (size i))) (length_fault text))))
-    (or_else (params_fault raw 0 raw.params.items) (nodes_fault raw 0 raw.nodes.items))
+    λ i. option_or (fault_at raw.name (lowest (some_if (among i) DuplicateName) (lowest (some_if (nat_le MOST_KERNELS (size i)) Limit) (length_fault text))))
+    (option_or (params_fault raw 0 raw.params.items) (nodes_fault raw 0 raw.nodes.items))

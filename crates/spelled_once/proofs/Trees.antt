@@ -70,11 +70,11 @@ module _ (r t : RawKernel) (same : parts_of r ≡ parts_of t) where
   expr_once (tree.opposite m d a) (tree.opposite m' d' b) = along _ _ _ _ a b (SameExpr.not (expr_once d d'))
   expr_once (tree.both j d c a) (tree.both j' d' c' b) = along _ _ _ _ a b (SameExpr.both (expr_once d d') (expr_once c c'))
   expr_once (tree.either j d c a) (tree.either j' d' c' b) = along _ _ _ _ a b (SameExpr.either (expr_once d d') (expr_once c c'))
-  expr_once (tree.between {at = at} {y = y} {z = z} {p = p} {q = q} op j d c a) (tree.between {y = y'} {z = z'} {p = p'} {q = q'} op' j' d' c' b) =
+  expr_once (tree.between {at = at} {y = y} {z = z} {p = p} op j d c a) (tree.between {y = y'} {z = z'} {p = p'} op' j' d' c' b) =
       let e = joint at (By op) (By op') j j' in
       let ops : op ≡ op' = cc in
-      along _ _ (Binary' op p y q z) (Binary' op' p' y' q' z') a b
-      (subst (λ o. SameExpr (Binary' op p y q z) (Binary' o p' y' q' z')) ops (SameExpr.binary (expr_once d d') (expr_once c c')))
+      along _ _ (Binary' op p y z) (Binary' op' p' y' z') a b
+      (subst (λ o. SameExpr (Binary' op p y z) (Binary' o p' y' z')) ops (SameExpr.binary (expr_once d d') (expr_once c c')))
   expr_once (tree.both {at = at} j d c a) (tree.either j' d' c' b) = let e = joint at Both Either j j' in absurd cc
   expr_once (tree.both {at = at} j d c a) (tree.between op j' d' c' b) = let e = joint at Both (By op) j j' in absurd cc
   expr_once (tree.either {at = at} j d c a) (tree.both j' d' c' b) = let e = joint at Either Both j j' in absurd cc

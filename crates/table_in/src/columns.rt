@@ -68,7 +68,8 @@ impl Table {
     // One more value in a column.
     fn push_value(&mut self, i: usize, value: i64) -> Result<(), AllocError>
         requires { i < length self.old }
-        ensures { OnOk result (self.new ≡ slice_set self.old i (with_value (slice_index_or self.old i (empty_column [])) value)) }
+        ensures { OnOk result (self.new ≡ slice_set self.old i
+            (with_value (slice_index_or self.old i (empty_column [])) value)) }
     {
         let column = &mut self.columns[i];
         column.values.push(value)?;
@@ -76,7 +77,7 @@ impl Table {
     }
 
     /// A table with these names, and no value yet.
-    pub fn named(alloc: Global, fields: &ByteRecord) -> Result<Table, AllocError>
+    pub(crate) fn named(alloc: Global, fields: &ByteRecord) -> Result<Table, AllocError>
         ensures { IfOk result (λ t. t ≡ columns_from (fields_of fields.now) []) }
     {
         let mut table = Table::none(alloc);
@@ -90,10 +91,11 @@ impl Table {
     }
 
     /// Adds what the record of this number holds, or says what is wrong with it.
-    pub fn push_row(&mut self, fields: &ByteRecord, row: u32) -> Result<(), TableFault>
+    pub(crate) fn push_row(&mut self, fields: &ByteRecord, row: u32) -> Result<(), TableFault>
         ensures sound { OnOk result (row_fault row (length self.old) (fields_of fields.now) ≡ None) }
         ensures values { OnOk result (self.new ≡ with_row self.old (fields_of fields.now)) }
-        ensures err { IfErr result (λ f. (f ≡ TableFault.NoMemory) ⊎ (row_fault row (length self.old) (fields_of fields.now) ≡ Some f)) }
+        ensures err { IfErr result (λ f. (f ≡ TableFault.NoMemory)
+            ⊎ (row_fault row (length self.old) (fields_of fields.now) ≡ Some f)) }
     {
         if fields.len() != self.columns.len() {
             return Err(TableFault::Unequal { row });

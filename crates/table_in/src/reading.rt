@@ -1,5 +1,6 @@
 // A whole text, record by record.
 ghost use Rattle.std.specs.Prelude.{◌≡◌, ◌≤◌, ◌⊎◌, IfOk, IfErr, Some, None, length};
+ghost use Rattle.job_base.specs.declared.limits.TheConstants.{MOST_TABLE_BYTES};
 ghost use Rattle.table_in.specs.Rows.{rows_in, table_fault};
 ghost use Rattle.table_in.specs.Columns.{HoldsRows};
 
@@ -7,12 +8,12 @@ use crate::{Table, TableFault};
 use csv::{ByteRecord, ReaderBuilder};
 use std::alloc::Global;
 
-/// Reads a table of at most 67,108,864 bytes.
+/// Reads a table of at most `MOST_TABLE_BYTES` bytes.
 ///
 /// Where the text is no table, the fault is that of the first faulty record. Of a reader's other answers none can come:
-/// records may have any number of fields here, and bytes needn't be UTF-8; so an answer of the reader is want of memory.
+/// records may have any number of fields here, and bytes needn't be UTF-8; so an answer of the reader is out of memory.
 pub fn read_table(alloc: Global, source: &[u8]) -> Result<Table, TableFault>
-    requires { length source.now ≤ 67108864 }
+    requires { length source.now ≤ MOST_TABLE_BYTES }
     ensures ok { IfOk result (HoldsRows (rows_in source.now)) }
     ensures err { IfErr result (λ f. (f ≡ TableFault.NoMemory) ⊎ (table_fault (rows_in source.now) ≡ Some f)) }
 {

@@ -2,24 +2,19 @@
 
 ghost use Rattle.std.specs.Prelude.{◌≡◌, true, false};
 ghost use Rattle.std.specs.Option.{option_map};
+ghost use Rattle.frame_ast.specs.Lists.{first_some};
 ghost use Rattle.frame_script.specs.Raw.{Dispose, Set, Add, Put, Remove, Clear, SetCapacity, Complete, DisposeAuto, Print};
-ghost use Rattle.frame_script.specs.Faults.{first, as_faults, made_as, use_fault, set_kinds, add_kinds};
+ghost use Rattle.frame_script.specs.Faults.{as_faults, made_as, use_fault, set_kinds, add_kinds};
 ghost use Rattle.frame_script.specs.Spelling.{place_of, names_with};
 ghost use Rattle.frame_script.specs.Checks.{Checked, Gives, IsPlace, bare};
 
-use crate::checks::{CONTAINERS, HAS_ELEMENTS, handles, limited, made, maybe_signed, signed, used};
+use crate::checks::{handles, limited, made, maybe_signed, signed, used};
 use crate::raw::RawNumber;
-use crate::{NameKind, Names, OrderFault, Source};
+use crate::{Names, OrderFault, Source};
+use frame_ast::name_kind::{CLEARABLE, CONTAINERS, DISPOSABLE, HAS_ELEMENTS, NameKind, REMOVABLE};
 use frame_ast::script::Order;
+use job_base::limits::MOST_ELEMENTS;
 use std::alloc::Global;
-
-const DISPOSABLE: [NameKind; 5] = [
-    NameKind::Array,
-    NameKind::List,
-    NameKind::Reference,
-    NameKind::Map,
-    NameKind::Stream,
-];
 
 pub fn put(
     source: Source<'_>,
@@ -44,7 +39,7 @@ pub fn remove(
 ) -> Result<Order, OrderFault>
     ensures { Checked source.entry (bare names.now) 0 0 (Remove name at) result }
 {
-    let name = used(source, names, &[NameKind::List, NameKind::Map], name)?;
+    let name = used(source, names, &REMOVABLE, name)?;
     let at = signed(source, at)?;
     Ok(Order::Remove { name, at })
 }
@@ -52,8 +47,7 @@ pub fn remove(
 pub fn clear(source: Source<'_>, names: &Names<'_>, name: u32) -> Result<Order, OrderFault>
     ensures { Checked source.entry (bare names.now) 0 0 (Clear name) result }
 {
-    let kinds = [NameKind::List, NameKind::Map, NameKind::Stream];
-    let name = used(source, names, &kinds, name)?;
+    let name = used(source, names, &CLEARABLE, name)?;
     Ok(Order::Clear { name })
 }
 
@@ -66,7 +60,7 @@ pub fn set_capacity(
     ensures { Checked source.entry (bare names.now) 0 0 (SetCapacity name cap) result }
 {
     let name = used(source, names, &[NameKind::List], name)?;
-    let cap = limited(source, 0, 1_048_576, cap)?;
+    let cap = limited(source, 0, MOST_ELEMENTS, cap)?;
     Ok(Order::SetCapacity { name, cap })
 }
 
@@ -103,7 +97,9 @@ fn made_as(
     names: &Names<'_>,
     handle: Option<u32>,
 ) -> Result<Option<u32>, OrderFault>
-    ensures { Gives (first (as_faults source.entry names.now handle)) (λ place. place ≡ option_map (place_of source.entry (names_with source.entry names.now (made_as handle))) handle) result }
+    ensures { Gives (first_some (as_faults source.entry names.now handle))
+        (λ place. place ≡ option_map (place_of source.entry
+        (names_with source.entry names.now (made_as handle))) handle) result }
 {
     match handle {
         None => Ok(None),
@@ -134,7 +130,8 @@ fn settable(
     index: Option<RawNumber>,
     name: u32,
 ) -> Result<u32, OrderFault>
-    ensures { Gives (use_fault source.entry names.now (set_kinds index) name) (IsPlace source.entry names.now name) result }
+    ensures { Gives (use_fault source.entry names.now (set_kinds index) name)
+        (IsPlace source.entry names.now name) result }
 {
     match index {
         None => used(source, names, &[NameKind::Reference], name),
@@ -149,7 +146,8 @@ fn addable(
     second: Option<RawNumber>,
     name: u32,
 ) -> Result<u32, OrderFault>
-    ensures { Gives (use_fault source.entry names.now (add_kinds second) name) (IsPlace source.entry names.now name) result }
+    ensures { Gives (use_fault source.entry names.now (add_kinds second) name)
+        (IsPlace source.entry names.now name) result }
 {
     match second {
         None => used(source, names, &[NameKind::List], name),

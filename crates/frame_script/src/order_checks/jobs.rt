@@ -2,23 +2,27 @@
 
 ghost use Rattle.std.specs.Prelude.{◌≡◌, ℕ, ⊤, ◌&&◌, Some, None, true, [], ◌∷◌, map, length, position, string_bytes, ◌≤◌};
 ghost use Rattle.std.specs.Str.{bytes_eq};
+ghost use Rattle.job_base.specs.declared.limits.TheConstants.{MOST_PARAMS};
 ghost use Rattle.frame_ast.specs.declared.kernel.FaultKind.TheVariants.{KindMismatch, Limit};
-ghost use Rattle.frame_ast.specs.Accepted.{is_int};
 ghost use Rattle.frame_ast.specs.Schedules.{is_array, writes_to};
+ghost use Rattle.frame_ast.specs.Lists.{first_some};
+ghost use Rattle.frame_ast.specs.Accepted.{guard_fits, is_int, kinds_for};
 ghost use Rattle.frame_script.specs.declared.raw.RawSizes.TheVariants as Sizes;
-ghost use Rattle.frame_script.specs.Faults.{is_deferred, kinds_for, use_fault, kernel_fault, arg_fault, args_faults, sizes_faults, sizes_fit, room_fits, has_room, takes, first, unless, waive_fault, waived_fault, limit_fault, signed_fault, scheduled_faults};
+ghost use Rattle.frame_script.specs.Faults.{is_deferred, use_fault, kernel_fault, arg_fault, args_faults, sizes_faults, sizes_fit, room_fits, takes, unless, waive_fault, waived_fault, limit_fault, signed_fault, scheduled_faults};
 ghost use Rattle.frame_script.specs.Spelling.{arg_of, names_with, cut_of, defer_of, param_place};
 ghost use Rattle.frame_script.specs.Sources.{text_at, number_at, signed_at};
 ghost use Rattle.frame_script.specs.Checks.{Checked, among, Gives, IsPlace, AreArgs, IsArg, IsDefer};
 ghost use Rattle.frame_script.specs.Scheduled.{IsBehind};
 ghost use Rattle.frame_script.specs.Raw as Form;
 
-use crate::checks::{HAS_ELEMENTS, MOST_ELEMENTS, handles, limited, made, refused, signed, used};
+use crate::checks::{handles, limited, made, refused, signed, used};
 use crate::raw::{RawArg, RawNumber, RawSizes};
-use crate::{Kernels, NameKind, Names, OrderFault, Source};
+use crate::{Kernels, Names, OrderFault, Source};
 use frame_ast::kernel::{FaultKind, Kernel, ParamKind};
+use frame_ast::name_kind::{ARRAY_ARGUMENTS, HAS_ELEMENTS, NameKind};
 use frame_ast::script::{Arg, Order};
 use job_base::Access;
+use job_base::limits::MOST_INDEXES;
 use std::alloc::Global;
 
 // ARGUMENTS
@@ -42,15 +46,13 @@ fn used_for(
     kind: ParamKind,
     at: u32,
 ) -> Result<u32, OrderFault>
-    ensures { Gives (use_fault source.entry names.now (kinds_for kind deferred) at) (IsPlace source.entry names.now at) result }
+    ensures { Gives (use_fault source.entry names.now (kinds_for kind deferred) at)
+        (IsPlace source.entry names.now at) result }
 {
     match kind {
         ParamKind::Int => used(source, names, &[], at),
         ParamKind::Array if deferred => used(source, names, &HAS_ELEMENTS, at),
-        ParamKind::Array => {
-            let kinds = [NameKind::Array, NameKind::Slice, NameKind::View];
-            used(source, names, &kinds, at)
-        }
+        ParamKind::Array => used(source, names, &ARRAY_ARGUMENTS, at),
         ParamKind::List => used(source, names, &[NameKind::List], at),
         ParamKind::Ref => used(source, names, &[NameKind::Reference], at),
         ParamKind::Map => used(source, names, &[NameKind::Map], at),
@@ -61,14 +63,7 @@ fn used_for(
 fn is_int(kind: ParamKind) -> bool
     ensures { result ≡ is_int kind }
 {
-    match kind {
-        ParamKind::Int => true,
-        ParamKind::Array => false,
-        ParamKind::List => false,
-        ParamKind::Ref => false,
-        ParamKind::Map => false,
-        ParamKind::Stream => false,
-    }
+    matches!(kind, ParamKind::Int)
 }
 
 // A number is given for an `int` alone.
@@ -83,7 +78,8 @@ fn taken(kind: ParamKind, at: u32) -> Result<(), OrderFault>
 }
 
 fn number(source: Source<'_>, kind: ParamKind, number: RawNumber) -> Result<i64, OrderFault>
-    ensures { Gives (first (unless (is_int kind) KindMismatch number.at ∷ signed_fault source.entry number ∷ [])) (λ z. z ≡ signed_at source.entry number) result }
+    ensures { Gives (first_some (unless (is_int kind) KindMismatch number.at ∷ signed_fault source.entry number ∷ []))
+        (λ z. z ≡ signed_at source.entry number) result }
 {
     taken(kind, number.at)?;
     let value = signed(source, number)?;
@@ -117,10 +113,12 @@ fn argument(
 // SIZES
 
 fn length_and_batch(source: Source<'_>, len: u32, batch: u32) -> Result<(u32, u32), OrderFault>
-    ensures { Gives (first (limit_fault source.entry 0 1048576 len ∷ limit_fault source.entry 1 1048576 batch ∷ [])) (λ r. r ≡ (number_at source.entry len, number_at source.entry batch)) result }
+    ensures { Gives (first_some (limit_fault source.entry 0 MOST_INDEXES len
+        ∷ limit_fault source.entry 1 MOST_INDEXES batch ∷ []))
+        (λ r. r ≡ (number_at source.entry len, number_at source.entry batch)) result }
 {
-    let len = limited(source, 0, MOST_ELEMENTS, len)?;
-    let batch = limited(source, 1, MOST_ELEMENTS, batch)?;
+    let len = limited(source, 0, MOST_INDEXES, len)?;
+    let batch = limited(source, 1, MOST_INDEXES, batch)?;
     Ok((len, batch))
 }
 
@@ -174,7 +172,7 @@ fn fitting(
     args: &[RawArg],
     sizes: RawSizes,
 ) -> Result<(), OrderFault>
-    requires { room ≡ has_room kernel.now }
+    requires { room ≡ guard_fits kernel.now }
     ensures { Gives (kernel_fault kernel.now at args.now sizes) (λ _. takes kernel.now args.now sizes ≡ true) result }
 {
     takes(kernel, at, args, sizes)?;
@@ -229,8 +227,9 @@ fn waivable(parallel: bool, kind: ParamKind, access: Access, at: u32) -> Result<
 
 // The place of a parameter that may be waived: an array of a parallel kernel that is written.
 fn waived(source: Source<'_>, kernel: &Kernel, at: u32) -> Result<u32, OrderFault>
-    requires { length kernel.now.params.items ≤ 16 }
-    ensures { Gives (waive_fault source.entry kernel.now at) (λ n. n ≡ param_place kernel.now.params.items (text_at source.entry at)) result }
+    requires { length kernel.now.params.items ≤ MOST_PARAMS }
+    ensures { Gives (waive_fault source.entry kernel.now at)
+        (λ n. n ≡ param_place kernel.now.params.items (text_at source.entry at)) result }
 {
     let Some(place) = param_at(kernel, source.text(at)) else {
         return refused(FaultKind::UnknownName, at);
@@ -246,8 +245,10 @@ fn all_waived(
     kernel: &Kernel,
     names: &[u32],
 ) -> Result<Vec<u32>, OrderFault>
-    requires { length kernel.now.params.items ≤ 16 }
-    ensures { Gives (first (map (waive_fault source.entry kernel.now) names.now)) (λ places. places.items ≡ map (λ at. param_place kernel.now.params.items (text_at source.entry at)) names.now) result }
+    requires { length kernel.now.params.items ≤ MOST_PARAMS }
+    ensures { Gives (first_some (map (waive_fault source.entry kernel.now) names.now))
+        (λ places. places.items ≡ map (λ at. param_place kernel.now.params.items
+        (text_at source.entry at)) names.now) result }
 {
     let mut places = Vec::new(alloc);
     for name in names {
@@ -269,7 +270,8 @@ fn arguments(
     args: &[RawArg],
 ) -> Result<Vec<Arg>, OrderFault>
     requires { length args.now ≡ length kernel.now.params.items }
-    ensures { Gives (first (args_faults source.entry names.now sizes kernel.now.params.items args.now)) (λ given. AreArgs source.entry names.now args.now given.items) result }
+    ensures { Gives (first_some (args_faults source.entry names.now sizes kernel.now.params.items args.now))
+        (λ given. AreArgs source.entry names.now args.now given.items) result }
 {
     let mut given = Vec::new(alloc);
     for (place, arg) in args.iter().enumerate() {
@@ -286,10 +288,11 @@ fn list_and_batch(
     list: u32,
     batch: u32,
 ) -> Result<(u32, u32), OrderFault>
-    ensures { Gives (first (sizes_faults source.entry names.now (Sizes.Defer list batch))) (λ r. IsDefer source.entry names.now (Sizes.Defer list batch) (Some r)) result }
+    ensures { Gives (first_some (sizes_faults source.entry names.now (Sizes.Defer list batch)))
+        (λ r. IsDefer source.entry names.now (Sizes.Defer list batch) (Some r)) result }
 {
     let list = used(source, names, &[NameKind::List], list)?;
-    let batch = limited(source, 1, MOST_ELEMENTS, batch)?;
+    let batch = limited(source, 1, MOST_INDEXES, batch)?;
     Ok((list, batch))
 }
 
@@ -299,7 +302,8 @@ fn sizes_of(
     names: &Names<'_>,
     sizes: RawSizes,
 ) -> Result<(Option<(u32, u32)>, Option<(u32, u32)>), OrderFault>
-    ensures { Gives (first (sizes_faults source.entry names.now sizes)) (λ r. (r.0 ≡ cut_of source.entry sizes) × IsDefer source.entry names.now sizes r.1) result }
+    ensures { Gives (first_some (sizes_faults source.entry names.now sizes))
+        (λ r. (r.0 ≡ cut_of source.entry sizes) × IsDefer source.entry names.now sizes r.1) result }
 {
     match sizes {
         RawSizes::None => Ok((None, None)),
@@ -347,9 +351,12 @@ fn read_behind(
     room: bool,
     text: Schedule<'_>,
 ) -> Result<Behind, OrderFault>
-    requires few { length kernel.now.params.items ≤ 16 }
-    requires room { room ≡ has_room kernel.now }
-    ensures { Gives (first (scheduled_faults source.entry names.now (Some kernel.now) text.entry.kernel text.entry.args.now text.entry.sizes text.entry.waive.now text.entry.after.now)) (IsBehind source.entry names.now kernel.now text.entry.args.now text.entry.sizes text.entry.waive.now text.entry.after.now) result }
+    requires few { length kernel.now.params.items ≤ MOST_PARAMS }
+    requires room { room ≡ guard_fits kernel.now }
+    ensures { Gives (first_some (scheduled_faults source.entry names.now (Some kernel.now) text.entry.kernel
+        text.entry.args.now text.entry.sizes text.entry.waive.now text.entry.after.now))
+        (IsBehind source.entry names.now kernel.now text.entry.args.now text.entry.sizes text.entry.waive.now
+        text.entry.after.now) result }
 {
     fitting(kernel, room, text.kernel, text.args, text.sizes)?;
     let args = arguments(alloc, source, names, kernel, text.sizes, text.args)?;
@@ -372,7 +379,9 @@ pub fn check_schedule(
     kernels: &Kernels<'_>,
     text: Schedule<'_>,
 ) -> Result<Order, OrderFault>
-    ensures { Checked source.entry (among names.now kernels.now) 0 0 (Form.Schedule text.entry.auto text.entry.handle text.entry.kernel text.entry.args.now text.entry.sizes text.entry.waive.now text.entry.after.now) result }
+    ensures { Checked source.entry (among names.now kernels.now) 0 0
+        (Form.Schedule text.entry.auto text.entry.handle text.entry.kernel text.entry.args.now text.entry.sizes
+        text.entry.waive.now text.entry.after.now) result }
 {
     let handle = made(source, names, NameKind::Handle, text.handle)?;
     let Some(place) = kernels.find(source.text(text.kernel)) else {

@@ -1,21 +1,23 @@
 //! The statements that make containers.
 
 ghost use Rattle.std.specs.Prelude.{◌≡◌, ⊤, Some, None, [], map};
+ghost use Rattle.frame_ast.specs.Lists.{first_some};
 ghost use Rattle.frame_script.specs.Raw.{NewArray, NewColumn, NewList, NewReference, NewMap, NewStream, Slice, View, Copy, Combine};
-ghost use Rattle.frame_script.specs.declared.kind.NameKind.TheVariants.{Array};
-ghost use Rattle.frame_script.specs.Faults.{first, order_faults, count_fault};
+ghost use Rattle.frame_ast.specs.declared.name_kind.NameKind.TheVariants.{Array};
+ghost use Rattle.frame_script.specs.Faults.{order_faults, count_fault};
 ghost use Rattle.frame_script.specs.Sources.{signed_at};
 ghost use Rattle.frame_script.specs.Spelling.{Says, names_with};
 ghost use Rattle.frame_script.specs.Checks.{Checked, Gives, bare};
 
 use crate::checks::{
-    CONTAINERS, MOST_ELEMENTS, all_signed, handles, is_among, limited, made, maybe_signed, refused,
-    short, short_column, used,
+    all_signed, handles, is_among, limited, made, maybe_signed, refused, short, short_column, used,
 };
 use crate::raw::RawNumber;
-use crate::{NameKind, Names, OrderFault, Source};
+use crate::{Names, OrderFault, Source};
 use frame_ast::kernel::FaultKind;
+use frame_ast::name_kind::{CONTAINERS, NameKind, SLICEABLE};
 use frame_ast::script::{Life, Order};
+use job_base::limits::{MOST_ELEMENTS, MOST_PAIRS, MOST_STREAM_INDEXES, MOST_STREAM_ITEMS};
 use std::alloc::Global;
 
 // An array that is given values has as many as its length says.
@@ -66,7 +68,11 @@ pub fn valued_array(
     literals: u32,
     text: Valued<'_>,
 ) -> Result<(Order, Vec<i64>), OrderFault>
-    ensures { Gives (first (order_faults source.entry (bare names.now) 0 (NewArray text.entry.name text.entry.len text.entry.life (Some text.entry.values.now)))) (λ r. Says source.entry (names_with source.entry names.now (Some (text.entry.name, Array))) [] literals 0 (NewArray text.entry.name text.entry.len text.entry.life (Some text.entry.values.now)) r.0 × (r.1.items ≡ map (signed_at source.entry) text.entry.values.now)) result }
+    ensures { Gives (first_some (order_faults source.entry (bare names.now) 0
+        (NewArray text.entry.name text.entry.len text.entry.life (Some text.entry.values.now))))
+        (λ r. Says source.entry (names_with source.entry names.now (Some (text.entry.name, Array))) [] literals 0
+        (NewArray text.entry.name text.entry.len text.entry.life (Some text.entry.values.now)) r.0
+        × (r.1.items ≡ map (signed_at source.entry) text.entry.values.now)) result }
 {
     let name = made(source, names, NameKind::Array, text.name)?;
     counted(source, text.len, text.values)?;
@@ -119,7 +125,7 @@ pub fn map(
     ensures { Checked source.entry (bare names.now) 0 0 (NewMap name cap life) result }
 {
     let name = made(source, names, NameKind::Map, name)?;
-    let cap = limited(source, 0, 4096, cap)?;
+    let cap = limited(source, 0, MOST_PAIRS, cap)?;
     Ok(Order::Map { name, cap, life })
 }
 
@@ -134,8 +140,8 @@ pub fn stream(
     ensures { Checked source.entry (bare names.now) 0 0 (NewStream name count room life) result }
 {
     let name = made(source, names, NameKind::Stream, name)?;
-    let count = limited(source, 0, 65_536, count)?;
-    let room = limited(source, 0, 1024, room)?;
+    let count = limited(source, 0, MOST_STREAM_INDEXES, count)?;
+    let room = limited(source, 0, MOST_STREAM_ITEMS, room)?;
     Ok(Order::Stream {
         name,
         count,
@@ -155,7 +161,7 @@ pub fn slice(
     ensures { Checked source.entry (bare names.now) 0 0 (Slice name of start len) result }
 {
     let name = made(source, names, NameKind::Slice, name)?;
-    let of = used(source, names, &[NameKind::Array, NameKind::Slice], of)?;
+    let of = used(source, names, &SLICEABLE, of)?;
     let start = limited(source, 0, MOST_ELEMENTS, start)?;
     let len = limited(source, 0, MOST_ELEMENTS, len)?;
     Ok(Order::Slice {

@@ -1,8 +1,5 @@
-use Rattle.std.proofs.Common.{◌≡◌, ◌*◌, length}
+use Rattle.std.proofs.Common.{◌≡◌, length}
 use Rattle.kernel_bench.proofs.run_all.Given as goal
 
 abbrev pub invariant-loop : goal.invariant-loop
-invariant-loop l = length l.mem ≡ 3 * l.len
-
-abbrev pub invariant-loop-index : goal.invariant-loop-index
-invariant-loop-index l = length l.mem ≡ 3 * l.len
+invariant-loop l = length l.mem ≡ l.cells

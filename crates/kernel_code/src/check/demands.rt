@@ -1,7 +1,8 @@
 // What forms need of their names.
-ghost use Rattle.std.specs.Prelude.{◌≡◌};
-ghost use Rattle.frame_ast.specs.Checked.{kind_meets};
-ghost use Rattle.kernel_code.specs.StaticFaults.{demand_of, demand_fault, variable_fault, loop_variable_fault, answer_kind_fault, number_of, lowest, fault_if};
+ghost use Rattle.std.specs.Prelude.{◌≡◌, is_some, IfSome};
+ghost use Rattle.frame_ast.specs.declared.kernel.ParamKind.{ParamKind};
+ghost use Rattle.kernel_code.specs.StaticFaults.{demand_of, demand_fault, variable_fault, loop_variable_fault, answer_kind_fault, number_of, lowest};
+ghost use Rattle.frame_ast.specs.Lists.{some_if};
 
 use crate::raw::{RawForm, RawParam};
 use frame_ast::kernel::{FaultKind, ParamKind};
@@ -9,7 +10,7 @@ use job_base::Access;
 
 // Whether a parameter of a kind may be the name of a form.
 fn fits(form: RawForm, kind: ParamKind) -> bool
-    ensures { result ≡ kind_meets (demand_of form kind) kind }
+    ensures { result ≡ is_some (demand_of form kind) }
 {
     match form {
         RawForm::Name | RawForm::SetName => matches!(kind, ParamKind::Int | ParamKind::Ref),
@@ -31,7 +32,7 @@ fn fits(form: RawForm, kind: ParamKind) -> bool
 
 // Whether a form reads a parameter of a kind that is its name.
 fn reads(form: RawForm, kind: ParamKind) -> bool
-    ensures { result ≡ (demand_of form kind).reads }
+    ensures { IfSome (demand_of form kind) (λ t. result ≡ t.reads) }
 {
     match form {
         RawForm::Name
@@ -47,8 +48,8 @@ fn reads(form: RawForm, kind: ParamKind) -> bool
 }
 
 // Whether a form writes the parameter that is its name.
-fn writes(form: RawForm, kind: ParamKind) -> bool
-    ensures { result ≡ (demand_of form kind).writes }
+fn writes(form: RawForm) -> bool
+    ensures { (kind : ParamKind) → IfSome (demand_of form kind) (λ t. result ≡ t.writes) }
 {
     match form {
         RawForm::SetName
@@ -61,20 +62,19 @@ fn writes(form: RawForm, kind: ParamKind) -> bool
         | RawForm::Clear
         | RawForm::Write
         | RawForm::Begin => true,
-        RawForm::Length => false,
         _ => false,
     }
 }
 
 /// Why a parameter can't be the name of a form.
 pub fn demand_fault(form: RawForm, param: RawParam) -> Option<FaultKind>
-    ensures { result ≡ demand_fault (demand_of form param.kind) param }
+    ensures { result ≡ demand_fault (demand_of form) param }
 {
     if !fits(form, param.kind) {
         return Some(FaultKind::KindMismatch);
     }
     match param.access {
-        Access::Read => fault_if(FaultKind::WriteOfReadOnly, writes(form, param.kind)),
+        Access::Read => fault_if(FaultKind::WriteOfReadOnly, writes(form)),
         Access::Write => fault_if(FaultKind::ReadOfWriteOnly, reads(form, param.kind)),
         Access::Both => None,
     }
@@ -113,7 +113,7 @@ pub fn answer_kind_fault(kind: ParamKind) -> Option<FaultKind>
 
 /// A fault where a test holds.
 pub fn fault_if(kind: FaultKind, holds: bool) -> Option<FaultKind>
-    ensures { result ≡ fault_if kind holds }
+    ensures { result ≡ some_if holds kind }
 {
     if holds { Some(kind) } else { None }
 }

@@ -8,10 +8,8 @@ ghost use Rattle.kernel_code.specs.Edges.{opened, closed};
 
 use crate::raw::RawNode;
 use job_base::NoMemory;
+use job_base::limits::MOST_NODES;
 use std::alloc::Global;
-
-/// The greatest number of nodes of a kernel.
-pub const MAX_NODES: usize = 4096;
 
 // How many nodes begin with each node, and how many end right before it.
 #[derive(Drop)]
@@ -24,7 +22,8 @@ struct Edges {
 fn count_one(counts: &mut Vec<usize>, place: usize)
     requires { (k : ℕ) → k < vec_len counts.old → slice_index counts.old.items k < 2 ^ 64 - 1 }
     ensures len { vec_len counts.new ≡ vec_len counts.old }
-    ensures counts { (k : ℕ) → k < vec_len counts.old → slice_index counts.new.items k ≡ one_if (place == k) + slice_index counts.old.items k }
+    ensures counts { (k : ℕ) → k < vec_len counts.old →
+        slice_index counts.new.items k ≡ one_if (place == k) + slice_index counts.old.items k }
 {
     if place < counts.len() {
         counts[place] += 1;
@@ -48,10 +47,10 @@ fn count_edges(alloc: Global, nodes: &[RawNode], count: usize) -> Result<Edges, 
 
 /// The depths of the first nodes, as many as a kernel may have.
 pub fn depths_of(alloc: Global, nodes: &[RawNode]) -> Result<Vec<usize>, NoMemory>
-    ensures len { IfOk result (λ v. vec_len v ≡ min 4096 (length nodes.now)) }
+    ensures len { IfOk result (λ v. vec_len v ≡ min MOST_NODES (length nodes.now)) }
     ensures depths { IfOk result (λ v. (i : ℕ) → i < vec_len v → slice_index v.items i ≡ depth_of nodes.now i) }
 {
-    let count = nodes.len().min(MAX_NODES);
+    let count = nodes.len().min(MOST_NODES as usize);
     let edges = count_edges(alloc, nodes, count)?;
     let mut depths = Vec::new(alloc);
     let mut depth = 0;

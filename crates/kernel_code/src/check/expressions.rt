@@ -10,11 +10,11 @@ ghost use Rattle.frame_ast.specs.declared.kernel.Expr.TheVariants.{Negative', No
 ghost use Rattle.kernel_code.specs.Raw.{RawExpr};
 ghost use Rattle.kernel_code.specs.StaticFaults.{value_at};
 ghost use Rattle.kernel_code.specs.Known.{number_named};
-ghost use Rattle.kernel_code.specs.Trees.{kind_at, is_minus, joint_of};
+ghost use Rattle.kernel_code.specs.Trees.{kind_at, is_minus, operator_of, joint_of};
 ghost use Rattle.kernel_code.specs.Places.{value_named, leaf_of, IsOneOf, IsJoint, IsHere, IsAtomHere, Begins, IsBuilt, IsResolved};
 
 use crate::check::names::{Meaning, Named};
-use crate::check::nodes::MAX_NUMBER;
+use crate::check::nodes::MOST_NUMBER;
 use crate::check::texts::value_at;
 use crate::raw::{RawForm, RawKernel, RawNode};
 use frame_ast::kernel::{Expr, Operator};
@@ -66,7 +66,7 @@ pub fn meaning_at(meanings: &[Meaning], number: usize) -> Meaning
 fn number_at(raw: &RawKernel<'_>, at: u32) -> i64
     ensures { result ≡ pos (min 9223372036854775807 (value_at raw.now at)) }
 {
-    value_at(raw, at).min(MAX_NUMBER) as i64
+    value_at(raw, at).min(MOST_NUMBER) as i64
 }
 
 fn kind_at(raw: &RawKernel<'_>, at: u32) -> TokenKind
@@ -138,33 +138,54 @@ fn is_minus(kind: TokenKind) -> bool
     matches!(kind, TokenKind::Minus)
 }
 
+fn operator_of(kind: TokenKind) -> Operator
+    ensures { result ≡ operator_of kind }
+{
+    match kind {
+        TokenKind::Equal => Operator::Equal,
+        TokenKind::NotEqual => Operator::NotEqual,
+        TokenKind::Less => Operator::Less,
+        TokenKind::LessEqual => Operator::LessEqual,
+        TokenKind::Greater => Operator::Greater,
+        TokenKind::GreaterEqual => Operator::GreaterEqual,
+        TokenKind::Plus => Operator::Plus,
+        TokenKind::Minus => Operator::Minus,
+        TokenKind::Star => Operator::Times,
+        TokenKind::Slash => Operator::Divide,
+        _ => Operator::Remainder,
+    }
+}
+
 // The expression of an operator between two sides.
 fn join(alloc: Global, kind: TokenKind, left: Expr, right: Expr) -> Result<Expr, NoMemory>
     ensures { IfOk result (λ x. IsJoint (joint_of kind) left right x) }
 {
-    let left = Box::new(alloc, left)?;
-    let right = Box::new(alloc, right)?;
     match kind {
-        TokenKind::AndAnd => Ok(Expr::And(left, right)),
-        TokenKind::OrOr => Ok(Expr::Or(left, right)),
-        TokenKind::Equal => Ok(Expr::Binary(Operator::Equal, left, right)),
-        TokenKind::NotEqual => Ok(Expr::Binary(Operator::NotEqual, left, right)),
-        TokenKind::Less => Ok(Expr::Binary(Operator::Less, left, right)),
-        TokenKind::LessEqual => Ok(Expr::Binary(Operator::LessEqual, left, right)),
-        TokenKind::Greater => Ok(Expr::Binary(Operator::Greater, left, right)),
-        TokenKind::GreaterEqual => Ok(Expr::Binary(Operator::GreaterEqual, left, right)),
-        TokenKind::Plus => Ok(Expr::Binary(Operator::Plus, left, right)),
-        TokenKind::Minus => Ok(Expr::Binary(Operator::Minus, left, right)),
-        TokenKind::Star => Ok(Expr::Binary(Operator::Times, left, right)),
-        TokenKind::Slash => Ok(Expr::Binary(Operator::Divide, left, right)),
-        _ => Ok(Expr::Binary(Operator::Remainder, left, right)),
+        TokenKind::AndAnd => {
+            let left = Box::new(alloc, left)?;
+            let right = Box::new(alloc, right)?;
+            Ok(Expr::And(left, right))
+        }
+        TokenKind::OrOr => {
+            let left = Box::new(alloc, left)?;
+            let right = Box::new(alloc, right)?;
+            Ok(Expr::Or(left, right))
+        }
+        _ => {
+            let sides = Box::new(alloc, (left, right))?;
+            Ok(Expr::Binary(operator_of(kind), sides))
+        }
     }
 }
 
 // The operator that takes the nodes from `start` to `next` as its left side.
 fn infix_at(raw: &RawKernel<'_>, start: usize, next: usize) -> Option<RawNode>
     requires { start ≤ next }
-    ensures cases { MatchOption result ((node : RawNode) → slice_get raw.now.nodes.items next ≡ Some node → node.form ≡ RawForm.Binary → node.before ≡ next - start → ⊥) (λ node. (slice_get raw.now.nodes.items next ≡ Some node) × (node.form ≡ RawForm.Binary) × (node.before ≡ next - start)) }
+    ensures cases { MatchOption result
+        ((node : RawNode) → slice_get raw.now.nodes.items next ≡ Some node → node.form ≡ RawForm.Binary →
+        node.before ≡ next - start → ⊥)
+        (λ node. (slice_get raw.now.nodes.items next ≡ Some node) × (node.form ≡ RawForm.Binary)
+        × (node.before ≡ next - start)) }
     ensures within { IfSome result (λ node. next < length raw.now.nodes.items) }
 {
     match raw.nodes.get(next) {
@@ -189,7 +210,8 @@ fn atom(
 ) -> Result<Built, NoMemory>
     requires { at ≤ length raw.now.nodes.items }
     ensures next { IfOk result (λ r. (at ≤ r.next) × (r.next ≤ length raw.now.nodes.items)) }
-    ensures built { IfOk result (λ r. IsResolved raw.now meanings.now → (e : RawExpr) → IsAtomHere raw.now at e → IsBuilt raw.now at e r.expr r.next) }
+    ensures built { IfOk result (λ r. IsResolved raw.now meanings.now → (e : RawExpr) → IsAtomHere raw.now at e →
+        IsBuilt raw.now at e r.expr r.next) }
 {
     let Some(node) = node_at(raw, at) else {
         return Ok(Built {
@@ -235,7 +257,8 @@ fn chain(
     requires start { start ≤ left.next }
     requires within { left.next ≤ length raw.now.nodes.items }
     ensures next { IfOk result (λ r. (left.next ≤ r.next) × (r.next ≤ length raw.now.nodes.items)) }
-    ensures built { IfOk result (λ r. IsResolved raw.now meanings.now → (l e : RawExpr) → Begins l e → IsHere raw.now start e → IsBuilt raw.now start l left.expr left.next → IsBuilt raw.now start e r.expr r.next) }
+    ensures built { IfOk result (λ r. IsResolved raw.now meanings.now → (l e : RawExpr) → Begins l e →
+        IsHere raw.now start e → IsBuilt raw.now start l left.expr left.next → IsBuilt raw.now start e r.expr r.next) }
 {
     let Some(node) = infix_at(raw, start, left.next) else {
         return Ok(left);
@@ -259,7 +282,8 @@ pub fn expression(
 ) -> Result<Built, NoMemory>
     requires { at ≤ length raw.now.nodes.items }
     ensures next { IfOk result (λ r. (at ≤ r.next) × (r.next ≤ length raw.now.nodes.items)) }
-    ensures built { IfOk result (λ r. IsResolved raw.now meanings.now → (e : RawExpr) → IsHere raw.now at e → IsBuilt raw.now at e r.expr r.next) }
+    ensures built { IfOk result (λ r. IsResolved raw.now meanings.now → (e : RawExpr) → IsHere raw.now at e →
+        IsBuilt raw.now at e r.expr r.next) }
 {
     let first = atom(alloc, raw, meanings, at)?;
     chain(alloc, raw, meanings, at, first)

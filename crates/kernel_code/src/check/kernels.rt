@@ -1,5 +1,6 @@
 // The kernel that a raw kernel without faults is.
 ghost use Rattle.std.specs.Prelude.{◌≡◌, ◌≤◌, ℕ, None, Some, length, map, slice_get, string_bytes, IfOk, IsUtf8};
+ghost use Rattle.job_base.specs.declared.limits.TheConstants.{MOST_WIDTH};
 ghost use Rattle.kernel_code.specs.StaticFaults.{text_at, params_fault, locals_of};
 ghost use Rattle.kernel_code.specs.Trees.{param_text, raw_param_text, width_at, IsKernelOf};
 ghost use Rattle.kernel_code.specs.Places.{IsResolved};
@@ -27,7 +28,7 @@ fn name_at(alloc: Global, raw: &RawKernel<'_>, at: u32) -> Result<String, NoMemo
 
 // The Number after `by`, or 1 where none is written.
 fn width_of(raw: &RawKernel<'_>, width: Option<u32>) -> u32
-    requires { width_at raw.now width ≤ 1024 }
+    requires { width_at raw.now width ≤ MOST_WIDTH }
     ensures { result ≡ width_at raw.now width }
 {
     match width {

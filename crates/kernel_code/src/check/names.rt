@@ -1,5 +1,6 @@
 // What names stand for: parameters and locals.
 ghost use Rattle.std.specs.Prelude.{◌≡◌, ◌≤◌, ◌<◌, ◌^◌, ℕ, length, IfSome};
+ghost use Rattle.job_base.specs.declared.limits.TheConstants.{MOST_LOCALS, MOST_PARAMS};
 ghost use Rattle.kernel_code.specs.StaticFaults.{parameter, in_scope, as_local, local_among, meaning_among};
 
 use crate::check::texts::text_at;
@@ -24,7 +25,7 @@ pub struct Local {
     pub is_loop: bool,
 }
 
-//// What the names of a node stand for.
+/// What the names of a node stand for.
 #[derive(Clone, Copy, Debug, PartialEq, Eq)]
 pub struct Meaning {
     /// The local before an effect.
@@ -60,7 +61,7 @@ pub fn as_local(local: Local, number: u32) -> Named
 
 // The local in scope at a node that a name is.
 fn local_among(raw: &RawKernel<'_>, locals: &[Local], node: usize, name: &[u8]) -> Option<Named>
-    requires { length locals.now ≤ 64 }
+    requires { length locals.now ≤ MOST_LOCALS }
     ensures { result ≡ local_among raw.now node name.now 0 locals.now }
 {
     for (k, local) in locals.iter().enumerate() {
@@ -73,8 +74,8 @@ fn local_among(raw: &RawKernel<'_>, locals: &[Local], node: usize, name: &[u8]) 
 
 /// What a name is at a node, where these locals are declared before it.
 pub fn meaning_of(raw: &RawKernel<'_>, locals: &[Local], node: usize, name: &[u8]) -> Option<Named>
-    requires few_params { length raw.now.params.items ≤ 16 }
-    requires few_locals { length locals.now ≤ 64 }
+    requires few_params { length raw.now.params.items ≤ MOST_PARAMS }
+    requires few_locals { length locals.now ≤ MOST_LOCALS }
     ensures { result ≡ meaning_among raw.now locals.now node name.now }
 {
     match parameter(raw, name) {

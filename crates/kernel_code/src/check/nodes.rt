@@ -1,6 +1,7 @@
 // The faults of a node.
 ghost use Rattle.std.specs.Prelude.{◌≡◌, ◌≤◌, ◌<◌, ◌||◌, nat_le, nat_lt, ℕ, Some, length, slice_get};
 ghost use Rattle.kernel_code.specs.StaticFaults.{text_at, use_fault, answer_fault, declared_fault, token_fault, size_fault, name_fault, first_of_two, node_fault, locals_before, depth_of, meaning_of, block_fault, param_fault_of, is_begun};
+ghost use Rattle.job_base.specs.declared.limits.TheConstants.{MOST_NODES, MOST_DEPTH};
 ghost use Rattle.kernel_code.specs.Known.{AreBegun, answer_named, name_named, meaning_if, has_name, has_answer};
 
 use crate::check::StaticFault;
@@ -8,17 +9,15 @@ use crate::check::demands::{
     answer_kind_fault, demand_fault, fault_if, loop_variable_fault, lowest, variable_fault,
 };
 use crate::check::names::{Local, Meaning, Named, meaning_of};
-use crate::check::params::{fault_at, length_fault, or_else};
+use crate::check::params::{fault_at, length_fault};
 use crate::check::streams::{StreamBlock, stands_in};
 use crate::check::texts::{text_at, value_at};
 use crate::raw::{RawForm, RawKernel, RawNode};
 use frame_ast::kernel::FaultKind;
-
-/// The greatest number of locals of a kernel.
-const MAX_LOCALS: usize = 64;
+use job_base::limits::{MOST_LOCALS, MOST_PARAMS};
 
 /// The greatest number of a kernel's text.
-pub const MAX_NUMBER: u64 = 9_223_372_036_854_775_807;
+pub const MOST_NUMBER: u64 = 9_223_372_036_854_775_807;
 
 // What a node's token is, where it is a name before an effect.
 pub fn answer_named(
@@ -27,8 +26,8 @@ pub fn answer_named(
     number: usize,
     node: RawNode,
 ) -> Option<Named>
-    requires params { length raw.now.params.items ≤ 16 }
-    requires few { length locals.now ≤ 64 }
+    requires params { length raw.now.params.items ≤ MOST_PARAMS }
+    requires few { length locals.now ≤ MOST_LOCALS }
     requires locals { locals.now ≡ locals_before raw.now.nodes.items number }
     ensures { result ≡ answer_named raw.now number node }
 {
@@ -62,8 +61,8 @@ pub fn name_named(
     number: usize,
     node: RawNode,
 ) -> Option<Named>
-    requires params { length raw.now.params.items ≤ 16 }
-    requires few { length locals.now ≤ 64 }
+    requires params { length raw.now.params.items ≤ MOST_PARAMS }
+    requires few { length locals.now ≤ MOST_LOCALS }
     requires locals { locals.now ≡ locals_before raw.now.nodes.items number }
     ensures { result ≡ name_named raw.now number node }
 {
@@ -161,7 +160,7 @@ fn declared_fault(
     lowest(
         fault_if(FaultKind::DuplicateName, named.is_some()),
         lowest(
-            fault_if(FaultKind::Limit, locals.len() >= MAX_LOCALS),
+            fault_if(FaultKind::Limit, locals.len() >= MOST_LOCALS as usize),
             length_fault(name),
         ),
     )
@@ -178,7 +177,7 @@ fn token_fault(
     ensures { result ≡ token_fault raw.now number node.at node.form }
 {
     match node.form {
-        RawForm::Number => fault_if(FaultKind::Limit, value_at(raw, node.at) > MAX_NUMBER),
+        RawForm::Number => fault_if(FaultKind::Limit, value_at(raw, node.at) > MOST_NUMBER),
         RawForm::Index => fault_if(FaultKind::UnknownName, !raw.parallel),
         RawForm::SetTryAdd | RawForm::SetRemove => lowest(
             answer_fault(raw, answer),
@@ -227,7 +226,7 @@ fn first_of_two(
     if first == second {
         fault_at(first, lowest(a, b))
     } else {
-        or_else(fault_at(first, a), fault_at(second, b))
+        fault_at(first, a).or(fault_at(second, b))
     }
 }
 
@@ -246,7 +245,7 @@ pub fn node_fault(
     requires blocks { AreBegun raw.now number blocks.now }
     requires answer { meaning.answer ≡ answer_named raw.now number node }
     requires name { meaning.name ≡ name_named raw.now number node }
-    requires over { is_over ≡ (nat_le 4096 number || nat_lt 64 (depth_of raw.now.nodes.items number)) }
+    requires over { is_over ≡ (nat_le MOST_NODES number || nat_lt MOST_DEPTH (depth_of raw.now.nodes.items number)) }
     ensures { result ≡ node_fault raw.now number node }
 {
     let token = lowest(

@@ -1,6 +1,6 @@
 // The faults of a kernel's name and of its parameters.
 ghost use Rattle.std.specs.Prelude.{◌≡◌, ◌≤◌, ◌<◌, ℕ, length};
-ghost use Rattle.kernel_code.specs.StaticFaults.{length_fault, kernel_name_fault, param_name_fault, stream_fault, width_word_fault, width_fault, param_kind_fault, param_fault, params_fault, fault_at, or_else, text_at, value_at};
+ghost use Rattle.kernel_code.specs.StaticFaults.{length_fault, kernel_name_fault, param_name_fault, stream_fault, width_word_fault, width_fault, param_kind_fault, param_fault, params_fault, fault_at, text_at, value_at};
 ghost use Rattle.std.specs.List.{list_any};
 ghost use Rattle.std.specs.Str.{bytes_eq};
 ghost use Rattle.std.specs.String.{string_bytes};
@@ -11,18 +11,7 @@ use crate::check::texts::{text_at, value_at};
 use crate::raw::{RawKernel, RawParam};
 use frame_ast::kernel::{FaultKind, Kernel, ParamKind};
 use job_base::Access;
-
-/// The greatest number of bytes of a name.
-const MAX_NAME: usize = 64;
-
-/// The greatest number of kernels of a file.
-const MAX_KERNELS: usize = 256;
-
-/// The greatest number of parameters of a kernel.
-const MAX_PARAMS: usize = 16;
-
-/// The greatest width of an array.
-const MAX_WIDTH: u64 = 1024;
+use job_base::limits::{MOST_KERNELS, MOST_NAME_BYTES, MOST_PARAMS, MOST_WIDTH};
 
 /// A fault of the token at a place.
 pub fn fault_at(at: u32, kind: Option<FaultKind>) -> Option<StaticFault>
@@ -34,21 +23,11 @@ pub fn fault_at(at: u32, kind: Option<FaultKind>) -> Option<StaticFault>
     }
 }
 
-/// The first of two faults, the first of which stands before the second.
-pub fn or_else(first: Option<StaticFault>, second: Option<StaticFault>) -> Option<StaticFault>
-    ensures { result ≡ or_else first second }
-{
-    match first {
-        Some(fault) => Some(fault),
-        None => second,
-    }
-}
-
 /// The fault of a name that is too long.
 pub fn length_fault(name: &[u8]) -> Option<FaultKind>
     ensures { result ≡ length_fault name.now }
 {
-    fault_if(FaultKind::Limit, name.len() > MAX_NAME)
+    fault_if(FaultKind::Limit, name.len() > MOST_NAME_BYTES as usize)
 }
 
 // Whether one of these kernels has a name.
@@ -72,7 +51,7 @@ pub fn kernel_name_fault(earlier: &[Kernel], name: &[u8]) -> Option<FaultKind>
     lowest(
         fault_if(FaultKind::DuplicateName, is_kernel(earlier, name)),
         lowest(
-            fault_if(FaultKind::Limit, earlier.len() >= MAX_KERNELS),
+            fault_if(FaultKind::Limit, earlier.len() >= MOST_KERNELS as usize),
             length_fault(name),
         ),
     )
@@ -87,7 +66,7 @@ fn param_name_fault(raw: &RawKernel<'_>, number: usize, name: &[u8]) -> Option<F
     lowest(
         fault_if(FaultKind::DuplicateName, is_taken),
         lowest(
-            fault_if(FaultKind::Limit, number >= MAX_PARAMS),
+            fault_if(FaultKind::Limit, number >= MOST_PARAMS as usize),
             length_fault(name),
         ),
     )
@@ -115,7 +94,10 @@ fn width_fault(raw: &RawKernel<'_>, at: u32) -> Option<FaultKind>
     ensures { result ≡ width_fault (value_at raw.now at) }
 {
     let width = value_at(raw, at);
-    fault_if(FaultKind::Limit, width == 0 || width > MAX_WIDTH)
+    fault_if(
+        FaultKind::Limit,
+        width == 0 || width > u64::from(MOST_WIDTH),
+    )
 }
 
 // The first fault of what stands behind the name of a parameter.
@@ -123,10 +105,10 @@ fn param_kind_fault(raw: &RawKernel<'_>, param: RawParam) -> Option<StaticFault>
     ensures { result ≡ param_kind_fault raw.now param param.width }
 {
     match param.width {
-        Some(at) => or_else(
-            fault_at(param.word, width_word_fault(raw.parallel, param.access)),
-            fault_at(at, width_fault(raw, at)),
-        ),
+        Some(at) => fault_at(param.word, width_word_fault(raw.parallel, param.access)).or(fault_at(
+            at,
+            width_fault(raw, at),
+        )),
         None => fault_at(param.word, stream_fault(param.kind, param.access)),
     }
 }
@@ -137,10 +119,7 @@ fn param_fault(raw: &RawKernel<'_>, number: usize, param: RawParam) -> Option<St
     ensures { result ≡ param_fault raw.now number param }
 {
     let name = text_at(raw, param.name);
-    or_else(
-        fault_at(param.name, param_name_fault(raw, number, name)),
-        param_kind_fault(raw, param),
-    )
+    fault_at(param.name, param_name_fault(raw, number, name)).or(param_kind_fault(raw, param))
 }
 
 /// The first fault of the parameters.

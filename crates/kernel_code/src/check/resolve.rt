@@ -4,17 +4,15 @@ ghost use Rattle.kernel_code.specs.StaticFaults.{declares, is_loop, is_begin, en
 ghost use Rattle.kernel_code.specs.Known.{stands_in, is_block, IsKnown, name_named, name_stored, answer_named, meanings_from};
 
 use crate::check::StaticFault;
-use crate::check::depths::{MAX_NODES, depths_of};
+use crate::check::depths::depths_of;
 use crate::check::names::{Local, Meaning, Named, as_local, parameter};
 use crate::check::nodes::{answer_named, name_named, node_fault};
 use crate::check::streams::{StreamBlock, close_blocks};
 use crate::check::texts::text_at;
 use crate::raw::{RawForm, RawKernel, RawNode};
 use job_base::NoMemory;
+use job_base::limits::{MOST_DEPTH, MOST_LOCALS, MOST_NODES, MOST_PARAMS};
 use std::alloc::Global;
-
-/// The greatest depth of a node.
-const MAX_DEPTH: usize = 64;
 
 /// What the names of the nodes stand for, and how many locals there are.
 #[derive(Drop)]
@@ -93,10 +91,11 @@ fn note_local(
     named: Option<Named>,
 ) -> Result<Option<Named>, NoMemory>
     requires within { number < length raw.now.nodes.items }
-    requires few { length locals.old.items ≤ 64 }
+    requires few { length locals.old.items ≤ MOST_LOCALS }
     requires locals { locals.old.items ≡ locals_before raw.now.nodes.items number }
     requires named { named ≡ name_named raw.now number node }
-    ensures locals { OnOk result (locals.new.items ≡ locals.old.items ++ local_if (declares node.form) (local_of raw.now.nodes.items number node)) }
+    ensures locals { OnOk result (locals.new.items ≡ locals.old.items
+        ++ local_if (declares node.form) (local_of raw.now.nodes.items number node)) }
     ensures named { IfOk result (λ name. name ≡ name_stored raw.now number node) }
 {
     if !declares(node.form) {
@@ -116,8 +115,9 @@ fn note_block(
     node: RawNode,
 ) -> Result<(), NoMemory>
     requires within { number < length raw.now.nodes.items }
-    requires few { length raw.now.params.items ≤ 16 }
-    ensures { OnOk result ((x j : ℕ) → stands_in x j blocks.new.items ≡ (stands_in x j blocks.old.items || is_block raw.now x j number node)) }
+    requires few { length raw.now.params.items ≤ MOST_PARAMS }
+    ensures { OnOk result ((x j : ℕ) →
+        stands_in x j blocks.new.items ≡ (stands_in x j blocks.old.items || is_block raw.now x j number node)) }
 {
     if !is_begin(node.form) {
         return Ok(());
@@ -139,9 +139,11 @@ pub fn resolve(
     alloc: Global,
     raw: &RawKernel<'_>,
 ) -> Result<Result<Meanings, StaticFault>, NoMemory>
-    requires { length raw.now.params.items ≤ 16 }
+    requires { length raw.now.params.items ≤ MOST_PARAMS }
     ensures { IfOk result (λ r. MatchResult r
-        (λ m. (nodes_fault raw.now 0 raw.now.nodes.items ≡ None) × (m.of_nodes.items ≡ meanings_from raw.now 0 raw.now.nodes.items) × (m.locals ≡ length (locals_of raw.now.nodes.items)))
+        (λ m. (nodes_fault raw.now 0 raw.now.nodes.items ≡ None)
+        × (m.of_nodes.items ≡ meanings_from raw.now 0 raw.now.nodes.items)
+        × (m.locals ≡ length (locals_of raw.now.nodes.items)))
         (λ fault. nodes_fault raw.now 0 raw.now.nodes.items ≡ Some fault)) }
 {
     let depths = depths_of(alloc, &raw.nodes)?;
@@ -153,7 +155,7 @@ pub fn resolve(
         close_blocks(&mut blocks, number);
         let answer = answer_named(raw, &locals, number, node);
         let name = name_named(raw, &locals, number, node);
-        let is_over = number >= MAX_NODES || depths[number] > MAX_DEPTH;
+        let is_over = number >= MOST_NODES as usize || depths[number] > MOST_DEPTH as usize;
         let meaning = Meaning { answer, name };
         if let Some(fault) = node_fault(raw, &locals, &blocks, number, node, meaning, is_over) {
             return Ok(Err(fault));

@@ -66,7 +66,8 @@ fn statement(
     node: RawNode,
 ) -> Result<Stmt, NoMemory>
     requires { slice_get raw.now.nodes.items at ≡ Some node }
-    ensures { IfOk result (λ s. IsResolved raw.now meanings.now → (owner : Option ℕ) (b : RawBlock) → IsTrue (has_first b) → IsBlockHere raw.now owner at b → IsFirst raw.now at b s) }
+    ensures { IfOk result (λ s. IsResolved raw.now meanings.now → (owner : Option ℕ) (b : RawBlock) →
+        IsTrue (has_first b) → IsBlockHere raw.now owner at b → IsFirst raw.now at b s) }
 {
     let meaning = meaning_at(meanings, at);
     let inner = at + 1 + node.heads as usize;
@@ -127,7 +128,8 @@ pub fn block(
     from: usize,
     end: usize,
 ) -> Result<Vec<Stmt>, NoMemory>
-    ensures { IfOk result (λ v. IsResolved raw.now meanings.now → (owner : Option ℕ) (b : RawBlock) → IsBlockHere raw.now owner from b → end ≡ from + block_size b → BlockOf raw.now from b v.items) }
+    ensures { IfOk result (λ v. IsResolved raw.now meanings.now → (owner : Option ℕ) (b : RawBlock) →
+        IsBlockHere raw.now owner from b → end ≡ from + block_size b → BlockOf raw.now from b v.items) }
 {
     let mut statements = Vec::new(alloc);
     let mut at = from;

@@ -1,6 +1,6 @@
 use Rattle.std.proofs.Common.{arith, ◌≤◌, ◌∙◌, ℕ, Option, [], ◌∷◌, length}
 use Rattle.kernel_code.specs.declared.check.StaticFault.{StaticFault}
-use Rattle.frame_script.specs.declared.kind.NameKind.TheVariants.{Handle}
+use Rattle.frame_ast.specs.declared.name_kind.NameKind.TheVariants.{Handle}
 use Rattle.frame_script.specs.Faults.{use_fault}
 use Rattle.frame_script.specs.Spelling.{place_of, names_with}
 use Rattle.frame_script.proofs.FaultLemmas.{exits, exits_without_memory}

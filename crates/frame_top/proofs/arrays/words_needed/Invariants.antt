@@ -1,5 +1,5 @@
 use Rattle.std.proofs.Common.{◌≡◌, ◌+◌, map, sum, drop}
-use Rattle.frame_ast.specs.Plain.{array_length}
+use Rattle.frame_top.specs.Built.{array_length}
 use Rattle.frame_top.proofs.arrays.words_needed.Given as goal
 
 abbrev pub invariant-loop-statement : goal.invariant-loop-statement

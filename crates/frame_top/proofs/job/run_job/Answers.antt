@@ -1,3 +1,4 @@
+use Rattle.job_base.specs.declared.limits.TheConstants.{MOST_LIVE_WORDS}
 use Rattle.std.proofs.Common.{◌≡◌, ◌∙◌, ◌<◌, ◌≤◌, List, length, get_or, Some, slice_get, sym, ap, subst, arith}
 use Rattle.frame_ast.specs.declared.script.Arg.{Arg}
 use Rattle.frame_ast.specs.declared.script.Statement.{Statement}
@@ -48,7 +49,7 @@ execute-requires-clause-fit g c =
     let l = c.in-Some.ensures.lookup in
     let j = job_here _ _ _ _ _ _ _ _ _ _ _ _ _ _ _ c.index-kernel.result.now c.requires.made c.requires.built c.deref.ensures.value l.3.0 l.1 c.in-Schedule.is c.index-kernel.ensures in
     let b = bound_here _ c.in-Schedule.args.items _ _ c.deref-3.result.now c.in-Ok.ensures c.deref-2.ensures.value c.deref-3.ensures.value in
-    let room : c.requires.made.used ≤ 1048576 = let r = room_in _ _ _ _ _ _ j.makes in let m = j.makes.limit in omega arith in
+    let room : c.requires.made.used ≤ MOST_LIVE_WORDS = let r = room_in _ _ _ _ _ _ j.makes in let m = j.makes.limit in omega arith in
     binds_fit _ _ _ _ _ _ _ room (a_call _ _ _ _ _ _ _ _ _ _ _ j b)
 
 pub execute-requires-clause-readable : goal.execute-requires-clause-readable

@@ -1,12 +1,12 @@
 use Rattle.std.proofs.Common.{◌≡◌, None, rules, ◌∙◌, sym}
 use Rattle.kernel_code.specs.StaticFaults.{first_fault}
-use Rattle.kernel_code.proofs.NoFaults.{or_else-none}
+use Rattle.kernel_code.proofs.NoFaults.{option_or-none}
 use Rattle.kernel_code.proofs.BuiltKernels.{few-params}
 use Rattle.kernel_code.proofs.Checking.{checked}
 use Rattle.kernel_code.proofs.check.check_kernel.Goals as goal
 
 pub resolve-requires : goal.resolve-requires
-resolve-requires c = few-params c.args.raw.now (or_else-none _ _ (sym c.head_fault.ensures ∙ c.in_default.is)).1
+resolve-requires c = few-params c.args.raw.now (option_or-none _ _ (sym c.head_fault.ensures ∙ c.in_default.is)).1
 
 pub returns-in_ok-kernel_of-in-Ok-clause-checked : goal.returns-in_ok-kernel_of-in-Ok-clause-checked
 returns-in_ok-kernel_of-in-Ok-clause-checked c =

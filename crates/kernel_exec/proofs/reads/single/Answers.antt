@@ -1,6 +1,7 @@
 use Rattle.frame_ast.specs.Checked.{a_value}
 use Rattle.std.proofs.Common.{inl, arith}
-use Rattle.kernel_exec.proofs.Rights.{has_param, may_use}
+use Rattle.frame_ast.proofs.Demands.{has_param}
+use Rattle.kernel_exec.proofs.Rights.{may_use}
 use Rattle.kernel_exec.proofs.reads.single.Goals as goal
 
 pub value-requires : goal.value-requires

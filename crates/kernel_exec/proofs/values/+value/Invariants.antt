@@ -2,32 +2,41 @@ use Rattle.std.proofs.Common.{◌+◌, ◌*◌, max}
 use Rattle.frame_ast.proofs.kernel.Expr.TheLaws.{the_size}
 use Rattle.kernel_exec.proofs.values.+value.Given as goal
 
-abbrev pub decreases-number : goal.decreases-number
-decreases-number g l = 2 * the_size l.e.now
+abbrev pub decreases-eval : goal.decreases-eval
+decreases-eval g l = 5 * the_size l.e.now + 1
 
-abbrev pub decreases-element_at : goal.decreases-element_at
-decreases-element_at g l = 2 * the_size l.place.now + 1
+abbrev pub decreases-eval_other : goal.decreases-eval_other
+decreases-eval_other g l = 5 * the_size l.e.now
 
-abbrev pub decreases-has_at : goal.decreases-has_at
-decreases-has_at g l = 2 * the_size l.key.now + 1
+abbrev pub decreases-eval_binary : goal.decreases-eval_binary
+decreases-eval_binary g l = 5 * max (the_size l.left.now) (the_size l.right.now) + 4
 
-abbrev pub decreases-count_at : goal.decreases-count_at
-decreases-count_at g l = 2 * the_size l.index.now + 1
+abbrev pub decreases-near : goal.decreases-near
+decreases-near g l = 5 * the_size l.left.now + 2
 
-abbrev pub decreases-item_at : goal.decreases-item_at
-decreases-item_at g l = 2 * max (the_size l.index.now) (the_size l.place.now) + 1
+abbrev pub decreases-far : goal.decreases-far
+decreases-far g l = 5 * max (the_size l.left.now) (the_size l.right.now) + 2
 
-abbrev pub decreases-negative : goal.decreases-negative
-decreases-negative g l = 2 * the_size l.inner.now + 1
+abbrev pub decreases-eval_element : goal.decreases-eval_element
+decreases-eval_element g l = 5 * the_size l.place.now + 2
 
-abbrev pub decreases-is_zero : goal.decreases-is_zero
-decreases-is_zero g l = 2 * the_size l.inner.now + 1
+abbrev pub decreases-eval_has : goal.decreases-eval_has
+decreases-eval_has g l = 5 * the_size l.key.now + 2
 
-abbrev pub decreases-both : goal.decreases-both
-decreases-both g l = 2 * max (the_size l.left.now) (the_size l.right.now) + 1
+abbrev pub decreases-eval_count : goal.decreases-eval_count
+decreases-eval_count g l = 5 * the_size l.index.now + 2
 
-abbrev pub decreases-either : goal.decreases-either
-decreases-either g l = 2 * max (the_size l.left.now) (the_size l.right.now) + 1
+abbrev pub decreases-eval_item : goal.decreases-eval_item
+decreases-eval_item g l = 5 * max (the_size l.index.now) (the_size l.place.now) + 2
 
-abbrev pub decreases-binary : goal.decreases-binary
-decreases-binary g l = 2 * max (the_size l.left.now) (the_size l.right.now) + 1
+abbrev pub decreases-eval_negative : goal.decreases-eval_negative
+decreases-eval_negative g l = 5 * the_size l.inner.now + 2
+
+abbrev pub decreases-eval_not : goal.decreases-eval_not
+decreases-eval_not g l = 5 * the_size l.inner.now + 2
+
+abbrev pub decreases-eval_and : goal.decreases-eval_and
+decreases-eval_and g l = 5 * max (the_size l.left.now) (the_size l.right.now) + 2
+
+abbrev pub decreases-eval_or : goal.decreases-eval_or
+decreases-eval_or g l = 5 * max (the_size l.left.now) (the_size l.right.now) + 2

@@ -7,4 +7,4 @@ pub returns-clause-words : goal.returns-clause-words
 returns-clause-words c = ap (λ t. 3 * t + 1) c.places.ensures.places ∙ words_of-is c.args.cap []
 
 pub returns-clause-empty : goal.returns-clause-empty
-returns-clause-empty c at cells zeros = zeros_law at cells zeros
+returns-clause-empty c = zeros_law

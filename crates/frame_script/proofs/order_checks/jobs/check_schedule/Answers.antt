@@ -1,5 +1,5 @@
 use Rattle.std.proofs.Common.{rules, ◌≡◌, ◌∙◌, ap, Some, None, unwrap_or, map}
-use Rattle.frame_script.specs.declared.kind.NameKind.TheVariants.{Handle}
+use Rattle.frame_ast.specs.declared.name_kind.NameKind.TheVariants.{Handle}
 use Rattle.frame_script.specs.Sources.{text_at}
 use Rattle.frame_script.specs.Spelling.{params_of, param_place}
 use Rattle.frame_script.specs.Faults.{kernel_in}

@@ -1,6 +1,6 @@
 use Rattle.std.proofs.Common.{rules, Some}
 use Rattle.frame_script.proofs.FaultLemmas.{exits, checking}
-use Rattle.frame_script.specs.declared.kind.NameKind.TheVariants.{View}
+use Rattle.frame_ast.specs.declared.name_kind.NameKind.TheVariants.{View}
 use Rattle.frame_script.proofs.order_checks.makes.view.Goals as goal
 
 pub returns-in_err-name : goal.returns-in_err-name

@@ -1,6 +1,6 @@
 use Rattle.std.proofs.Common.{◌≡◌, refl, sym, ◌∙◌, ap, subst, length, ◌++◌}
+use Rattle.frame_ast.specs.Lists.{first_some}
 use Rattle.frame_script.specs.Raw.{form_of}
-use Rattle.frame_script.specs.Faults.{first}
 use Rattle.frame_script.specs.Spelling.{Says}
 use Rattle.frame_script.specs.Walking.{scope_of, lists_in}
 use Rattle.frame_script.proofs.SaidLemmas.{plain_faults}
@@ -14,7 +14,7 @@ returns c =
     let said = c.in_ok-act.ensures in
     let names = c.in_ok-make_name.ensures in
     let literals : c.in_ok-literals.literals ≡ length old.literals.items = c.in_ok-literals.ensures ∙ (c.len.ensures ∙ old.literals.ok.0) in (
-      sym (ap first (plain_faults s (scope_of old) c.args.at form c.requires)) ∙ said.0,
+      sym (ap first_some (plain_faults s (scope_of old) c.args.at form c.requires)) ∙ said.0,
       record {
         names = names;
         kernels = refl;

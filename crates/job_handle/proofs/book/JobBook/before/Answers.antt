@@ -7,4 +7,4 @@ pub returns : goal.returns
 returns c b F k =
     (λ i. c.combine.ensures i k)
     ∙ ap (λ x. x || jobs_of c.closure.result k) (F.completed k)
-    ∙ ap (λ x. b.completed k || x) (c.closure.ensures b F k)
+    ∙ ap (λ x. b.completed k || x) (c.closure.ensures.all b F k)

@@ -1,9 +1,10 @@
 use Rattle.std.proofs.Common.{◌≡◌, suc, true, ◌+◌, ◌-◌, ◌*◌, ◌/◌, ◌%◌, ◌<◌, vec_len, sym, ap, subst, ◌∙◌, arith}
 use Rattle.std.proofs.Math.Nat.{div-add-mod, mod-lt}
+use Rattle.job_handle.specs.declared.handle.Handle.{Handle}
 use Rattle.job_handle.specs.Sets.{jobs_of}
 use Rattle.job_handle.specs.Books.{IsUnion}
 use Rattle.job_handle.proofs.Booleans.{not_both}
-use Rattle.job_handle.proofs.Rows.{none_yet, one_more, passed_by, all_there}
+use Rattle.job_handle.proofs.Rows.{none_yet, one_more, passed_by, all_there, all_own}
 use Rattle.job_handle.proofs.book.JobBook.closure.Goals as goal
 use Rattle.job_handle.proofs.book.JobBook.closure.Goals.{then-has+then-not-has, else-has, else-has-via-then-has+else-not-has, else-has-via-else-has}
 
@@ -40,7 +41,8 @@ loop-left-preserved c =
       union = elim c.if-has.branch [
         | then-has+then-not-has w ↦ subst (λ all. IsUnion (vec_len book.rows) book.rows.items book.completed c.args.h.now all (left - 1)) (sym w.all-is)
             (one_more (vec_len book.rows) book.rows.items book.completed c.args.h.now c.loop-left.all w.combine-all.result w.index.result.now (left - 1) union (omega arith)
-            (ap (λ n. jobs_of c.args.h.now n) some ∙ (sym c.has.ensures ∙ w.if-has.true)) w.index.ensures w.combine-all.ensures)
+            (ap (λ n. jobs_of c.args.h.now n) some ∙ (sym c.has.ensures ∙ w.if-has.true)) w.index.ensures
+            (ap (λ (x : Handle). jobs_of x (suc (left - 1))) w.index.ensures ∙ book.own (left - 1) w.index.result.now (omega arith)) w.combine-all.ensures)
         | else-has w ↦ subst (λ all. IsUnion (vec_len book.rows) book.rows.items book.completed c.args.h.now all (left - 1)) (sym w.all-is)
             (passed_by (vec_len book.rows) book.rows.items book.completed c.args.h.now c.loop-left.all (suc (left - 1)) (left - 1) union
             (λ k low high wanted.
@@ -52,9 +54,16 @@ loop-left-preserved c =
       ];
     }
 
-pub returns : goal.returns
-returns c =
+pub returns-clause-all : goal.returns-clause-all
+returns-clause-all c =
     let book = c.args.self.now in
     all_there (vec_len book.rows) book.rows.items book.completed c.args.h.now c.loop-left.all
+    (subst (λ n. IsUnion (vec_len book.rows) book.rows.items book.completed c.args.h.now c.loop-left.all n) (let z : c.loop-left.left ≡ 0 = omega arith in z) c.loop-left.invariant.union)
+    c.requires
+
+pub returns-clause-own : goal.returns-clause-own
+returns-clause-own c =
+    let book = c.args.self.now in
+    all_own (vec_len book.rows) book.rows.items book.completed c.args.h.now c.loop-left.all
     (subst (λ n. IsUnion (vec_len book.rows) book.rows.items book.completed c.args.h.now c.loop-left.all n) (let z : c.loop-left.left ≡ 0 = omega arith in z) c.loop-left.invariant.union)
     c.requires
