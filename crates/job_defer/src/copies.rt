@@ -1,0 +1,107 @@
+//! Copies of a kernel's parts, each in memory of its own.
+
+ghost use Rattle.std.specs.Prelude.{◌≡◌, IfOk, string_bytes};
+ghost use Rattle.same_trees.specs.Same.{SameExpr, SameStmt, SameBody, SameParam, Pairwise};
+
+use frame_ast::kernel::{Expr, Param, Stmt};
+use job_base::NoMemory;
+use std::alloc::Global;
+
+/// Parameters.
+pub(crate) fn params(alloc: Global, params: &[Param]) -> Result<Vec<Param>, NoMemory>
+    ensures { IfOk result (λ copy. Pairwise SameParam params.now copy.items) }
+{
+    let mut copy = Vec::new(alloc);
+    for p in params {
+        copy.push(param(alloc, p)?)?;
+    }
+    Ok(copy)
+}
+
+fn param(alloc: Global, p: &Param) -> Result<Param, NoMemory>
+    ensures { IfOk result (λ copy. SameParam p.now copy) }
+{
+    Ok(Param {
+        name: String::from_str(alloc, p.name.as_str())?,
+        kind: p.kind,
+        access: p.access,
+        by: p.by,
+    })
+}
+
+fn expr(alloc: Global, e: &Expr) -> Result<Expr, NoMemory>
+    ensures { IfOk result (λ copy. SameExpr e.now copy) }
+{
+    match e {
+        Expr::Number(n) => Ok(Expr::Number(*n)),
+        Expr::Index => Ok(Expr::Index),
+        Expr::Local(k) => Ok(Expr::Local(*k)),
+        Expr::Value(x) => Ok(Expr::Value(*x)),
+        Expr::Element(x, e) => Ok(Expr::Element(*x, Box::new(alloc, expr(alloc, e)?)?)),
+        Expr::Length(x) => Ok(Expr::Length(*x)),
+        Expr::Has(x, e) => Ok(Expr::Has(*x, Box::new(alloc, expr(alloc, e)?)?)),
+        Expr::Count(x, e) => Ok(Expr::Count(*x, Box::new(alloc, expr(alloc, e)?)?)),
+        Expr::Item(x, e, f) => {
+            let e = Box::new(alloc, expr(alloc, e)?)?;
+            Ok(Expr::Item(*x, e, Box::new(alloc, expr(alloc, f)?)?))
+        }
+        Expr::Negative(e) => Ok(Expr::Negative(Box::new(alloc, expr(alloc, e)?)?)),
+        Expr::Not(e) => Ok(Expr::Not(Box::new(alloc, expr(alloc, e)?)?)),
+        Expr::And(e, f) => {
+            let e = Box::new(alloc, expr(alloc, e)?)?;
+            Ok(Expr::And(e, Box::new(alloc, expr(alloc, f)?)?))
+        }
+        Expr::Or(e, f) => {
+            let e = Box::new(alloc, expr(alloc, e)?)?;
+            Ok(Expr::Or(e, Box::new(alloc, expr(alloc, f)?)?))
+        }
+        Expr::Binary(op, sides) => {
+            let (e, f) = &**sides;
+            let e = expr(alloc, e)?;
+            let f = expr(alloc, f)?;
+            Ok(Expr::Binary(*op, Box::new(alloc, (e, f))?))
+        }
+    }
+}
+
+#[cycle(copy)]
+fn statement(alloc: Global, s: &Stmt) -> Result<Stmt, NoMemory>
+    ensures { IfOk result (λ copy. SameStmt s.now copy) }
+{
+    match s {
+        Stmt::Assign(k, e) => Ok(Stmt::Assign(*k, expr(alloc, e)?)),
+        Stmt::SetValue(x, e) => Ok(Stmt::SetValue(*x, expr(alloc, e)?)),
+        Stmt::Store(x, e, f) => Ok(Stmt::Store(*x, expr(alloc, e)?, expr(alloc, f)?)),
+        Stmt::Add(x, e) => Ok(Stmt::Add(*x, expr(alloc, e)?)),
+        Stmt::AddPair(x, e, f) => Ok(Stmt::AddPair(*x, expr(alloc, e)?, expr(alloc, f)?)),
+        Stmt::TryAdd(y, x, e, f) => Ok(Stmt::TryAdd(*y, *x, expr(alloc, e)?, expr(alloc, f)?)),
+        Stmt::RemoveAt(x, e) => Ok(Stmt::RemoveAt(*x, expr(alloc, e)?)),
+        Stmt::RemoveKey(y, x, e) => Ok(Stmt::RemoveKey(*y, *x, expr(alloc, e)?)),
+        Stmt::Clear(x) => Ok(Stmt::Clear(*x)),
+        Stmt::Write(x, e) => Ok(Stmt::Write(*x, expr(alloc, e)?)),
+        Stmt::Begin(x, e, body) => Ok(Stmt::Begin(*x, expr(alloc, e)?, block(alloc, body)?)),
+        Stmt::If(e, body, other) => {
+            let e = expr(alloc, e)?;
+            let body = block(alloc, body)?;
+            Ok(Stmt::If(e, body, block(alloc, other)?))
+        }
+        Stmt::For(k, e, f, body) => {
+            let e = expr(alloc, e)?;
+            let f = expr(alloc, f)?;
+            Ok(Stmt::For(*k, e, f, block(alloc, body)?))
+        }
+        Stmt::While(e, body) => Ok(Stmt::While(expr(alloc, e)?, block(alloc, body)?)),
+    }
+}
+
+/// Statements, one after another.
+#[cycle(copy)]
+pub(crate) fn block(alloc: Global, body: &[Stmt]) -> Result<Vec<Stmt>, NoMemory>
+    ensures { IfOk result (λ copy. SameBody body.now copy.items) }
+{
+    let mut copy = Vec::new(alloc);
+    for s in body {
+        copy.push(statement(alloc, s)?)?;
+    }
+    Ok(copy)
+}
