@@ -1,0 +1,5 @@
+use Rattle.frame_core.proofs.Tallies.{reports_tally}
+use Rattle.frame_core.proofs.laws.reports_tally.Goals as goal
+
+pub returns : goal.returns
+returns c = reports_tally

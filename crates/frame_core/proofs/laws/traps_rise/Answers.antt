@@ -1,0 +1,5 @@
+use Rattle.frame_core.proofs.Rising.{traps_rise}
+use Rattle.frame_core.proofs.laws.traps_rise.Goals as goal
+
+pub returns : goal.returns
+returns c = traps_rise

@@ -1,0 +1,19 @@
+//! The numbers by which traps are kept in words, in the order of job_base's enum.
+
+pub const OVERFLOW: u32 = 1;
+
+pub const ZERO_DIVISOR: u32 = 2;
+
+pub const RANGE: u32 = 3;
+
+pub const OWN_INDEX: u32 = 4;
+
+pub const FULL: u32 = 5;
+
+pub const MISSING_KEY: u32 = 6;
+
+pub const PRESENT_KEY: u32 = 7;
+
+pub const WRITTEN: u32 = 8;
+
+pub const BUDGET: u32 = 9;

@@ -1,0 +1,6 @@
+mod Runs
+mod Plans
+mod Shapes
+mod Outputs
+mod OutputsParallel
+mod WellOrdered
