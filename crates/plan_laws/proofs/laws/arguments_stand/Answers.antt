@@ -1,0 +1,5 @@
+use Rattle.plan_laws.proofs.Leaving.{arguments_stand}
+use Rattle.plan_laws.proofs.laws.arguments_stand.Goals as goal
+
+pub returns : goal.returns
+returns c = arguments_stand

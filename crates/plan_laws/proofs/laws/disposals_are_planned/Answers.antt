@@ -1,0 +1,5 @@
+use Rattle.plan_laws.proofs.Disposing.{disposals_are_planned}
+use Rattle.plan_laws.proofs.laws.disposals_are_planned.Goals as goal
+
+pub returns : goal.returns
+returns c = disposals_are_planned

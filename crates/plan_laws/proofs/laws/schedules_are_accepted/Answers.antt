@@ -1,0 +1,5 @@
+use Rattle.plan_laws.proofs.ScheduleTexts.{schedules_are_accepted}
+use Rattle.plan_laws.proofs.laws.schedules_are_accepted.Goals as goal
+
+pub returns : goal.returns
+returns c = schedules_are_accepted

@@ -1,0 +1,5 @@
+use Rattle.plan_laws.proofs.Filling.{zeros_fill}
+use Rattle.plan_laws.proofs.laws.zeros_fill.Goals as goal
+
+pub returns : goal.returns
+returns c = zeros_fill
