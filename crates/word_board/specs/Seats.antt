@@ -1,0 +1,58 @@
+-- What the fields of boards and seats say of one another.
+use Rattle.std.specs.Prelude.{◌≡◌, ℕ, suc, ◌+◌, ◌-◌, ◌<◌, true, List, length, slice_index, Some}
+use Rattle.atomic_table.specs.Seated.{TableId}
+use Rattle.atomic_table.specs.declared.shared.Seat.{Seat}
+use Rattle.frame_core.specs.declared.piece.Piece.{Piece}
+use Rattle.frame_core.specs.declared.piece.Piece.TheVariants.{OfScript, OfJob}
+use Rattle.frame_core.specs.declared.plan.Plan.{Plan}
+use Rattle.frame_core.specs.Names.{job_pieces, pieces_before, deps_in, job_at}
+use Rattle.frame_core.specs.Pieces.{piece_numbered}
+use Rattle.frame_core.specs.Know.{piece_count, reads}
+use Rattle.word_board.specs.declared.view.Held.{Held}
+use Rattle.word_board.specs.declared.view.View.{View}
+use Rattle.word_board.specs.Words.{rest_base, wait_base, word_count}
+
+-- SEATS
+
+abbrev pub view : Seat ℕ View → View
+view seat = seat.me.0
+
+-- The seat is one of the table, whose key is the plan.
+pub record IsSeatOf (table : TableId) (plan : Plan) (seat : Seat ℕ View) : Type 0 where
+  pub same : seat.table_id ≡ table
+  pub plan_is : (view seat).plan ≡ plan
+  pub size : table.words ≡ word_count plan
+
+-- the number of the job of a piece, and 0 of a segment
+abbrev pub job_number : Piece → ℕ
+job_number (OfScript k) = 0
+job_number (OfJob j i) = suc j
+
+-- The piece that a seat keeps is that of its lease,
+abbrev pub KeepsLeased : View → ℕ → Type 0
+KeepsLeased v p = (h : Held) → v.lease ≡ Some h → (h.piece ≡ p) × (p < piece_count v.plan)
+
+-- and one of the job that it owes a count of.
+abbrev pub KeepsOwed : View → ℕ → Type 0
+KeepsOwed v p = (j : ℕ) → v.owed ≡ Some j → (0 < j) × (job_number (piece_numbered v.plan p) ≡ j)
+
+-- BOARDS
+
+-- The words that pieces read are the plan's. (A board keeps this of its plan.)
+abbrev pub ReadsWithin : Plan → Type 0
+ReadsWithin plan = (p w : ℕ) → reads plan p w ≡ true → w < plan.words
+
+-- the job of each piece of a job, by the piece's number
+abbrev pub AreJobNumbers : Plan → List ℕ → Type 0
+AreJobNumbers plan jobs = (p : ℕ) → p < job_pieces plan → slice_index jobs p ≡ job_number (piece_numbered plan p)
+
+-- New words: all are 0 but `rest` and `wait`.
+pub record AreNew (plan : Plan) (words : List ℕ) : Type 0 where
+  pub size : length words ≡ word_count plan
+  pub zeros : (i : ℕ) → i < rest_base plan → slice_index words i ≡ 0
+  -- the pieces of each job
+  pub rests : (j : ℕ) → j < length plan.jobs.items
+      → slice_index words (rest_base plan + j) ≡ pieces_before plan.jobs.items (suc j) - pieces_before plan.jobs.items j
+  -- its segment and its dependencies
+  pub waits : (j : ℕ) → j < length plan.jobs.items
+      → slice_index words (wait_base plan + j) ≡ 1 + length (deps_in (job_at plan j))
