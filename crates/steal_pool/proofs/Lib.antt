@@ -1,0 +1,13 @@
+mod Saying
+mod Printing
+mod InOps
+mod Tallies
+mod Segments
+mod Seating
+mod Placed
+mod Ready
+mod Following
+mod Opening
+mod Turns
+mod Running
+mod Joining

@@ -1,0 +1,13 @@
+use Rattle.std.proofs.Common.{◌+◌}
+use Rattle.frame_core.specs.Names.{job_pieces}
+use Rattle.frame_core.specs.Know.{reads, writes}
+use Rattle.steal_pool.proofs.held.hold_segment.Given as goal
+
+abbrev pub ghosts-run_segment_on : goal.ghosts-run_segment_on
+ghosts-run_segment_on g a = record {
+  name = g.B.Board.name a.board.now;
+  piece = job_pieces a.plan.now + a.i;
+  held = g.B.Board.know a.seat;
+  read = reads (g.B.Board.plan a.board.now) (job_pieces a.plan.now + a.i);
+  write = writes (g.B.Board.plan a.board.now) (job_pieces a.plan.now + a.i);
+}

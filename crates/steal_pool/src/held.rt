@@ -1,0 +1,135 @@
+// What is run on a seat's lease.
+ghost use Rattle.std.specs.Prelude.{◌≡◌, ◌<◌, ◌+◌, ◌^◌, Some, length};
+ghost use Rattle.frame_print.specs.Reports.{IsReportOf};
+ghost use Rattle.frame_core.specs.declared.piece.Piece.TheVariants.{OfScript};
+ghost use Rattle.frame_core.specs.Names.{job_pieces};
+ghost use Rattle.frame_core.specs.Pieces.{piece_numbered};
+ghost use Rattle.frame_core.specs.Effects.{piece_cells};
+ghost use Rattle.frame_core.specs.Graphs.{before_piece};
+ghost use Rattle.frame_core.specs.Output.{plan_traps, segment_lines, segment_refused};
+ghost use Rattle.frame_core.specs.Know.{IsStill, reads, writes};
+ghost use Rattle.frame_core.specs.Ordered.{IsWellOrderedPlan};
+ghost use Rattle.steal_pool.specs.Lines.{segment_cells};
+ghost use Rattle.steal_pool.specs.Says.{SaysTo};
+
+use crate::segment::run_segment;
+use frame_core::{Board, Holding, Lease, Plan, run_piece};
+use frame_print::Report;
+use job_base::{PieceId, Sink};
+use kernel_exec::Scratch;
+use std::marker::Brand;
+
+fn run_part_on<B: Board, K: Holding>(
+    plan: &Plan,
+    board: &B,
+    seat: B::Seat,
+    p: PieceId,
+    scratch: &mut Scratch,
+) -> B::Seat
+    requires plan { plan.now ≡ B.plan board.now }
+    requires well { IsWellOrderedPlan plan.now }
+    requires piece { p.0 < job_pieces plan.now }
+    requires is { K.piece ≡ p.0 }
+    requires name { B.name board.now ≡ K.name }
+    requires home { B.home seat ≡ K.name }
+    requires held { B.know seat ≡ K.held }
+    requires lease { K.held.lease ≡ Some K.piece }
+    requires read { reads (B.plan board.now) K.piece ≡ K.read }
+    requires write { writes (B.plan board.now) K.piece ≡ K.write }
+    ensures home { B.home result ≡ B.home seat }
+    ensures still { IsStill (B.know seat) (B.know result) }
+    ensures cells { (B.know result).cells ≡ piece_cells plan.now (piece_numbered plan.now p.0) (B.know seat).cells }
+{
+    let mut lease: Lease<B, K> = Lease::over(board, seat);
+    run_piece(plan, p, scratch, &mut lease);
+    lease.into_seat()
+}
+
+/// Runs a piece of a job on the seat's lease.
+pub fn hold_part<B: Board>(
+    plan: &Plan,
+    board: &B,
+    seat: B::Seat,
+    p: PieceId,
+    scratch: &mut Scratch,
+) -> B::Seat
+    requires plan { plan.now ≡ B.plan board.now }
+    requires well { IsWellOrderedPlan plan.now }
+    requires piece { p.0 < job_pieces plan.now }
+    requires home { B.home seat ≡ B.name board.now }
+    requires lease { (B.know seat).lease ≡ Some p.0 }
+    ensures home { B.home result ≡ B.home seat }
+    ensures still { IsStill (B.know seat) (B.know result) }
+    ensures cells { (B.know result).cells ≡ piece_cells plan.now (piece_numbered plan.now p.0) (B.know seat).cells }
+{
+    run_part_on::<B, Brand>(plan, board, seat, p, scratch)
+}
+
+/// A seat, and the traps that were counted.
+pub struct Counted<S> {
+    pub seat: S,
+    pub traps: Report,
+}
+
+fn run_segment_on<B: Board, K: Holding, S: Sink>(
+    plan: &Plan,
+    board: &B,
+    seat: B::Seat,
+    i: u32,
+    sink: &mut S,
+    failed: &mut bool,
+    refused: &mut u64,
+) -> Counted<B::Seat>
+    requires plan { plan.now ≡ B.plan board.now }
+    requires well { IsWellOrderedPlan plan.now }
+    requires index { i < length plan.now.segments.items }
+    requires few { refused.old + segment_refused plan.now i < 2 ^ 64 }
+    requires is { K.piece ≡ job_pieces plan.now + i }
+    requires name { B.name board.now ≡ K.name }
+    requires home { B.home seat ≡ K.name }
+    requires held { B.know seat ≡ K.held }
+    requires cells { (B.know seat).cells ≡ before_piece plan.now (OfScript i) }
+    requires lease { K.held.lease ≡ Some K.piece }
+    requires read { reads (B.plan board.now) K.piece ≡ K.read }
+    requires write { writes (B.plan board.now) K.piece ≡ K.write }
+    ensures home { B.home result.seat ≡ B.home seat }
+    ensures still { IsStill (B.know seat) (B.know result.seat) }
+    ensures cells { (B.know result.seat).cells ≡ segment_cells plan.now i }
+    ensures text { SaysTo S.taken S.faults sink.old sink.new failed.old failed.new (segment_lines plan.now i) }
+    ensures refused { refused.new ≡ refused.old + segment_refused plan.now i }
+    ensures traps { i + 1 ≡ length plan.now.segments.items → IsReportOf (plan_traps plan.now) result.traps }
+{
+    let mut lease: Lease<B, K> = Lease::over(board, seat);
+    let traps = run_segment(plan, i, &mut lease, sink, failed, refused);
+    Counted {
+        seat: lease.into_seat(),
+        traps,
+    }
+}
+
+/// Runs a segment on the seat's lease.
+pub fn hold_segment<B: Board, S: Sink>(
+    plan: &Plan,
+    board: &B,
+    seat: B::Seat,
+    i: u32,
+    sink: &mut S,
+    failed: &mut bool,
+    refused: &mut u64,
+) -> Counted<B::Seat>
+    requires plan { plan.now ≡ B.plan board.now }
+    requires well { IsWellOrderedPlan plan.now }
+    requires index { i < length plan.now.segments.items }
+    requires few { refused.old + segment_refused plan.now i < 2 ^ 64 }
+    requires home { B.home seat ≡ B.name board.now }
+    requires lease { (B.know seat).lease ≡ Some (job_pieces plan.now + i) }
+    requires cells { (B.know seat).cells ≡ before_piece plan.now (OfScript i) }
+    ensures home { B.home result.seat ≡ B.home seat }
+    ensures still { IsStill (B.know seat) (B.know result.seat) }
+    ensures cells { (B.know result.seat).cells ≡ segment_cells plan.now i }
+    ensures text { SaysTo S.taken S.faults sink.old sink.new failed.old failed.new (segment_lines plan.now i) }
+    ensures refused { refused.new ≡ refused.old + segment_refused plan.now i }
+    ensures traps { i + 1 ≡ length plan.now.segments.items → IsReportOf (plan_traps plan.now) result.traps }
+{
+    run_segment_on::<B, Brand, S>(plan, board, seat, i, sink, failed, refused)
+}

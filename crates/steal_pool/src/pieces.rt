@@ -1,0 +1,169 @@
+// Pieces of jobs: opening them, running one, and what follows when a job is finished.
+ghost use Rattle.std.specs.Prelude.{◌≡◌, ◌+◌, ◌<◌, ◌≤◌, ℕ, suc, Some, None, length, All};
+ghost use Rattle.frame_core.specs.Names.{job_pieces};
+ghost use Rattle.frame_core.specs.Ordered.{IsWellOrderedPlan};
+ghost use Rattle.steal_pool.specs.Followers.{IsJobOf, AreFollowers};
+ghost use Rattle.steal_pool.specs.Crews.{IsCrewOf};
+ghost use Rattle.steal_pool.specs.Seats.{IsIdle, IsOn, IsSteady, IsReleased, MayOpenFrom, HasDues};
+
+use crate::crew::Crew;
+use crate::followers::Followers;
+use crate::held::hold_part;
+use crate::place::Tools;
+use crate::queue::Queue;
+use frame_core::{Board, Plan};
+use job_base::{Gate, JobId, PieceId};
+
+// Opens the pieces of a job, and offers each of them once it is open, so that whoever finds it can begin it.
+fn open_job<B: Board>(plan: &Plan, board: &B, seat: &mut B::Seat, queue: &mut Queue, job: JobId)
+    requires plan { plan.now ≡ B.plan board.now }
+    requires well { IsWellOrderedPlan plan.now }
+    requires job { IsJobOf plan.now job }
+    requires home { B.home seat.old ≡ B.name board.now }
+    requires rights { MayOpenFrom plan.now job.0 0 (B.know seat.old) }
+    ensures home { B.home seat.new ≡ B.home seat.old }
+    ensures steady { IsSteady (B.know seat.old) (B.know seat.new) }
+{
+    let entry = &plan.jobs[job.0 as usize - 1];
+    let first = entry.first.0;
+    for p in first..first + entry.pieces() {
+        board.open_piece(seat, PieceId(p));
+        queue.push(PieceId(p));
+    }
+}
+
+// Ends the duty to release a job, and opens it where nothing is left to wait for.
+pub(crate) fn release_job<B: Board>(
+    plan: &Plan,
+    board: &B,
+    seat: &mut B::Seat,
+    queue: &mut Queue,
+    job: JobId,
+)
+    requires plan { plan.now ≡ B.plan board.now }
+    requires well { IsWellOrderedPlan plan.now }
+    requires job { IsJobOf plan.now job }
+    requires home { B.home seat.old ≡ B.name board.now }
+    requires due { 0 < (B.know seat.old).dues job.0 }
+    ensures home { B.home seat.new ≡ B.home seat.old }
+    ensures released { IsReleased job.0 (B.know seat.old) (B.know seat.new) }
+{
+    if board.release(seat, job) {
+        open_job(plan, board, seat, queue, job);
+    }
+}
+
+// Releases what depends on a finished job.
+fn release_after<B: Board>(
+    plan: &Plan,
+    board: &B,
+    seat: &mut B::Seat,
+    queue: &mut Queue,
+    jobs: &[JobId],
+)
+    requires plan { plan.now ≡ B.plan board.now }
+    requires well { IsWellOrderedPlan plan.now }
+    requires jobs { All (IsJobOf plan.now) jobs.now }
+    requires home { B.home seat.old ≡ B.name board.now }
+    requires lease { (B.know seat.old).lease ≡ None }
+    requires owed { (B.know seat.old).owed ≡ None }
+    requires dues { HasDues jobs.now (B.know seat.old) }
+    ensures home { B.home seat.new ≡ B.home seat.old }
+    ensures idle { IsIdle (B.know seat.new) }
+    ensures on { IsOn (B.know seat.old) (B.know seat.new) }
+{
+    let mut rest = jobs;
+    while let Some((job, tail)) = rest.split_first() {
+        release_job(plan, board, seat, queue, *job);
+        rest = tail;
+    }
+}
+
+/// A seat, and whether it ran a piece.
+pub struct Ran<S> {
+    pub seat: S,
+    pub ran: bool,
+}
+
+// Ends a piece of a job that was run, and counts it.
+fn end_piece<B: Board>(
+    plan: &Plan,
+    board: &B,
+    seat: &mut B::Seat,
+    queue: &mut Queue,
+    followers: &Followers,
+)
+    requires plan { plan.now ≡ B.plan board.now }
+    requires well { IsWellOrderedPlan plan.now }
+    requires followers { AreFollowers plan.now followers.now }
+    requires home { B.home seat.old ≡ B.name board.now }
+    requires owed { (j : ℕ) × ((B.know seat.old).owed ≡ Some (suc j)) × (j < length plan.now.jobs.items) }
+    requires lease { (B.know seat.old).lease ≡ None }
+    requires dues { (j : ℕ) → (B.know seat.old).dues j ≡ 0 }
+    ensures home { B.home seat.new ≡ B.home seat.old }
+    ensures idle { IsIdle (B.know seat.new) }
+    ensures on { IsOn (B.know seat.old) (B.know seat.new) }
+{
+    if let Some(job) = board.count(seat) {
+        release_after(plan, board, seat, queue, followers.of(job));
+    }
+}
+
+// Runs a piece of a job, if it is open. A number that is no piece of a job, or is not open, is let go.
+fn run_piece<R, B: Board, G: Gate>(
+    crew: &Crew<R, B, G>,
+    tools: &mut Tools,
+    seat: B::Seat,
+    piece: PieceId,
+) -> Ran<B::Seat>
+    requires crew { IsCrewOf crew.now.plan.now (B.plan crew.now.board.now) crew.now.shared.now.followers }
+    requires home { B.home seat ≡ B.name crew.now.board.now }
+    requires idle { IsIdle (B.know seat) }
+    ensures home { B.home result.seat ≡ B.home seat }
+    ensures idle { IsIdle (B.know result.seat) }
+    ensures on { IsOn (B.know seat) (B.know result.seat) }
+{
+    let plan = crew.plan;
+    let board = crew.board;
+    let mut own = seat;
+    if piece.0 >= plan.job_pieces() || !board.begin(&mut own, piece) {
+        return Ran {
+            seat: own,
+            ran: false,
+        };
+    }
+    crew.gate.enter(tools.number, piece);
+    let mut own = hold_part(plan, board, own, piece, &mut tools.scratch);
+    crew.gate.leave(tools.number, piece);
+    board.end(&mut own);
+    end_piece(
+        plan,
+        board,
+        &mut own,
+        &mut tools.queue,
+        &crew.shared.followers,
+    );
+    Ran {
+        seat: own,
+        ran: true,
+    }
+}
+
+/// Runs a piece of a job, if one is found that is open.
+pub fn help<R, B: Board, G: Gate>(
+    crew: &Crew<R, B, G>,
+    tools: &mut Tools,
+    seat: B::Seat,
+) -> Ran<B::Seat>
+    requires crew { IsCrewOf crew.now.plan.now (B.plan crew.now.board.now) crew.now.shared.now.followers }
+    requires home { B.home seat ≡ B.name crew.now.board.now }
+    requires idle { IsIdle (B.know seat) }
+    ensures home { B.home result.seat ≡ B.home seat }
+    ensures idle { IsIdle (B.know result.seat) }
+    ensures on { IsOn (B.know seat) (B.know result.seat) }
+{
+    match tools.queue.find(tools.number, &crew.shared.thieves) {
+        Some(piece) => run_piece(crew, tools, seat, piece),
+        None => Ran { seat, ran: false },
+    }
+}

@@ -1,0 +1,145 @@
+// The script thread: the segments one after another.
+ghost use Rattle.std.specs.Prelude.{◌≡◌, ◌<◌, ◌+◌, ◌^◌, None, IfSome, ℕ, List, length};
+ghost use Rattle.frame_ast.specs.States.{JobTrap};
+ghost use Rattle.frame_print.specs.Reports.{IsReportOf};
+ghost use Rattle.frame_core.specs.Know.{due_once};
+ghost use Rattle.frame_core.specs.Output.{plan_lines, plan_traps, segment_lines, segment_refused};
+ghost use Rattle.frame_core.specs.Ordered.{IsWellOrderedPlan};
+ghost use Rattle.steal_pool.specs.Followers.{IsJobOf};
+ghost use Rattle.steal_pool.specs.Crews.{IsCrewOf};
+ghost use Rattle.steal_pool.specs.Runs.{RunsTo, is_fault, report_of};
+ghost use Rattle.steal_pool.specs.Says.{SaysTo};
+ghost use Rattle.steal_pool.specs.Seats.{IsIdle, IsOn, IsAt};
+
+use crate::crew::Crew;
+use crate::held::{Counted, hold_segment};
+use crate::pieces::release_job;
+use crate::place::Tools;
+use crate::queue::Queue;
+use crate::run_end::RunEnd;
+use crate::tally::no_traps;
+use crate::waiting::{begin_opened, wait_all};
+use frame_core::{Board, Plan};
+use frame_print::Report;
+use job_base::{Gate, JobId, PieceId, Sink};
+use std::sync::Wait;
+
+// Releases the job that a segment starts.
+fn start_job<B: Board>(
+    plan: &Plan,
+    board: &B,
+    seat: &mut B::Seat,
+    queue: &mut Queue,
+    starts: Option<JobId>,
+)
+    requires plan { plan.now ≡ B.plan board.now }
+    requires well { IsWellOrderedPlan plan.now }
+    requires job { IfSome starts (IsJobOf plan.now) }
+    requires home { B.home seat.old ≡ B.name board.now }
+    requires lease { (B.know seat.old).lease ≡ None }
+    requires owed { (B.know seat.old).owed ≡ None }
+    requires dues { (j : ℕ) → (B.know seat.old).dues j ≡ due_once starts j }
+    ensures home { B.home seat.new ≡ B.home seat.old }
+    ensures idle { IsIdle (B.know seat.new) }
+    ensures on { IsOn (B.know seat.old) (B.know seat.new) }
+{
+    if let Some(job) = starts {
+        release_job(plan, board, seat, queue, job);
+    }
+}
+
+// Runs the next segment: waits for its jobs, opens it, runs it and starts its job.
+fn run_next<R: Wait, B: Board, S: Sink, G: Gate>(
+    crew: &Crew<R, B, G>,
+    tools: &mut Tools,
+    seat: B::Seat,
+    sink: &mut S,
+    failed: &mut bool,
+    refused: &mut u64,
+    i: u32,
+) -> Counted<B::Seat>
+    requires crew { IsCrewOf crew.now.plan.now (B.plan crew.now.board.now) crew.now.shared.now.followers }
+    requires home { B.home seat ≡ B.name crew.now.board.now }
+    requires at { IsAt i (B.know seat) }
+    requires index { i < length crew.now.plan.now.segments.items }
+    requires few { refused.old + segment_refused crew.now.plan.now i < 2 ^ 64 }
+    ensures home { B.home result.seat ≡ B.home seat }
+    ensures at { IsAt (i + 1) (B.know result.seat) }
+    ensures text { SaysTo S.taken S.faults sink.old sink.new failed.old failed.new (segment_lines crew.now.plan.now i) }
+    ensures refused { refused.new ≡ refused.old + segment_refused crew.now.plan.now i }
+    ensures traps { i + 1 ≡ length crew.now.plan.now.segments.items
+        → IsReportOf (plan_traps crew.now.plan.now) result.traps }
+{
+    let plan = crew.plan;
+    let board = crew.board;
+    let segment = &plan.segments[i as usize];
+    let piece = PieceId(plan.job_pieces() + i);
+    let mut own = wait_all(crew, tools, seat, &segment.waits);
+    board.open_piece(&mut own, piece);
+    let own = begin_opened(crew.rt, board, own, piece);
+    crew.gate.enter(tools.number, piece);
+    let Counted {
+        seat: mut own,
+        traps,
+    } = hold_segment(plan, board, own, i, sink, failed, refused);
+    crew.gate.leave(tools.number, piece);
+    board.end(&mut own);
+    start_job(plan, board, &mut own, &mut tools.queue, segment.starts);
+    Counted { seat: own, traps }
+}
+
+/// A seat, and how the run ended.
+pub struct Scripted<S> {
+    pub seat: S,
+    pub end: RunEnd,
+}
+
+// How a run ended that met these traps, and refused so many statements.
+fn end_of(failed: bool, traps: &Report, refused: u64) -> RunEnd
+    ensures fault { is_fault result ≡ failed }
+    ensures traps { (ts : List JobTrap) → IsReportOf ts traps.now → IsReportOf ts (report_of result) }
+    ensures refused { (report_of result).refused ≡ refused }
+{
+    let report = Report { refused, ..*traps };
+    if failed {
+        RunEnd::WriteFault(report)
+    } else {
+        RunEnd::Done(report)
+    }
+}
+
+/// Runs all segments in order, and writes their lines.
+pub fn run_script<R: Wait, B: Board, S: Sink, G: Gate>(
+    crew: &Crew<R, B, G>,
+    tools: &mut Tools,
+    seat: B::Seat,
+    sink: &mut S,
+) -> Scripted<B::Seat>
+    requires crew { IsCrewOf crew.now.plan.now (B.plan crew.now.board.now) crew.now.shared.now.followers }
+    requires home { B.home seat ≡ B.name crew.now.board.now }
+    requires at { IsAt 0 (B.know seat) }
+    ensures home { B.home result.seat ≡ B.home seat }
+    ensures at { IsAt (length crew.now.plan.now.segments.items) (B.know result.seat) }
+    ensures run { RunsTo S.taken S.faults crew.now.plan.now (plan_lines crew.now.plan.now)
+        sink.old sink.new result.end }
+{
+    let mut own = seat;
+    let mut failed = false;
+    let mut refused = 0u64;
+    let mut last = no_traps();
+    for i in 0..crew.plan.segments.len() as u32 {
+        let Counted { seat: next, traps } = run_next(
+            crew,
+            tools,
+            own,
+            sink,
+            &mut failed,
+            &mut refused,
+            i,
+        );
+        own = next;
+        last = traps;
+    }
+    let end = end_of(failed, &last, refused);
+    Scripted { seat: own, end }
+}

@@ -1,0 +1,183 @@
+// The threads of a run.
+ghost use Rattle.std.specs.Prelude.{◌≡◌, ◌<◌, All, length};
+ghost use Rattle.std.specs.Thread.{IsSync};
+ghost use Rattle.job_base.specs.declared.limits.TheConstants.{MOST_WORKERS};
+ghost use Rattle.frame_core.specs.Output.{plan_lines};
+ghost use Rattle.steal_pool.specs.Crews.{IsCrewOf};
+ghost use Rattle.steal_pool.specs.Runs.{RunsTo};
+ghost use Rattle.steal_pool.specs.Seats.{IsReady, IsFirst};
+
+use crate::crew::{Crew, Shared};
+use crate::pieces::{Ran, help};
+use crate::place::Place;
+use crate::run_end::RunEnd;
+use crate::script::{Scripted, run_script};
+use crate::shown_plan::ShowsPlan;
+use crossbeam_utils::Backoff;
+use frame_core::{Board, Plan};
+use job_base::{Gate, Sink};
+use std::sync::Wait;
+use std::thread;
+use std::thread::{Threads, join_mut};
+
+/// How many turns without a piece, one after another, end a worker.
+const IDLE_TURNS: u32 = 65_536;
+
+// One worker, until it finds no piece for a while, or finds none once the script is through.
+fn work<R: Wait, B: Board, G: Gate>(
+    rt: &R,
+    plan: &Plan,
+    board: &B,
+    gate: &G,
+    shared: &Shared,
+    place: &mut Place<B::Seat>,
+)
+where
+    B::Seat: Drop,
+    requires crew { IsCrewOf plan.now (B.plan board.now) shared.now.followers }
+    requires ready { IsReady B.home B.know (B.name board.now) place.old }
+{
+    let crew = Crew {
+        rt,
+        plan,
+        board,
+        gate,
+        shared,
+    };
+    let Some(seat) = place.seat.take() else {
+        return;
+    };
+    let backoff = Backoff::new();
+    let mut own = seat;
+    let mut turns = 0u32;
+    for _ in rt.forever() {
+        let Ran { seat: next, ran } = help(&crew, &mut place.tools, own);
+        own = next;
+        if ran {
+            turns = 0;
+            backoff.reset();
+        } else {
+            turns += 1;
+            if turns >= IDLE_TURNS || shared.over.load() {
+                break;
+            }
+            backoff.snooze();
+        }
+    }
+    place.seat = Some(own);
+}
+
+// The script, on its place. At its end it lets the workers go.
+fn run_script_on<R: Wait, B: Board, S: Sink, G: Gate>(
+    rt: &R,
+    plan: &Plan,
+    board: &B,
+    gate: &G,
+    shared: &Shared,
+    place: &mut Place<B::Seat>,
+    sink: &mut S,
+) -> RunEnd
+where
+    B::Seat: Drop,
+    requires crew { IsCrewOf plan.now (B.plan board.now) shared.now.followers }
+    requires first { IsFirst B.home B.know (B.name board.now) 0 place.old }
+    ensures first { IsFirst B.home B.know (B.name board.now) (length plan.now.segments.items) place.new }
+    ensures run { RunsTo S.taken S.faults plan.now (plan_lines plan.now) sink.old sink.new result }
+{
+    let crew = Crew {
+        rt,
+        plan,
+        board,
+        gate,
+        shared,
+    };
+    let Some(seat) = place.seat.take() else {
+        unreachable!()
+    };
+    let Scripted { seat: own, end } = run_script(&crew, &mut place.tools, seat, sink);
+    place.seat = Some(own);
+    shared.over.store(true);
+    end
+}
+
+// Runs a worker on each place.
+fn run_workers<R: Threads + Wait + Sync, P: ShowsPlan + Sync, B: Board + Sync, G: Gate + Sync>(
+    rt: &R,
+    plan: &P,
+    board: &B,
+    gate: &G,
+    shared: &Shared,
+    others: &mut [Place<B::Seat>],
+)
+where
+    B::Seat: Send + Drop,
+    requires crew { IsCrewOf (P.shown plan.now) (B.plan board.now) shared.now.followers }
+    requires others { All (IsReady B.home B.know (B.name board.now)) others.old }
+    requires many { length others.old < MOST_WORKERS }
+{
+    let threads = others.len();
+    if threads == 0 {
+        return;
+    }
+    thread::for_each_mut(
+        rt,
+        others,
+        threads,
+        &|_, place|
+            requires { IsSync R.row
+                × IsCrewOf (P.shown plan.now) (B.plan board.now) shared.now.followers
+                × IsReady B.home B.know (B.name board.now) place.old }
+        { work(rt, plan.plan(), board, gate, shared, place) },
+    );
+}
+
+/// Runs a plan: the script on the first place, and workers on the others, of which no more are started than there are
+/// pieces of jobs. Where there are none, no thread is started.
+pub(crate) fn run_places<
+    'x,
+    R: Threads + Wait + Sync,
+    P: ShowsPlan + Sync,
+    B: Board + Sync,
+    S: Sink,
+    G: Gate + Sync,
+>(
+    rt: &'x R,
+    plan: &'x P,
+    board: &'x B,
+    gate: &'x G,
+    shared: &'x Shared,
+    sink: &mut S,
+    first: &mut Place<B::Seat>,
+    others: &mut [Place<B::Seat>],
+) -> RunEnd
+where
+    B::Seat: Send + Drop,
+    requires crew { IsCrewOf (P.shown plan.now) (B.plan board.now) shared.now.followers }
+    requires first { IsFirst B.home B.know (B.name board.now) 0 first.old }
+    requires others { All (IsReady B.home B.know (B.name board.now)) others.old }
+    requires many { length others.old < MOST_WORKERS }
+    ensures first { IsFirst B.home B.know (B.name board.now) (length (P.shown plan.now).segments.items) first.new }
+    ensures run { RunsTo S.taken S.faults (P.shown plan.now) (plan_lines (P.shown plan.now)) sink.old sink.new result }
+{
+    let busy = others.len().min(plan.plan().job_pieces() as usize);
+    if busy == 0 {
+        return run_script_on(rt, plan.plan(), board, gate, shared, first, sink);
+    }
+    let workers = &mut others[..busy];
+    let mut f = ||
+        requires { IsSync R.row
+            × IsCrewOf (P.shown plan.now) (B.plan board.now) shared.now.followers
+            × All (IsReady B.home B.know (B.name board.now)) workers.now
+            × (length workers.now < MOST_WORKERS) }
+    { run_workers(rt, plan, board, gate, shared, workers) };
+    let mut g = ||
+        requires { IsCrewOf (P.shown plan.now) (B.plan board.now) shared.now.followers
+            × IsFirst B.home B.know (B.name board.now) 0 first.now }
+        ensures first { IsFirst B.home B.know (B.name board.entry.now)
+            (length (P.shown plan.entry.now).segments.items) first.exit.now }
+        ensures run { RunsTo S.taken S.faults (P.shown plan.entry.now) (plan_lines (P.shown plan.entry.now))
+            sink.entry.now sink.exit.now result }
+    { run_script_on(rt, plan.plan(), board, gate, shared, first, sink) };
+    let (_, end) = join_mut(rt, &mut f, &mut g);
+    end
+}

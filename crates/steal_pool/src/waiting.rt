@@ -1,0 +1,95 @@
+// Waiting for others: the script thread helps meanwhile.
+ghost use Rattle.std.specs.Prelude.{◌≡◌, ◌<◌, ℕ, true, All};
+ghost use Rattle.frame_core.specs.Names.{has_job};
+ghost use Rattle.frame_core.specs.Pieces.{piece_numbered};
+ghost use Rattle.frame_core.specs.Know.{IsFree, MayBegin, begun, piece_count};
+ghost use Rattle.frame_core.specs.Ordered.{IsWellOrderedPlan};
+ghost use Rattle.steal_pool.specs.Followers.{IsJobOf};
+ghost use Rattle.steal_pool.specs.Crews.{IsCrewOf};
+ghost use Rattle.steal_pool.specs.Seats.{IsIdle, IsOn};
+
+use crate::crew::Crew;
+use crate::pieces::{Ran, help};
+use crate::place::Tools;
+use crossbeam_utils::Backoff;
+use frame_core::Board;
+use job_base::{Gate, JobId, PieceId};
+use std::sync::Wait;
+
+// Helps until a job is finished. The script thread never gives up: it may be the only one.
+fn wait_one<R: Wait, B: Board, G: Gate>(
+    crew: &Crew<R, B, G>,
+    tools: &mut Tools,
+    seat: B::Seat,
+    job: JobId,
+) -> B::Seat
+    requires crew { IsCrewOf crew.now.plan.now (B.plan crew.now.board.now) crew.now.shared.now.followers }
+    requires home { B.home seat ≡ B.name crew.now.board.now }
+    requires idle { IsIdle (B.know seat) }
+    requires job { IsJobOf crew.now.plan.now job }
+    ensures home { B.home result ≡ B.home seat }
+    ensures idle { IsIdle (B.know result) }
+    ensures on { IsOn (B.know seat) (B.know result) }
+    ensures seen { (B.know result).seen job.0 ≡ true }
+{
+    let backoff = Backoff::new();
+    let mut own = seat;
+    for _ in crew.rt.forever() {
+        if crew.board.finished(&mut own, job) {
+            return own;
+        }
+        let Ran { seat: next, ran } = help(crew, tools, own);
+        own = next;
+        if ran {
+            backoff.reset();
+        } else {
+            backoff.snooze();
+        }
+    }
+    unreachable!()
+}
+
+/// Helps until jobs are finished.
+pub fn wait_all<R: Wait, B: Board, G: Gate>(
+    crew: &Crew<R, B, G>,
+    tools: &mut Tools,
+    seat: B::Seat,
+    waits: &[JobId],
+) -> B::Seat
+    requires crew { IsCrewOf crew.now.plan.now (B.plan crew.now.board.now) crew.now.shared.now.followers }
+    requires home { B.home seat ≡ B.name crew.now.board.now }
+    requires idle { IsIdle (B.know seat) }
+    requires jobs { All (IsJobOf crew.now.plan.now) waits.now }
+    ensures home { B.home result ≡ B.home seat }
+    ensures idle { IsIdle (B.know result) }
+    ensures on { IsOn (B.know seat) (B.know result) }
+    ensures seen { (j : ℕ) → has_job waits.now j ≡ true → (B.know result).seen j ≡ true }
+{
+    let mut own = seat;
+    let mut rest = waits;
+    while let Some((job, tail)) = rest.split_first() {
+        own = wait_one(crew, tools, own, *job);
+        rest = tail;
+    }
+    own
+}
+
+/// Begins a piece that this seat opened. A board may say no for a while.
+pub fn begin_opened<R: Wait, B: Board>(rt: &R, board: &B, seat: B::Seat, piece: PieceId) -> B::Seat
+    requires home { B.home seat ≡ B.name board.now }
+    requires piece { piece.0 < piece_count (B.plan board.now) }
+    requires free { IsFree (B.know seat) }
+    requires first { MayBegin (B.know seat) (piece_numbered (B.plan board.now) piece.0) }
+    ensures home { B.home result ≡ B.home seat }
+    ensures know { B.know result ≡ begun (B.plan board.now) (B.know seat) piece.0 true }
+{
+    let backoff = Backoff::new();
+    let mut own = seat;
+    for _ in rt.forever() {
+        if board.begin(&mut own, piece) {
+            return own;
+        }
+        backoff.snooze();
+    }
+    unreachable!()
+}
