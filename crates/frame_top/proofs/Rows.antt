@@ -166,3 +166,9 @@ ran_row words bytes old new s h z w =
     let Q : List ℕ → Type 0 = λ b. (script : Script) × IsRun script b × (status_of script no_table ≡ 0) × Appends old new (output_of script no_table) in
     let all : (b : List ℕ) → IsRun s b → Q b = λ b run. (s, run, z, w) in
     in_some (script_word words) (λ name. IfSome (bytes name) (IsRun s)) (λ name. IfSome (bytes name) Q) (λ name q. if_some (bytes name) (IsRun s) Q all q) h
+
+pub sink_same : (cause : ℕ → List ℕ → Type 0) (old new : Option (List ℕ)) (before now result : ℕ) → Answers cause old new before now result → result ≢ 7 → now ≡ before
+sink_same cause old new before now result (Caused status text why (Whole is app same)) a = same
+sink_same cause old new before now result (Caused status text why (Part is n app rose)) a = absurd (a is)
+sink_same cause old new before now result (Caused status text why (Wanting is app same)) a = same
+sink_same cause old new before now result (Early is app same) a = same

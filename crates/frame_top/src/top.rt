@@ -1,5 +1,5 @@
 // The top call.
-ghost use Rattle.std.specs.Prelude.{◌⊎◌, ◌≡◌, ◌<◌, ◌≤◌, ℕ, List, [], length, map, nat_lt, None, Some, IsSomeAnd, string_bytes};
+ghost use Rattle.std.specs.Prelude.{◌⊎◌, ◌≡◌, ◌≢◌, ◌<◌, ◌≤◌, ℕ, List, [], length, map, nat_lt, None, Some, IsSomeAnd, string_bytes};
 ghost use Rattle.std.specs.Io.KnownBytes.{Appends};
 ghost use Rattle.job_base.specs.Faults.{Rose};
 ghost use Rattle.frame_ast.specs.declared.kernel.FaultKind.{FaultKind as Fault};
@@ -61,6 +61,7 @@ fn answer<F: Files, S: Sink>(alloc: Global, words: &[String], files: &mut F, sin
     ensures status { IsStatus result }
     ensures same { F.bytes files.new ≡ F.bytes files.old }
     ensures files_later { F.faults files.old ≤ F.faults files.new }
+    ensures reads { ((F.faults files.new ≡ F.faults files.old) × (F.last_failed files.new ≡ F.last_failed files.old)) ⊎ IsSomeAnd (script_word (map (λ w. string_bytes w) words.now)) (λ name. Rose (F.faults files.old) (F.faults files.new) × (F.last_failed files.new ≡ Some name)) }
     ensures answer { Answers (Cause (map (λ w. string_bytes w) words.now) (F.bytes files.old) (Rose (F.faults files.old) (F.faults files.new)) (F.last_failed files.new)) (S.taken sink.old) (S.taken sink.new) (S.faults sink.old) (S.faults sink.new) result }
 {
     let Some(name) = script_name(words) else {
@@ -138,6 +139,8 @@ pub fn run_frame<F: Files, S: Sink, G: Gate>(
     // What stays.
     ensures same { F.bytes files.new ≡ F.bytes files.old }
     ensures files_later { F.faults files.old ≤ F.faults files.new }
+    ensures reads { ((F.faults files.new ≡ F.faults files.old) × (F.last_failed files.new ≡ F.last_failed files.old)) ⊎ IsSomeAnd (script_word (map (λ w. string_bytes w) words.now)) (λ name. Rose (F.faults files.old) (F.faults files.new) × (F.last_failed files.new ≡ Some name)) }
+    ensures taken_all { result ≢ 7 → S.faults sink.new ≡ S.faults sink.old }
 {
     let _ = gate;
     answer(alloc, words, files, sink)

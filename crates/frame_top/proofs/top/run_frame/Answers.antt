@@ -6,7 +6,7 @@ use Rattle.frame_ast.specs.Orders.{no_table}
 use Rattle.frame_ast.specs.Scripts.{status_of, output_of}
 use Rattle.frame_top.specs.Answers.{IsFaulty, HasTooMany, IsRun, IsStopped, IsTooLong}
 use Rattle.frame_top.proofs.Meanings.{long, fault, many, run_means, stopped_means}
-use Rattle.frame_top.proofs.Rows.{given, rows, ran_row, ran_not, sink_rose, nothing_written, settles, usage_settles, due, due_text, are_due}
+use Rattle.frame_top.proofs.Rows.{given, rows, ran_row, ran_not, sink_rose, nothing_written, settles, usage_settles, sink_same, due, due_text, are_due}
 use Rattle.frame_top.proofs.top.run_frame.Goals as goal
 
 pub returns-clause-headline : goal.returns-clause-headline
@@ -81,3 +81,6 @@ returns-clause-too_many_due g c h =
 pub returns-clause-stopped_due : goal.returns-clause-stopped_due
 returns-clause-stopped_due g c line h =
     are_due _ _ _ _ _ _ _ 3 (script_refused_line line Syntax) (λ z. omega arith) (λ z. omega arith) (λ z. omega arith) (λ status text why. settles _ _ _ _ (IsStopped line) 3 (script_refused_line line Syntax) (stopped_means line) h status text why) c.answer.ensures.answer
+
+pub returns-clause-taken_all : goal.returns-clause-taken_all
+returns-clause-taken_all g c e = sink_same _ _ _ _ _ _ c.answer.ensures.answer e
