@@ -116,10 +116,10 @@ module _ (old new : Cells) (start : ℕ) where
   is_out from len w (inl lt) = grind arith
   is_out from len w (inr ge) = grind arith
 
-  abbrev OutsideOf : Bind → Contents → Type 0
+  abbrev pub OutsideOf : Bind → Contents → Type 0
   OutsideOf b c = (w : ℕ) → IsWordOf (bind_of start c) w → (IsWordOf b w → IsLength b w) → new w ≡ old w
 
-  slice_left : (width from len : ℕ) (xs : List ℤ) (cnew : Contents) → from + len ≤ length xs → ArrayStandsFor (record { start = start; len = length xs }) old (Elements xs)
+  pub slice_left : (width from len : ℕ) (xs : List ℤ) (cnew : Contents) → from + len ≤ length xs → ArrayStandsFor (record { start = start; len = length xs }) old (Elements xs)
       → ArrayStandsFor (record { start = start + from; len = len }) new cnew → OutsideOf (Array (record { start = start + from; len = len }) width) (Elements xs)
       → Elements (take from xs ++ elements cnew ++ drop (from + len) xs) ≡ Elements (cell_list new start (length xs))
   slice_left width from len xs cnew le h hn out =

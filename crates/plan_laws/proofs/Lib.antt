@@ -18,6 +18,9 @@ pub mod Moving
 pub mod Owners
 pub mod PartFraming
 pub mod Printing
+pub mod AccessingWords
+pub mod AccessingSteps
+pub mod Accessing
 pub mod Running
 pub mod Refusing
 pub mod Scheduling

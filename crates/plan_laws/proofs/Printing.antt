@@ -36,14 +36,14 @@ use Rattle.plan_laws.proofs.Owners.{word_has}
 use Rattle.plan_laws.proofs.Making.{alive_is_live}
 use Rattle.frame_core.proofs.Contents.{contents_are_read}
 
-abbrev IsSeen : Value → Contents → Type 0
+abbrev pub IsSeen : Value → Contents → Type 0
 IsSeen Value.Dead c = ⊥
 IsSeen (Value.Whole n) c = Unit {0}
 IsSeen (Value.Slice n from len) c = HasSlice from len c
 IsSeen (Value.View n number) c = HasView c
 IsSeen (Value.Handle jobs) c = ⊥
 
-seen_by : (v : Value) (c : Contents) → FitsContents v c → IsSeen v c
+pub seen_by : (v : Value) (c : Contents) → FitsContents v c → IsSeen v c
 seen_by Value.Dead c f = absurd f
 seen_by (Value.Whole n) c f = tt
 seen_by (Value.Slice n from len) c f = slice_has from len c f.0 f.1
@@ -51,14 +51,14 @@ seen_by (Value.View n number) c f = view_has c f
 seen_by (Value.Handle jobs) c f = absurd f
 
 -- what is seen of a container through a name
-abbrev seen : Value → Contents → Contents
+abbrev pub seen : Value → Contents → Contents
 seen Value.Dead c = c
 seen (Value.Whole n) c = c
 seen (Value.Slice n from len) c = Elements (value_elements (Value.Slice n from len) c)
 seen (Value.View n number) c = Elements (elements c)
 seen (Value.Handle jobs) c = c
 
-seen_holds : (v : Value) (start : ℕ) (cells : ℕ → Rattle.std.specs.Prelude.ℤ) (c : Contents) → IsSeen v c → Holds cells (bind_of start c) c → Holds cells (bind_for v start c) (seen v c)
+pub seen_holds : (v : Value) (start : ℕ) (cells : ℕ → Rattle.std.specs.Prelude.ℤ) (c : Contents) → IsSeen v c → Holds cells (bind_of start c) c → Holds cells (bind_for v start c) (seen v c)
 seen_holds Value.Dead start cells c u h = absurd u
 seen_holds (Value.Whole n) start cells c u h = h
 seen_holds (Value.Slice n from len) start cells (Elements xs) u h = (slice_is_part (record { start = start; len = length xs }) from len u).reads cells (Elements xs) h
@@ -90,7 +90,7 @@ seen_line name (Value.View n number) (Entries room es) u = absurd u
 seen_line name (Value.Handle jobs) c u = absurd u
 
 -- its words are words of the container, no own-index rule holds, and it is one of a container
-record IsWithin (v : Value) (start : ℕ) (c : Contents) : Type 0 where
+pub record IsWithin (v : Value) (start : ℕ) (c : Contents) : Type 0 where
   pub from : start_of (bind_of start c) ≤ start_of (bind_for v start c)
   pub end : end_of (bind_for v start c) ≤ end_of (bind_of start c)
   pub own : own_of (bind_for v start c) ≡ 0
@@ -103,7 +103,7 @@ whole_within start (Items cap xs) = record { from = omega arith; end = omega ari
 whole_within start (Pairs cap ps) = record { from = omega arith; end = omega arith; own = refl; is = tt }
 whole_within start (Entries room es) = record { from = omega arith; end = omega arith; own = refl; is = tt }
 
-seen_within : (v : Value) (start : ℕ) (c : Contents) → IsSeen v c → IsWithin v start c
+pub seen_within : (v : Value) (start : ℕ) (c : Contents) → IsSeen v c → IsWithin v start c
 seen_within Value.Dead start c u = absurd u
 seen_within (Value.Whole n) start c u = let w = whole_within start c in record { from = w.from; end = w.end; own = w.own; is = w.is }
 seen_within (Value.Slice n from len) start (Elements xs) u = record { from = omega arith; end = omega arith; own = refl; is = tt }
@@ -170,7 +170,7 @@ alive_at s (Value.Slice c start len) e = e
 alive_at s (Value.View c number) e = e
 alive_at s (Value.Handle jobs) e = absurd (not_both e refl)
 
-or_none : (b : Bool) → (b || false) ≡ true → b ≡ true
+pub or_none : (b : Bool) → (b || false) ≡ true → b ≡ true
 or_none true e = refl
 or_none false e = e
 

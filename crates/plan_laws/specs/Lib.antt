@@ -10,6 +10,7 @@ pub mod Refusing
 pub mod Making
 pub mod Changing
 pub mod Printing
+pub mod Accessing
 pub mod Moving
 pub mod Disposing
 pub mod Frames

@@ -1,5 +1,6 @@
 //! Laws over the definitions. A function here does nothing: its contract is the law.
 ghost use Rattle.plan_laws.specs.Accepting.{PlannedJobsFit, SchedulesArePlanned};
+ghost use Rattle.plan_laws.specs.Accessing.{AddsArePlanned, ClearsArePlanned, PutsArePlanned, RemovesArePlanned, SetsArePlanned};
 ghost use Rattle.plan_laws.specs.Apart.{PartsAreApart};
 ghost use Rattle.plan_laws.specs.AtStart.{NothingIsPlanned};
 ghost use Rattle.plan_laws.specs.Changing.{ChangesArePlanned};
@@ -74,6 +75,31 @@ pub fn names_are_usable()
 /// A container is printed as its contents are.
 pub fn prints_are_planned()
     ensures { PrintsArePlanned }
+{}
+
+/// `set` of an element or of a reference, refused or not.
+pub fn sets_are_planned()
+    ensures { SetsArePlanned }
+{}
+
+/// `add` to a list or a map.
+pub fn adds_are_planned()
+    ensures { AddsArePlanned }
+{}
+
+/// `put` into a map.
+pub fn puts_are_planned()
+    ensures { PutsArePlanned }
+{}
+
+/// `remove` from a list or a map.
+pub fn removes_are_planned()
+    ensures { RemovesArePlanned }
+{}
+
+/// `clear` of a list, a map or a stream.
+pub fn clears_are_planned()
+    ensures { ClearsArePlanned }
 {}
 
 /// `setcapacity` moves a list to the first fit while its old range is live.

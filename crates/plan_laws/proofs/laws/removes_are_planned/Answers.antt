@@ -1,0 +1,5 @@
+use Rattle.plan_laws.proofs.Accessing.{removes_are_planned}
+use Rattle.plan_laws.proofs.laws.removes_are_planned.Goals as goal
+
+pub returns : goal.returns
+returns c = removes_are_planned

@@ -1,0 +1,5 @@
+use Rattle.plan_laws.proofs.Accessing.{sets_are_planned}
+use Rattle.plan_laws.proofs.laws.sets_are_planned.Goals as goal
+
+pub returns : goal.returns
+returns c = sets_are_planned
