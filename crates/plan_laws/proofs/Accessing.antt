@@ -1,120 +1,137 @@
 -- `set`, `add`, `put`, `remove` and `clear`.
-use Rattle.std.proofs.Common.{◌≡◌, ℕ, ℤ, pos, [], ◌∷◌, Option, Some, None, Ok, refl, sym, ap, subst, ◌∙◌}
+use Rattle.std.proofs.Common.{ℤ, pos, [], ◌∷◌, Option, Some, None, Ok, refl}
 use Rattle.std.specs.Prelude.{unwrap_or}
-use Rattle.job_base.specs.declared.Refusal.{Refusal}
 use Rattle.frame_ast.specs.declared.name_kind.NameKind.TheVariants as kind
 use Rattle.frame_ast.specs.declared.name_kind.TheConstants.{REMOVABLE, CLEARABLE}
-use Rattle.frame_ast.specs.declared.script.Order.{Order}
 use Rattle.frame_ast.specs.declared.script.Order.TheVariants as order
 use Rattle.frame_ast.specs.Accepted.{set_kinds, add_kinds}
-use Rattle.frame_ast.specs.Checks.{refusal}
 use Rattle.frame_ast.specs.Contents.{cleared}
-use Rattle.frame_ast.specs.Effects.{views_broken, lost, effect}
-use Rattle.frame_ast.specs.Orders.{Setting, set_in, add_in, put_pair_in, remove_in}
+use Rattle.frame_ast.specs.Effects.{views_broken}
+use Rattle.frame_ast.specs.Orders.{set_in, add_in, put_pair_in, remove_in}
 use Rattle.frame_ast.specs.Refusals.{unchanged}
-use Rattle.frame_ast.specs.States.{ScriptState, container_at, contents_at}
+use Rattle.frame_ast.specs.States.{container_at, contents_at}
 use Rattle.kernel_exec.specs.Words.{put_word, clear_word}
 use Rattle.frame_core.specs.declared.plan.Act.TheVariants.{Set, AddTo, Put, Remove, Clear}
 use Rattle.frame_core.specs.Operations.{set_cells, add_cells, remove_cells}
-use Rattle.plan_laws.specs.Accessing.{SetsArePlanned, AddsArePlanned, PutsArePlanned, RemovesArePlanned, ClearsArePlanned, IsPlannedBy}
-use Rattle.plan_laws.specs.Binds.{bind_at, start_at}
-use Rattle.plan_laws.specs.Disposing.{IsSameTo}
-use Rattle.plan_laws.specs.Drafts.{cells_of}
+use Rattle.frame_core.specs.Ordered.{MayBeSet, IsListOrMap, IsMap, MayBeCleared}
+use Rattle.plan_laws.specs.Accessing.{SetsArePlanned, AddsArePlanned, PutsArePlanned, RemovesArePlanned, ClearsArePlanned}
 use Rattle.plan_laws.proofs.AccessingWords.{set_does, add_list_does, add_map_does, put_does, remove_does, clear_does}
-use Rattle.plan_laws.proofs.AccessingSteps.{unblocked_is, broken_same, itself_same, broken_by_same, stepped_same, is_seen, is_held, stands_in, is_small, stands_here, access_planned}
+use Rattle.plan_laws.proofs.AccessingSteps.{unblocked_is, broken_same, itself_same, broken_by_same, IsOneAccess, accesses_are_planned}
 
--- a statement whose views, where it breaks some, are those of the list of the name
-breaks_same : (name : ℕ) (t : ScriptState) → IsSameTo t (views_broken name t)
-breaks_same name t = broken_same (contents_at t name) (container_at t name) t
-
-pub clears_are_planned : ClearsArePlanned
-clears_are_planned x g s st name d e small known was pass w is add =
-    let b = bind_at x.starts s name in
-    let cells = cells_of x.plan d in
-    let held = contents_at s name in
-    let does = clear_does (start_at x.starts s name) cells (s.values name) held (is_seen x g s st name CLEARABLE d small known was w) w.kind (is_held x g s st name CLEARABLE d small known was w) in
-    access_planned x g s st name CLEARABLE d small known was w (Clear b) (Ok (clear_word b cells))
-    (record { touches = refl; runs = refl; answers = refl; quiet = λ line text. refl; fits = (stands_in x g s st name CLEARABLE d small known was w, does.0); stands = stands_here x g s st name CLEARABLE d small known was w })
-    e add (Ok (cleared held)) does.1 pass
-    (ap (refusal g s) is ∙ w.unblocked)
-    (stepped_same g s st name (Ok (cleared held)) (views_broken name) (ap (effect g st.line s) is) (breaks_same name)
-    (subst (λ o. (cause : Refusal) → IsSameTo s (lost cause o s)) (sym is) (λ cause. itself_same s)))
-
-pub puts_are_planned : PutsArePlanned
-puts_are_planned key value x g s st name d e small known was pass w is add =
-    let b = bind_at x.starts s name in
-    let cells = cells_of x.plan d in
-    let held = contents_at s name in
-    let kinds = kind.Map ∷ [] in
-    let p = put_pair_in held key value in
-    let does = put_does (start_at x.starts s name) cells key value (s.values name) held (is_seen x g s st name kinds d small known was w) w.kind (is_small x g s st name kinds d small known was w) (is_held x g s st name kinds d small known was w) in
-    access_planned x g s st name kinds d small known was w (Put b key value) (put_word 0 key value b cells)
-    (record { touches = refl; runs = refl; answers = refl; quiet = λ line text. refl; fits = (stands_in x g s st name kinds d small known was w, does.0); stands = stands_here x g s st name kinds d small known was w })
-    e add p does.1 pass
-    (ap (refusal g s) is ∙ unblocked_is s name (unchanged name p) w.unblocked)
-    (stepped_same g s st name p (λ t. t) (ap (effect g st.line s) is) itself_same
-    (subst (λ o. (cause : Refusal) → IsSameTo s (lost cause o s)) (sym is) (λ cause. itself_same s)))
+set_access : (at : Option ℤ) (n : ℤ) → IsOneAccess (set_kinds at) (λ name. order.Set name at n) (λ b. Set b (unwrap_or at (pos 0)) n) MayBeSet
+    (λ b cells. set_cells b (unwrap_or at (pos 0)) n cells) (λ v c. set_in v c at n) (λ name t. t)
+set_access at n = record {
+  does = λ start old v c u k fits h. set_does start old at n v c u k fits h;
+  touches = λ b. refl;
+  runs = λ plan b cells. refl;
+  answers = λ b r. refl;
+  quiet = λ b cells line text. refl;
+  fits = λ plan b stands may. (stands, may);
+  stands = λ b cells c h. (c, h);
+  refuses = λ g s name e. unblocked_is s name (unchanged name (set_in (s.values name) (contents_at s name) at n)) e;
+  changes = λ g s line name. refl;
+  same = λ name t. itself_same t;
+  keeps = λ cause s name. itself_same s;
+}
 
 pub sets_are_planned : SetsArePlanned
-sets_are_planned at value x g s st name d e small known was pass w is add =
-    let b = bind_at x.starts s name in
-    let cells = cells_of x.plan d in
-    let held = contents_at s name in
-    let kinds = set_kinds at in
-    let i = unwrap_or at (pos 0) in
-    let p = set_in (s.values name) held at value in
-    let does = set_does (start_at x.starts s name) cells at value (s.values name) held (is_seen x g s st name kinds d small known was w) w.kind (is_small x g s st name kinds d small known was w) (is_held x g s st name kinds d small known was w) in
-    access_planned x g s st name kinds d small known was w (Set b i value) (set_cells b i value cells)
-    (record { touches = refl; runs = refl; answers = refl; quiet = λ line text. refl; fits = (stands_in x g s st name kinds d small known was w, does.0); stands = stands_here x g s st name kinds d small known was w })
-    e add p does.1 pass
-    (ap (refusal g s) is ∙ unblocked_is s name (unchanged name p) w.unblocked)
-    (stepped_same g s st name p (λ t. t) (ap (effect g st.line s) is) itself_same
-    (subst (λ o. (cause : Refusal) → IsSameTo s (lost cause o s)) (sym is) (λ cause. itself_same s)))
+sets_are_planned at n = accesses_are_planned (set_kinds at) (λ name. order.Set name at n) (λ b. Set b (unwrap_or at (pos 0)) n) MayBeSet
+    (λ b cells. set_cells b (unwrap_or at (pos 0)) n cells) (λ v c. set_in v c at n) (λ name t. t) (set_access at n)
 
-pub removes_are_planned : RemovesArePlanned
-removes_are_planned i x g s st name d e small known was pass w is add =
-    let b = bind_at x.starts s name in
-    let cells = cells_of x.plan d in
-    let held = contents_at s name in
-    let p = remove_in held i in
-    let does = remove_does (start_at x.starts s name) cells i (s.values name) held (is_seen x g s st name REMOVABLE d small known was w) w.kind (is_small x g s st name REMOVABLE d small known was w) (is_held x g s st name REMOVABLE d small known was w) in
-    access_planned x g s st name REMOVABLE d small known was w (Remove b i) (remove_cells b i cells)
-    (record { touches = refl; runs = refl; answers = refl; quiet = λ line text. refl; fits = (stands_in x g s st name REMOVABLE d small known was w, does.0); stands = stands_here x g s st name REMOVABLE d small known was w })
-    e add p does.1 pass
-    (ap (refusal g s) is ∙ unblocked_is s name (unchanged name p) w.unblocked)
-    (stepped_same g s st name p (views_broken name) (ap (effect g st.line s) is) (breaks_same name)
-    (subst (λ o. (cause : Refusal) → IsSameTo s (lost cause o s)) (sym is) (λ cause. broken_by_same cause name s)))
+add_list_access : (n : ℤ) → IsOneAccess (add_kinds None) (λ name. order.Add name n None) (λ b. AddTo b (pos 0) n) IsListOrMap
+    (λ b cells. add_cells b (pos 0) n cells) (λ v c. add_in c n None) views_broken
+add_list_access n = record {
+  does = λ start old v c u k fits h. add_list_does start old n v c u k h;
+  touches = λ b. refl;
+  runs = λ plan b cells. refl;
+  answers = λ b r. refl;
+  quiet = λ b cells line text. refl;
+  fits = λ plan b stands may. (stands, may);
+  stands = λ b cells c h. (c, h);
+  refuses = λ g s name e. unblocked_is s name (unchanged name (add_in (contents_at s name) n None)) e;
+  changes = λ g s line name. refl;
+  same = λ name t. broken_same (contents_at t name) (container_at t name) t;
+  keeps = λ cause s name. broken_by_same cause name s;
+}
 
-add_to_list : (value : ℤ) → IsPlannedBy (add_kinds None) (λ name. order.Add name value None) (λ b. AddTo b (pos 0) value)
-add_to_list value x g s st name d e small known was pass w is add =
-    let b = bind_at x.starts s name in
-    let cells = cells_of x.plan d in
-    let held = contents_at s name in
-    let kinds = add_kinds None in
-    let p = add_in held value None in
-    let does = add_list_does (start_at x.starts s name) cells value (s.values name) held (is_seen x g s st name kinds d small known was w) w.kind (is_held x g s st name kinds d small known was w) in
-    access_planned x g s st name kinds d small known was w (AddTo b (pos 0) value) (add_cells b (pos 0) value cells)
-    (record { touches = refl; runs = refl; answers = refl; quiet = λ line text. refl; fits = (stands_in x g s st name kinds d small known was w, does.0); stands = stands_here x g s st name kinds d small known was w })
-    e add p does.1 pass
-    (ap (refusal g s) is ∙ unblocked_is s name (unchanged name p) w.unblocked)
-    (stepped_same g s st name p (views_broken name) (ap (effect g st.line s) is) (breaks_same name)
-    (subst (λ o. (cause : Refusal) → IsSameTo s (lost cause o s)) (sym is) (λ cause. broken_by_same cause name s)))
-
-add_to_map : (key value : ℤ) → IsPlannedBy (add_kinds (Some value)) (λ name. order.Add name key (Some value)) (λ b. AddTo b key value)
-add_to_map key value x g s st name d e small known was pass w is add =
-    let b = bind_at x.starts s name in
-    let cells = cells_of x.plan d in
-    let held = contents_at s name in
-    let kinds = add_kinds (Some value) in
-    let p = add_in held key (Some value) in
-    let does = add_map_does (start_at x.starts s name) cells key value (s.values name) held (is_seen x g s st name kinds d small known was w) w.kind (is_small x g s st name kinds d small known was w) (is_held x g s st name kinds d small known was w) in
-    access_planned x g s st name kinds d small known was w (AddTo b key value) (add_cells b key value cells)
-    (record { touches = refl; runs = refl; answers = refl; quiet = λ line text. refl; fits = (stands_in x g s st name kinds d small known was w, does.0); stands = stands_here x g s st name kinds d small known was w })
-    e add p does.1 pass
-    (ap (refusal g s) is ∙ unblocked_is s name (unchanged name p) w.unblocked)
-    (stepped_same g s st name p (views_broken name) (ap (effect g st.line s) is) (breaks_same name)
-    (subst (λ o. (cause : Refusal) → IsSameTo s (lost cause o s)) (sym is) (λ cause. broken_by_same cause name s)))
+add_map_access : (key n : ℤ) → IsOneAccess (add_kinds (Some n)) (λ name. order.Add name key (Some n)) (λ b. AddTo b key n) IsListOrMap
+    (λ b cells. add_cells b key n cells) (λ v c. add_in c key (Some n)) views_broken
+add_map_access key n = record {
+  does = λ start old v c u k fits h. add_map_does start old key n v c u k fits h;
+  touches = λ b. refl;
+  runs = λ plan b cells. refl;
+  answers = λ b r. refl;
+  quiet = λ b cells line text. refl;
+  fits = λ plan b stands may. (stands, may);
+  stands = λ b cells c h. (c, h);
+  refuses = λ g s name e. unblocked_is s name (unchanged name (add_in (contents_at s name) key (Some n))) e;
+  changes = λ g s line name. refl;
+  same = λ name t. broken_same (contents_at t name) (container_at t name) t;
+  keeps = λ cause s name. broken_by_same cause name s;
+}
 
 pub adds_are_planned : AddsArePlanned
-adds_are_planned first None = add_to_list first
-adds_are_planned first (Some second) = add_to_map first second
+adds_are_planned first None = accesses_are_planned (add_kinds None) (λ name. order.Add name first None) (λ b. AddTo b (pos 0) first) IsListOrMap
+    (λ b cells. add_cells b (pos 0) first cells) (λ v c. add_in c first None) views_broken (add_list_access first)
+adds_are_planned first (Some n) = accesses_are_planned (add_kinds (Some n)) (λ name. order.Add name first (Some n)) (λ b. AddTo b first n) IsListOrMap
+    (λ b cells. add_cells b first n cells) (λ v c. add_in c first (Some n)) views_broken (add_map_access first n)
+
+put_access : (key n : ℤ) → IsOneAccess (kind.Map ∷ []) (λ name. order.Put name key n) (λ b. Put b key n) IsMap
+    (λ b cells. put_word 0 key n b cells) (λ v c. put_pair_in c key n) (λ name t. t)
+put_access key n = record {
+  does = λ start old v c u k fits h. put_does start old key n v c u k fits h;
+  touches = λ b. refl;
+  runs = λ plan b cells. refl;
+  answers = λ b r. refl;
+  quiet = λ b cells line text. refl;
+  fits = λ plan b stands may. (stands, may);
+  stands = λ b cells c h. (c, h);
+  refuses = λ g s name e. unblocked_is s name (unchanged name (put_pair_in (contents_at s name) key n)) e;
+  changes = λ g s line name. refl;
+  same = λ name t. itself_same t;
+  keeps = λ cause s name. itself_same s;
+}
+
+pub puts_are_planned : PutsArePlanned
+puts_are_planned key n = accesses_are_planned (kind.Map ∷ []) (λ name. order.Put name key n) (λ b. Put b key n) IsMap
+    (λ b cells. put_word 0 key n b cells) (λ v c. put_pair_in c key n) (λ name t. t) (put_access key n)
+
+remove_access : (i : ℤ) → IsOneAccess REMOVABLE (λ name. order.Remove name i) (λ b. Remove b i) IsListOrMap
+    (λ b cells. remove_cells b i cells) (λ v c. remove_in c i) views_broken
+remove_access i = record {
+  does = λ start old v c u k fits h. remove_does start old i v c u k fits h;
+  touches = λ b. refl;
+  runs = λ plan b cells. refl;
+  answers = λ b r. refl;
+  quiet = λ b cells line text. refl;
+  fits = λ plan b stands may. (stands, may);
+  stands = λ b cells c h. (c, h);
+  refuses = λ g s name e. unblocked_is s name (unchanged name (remove_in (contents_at s name) i)) e;
+  changes = λ g s line name. refl;
+  same = λ name t. broken_same (contents_at t name) (container_at t name) t;
+  keeps = λ cause s name. broken_by_same cause name s;
+}
+
+pub removes_are_planned : RemovesArePlanned
+removes_are_planned i = accesses_are_planned REMOVABLE (λ name. order.Remove name i) (λ b. Remove b i) IsListOrMap
+    (λ b cells. remove_cells b i cells) (λ v c. remove_in c i) views_broken (remove_access i)
+
+clear_access : IsOneAccess CLEARABLE (λ name. order.Clear name) (λ b. Clear b) MayBeCleared
+    (λ b cells. Ok (clear_word b cells)) (λ v c. Ok (cleared c)) views_broken
+clear_access = record {
+  does = λ start old v c u k fits h. clear_does start old v c u k h;
+  touches = λ b. refl;
+  runs = λ plan b cells. refl;
+  answers = λ b r. refl;
+  quiet = λ b cells line text. refl;
+  fits = λ plan b stands may. (stands, may);
+  stands = λ b cells c h. (c, h);
+  refuses = λ g s name e. e;
+  changes = λ g s line name. refl;
+  same = λ name t. broken_same (contents_at t name) (container_at t name) t;
+  keeps = λ cause s name. itself_same s;
+}
+
+pub clears_are_planned : ClearsArePlanned
+clears_are_planned = accesses_are_planned CLEARABLE (λ name. order.Clear name) (λ b. Clear b) MayBeCleared
+    (λ b cells. Ok (clear_word b cells)) (λ v c. Ok (cleared c)) views_broken clear_access

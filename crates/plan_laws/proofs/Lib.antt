@@ -21,6 +21,7 @@ pub mod Printing
 pub mod AccessingWords
 pub mod AccessingSteps
 pub mod Accessing
+pub mod Writable
 pub mod Running
 pub mod Refusing
 pub mod Scheduling

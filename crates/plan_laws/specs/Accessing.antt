@@ -3,21 +3,22 @@
 -- Decided here is that the operation on words is the statement: it is refused for the same cause, and where it isn't,
 -- the words of the container stand for its changed contents. That something else blocks the statement, as a job that
 -- isn't completed, is a matter of `Refusing`.
-use Rattle.std.specs.Prelude.{ℕ, ◌≡◌, ◌<◌, ◌^◌, true, ℤ, pos, List, [], ◌∷◌, length, Option, None, Some, unwrap_or}
+use Rattle.std.specs.Prelude.{ℕ, ◌≡◌, ◌<◌, ◌^◌, true, ℤ, pos, List, [], ◌∷◌, length, map, take, Option, None, Some, unwrap_or, slice_get, string_bytes}
 use Rattle.frame_ast.specs.declared.name_kind.NameKind.{NameKind}
 use Rattle.frame_ast.specs.declared.name_kind.NameKind.TheVariants as kind
 use Rattle.frame_ast.specs.declared.name_kind.TheConstants.{REMOVABLE, CLEARABLE}
 use Rattle.frame_ast.specs.declared.script.Order.{Order}
 use Rattle.frame_ast.specs.declared.script.Order.TheVariants as order
+use Rattle.frame_ast.specs.declared.script.Script.{Script}
 use Rattle.frame_ast.specs.declared.script.Statement.{Statement}
-use Rattle.frame_ast.specs.Accepted.{kind_in, set_kinds, add_kinds}
+use Rattle.frame_ast.specs.Accepted.{IsAccepted, is_among, kind_in, set_kinds, add_kinds}
 use Rattle.frame_ast.specs.Contents.{Contents}
-use Rattle.frame_ast.specs.Kinds.{kind_of}
+use Rattle.frame_ast.specs.Kinds.{kind_of, HoldsKinds}
 use Rattle.frame_ast.specs.Laws.{IsKnown}
-use Rattle.frame_ast.specs.Orders.{Setting, name_text}
+use Rattle.frame_ast.specs.Orders.{Table, Setting, setting, name_text}
 use Rattle.frame_ast.specs.Refusals.{access}
 use Rattle.frame_ast.specs.Schedules.{need_of}
-use Rattle.frame_ast.specs.Scripts.{act}
+use Rattle.frame_ast.specs.Scripts.{act, final}
 use Rattle.frame_ast.specs.States.{ScriptState, Value, contents_at}
 use Rattle.kernel_exec.specs.declared.binds.Bind.{Bind}
 use Rattle.frame_core.specs.declared.plan.Act.{Act}
@@ -28,7 +29,7 @@ use Rattle.plan_laws.specs.Drafts.{Draft}
 use Rattle.plan_laws.specs.Planned.{Outline, IsPlanned, Adds}
 use Rattle.plan_laws.specs.Printing.{IsUsable}
 
--- The kind of a name, by what it stands for: none of a dead value.
+-- The kind of a name that stands for a container or a part of one.
 abbrev pub kind_seen : Value → Contents → Option NameKind
 kind_seen Value.Dead c = None
 kind_seen (Value.Whole n) c = Some (kind_of c)
@@ -48,7 +49,8 @@ pub record IsWritable (x : Outline) (g : Setting) (s : ScriptState) (name : ℕ)
 
 -- A statement on a name of these kinds, refused or not, is planned by one operation on the words of the name.
 abbrev pub IsPlannedBy : List NameKind → (ℕ → Order) → (Bind → Act) → Type 0
-IsPlannedBy kinds statement operation = (x : Outline) (g : Setting) (s : ScriptState) (st : Statement) (name : ℕ) (d e : Draft)
+IsPlannedBy kinds statement operation = (x : Outline) (g : Setting) (s : ScriptState) (st : Statement) (name : ℕ)
+    (d e : Draft)
     → x.plan.cells < 2 ^ 32
     → IsKnown s
     → IsPlanned x s d
@@ -83,3 +85,43 @@ RemovesArePlanned = (i : ℤ) → IsPlannedBy REMOVABLE (λ name. order.Remove n
 -- `clear x`
 abbrev pub ClearsArePlanned : Type 0
 ClearsArePlanned = IsPlannedBy CLEARABLE (λ name. order.Clear name) (λ b. Clear b)
+
+-- WHERE THE SCRIPT MAY WRITE
+
+-- The plan has the script's names.
+abbrev pub AreNamesOf : Setting → Outline → Type 0
+AreNamesOf g x = map (λ v. string_bytes v) x.plan.names.items ≡ g.names
+
+-- Where names hold values of their kinds, the script may write through a name that nothing blocks, if it is of one of
+-- these kinds.
+abbrev pub NamesAreWritable : Type 0
+NamesAreWritable = (x : Outline) (g : Setting) (s : ScriptState) (name : ℕ) (k : NameKind) (all kinds : List NameKind)
+    → AreNamesOf g x
+    → length all ≡ length g.names
+    → HoldsKinds all s
+    → slice_get all name ≡ Some k
+    → is_among k kinds ≡ true
+    → access s name (need_of s name true) [] ≡ None
+    → IsWritable x g s name kinds
+
+-- the name that a statement writes through, with the kinds that it takes
+abbrev pub written_by : Order → Option (ℕ × List NameKind)
+written_by (order.Set name at v) = Some (name, set_kinds at)
+written_by (order.Add name first second) = Some (name, add_kinds second)
+written_by (order.Put name k v) = Some (name, kind.Map ∷ [])
+written_by (order.Remove name i) = Some (name, REMOVABLE)
+written_by (order.Clear name) = Some (name, CLEARABLE)
+written_by _ = None
+
+-- So it is in an accepted script, before each statement that writes through a name.
+abbrev pub AcceptedNamesAreWritable : Type 0
+AcceptedNamesAreWritable = (script : Script) → IsAccepted script → (table : Table) (n : ℕ) (st : Statement)
+    → slice_get script.statements.items n ≡ Some st
+    → (name : ℕ) (kinds : List NameKind)
+    → written_by st.act ≡ Some (name, kinds)
+    → (x : Outline)
+    → let g = setting script table in
+    let s = final g (take n script.statements.items) in
+    AreNamesOf g x
+    → access s name (need_of s name true) [] ≡ None
+    → IsWritable x g s name kinds

@@ -1,6 +1,7 @@
 //! Laws over the definitions. A function here does nothing: its contract is the law.
 ghost use Rattle.plan_laws.specs.Accepting.{PlannedJobsFit, SchedulesArePlanned};
-ghost use Rattle.plan_laws.specs.Accessing.{AddsArePlanned, ClearsArePlanned, PutsArePlanned, RemovesArePlanned, SetsArePlanned};
+ghost use Rattle.plan_laws.specs.Accessing.{AcceptedNamesAreWritable, AddsArePlanned, ClearsArePlanned};
+ghost use Rattle.plan_laws.specs.Accessing.{NamesAreWritable, PutsArePlanned, RemovesArePlanned, SetsArePlanned};
 ghost use Rattle.plan_laws.specs.Apart.{PartsAreApart};
 ghost use Rattle.plan_laws.specs.AtStart.{NothingIsPlanned};
 ghost use Rattle.plan_laws.specs.Changing.{ChangesArePlanned};
@@ -75,6 +76,16 @@ pub fn names_are_usable()
 /// A container is printed as its contents are.
 pub fn prints_are_planned()
     ensures { PrintsArePlanned }
+{}
+
+/// The script may write through a name of the right kind that nothing blocks.
+pub fn names_are_writable()
+    ensures { NamesAreWritable }
+{}
+
+/// So it is before each statement of an accepted script that writes through a name.
+pub fn accepted_names_are_writable()
+    ensures { AcceptedNamesAreWritable }
 {}
 
 /// `set` of an element or of a reference, refused or not.

@@ -13,8 +13,8 @@
 //! 1. *The relation.* `Binds` says which words a container, a name and an argument have. `Drafts` has plans so far,
 //!    their pieces and output, `Ledgers` who has which words, and `Planned` the relation. `AtStart` and `Sections`
 //!    say where it begins.
-//! 2. *Statements.* `Operations` is one operation more, whatever it is. `Refusing`, `Making`, `Changing`, `Printing`,
-//!    `Moving`, `Disposing`, `Frames`, `Completing` and `Accepting` are the forms of statements.
+//! 2. *Statements.* `Operations` is one operation more, whatever it is. `Refusing`, `Making`, `Changing`, `Accessing`,
+//!    `Printing`, `Moving`, `Disposing`, `Frames`, `Completing` and `Accepting` are the forms of statements.
 //! 3. *The end.* `Finishing` says what a finished draft becomes.
 //! 4. *Steps to schedules and to the end.* `Leaving`, `LeftWords` and `Running` say what a job is given and leaves,
 //!    word by word, `Apart` and `Enrolling` that its pieces are in order, and `Scheduling` joins them. `WholePlans` and
