@@ -1,11 +1,26 @@
 //! Copies of a kernel's parts, each in memory of its own.
 
 ghost use Rattle.std.specs.Prelude.{◌≡◌, IfOk, string_bytes};
-ghost use Rattle.same_trees.specs.Same.{SameExpr, SameStmt, SameBody, SameParam, Pairwise};
+ghost use Rattle.same_trees.specs.Same.{SameExpr, SameStmt, SameBody, SameParam, SameKernel, Pairwise};
 
-use frame_ast::kernel::{Expr, Param, Stmt};
+use frame_ast::kernel::{Body, Expr, Kernel, Param, Stmt};
 use job_base::NoMemory;
 use std::alloc::Global;
+
+/// A whole kernel.
+pub fn copy_kernel(alloc: Global, kernel: &Kernel) -> Result<Kernel, NoMemory>
+    ensures { IfOk result (λ copy. SameKernel kernel.now copy) }
+{
+    Ok(Kernel {
+        name: String::from_str(alloc, kernel.name.as_str())?,
+        parallel: kernel.parallel,
+        params: params(alloc, &kernel.params)?,
+        locals: kernel.locals,
+        body: Body {
+            statements: block(alloc, &kernel.body.statements)?,
+        },
+    })
+}
 
 /// Parameters.
 pub(crate) fn params(alloc: Global, params: &[Param]) -> Result<Vec<Param>, NoMemory>

@@ -7,6 +7,8 @@
 //! The new kernel is a copy: its tree lies in memory of its own. That takes a time in the nodes of the kernel, at most
 //! `MOST_NODES`. Nodes lie at most `MOST_DEPTH` deep, so a copy needs no deep stack.
 //!
+//! `copy_kernel` copies a kernel as it is.
+//!
 //! `specs/Guarded` says what the new kernel is, what it does, and which words it reads and writes.
 #![tactic(auto)]
 
@@ -15,4 +17,5 @@ mod guarding;
 #[cfg(test)]
 mod tests;
 
+pub use copies::copy_kernel;
 pub use guarding::{GuardFault, guard};
