@@ -1,0 +1,99 @@
+-- What the laws of accepted scripts say of a schedule with `defer`, put together.
+use Rattle.std.proofs.Common.{◌≡◌, ◌<◌, ℕ, Bool, true, false, List, take, map, Option, Some, None, refl, subst}
+use Rattle.std.specs.Prelude.{is_some, slice_get}
+use Rattle.std.proofs.lemmas.Bool.{and_parts}
+use Rattle.frame_ast.specs.declared.kernel.Kernel.{Kernel}
+use Rattle.frame_ast.specs.declared.name_kind.NameKind.TheVariants as kind
+use Rattle.frame_ast.specs.declared.script.Arg.{Arg}
+use Rattle.frame_ast.specs.declared.script.Order.{Order}
+use Rattle.frame_ast.specs.declared.script.Order.TheVariants as order
+use Rattle.frame_ast.specs.Accepted.{Names, makes, one_of, args_fit, schedule_fits, order_fits}
+use Rattle.frame_ast.specs.Checks.{refusal}
+use Rattle.frame_ast.specs.Effects.{effect}
+use Rattle.frame_ast.specs.Fitting.{FitsAsValues, HaveWidths}
+use Rattle.frame_ast.specs.Forms.{form_of, form_after}
+use Rattle.frame_ast.specs.JobRuns.{run_of}
+use Rattle.frame_ast.specs.Orders.{Setting, setting, kernel_parallel, is_parallel}
+use Rattle.frame_ast.specs.Scripts.{final}
+use Rattle.frame_ast.specs.States.{ScriptState}
+use Rattle.frame_ast.proofs.Naming.{fits_there}
+use Rattle.frame_ast.proofs.StatementForms.{statements_keep_forms}
+use Rattle.frame_ast.proofs.ValuesFit.{values_fit}
+use Rattle.frame_ast.proofs.Widths.{written_parameters_have_widths}
+use Rattle.frame_core.proofs.Small.{not_both, some_is, none_some}
+use Rattle.defer_laws.specs.Deferring.{Deferred, accepted, IsAcceptedDeferred}
+use Rattle.defer_laws.specs.DeferTexts.{deferred_of, DeferredSchedulesAreAccepted}
+
+-- ---- its kernel is parallel
+
+parallel_alone : (parallel cut : Bool) → one_of parallel cut true ≡ true → parallel ≡ true
+parallel_alone true cut h = refl
+parallel_alone false true h = absurd (not_both h refl)
+parallel_alone false false h = absurd (not_both h refl)
+
+parallel_of : (ns : Names) (k : Option Kernel) (args : List Arg) (cut : Option (ℕ × ℕ)) (defer : ℕ × ℕ) (waive after : List ℕ) → schedule_fits ns k args cut (Some defer) waive after ≡ true → kernel_parallel k ≡ true
+parallel_of ns None args cut defer waive after h = absurd (not_both h refl)
+parallel_of ns (Some k) args cut defer waive after h =
+    parallel_alone k.parallel (is_some cut) (and_parts (args_fit ns (Some defer) k.params.items args) (one_of k.parallel (is_some cut) true) (and_parts _ _ h).0).1
+
+module _ (g : Setting) where
+  abbrev IsParallel : Order → Type 0
+  IsParallel (order.Schedule auto handle kernel args cut (Some defer) waive after) = is_parallel g kernel ≡ true
+  IsParallel _ = Unit {0}
+
+  parallel_at : (ns : Names) (rest inside : ℕ) (x : Order) → order_fits ns g.literals g.kernels rest inside x ≡ true → IsParallel x
+  parallel_at ns rest inside (order.Schedule auto handle kernel args cut (Some defer) waive after) fits =
+      parallel_of ns (slice_get g.kernels kernel) args.items cut defer waive.items after.items (and_parts (makes ns handle kind.Handle) _ fits).1
+  parallel_at ns rest inside _ fits = tt
+
+-- ---- the statement
+
+module _ (g : Setting) (s : ScriptState) (line : ℕ) (runs : g.runs ≡ map run_of g.kernels) where
+  abbrev Keeps : Order → Type 0
+  Keeps x = (c : ℕ) → c < s.made → form_of ((effect g line s x).contents c) ≡ form_after s x c
+
+  abbrev Is : Order → Deferred → Type 0
+  Is x o = (effect g line s x ≡ accepted g s o) × IsAcceptedDeferred g s o
+
+  is_deferred : (x : Order) (o : Deferred) → deferred_of x ≡ Some o → refusal g s x ≡ None → IsParallel g x → FitsAsValues g s x → HaveWidths g s x → Keeps x → Is x o
+  is_deferred (order.Schedule auto handle kernel args cut (Some defer) waive after) o e none parallel fits widths forms =
+      subst (Is (order.Schedule auto handle kernel args cut (Some defer) waive after)) (some_is e) (
+        refl,
+        record { runs = runs; parallel = parallel; unrefused = none; args_fit = fits.0; list_fits = fits.1; widths = widths; forms = forms },
+      )
+  is_deferred (order.Schedule auto handle kernel args cut None waive after) o e none parallel fits widths forms = absurd (none_some e)
+  is_deferred (order.Array name len life values) o e none parallel fits widths forms = absurd (none_some e)
+  is_deferred (order.Column name column life) o e none parallel fits widths forms = absurd (none_some e)
+  is_deferred (order.List name cap life) o e none parallel fits widths forms = absurd (none_some e)
+  is_deferred (order.Reference name life value) o e none parallel fits widths forms = absurd (none_some e)
+  is_deferred (order.Map name cap life) o e none parallel fits widths forms = absurd (none_some e)
+  is_deferred (order.Stream name count room life) o e none parallel fits widths forms = absurd (none_some e)
+  is_deferred (order.Slice name of start len) o e none parallel fits widths forms = absurd (none_some e)
+  is_deferred (order.View name of) o e none parallel fits widths forms = absurd (none_some e)
+  is_deferred (order.Copy name of) o e none parallel fits widths forms = absurd (none_some e)
+  is_deferred (order.Set name at value) o e none parallel fits widths forms = absurd (none_some e)
+  is_deferred (order.Add name first second) o e none parallel fits widths forms = absurd (none_some e)
+  is_deferred (order.Put name key value) o e none parallel fits widths forms = absurd (none_some e)
+  is_deferred (order.Remove name at) o e none parallel fits widths forms = absurd (none_some e)
+  is_deferred (order.Clear name) o e none parallel fits widths forms = absurd (none_some e)
+  is_deferred (order.SetCapacity name cap) o e none parallel fits widths forms = absurd (none_some e)
+  is_deferred (order.Combine name of) o e none parallel fits widths forms = absurd (none_some e)
+  is_deferred (order.Complete name) o e none parallel fits widths forms = absurd (none_some e)
+  is_deferred (order.CompleteAuto name) o e none parallel fits widths forms = absurd (none_some e)
+  is_deferred (order.Dispose name after handle) o e none parallel fits widths forms = absurd (none_some e)
+  is_deferred (order.DisposeAuto name handle) o e none parallel fits widths forms = absurd (none_some e)
+  is_deferred (order.Print name) o e none parallel fits widths forms = absurd (none_some e)
+  is_deferred order.Flush o e none parallel fits widths forms = absurd (none_some e)
+  is_deferred order.Frame o e none parallel fits widths forms = absurd (none_some e)
+  is_deferred (order.When name sign value count) o e none parallel fits widths forms = absurd (none_some e)
+
+pub deferred_schedules_are_accepted : DeferredSchedulesAreAccepted
+deferred_schedules_are_accepted script is table n x o at e none =
+    let g = setting script table in
+    let s = final g (take n script.statements.items) in
+    let there = fits_there g is.kinds 0 0 script.statements.items n x is.fits at in
+    let r = is_deferred g s x.line refl x.act o e none
+    (parallel_at g (record { kinds = is.kinds; made = there.made }) there.rest there.inside x.act there.fits)
+    (values_fit script is table n x at none) (written_parameters_have_widths script is table n x at none)
+    (statements_keep_forms script is table n x at none) in
+    record { effect_is = r.0; is_accepted = r.1 }
