@@ -1,0 +1,86 @@
+-- A statement of a script that a planner stands before, and the planner after it.
+use Rattle.std.proofs.Common.{◌≡◌, ℕ, zero, suc, ◌≤◌, ℤ, List, [], ◌∷◌, ◌++◌, length, None, Some, Result, Ok, Err, refl, sym, ap, subst, ◌∙◌, arith}
+use Rattle.std.specs.Prelude.{IfErr, IsErrAnd, slice_get}
+use Rattle.frame_ast.specs.declared.script.Order.{Order}
+use Rattle.frame_ast.specs.declared.script.Order.TheVariants.{When}
+use Rattle.frame_ast.specs.declared.script.Script.{Script}
+use Rattle.frame_ast.specs.declared.script.Sign.{Sign}
+use Rattle.frame_ast.specs.declared.script.Statement.{Statement}
+use Rattle.frame_ast.specs.Checks.{refusal}
+use Rattle.frame_ast.specs.Orders.{Table, setting}
+use Rattle.frame_ast.specs.States.{ScriptState}
+use Rattle.frame_plan.specs.declared.state.PlanFault.{PlanFault}
+use Rattle.frame_plan.specs.declared.state.Planner.{Planner}
+use Rattle.frame_plan.specs.Runs.{IsActingTest, IsAtStatement, HasPassed, StopsAt, FailsAtPlace}
+use Rattle.frame_plan.specs.Stands.{Stands}
+use Rattle.frame_plan.specs.Steps.{state_at, state_after, StandsAt, AtStatement, IsStep, IsBefore, IsReady, GoesOn, GoesOnIn, GoesOnWith, FailsBy, FailsIn, FailsWith, PassesLimit}
+use Rattle.frame_plan.proofs.Reaching.{next_state}
+
+-- the statement, with its form written out
+abbrev pub written : Statement → Order → Statement
+written x a = record { line = x.line; act = a }
+
+is_written : (x : Statement) (a : Order) → x.act ≡ a → x ≡ written x a
+is_written x a e = λ i. record { line = x.line; act = e i }
+
+module _ (script : Script) (table : Table) (p : Planner) (x : Statement) (at : IsAtStatement script table p x) (acts : p.passing ≡ 0) (a : Order) (is : x.act ≡ a) where
+  here : (n : ℕ) → slice_get script.statements.items n ≡ Some x → slice_get script.statements.items n ≡ Some (written x a)
+  here n e = e ∙ ap Some (is_written x a is)
+
+  step : (begun : ScriptState) (n : ℕ) (found : List ℕ) → slice_get script.statements.items n ≡ Some x → StandsAt p script table begun n found → IsStep script table n (written x a)
+  step begun n found e st = record { accepted = at.accepted; here = here n e; acts = sym st.numbers.passing ∙ acts }
+
+  pub before : IsBefore script p (written x a)
+  before = record { table = table; begun = at.begun; n = at.n; found = at.found; step = step at.begun at.n at.found at.here at.stands; stands = at.stands }
+
+  pub ready : IsReady p (written x a)
+  ready = (script, before)
+
+  module _ (q : Planner) where
+    next : (begun : ScriptState) (n : ℕ) (found : List ℕ) → slice_get script.statements.items n ≡ Some x
+        → (more : List ℕ) × Stands q (setting script table) begun (suc n) (state_after script table n (written x a)) (found ++ more)
+        → (more : List ℕ) × StandsAt q script table begun (suc n) (found ++ more)
+    next begun n found e r = (r.0, subst (λ s. Stands q (setting script table) begun (suc n) s (found ++ r.0)) (next_state script table n (written x a) (here n e)) r.1)
+
+    pub passed : GoesOn p q (written x a) → HasPassed script table p q x
+    passed h begun n found e st = next begun n found e (h script table begun n found (step begun n found e st) st)
+
+    pub passed_in : GoesOnIn script p q (written x a) → HasPassed script table p q x
+    passed_in h begun n found e st = next begun n found e (h table begun n found (step begun n found e st) st)
+
+    pub passed_with : GoesOnWith table p q (written x a) → HasPassed script table p q x
+    passed_with h begun n found e st = next begun n found e (h script begun n found (step begun n found e st) st)
+
+  module _ (fault : PlanFault) where
+    limit : (n : ℕ) → slice_get script.statements.items n ≡ Some x → PassesLimit fault (state_after script table n (written x a)) → PassesLimit fault (state_at script table (suc n))
+    limit n e h = subst (PassesLimit fault) (next_state script table n (written x a) (here n e)) h
+
+    pub fails : FailsBy fault p (written x a) → FailsAtPlace script table fault p x
+    fails h begun n found e st = limit n e (h script table begun n found (step begun n found e st) st)
+
+    pub fails_in : FailsIn script fault p (written x a) → FailsAtPlace script table fault p x
+    fails_in h begun n found e st = limit n e (h table begun n found (step begun n found e st) st)
+
+    pub fails_with : FailsWith table fault p (written x a) → FailsAtPlace script table fault p x
+    fails_with h begun n found e st = limit n e (h script begun n found (step begun n found e st) st)
+
+pub if_err : {T E : Type 0} (r : Result T E) {P Q : E → Type 0} → ((e : E) → P e → Q e) → IfErr r P → IfErr r Q
+if_err (Ok x) f h = tt
+if_err (Err e) f h = f e h
+
+-- a `when` that isn't refused
+pub test_stops : (script : Script) (table : Table) (p : Planner) (x : Statement) (at : IsAtStatement script table p x) (acts : p.passing ≡ 0) (name : ℕ) (sign : Sign) (value : ℤ) (count : ℕ) (is : x.act ≡ When name sign value count)
+    → AtStatement p (written x (When name sign value count)) (λ script table begun n found. refusal (setting script table) (state_at script table n) (When name sign value count) ≡ None)
+    → StopsAt script table p x
+test_stops script table p x at acts name sign value count is h begun n found here_is st =
+    subst (IsActingTest (setting script table) (state_at script table n)) (sym is)
+    (sym st.numbers.passing ∙ acts, h script table begun n found (step script table p x at acts (When name sign value count) is begun n found here_is st) st)
+
+pub err_is : {T E : Type 0} (r : Result T E) (e : E) (P : E → Type 0) → IsErrAnd r (λ f. f ≡ e) → P e → IfErr r P
+err_is (Ok x) e P h p = tt
+err_is (Err f) e P h p = subst P (sym h) p
+
+pub past_end : {A : Type 0} (xs : List A) (n : ℕ) → length xs ≤ n → slice_get xs n ≡ None
+past_end [] n le = refl
+past_end (x ∷ xs) zero le = absurd (omega arith)
+past_end (x ∷ xs) (suc n) le = past_end xs n (omega arith)

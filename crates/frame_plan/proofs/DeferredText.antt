@@ -1,0 +1,125 @@
+-- What the text of an accepted schedule with `defer` gives: its kernel has a guarded copy, its list and its names fit.
+use Rattle.std.proofs.Common.{◌≡◌, ℕ, zero, suc, ◌<◌, ◌≤◌, Bool, true, false, ◌&&◌, List, [], ◌∷◌, length, get_or, Option, Some, None, refl, ap, arith}
+use Rattle.std.specs.Prelude.{Vec, slice_get, is_some, nat_le}
+use Rattle.std.specs.List.{list_all}
+use Rattle.std.specs.declared.alloc.Global.{Global}
+use Rattle.std.proofs.lemmas.Bool.{and_parts, leb-true}
+use Rattle.job_base.specs.declared.limits.TheConstants.{MOST_PARAMS, MOST_INDEXES}
+use Rattle.frame_ast.specs.declared.kernel.Kernel.{Kernel}
+use Rattle.frame_ast.specs.declared.kernel.Param.{Param}
+use Rattle.frame_ast.specs.declared.script.Arg.{Arg}
+use Rattle.frame_ast.specs.declared.script.Arg.TheVariants.{Name, Number}
+use Rattle.frame_ast.specs.declared.script.Order.TheVariants.{Schedule as Scheduled}
+use Rattle.frame_ast.specs.declared.script.Script.{Script}
+use Rattle.frame_ast.specs.declared.script.Statement.{Statement}
+use Rattle.frame_ast.specs.declared.name_kind.NameKind.TheVariants as kind
+use Rattle.frame_ast.specs.Accepted.{Names, uses, makes, all_used, up_to, arg_fits, args_fit, one_of, is_deferred, batch_fits, guard_fits, defer_fits, schedule_fits, kinds_for}
+use Rattle.frame_ast.specs.Orders.{Table, setting}
+use Rattle.frame_plan.specs.Deferring.{MayBeGuarded}
+use Rattle.frame_plan.specs.Steps.{IsStep}
+use Rattle.frame_plan.specs.Uses.{IsNameBelow}
+use Rattle.frame_plan.proofs.Reaching.{fits_at, used_below, made_below}
+use Rattle.frame_plan.proofs.ScheduleText.{EachBelow}
+
+module _ (script : Script) (table : Table) (n line : ℕ) (auto : Bool) (handle kernel : ℕ) (args : Vec Arg Global) (list batch : ℕ) (waive after : Vec ℕ Global) where
+  abbrev pub x : Statement
+  x = record { line = line; act = Scheduled auto handle kernel args None (Some (list, batch)) waive after }
+
+  module _ (step : IsStep script table n x) where
+    abbrev names : ℕ → Names
+    names made = record { kinds = step.accepted.kinds; made = made }
+
+    abbrev many : ℕ
+    many = length (setting script table).names
+
+    abbrev defer : Option (ℕ × ℕ)
+    defer = Some (list, batch)
+
+    args_below : (made : ℕ) (ps : List Param) (as_ : List Arg) → args_fit (names made) defer ps as_ ≡ true → (length as_ ≡ length ps) × EachBelow many as_
+    args_below made [] [] e = (refl, tt)
+    args_below made [] (a ∷ as_) e = absurd cc
+    args_below made (p ∷ ps) [] e = absurd cc
+    args_below made (p ∷ ps) (a ∷ as_) e =
+        let parts = and_parts (arg_fits (names made) defer p a) (args_fit (names made) defer ps as_) e in
+        let more = args_below made ps as_ parts.1 in
+        (ap suc more.0, (one a parts.0, more.1))
+      where
+        one : (a : Arg) → arg_fits (names made) defer p a ≡ true → IsNameBelow many a
+        one (Name m) h = used_below script table n x step made m (kinds_for p.kind (is_deferred defer m)) h
+        one (Number z) h = tt
+
+    all_below_names : (made : ℕ) (ns : List ℕ) → all_used (names made) ns ≡ true → (k d : ℕ) → k < length ns → get_or ns k d < many
+    all_below_names made [] e k d lt = absurd (omega arith)
+    all_below_names made (m ∷ ns) e zero d lt = used_below script table n x step made m (kind.Handle ∷ []) (and_parts (uses (names made) m (kind.Handle ∷ [])) (list_all (λ n. uses (names made) n (kind.Handle ∷ [])) ns) e).0
+    all_below_names made (m ∷ ns) e (suc k) d lt = all_below_names made ns (and_parts (uses (names made) m (kind.Handle ∷ [])) (list_all (λ n. uses (names made) n (kind.Handle ∷ [])) ns) e).1 k d (omega arith)
+
+    pub record IsDeferredText : Type 0 where
+      pub source : Kernel
+      pub has : slice_get script.kernels.items kernel ≡ Some source
+      pub guardable : MayBeGuarded source
+      pub handle_below : handle < many
+      pub list_below : list < many
+      pub batch_fit : (1 ≤ batch) × (batch ≤ MOST_INDEXES)
+      pub each : length args.items ≡ length source.params.items
+      pub few : length args.items ≤ 16
+      pub below : EachBelow many args.items
+      pub after_below : (k d : ℕ) → k < length after.items → get_or after.items k d < many
+
+    parallel_alone : (parallel : Bool) → one_of parallel false true ≡ true → parallel ≡ true
+    parallel_alone true h = refl
+    parallel_alone false h = absurd cc
+
+    pub deferred_text : IsDeferredText
+    deferred_text =
+        let fit = fits_at script table n x step in
+        let parts = and_parts (makes (names fit.made) handle kind.Handle) (schedule_fits (names fit.made) (slice_get script.kernels.items kernel) args.items None defer waive.items after.items) fit.fits in
+        by fit.made (made_below script table n x step fit.made handle kind.Handle parts.0) (slice_get script.kernels.items kernel) refl parts.1
+      where
+        by : (made : ℕ) → handle < many → (o : Option Kernel) → slice_get script.kernels.items kernel ≡ o → schedule_fits (names made) o args.items None defer waive.items after.items ≡ true → IsDeferredText
+        by made lt None at e = absurd cc
+        by made lt (Some k) at e =
+            let a = and_parts (args_fit (names made) defer k.params.items args.items && one_of k.parallel false true) _ e in
+            let b = and_parts (args_fit (names made) defer k.params.items args.items) (one_of k.parallel false true) a.0 in
+            let c = and_parts (defer_fits (names made) k defer) _ a.1 in
+            let f = and_parts (uses (names made) list (kind.List ∷ []) && batch_fits batch) (guard_fits k) c.0 in
+            let u = and_parts (uses (names made) list (kind.List ∷ [])) (batch_fits batch) f.0 in
+            let s = and_parts (nat_le 1 batch) (up_to MOST_INDEXES batch) u.1 in
+            let d = and_parts _ (all_used (names made) after.items) c.1 in
+            let below = args_below made k.params.items args.items b.0 in
+            let checked = step.accepted.kernels kernel k at in
+            let few = leb-true (length k.params.items) MOST_PARAMS checked.count in
+            record {
+              source = k;
+              has = at;
+              guardable = record { checked = checked; parallel = parallel_alone k.parallel b.1; fits = f.1 };
+              handle_below = lt;
+              list_below = used_below script table n x step made list (kind.List ∷ []) u.0;
+              batch_fit = (leb-true 1 batch s.0, leb-true batch MOST_INDEXES s.1);
+              each = below.0;
+              few = (let e = below.0 in omega arith);
+              below = below.1;
+              after_below = all_below_names made after.items d.1;
+            }
+
+-- there is no cut beside a `defer`
+module _ (script : Script) (table : Table) (n line : ℕ) (auto : Bool) (handle kernel : ℕ) (args : Vec Arg Global) (cut : Option (ℕ × ℕ)) (defer : ℕ × ℕ) (waive after : Vec ℕ Global) where
+  abbrev y : Statement
+  y = record { line = line; act = Scheduled auto handle kernel args cut (Some defer) waive after }
+
+  alone : (parallel : Bool) (cut : Option (ℕ × ℕ)) → one_of parallel (is_some cut) true ≡ true → cut ≡ None
+  alone true None h = refl
+  alone true (Some c) h = absurd cc
+  alone false None h = absurd cc
+  alone false (Some c) h = absurd cc
+
+  pub uncut : IsStep script table n y → cut ≡ None
+  uncut step =
+      let fit = fits_at script table n y step in
+      by (record { kinds = step.accepted.kinds; made = fit.made }) (slice_get script.kernels.items kernel)
+      (and_parts (makes (record { kinds = step.accepted.kinds; made = fit.made }) handle kind.Handle) (schedule_fits (record { kinds = step.accepted.kinds; made = fit.made }) (slice_get script.kernels.items kernel) args.items cut (Some defer) waive.items after.items) fit.fits).1
+    where
+      by : (ns : Names) (o : Option Kernel) → schedule_fits ns o args.items cut (Some defer) waive.items after.items ≡ true → cut ≡ None
+      by ns None e = absurd cc
+      by ns (Some k) e =
+          let a = and_parts (args_fit ns (Some defer) k.params.items args.items && one_of k.parallel (is_some cut) true) _ e in
+          alone k.parallel cut (and_parts (args_fit ns (Some defer) k.params.items args.items) (one_of k.parallel (is_some cut) true) a.0).1

@@ -1,0 +1,46 @@
+-- How many statements are passed by is changed, and nothing else.
+use Rattle.std.proofs.Common.{◌≡◌, ℕ, suc, ◌-◌, ◌<◌, List, length, refl, sym, ap, subst, ◌∙◌, arith}
+use Rattle.frame_ast.specs.declared.script.Script.{Script}
+use Rattle.frame_ast.specs.declared.script.Statement.{Statement}
+use Rattle.frame_ast.specs.Laws.{IsKnown}
+use Rattle.frame_ast.specs.Orders.{Table, Setting, setting}
+use Rattle.frame_ast.specs.Scripts.{act, act_or_pass}
+use Rattle.frame_ast.specs.States.{ScriptState}
+use Rattle.plan_laws.proofs.Disposing.{others_are_planned}
+use Rattle.frame_plan.specs.declared.state.Planner.{Planner}
+use Rattle.frame_plan.specs.Runs.{HasPassed, IsWithin}
+use Rattle.frame_plan.specs.Stands.{Stands, draft_of}
+use Rattle.frame_plan.specs.Steps.{state_at}
+use Rattle.frame_plan.proofs.Naming.{same_names}
+use Rattle.frame_plan.proofs.Reaching.{next_state, no_more}
+use Rattle.frame_plan.proofs.Restating.{restated, calm}
+
+pub repassed : (p : Planner) (g : Setting) (begun : ScriptState) (n : ℕ) (s : ScriptState) (found : List ℕ) → Stands p g begun n s found
+    → (k : ℕ) → Stands (record p { passing = k }) g begun (suc n) (record s { passing = k }) found
+repassed p g begun n s found st k =
+    let q : Planner = record p { passing = k } in
+    let t : ScriptState = record s { passing = k } in
+    let known : IsKnown t = (let o = st.known in record { book = o.book; handles = o.handles; uses = o.uses }) in
+    restated p q g begun n s t found st
+    (calm p q g begun n s t found st refl refl refl refl refl refl refl (omega arith) (omega arith))
+    known
+    (same_names p.values.items p.handles.items (length p.containers.items) s t refl st.names)
+    (λ x a. others_are_planned x s t (draft_of p) (record { made = refl; contents = refl; alive = refl; uses = refl; range = refl; book = refl; traps = refl; refused = refl; lines = refl }) (st.planned x a))
+
+-- a statement that is passed by
+pub passed_by : (script : Script) (table : Table) (p : Planner) (x : Statement) → 0 < p.passing → HasPassed script table p (record p { passing = p.passing - 1 }) x
+passed_by script table p x some begun n found here st =
+    let g = setting script table in
+    let s = state_at script table n in
+    let e : s.passing ≡ suc (p.passing - 1) = (let same = st.numbers.passing in omega arith) in
+    let now : act g s x ≡ record s { passing = p.passing - 1 } = ap (λ k. act_or_pass k g s x) e in
+    let next : record s { passing = p.passing - 1 } ≡ state_at script table (suc n) = sym now ∙ next_state script table n x here in
+    no_more (record p { passing = p.passing - 1 }) g begun (suc n) (state_at script table (suc n)) found
+    (subst (λ t. Stands (record p { passing = p.passing - 1 }) g begun (suc n) t found) next (repassed p g begun n s found st (p.passing - 1)))
+
+-- a state that a planner stands for is within the limits
+pub stands_within : (p : Planner) (g : Setting) (begun : ScriptState) (n : ℕ) (s : ScriptState) (found : List ℕ) → Stands p g begun n s found → IsWithin s
+stands_within p g begun n s found st =
+    let count = st.jobs.count in
+    let few = p.jobs.room.0 in
+    record { jobs = omega arith; words = st.numbers.created_few }

@@ -1,0 +1,325 @@
+-- A section begins after a test, in the state in which the test stands.
+use Rattle.std.proofs.Common.{◌≡◌, ℕ, zero, suc, ◌+◌, ◌<◌, ◌≤◌, ⊎_elim, Bool, true, false, not, ℤ, List, [], ◌∷◌, ◌++◌, length, map, get_or, Option, None, Some, refl, sym, ap, subst, ◌∙◌, arith}
+use Rattle.std.specs.Prelude.{Vec, slice_get, replicate, string_bytes, if◌then◌else◌}
+use Rattle.std.specs.declared.alloc.Global.{Global}
+use Rattle.std.proofs.lemmas.Bool.{cases_lt}
+use Rattle.std.proofs.lemmas.List.{length-append, length-replicate}
+use Rattle.std.specs.List.{list_any}
+use Rattle.std.proofs.lemmas.Bool.{leb-true}
+use Rattle.job_base.specs.declared.limits.TheConstants.{MOST_STATEMENTS}
+use Rattle.job_base.specs.Cells.{cells_of, cell_list}
+use Rattle.job_base.proofs.Windows.{cell_list-same}
+use Rattle.frame_ast.specs.declared.script.Order.{Order}
+use Rattle.frame_ast.specs.declared.script.Order.TheVariants.{When}
+use Rattle.frame_ast.specs.declared.script.Script.{Script}
+use Rattle.frame_ast.specs.declared.script.Statement.{Statement}
+use Rattle.frame_ast.specs.Accepted.{IsAccepted, is_when}
+use Rattle.frame_ast.specs.Checks.{refusal}
+use Rattle.frame_ast.specs.Jobs.{Jobs, greatest}
+use Rattle.frame_ast.specs.Orders.{Table, Setting, setting}
+use Rattle.frame_ast.specs.Ranges.{has_word}
+use Rattle.frame_ast.specs.Refusals.{disposed, busy, busy_with}
+use Rattle.frame_ast.specs.States.{ScriptState, is_live}
+use Rattle.frame_ast.specs.Effects.{effect}
+use Rattle.frame_ast.specs.Scripts.{act}
+use Rattle.frame_ast.proofs.NameKinds.{first_none}
+use Rattle.job_handle.specs.Books.{count_of}
+use Rattle.kernel_exec.specs.Binds.{end_of}
+use Rattle.kernel_exec.specs.Layout.{Holds}
+use Rattle.merge_laws.specs.Graph.{Cells}
+use Rattle.slot_store.specs.Stores.{peak_of}
+use Rattle.frame_core.specs.Ordered.{ops_count}
+use Rattle.frame_core.proofs.Small.{some_is, none_some, not_both, get_below}
+use Rattle.plan_laws.specs.Binds.{bind_of, bind_of_container}
+use Rattle.plan_laws.specs.Drafts.{Draft}
+use Rattle.plan_laws.specs.Leaving.{AllHeld}
+use Rattle.plan_laws.specs.Planned.{Outline, IsPlanned}
+use Rattle.plan_laws.specs.Sections.{carried_op}
+use Rattle.plan_laws.proofs.Making.{live_below}
+use Rattle.plan_laws.proofs.Owners.{words_apart}
+use Rattle.plan_laws.proofs.Sections.{sections_begin}
+use Rattle.frame_plan.specs.declared.sections.SectionBook.{SectionBook}
+use Rattle.frame_plan.specs.declared.state.PlanFault.{PlanFault}
+use Rattle.frame_plan.specs.declared.state.PlanFault.TheVariants.{NoMemory}
+use Rattle.frame_plan.specs.declared.state.Container.{Container}
+use Rattle.frame_plan.specs.declared.state.Planner.{Planner}
+use Rattle.frame_plan.specs.declared.state.Written.{Written}
+use Rattle.frame_plan.specs.Runs.{IsActingTest, outline_of, PassesOnce}
+use Rattle.frame_plan.specs.Resuming.{IsResumed}
+use Rattle.frame_plan.specs.Sections.{IsBetween, IsOutcome, AreLeft, outcome_of, outcome_by, passed_after}
+use Rattle.frame_plan.specs.Stands.{IsContainer, IsOwned, Agrees, Stands, draft_of}
+use Rattle.frame_plan.specs.Steps.{state_at, StandsAt}
+use Rattle.frame_plan.proofs.Accessing.{there}
+use Rattle.frame_plan.proofs.Wholes.{plan_so_far, some_planned}
+use Rattle.frame_plan.proofs.Handing.{not_test, no_test, limit_is}
+use Rattle.frame_plan.proofs.Limiting.{text_passes_none}
+use Rattle.frame_plan.proofs.Passing.{repassed}
+use Rattle.frame_plan.proofs.Reaching.{long, next_state}
+use Rattle.frame_plan.proofs.Restating.{accepted_state}
+use Rattle.frame_plan.proofs.References.{name_below}
+use Rattle.frame_plan.proofs.Starting.{none_in, none_long, no_copy, no_pieces}
+
+-- ---- all jobs are completed
+
+greatest_none : (set : Jobs) (n : ℕ) → greatest set n ≡ 0 → (j : ℕ) → 0 < j → j ≤ n → set j ≡ false
+greatest_none set zero e j pos le = absurd (omega arith)
+greatest_none set (suc n) e j pos le = by (λ f k. greatest_none set n f j pos k) (set (suc n)) refl e
+  where
+    at : (b : Bool) → j ≡ suc n → set (suc n) ≡ b → set j ≡ b
+    at b same f = ap set same ∙ f
+
+    by : (greatest set n ≡ 0 → j ≤ n → set j ≡ false) → (b : Bool) → set (suc n) ≡ b → (if b then suc n else greatest set n) ≡ 0 → set j ≡ false
+    by below true f e = absurd (omega arith)
+    by below false f e = ⊎_elim (λ (lt : j < suc n). below e (omega arith)) (λ (ge : suc n ≤ j). at false (omega arith) f) (cases_lt j (suc n))
+
+not_busy : (name k : ℕ) → busy_with name k ≡ None → k ≡ 0
+not_busy name zero e = refl
+not_busy name (suc k) e = absurd (none_some (sym e))
+
+pub all_completed : (g : Setting) (s : ScriptState) (a : Order) → IsActingTest g s a → (j : ℕ) → 0 < j → j ≤ s.book.count → s.book.completed j ≡ true
+all_completed g s (When name sign value count) acts j pos le =
+    let free = (first_none (busy s name) [] (first_none (disposed s (name ∷ [])) (busy s name ∷ []) acts.1).1).0 in
+    is_true (s.book.completed j) (greatest_none (λ j. not (s.book.completed j)) s.book.count (not_busy name _ free) j pos le)
+  where
+    is_true : (b : Bool) → not b ≡ false → b ≡ true
+    is_true true e = refl
+    is_true false e = absurd cc
+all_completed g s a acts j pos le = absurd acts
+
+names_there : (script : Script) (table : Table) (old : Planner) (begun : ScriptState) (n : ℕ) (found : List ℕ) (x : Statement) → StandsAt old script table begun n found → IsAccepted script → slice_get script.statements.items n ≡ Some x
+    → (a : Order) → x.act ≡ a → IsActingTest (setting script table) (state_at script table n) a → 0 < length (setting script table).names
+names_there script table old begun n found x st accepted here (When name sign value count) is acts =
+    let lt = name_below script table old begun n found x st (record { accepted = accepted; here = here; acts = acts.0 }) name sign value count is acts.1 in
+    omega arith
+names_there script table old begun n found x st accepted here a is acts = absurd acts
+
+-- ---- the planner
+
+module _ (script : Script) (table : Table) (old : Planner) (begun : ScriptState) (n : ℕ) (found : List ℕ) (x : Statement) (st : StandsAt old script table begun n found)
+    (accepted : IsAccepted script) (here : slice_get script.statements.items n ≡ Some x) (acts : IsActingTest (setting script table) (state_at script table n) x.act)
+    (carried : Cells) (held : AllHeld (λ k. get_or found k 0) (state_at script table n) carried)
+    (kernels guards : Vec (Option ℕ) Global) (before : ℕ) (w : Written)
+    (kernels_are : kernels.items ≡ replicate (length script.kernels.items) None) (guards_are : guards.items ≡ replicate (length script.kernels.items) None)
+    (before_is : before ≡ (state_at script table n).book.count)
+    (segments : w.segments.items ≡ []) (jobs : w.jobs.items ≡ []) (waits : w.waits.items ≡ []) (ops : w.ops.items ≡ carried_op (peak_of old.store) 0 ∷ [])
+    (literals : map (λ v. v.items) w.literals.items ≡ cell_list carried 0 (peak_of old.store) ∷ []) (no_kernels : w.kernels.items ≡ []) (pieces : w.pieces ≡ 0) where
+  abbrev g : Setting
+  g = setting script table
+
+  abbrev s : ScriptState
+  s = state_at script table n
+
+  abbrev q : Planner
+  q = record old { kernels = kernels; guards = guards; jobs_before = before; plan = w }
+
+  abbrev len : ℕ
+  len = peak_of old.store
+
+  container_kept : (c : ℕ) (it : Container) → IsContainer old s found c it → IsContainer q s found c it
+  container_kept c it k = record {
+    bind = k.bind;
+    range = k.range;
+    life = k.life;
+    making = k.making;
+    named = k.named;
+    alive = k.alive;
+    uses = k.uses;
+    view = k.view;
+    in_use = k.in_use;
+    span = k.span;
+    taken = k.taken;
+    older = k.older;
+    low = k.low;
+    held = k.held;
+  }
+
+  owned_kept : (slot : ℕ) → IsOwned old s slot → IsOwned q s slot
+  owned_kept slot o = record { container = o.container; it = o.it; has = o.has; slot_is = o.slot_is; live = o.live }
+
+  inside : n ≤ length script.statements.items
+  inside = let lt = get_below script.statements.items n x here in omega arith
+
+  one_literal : length w.literals.items ≡ 1
+  one_literal = sym (long (λ v. v.items) w.literals.items) ∙ ap length literals
+
+  planned_before : IsPlanned (outline_of (plan_so_far script old) found begun) s (draft_of old)
+  planned_before = some_planned script table old begun n found st accepted inside
+
+  range_known : (c : ℕ) → c < s.made → s.range c < length found
+  range_known c lt =
+      let it = there old.containers.items c (let e = st.containers.made in omega arith) in
+      let r = (st.containers.each c it.0 it.1).range in
+      let e = st.takes in
+      omega arith
+
+  module _ (y : Outline) (a : Agrees q g s found y) where
+    abbrev x' : Outline
+    x' = record { plan = y.plan; starts = y.starts; begun = s }
+
+    start_is : (c : ℕ) → c < s.made → y.starts (s.range c) ≡ get_or found (s.range c) 0
+    start_is c lt = a.starts (s.range c) (range_known c lt)
+
+    bind_is : (c : ℕ) → c < s.made → bind_of_container y.starts s c ≡ bind_of_container (λ k. get_or found k 0) s c
+    bind_is c lt = ap (λ k. bind_of k (s.contents c)) (start_is c lt)
+
+    word_is : (c v : ℕ) → c < s.made → has_word y.starts s c v ≡ has_word (λ k. get_or found k 0) s c v
+    word_is c v lt = ap (λ k. has_word (λ j. k) s c v) (start_is c lt)
+
+    apart : (c e v : ℕ) → is_live s c ≡ true → is_live s e ≡ true → has_word y.starts s c v ≡ true → has_word y.starts s e v ≡ true → c ≡ e
+    apart c e v lc le hc he =
+        words_apart (plan_so_far script old) (λ k. get_or found k 0) begun.book.count (length old.plan.jobs.items) s planned_before.ordered.ledger c e v lc le
+        (sym (word_is c v (live_below s c lc)) ∙ hc) (sym (word_is e v (live_below s e le)) ∙ he)
+
+    literal_is : get_or (map (λ v. v.items) y.plan.literals.items) 0 [] ≡ cell_list carried 0 len
+    literal_is =
+        let l = a.literals in
+        ap (λ xs. get_or (map (λ (v : Vec ℤ Global). v.items) xs) 0 []) l.1 ∙ first (w.literals.items) l.0 literals
+      where
+        first : (xs later : List (Vec ℤ Global)) → map (λ v. v.items) xs ≡ cell_list carried 0 len ∷ [] → get_or (map (λ (v : Vec ℤ Global). v.items) (xs ++ later)) 0 [] ≡ cell_list carried 0 len
+        first [] later e = absurd cc
+        first (z ∷ xs) later e = ap (λ l. get_or l 0 []) e
+
+    begins : IsPlanned x' s (draft_of q)
+    begins =
+        sections_begin x' carried len 0 (draft_of q) a.small st.known (all_completed g s x.act acts)
+        (record {
+          held = λ c below alive. subst (λ b. Holds carried b (s.contents c)) (sym (bind_is c below)) (held c below alive);
+          below = λ c live. subst (λ b. end_of b ≤ len) (sym (bind_is c (live_below s c live))) (planned_before.standing.within c live);
+          within = a.cells;
+          has_literal = (let one = one_literal in let l = ap length a.literals.1 in let both = length-append w.literals.items a.literals.0 in omega arith);
+          are = literal_is;
+          apart = apart;
+        })
+        (let e = ap length a.names in let m = long (λ v. string_bytes v) y.plan.names.items in let lt = names_there script table old begun n found x st accepted here x.act refl acts in omega arith)
+        (record { segments = segments; jobs = jobs; waits = waits; ops = ops })
+
+    planned : IsPlanned y s (draft_of q)
+    planned =
+        let b = sym a.begins in
+        let x_is : x' ≡ y = λ i. record { plan = y.plan; starts = y.starts; begun = b i } in
+        subst (λ o. IsPlanned o s (draft_of q)) x_is begins
+
+  pub stands_resumed : StandsAt (record old { kernels = kernels; guards = guards; jobs_before = before; plan = w }) script table (state_at script table n) n found
+  stands_resumed =
+      let m = st.numbers in record {
+        known = st.known;
+        numbers = record {
+          frame = m.frame;
+          passing = m.passing;
+          created = m.created;
+          before = before_is;
+          pieces = pieces ∙ sym (no_pieces w.jobs.items jobs);
+          live_words = m.live_words;
+          frames_few = m.frames_few;
+          made_few = m.made_few;
+          created_few = m.created_few;
+          peak_low = m.peak_low;
+          slots_few = m.slots_few;
+          ops_few = (let e = ap ops_count segments in let f = ap length ops in omega arith);
+          segments_few = (let e = none_long w.segments.items segments in omega arith);
+          literals_few = (let e = one_literal in omega arith);
+          kernels_few = (let e = none_long w.kernels.items no_kernels in omega arith);
+          handles_few = m.handles_few;
+        };
+        names = st.names;
+        each = st.each;
+        containers = record {
+          made = st.containers.made;
+          each = λ c it h. container_kept c it (st.containers.each c it h);
+          slots = λ slot u. owned_kept slot (st.containers.slots slot u);
+          once = st.containers.once;
+          versions = st.containers.versions;
+        };
+        takes = st.takes;
+        temps = st.temps;
+        tempjobs = st.tempjobs;
+        frames = st.frames;
+        jobs = st.jobs;
+        kernels = record {
+          each = ap length kernels_are ∙ length-replicate (length script.kernels.items) None;
+          each_guard = ap length guards_are ∙ length-replicate (length script.kernels.items) None;
+          copies = λ k place e. absurd (no_copy kernels.items (length script.kernels.items) k place kernels_are e);
+          guards = λ k place e. absurd (no_copy guards.items (length script.kernels.items) k place guards_are e);
+          checked = λ place k e. absurd (none_in w.kernels.items place k no_kernels e);
+        };
+        planned = planned;
+      }
+
+-- ---- the test acts
+
+test_acts : (g : Setting) (s : ScriptState) (x : Statement) (held : Bool) (a : Order) → x.act ≡ a → IsActingTest g s a → held ≡ outcome_of s a → act g s x ≡ record s { passing = passed_after held a }
+test_acts g s x held (When name sign value count) is acts out =
+    accepted_state g s x acts.0 (ap (refusal g s) is ∙ acts.1) ∙ ap (effect g x.line s) is ∙ ap (λ b. record s { passing = if b then 0 else count }) (sym out) ∙ ap (λ k. record s { passing = k }) (by held)
+  where
+    by : (b : Bool) → (if b then 0 else count) ≡ passed_after b (When name sign value count)
+    by true = refl
+    by false = refl
+test_acts g s x held a is acts out = absurd acts
+
+outcome_is : (script : Script) (table : Table) (n : ℕ) (x : Statement) (held : Bool) → IsOutcome script table n (Some held) → slice_get script.statements.items n ≡ Some x → held ≡ outcome_of (state_at script table n) x.act
+outcome_is script table zero x held h e = absurd (none_some (sym h))
+outcome_is script table (suc n) x held h e = some_is h ∙ ap (outcome_by (state_at script table (suc n))) e
+
+module _ (script : Script) (table : Table) (book : SectionBook) (n : ℕ) (carried : Cells) (len : ℕ) (b : IsBetween book script table n carried len) where
+  pub below : n < length script.statements.items
+  below = get_below script.statements.items n b.test b.here
+
+  few : length script.statements.items ≤ MOST_STATEMENTS
+  few = leb-true (length script.statements.items) MOST_STATEMENTS b.accepted.statement_count
+
+  pub place_small : n < MOST_STATEMENTS
+  place_small = let lt = below in let le = few in omega arith
+
+  peak_is : peak_of book.planner.store ≡ peak_of b.old.store
+  peak_is = ap (λ (k : Planner). peak_of k.store) b.emptied.rest
+
+  module _ (q : Planner) (mem : List ℤ) (left : AreLeft mem carried len) (r : IsResumed script book.planner q mem) where
+    q_is : q ≡ record b.old { kernels = q.kernels; guards = q.guards; jobs_before = q.jobs_before; plan = record book.planner.plan { literals = q.plan.literals; ops = q.plan.ops } }
+    q_is = r.rest ∙ ap (λ (k : Planner). record k { kernels = q.kernels; guards = q.guards; jobs_before = q.jobs_before; plan = record book.planner.plan { literals = q.plan.literals; ops = q.plan.ops } }) b.emptied.rest
+
+    same_cells : cell_list (cells_of mem) 0 (peak_of book.planner.store) ≡ cell_list carried 0 (peak_of b.old.store)
+    same_cells =
+        cell_list-same (cells_of mem) carried 0 (peak_of book.planner.store) (λ k lo hi. left.1 k (let e = b.len_is in omega arith))
+        ∙ ap (cell_list carried 0) peak_is
+
+    stands_again : StandsAt q script table (state_at script table n) n b.found
+    stands_again =
+        subst (λ p. StandsAt p script table (state_at script table n) n b.found) (sym q_is)
+        (stands_resumed script table b.old b.begun n b.found b.test b.stood b.accepted b.here b.acts carried b.held q.kernels q.guards q.jobs_before (record book.planner.plan { literals = q.plan.literals; ops = q.plan.ops })
+        r.kernels r.guards
+        (r.before ∙ ap (λ (k : Planner). count_of k.jobs) b.emptied.rest ∙ b.stood.jobs.count)
+        (ap (λ (d : Draft). d.segments) b.emptied.draft)
+        (ap (λ (d : Draft). d.jobs) b.emptied.draft)
+        (ap (λ (d : Draft). d.waits) b.emptied.draft)
+        (r.ops ∙ ap (λ k. carried_op k 0 ∷ []) peak_is)
+        (r.literals ∙ ap (λ l. l ∷ []) same_cells)
+        b.emptied.kernels
+        b.emptied.pieces)
+
+    pub resumed_on : (held : Bool) (x : Statement) → slice_get script.statements.items n ≡ Some x → IsOutcome script table n (Some held) → StandsAt (record q { passing = passed_after held x.act }) script table (state_at script table n) (suc n) b.found
+    resumed_on held x here out =
+        let same : b.test ≡ x = some_is (sym b.here ∙ here) in
+        let acts = subst (λ (y : Statement). IsActingTest (setting script table) (state_at script table n) y.act) same b.acts in
+        let now = test_acts (setting script table) (state_at script table n) x held x.act refl acts (outcome_is script table n x held out here) in
+        subst (λ t. Stands (record q { passing = passed_after held x.act }) (setting script table) (state_at script table n) (suc n) t b.found) (sym now ∙ next_state script table n x here)
+        (repassed q (setting script table) (state_at script table n) n (state_at script table n) b.found stands_again (passed_after held x.act))
+
+    pub standing_on : (held : Bool) (x : Statement) (k : ℕ) → slice_get script.statements.items book.at ≡ Some x → IsOutcome script table n (Some held) → k ≡ passed_after held x.act
+        → StandsAt (record q { passing = k }) script table (state_at script table n) (book.at + 1) b.found
+    standing_on held x k there_is out is =
+        let here : slice_get script.statements.items n ≡ Some x = ap (slice_get script.statements.items) (sym b.at) ∙ there_is in
+        let next : suc n ≡ book.at + 1 = (let a = b.at in omega arith) in
+        subst (λ m. StandsAt (record q { passing = k }) script table (state_at script table n) m b.found) next
+        (subst (λ j. StandsAt (record q { passing = j }) script table (state_at script table n) (suc n) b.found) (sym is) (resumed_on held x here out))
+
+  pub no_limit : (fault : PlanFault) → PassesOnce fault script table → fault ≡ NoMemory
+  no_limit fault p =
+      let some = some_test script.statements.items n b.test b.here (not_test (setting script table) (state_at script table n) b.test.act b.acts) in
+      text_passes_none script table fault (sym (limit_is script table true some) ∙ b.within) p
+    where
+      some_test : (xs : List Statement) (n : ℕ) (x : Statement) → slice_get xs n ≡ Some x → is_when x.act ≡ true → list_any (λ (x : Statement). is_when x.act) xs ≡ true
+      some_test xs n x e is = by (list_any (λ (x : Statement). is_when x.act) xs) refl
+        where
+          by : (c : Bool) → list_any (λ (x : Statement). is_when x.act) xs ≡ c → list_any (λ (x : Statement). is_when x.act) xs ≡ true
+          by true f = f
+          by false f = absurd (not_both is (no_test xs n x f e))

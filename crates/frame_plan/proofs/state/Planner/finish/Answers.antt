@@ -1,0 +1,60 @@
+use Rattle.std.proofs.Common.{◌≡◌, ◌+◌, ◌*◌, ◌<◌, ◌≤◌, ℕ, ◌++◌, ◌∷◌, [], length, map, None, true, refl, ap, subst, ◌∙◌, arith}
+use Rattle.std.specs.Prelude.{string_bytes}
+use Rattle.frame_core.specs.declared.plan.Segment.{Segment}
+use Rattle.frame_core.specs.Names.{has_job}
+use Rattle.plan_laws.specs.Planned.{AreJobsUpTo}
+use Rattle.slot_store.specs.Stores.{peak_of}
+use Rattle.frame_plan.specs.declared.state.Written.{Written}
+use Rattle.frame_plan.proofs.Wholes.{jobs_few, pieces_small, cells_small, is_done}
+use Rattle.frame_plan.proofs.state.Planner.finish.Goals as goal
+
+pub overflow_cast-len : goal.overflow_cast-len
+overflow_cast-len c =
+    let r = c.requires in
+    let few = jobs_few c.args.script.now r.0 c.args.self.now r.1 r.2 r.3 r.4 r.6 r.5 in
+    let len = c.args.self.now.plan.jobs.ok.0 in
+    let e = c.len.ensures in
+    omega arith
+
+pub overflow_mul-result : goal.overflow_mul-result
+overflow_mul-result c =
+    let r = c.requires in
+    let few = pieces_small c.args.script.now r.0 c.args.self.now r.1 r.2 r.3 r.4 r.6 r.5 in
+    let is : c.replace-kernels.result.pieces ≡ c.args.self.now.plan.pieces = ap (λ (w : Written). w.pieces) c.replace-kernels.ensures.value in
+    omega arith
+
+pub overflow_add-result : goal.overflow_add-result
+overflow_add-result c =
+    let r = c.requires in
+    let few = pieces_small c.args.script.now r.0 c.args.self.now r.1 r.2 r.3 r.4 r.6 r.5 in
+    let less : peak_of c.args.self.now.store ≤ 8388608 = cells_small c.args.script.now r.0 c.args.self.now r.1 r.2 r.3 r.4 r.6 r.5 in
+    let is : c.replace-kernels.result.pieces ≡ c.args.self.now.plan.pieces = ap (λ (w : Written). w.pieces) c.replace-kernels.ensures.value in
+    let cells : c.peak-cells.result ≡ peak_of c.args.self.now.store = c.peak-cells.ensures in
+    omega arith
+
+pub returns-clause-plan : goal.returns-clause-plan
+returns-clause-plan c =
+    let p = c.args.self.now in
+    let v : c.replace-kernels.result ≡ p.plan = c.replace-kernels.ensures.value in
+    let last : Segment = record { waits = c.replace-kernels.result.waits; ops = c.replace-kernels.result.ops; starts = None } in
+    let final : Segment = record { waits = c.in_ok-all.all; ops = c.new.result; starts = None } in
+    let count : c.len.result ≡ length p.plan.jobs.items = (let len = p.plan.jobs.ok.0 in let e = c.len.ensures in omega arith) in
+    record {
+      cells = c.peak-cells.ensures;
+      done = λ table begun n found inside st.
+          is_done c.args.script.now table p begun n found st c.requires.6 inside _ last final
+          (c.in_ok-names.ensures ∙ ap (map (λ v. string_bytes v)) c.deref.ensures.value)
+          (ap (λ (w : Written). w.kernels.items) v)
+          (ap (λ (w : Written). w.literals.items) v)
+          (ap (λ (w : Written). w.jobs.items) v)
+          c.peak-cells.ensures
+          (ap (λ (w : Written). c.peak-cells.result + 3 * w.pieces) v)
+          (c.in_ok-push-2.ensures.items ∙ ap (λ l. l ++ final ∷ []) (c.in_ok-push.ensures.items ∙ ap (λ (w : Written). w.segments.items ++ last ∷ []) v))
+          (ap (λ (w : Written). w.waits.items) v)
+          (ap (λ (w : Written). w.ops.items) v)
+          refl
+          (subst (λ k. AreJobsUpTo k c.in_ok-all.all.items) count c.in_ok-all.ensures.known)
+          (subst (λ k. (j : ℕ) → 0 < j → j ≤ k → has_job c.in_ok-all.all.items j ≡ true) count c.in_ok-all.ensures.all)
+          c.new.ensures.items
+          refl;
+    }

@@ -1,0 +1,36 @@
+use Rattle.std.proofs.Common.{◌≡◌, sym, subst, ◌∙◌, to_z, of_z, w64, arith}
+use Rattle.std.proofs.lemmas.Int.{ints}
+use Rattle.frame_ast.specs.declared.script.Order.TheVariants as order
+use Rattle.frame_plan.specs.Tables.{columns_of}
+use Rattle.frame_plan.specs.Tests.{IsDecided}
+use Rattle.frame_plan.proofs.Acting.{written, ready, passed, test_stops}
+use Rattle.frame_plan.proofs.Passing.{passed_by}
+use Rattle.frame_plan.proofs.state.Planner.pass.Goals as goal
+
+pub returns-then-self-gt0-clause-passed : goal.returns-then-self-gt0-clause-passed
+returns-then-self-gt0-clause-passed c went = passed_by c.args.script.now (columns_of c.args.table.now) c.args.self.now c.args.statement.now (omega arith)
+
+pub refuse_test-requires : goal.refuse_test-requires
+refuse_test-requires c =
+    let value : to_z w64 (of_z w64 c.in-When.value) ≡ c.in-When.value = omega (arith, ints) in
+    record { ready = ready c.args.script.now (columns_of c.args.table.now) c.args.self.now c.args.statement.now c.requires (omega arith) _ (c.in-When.is ∙ (λ i. order.When c.in-When.name c.in-When.sign (sym value i) c.in-When.count)) }
+
+pub returns-in-When-clause-passed : goal.returns-in-When-clause-passed
+returns-in-When-clause-passed c went =
+    let value : to_z w64 (of_z w64 c.in-When.value) ≡ c.in-When.value = omega (arith, ints) in
+    let x = written c.args.statement.now (order.When c.in-When.name c.in-When.sign (to_z w64 (of_z w64 c.in-When.value)) c.in-When.count) in
+    passed c.args.script.now (columns_of c.args.table.now) c.args.self.now c.args.statement.now c.requires (omega arith) _ (c.in-When.is ∙ (λ i. order.When c.in-When.name c.in-When.sign (sym value i) c.in-When.count))
+    c.refuse_test.new.self (subst (IsDecided c.args.self.now c.refuse_test.new.self x) went c.in_ok-refuse_test.ensures.decided)
+
+pub returns-in-When-clause-stops : goal.returns-in-When-clause-stops
+returns-in-When-clause-stops c stay =
+    let value : to_z w64 (of_z w64 c.in-When.value) ≡ c.in-When.value = omega (arith, ints) in
+    let x = written c.args.statement.now (order.When c.in-When.name c.in-When.sign (to_z w64 (of_z w64 c.in-When.value)) c.in-When.count) in
+    test_stops c.args.script.now (columns_of c.args.table.now) c.args.self.now c.args.statement.now c.requires (omega arith)
+    c.in-When.name c.in-When.sign (to_z w64 (of_z w64 c.in-When.value)) c.in-When.count (c.in-When.is ∙ (λ i. order.When c.in-When.name c.in-When.sign (sym value i) c.in-When.count))
+    (subst (IsDecided c.args.self.now c.refuse_test.new.self x) stay c.in_ok-refuse_test.ensures.decided).1
+
+pub returns-in-When-clause-stays : goal.returns-in-When-clause-stays
+returns-in-When-clause-stays c stay =
+    let x = written c.args.statement.now (order.When c.in-When.name c.in-When.sign (to_z w64 (of_z w64 c.in-When.value)) c.in-When.count) in
+    (subst (IsDecided c.args.self.now c.refuse_test.new.self x) stay c.in_ok-refuse_test.ensures.decided).0

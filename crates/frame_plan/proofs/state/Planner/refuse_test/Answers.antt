@@ -1,0 +1,21 @@
+use Rattle.std.proofs.Common.{sym, refl}
+use Rattle.frame_ast.specs.Orders.{setting}
+use Rattle.frame_plan.specs.Steps.{state_at}
+use Rattle.frame_plan.proofs.TestsGoOn.{test_ready, test_refused}
+use Rattle.frame_plan.proofs.state.Planner.refuse_test.Goals as goal
+
+pub test_refusal-requires-clause-name : goal.test_refusal-requires-clause-name
+test_refusal-requires-clause-name c = (test_ready c.args.self.now c.args.line c.args.name c.args.sign c.args.value c.args.count c.requires.ready).0
+
+pub test_refusal-requires-clause-there : goal.test_refusal-requires-clause-there
+test_refusal-requires-clause-there c = (test_ready c.args.self.now c.args.line c.args.name c.args.sign c.args.value c.args.count c.requires.ready).1
+
+pub returns-in-None : goal.returns-in-None
+returns-in-None c = record {
+  decided = (refl, λ script table begun n found step st. sym (c.in-None.ensures (setting script table) begun n (state_at script table n) found st));
+}
+
+pub returns-in_ok-say-in-Some : goal.returns-in_ok-say-in-Some
+returns-in_ok-say-in-Some c = record {
+  decided = test_refused c.args.self.now c.args.line c.args.name c.args.sign c.args.value c.args.count c.say.new.self c.in-Some.refusal c.in-Some.ensures c.in_ok-say-in-Some.ensures;
+}

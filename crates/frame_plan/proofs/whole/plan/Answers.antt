@@ -1,0 +1,12 @@
+use Rattle.std.proofs.Common.{pos}
+use Rattle.frame_plan.specs.Tables.{columns_of}
+use Rattle.frame_plan.proofs.Handing.{plan_is}
+use Rattle.frame_plan.proofs.whole.plan.Goals as goal
+
+pub hand_out-requires : goal.hand_out-requires
+hand_out-requires c = (columns_of c.args.table.now, 0, c.in_ok-book.ensures.at (λ w. pos 0) 0)
+
+pub returns-clause-plan : goal.returns-clause-plan
+returns-clause-plan c =
+    let t = columns_of c.args.table.now in
+    plan_is c.args.script.now t c.hand_out.new.self c.in_ok-plan.field-0 c.requires.whole (c.in_ok-plan.ensures t 0 (c.in_ok-book.ensures.at (λ w. pos 0) 0))

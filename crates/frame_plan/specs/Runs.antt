@@ -1,0 +1,111 @@
+-- A planner goes through the statements of a script one after another, up to a test that acts or to the script's end.
+use Rattle.std.specs.Prelude.{ℕ, suc, ◌≡◌, ◌<◌, ◌≤◌, List, [], ◌++◌, length, Option, None, Some, slice_get}
+use Rattle.job_base.specs.declared.limits.TheConstants.{MOST_JOBS, MOST_CREATED_WORDS}
+use Rattle.frame_ast.specs.declared.script.Order.{Order}
+use Rattle.frame_ast.specs.declared.script.Order.TheVariants.{When}
+use Rattle.frame_ast.specs.declared.script.Script.{Script}
+use Rattle.frame_ast.specs.declared.script.Statement.{Statement}
+use Rattle.frame_ast.specs.Accepted.{IsAccepted}
+use Rattle.frame_ast.specs.Checks.{refusal}
+use Rattle.frame_ast.specs.Orders.{Table, Setting, setting}
+use Rattle.frame_ast.specs.States.{ScriptState}
+use Rattle.slot_store.specs.Stores.{peak_of}
+use Rattle.frame_core.specs.declared.plan.Plan.{Plan}
+use Rattle.plan_laws.specs.Drafts.{empty_draft}
+use Rattle.plan_laws.specs.Finishing.{IsDone}
+use Rattle.plan_laws.specs.Planned.{Outline}
+use Rattle.std.specs.Prelude.{get_or}
+use Rattle.frame_plan.specs.declared.state.PlanFault.{PlanFault}
+use Rattle.frame_plan.specs.declared.state.Planner.{Planner}
+use Rattle.frame_plan.specs.Stands.{draft_of}
+use Rattle.frame_plan.specs.Steps.{state_at, StandsAt, PassesLimit}
+
+-- WHERE A SECTION ENDS
+
+-- the statement is a `when` that is neither passed by nor refused
+abbrev pub IsActingTest : Setting → ScriptState → Order → Type 0
+IsActingTest g s (When name sign value count) = (s.passing ≡ 0) × (refusal g s (When name sign value count) ≡ None)
+IsActingTest g s _ = ⊥
+
+-- at such a statement, or where none follows
+abbrev pub IsStop : Setting → ScriptState → Option Statement → Type 0
+IsStop g s None = Unit {0}
+IsStop g s (Some x) = IsActingTest g s x.act
+
+-- ONE STATEMENT of a script, with its table, passed by or not
+
+-- The planner stands before the statement.
+pub record IsAtStatement (script : Script) (table : Table) (p : Planner) (x : Statement) : Type 0 where
+  pub accepted : IsAccepted script
+  pub begun : ScriptState
+  pub n : ℕ
+  pub found : List ℕ
+  pub here : slice_get script.statements.items n ≡ Some x
+  pub stands : StandsAt p script table begun n found
+
+-- Something is so of each place at which the planner stands before the statement.
+abbrev pub AtPlace : Script → Table → Planner → Statement → (ScriptState → ℕ → List ℕ → Type 0) → Type 0
+AtPlace script table p x Holds = (begun : ScriptState) (n : ℕ) (found : List ℕ)
+    → slice_get script.statements.items n ≡ Some x
+    → StandsAt p script table begun n found
+    → Holds begun n found
+
+-- it stands one statement further on
+abbrev pub HasPassed : Script → Table → Planner → Planner → Statement → Type 0
+HasPassed script table old new x = AtPlace script table old x (λ begun n found.
+    (more : List ℕ) × StandsAt new script table begun (suc n) (found ++ more))
+
+-- the statement is a test that acts
+abbrev pub StopsAt : Script → Table → Planner → Statement → Type 0
+StopsAt script table old x = AtPlace script table old x (λ begun n found.
+    IsActingTest (setting script table) (state_at script table n) x.act)
+
+-- the state afterwards passes a limit
+abbrev pub FailsAtPlace : Script → Table → PlanFault → Planner → Statement → Type 0
+FailsAtPlace script table fault old x = AtPlace script table old x (λ begun n found.
+    PassesLimit fault (state_at script table (suc n)))
+
+-- ALL STATEMENTS up to a stop
+
+-- The planner has gone from one place to another, where a section ends.
+pub record HasRun (script : Script) (table : Table) (new : Planner) (begun : ScriptState) (from : ℕ) (found : List ℕ)
+    (to : ℕ) : Type 0 where
+  pub more : List ℕ
+  pub stands : StandsAt new script table begun to (found ++ more)
+  pub rising : from ≤ to
+  pub inside : to ≤ length script.statements.items
+  pub stops : IsStop (setting script table) (state_at script table to) (slice_get script.statements.items to)
+
+-- no limit is passed
+pub record IsWithin (s : ScriptState) : Type 0 where
+  pub jobs : s.book.count ≤ MOST_JOBS
+  pub words : s.created ≤ MOST_CREATED_WORDS
+
+-- One of the statements passes the limit, and none before it does.
+pub record PassesOnce (fault : PlanFault) (script : Script) (table : Table) : Type 0 where
+  pub n : ℕ
+  pub here : n < length script.statements.items
+  pub within : IsWithin (state_at script table n)
+  pub passes : PassesLimit fault (state_at script table (suc n))
+
+-- A SECTION IS FINISHED
+
+-- the words of ranges start where they were found
+abbrev pub outline_of : Plan → List ℕ → ScriptState → Outline
+outline_of plan found begun = record { plan = plan; starts = λ k. get_or found k 0; begun = begun }
+
+-- The plan is that of a section which began in a state, up to the statement at which the planner stands.
+pub record IsFinished (script : Script) (p : Planner) (plan : Plan) : Type 0 where
+  pub cells : plan.cells ≡ peak_of p.store
+  pub done : (table : Table) (begun : ScriptState) (n : ℕ) (found : List ℕ)
+      → n ≤ length script.statements.items
+      → StandsAt p script table begun n found
+      → IsDone (outline_of plan found begun) (state_at script table n)
+
+-- The planner has no plan, and is otherwise as it was.
+pub record IsEmptied (old new : Planner) : Type 0 where
+  pub rest : new ≡ record old { plan = new.plan }
+  pub draft : draft_of new ≡ empty_draft
+  pub literals : new.plan.literals.items ≡ []
+  pub kernels : new.plan.kernels.items ≡ []
+  pub pieces : new.plan.pieces ≡ 0

@@ -1,0 +1,161 @@
+-- What a section of a script promises.
+--
+-- A section goes from one place among the statements to another: to the next `when` that is neither refused nor passed
+-- by, or to the script's end. That `when` is the first statement of the section after it. A script without a `when` is
+-- one section.
+use Rattle.std.specs.Prelude.{ℕ, zero, suc, ◌+◌, ◌≡◌, ◌<◌, ◌≤◌, Bool, true, false, ℤ, List, ◌++◌, length, map, get_or, Option, None, Some, IsSome, slice_get}
+use Rattle.job_base.specs.Cells.{cells_of}
+use Rattle.frame_ast.specs.declared.script.Order.{Order}
+use Rattle.frame_ast.specs.declared.script.Order.TheVariants.{When}
+use Rattle.frame_ast.specs.declared.script.Script.{Script}
+use Rattle.frame_ast.specs.declared.script.Statement.{Statement}
+use Rattle.frame_ast.specs.Accepted.{IsAccepted}
+use Rattle.frame_ast.specs.Arguments.{value_in}
+use Rattle.frame_ast.specs.Checks.{refusal}
+use Rattle.frame_ast.specs.Limits.{Limit, TooManyJobs, TooManyWords, limit_of}
+use Rattle.frame_ast.specs.Orders.{Table, Setting, setting, compares}
+use Rattle.frame_ast.specs.Scripts.{final}
+use Rattle.frame_ast.specs.States.{ScriptState, contents_at}
+use Rattle.kernel_exec.specs.declared.binds.Bind.TheVariants.{Ref}
+use Rattle.kernel_exec.specs.Layout.{Holds}
+use Rattle.merge_laws.specs.Graph.{Cells}
+use Rattle.slot_store.specs.Stores.{peak_of}
+use Rattle.frame_core.specs.declared.plan.Plan.{Plan}
+use Rattle.frame_core.specs.Graphs.{cells_after}
+use Rattle.frame_core.specs.Ordered.{IsWellOrderedPlan}
+use Rattle.frame_core.specs.Output.{plan_lines, plan_refused, plan_traps}
+use Rattle.plan_laws.specs.Leaving.{AllHeld}
+use Rattle.plan_laws.specs.Planned.{renumbered}
+use Rattle.frame_plan.specs.declared.section.Section.{Section}
+use Rattle.frame_plan.specs.declared.section.Test.{Test}
+use Rattle.frame_plan.specs.declared.sections.SectionBook.{SectionBook}
+use Rattle.frame_plan.specs.declared.state.PlanFault.{PlanFault}
+use Rattle.frame_plan.specs.declared.state.PlanFault.TheVariants.{Jobs, Words, NoMemory}
+use Rattle.frame_plan.specs.declared.state.Planner.{Planner}
+use Rattle.frame_plan.specs.Runs.{IsActingTest, IsStop, IsEmptied}
+use Rattle.frame_plan.specs.Steps.{state_at, StandsAt}
+
+-- THE LIMITS
+
+-- which limit of the language a fault is about; want of memory is about none
+abbrev pub limit_told : PlanFault → Option Limit
+limit_told Jobs = Some TooManyJobs
+limit_told Words = Some TooManyWords
+limit_told NoMemory = None
+
+-- THE TEST AT A SECTION'S END
+
+-- The statement is a `when` that acts, with the sign and the number of the test, and the cells after the section hold the
+-- value of its reference.
+abbrev pub IsTestOf : Setting → ScriptState → Cells → Test → Order → Type 0
+IsTestOf g s cells test (When name sign value count) =
+    (s.passing ≡ 0)
+    × (refusal g s (When name sign value count) ≡ None)
+    × (test.sign ≡ sign)
+    × (test.bound ≡ value)
+    × Holds cells (Ref test.at) (contents_at s name)
+IsTestOf g s cells test _ = ⊥
+
+-- there is a test where a statement follows, and none at the end
+abbrev pub EndsBy : Setting → ScriptState → Cells → Option Statement → Option Test → Type 0
+EndsBy g s cells None None = Unit {0}
+EndsBy g s cells None (Some test) = ⊥
+EndsBy g s cells (Some x) None = ⊥
+EndsBy g s cells (Some x) (Some test) = IsTestOf g s cells test x.act
+
+-- A SECTION from one place to another: its plan is well ordered, and gives in the run in script order what the script
+-- adds to its output between the two. Its jobs are numbered anew.
+pub record IsSectionOf (script : Script) (table : Table) (from to : ℕ) (section : Section) : Type 0 where
+  pub rising : (from ≤ to) × (to ≤ length script.statements.items)
+  pub well_ordered : IsWellOrderedPlan section.plan
+  pub jobs_before : section.jobs_before ≡ (state_at script table from).book.count
+  pub lines : (state_at script table to).lines ≡ (state_at script table from).lines ++ plan_lines section.plan
+  pub refused : (state_at script table to).refused ≡ (state_at script table from).refused + plan_refused section.plan
+  pub traps : (state_at script table to).traps
+      ≡ (state_at script table from).traps ++ map (renumbered section.jobs_before) (plan_traps section.plan)
+  pub test : EndsBy (setting script table) (state_at script table to) (cells_after section.plan)
+      (slice_get script.statements.items to) section.test
+
+-- WHAT THE NEXT SECTION IS GIVEN
+
+-- what a `when` tests, in the state before it
+abbrev pub outcome_of : ScriptState → Order → Bool
+outcome_of s (When name sign value count) = compares sign (value_in (contents_at s name)) value
+outcome_of s _ = true
+
+abbrev pub outcome_by : ScriptState → Option Statement → Bool
+outcome_by s None = true
+outcome_by s (Some x) = outcome_of s x.act
+
+-- whether the test holds at which the last section ended; the first section has none before it
+abbrev pub IsOutcome : Script → Table → ℕ → Option Bool → Type 0
+IsOutcome script table zero held = held ≡ None
+IsOutcome script table (suc n) held =
+    held ≡ Some (outcome_by (state_at script table (suc n)) (slice_get script.statements.items (suc n)))
+
+-- how many statements are passed by after a `when` that acts, by whether its test holds
+abbrev pub passed_after : Bool → Order → ℕ
+passed_after true x = 0
+passed_after false (When name sign value count) = count
+passed_after false _ = 0
+
+-- the first cells of a memory are those that the last section left
+abbrev pub AreLeft : List ℤ → Cells → ℕ → Type 0
+AreLeft mem cells len = (len ≤ length mem) × ((w : ℕ) → w < len → cells_of mem w ≡ cells w)
+
+-- WHERE A BOOK STANDS
+
+-- The section from a place on is planned, and wasn't handed out.
+pub record IsPlannedFrom (book : SectionBook) (script : Script) (table : Table) (from : ℕ) : Type 0 where
+  pub accepted : IsAccepted script
+  pub within : limit_of (setting script table) script.statements.items ≡ None
+  pub found : List ℕ
+  pub stands : StandsAt book.planner script table (state_at script table from) book.at found
+  pub rising : from ≤ book.at
+  pub inside : book.at ≤ length script.statements.items
+  pub stops : IsStop (setting script table) (state_at script table book.at)
+      (slice_get script.statements.items book.at)
+  -- where it ends at a test, this is a later one
+  pub later : IsSome (slice_get script.statements.items book.at) → from < book.at
+
+-- The sections up to a test were handed out, and left these cells in so many words. The planner is the one that stood
+-- there, without its plan.
+pub record IsBetween (book : SectionBook) (script : Script) (table : Table) (n : ℕ) (carried : Cells) (len : ℕ)
+    : Type 0 where
+  pub accepted : IsAccepted script
+  pub within : limit_of (setting script table) script.statements.items ≡ None
+  pub at : book.at ≡ n
+  pub test : Statement
+  pub here : slice_get script.statements.items n ≡ Some test
+  pub acts : IsActingTest (setting script table) (state_at script table n) test.act
+  pub old : Planner
+  pub begun : ScriptState
+  pub found : List ℕ
+  pub stood : StandsAt old script table begun n found
+  pub emptied : IsEmptied old book.planner
+  pub held : AllHeld (λ k. get_or found k 0) (state_at script table n) carried
+  pub len_is : len ≡ peak_of book.planner.store
+
+-- The book is at a place among the statements: before the first section, or at the test at which the last one ended,
+-- which left these cells in so many words.
+abbrev pub IsAt : SectionBook → Script → Table → ℕ → Cells → ℕ → Type 0
+IsAt book script table zero carried len = IsPlannedFrom book script table 0
+IsAt book script table (suc n) carried len = IsBetween book script table (suc n) carried len
+
+-- The section that begins at a place, and the book afterwards.
+pub record IsNext (book : SectionBook) (script : Script) (table : Table) (from : ℕ) (section : Section)
+    : Type 0 where
+  pub to : ℕ
+  pub is_section : IsSectionOf script table from to section
+  -- where it ends at a test, this is a later one, and the book is there
+  pub later : IsSome section.test → from < to
+  pub at : IsSome section.test → IsAt book script table to (cells_after section.plan) section.plan.cells
+
+-- A SCRIPT WITHOUT A `when`
+
+-- The plan is well ordered, and gives in the run in script order what the script gives.
+pub record IsPlanOf (script : Script) (table : Table) (plan : Plan) : Type 0 where
+  pub well_ordered : IsWellOrderedPlan plan
+  pub lines : (final (setting script table) script.statements.items).lines ≡ plan_lines plan
+  pub refused : (final (setting script table) script.statements.items).refused ≡ plan_refused plan
+  pub traps : (final (setting script table) script.statements.items).traps ≡ plan_traps plan

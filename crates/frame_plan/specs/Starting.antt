@@ -1,0 +1,132 @@
+-- A new job of the plan, in the code's terms.
+use Rattle.std.specs.Prelude.{Vec, ℕ, suc, ◌+◌, ◌-◌, ◌*◌, ◌≡◌, ◌≤◌, ◌⊎◌, Bool, true, false, List, [], ◌∷◌, ◌++◌, length, Option, None, Some, slice_get, slice_set}
+use Rattle.job_base.specs.declared.limits.TheConstants.{MOST_INDEXES, MOST_PIECES, MOST_JOBS}
+use Rattle.batch_cut.specs.declared.pieces.Cut.{Cut}
+use Rattle.frame_ast.specs.declared.kernel.Kernel.{Kernel}
+use Rattle.frame_ast.specs.declared.script.Script.{Script}
+use Rattle.std.specs.declared.alloc.Global.{Global}
+use Rattle.frame_ast.specs.declared.script.Arg.{Arg}
+use Rattle.frame_ast.specs.declared.script.Order.TheVariants.{Schedule}
+use Rattle.frame_ast.specs.declared.script.Statement.{Statement}
+use Rattle.job_base.specs.declared.Access.{Access}
+use Rattle.auto_deps.specs.Needs.{ForNeeds, IsAutomatic}
+use Rattle.frame_ast.specs.Laws.{AreUpTo}
+use Rattle.job_handle.specs.declared.book.JobBook.{JobBook}
+use Rattle.safety_handle.specs.declared.book.SafetyBook.{SafetyBook}
+use Rattle.safety_handle.specs.declared.tag.Tag.{Tag}
+use Rattle.frame_plan.specs.declared.state.PlanFault.{PlanFault}
+use Rattle.frame_plan.specs.declared.state.PlanFault.TheVariants.{Jobs as TooManyJobs, Words, NoMemory}
+use Rattle.frame_ast.specs.Jobs.{Jobs, Book, both, only, with_job}
+use Rattle.job_handle.specs.Books.{StandsFor, count_of}
+use Rattle.safety_handle.specs.Entries.{state_of}
+use Rattle.frame_core.specs.declared.plan.JobPlan.{JobPlan}
+use Rattle.frame_core.specs.declared.plan.Segment.{Segment}
+use Rattle.frame_core.specs.Names.{has_job, pieces_of}
+use Rattle.plan_laws.specs.Ledgers.{later}
+use Rattle.plan_laws.specs.Planned.{AreJobsUpTo}
+use Rattle.same_trees.specs.Same.{SameKernel}
+use Rattle.job_base.specs.declared.JobId.{JobId}
+use Rattle.frame_plan.specs.declared.state.Planner.{Planner}
+use Rattle.frame_plan.specs.declared.uses.NamedUse.{NamedUse}
+use Rattle.frame_plan.specs.Accesses.{HasHandle}
+use Rattle.frame_plan.specs.JobBinds.{job_binds}
+use Rattle.frame_plan.specs.Noting.{noted_all}
+
+-- a schedule without `defer`, as a statement
+abbrev pub scheduling : ℕ → Bool → ℕ → ℕ → Vec Arg Global → Option (ℕ × ℕ) → Vec ℕ Global → Vec ℕ Global → Statement
+scheduling line auto handle kernel args cut waive after =
+    record { line = line; act = Schedule auto handle kernel args cut None waive after }
+
+-- the number of indexes of a schedule's two numbers; 1 where there are none
+abbrev pub indexes_by : Option (ℕ × ℕ) → ℕ
+indexes_by None = 1
+indexes_by (Some cut) = cut.0
+
+-- A cut that `cut` gives for a schedule's two numbers; without them it is that of one index.
+pub record IsCutBy (given : Option (ℕ × ℕ)) (cut : Cut) : Type 0 where
+  pub indexes : cut.n ≡ indexes_by given
+  pub few : cut.n ≤ MOST_INDEXES
+  pub step : (1 ≤ cut.step) × (cut.step ≤ MOST_INDEXES)
+  pub pieces : cut.n ≤ MOST_PIECES * cut.step
+  pub one : given ≡ None → cut.step ≡ 1
+
+-- The jobs of a set after the first ones, in rising order, by their numbers from there.
+pub record AreLater (before count : ℕ) (jobs : Jobs) (ids : List JobId) : Type 0 where
+  pub within : AreJobsUpTo (count - before) ids
+  pub are : (j : ℕ) → has_job ids j ≡ later before jobs j
+
+-- A kernel of the script is copied to a new place among the plan's, and all else is as it was.
+pub record IsCopiedAnew (script : Script) (old new : Planner) (kernel place : ℕ) : Type 0 where
+  pub source : Kernel
+  pub copy : Kernel
+  pub is_source : slice_get script.kernels.items kernel ≡ Some source
+  pub same : SameKernel source copy
+  pub last : place ≡ length old.plan.kernels.items
+  pub kernels : new.kernels.items ≡ slice_set old.kernels.items kernel (Some place)
+  pub copies : new.plan.kernels.items ≡ old.plan.kernels.items ++ copy ∷ []
+  pub rest : new ≡ record old { kernels = new.kernels; plan = record old.plan { kernels = new.plan.kernels } }
+
+-- It had the place already, or has it now.
+abbrev pub IsCopied : Script → Planner → Planner → ℕ → ℕ → Type 0
+IsCopied script old new kernel place =
+    (slice_get old.kernels.items kernel ≡ Some (Some place)) × (new ≡ old)
+    ⊎ IsCopiedAnew script old new kernel place
+
+-- The segment at hand is closed and starts one job more. All else is as it was.
+pub record IsStarted (old new : Planner) (job : JobPlan) : Type 0 where
+  pub segment : Segment
+  pub waits_were : segment.waits.items ≡ old.plan.waits.items
+  pub ops_were : segment.ops.items ≡ old.plan.ops.items
+  pub starts : segment.starts ≡ Some (record { 0 = suc (length old.plan.jobs.items) })
+  pub segments : new.plan.segments.items ≡ old.plan.segments.items ++ segment ∷ []
+  pub jobs : new.plan.jobs.items ≡ old.plan.jobs.items ++ job ∷ []
+  pub waits : new.plan.waits.items ≡ []
+  pub ops : new.plan.ops.items ≡ []
+  pub pieces : new.plan.pieces ≡ old.plan.pieces + pieces_of job
+  pub rest : new ≡ record old {
+    plan = record old.plan {
+      segments = new.plan.segments;
+      jobs = new.plan.jobs;
+      waits = new.plan.waits;
+      ops = new.plan.ops;
+      pieces = new.plan.pieces;
+    };
+  }
+
+-- A job is scheduled: the book of jobs has it, the safety book has its uses, and the segment at hand starts it.
+pub record IsScheduled (script : Script) (old new : Planner) (handle kernel : ℕ) (args : List Arg)
+    (cut : Option (ℕ × ℕ)) (waive : List ℕ) (uses : List NamedUse) (deps : Jobs) : Type 0 where
+  pub source : Kernel
+  pub is_source : slice_get script.kernels.items kernel ≡ Some source
+  -- the planner after the job was noted
+  pub after : Planner
+  pub jobs : (b : Book) → StandsFor old.jobs b → StandsFor after.jobs (with_job b deps)
+  pub safety : (k : ℕ) → state_of after.safety k ≡ noted_all (count_of old.jobs + 1) uses (state_of old.safety) k
+  pub rest : after ≡ record old { jobs = after.jobs; safety = after.safety }
+  -- what is planned
+  pub job : JobPlan
+  pub binds : job.binds.items ≡ job_binds old source.parallel waive 0 source.params.items args
+  pub later_are : AreLater old.jobs_before (count_of old.jobs) deps job.deps.items
+  pub cut_by : IsCutBy cut job.cut
+  pub parallel : job.parallel ≡ true → (source.parallel ≡ true) × (waive ≡ [])
+  -- after its kernel was copied, after it was started, and at last its name
+  pub middle : Planner
+  pub copied : IsCopied script after middle kernel job.kernel
+  pub first : job.first.0 ≡ middle.plan.pieces
+  pub ended : Planner
+  pub started : IsStarted middle ended job
+  pub named : HasHandle ended new handle (only (count_of old.jobs + 1))
+
+-- The dependency set: the named jobs, and with `auto` the automatic set of the uses.
+abbrev pub AreDeps : Bool → Jobs → JobBook → SafetyBook → List (Tag × Access) → Jobs → Type 0
+AreDeps false named jobs safety tags deps = deps ≡ named
+AreDeps true named jobs safety tags deps = (auto : Jobs)
+    × (deps ≡ both named auto)
+    × AreUpTo (count_of jobs) auto
+    × ForNeeds jobs safety tags (IsAutomatic named auto)
+
+-- other than for want of memory it fails where there are all jobs already
+abbrev pub IsFull : PlanFault → ℕ → Type 0
+IsFull NoMemory count = Unit {0}
+IsFull TooManyJobs count = count ≡ MOST_JOBS
+IsFull Words count = ⊥

@@ -1,0 +1,179 @@
+// The list after `defer` as one more use of a job's: it is read.
+ghost use Rattle.std.specs.Prelude.{◌≡◌, ℕ, ◌<◌, ◌≤◌, vec_len, IfOk};
+ghost use Rattle.std.specs.List.{list_any};
+ghost use Rattle.job_base.specs.declared.limits.TheConstants.{MOST_JOBS};
+ghost use Rattle.frame_ast.specs.Laws.{AreUpTo};
+ghost use Rattle.frame_ast.specs.Schedules.{alias, is_array};
+ghost use Rattle.job_handle.specs.Sets.{jobs_of};
+ghost use Rattle.job_handle.specs.Books.{count_of};
+ghost use Rattle.safety_handle.specs.Entries.{state_of};
+ghost use Rattle.frame_plan.specs.Accesses.{AreThere};
+ghost use Rattle.frame_plan.specs.Uses.{given_of};
+ghost use Rattle.frame_plan.specs.Noting.{MayNoteAll, noted_all};
+ghost use Rattle.frame_plan.specs.Deferring as deferring;
+ghost use Rattle.frame_plan.specs.Deferring.{IsLengthUse, IsListName, IsListAt, length_given, noted_uses};
+
+use crate::causes::{Cause, first_alias, first_with, pending};
+use crate::noting::note;
+use crate::state::Planner;
+use crate::uses::{NamedUse, number_of, writes};
+use frame_ast::kernel::ParamKind;
+use job_base::{Access, JobId, NoMemory, Refusal};
+use job_handle::Handle;
+use kernel_exec::Bind;
+use native_list::ListAt;
+use std::alloc::Global;
+
+impl Planner {
+    /// The use of the list after `defer` by a job that waits for `named`.
+    pub(crate) fn length_use(&self, name: u32, named: &Handle) -> NamedUse
+        requires name { name < vec_len self.now.values }
+        requires there { AreThere (vec_len self.now.containers) (vec_len self.now.handles) self.now.values.items }
+        requires jobs { AreUpTo (count_of self.now.jobs) (jobs_of named.now) }
+        ensures { IsLengthUse self.now (jobs_of named.now) name result }
+    {
+        let value = self.values[name as usize];
+        let tag = self.tag(value);
+        NamedUse {
+            name,
+            container: number_of(value),
+            kind: ParamKind::List,
+            access: Access::Read,
+            is_temp: self.is_temp(value),
+            tag,
+            blocked: self.blocked_for(tag, false, named),
+        }
+    }
+
+    /// The words of a list.
+    pub(crate) fn list_at(&self, name: u32) -> ListAt
+        requires name { name < vec_len self.now.values }
+        requires there { AreThere (vec_len self.now.containers) (vec_len self.now.handles) self.now.values.items }
+        requires list { IsListName self.now name }
+        ensures { IsListAt self.now name result }
+    {
+        match self.bind(self.values[name as usize]) {
+            Bind::List(at) => at,
+            // The name stands for a list: `list`.
+            _ => unreachable!(),
+        }
+    }
+
+    /// A new job has these uses, and reads the list after `defer`.
+    pub(crate) fn note_deferred(&mut self, args: &[NamedUse], length: &NamedUse, job: JobId)
+        requires job { (0 < job.0) × (job.0 ≤ MOST_JOBS) }
+        requires may { MayNoteAll (noted_uses args.now length.now) (state_of self.old.safety) }
+        ensures noted { (k : ℕ) → state_of self.new.safety k ≡ noted_all job.0 (noted_uses args.now length.now) (state_of self.old.safety) k }
+        ensures rest { self.new ≡ record self.old { safety = self.new.safety } }
+    {
+        self.note_all(args, job);
+        // An argument of the list uses it already, and may write it.
+        if !has_container(args, length.container) {
+            note(&mut self.safety, length, job);
+        }
+    }
+}
+
+/// The uses of the arguments and of the list.
+pub(crate) fn with_length(
+    alloc: Global,
+    args: &[NamedUse],
+    length: &NamedUse,
+) -> Result<Vec<NamedUse>, NoMemory>
+    ensures { IfOk result (λ all. all.items ≡ deferring.with_length args.now length.now) }
+{
+    let mut all = Vec::new(alloc);
+    for i in 0..args.len() {
+        all.push(args[i])?;
+    }
+    all.push(*length)?;
+    Ok(all)
+}
+
+/// The cause for which such a schedule is refused; `all` are the uses of the arguments and of the list. With `auto` no
+/// job blocks it.
+pub(crate) fn deferred_refusal(
+    args: &[NamedUse],
+    length: &NamedUse,
+    all: &[NamedUse],
+    parallel: bool,
+    auto: bool,
+) -> Option<Cause>
+    requires { all.now ≡ deferring.with_length args.now length.now }
+    ensures { result ≡ deferring.deferred_refusal args.now length.now parallel auto }
+{
+    if let Some(cause) = first_with(all, parallel, Refusal::Disposed) {
+        return Some(cause);
+    }
+    if let Some(cause) = first_with(all, parallel, Refusal::StaleView) {
+        return Some(cause);
+    }
+    if let Some(cause) = first_with(all, parallel, Refusal::NotParallel) {
+        return Some(cause);
+    }
+    if let Some(cause) = first_with(all, parallel, Refusal::TempInJob) {
+        return Some(cause);
+    }
+    if let Some(cause) = deferred_alias(args, length) {
+        return Some(cause);
+    }
+    if auto { None } else { pending(all) }
+}
+
+/// The first alias among the arguments and the list.
+fn deferred_alias(args: &[NamedUse], length: &NamedUse) -> Option<Cause>
+    ensures { result ≡ deferring.deferred_alias args.now length.now }
+{
+    if let Some(cause) = first_alias(args) {
+        return Some(cause);
+    }
+    if has_length_alias(args, length) {
+        return Some(Cause {
+            refusal: Refusal::Alias,
+            name: length.name,
+        });
+    }
+    None
+}
+
+/// Whether the list is an alias of an argument.
+fn has_length_alias(args: &[NamedUse], length: &NamedUse) -> bool
+    ensures { result ≡ list_any (λ a. alias (given_of a) (length_given length.now)) args.now }
+{
+    for i in 0..args.len() {
+        if is_length_alias(&args[i], length) {
+            return true;
+        }
+    }
+    false
+}
+
+/// The list isn't an alias of itself given as an array.
+fn is_length_alias(first: &NamedUse, length: &NamedUse) -> bool
+    ensures { result ≡ alias (given_of first.now) (length_given length.now) }
+{
+    first.container == length.container
+        && (writes(first.access) || writes(length.access))
+        && !(is_array(first.kind) && first.name == length.name)
+}
+
+fn is_array(kind: ParamKind) -> bool
+    ensures { result ≡ is_array kind }
+{
+    match kind {
+        ParamKind::Array => true,
+        _ => false,
+    }
+}
+
+/// Whether one of the uses is of that container.
+fn has_container(uses: &[NamedUse], container: u32) -> bool
+    ensures { result ≡ deferring.has_container uses.now container }
+{
+    for i in 0..uses.len() {
+        if container == uses[i].container {
+            return true;
+        }
+    }
+    false
+}

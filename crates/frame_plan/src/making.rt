@@ -1,0 +1,204 @@
+// The statements that make a container: each takes its words, and enters it with what fills them.
+ghost use Rattle.std.specs.Prelude.{◌≡◌, [], length, option_map, unwrap_or, OnOk, IfErr};
+ghost use Rattle.frame_ast.specs.declared.script.Order.TheVariants.{Array, Column, List as NewList, Reference, Map, Stream};
+ghost use Rattle.frame_plan.specs.Tables.{columns_of};
+ghost use Rattle.frame_plan.specs.Steps.{IsBefore, IsReady, GoesOn, GoesOnIn, GoesOnWith, FailsBy, FailsIn, FailsWith};
+
+use crate::state::{PlanFault, Planner};
+use frame_ast::script::{Life, Script};
+use kernel_exec::Bind;
+use native_array::{ArrayAt, RefAt};
+use native_list::ListAt;
+use native_map::MapAt;
+use native_stream::StreamAt;
+use std::alloc::Global;
+use table_in::Table;
+
+impl Planner {
+    /// `array`: zeros, or a copy of one of the script's literals.
+    pub(crate) fn array(
+        &mut self,
+        line: u32,
+        name: u32,
+        len: u32,
+        life: Life,
+        values: Option<u32>,
+        script: &Script,
+    ) -> Result<(), PlanFault>
+        requires ready { IsBefore script.now self.old (record { line = line; act = Array name len life values }) }
+        ensures goes_on { OnOk result (GoesOnIn script.now self.old self.new
+            (record { line = line; act = Array name len life values })) }
+        ensures fails { IfErr result (λ fault. FailsIn script.now fault self.old
+            (record { line = line; act = Array name len life values })) }
+    {
+        match self.take_words(line, name, u64::from(len))? {
+            None => Ok(()),
+            Some(taken) => {
+                let literal = self.copy_literal(values, script)?;
+                let at = ArrayAt {
+                    start: taken.span.start,
+                    len,
+                };
+                self.enter(line, name, life, taken, Bind::Array { at, own: 0 }, literal)?;
+                Ok(())
+            }
+        }
+    }
+
+    /// `column`: a copy of the table's column, or an array without elements where the table has none of the name.
+    pub(crate) fn column(
+        &mut self,
+        alloc: Global,
+        line: u32,
+        name: u32,
+        column: &Vec<u8>,
+        life: Life,
+        table: &Table,
+    ) -> Result<(), PlanFault>
+        requires ready { IsReady self.old (record { line = line; act = Column name column.now life }) }
+        ensures goes_on { OnOk result (GoesOnWith (columns_of table.now) self.old self.new
+            (record { line = line; act = Column name column.now life })) }
+        ensures fails { IfErr result (λ fault. FailsWith (columns_of table.now) fault self.old
+            (record { line = line; act = Column name column.now life })) }
+    {
+        let values = table.column(column.as_slice());
+        match self.take_words(line, name, len_of(values))? {
+            None => Ok(()),
+            Some(taken) => {
+                let literal = self.copy_column(alloc, values)?;
+                let at = ArrayAt {
+                    start: taken.span.start,
+                    len: taken.span.len,
+                };
+                self.enter(line, name, life, taken, Bind::Array { at, own: 0 }, literal)?;
+                Ok(())
+            }
+        }
+    }
+
+    /// `list`
+    pub(crate) fn list(
+        &mut self,
+        line: u32,
+        name: u32,
+        cap: u32,
+        life: Life,
+    ) -> Result<(), PlanFault>
+        requires ready { IsReady self.old (record { line = line; act = NewList name cap life }) }
+        ensures goes_on { OnOk result (GoesOn self.old self.new (record { line = line; act = NewList name cap life })) }
+        ensures fails { IfErr result (λ fault. FailsBy fault self.old
+            (record { line = line; act = NewList name cap life })) }
+    {
+        match self.take_words(line, name, u64::from(cap) + 1)? {
+            None => Ok(()),
+            Some(taken) => {
+                let at = ListAt {
+                    start: taken.span.start,
+                    cap,
+                };
+                self.enter(line, name, life, taken, Bind::List(at), None)?;
+                Ok(())
+            }
+        }
+    }
+
+    /// `reference`: 0, or a value, which the plan has as a literal of one element.
+    pub(crate) fn reference(
+        &mut self,
+        alloc: Global,
+        line: u32,
+        name: u32,
+        life: Life,
+        value: Option<i64>,
+    ) -> Result<(), PlanFault>
+        requires ready { IsReady self.old (record { line = line; act = Reference name life value }) }
+        ensures goes_on { OnOk result (GoesOn self.old self.new
+            (record { line = line; act = Reference name life value })) }
+        ensures fails { IfErr result (λ fault. FailsBy fault self.old
+            (record { line = line; act = Reference name life value })) }
+    {
+        match self.take_words(line, name, 1)? {
+            None => Ok(()),
+            Some(taken) => {
+                let literal = self.push_value(alloc, value)?;
+                let at = RefAt {
+                    start: taken.span.start,
+                };
+                self.enter(line, name, life, taken, Bind::Ref(at), literal)?;
+                Ok(())
+            }
+        }
+    }
+
+    /// `map`
+    pub(crate) fn map(
+        &mut self,
+        line: u32,
+        name: u32,
+        cap: u32,
+        life: Life,
+    ) -> Result<(), PlanFault>
+        requires ready { IsReady self.old (record { line = line; act = Map name cap life }) }
+        ensures goes_on { OnOk result (GoesOn self.old self.new (record { line = line; act = Map name cap life })) }
+        ensures fails { IfErr result (λ fault. FailsBy fault self.old
+            (record { line = line; act = Map name cap life })) }
+    {
+        match self.take_words(line, name, native_map::words_of(cap))? {
+            None => Ok(()),
+            Some(taken) => {
+                let at = MapAt {
+                    start: taken.span.start,
+                    cap,
+                };
+                self.enter(line, name, life, taken, Bind::Map(at), None)?;
+                Ok(())
+            }
+        }
+    }
+
+    /// `stream`
+    pub(crate) fn stream(
+        &mut self,
+        line: u32,
+        name: u32,
+        count: u32,
+        room: u32,
+        life: Life,
+    ) -> Result<(), PlanFault>
+        requires ready { IsReady self.old (record { line = line; act = Stream name count room life }) }
+        ensures goes_on { OnOk result (GoesOn self.old self.new
+            (record { line = line; act = Stream name count room life })) }
+        ensures fails { IfErr result (λ fault. FailsBy fault self.old
+            (record { line = line; act = Stream name count room life })) }
+    {
+        match self.take_words(line, name, native_stream::words_of(count, room))? {
+            None => Ok(()),
+            Some(taken) => {
+                let at = StreamAt {
+                    start: taken.span.start,
+                    count,
+                    room,
+                };
+                self.enter(
+                    line,
+                    name,
+                    life,
+                    taken,
+                    Bind::Stream { at, own: false },
+                    None,
+                )?;
+                Ok(())
+            }
+        }
+    }
+}
+
+/// How many elements a column has.
+fn len_of(values: Option<&[i64]>) -> u64
+    ensures { result ≡ length (unwrap_or (option_map (λ s. s.now) values.entry) []) }
+{
+    match values {
+        None => 0,
+        Some(values) => values.len() as u64,
+    }
+}

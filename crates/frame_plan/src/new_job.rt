@@ -1,0 +1,91 @@
+// A new job of the plan: the segment at hand is closed and starts it.
+ghost use Rattle.std.specs.Prelude.{◌≡◌, ◌*◌, ◌<◌, ◌≤◌, ◌^◌, true, IfOk, OnOk, vec_len};
+ghost use Rattle.job_base.specs.declared.limits.TheConstants.{MOST_INDEXES, MOST_JOBS, MOST_PIECES};
+ghost use Rattle.frame_ast.specs.Accepted.{cut_fits};
+ghost use Rattle.frame_ast.specs.Laws.{AreUpTo};
+ghost use Rattle.job_handle.specs.Books.{count_of};
+ghost use Rattle.job_handle.specs.Sets.{jobs_of};
+ghost use Rattle.frame_plan.specs.Starting.{AreLater, IsCutBy, IsCopied, IsStarted};
+
+use crate::state::Planner;
+use batch_cut::Cut;
+use frame_ast::kernel::Kernel;
+use frame_ast::script::Script;
+use frame_core::{JobPlan, Segment};
+use job_base::{JobId, NoMemory};
+use job_defer::copy_kernel;
+use job_handle::Handle;
+use std::alloc::Global;
+use std::mem;
+
+// How a kernel that isn't parallel is cut: one index, in one piece.
+const ONE: Cut = Cut { n: 1, step: 1 };
+
+/// The cut of the two numbers of a schedule.
+pub(crate) fn cut_of(cut: Option<(u32, u32)>) -> Cut
+    requires { cut_fits cut ≡ true }
+    ensures { IsCutBy cut result }
+{
+    match cut {
+        None => ONE,
+        Some((len, batch)) => batch_cut::cut(len, batch),
+    }
+}
+
+impl Planner {
+    /// The jobs of this section among some jobs, by their numbers in the plan.
+    pub(crate) fn later_jobs(&self, alloc: Global, jobs: &Handle) -> Result<Vec<JobId>, NoMemory>
+        requires before { self.now.jobs_before ≤ count_of self.now.jobs }
+        requires jobs { AreUpTo (count_of self.now.jobs) (jobs_of jobs.now) }
+        ensures { IfOk result (λ later.
+            AreLater self.now.jobs_before (count_of self.now.jobs) (jobs_of jobs.now) later.items) }
+    {
+        let mut later = Vec::new(alloc);
+        for number in self.jobs_before..self.jobs.count() {
+            if jobs.has(JobId(number + 1)) {
+                later.push(JobId(number + 1 - self.jobs_before))?;
+            }
+        }
+        Ok(later)
+    }
+
+    /// The place of a kernel's copy among the plan's kernels. The plan gets a copy when it is asked for the first time.
+    pub(crate) fn copied(
+        &mut self,
+        alloc: Global,
+        script: &Script,
+        kernel: u32,
+    ) -> Result<u32, NoMemory>
+        requires kernel { kernel < vec_len script.now.kernels }
+        requires each { vec_len self.old.kernels ≡ vec_len script.now.kernels }
+        requires few { vec_len self.old.plan.kernels < 2 ^ 32 }
+        ensures { IfOk result (λ place. IsCopied script.now self.old self.new kernel place) }
+    {
+        if let Some(place) = self.kernels[kernel as usize] {
+            return Ok(place);
+        }
+        let copy = copy_kernel(alloc, &script.kernels[kernel as usize])?;
+        let place = self.plan.kernels.len() as u32;
+        self.plan.kernels.push(copy)?;
+        self.kernels[kernel as usize] = Some(place);
+        Ok(place)
+    }
+
+    /// The segment at hand is closed and starts this job.
+    pub(crate) fn start(&mut self, alloc: Global, job: JobPlan) -> Result<(), NoMemory>
+        requires step { (1 ≤ job.cut.step) × (job.cut.step ≤ MOST_INDEXES) }
+        requires indexes { job.cut.n ≤ MOST_PIECES * job.cut.step }
+        requires few { vec_len self.old.plan.jobs < MOST_JOBS }
+        requires pieces { self.old.plan.pieces ≤ MOST_PIECES * MOST_JOBS }
+        ensures { OnOk result (IsStarted self.old self.new job) }
+    {
+        let pieces = if job.parallel { job.cut.count() } else { 1 };
+        let starts = Some(JobId(self.plan.jobs.len() as u32 + 1));
+        self.plan.jobs.push(job)?;
+        let waits = mem::replace(&mut self.plan.waits, Vec::new(alloc));
+        let ops = mem::replace(&mut self.plan.ops, Vec::new(alloc));
+        self.plan.segments.push(Segment { waits, ops, starts })?;
+        self.plan.pieces += pieces;
+        Ok(())
+    }
+}

@@ -1,0 +1,44 @@
+// What the safety book keeps of a new job.
+ghost use Rattle.std.specs.Prelude.{◌≡◌, ℕ, ◌<◌, ◌≤◌};
+ghost use Rattle.job_base.specs.declared.limits.TheConstants.{MOST_JOBS};
+ghost use Rattle.safety_handle.specs.Entries.{state_of};
+ghost use Rattle.frame_plan.specs.Noting.{MayNote, MayNoteAll, noted, noted_all};
+
+use crate::state::Planner;
+use crate::uses::{NamedUse, is_list, writes};
+use job_base::JobId;
+use safety_handle::SafetyBook;
+
+impl Planner {
+    /// A new job has these uses. The views of the lists that it may write are broken.
+    pub(crate) fn note_all(&mut self, uses: &[NamedUse], job: JobId)
+        requires job { (0 < job.0) × (job.0 ≤ MOST_JOBS) }
+        requires may { MayNoteAll uses.now (state_of self.old.safety) }
+        ensures noted { (k : ℕ) → state_of self.new.safety k
+            ≡ noted_all job.0 uses.now (state_of self.old.safety) k }
+        ensures rest { self.new ≡ record self.old { safety = self.new.safety } }
+    {
+        for i in 0..uses.len() {
+            note(&mut self.safety, &uses[i], job);
+        }
+    }
+}
+
+/// The job has this use.
+pub(crate) fn note(book: &mut SafetyBook, one: &NamedUse, job: JobId)
+    requires job { (0 < job.0) × (job.0 ≤ MOST_JOBS) }
+    requires may { MayNote one.now (state_of book.old) }
+    ensures { (k : ℕ) → state_of book.new k ≡ noted job.0 one.now (state_of book.old) k }
+{
+    let Some(tag) = one.tag else {
+        return;
+    };
+    if writes(one.access) {
+        book.note_write(tag.slot, job);
+        if is_list(one.kind) {
+            book.bump_view(tag.slot);
+        }
+    } else {
+        book.note_read(tag.slot, job);
+    }
+}

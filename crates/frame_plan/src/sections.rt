@@ -1,0 +1,187 @@
+// A script section by section: each is planned once the test is decided at which the one before it ended.
+ghost use Rattle.std.specs.Prelude.{◌≡◌, ◌⊎◌, ◌<◌, ◌≤◌, ◌+◌, ℕ, IfOk, IfErr, OnOk, None, Some, slice_get, length};
+ghost use Rattle.frame_ast.specs.Accepted.{IsAccepted};
+ghost use Rattle.frame_ast.specs.Limits.{limit_of};
+ghost use Rattle.frame_ast.specs.Orders.{Table as Columns, setting};
+ghost use Rattle.merge_laws.specs.Graph.{Cells};
+ghost use Rattle.frame_plan.specs.References.{IsReferenceOf, IsTestFor};
+ghost use Rattle.frame_plan.specs.Sections.{limit_told, passed_after, IsPlannedFrom, IsBetween, IsAt, IsOutcome, AreLeft, IsNext};
+ghost use Rattle.frame_plan.specs.Tables.{columns_of};
+
+use crate::limits::{check_text, has_test};
+use crate::section::{Section, Test};
+use crate::state::{PlanFault, Planner, Value};
+use frame_ast::script::{Order, Script};
+use job_base::{FlatMem, NoMemory};
+use kernel_exec::Bind;
+use native_array::RefAt;
+use std::alloc::Global;
+use table_in::Table;
+
+/// The planner of a script, between two sections.
+#[derive(Drop)]
+pub struct SectionBook {
+    pub(crate) planner: Planner,
+    /// How many statements were gone through.
+    pub(crate) at: u32,
+}
+
+impl SectionBook {
+    /// The book at the script's beginning, if the script stays within the limits of the language. Without a `when` it is
+    /// what the statements do that counts, with one it is what their text says.
+    pub fn new(alloc: Global, script: &Script, table: &Table) -> Result<SectionBook, PlanFault>
+        requires accepted { IsAccepted script.now }
+        ensures limit { IfErr result (λ fault. (fault ≡ PlanFault.NoMemory)
+            ⊎ (limit_of (setting script.now (columns_of table.now)) script.now.statements.items
+            ≡ limit_told fault)) }
+        ensures within { IfOk result (λ book.
+            limit_of (setting script.now (columns_of table.now)) script.now.statements.items ≡ None) }
+        ensures at { IfOk result (λ book. (carried : Cells) (len : ℕ)
+            → IsAt book script.now (columns_of table.now) 0 carried len) }
+    {
+        if has_test(script) {
+            check_text(script, table)?;
+        }
+        let mut planner = Planner::new(alloc, script)?;
+        let at = planner.run(alloc, script, table, 0)?;
+        Ok(SectionBook { planner, at })
+    }
+
+    /// The next section. `held` says whether the test holds at which the last one ended, and `cells` begin with the words
+    /// that it left; the first section has none before it. After an error the book is of no use.
+    pub fn next(
+        &mut self,
+        alloc: Global,
+        script: &Script,
+        table: &Table,
+        held: Option<bool>,
+        cells: &mut FlatMem,
+    ) -> Result<Section, NoMemory>
+        requires at { (from : ℕ) × (carried : Cells) × (len : ℕ)
+            × IsAt self.old script.now (columns_of table.now) from carried len
+            × IsOutcome script.now (columns_of table.now) from held
+            × AreLeft cells.old carried len }
+        ensures section { (from : ℕ) (carried : Cells) (len : ℕ)
+            → IsAt self.old script.now (columns_of table.now) from carried len
+            → IsOutcome script.now (columns_of table.now) from held
+            → AreLeft cells.old carried len
+            → IfOk result (IsNext self.new script.now (columns_of table.now) from) }
+        ensures cells { cells.new ≡ cells.old }
+    {
+        match held {
+            None => self.hand_out(alloc, script),
+            Some(held) => {
+                self.resume(alloc, script, table, held, cells)?;
+                self.hand_out(alloc, script)
+            }
+        }
+    }
+
+    /// The section that is planned, as a whole plan.
+    pub(crate) fn hand_out(&mut self, alloc: Global, script: &Script) -> Result<Section, NoMemory>
+        requires { (table : Columns) × (from : ℕ) × IsPlannedFrom self.old script.now table from }
+        ensures { (table : Columns) (from : ℕ) → IsPlannedFrom self.old script.now table from
+            → IfOk result (IsNext self.new script.now table from) }
+    {
+        let test = self.test(script);
+        let jobs_before = self.planner.jobs_before;
+        let plan = self.planner.finish(alloc, script)?;
+        Ok(Section {
+            plan,
+            jobs_before,
+            test,
+        })
+    }
+
+    /// The test at which the section ends, or none at the script's end.
+    fn test(&self, script: &Script) -> Option<Test>
+        requires { (table : Columns) × (from : ℕ) × IsPlannedFrom self.now script.now table from }
+        ensures { IsTestFor self.now.planner (slice_get script.now.statements.items self.now.at) result }
+    {
+        if self.at as usize >= script.statements.len() {
+            return None;
+        }
+        match &script.statements[self.at as usize].act {
+            Order::When {
+                name,
+                sign,
+                value,
+                ..
+            } => Some(Test {
+                at: self.planner.reference_of(*name),
+                sign: *sign,
+                bound: *value,
+            }),
+            _ => unreachable!(),
+        }
+    }
+
+    /// The section after a test is planned, by whether the test holds.
+    fn resume(
+        &mut self,
+        alloc: Global,
+        script: &Script,
+        table: &Table,
+        held: bool,
+        cells: &mut FlatMem,
+    ) -> Result<(), NoMemory>
+        requires at { (from : ℕ) × (carried : Cells) × (len : ℕ)
+            × IsBetween self.old script.now (columns_of table.now) from carried len
+            × IsOutcome script.now (columns_of table.now) from (Some held)
+            × AreLeft cells.old carried len }
+        ensures planned { OnOk result ((from : ℕ) (carried : Cells) (len : ℕ)
+            → IsBetween self.old script.now (columns_of table.now) from carried len
+            → IsOutcome script.now (columns_of table.now) from (Some held)
+            → AreLeft cells.old carried len
+            → IsPlannedFrom self.new script.now (columns_of table.now) from) }
+        ensures cells { cells.new ≡ cells.old }
+    {
+        self.planner.begin(alloc, script, cells)?;
+        let statement = &script.statements[self.at as usize];
+        self.planner.passing = passed_after(&statement.act, held);
+        match self.planner.run(alloc, script, table, self.at + 1) {
+            Ok(at) => {
+                self.at = at;
+                Ok(())
+            }
+            // The script's text stays within the limits, and with it whatever acts.
+            Err(fault) => Err(memory_fault(fault)),
+        }
+    }
+}
+
+/// The one fault of a script within the limits.
+fn memory_fault(fault: PlanFault) -> NoMemory
+    requires { fault ≡ PlanFault.NoMemory }
+{
+    match fault {
+        PlanFault::NoMemory => NoMemory,
+        _ => unreachable!(),
+    }
+}
+
+/// How many statements are passed by after a `when`.
+fn passed_after(act: &Order, held: bool) -> u32
+    ensures { result ≡ passed_after held act.now }
+{
+    match act {
+        Order::When { count, .. } if !held => *count,
+        _ => 0,
+    }
+}
+
+impl Planner {
+    /// Where the reference of a name lies.
+    fn reference_of(&self, name: u32) -> RefAt
+        requires { (at : RefAt) × IsReferenceOf self.now name at }
+        ensures { IsReferenceOf self.now name result }
+    {
+        match self.values[name as usize] {
+            Value::Whole(number) => match self.containers[number as usize].bind {
+                Bind::Ref(at) => at,
+                _ => unreachable!(),
+            },
+            _ => unreachable!(),
+        }
+    }
+}

@@ -1,0 +1,152 @@
+// The containers that a job uses: one use for each name among its arguments.
+ghost use Rattle.std.specs.Prelude.{◌≡◌, ℕ, ◌<◌, ◌≤◌, length, vec_len, IfOk, Some};
+ghost use Rattle.frame_ast.specs.Laws.{AreUpTo};
+ghost use Rattle.frame_ast.specs.Schedules.{is_list, writes_to};
+ghost use Rattle.job_handle.specs.Sets.{jobs_of};
+ghost use Rattle.job_handle.specs.Books.{count_of};
+ghost use Rattle.frame_plan.specs.Stands.{IsThere};
+ghost use Rattle.frame_plan.specs.Accesses.{AreThere, tag_for};
+ghost use Rattle.frame_plan.specs.Uses.{AreNamesBelow, IsBlockedBy, ForNames, IsUse, number_of_value, is_temp_in};
+
+use crate::state::{Planner, Value};
+use frame_ast::kernel::{Param, ParamKind};
+use frame_ast::script::{Arg, Life};
+use job_base::{Access, NoMemory};
+use job_handle::Handle;
+use safety_handle::{Blocked, Tag};
+use std::alloc::Global;
+
+/// A name among the arguments of a schedule, as a use of its container.
+#[derive(Clone, Copy)]
+pub(crate) struct NamedUse {
+    pub(crate) name: u32,
+    /// The number of the container, and 0 where the name stands for none.
+    pub(crate) container: u32,
+    pub(crate) kind: ParamKind,
+    pub(crate) access: Access,
+    /// Whether the container lives for one frame.
+    pub(crate) is_temp: bool,
+    /// None where the name stands for no container.
+    pub(crate) tag: Option<Tag>,
+    /// Why a job that waits for the named jobs alone may not have it.
+    pub(crate) blocked: Option<Blocked>,
+}
+
+/// Whether a use counts as a write.
+pub(crate) fn writes(access: Access) -> bool
+    ensures { result ≡ writes_to access }
+{
+    match access {
+        Access::Read => false,
+        Access::Write | Access::Both => true,
+    }
+}
+
+/// Whether a parameter is a list, whose views a job breaks that may write it.
+pub(crate) fn is_list(kind: ParamKind) -> bool
+    ensures { result ≡ is_list kind }
+{
+    match kind {
+        ParamKind::List => true,
+        _ => false,
+    }
+}
+
+impl Planner {
+    /// The uses of a schedule's arguments by a job that waits for `named`.
+    pub(crate) fn uses(
+        &self,
+        alloc: Global,
+        params: &[Param],
+        args: &[Arg],
+        named: &Handle,
+    ) -> Result<Vec<NamedUse>, NoMemory>
+        requires each { length args.now ≡ length params.now }
+        requires names { AreNamesBelow (vec_len self.now.values) args.now }
+        requires there { AreThere (vec_len self.now.containers) (vec_len self.now.handles) self.now.values.items }
+        requires jobs { AreUpTo (count_of self.now.jobs) (jobs_of named.now) }
+        ensures { IfOk result (λ uses. ForNames (IsUse self.now (jobs_of named.now)) params.now args.now uses.items) }
+    {
+        let mut uses = Vec::new(alloc);
+        for (i, arg) in args.iter().enumerate() {
+            match *arg {
+                Arg::Name(name) => uses.push(self.use_of(&params[i], name, named))?,
+                Arg::Number(_) => {}
+            }
+        }
+        Ok(uses)
+    }
+
+    /// The use that a parameter makes of the container of a name.
+    fn use_of(&self, param: &Param, name: u32, named: &Handle) -> NamedUse
+        requires name { name < vec_len self.now.values }
+        requires there { AreThere (vec_len self.now.containers) (vec_len self.now.handles) self.now.values.items }
+        requires jobs { AreUpTo (count_of self.now.jobs) (jobs_of named.now) }
+        ensures { IsUse self.now (jobs_of named.now) param.now name result }
+    {
+        let value = self.values[name as usize];
+        let tag = self.tag(value);
+        NamedUse {
+            name,
+            container: number_of(value),
+            kind: param.kind,
+            access: param.access,
+            is_temp: self.is_temp(value),
+            tag,
+            blocked: self.blocked_for(tag, writes(param.access), named),
+        }
+    }
+
+    /// Whether a value stands for a container that lives for one frame.
+    pub(crate) fn is_temp(&self, value: Value) -> bool
+        requires there { IsThere (vec_len self.now.containers) (vec_len self.now.handles) value }
+        ensures { result ≡ is_temp_in self.now.containers.items value }
+    {
+        let number = match value {
+            Value::Dead | Value::Jobs(_) => return false,
+            Value::Whole(number) => number,
+            Value::Slice { of, .. } => of,
+            Value::View { of, .. } => of,
+        };
+        match self.containers[number as usize].life {
+            Life::Temp => true,
+            Life::TempJob | Life::Persistent => false,
+        }
+    }
+
+    /// What the safety book answers to a use that waits for some jobs.
+    pub(crate) fn blocked_for(
+        &self,
+        tag: Option<Tag>,
+        writes: bool,
+        named: &Handle,
+    ) -> Option<Blocked>
+        requires { AreUpTo (count_of self.now.jobs) (jobs_of named.now) }
+        ensures { IsBlockedBy self.now (jobs_of named.now) tag writes result }
+    {
+        let Some(tag) = tag else {
+            return Some(Blocked::Disposed);
+        };
+        let answer = if writes {
+            self.safety.check_write(&tag, named, &self.jobs)
+        } else {
+            self.safety.check_read(&tag, named, &self.jobs)
+        };
+        match answer {
+            Ok(()) => None,
+            Err(blocked) => Some(blocked),
+        }
+    }
+}
+
+/// The number of the container of a value, and 0 where it stands for none.
+pub(crate) fn number_of(value: Value) -> u32
+    ensures { result ≡ number_of_value value }
+{
+    match value {
+        Value::Dead | Value::Jobs(_) => 0,
+        Value::Whole(number) => number,
+        Value::Slice { of, .. } => of,
+        Value::View { of, .. } => of,
+    }
+}
