@@ -1,0 +1,3 @@
+mod Rooms
+mod Seats
+mod Starting

@@ -1,0 +1,170 @@
+// Scripts with tests, planned and run section by section, with each test answered both ways.
+ghost use Rattle.std.specs.Prelude.{◌≡◌, ◌<◌, true, length, IfOk};
+ghost use Rattle.job_base.specs.Cells.{cells_of};
+ghost use Rattle.frame_ast.specs.Accepted.{IsAccepted};
+ghost use Rattle.frame_ast.specs.Orders.{compares};
+ghost use Rattle.frame_plan.specs.Tables.{columns_of};
+ghost use Rattle.frame_rows.specs.Between.{IsBetween};
+
+use crate::boards::run_plan;
+use crate::section::script_of;
+use frame_ast::script::{Script, Sign};
+use frame_plan::{SectionBook, Test};
+use job_base::{FlatMem, Mem, MemSink, Word};
+use std::alloc::Global;
+use std::fmt::Write;
+use std::sync::Wait;
+use std::test::Fail;
+use std::thread::Threads;
+use table_in::Table;
+
+const MORE: &str = "reference t
+array a 1 = 6
+schedule h peek(a, t)
+complete h
+when t > 3 {
+set a 0 = 1
+print a
+}
+when t < 3 {
+print a
+}
+print t
+";
+
+const LESS: &str = "reference t
+array a 1 = 2
+schedule h peek(a, t)
+complete h
+when t > 3 {
+set a 0 = 1
+print a
+}
+when t < 3 {
+print a
+}
+print t
+";
+
+// Whether a number compares so with another one.
+fn compares(sign: Sign, number: i64, bound: i64) -> bool
+    ensures { result ≡ compares sign number bound }
+{
+    match sign {
+        Sign::Eq => number == bound,
+        Sign::Ne => number != bound,
+        Sign::Lt => number < bound,
+        Sign::Le => number <= bound,
+        Sign::Gt => number > bound,
+        Sign::Ge => number >= bound,
+    }
+}
+
+// Whether a test holds of so many cells.
+fn holds(test: &Test, cells: &mut FlatMem, words: u32) -> Result<bool, Fail>
+    requires words { length cells.old ≡ words }
+    ensures within { IfOk result (λ held. test.now.at.start < words) }
+    ensures held { IfOk result (λ held.
+        held ≡ compares test.now.sign (cells_of cells.old test.now.at.start) test.now.bound) }
+    ensures cells { cells.new ≡ cells.old }
+{
+    if test.at.start >= words {
+        return Err(Fail::new("the test is of no word"));
+    }
+    let number = cells.load(Word(test.at.start));
+    Ok(compares(test.sign, number, test.bound))
+}
+
+// Plans the next section, runs it and decides its test. The answer says whether there is one.
+fn go_on<R: Threads + Wait + Sync>(
+    rt: &R,
+    alloc: Global,
+    script: &Script,
+    table: &Table,
+    book: &mut SectionBook,
+    held: &mut Option<bool>,
+    cells: &mut FlatMem,
+    told: &mut String,
+    sink: &mut MemSink,
+) -> Result<bool, Fail>
+    requires here { IsBetween script.now (columns_of table.now) book.old held.old cells.old }
+    ensures next { IfOk result (λ more. more ≡ true
+        → IsBetween script.now (columns_of table.now) book.new held.new cells.new) }
+{
+    let section = book.next(alloc, script, table, *held, cells)?;
+    write!(told, "{} jobs before", section.jobs_before)?;
+    *cells = run_plan(rt, alloc, &section.plan, 2, sink)?;
+    let Some(test) = section.test else {
+        return Ok(false);
+    };
+    let answer = holds(&test, cells, section.plan.words)?;
+    *held = Some(answer);
+    write!(
+        told,
+        ", {:?} {} of word {}: {answer}; ",
+        test.sign, test.bound, test.at.start
+    )?;
+    Ok(true)
+}
+
+// What the sections of a script test, and the answers.
+fn outcomes_with<R: Threads + Wait + Sync>(
+    rt: &R,
+    alloc: Global,
+    script: &Script,
+    table: &Table,
+    sink: &mut MemSink,
+) -> Result<String, Fail>
+    requires { IsAccepted script.now }
+{
+    let mut told = String::new(alloc);
+    let mut book = SectionBook::new(alloc, script, table)?;
+    let mut held = None;
+    let mut cells = FlatMem::new(alloc, 0)?;
+    for _ in 0..8 {
+        if !go_on(
+            rt, alloc, script, table, &mut book, &mut held, &mut cells, &mut told, sink,
+        )? {
+            break;
+        }
+    }
+    Ok(told)
+}
+
+// The same of the script that has these lines.
+fn outcomes_of<R: Threads + Wait + Sync>(
+    rt: &R,
+    alloc: Global,
+    lines: &str,
+    sink: &mut MemSink,
+) -> Result<String, Fail> {
+    let script = script_of(alloc, lines)?;
+    let table = Table::none(alloc);
+    outcomes_with(rt, alloc, &script, &table, sink)
+}
+
+#[test]
+fn tests_are_answered_both_ways(rt: HostRuntime) -> Result<(), Fail> {
+    let alloc = rt.alloc();
+    let rows: [(&str, &str, &str); 2] = [
+        (
+            MORE,
+            "0 jobs before, Gt 3 of word 0: true; 1 jobs before, Lt 3 of word 0: false; 1 jobs before",
+            "a = [1]\nt = 6\n",
+        ),
+        (
+            LESS,
+            "0 jobs before, Gt 3 of word 0: false; 1 jobs before, Lt 3 of word 0: true; 1 jobs before",
+            "a = [2]\nt = 2\n",
+        ),
+    ];
+    for (lines, outcomes, output) in rows {
+        let mut sink = MemSink::new(alloc, 100, 100, Vec::new(alloc))?;
+        assert_eq!(rt;
+            outcomes_of(&rt, alloc, lines, &mut sink)?.as_str(),
+            outcomes
+        );
+        assert_eq!(rt; sink.bytes(), output.as_bytes());
+    }
+    Ok(())
+}

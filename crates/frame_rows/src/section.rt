@@ -1,0 +1,51 @@
+// Scripts with the worked kernels, and their first sections.
+ghost use Rattle.std.specs.Prelude.{IfOk};
+ghost use Rattle.frame_ast.specs.Accepted.{IsAccepted};
+ghost use Rattle.frame_core.specs.Ordered.{IsWellOrderedPlan};
+
+use frame_plan::{Section, SectionBook};
+use frame_script::{Script, parse_script};
+use job_base::FlatMem;
+use job_base::limits::MOST_SCRIPT_BYTES;
+use std::alloc::Global;
+use std::test::Fail;
+use table_in::Table;
+
+/// The lines that a worked script begins with.
+const KERNELS: &str = "parallel scale(x: ro array, y: wo array) { y[index] = x[index] * 3; }
+job total(y: ro array, t: wo ref) { var s = 0; for k in 0..len(y) { s = s + y[k]; } t = s; }
+job bump(a: rw array) { a[0] = a[0] + 1; }
+job peek(a: ro array, t: wo ref) { t = a[0]; }
+parallel shift(b: rw array) { b[index + 1] = b[index] + 1; }
+job pair(a: ro array, b: rw array) { b[0] = a[0]; }
+job both(a: ro array, b: ro array, t: wo ref) { t = a[0] + b[0]; }
+parallel emit(s: wo stream) { begin s[index] { for k in 0..index % 4 { write(s, index); } } }
+job slow(a: rw array) { var k = 0; while k < 300000 { k = k + 1; } a[0] = 1 / 0; }
+job quick(a: rw array) { a[9] = 1; }
+job keys(m: rw map, t: wo ref) { var r = 0; r = try_add(m, 1, 9); t = r; add(m, 3, 3); }
+parallel push(l: rw list) { add(l, index); }
+";
+
+/// The script that has the worked kernels and then these lines.
+pub fn script_of(alloc: Global, lines: &str) -> Result<Script, Fail>
+    ensures { IfOk result IsAccepted }
+{
+    let mut text = String::from_str(alloc, KERNELS)?;
+    text.push_str(lines)?;
+    let source = text.as_bytes();
+    if source.len() > MOST_SCRIPT_BYTES as usize {
+        return Err(Fail::new("the script is too long"));
+    }
+    Ok(parse_script(alloc, source)?)
+}
+
+/// The first section of that script, with no table.
+pub fn section_of(alloc: Global, lines: &str) -> Result<Section, Fail>
+    ensures { IfOk result (λ section. IsWellOrderedPlan section.plan) }
+{
+    let script = script_of(alloc, lines)?;
+    let table = Table::none(alloc);
+    let mut cells = FlatMem::new(alloc, 0)?;
+    let mut book = SectionBook::new(alloc, &script, &table)?;
+    Ok(book.next(alloc, &script, &table, None, &mut cells)?)
+}
