@@ -46,6 +46,25 @@ print a
 print t
 ";
 
+// A job isn't completed where the test stands.
+const BUSY: &str = "reference t
+array a 1
+schedule h bump(a)
+when t == 0 {
+print t
+}
+complete h
+print a
+";
+
+// What a block would have made that is passed by.
+const PASSED: &str = "reference t
+when t == 1 {
+array b 2
+}
+print b
+";
+
 // Whether a number compares so with another one.
 fn compares(sign: Sign, number: i64, bound: i64) -> bool
     ensures { result ≡ compares sign number bound }
@@ -146,7 +165,7 @@ fn outcomes_of<R: Threads + Wait + Sync>(
 #[test]
 fn tests_are_answered_both_ways(rt: HostRuntime) -> Result<(), Fail> {
     let alloc = rt.alloc();
-    let rows: [(&str, &str, &str); 2] = [
+    let rows: [(&str, &str, &str); 4] = [
         (
             MORE,
             "0 jobs before, Gt 3 of word 0: true; 1 jobs before, Lt 3 of word 0: false; 1 jobs before",
@@ -156,6 +175,12 @@ fn tests_are_answered_both_ways(rt: HostRuntime) -> Result<(), Fail> {
             LESS,
             "0 jobs before, Gt 3 of word 0: false; 1 jobs before, Lt 3 of word 0: true; 1 jobs before",
             "a = [2]\nt = 2\n",
+        ),
+        (BUSY, "0 jobs before", "refused 16: busy job 1\na = [1]\n"),
+        (
+            PASSED,
+            "0 jobs before, Eq 1 of word 0: false; 0 jobs before",
+            "refused 17: disposed b\n",
         ),
     ];
     for (lines, outcomes, output) in rows {
