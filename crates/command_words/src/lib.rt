@@ -18,4 +18,5 @@ mod spelling;
 mod tests;
 
 pub use command::{Command, MOST_DIGITS, WORKERS_UNSAID, WordsFault};
+pub use place::Place;
 pub use reading::read_words;

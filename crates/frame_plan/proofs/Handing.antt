@@ -29,7 +29,7 @@ use Rattle.frame_plan.specs.Runs.{IsActingTest, IsStop, IsWithin, PassesOnce, Is
 use Rattle.frame_plan.specs.Sections.{limit_told, IsTestOf, EndsBy, IsPlannedFrom, IsBetween, IsAt, IsNext, IsPlanOf}
 use Rattle.frame_plan.specs.Steps.{state_at, IsStep}
 use Rattle.frame_plan.proofs.Limiting.{text_passes_none, script_run_passes, run_none}
-use Rattle.frame_plan.proofs.References.{reference_held, first_is_none}
+use Rattle.frame_plan.proofs.References.{reference_held, reference_inside, first_is_none}
 
 -- a stop at a statement is a `when`
 pub not_test : (g : Setting) (s : ScriptState) (a : Order) → IsActingTest g s a → is_when a ≡ true
@@ -63,6 +63,17 @@ module _ (script : Script) (table : Table) (from : ℕ) (book : SectionBook) (re
   ends None e stop (Some t) h = absurd h
   ends (Some x) e stop None h = absurd h
   ends (Some x) e stop (Some t) h = test_of x e t x.act refl stop h
+
+  inside_of : (x : Statement) → slice_get script.statements.items book.at ≡ Some x → (t : Test) (a : Order) → x.act ≡ a → IsActingTest (setting script table) s a → IsOfTest book.planner t a → t.at.start < plan.cells
+  inside_of x here t (When name sign value count) is acts of =
+      let step : IsStep script table book.at x = record { accepted = ready.accepted; here = here; acts = acts.0 } in
+      reference_inside script table book.planner (state_at script table from) book.at ready.found x ready.stands step name sign value count is acts.1 plan.cells t.at
+      (finished.within table (state_at script table from) book.at ready.found ready.inside ready.stands) of.2
+  inside_of x here t a is acts of = absurd acts
+
+  inside : (o : Option Statement) → slice_get script.statements.items book.at ≡ o → IsStop (setting script table) s o → (t : Test) → IsTestFor book.planner o (Some t) → t.at.start < plan.cells
+  inside None e stop t h = absurd h
+  inside (Some x) e stop t h = inside_of x e t x.act refl stop h
 
   there_too : (o : Option Statement) (t : Option Test) → IsTestFor book.planner o t → IsSome t → IsSome o
   there_too None None h some = some
@@ -103,6 +114,7 @@ module _ (script : Script) (table : Table) (from : ℕ) (book : SectionBook) (re
       traps = done.traps ∙ ap (λ k. (state_at script table from).traps ++ map (renumbered k) (plan_traps plan)) (sym ready.stands.numbers.before);
       test = ends (slice_get script.statements.items book.at) refl ready.stops test tests;
     };
+    inside = λ t e. inside (slice_get script.statements.items book.at) refl ready.stops t (subst (IsTestFor book.planner (slice_get script.statements.items book.at)) e tests);
     later = λ some. ready.later (there_too (slice_get script.statements.items book.at) test tests some);
     at = λ some.
         let here = there_too (slice_get script.statements.items book.at) test tests some in

@@ -1,5 +1,5 @@
 -- A `when` that acts names a reference, whose words hold its value.
-use Rattle.std.proofs.Common.{◌≡◌, ℕ, ◌<◌, true, ◌&&◌, ℤ, List, [], ◌∷◌, length, get_or, Option, None, Some, refl, sym, ap, subst, ◌∙◌, arith}
+use Rattle.std.proofs.Common.{◌≡◌, ℕ, ◌<◌, ◌≤◌, true, ◌&&◌, ℤ, List, [], ◌∷◌, length, get_or, Option, None, Some, refl, sym, ap, subst, ◌∙◌, arith}
 use Rattle.std.specs.Prelude.{slice_get, nat_le, nat_eq, nat_lt}
 use Rattle.std.proofs.lemmas.Bool.{and_parts}
 use Rattle.frame_ast.specs.declared.name_kind.NameKind.TheVariants.{Reference as RefName}
@@ -25,6 +25,9 @@ use Rattle.native_array.specs.declared.reference.RefAt.{RefAt}
 use Rattle.frame_core.proofs.Small.{some_is, none_some, not_both, get_below}
 use Rattle.plan_laws.specs.Binds.{bind_of}
 use Rattle.plan_laws.specs.Leaving.{AllHeld}
+use Rattle.kernel_exec.specs.Binds.{end_of}
+use Rattle.plan_laws.proofs.Making.{alive_is_live}
+use Rattle.frame_plan.specs.Runs.{AreWithin}
 use Rattle.frame_plan.specs.declared.state.Value.{Value}
 use Rattle.frame_plan.specs.declared.state.Value.TheVariants.{Dead, Whole, Slice, View, Jobs}
 use Rattle.frame_plan.specs.declared.state.Planner.{Planner}
@@ -101,6 +104,17 @@ module _ (script : Script) (table : Table) (p : Planner) (begun : ScriptState) (
       let same : bind_of (get_or found ((state_at script table n).range r.container) 0) ((state_at script table n).contents r.container) ≡ Ref at = sym con.bind ∙ r.bind in
       subst (λ w. Holds cells (Ref at) ((state_at script table n).contents (container_of w))) v
       (subst (λ b. Holds cells b ((state_at script table n).contents r.container)) same (held r.container below on))
+
+  -- and the word lies within what holds all that is live
+  pub reference_inside : (last : ℕ) (at : RefAt) → AreWithin last found (state_at script table n) → IsReferenceOf p name at → at.start < last
+  reference_inside last at within r =
+      let v : states.Whole r.container ≡ (state_at script table n).values name = st.names.are name (Whole r.container) r.value in
+      let below : r.container < (state_at script table n).made = (let lt = get_below p.containers.items r.container r.it r.has in let e = st.containers.made in omega arith) in
+      let on : (state_at script table n).alive r.container ≡ true = ap (is_alive (state_at script table n)) v ∙ alive in
+      let con = st.containers.each r.container r.it r.has in
+      let same : bind_of (get_or found ((state_at script table n).range r.container) 0) ((state_at script table n).contents r.container) ≡ Ref at = sym con.bind ∙ r.bind in
+      let le = subst (λ b. end_of b ≤ last) same (within r.container (alive_is_live (state_at script table n) r.container below on)) in
+      omega arith
 
 -- the first statement is no test
 pub first_is_none : (script : Script) (table : Table) → IsAccepted script → (x : Statement) → slice_get script.statements.items 0 ≡ Some x → (name : ℕ) (sign : Sign) (value : ℤ) (count : ℕ) → x.act ≡ When name sign value count → ⊥

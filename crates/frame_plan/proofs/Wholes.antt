@@ -25,7 +25,7 @@ use Rattle.plan_laws.specs.Finishing.{IsDone}
 use Rattle.plan_laws.specs.Planned.{AreJobsUpTo, IsPlanned}
 use Rattle.plan_laws.proofs.Becoming.{drafts_become_plans}
 use Rattle.frame_plan.specs.declared.state.Planner.{Planner}
-use Rattle.frame_plan.specs.Runs.{outline_of}
+use Rattle.frame_plan.specs.Runs.{AreWithin, outline_of}
 use Rattle.frame_plan.specs.Stands.{Agrees, draft_of}
 use Rattle.frame_plan.specs.Steps.{state_at, StandsAt}
 use Rattle.frame_plan.proofs.Accessing.{there}
@@ -137,6 +137,10 @@ module _ (script : Script) (table : Table) (p : Planner) (begun : ScriptState) (
 
   pub some_planned : IsPlanned (outline_of (plan_so_far script p) found begun) (state_at script table n) (draft_of p)
   some_planned = st.planned _ (agrees (plan_so_far script p) refl refl refl refl refl)
+
+  -- what is live lies below the peak
+  pub live_low : AreWithin (peak_of p.store) found (state_at script table n)
+  live_low = some_planned.standing.within
 
   pub jobs_few : length p.plan.jobs.items ≤ MOST_JOBS
   jobs_few =

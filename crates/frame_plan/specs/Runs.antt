@@ -1,5 +1,5 @@
 -- A planner goes through the statements of a script one after another, up to a test that acts or to the script's end.
-use Rattle.std.specs.Prelude.{ℕ, suc, ◌≡◌, ◌<◌, ◌≤◌, List, [], ◌++◌, length, Option, None, Some, slice_get}
+use Rattle.std.specs.Prelude.{true, ℕ, suc, ◌≡◌, ◌<◌, ◌≤◌, List, [], ◌++◌, length, Option, None, Some, slice_get}
 use Rattle.job_base.specs.declared.limits.TheConstants.{MOST_JOBS, MOST_CREATED_WORDS}
 use Rattle.frame_ast.specs.declared.script.Order.{Order}
 use Rattle.frame_ast.specs.declared.script.Order.TheVariants.{When}
@@ -8,9 +8,11 @@ use Rattle.frame_ast.specs.declared.script.Statement.{Statement}
 use Rattle.frame_ast.specs.Accepted.{IsAccepted}
 use Rattle.frame_ast.specs.Checks.{refusal}
 use Rattle.frame_ast.specs.Orders.{Table, Setting, setting}
-use Rattle.frame_ast.specs.States.{ScriptState}
+use Rattle.frame_ast.specs.States.{ScriptState, is_live}
 use Rattle.slot_store.specs.Stores.{peak_of}
 use Rattle.frame_core.specs.declared.plan.Plan.{Plan}
+use Rattle.kernel_exec.specs.Binds.{end_of}
+use Rattle.plan_laws.specs.Binds.{bind_of_container}
 use Rattle.plan_laws.specs.Drafts.{empty_draft}
 use Rattle.plan_laws.specs.Finishing.{IsDone}
 use Rattle.plan_laws.specs.Planned.{Outline}
@@ -94,6 +96,10 @@ pub record PassesOnce (fault : PlanFault) (script : Script) (table : Table) : Ty
 abbrev pub outline_of : Plan → List ℕ → ScriptState → Outline
 outline_of plan found begun = record { plan = plan; starts = λ k. get_or found k 0; begun = begun }
 
+-- The words of each container that is live end at a word at most.
+abbrev pub AreWithin : ℕ → List ℕ → ScriptState → Type 0
+AreWithin last found s = (c : ℕ) → is_live s c ≡ true → end_of (bind_of_container (λ k. get_or found k 0) s c) ≤ last
+
 -- The plan is that of a section which began in a state, up to the statement at which the planner stands.
 pub record IsFinished (script : Script) (p : Planner) (plan : Plan) : Type 0 where
   pub cells : plan.cells ≡ peak_of p.store
@@ -101,6 +107,11 @@ pub record IsFinished (script : Script) (p : Planner) (plan : Plan) : Type 0 whe
       → n ≤ length script.statements.items
       → StandsAt p script table begun n found
       → IsDone (outline_of plan found begun) (state_at script table n)
+  -- the words of what is live lie within the plan
+  pub within : (table : Table) (begun : ScriptState) (n : ℕ) (found : List ℕ)
+      → n ≤ length script.statements.items
+      → StandsAt p script table begun n found
+      → AreWithin plan.cells found (state_at script table n)
 
 -- The planner has no plan, and is otherwise as it was.
 pub record IsEmptied (old new : Planner) : Type 0 where

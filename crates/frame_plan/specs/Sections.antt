@@ -147,7 +147,9 @@ pub record IsNext (book : SectionBook) (script : Script) (table : Table) (from :
     : Type 0 where
   pub to : ℕ
   pub is_section : IsSectionOf script table from to section
-  -- where it ends at a test, this is a later one, and the book is there
+  -- where it ends at a test, this is of a word of the plan
+  pub inside : (test : Test) → section.test ≡ Some test → test.at.start < section.plan.cells
+  -- it is a later one, and the book is there
   pub later : IsSome section.test → from < to
   pub at : IsSome section.test → IsAt book script table to (cells_after section.plan) section.plan.cells
 

@@ -1,22 +1,13 @@
-pub mod Binding
-pub mod Args
-pub mod NextArray
-pub mod NextJob
-pub mod Facts
-pub mod Filling
-pub mod Jobs
-pub mod Known
-pub mod Leaving
-pub mod Making
-pub mod Printing
-pub mod Ready
-pub mod Rows
-pub mod Scheduled
-pub mod Steps
-pub mod Tables
-pub mod Runnable
-pub mod Different
-pub mod SameBuilt
-pub mod Meanings
-pub mod Telling
-pub mod Whole
+mod Alike
+mod Asked
+mod Framing
+mod Growing
+mod Lines
+mod Looping
+mod Rooms
+mod Clauses
+mod Saying
+mod Sectioning
+mod Settling
+mod Telling
+mod Whens

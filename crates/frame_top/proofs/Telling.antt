@@ -1,48 +1,91 @@
--- What the bytes that were read answer.
-use Rattle.std.proofs.Common.{◌≡◌, ◌≢◌, ◌⊎◌, inl, inr, ⊎_elim, ℕ, ◌≤◌, List, length, Option, Some, IfSome, refl, sym, subst}
+-- Why a call answers what it does.
+use Rattle.std.proofs.Common.{◌≡◌, ◌≢◌, ◌⊎◌, ◌≤◌, inl, inr, ⊎_elim, refl, sym, ap, ◌∙◌, subst, ℕ, ◌<◌, Bool, true, false, List, length, Option, None, Some, Result, Ok, Err, ◌↔◌, lt-ltb}
+use Rattle.std.specs.Prelude.{nat_lt, if◌then◌else◌, option_map}
+use Rattle.job_base.specs.declared.limits.TheConstants.{MOST_TABLE_BYTES, MOST_SCRIPT_BYTES}
 use Rattle.frame_ast.specs.declared.kernel.FaultKind.{FaultKind}
-use Rattle.frame_ast.specs.declared.kernel.FaultKind.TheVariants.{Syntax, UnknownName, DuplicateName, KindMismatch, ReadOfWriteOnly, WriteOfReadOnly, Limit, TooLong as TooManyStatements}
+use Rattle.frame_ast.specs.declared.kernel.FaultKind.TheVariants.{Syntax, UnknownName, DuplicateName, KindMismatch, ReadOfWriteOnly, WriteOfReadOnly, Limit, TooLong}
 use Rattle.frame_ast.specs.declared.script.Script.{Script}
-use Rattle.frame_ast.specs.Answers.{script_refused_line, statements_line}
-use Rattle.frame_script.specs.Loading.{Spells, IsRefused}
-use Rattle.job_base.specs.declared.limits.TheConstants.{MOST_SCRIPT_BYTES}
-use Rattle.frame_top.specs.Answers.{Answers, Caused, Early, Cause, HasTooMany, IsFaulty, IsRun, IsStopped, Outcome, Refused, Stopped, Ran, Runs, Stops, Told, TooMany}
-use Rattle.frame_top.specs.Words.{script_word}
-use Rattle.frame_top.proofs.Known.{known, at_some}
+use Rattle.frame_script.specs.Loading.{IsRefused}
+use Rattle.job_base.specs.Faults.{Rose}
+use Rattle.frame_ast.specs.Answers.{table_size_line, script_refused_line, statements_line}
+use Rattle.frame_plan.specs.Tables.{columns_of}
+use Rattle.table_in.specs.declared.TableFault.{TableFault}
+use Rattle.table_in.specs.declared.TableFault.TheVariants as fault
+use Rattle.table_in.specs.Columns.{NamedColumn}
+use Rattle.table_in.specs.Rows.{rows_in, table_fault}
+use Rattle.command_words.specs.Words.{Text}
+use Rattle.frame_top.specs.Words.{asks_depth, workers_in, table_name}
+use Rattle.frame_top.specs.Inputs.{Told, CanBeTable, ReadsSource, ReadsScript, Reads, IsUnread, IsUnreadOf}
+use Rattle.frame_top.specs.Refusals.{Answer, answer, Refuses, Fault, Statements, table_refusal, refused_table, named_columns, table_of}
+use Rattle.frame_top.specs.Answers.{AnswersTo, Answers, Caused, Early, Midway, Cause, BadScript, BadTable, OfFrame, FrameCause, IsCut, CanBeCut, SaidTo}
+use Rattle.frame_top.specs.declared.status.TheConstants.{NO_MEMORY, PAST_LIMIT, SCRIPT_REFUSED}
+use Rattle.frame_top.proofs.Framing.{by_cause, none_said}
 
-module _ (words : List (List ℕ)) (bytes : List ℕ → Option (List ℕ)) (risen : Type 0) (failed : Option (List ℕ)) (name source read : List ℕ) (named : script_word words ≡ Some name) (told : IfSome (bytes name) (λ b. read ≡ b)) (same : source ≡ read) (within : length read ≤ MOST_SCRIPT_BYTES) where
-  -- what the code has read is told of the file
-  has : (P : List ℕ → Type 0) → P source → IfSome (bytes name) P
-  has P p = known (bytes name) read P told (subst P same p)
+pub too_long_refused : (bytes : Text) → MOST_TABLE_BYTES < length bytes → table_refusal (Some bytes) ≡ Some (answer PAST_LIMIT table_size_line)
+too_long_refused bytes h = ap (λ b. if b then Some (answer PAST_LIMIT table_size_line) else option_map refused_table (table_fault (rows_in bytes))) (lt-ltb MOST_TABLE_BYTES (length bytes) h)
 
-  short : length source ≤ MOST_SCRIPT_BYTES
-  short = subst (λ b. length b ≤ MOST_SCRIPT_BYTES) (sym same) within
+pub counted : {T E A : Type 0} (v : T) (f : E) → ◌≡◌ {A = Result T E} (Ok v) (Err f) ⊎ A → A
+counted v f (inl e) = absurd cc
+counted v f (inr a) = a
 
-  one_of : (script : Script) (status : ℕ) (text : List ℕ) → Spells source script → Outcome script status text → Cause words bytes risen failed status text
-  one_of script status text spelled (Stops line stops is says) =
-      Stopped line (at_some (script_word words) name _ named (has (IsStopped line) (record { within = short; script = script; spelled = spelled; stops = stops }))) is says
-  one_of script status text spelled (Runs built none is says) =
-      Ran script (at_some (script_word words) name _ named (has (IsRun script) (record { within = short; spelled = spelled; built = built; no_trap = none }))) is says
+-- words that were read are of the command
+pub not_usage : {T E : Type 0} (v : T) (f : E) (b : Bool) → (◌≡◌ {A = Result T E} (Ok v) (Err f) ↔ (b ≡ false)) → b ≡ true
+not_usage v f true h = refl
+not_usage v f false h = let e = h.1 refl in absurd cc
 
-  -- the script that was read
-  pub script_told : (script : Script) (old new : Option (List ℕ)) (before now result : ℕ) → Spells source script → Answers (Outcome script) old new before now result → Answers (Cause words bytes risen failed) old new before now result
-  script_told script old new before now result spelled (Caused status text why t) = Caused status text (one_of script status text spelled why) t
-  script_told script old new before now result spelled (Early is app stays) = Early is app stays
+is_many : (kind : FaultKind) → (kind ≡ TooLong) ⊎ (kind ≢ TooLong)
+is_many Syntax = inr (λ e. cc)
+is_many UnknownName = inr (λ e. cc)
+is_many DuplicateName = inr (λ e. cc)
+is_many KindMismatch = inr (λ e. cc)
+is_many ReadOfWriteOnly = inr (λ e. cc)
+is_many WriteOfReadOnly = inr (λ e. cc)
+is_many Limit = inr (λ e. cc)
+is_many TooLong = inl refl
 
-  is_many : (kind : FaultKind) → (kind ≡ TooManyStatements) ⊎ (kind ≢ TooManyStatements)
-  is_many Syntax = inr (λ e. cc)
-  is_many UnknownName = inr (λ e. cc)
-  is_many DuplicateName = inr (λ e. cc)
-  is_many KindMismatch = inr (λ e. cc)
-  is_many ReadOfWriteOnly = inr (λ e. cc)
-  is_many WriteOfReadOnly = inr (λ e. cc)
-  is_many Limit = inr (λ e. cc)
-  is_many TooManyStatements = inl refl
+pub refused_at : (source : Text) (line line' : ℕ) (kind kind' : FaultKind) → line' ≡ line → kind' ≡ kind → IsRefused source line kind → IsRefused source line' kind'
+refused_at source line line' kind kind' e d r = subst (λ l. IsRefused source l kind') (sym e) (subst (λ k. IsRefused source line k) (sym d) r)
 
-  -- the fault for which it was refused
-  pub fault_told : (line : ℕ) (kind : FaultKind) (old new : Option (List ℕ)) (before now result : ℕ) → IsRefused source line kind → (kind ≢ TooManyStatements → Told old new before now 3 (script_refused_line line kind) result) → (kind ≡ TooManyStatements → Told old new before now 9 statements_line result) → Answers (Cause words bytes risen failed) old new before now result
-  fault_told line kind old new before now result refused faulty many =
-      ⊎_elim
-      (λ e. Caused 9 statements_line (TooMany (at_some (script_word words) name _ named (has HasTooMany (record { within = short; line = line; refused = subst (λ k. IsRefused source line k) e refused }))) refl refl) (many e))
-      (λ ne. Caused 3 (script_refused_line line kind) (Refused line kind (at_some (script_word words) name _ named (has (IsFaulty line kind) (record { within = short; refused = refused; other = ne }))) refl refl) (faulty ne))
-      (is_many kind)
+-- what was read before doesn't matter
+pub moved : (words : List Text) (told told' : Told) (m m' n : ℕ) (failed : Option Text) (old new : Option Text) (before now result : ℕ) → told' ≡ told → m' ≡ m
+    → Answers (Cause words told' (Rose m' n) failed) (CanBeCut words told') old new before now result → Answers (Cause words told (Rose m n) failed) (CanBeCut words told) old new before now result
+moved words told told' m m' n failed old new before now result e f a =
+    subst (λ k. Answers (Cause words told (Rose k n) failed) (CanBeCut words told) old new before now result) f
+    (subst (λ (t : Told). Answers (Cause words t (Rose m' n) failed) (CanBeCut words t) old new before now result) e a)
+
+pub later_reads : (words : List Text) (m m' n : ℕ) (f f' g : Option Text) → m' ≡ m → f' ≡ f → (n ≡ m') × (g ≡ f') ⊎ IsUnreadOf words (Rose m' n) g → (n ≡ m) × (g ≡ f) ⊎ IsUnreadOf words (Rose m n) g
+later_reads words m m' n f f' g e d h = ⊎_elim (λ p. inl (p.0 ∙ e, p.1 ∙ d)) (λ p. inr (subst (λ k. IsUnreadOf words (Rose k n) g) e p)) h
+
+module _ (words : List Text) (told : Told) (risen : Type 0) (failed : Option Text) where
+  -- a script and its table
+  pub of_frame : (script : Script) (table : Option Text) (columns : List NamedColumn) (depth : Bool) (workers : ℕ) (old new : Option Text) (before now result : ℕ)
+      → Reads words told script table → table_refusal table ≡ None → columns ≡ named_columns table → depth ≡ asks_depth words → workers ≡ workers_in words
+      → Answers (FrameCause script (columns_of columns) depth workers) (IsCut script (columns_of columns) depth) old new before now result
+      → Answers (Cause words told risen failed) (CanBeCut words told) old new before now result
+  of_frame script table columns depth workers old new before now result read stands cs ds ws a =
+      by_cause _ _ _ _ old new before now result
+      (λ b why. OfFrame script table read stands (subst (λ (c : List NamedColumn). FrameCause script (columns_of c) (asks_depth words) (workers_in words) b) cs
+      (subst (λ w. FrameCause script (columns_of columns) (asks_depth words) w b) ws (subst (λ d. FrameCause script (columns_of columns) d workers b) ds why))))
+      (λ t cut. record { script = script; table = table; read = read; table_stands = stands; cut = subst (λ (c : List NamedColumn). IsCut script (columns_of c) (asks_depth words) t) cs (subst (λ d. IsCut script (columns_of columns) d t) ds cut) })
+      a
+
+  -- a table that is refused
+  pub of_table : {S : Type 0} (taken : S → Option Text) (faults : S → ℕ) (script : Script) (table : Option Text) (f : TableFault) (old new : S) (result : ℕ)
+      → Reads words told script table
+      → (f ≡ fault.NoMemory) ⊎ (f ≢ fault.NoMemory) × (table_refusal table ≡ Some (refused_table f))
+      → (f ≢ fault.NoMemory → SaidTo taken faults old new (refused_table f) result)
+      → (f ≡ fault.NoMemory → (result ≡ NO_MEMORY) × (new ≡ old))
+      → AnswersTo taken faults old new (Cause words told risen failed) (CanBeCut words told) result
+  of_table taken faults script table f old new result read why said none =
+      ⊎_elim (λ e. let n = none e in none_said taken faults (Cause words told risen failed) (CanBeCut words told) old new result n.0 n.1)
+      (λ r. Caused (refused_table f) (BadTable script table read r.1) (said r.0)) why
+
+  -- a script that is refused
+  pub of_source : {S : Type 0} (taken : S → Option Text) (faults : S → ℕ) (source : Text) (line : ℕ) (kind : FaultKind) (old new : S) (result : ℕ)
+      → ReadsSource words told source → length source ≤ MOST_SCRIPT_BYTES → IsRefused source line kind
+      → (kind ≢ TooLong → SaidTo taken faults old new (answer SCRIPT_REFUSED (script_refused_line line kind)) result)
+      → (kind ≡ TooLong → SaidTo taken faults old new (answer PAST_LIMIT statements_line) result)
+      → AnswersTo taken faults old new (Cause words told risen failed) (CanBeCut words told) result
+  of_source taken faults source line kind old new result read within refused faulty many =
+      ⊎_elim (λ e. Caused _ (BadScript source read (Statements line within (subst (λ k. IsRefused source line k) e refused) refl)) (many e))
+      (λ ne. Caused _ (BadScript source read (Fault line kind within refused ne refl)) (faulty ne)) (is_many kind)

@@ -1,5 +1,9 @@
+-- promises
 pub mod Words
-pub mod Built
+pub mod Inputs
+pub mod Refusals
 pub mod Answers
-pub mod Held
-pub mod Progress
+-- for this crate's own contracts
+pub mod Asking
+pub mod Cells
+pub mod Running

@@ -1,21 +1,27 @@
 //! The whole run of a frame script, from the words of the command line to the bytes that are written.
 //!
-//! `run_frame` reads the words and the file, reads the script with `frame_script`, makes its arrays and runs its job
-//! with `kernel_exec`, and then prints. Its contract says when each status comes and which bytes are written: those of
-//! a script that runs are `output_of`, the output of the script's meaning. Every file is read; of what it spells the
-//! program runs a part, and `unbuilt` says where that ends.
+//! `run_frame` reads the words, the script and the table, and refuses what isn't accepted, in the order in which the work
+//! is done (`specs/Refusals`). A script that is accepted is planned section by section: a section ends at a `when`, whose
+//! test is decided by what was computed before it. Each section is run by the workers of `steal_pool` on a `WordBoard` of
+//! its own, which takes no lock, and the lines of traps are written once, after the last one.
+//!
+//! *Promise.* Each status comes with its cause and its text, and each cause with its status (`specs/Answers`). What a
+//! script writes is its meaning, `output_of`, whatever the number of workers and the cuts of its jobs.
+//!
+//! *Cost.* Beside the plan of a section its board, its deques and its scratch are made, each as large as the plan asks
+//! for, and its cells once more where a test follows.
 #![tactic(auto)]
 
-mod arrays;
-mod built;
-mod job;
-mod lines;
-mod prepare;
-mod refusal;
+mod frame;
+mod inputs;
+#[cfg(test)]
+mod rows;
+mod section;
+mod sections;
+pub mod status;
 #[cfg(test)]
 mod tests;
+mod texts;
 mod top;
-mod words;
 
-pub use built::unbuilt;
 pub use top::run_frame;

@@ -1,158 +1,295 @@
 // Whole runs, over files and a sink in memory.
 
 use crate::run_frame;
-use job_base::{MemFiles, MemSink, OpenGate};
+use job_base::{CountingGate, Gate, MemFiles, MemSink, OpenGate, PieceId};
 use std::alloc::Global;
+use std::sync::Wait;
 use std::test::Fail;
+use std::thread::Threads;
 
-const KERNEL: &str =
-    "job triple(x: ro array, y: wo array) { for k in 0..len(x) { y[k] = x[k] * 3; } }\n";
+/// A script, which may begin with the worked kernels, and what it gives.
+#[derive(Clone, Copy)]
+pub struct Row {
+    pub kernels: bool,
+    pub script: &'static str,
+    pub status: u8,
+    pub output: &'static str,
+}
 
-const TRIPLE: &str =
-    "array x 4 = 1 2 3 4\narray y 4\nschedule h triple(x, y)\ncomplete h\nprint y\n";
+const KERNELS: &str = "parallel scale(x: ro array, y: wo array) { y[index] = x[index] * 3; }
+job total(y: ro array, t: wo ref) { var s = 0; for k in 0..len(y) { s = s + y[k]; } t = s; }
+job bump(a: rw array) { a[0] = a[0] + 1; }
+job peek(a: ro array, t: wo ref) { t = a[0]; }
+parallel shift(b: rw array) { b[index + 1] = b[index] + 1; }
+job pair(a: ro array, b: rw array) { b[0] = a[0]; }
+job both(a: ro array, b: ro array, t: wo ref) { t = a[0] + b[0]; }
+parallel emit(s: wo stream) { begin s[index] { for k in 0..index % 4 { write(s, index); } } }
+job slow(a: rw array) { var k = 0; while k < 300000 { k = k + 1; } a[0] = 1 / 0; }
+job quick(a: rw array) { a[9] = 1; }
+job keys(m: rw map, t: wo ref) { var r = 0; r = try_add(m, 1, 9); t = r; add(m, 3, 3); }
+parallel push(l: rw list) { add(l, index); }
+";
 
-const WITHOUT_COMPLETE: &str = "array x 4 = 1 2 3 4\narray y 4\nschedule h triple(x, y)\nprint y\n";
+const TOTAL: &str = "array x 4 = 1 2 3 4
+array y 4
+reference t
+schedule h1 scale(x, y) 4 2
+schedule h2 total(y, t) after h1
+complete h2
+print t
+";
 
-const TRAPPING: &str =
-    "array x 4 = 1 2 3 4\narray y 3\nschedule h triple(x, y)\ncomplete h\nprint y\n";
+const PRICES: &str = "column p \"price\"
+reference t
+schedule h total(p, t)
+complete h
+print t
+";
 
-const AGAIN: &str = "array x 2 = 1 2\narray x 1 = -7\narray e 0\nprint x\nprint e\n";
+const TWO_BUMPS: &str = "array a 1
+array b 1
+schedule h1 bump(a)
+schedule h2 bump(b)
+combine h h1 h2
+complete h
+print b
+";
 
-const LEFT_PENDING: &str = "array x 4\narray y 4\nschedule h triple(x, y)\n";
+const USAGE: &str =
+    "usage: frame_run [--workers N] [--depth] SCRIPT [TABLE] or frame_run [--workers N] [--depth] --gen NUMBER --jobs K\n";
 
-const ONE_FOR_BOTH: &str = "array x 4\nschedule h triple(x, x)\ncomplete h\n";
+// The bytes of the files of a run.
+#[derive(Clone, Copy)]
+struct Given<'a> {
+    script: &'a [u8],
+    table: &'a [u8],
+}
 
-const USAGE: &str = "usage: frame_run SCRIPT\n";
-
-// Nine blocks, each inside the one before.
-const DEEP: &[u8] =
-    b"repeat 1 {\nrepeat 1 {\nrepeat 1 {\nrepeat 1 {\nrepeat 1 {\nrepeat 1 {\nrepeat 1 {\nrepeat 1 {\nrepeat 1 {\nflush\n}\n}\n}\n}\n}\n}\n}\n}\n}\n";
-
-// Runs the words on a file `s`.
-fn answer(alloc: Global, words: &[&str], source: &[u8], sink: &mut MemSink) -> Result<u8, Fail> {
-    let mut given = Vec::new(alloc);
+// Runs the words on a file `s` and a file `t`.
+fn answer<R: Threads + Wait + Sync + AllocGlobal, G: Gate + Sync>(
+    rt: &R,
+    words: &[&str],
+    given: &Given,
+    sink: &mut MemSink,
+    gate: &G,
+) -> Result<u8, Fail> {
+    let alloc = rt.alloc();
+    let mut all = Vec::new(alloc);
     for word in words {
-        given.push(String::from_str(alloc, *word)?)?;
+        all.push(String::from_str(alloc, *word)?)?;
     }
-    let names = vec![in alloc; String::from_str(alloc, "s")?]?;
-    let contents = vec![in alloc; Vec::from_slice(alloc, source)?]?;
+    let mut names = Vec::new(alloc);
+    names.push(String::from_str(alloc, "s")?)?;
+    names.push(String::from_str(alloc, "t")?)?;
+    let mut contents = Vec::new(alloc);
+    contents.push(Vec::from_slice(alloc, given.script)?)?;
+    contents.push(Vec::from_slice(alloc, given.table)?)?;
     let mut files = MemFiles::new(alloc, names, contents, Vec::new(alloc))
         .ok()
         .ok_or("memory")?;
-    Ok(run_frame(alloc, &given, &mut files, sink, &OpenGate))
+    Ok(run_frame(rt, alloc, &all, &mut files, sink, gate))
 }
 
-// The script `source`, behind the kernel `triple`.
-fn with_kernel(alloc: Global, source: &str) -> Result<String, Fail> {
-    Ok(format!(in alloc; "{KERNEL}{source}")?)
+// A sink with room for all that a row gives.
+fn sink_of<R: AllocGlobal>(rt: &R) -> Result<MemSink, Fail> {
+    let sink = MemSink::new(rt.alloc(), 4096, 4096, Vec::new(rt.alloc()));
+    Ok(sink.ok().ok_or("memory")?)
 }
 
-#[test]
-fn scripts(rt: HostRuntime) -> Result<(), Fail> {
+/// The first row that gives something else at 1, 4 or 64 workers.
+pub fn difference<R: Threads + Wait + Sync + AllocGlobal>(
+    rt: &R,
+    rows: &[Row],
+) -> Result<Option<String>, Fail> {
     let alloc = rt.alloc();
-    let rows = [
-        (TRIPLE, 0, "y = [3, 6, 9, 12]\n"),
-        (WITHOUT_COMPLETE, 3, "script refused line 5: syntax\n"),
-        (LEFT_PENDING, 3, "script refused line 4: syntax\n"),
-        (ONE_FOR_BOTH, 3, "script refused line 3: syntax\n"),
-        (TRAPPING, 3, "script refused line 4: syntax\n"),
-        (AGAIN, 0, "x = [-7]\ne = []\n"),
-    ];
-    for (source, status, text) in rows {
-        let source = with_kernel(alloc, source)?;
-        let mut sink = MemSink::new(alloc, 100, 100, Vec::new(alloc))
-            .ok()
-            .ok_or("memory")?;
-        assert_eq!(rt;
-            answer(alloc, &["s"], source.as_bytes(), &mut sink)?,
-            status,
-            "{source}"
-        );
-        assert_eq!(rt; sink.bytes(), text.as_bytes(), "{source}");
+    for row in rows {
+        let kernels = if row.kernels { KERNELS } else { "" };
+        let script = format!(in alloc; "{}{}", kernels, row.script)?;
+        let given = Given {
+            script: script.as_bytes(),
+            table: b"",
+        };
+        for workers in ["1", "4", "64"] {
+            let mut sink = sink_of(rt)?;
+            let words = ["--workers", workers, "s"];
+            let status = answer(rt, &words, &given, &mut sink, &OpenGate)?;
+            if status != row.status || sink.bytes() != row.output.as_bytes() {
+                let told = format!(in alloc;
+                    "at {} workers status {} of {}",
+                    workers, status, row.script
+                )?;
+                return Ok(Some(told));
+            }
+        }
     }
-    Ok(())
+    Ok(None)
 }
 
-// What is told of files that are refused, by the line and the kind of their first fault.
-#[test]
-fn refusals(rt: HostRuntime) -> Result<(), Fail> {
-    let alloc = rt.alloc();
-    let rows: [(&[u8], u8, &str); 14] = [
-        (b"array a", 3, "script refused line 1: syntax\n"),
-        (b"\xff", 3, "script refused line 1: syntax\n"),
-        (
-            b"array a 2 = 1",
-            3,
-            "script refused line 1: kind mismatch\n",
-        ),
-        (
-            b"array a 1\nlist a 1",
-            3,
-            "script refused line 2: kind mismatch\n",
-        ),
-        (DEEP, 3, "script refused line 9: limit\n"),
-        (
-            b"array a 9223372036854775808",
-            3,
-            "script refused line 1: limit\n",
-        ),
-        (
-            b"parallel over(a: wo array by 0) { }",
-            3,
-            "script refused line 1: limit\n",
-        ),
-        (b"print x", 3, "script refused line 1: unknown name\n"),
-        (
-            b"job f(a: wo array) { a[0] = a[0]; }",
-            3,
-            "script refused line 1: read of write-only\n",
-        ),
-        (
-            b"job f(a: ro array) { a[0] = 1; }",
-            3,
-            "script refused line 1: write of read-only\n",
-        ),
-        (
-            b"job f(i: int, i: int) { }",
-            3,
-            "script refused line 1: duplicate name\n",
-        ),
-        (b"repeat 65536 {\nflush\n}\nflush", 9, "limit: statements\n"),
-        (b"list l 4\nprint l", 3, "script refused line 1: syntax\n"),
-        // The second of three jobs can't be run yet.
-        (
-            b"job bump(a: rw array) { a[0] = a[0] + 1; }\narray a 1 = 1\nrepeat 3 {\nschedule h bump(a)\ncomplete h\n}\nprint a",
-            3,
-            "script refused line 4: syntax\n",
-        ),
-    ];
-    for (source, status, text) in rows {
-        let mut sink = MemSink::new(alloc, 100, 100, Vec::new(alloc))
-            .ok()
-            .ok_or("memory")?;
-        assert_eq!(rt; answer(alloc, &["s"], source, &mut sink)?, status, "{text}");
-        assert_eq!(rt; sink.bytes(), text.as_bytes(), "{text}");
-    }
-    Ok(())
+// The worked kernels with more lines.
+fn with_kernels(alloc: Global, lines: &str) -> Result<String, Fail> {
+    Ok(format!(in alloc; "{}{}", KERNELS, lines)?)
 }
 
 #[test]
-fn words(rt: HostRuntime) -> Result<(), Fail> {
-    let alloc = rt.alloc();
-    let rows: [(&[&str], u8, &str); 7] = [
+fn the_words_of_the_command(rt: HostRuntime) -> Result<(), Fail> {
+    let rows: [(&[&str], u8, &str); 9] = [
         (&["s"], 0, ""),
+        (&["--workers", "64", "s"], 0, ""),
         (&[], 2, USAGE),
-        (&[""], 2, USAGE),
-        (&["-s"], 2, USAGE),
-        (&["--"], 2, USAGE),
-        (&["s", "s"], 2, USAGE),
-        (&["t"], 6, "cannot read script\n"),
+        (&["--workers", "0", "s"], 2, USAGE),
+        (&["--gen", "1"], 2, USAGE),
+        (&["s", "--gen", "1", "--jobs", "1"], 2, USAGE),
+        (&["u"], 6, "cannot read script\n"),
+        (&["s", "u"], 6, "cannot read table\n"),
+        (&["--gen", "1", "--jobs", "1"], 0, "t = 68160\n"),
     ];
     for (words, status, text) in rows {
-        let mut sink = MemSink::new(alloc, 100, 7, Vec::new(alloc))
-            .ok()
-            .ok_or("memory")?;
-        assert_eq!(rt; answer(alloc, words, b"", &mut sink)?, status);
+        let given = Given {
+            script: b"",
+            table: b"",
+        };
+        let mut sink = sink_of(&rt)?;
+        assert_eq!(rt;
+            answer(&rt, words, &given, &mut sink, &OpenGate)?,
+            status,
+            "{text}"
+        );
+        assert_eq!(rt; sink.bytes(), text.as_bytes());
+    }
+    Ok(())
+}
+
+#[test]
+fn scripts_that_are_refused(rt: HostRuntime) -> Result<(), Fail> {
+    let rows = [
+        ("array a", 3, "script refused line 13: syntax\n"),
+        (
+            "array a 2 = 1",
+            3,
+            "script refused line 13: kind mismatch\n",
+        ),
+        (
+            "array x 1\narray y 1\nschedule h scale(x, y) 4 0",
+            3,
+            "script refused line 15: limit\n",
+        ),
+        (
+            "array a 1\ncombine h\nrepeat 4097 {\nschedule h bump(a) after h\n}\ncomplete h\nprint a",
+            9,
+            "limit: jobs\n",
+        ),
+        ("repeat 65536 {\nflush\n}\nflush", 9, "limit: statements\n"),
+        (
+            "array a 1\ncombine h\nrepeat 4096 {\nschedule h bump(a) after h\n}\ncomplete h\nprint a",
+            0,
+            "a = [4096]\n",
+        ),
+    ];
+    for (lines, status, text) in rows {
+        let script = with_kernels(rt.alloc(), lines)?;
+        let given = Given {
+            script: script.as_bytes(),
+            table: b"",
+        };
+        let mut sink = sink_of(&rt)?;
+        assert_eq!(rt;
+            answer(&rt, &["s"], &given, &mut sink, &OpenGate)?,
+            status,
+            "{lines}"
+        );
+        assert_eq!(rt; sink.bytes(), text.as_bytes(), "{lines}");
+    }
+    Ok(())
+}
+
+#[test]
+fn tables(rt: HostRuntime) -> Result<(), Fail> {
+    let rows = [
+        ("item,price\n1,250\n2,-30\n3,80\n", 0, "t = 300\n"),
+        (
+            "item,price\n1,250\nx,80\n",
+            4,
+            "table refused row 3: not a number\n",
+        ),
+        ("item,price\n1\n", 4, "table refused row 2: unequal row\n"),
+        ("", 4, "table refused: empty\n"),
+        ("item,cost\n1,250\n", 4, "table refused: no column price\n"),
+    ];
+    let script = with_kernels(rt.alloc(), PRICES)?;
+    for (table, status, text) in rows {
+        let given = Given {
+            script: script.as_bytes(),
+            table: table.as_bytes(),
+        };
+        let mut sink = sink_of(&rt)?;
+        assert_eq!(rt;
+            answer(&rt, &["s", "t"], &given, &mut sink, &OpenGate)?,
+            status,
+            "{table}"
+        );
+        assert_eq!(rt; sink.bytes(), text.as_bytes(), "{table}");
+    }
+    let given = Given {
+        script: script.as_bytes(),
+        table: b"",
+    };
+    let mut sink = sink_of(&rt)?;
+    assert_eq!(rt; answer(&rt, &["s"], &given, &mut sink, &OpenGate)?, 4);
+    assert_eq!(rt;
+        sink.bytes(),
+        b"table refused: no column price\n".as_slice()
+    );
+    Ok(())
+}
+
+#[test]
+fn the_report_of_the_depth(rt: HostRuntime) -> Result<(), Fail> {
+    let again = "array a 1 = 1\nrepeat 3 {\nschedule h bump(a)\ncomplete h\n}\nprint a\n";
+    let tested = "reference t\nflush\nwhen t == 1 {\nprint t\n}\n";
+    let rows: [(&str, &[&str], u8, &str); 5] = [
+        (
+            TOTAL,
+            &["s", "--depth"],
+            0,
+            "rounds 2\nwidest 2\nworkers 4: 2 rounds, at least 2\nchain 1 2\n",
+        ),
+        (
+            TOTAL,
+            &["--depth", "--workers", "1", "s"],
+            0,
+            "rounds 2\nwidest 2\nworkers 1: 3 rounds, at least 3\nchain 1 2\n",
+        ),
+        (
+            again,
+            &["--depth", "s"],
+            0,
+            "rounds 3\nwidest 1\nworkers 4: 3 rounds, at least 3\nchain 1 2 3\n",
+        ),
+        (
+            "",
+            &["--depth", "s"],
+            0,
+            "rounds 0\nwidest 0\nworkers 4: 0 rounds, at least 0\nchain\n",
+        ),
+        (
+            tested,
+            &["--depth", "s"],
+            3,
+            "script refused line 15: limit\n",
+        ),
+    ];
+    for (lines, words, status, text) in rows {
+        let script = with_kernels(rt.alloc(), lines)?;
+        let given = Given {
+            script: script.as_bytes(),
+            table: b"",
+        };
+        let mut sink = sink_of(&rt)?;
+        assert_eq!(rt;
+            answer(&rt, words, &given, &mut sink, &OpenGate)?,
+            status,
+            "{text}"
+        );
         assert_eq!(rt; sink.bytes(), text.as_bytes());
     }
     Ok(())
@@ -161,11 +298,61 @@ fn words(rt: HostRuntime) -> Result<(), Fail> {
 #[test]
 fn a_sink_that_fails(rt: HostRuntime) -> Result<(), Fail> {
     let alloc = rt.alloc();
-    let source = with_kernel(alloc, TRIPLE)?;
+    let script = with_kernels(alloc, TOTAL)?;
+    let given = Given {
+        script: script.as_bytes(),
+        table: b"",
+    };
     let failing = vec![in alloc; 2u64]?;
     let mut sink = MemSink::new(alloc, 100, 1, failing).ok().ok_or("memory")?;
-    assert_eq!(rt; answer(alloc, &["s"], source.as_bytes(), &mut sink)?, 7);
-    assert_eq!(rt; sink.bytes(), b"y ".as_slice());
+    assert_eq!(rt; answer(&rt, &["s"], &given, &mut sink, &OpenGate)?, 7);
+    assert_eq!(rt; sink.bytes(), b"t ".as_slice());
+    let mut full = MemSink::new(alloc, 0, 1, Vec::new(alloc))
+        .ok()
+        .ok_or("memory")?;
+    assert_eq!(rt; answer(&rt, &["s"], &given, &mut full, &OpenGate)?, 7);
+    assert_eq!(rt; full.bytes(), b"".as_slice());
+    Ok(())
+}
+
+// Two pieces that wait for each other are run by two workers.
+#[test]
+fn pieces_run_side_by_side(rt: HostRuntime) -> Result<(), Fail> {
+    let script = with_kernels(rt.alloc(), TWO_BUMPS)?;
+    let given = Given {
+        script: script.as_bytes(),
+        table: b"",
+    };
+    for (first, second) in [(0, 1), (1, 0)] {
+        let gate = CountingGate::new(PieceId(first), PieceId(second), 10_000_000);
+        let mut sink = sink_of(&rt)?;
+        let words = ["--workers", "2", "s"];
+        assert_eq!(rt; answer(&rt, &words, &given, &mut sink, &gate)?, 0);
+        assert_eq!(rt; sink.bytes(), b"b = [1]\n".as_slice());
+        assert!(rt; gate.met());
+    }
+    Ok(())
+}
+
+// The jobs are run although a write failed before they were scheduled.
+#[test]
+fn jobs_run_after_a_fault(rt: HostRuntime) -> Result<(), Fail> {
+    let alloc = rt.alloc();
+    let lines =
+        "array a 1\narray b 1\nprint b\nschedule h1 bump(a)\nschedule h2 bump(b)\ncombine h h1 h2\ncomplete h\n";
+    let script = with_kernels(alloc, lines)?;
+    let given = Given {
+        script: script.as_bytes(),
+        table: b"",
+    };
+    let gate = CountingGate::new(PieceId(0), PieceId(1), 10_000_000);
+    let mut sink = MemSink::new(alloc, 0, 1, Vec::new(alloc))
+        .ok()
+        .ok_or("memory")?;
+    let words = ["--workers", "2", "s"];
+    assert_eq!(rt; answer(&rt, &words, &given, &mut sink, &gate)?, 7);
+    assert_eq!(rt; sink.bytes(), b"".as_slice());
+    assert!(rt; gate.met());
     Ok(())
 }
 
@@ -178,10 +365,12 @@ fn a_file_that_is_too_long(rt: HostRuntime) -> Result<(), Fail> {
     ];
     for (size, status, text) in rows {
         let source = vec![in alloc; b'#'; size]?;
-        let mut sink = MemSink::new(alloc, 100, 100, Vec::new(alloc))
-            .ok()
-            .ok_or("memory")?;
-        assert_eq!(rt; answer(alloc, &["s"], &source, &mut sink)?, status);
+        let given = Given {
+            script: &source,
+            table: b"",
+        };
+        let mut sink = sink_of(&rt)?;
+        assert_eq!(rt; answer(&rt, &["s"], &given, &mut sink, &OpenGate)?, status);
         assert_eq!(rt; sink.bytes(), text.as_bytes());
     }
     Ok(())

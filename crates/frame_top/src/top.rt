@@ -1,147 +1,203 @@
 // The top call.
-ghost use Rattle.std.specs.Prelude.{◌⊎◌, ◌≡◌, ◌≢◌, ◌<◌, ◌≤◌, ℕ, List, [], length, map, nat_lt, None, Some, IsSomeAnd, string_bytes};
+ghost use Rattle.std.specs.Prelude.{◌⊎◌, ◌≡◌, ◌≢◌, ◌≤◌, List, [], Option, None, Some, true, false};
 ghost use Rattle.std.specs.Io.KnownBytes.{Appends};
 ghost use Rattle.job_base.specs.Faults.{Rose};
-ghost use Rattle.frame_ast.specs.declared.kernel.FaultKind.{FaultKind as Fault};
-ghost use Rattle.frame_ast.specs.declared.kernel.FaultKind.TheVariants.{Syntax};
 ghost use Rattle.frame_ast.specs.declared.script.Script.{Script as ScriptTree};
 ghost use Rattle.frame_ast.specs.Accepted.{IsAccepted};
-ghost use Rattle.frame_top.specs.Progress.{CanPrint};
-ghost use Rattle.job_base.specs.Cells.{cells_of};
-ghost use Rattle.frame_ast.specs.Answers.{no_script_line, script_refused_line, script_size_line, statements_line};
-ghost use Rattle.frame_ast.specs.Orders.{no_table};
+ghost use Rattle.frame_ast.specs.Answers.{usage_line};
 ghost use Rattle.frame_ast.specs.Scripts.{status_of, output_of};
-ghost use Rattle.frame_top.specs.Answers.{Answers, AreDue, Cause, HasTooMany, IsDue, IsFaulty, IsNotRun, IsRun, IsStatus, IsStopped, IsTooLong, Outcome, ScriptHas, ScriptHasIfTold, TakesPart, Told, usage_text};
-ghost use Rattle.frame_top.specs.Words.{script_word};
+ghost use Rattle.command_words.specs.Words.{Text, is_of_command};
+ghost use Rattle.frame_top.specs.Answers.{AnswersTo, CanBeCut, CauseBy, Gives, GivesDepth, IsFrame, TakesCut, TakesPart};
+ghost use Rattle.frame_top.specs.Asking.{IsAsked};
+ghost use Rattle.frame_top.specs.Inputs.{HasUnread, IsGiven, IsSource, ReadFails, ReadsScript};
+ghost use Rattle.frame_top.specs.Refusals.{Answer, answer, Refuses, frame_refusal, table_of, table_refusal};
+ghost use Rattle.frame_top.specs.Words.{asks_depth, bytes_of};
+ghost use Rattle.frame_top.specs.declared.status.TheConstants.{NO_MEMORY, PAST_LIMIT, UNREAD, UNWRITTEN, USAGE};
 
-use crate::built::unbuilt;
-use crate::job::Stop;
-use crate::lines::print_lines;
-use crate::prepare::{Prepared, prepare};
-use crate::refusal::{refuse, say, say_fault};
-use crate::words::script_name;
-use frame_ast::kernel::FaultKind;
+use crate::frame::answer_frame;
+use crate::inputs::{options_of, parse_table, read_source, read_table_file};
+use crate::status::{NO_MEMORY, PAST_LIMIT, UNREAD, USAGE};
+use crate::texts::{refuse_source, refuse_table, say};
+use command_words::{Command, WordsFault, read_words};
 use frame_ast::script::Script;
 use frame_script::{LoadFault, parse_script};
-use job_base::limits::MOST_SCRIPT_BYTES;
 use job_base::{FileFault, Files, Gate, Sink};
 use std::alloc::Global;
+use std::sync::Wait;
+use std::thread::Threads;
 
-// Prints what a prepared script prints.
-fn print_all<S: Sink>(script: &Script, prepared: &mut Prepared, sink: &mut S) -> u8
-    requires { CanPrint script.now prepared.old.prints prepared.old.arrays.items (cells_of prepared.old.mem) (λ w. nat_lt w (length prepared.old.mem)) }
-    ensures status { (result ≡ 0) ⊎ (result ≡ 7) }
-    ensures told { Told (S.taken sink.old) (S.taken sink.new) (S.faults sink.old) (S.faults sink.new) (status_of script.now no_table) (output_of script.now no_table) result }
+// Answers for a script that was accepted: reads the table, and goes on with both.
+fn answer_script<R: Threads + Wait + Sync, F: Files, S: Sink, G: Gate + Sync>(
+    rt: &R,
+    alloc: Global,
+    command: &Command,
+    script: &Script,
+    files: &mut F,
+    sink: &mut S,
+    gate: &G,
+) -> u8
+    requires accepted { IsAccepted script.now }
+    requires read { (words : List Text) × IsAsked words command.now × ReadsScript words (F.bytes files.old) script.now }
+
+    ensures answer { (words : List Text) → IsAsked words command.now → ReadsScript words (F.bytes files.old) script.now
+        → AnswersTo S.taken S.faults sink.old sink.new
+        (CauseBy F.bytes F.faults F.last_failed words files.old files.new) (CanBeCut words (F.bytes files.old)) result }
+
+    ensures reads { (words : List Text) → IsAsked words command.now
+        → ReadFails F.faults F.last_failed words files.old files.new }
+    ensures memory { result ≡ NO_MEMORY → F.faults files.new ≡ F.faults files.old }
+    ensures same { F.bytes files.new ≡ F.bytes files.old }
+    ensures files_later { F.faults files.old ≤ F.faults files.new }
 {
-    let from = prepared.prints;
-    match print_lines(script, from, &prepared.arrays, &mut prepared.mem, sink) {
-        Ok(()) => 0,
-        Err(_) => 7,
+    let bytes = match read_table_file(alloc, command, files) {
+        Ok(bytes) => bytes,
+        Err(FileFault::Failed) => return say(UNREAD, b"cannot read table\n", sink),
+        Err(FileFault::TooLong) => return say(PAST_LIMIT, b"limit: table size\n", sink),
+        Err(FileFault::NoMemory) => return NO_MEMORY,
+    };
+    match parse_table(alloc, &bytes) {
+        Ok(table) => answer_frame(rt, alloc, script, &table, options_of(command), sink, gate),
+        Err(fault) => refuse_table(fault, sink),
     }
 }
 
-// Runs a script, where it can be run.
-fn run<S: Sink>(alloc: Global, script: &Script, sink: &mut S) -> u8
-    requires { IsAccepted script.now }
-    ensures status { IsStatus result }
-    ensures answer { Answers (Outcome script.now) (S.taken sink.old) (S.taken sink.new) (S.faults sink.old) (S.faults sink.new) result }
+// Answers a command: reads the script, and goes on with it.
+fn answer_command<R: Threads + Wait + Sync, F: Files, S: Sink, G: Gate + Sync>(
+    rt: &R,
+    alloc: Global,
+    command: &Command,
+    files: &mut F,
+    sink: &mut S,
+    gate: &G,
+) -> u8
+    requires asked { (words : List Text) × IsAsked words command.now }
+
+    ensures answer { (words : List Text) → IsAsked words command.now → AnswersTo S.taken S.faults sink.old sink.new
+        (CauseBy F.bytes F.faults F.last_failed words files.old files.new) (CanBeCut words (F.bytes files.old)) result }
+
+    ensures reads { (words : List Text) → IsAsked words command.now
+        → ReadFails F.faults F.last_failed words files.old files.new }
+    ensures memory { result ≡ NO_MEMORY → F.faults files.new ≡ F.faults files.old }
+    ensures same { F.bytes files.new ≡ F.bytes files.old }
+    ensures files_later { F.faults files.old ≤ F.faults files.new }
 {
-    if let Some(line) = unbuilt(script) {
-        return refuse(alloc, line, FaultKind::Syntax, sink);
-    }
-    match prepare(alloc, script) {
-        Ok(mut prepared) => print_all(script, &mut prepared, sink),
-        Err(Stop::Trapped(line)) => refuse(alloc, line, FaultKind::Syntax, sink),
-        Err(Stop::NoMemory) => 8,
+    let source = match read_source(alloc, command, files) {
+        Ok(source) => source,
+        Err(FileFault::Failed) => return say(UNREAD, b"cannot read script\n", sink),
+        Err(FileFault::TooLong) => return say(PAST_LIMIT, b"limit: script size\n", sink),
+        Err(FileFault::NoMemory) => return NO_MEMORY,
+    };
+    match parse_script(alloc, &source) {
+        Ok(script) => answer_script(rt, alloc, command, &script, files, sink, gate),
+        Err(LoadFault::Refused { line, kind }) => refuse_source(line, kind, sink),
+        Err(LoadFault::NoMemory) => NO_MEMORY,
     }
 }
 
 // The work of `run_frame`.
-fn answer<F: Files, S: Sink>(alloc: Global, words: &[String], files: &mut F, sink: &mut S) -> u8
-    ensures status { IsStatus result }
-    ensures same { F.bytes files.new ≡ F.bytes files.old }
-    ensures files_later { F.faults files.old ≤ F.faults files.new }
-    ensures reads { ((F.faults files.new ≡ F.faults files.old) × (F.last_failed files.new ≡ F.last_failed files.old)) ⊎ IsSomeAnd (script_word (map (λ w. string_bytes w) words.now)) (λ name. Rose (F.faults files.old) (F.faults files.new) × (F.last_failed files.new ≡ Some name)) }
-    ensures answer { Answers (Cause (map (λ w. string_bytes w) words.now) (F.bytes files.old) (Rose (F.faults files.old) (F.faults files.new)) (F.last_failed files.new)) (S.taken sink.old) (S.taken sink.new) (S.faults sink.old) (S.faults sink.new) result }
-{
-    let Some(name) = script_name(words) else {
-        return say(2, b"usage: frame_run SCRIPT\n", sink);
-    };
-    let source = match files.read(alloc, name, u64::from(MOST_SCRIPT_BYTES)) {
-        Ok(source) => source,
-        Err(FileFault::Failed) => return say(6, b"cannot read script\n", sink),
-        Err(FileFault::TooLong) => return say(9, b"limit: script size\n", sink),
-        Err(FileFault::NoMemory) => return 8,
-    };
-    let script = match parse_script(alloc, &source) {
-        Ok(script) => script,
-        Err(LoadFault::Refused { line, kind }) => return say_fault(alloc, line, kind, sink),
-        Err(LoadFault::NoMemory) => return 8,
-    };
-    run(alloc, &script, sink)
-}
-
-/// Reads the script that the words name, runs it, and answers the exit status of the program.
-///
-/// The words are exactly SCRIPT. A file of at most `MOST_SCRIPT_BYTES` is refused for its first fault, or else for the
-/// first statement that `unbuilt` finds, or for the `schedule` of a job that traps; the last two can't be run yet.
-/// Every other file is run. `gate` is passed round each piece once there are workers.
-///
-/// | Status | Text |
-/// |---|---|
-/// | 0 | what the script prints |
-/// | 2 | the usage line: the words are no command |
-/// | 3 | `script refused line L: KIND` |
-/// | 6 | `cannot read script`: a read failed, which `files` counts |
-/// | 7 | some first bytes of another text: `sink` failed, which it counts |
-/// | 8 | nothing: memory was not found |
-/// | 9 | `limit: script size`, or `limit: statements` |
-pub fn run_frame<F: Files, S: Sink, G: Gate>(
+fn answer_words<R: Threads + Wait + Sync, F: Files, S: Sink, G: Gate + Sync>(
+    rt: &R,
     alloc: Global,
     words: &[String],
     files: &mut F,
     sink: &mut S,
     gate: &G,
 ) -> u8
-    // THE HEADLINE. Where the words name a file whose bytes spell a script that runs, the status is that of the
-    // script's meaning, unless a read failed, the sink failed or memory was wanting; and then the bytes are its output.
-    ensures headline { (script : ScriptTree) → ScriptHas (map (λ w. string_bytes w) words.now) (F.bytes files.old) (IsRun script) →
-        IsDue result (status_of script no_table) (Rose (F.faults files.old) (F.faults files.new)) (Rose (S.faults sink.old) (S.faults sink.new)) }
-    ensures headline_bytes { (script : ScriptTree) → ScriptHas (map (λ w. string_bytes w) words.now) (F.bytes files.old) (IsRun script) →
-        result ≡ status_of script no_table → Appends (S.taken sink.old) (S.taken sink.new) (output_of script no_table) }
+    ensures answer { AnswersTo S.taken S.faults sink.old sink.new
+        (CauseBy F.bytes F.faults F.last_failed (bytes_of words.now) files.old files.new)
+        (CanBeCut (bytes_of words.now) (F.bytes files.old)) result }
 
-    // Each status, and what is so where it comes.
-    ensures statuses { IsStatus result }
-    ensures ran { result ≡ 0 → ScriptHasIfTold (map (λ w. string_bytes w) words.now) (F.bytes files.old) (λ b. (script : ScriptTree) × IsRun script b
-        × (status_of script no_table ≡ 0) × Appends (S.taken sink.old) (S.taken sink.new) (output_of script no_table)) }
-    ensures usage { result ≡ 2 → script_word (map (λ w. string_bytes w) words.now) ≡ None }
-    ensures refused { result ≡ 3 → (line : ℕ) × (kind : Fault) × ScriptHasIfTold (map (λ w. string_bytes w) words.now) (F.bytes files.old) (IsNotRun line kind) × Appends (S.taken sink.old) (S.taken sink.new) (script_refused_line line kind) }
-    ensures unread { result ≡ 6 → IsSomeAnd (script_word (map (λ w. string_bytes w) words.now)) (λ name. Rose (F.faults files.old) (F.faults files.new) × (F.last_failed files.new ≡ Some name)) }
-    ensures untaken { result ≡ 7 → Rose (S.faults sink.old) (S.faults sink.new) }
-    ensures no_memory { result ≡ 8 → Appends (S.taken sink.old) (S.taken sink.new) [] }
-    ensures too_long { result ≡ 9 → (ScriptHasIfTold (map (λ w. string_bytes w) words.now) (F.bytes files.old) IsTooLong × Appends (S.taken sink.old) (S.taken sink.new) script_size_line)
-        ⊎ (ScriptHasIfTold (map (λ w. string_bytes w) words.now) (F.bytes files.old) HasTooMany × Appends (S.taken sink.old) (S.taken sink.new) statements_line) }
+    ensures reads { ReadFails F.faults F.last_failed (bytes_of words.now) files.old files.new }
+    ensures memory { result ≡ NO_MEMORY → (is_of_command (bytes_of words.now) ≡ true)
+        × (F.faults files.new ≡ F.faults files.old) }
+    ensures same { F.bytes files.new ≡ F.bytes files.old }
+    ensures files_later { F.faults files.old ≤ F.faults files.new }
+{
+    match read_words(alloc, words) {
+        Ok(command) => answer_command(rt, alloc, &command, files, sink, gate),
+        Err(WordsFault::Usage) => say(
+            USAGE,
+            b"usage: frame_run [--workers N] [--depth] SCRIPT [TABLE] or frame_run [--workers N] [--depth] --gen NUMBER --jobs K\n",
+            sink,
+        ),
+        Err(WordsFault::NoMemory) => NO_MEMORY,
+    }
+}
 
-    // The text that is written with it.
-    ensures usage_line { result ≡ 2 → Appends (S.taken sink.old) (S.taken sink.new) usage_text }
-    ensures unread_line { result ≡ 6 → Appends (S.taken sink.old) (S.taken sink.new) no_script_line }
-    ensures part { result ≡ 7 → TakesPart (Cause (map (λ w. string_bytes w) words.now) (F.bytes files.old) (Rose (F.faults files.old) (F.faults files.new)) (F.last_failed files.new)) (S.taken sink.old) (S.taken sink.new) }
+/// Answers a command line: reads or makes the script that its words ask for, reads the table, and runs the script with
+/// so many workers, or reports how deep it is. The answer is the exit status of the program.
+///
+/// The work is done in this order: the words; the script's bytes; what they spell; the table's bytes; what they hold;
+/// the columns that the script names; with `--depth`, whether it has a `when`; the limits on jobs and words; the run.
+/// The first step that refuses decides the status.
+///
+/// | Status | Text |
+/// |---|---|
+/// | 0 | what the script prints; with `--depth` the report of its depth |
+/// | 1 | what the script prints, where a statement was refused and no job trapped |
+/// | 2 | the usage line: the words are not of the command |
+/// | 3 | `script refused line L: KIND` |
+/// | 4 | `table refused: WHAT` or `table refused row R: WHAT` |
+/// | 5 | what the script prints, and the lines of its traps |
+/// | 6 | `cannot read script` or `cannot read table`: a read failed, which `files` counts |
+/// | 7 | some first bytes of another text: `sink` failed, which it counts |
+/// | 8 | nothing: memory was not found. Where the script has a `when`, some first bytes of what it prints |
+/// | 9 | `limit: WHAT` |
+pub fn run_frame<R: Threads + Wait + Sync, F: Files, S: Sink, G: Gate + Sync>(
+    rt: &R,
+    alloc: Global,
+    words: &[String],
+    files: &mut F,
+    sink: &mut S,
+    gate: &G,
+) -> u8
+    // THE HEADLINE. Where the words ask for a script and a table whose bytes are told, and these are accepted, the status
+    // and the bytes are those of the script's meaning, unless a read failed, the sink failed or memory was wanting.
+    ensures headline { (script : ScriptTree) (table : Option Text)
+        → IsFrame (bytes_of words.now) (F.bytes files.old) script table
+        → asks_depth (bytes_of words.now) ≡ false
+        → Gives F.faults S.taken S.faults files.old files.new sink.old sink.new
+        (answer (status_of script (table_of table)) (output_of script (table_of table))) result }
 
-    // When a status is due.
-    ensures usage_due { script_word (map (λ w. string_bytes w) words.now) ≡ None → IsDue result 2 ⊥ (Rose (S.faults sink.old) (S.faults sink.new)) }
-    ensures too_long_due { ScriptHas (map (λ w. string_bytes w) words.now) (F.bytes files.old) IsTooLong → AreDue result 9 (S.taken sink.old) (S.taken sink.new) script_size_line (Rose (F.faults files.old) (F.faults files.new)) (Rose (S.faults sink.old) (S.faults sink.new)) }
-    ensures refused_due { (line : ℕ) (kind : Fault) → ScriptHas (map (λ w. string_bytes w) words.now) (F.bytes files.old) (IsFaulty line kind) →
-        AreDue result 3 (S.taken sink.old) (S.taken sink.new) (script_refused_line line kind) (Rose (F.faults files.old) (F.faults files.new)) (Rose (S.faults sink.old) (S.faults sink.new)) }
-    ensures too_many_due { ScriptHas (map (λ w. string_bytes w) words.now) (F.bytes files.old) HasTooMany → AreDue result 9 (S.taken sink.old) (S.taken sink.new) statements_line (Rose (F.faults files.old) (F.faults files.new)) (Rose (S.faults sink.old) (S.faults sink.new)) }
-    ensures stopped_due { (line : ℕ) → ScriptHas (map (λ w. string_bytes w) words.now) (F.bytes files.old) (IsStopped line) →
-        AreDue result 3 (S.taken sink.old) (S.taken sink.new) (script_refused_line line Syntax) (Rose (F.faults files.old) (F.faults files.new)) (Rose (S.faults sink.old) (S.faults sink.new)) }
+    // What is so where a status comes: it has its cause, and the text that goes with it was written whole.
+    ensures statuses { result ≤ PAST_LIMIT }
+    ensures caused { result ≢ UNWRITTEN → result ≢ NO_MEMORY → (text : Text)
+        × CauseBy F.bytes F.faults F.last_failed (bytes_of words.now) files.old files.new (answer result text)
+        × Appends (S.taken sink.old) (S.taken sink.new) text }
+    ensures usage { result ≡ USAGE → is_of_command (bytes_of words.now) ≡ false }
+    ensures unread { result ≡ UNREAD → HasUnread F.faults F.last_failed (bytes_of words.now) files.old files.new }
+    ensures unwritten { result ≡ UNWRITTEN → Rose (S.faults sink.old) (S.faults sink.new)
+        × TakesPart S.taken sink.old sink.new
+        (CauseBy F.bytes F.faults F.last_failed (bytes_of words.now) files.old files.new) }
+    ensures no_memory { result ≡ NO_MEMORY → Appends (S.taken sink.old) (S.taken sink.new) []
+        ⊎ TakesCut S.taken sink.old sink.new (CanBeCut (bytes_of words.now) (F.bytes files.old)) }
+    ensures no_memory_early { result ≡ NO_MEMORY → (is_of_command (bytes_of words.now) ≡ true)
+        × (F.faults files.new ≡ F.faults files.old) }
+
+    // When a status is due, with its text.
+    ensures usage_due { is_of_command (bytes_of words.now) ≡ false
+        → (result ≡ USAGE) × Appends (S.taken sink.old) (S.taken sink.new) usage_line
+        ⊎ (result ≡ UNWRITTEN) × Rose (S.faults sink.old) (S.faults sink.new) }
+    ensures script_due { (source : Text) (a : Answer) → IsSource (bytes_of words.now) (F.bytes files.old) source
+        → Refuses source a → Gives F.faults S.taken S.faults files.old files.new sink.old sink.new a result }
+    ensures table_due { (script : ScriptTree) (table : Option Text) (a : Answer)
+        → IsGiven (bytes_of words.now) (F.bytes files.old) script table → table_refusal table ≡ Some a
+        → Gives F.faults S.taken S.faults files.old files.new sink.old sink.new a result }
+    ensures frame_due { (script : ScriptTree) (table : Option Text) (a : Answer)
+        → IsGiven (bytes_of words.now) (F.bytes files.old) script table → table_refusal table ≡ None
+        → frame_refusal script (table_of table) (asks_depth (bytes_of words.now)) ≡ Some a
+        → Gives F.faults S.taken S.faults files.old files.new sink.old sink.new a result }
+    ensures depth_due { (script : ScriptTree) (table : Option Text)
+        → IsFrame (bytes_of words.now) (F.bytes files.old) script table
+        → asks_depth (bytes_of words.now) ≡ true
+        → GivesDepth F.faults S.taken S.faults files.old files.new sink.old sink.new
+        (bytes_of words.now) (F.bytes files.old) result }
 
     // What stays.
     ensures same { F.bytes files.new ≡ F.bytes files.old }
     ensures files_later { F.faults files.old ≤ F.faults files.new }
-    ensures reads { ((F.faults files.new ≡ F.faults files.old) × (F.last_failed files.new ≡ F.last_failed files.old)) ⊎ IsSomeAnd (script_word (map (λ w. string_bytes w) words.now)) (λ name. Rose (F.faults files.old) (F.faults files.new) × (F.last_failed files.new ≡ Some name)) }
-    ensures taken_all { result ≢ 7 → S.faults sink.new ≡ S.faults sink.old }
+    ensures reads { ReadFails F.faults F.last_failed (bytes_of words.now) files.old files.new }
+    ensures taken_all { result ≢ UNWRITTEN → S.faults sink.new ≡ S.faults sink.old }
 {
-    let _ = gate;
-    answer(alloc, words, files, sink)
+    answer_words(rt, alloc, words, files, sink, gate)
 }

@@ -1,11 +1,13 @@
-use Rattle.std.proofs.Common.{◌≡◌, ◌+◌, ◌*◌, ◌<◌, ◌≤◌, ℕ, ◌++◌, ◌∷◌, [], length, map, None, true, refl, ap, subst, ◌∙◌, arith}
+use Rattle.std.proofs.Common.{◌≡◌, ◌+◌, ◌*◌, ◌<◌, ◌≤◌, ℕ, ◌++◌, ◌∷◌, [], length, map, None, true, refl, sym, ap, subst, ◌∙◌, arith}
 use Rattle.std.specs.Prelude.{string_bytes}
 use Rattle.frame_core.specs.declared.plan.Segment.{Segment}
 use Rattle.frame_core.specs.Names.{has_job}
 use Rattle.plan_laws.specs.Planned.{AreJobsUpTo}
 use Rattle.slot_store.specs.Stores.{peak_of}
 use Rattle.frame_plan.specs.declared.state.Written.{Written}
-use Rattle.frame_plan.proofs.Wholes.{jobs_few, pieces_small, cells_small, is_done}
+use Rattle.frame_plan.specs.Runs.{AreWithin}
+use Rattle.frame_plan.specs.Steps.{state_at}
+use Rattle.frame_plan.proofs.Wholes.{jobs_few, pieces_small, cells_small, is_done, live_low}
 use Rattle.frame_plan.proofs.state.Planner.finish.Goals as goal
 
 pub overflow_cast-len : goal.overflow_cast-len
@@ -57,4 +59,7 @@ returns-clause-plan c =
           (subst (λ k. (j : ℕ) → 0 < j → j ≤ k → has_job c.in_ok-all.all.items j ≡ true) count c.in_ok-all.ensures.all)
           c.new.ensures.items
           refl;
+      within = λ table begun n found inside st.
+          subst (λ k. AreWithin k found (state_at c.args.script.now table n)) (sym c.peak-cells.ensures)
+          (live_low c.args.script.now table p begun n found st c.requires.6 inside);
     }

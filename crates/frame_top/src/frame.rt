@@ -1,0 +1,134 @@
+// What a script and its table answer.
+ghost use Rattle.std.specs.Prelude.{◌≡◌, ◌≤◌, None, false, true};
+ghost use Rattle.job_base.specs.declared.limits.TheConstants.{MOST_WORKERS};
+ghost use Rattle.frame_ast.specs.Accepted.{IsAccepted, is_when};
+ghost use Rattle.frame_plan.specs.Tables.{columns_of};
+ghost use Rattle.frame_top.specs.Answers.{AnswersTo, FrameCause, IsCut};
+ghost use Rattle.frame_top.specs.Refusals.{column_name, column_refusal, first_when};
+
+use crate::inputs::Options;
+use crate::sections::run_sections;
+use crate::status::{DONE, NO_MEMORY, UNWRITTEN};
+use crate::texts::{refuse_column, refuse_plan, refuse_script};
+use frame_ast::kernel::FaultKind;
+use frame_ast::script::{Order, Script};
+use frame_plan::{SectionBook, missing_column, plan};
+use job_base::{Gate, NoMemory, Sink};
+use job_depth::{depth, print_depth};
+use std::alloc::Global;
+use std::sync::Wait;
+use std::thread::Threads;
+use table_in::Table;
+
+/// Whether a statement is a `when`.
+fn is_when(act: &Order) -> bool
+    ensures { result ≡ is_when act.now }
+{
+    match act {
+        Order::When { .. } => true,
+        _ => false,
+    }
+}
+
+/// The line of the first `when` of a script.
+fn first_when(script: &Script) -> Option<u32>
+    ensures { result ≡ first_when script.now.statements.items }
+{
+    for i in 0..script.statements.len() {
+        if is_when(&script.statements[i].act) {
+            return Some(script.statements[i].line);
+        }
+    }
+    None
+}
+
+/// The column that a statement asks for.
+fn column_name(act: &Order) -> &[u8]
+    ensures { result.now ≡ column_name act.now }
+{
+    match act {
+        Order::Column { column, .. } => column,
+        _ => b"",
+    }
+}
+
+/// Reports how deep the plan of a script is, and runs nothing.
+fn report_depth<S: Sink>(
+    alloc: Global,
+    script: &Script,
+    table: &Table,
+    workers: u32,
+    sink: &mut S,
+) -> u8
+    requires accepted { IsAccepted script.now }
+    requires columns { column_refusal (columns_of table.now) script.now.statements.items ≡ None }
+    requires workers { (1 ≤ workers) × (workers ≤ MOST_WORKERS) }
+    ensures answer { AnswersTo S.taken S.faults sink.old sink.new
+        (FrameCause script.now (columns_of table.now) true workers)
+        (IsCut script.now (columns_of table.now) true) result }
+{
+    if let Some(line) = first_when(script) {
+        return refuse_script(line, FaultKind::Limit, sink);
+    }
+    let plan = match plan(alloc, script, table) {
+        Ok(plan) => plan,
+        Err(fault) => return refuse_plan(fault, sink),
+    };
+    let Ok(depth) = depth(alloc, &plan, workers) else {
+        return NO_MEMORY;
+    };
+    match print_depth(&depth, sink) {
+        Ok(()) => DONE,
+        Err(_) => UNWRITTEN,
+    }
+}
+
+/// Runs a script.
+fn run_script<R: Threads + Wait + Sync, S: Sink, G: Gate + Sync>(
+    rt: &R,
+    alloc: Global,
+    script: &Script,
+    table: &Table,
+    workers: u32,
+    sink: &mut S,
+    gate: &G,
+) -> u8
+    requires accepted { IsAccepted script.now }
+    requires columns { column_refusal (columns_of table.now) script.now.statements.items ≡ None }
+    requires workers { (1 ≤ workers) × (workers ≤ MOST_WORKERS) }
+    ensures answer { AnswersTo S.taken S.faults sink.old sink.new
+        (FrameCause script.now (columns_of table.now) false workers)
+        (IsCut script.now (columns_of table.now) false) result }
+{
+    match SectionBook::new(alloc, script, table) {
+        Ok(book) => run_sections(rt, alloc, script, table, workers, book, sink, gate),
+        Err(fault) => refuse_plan(fault, sink),
+    }
+}
+
+/// Answers for a script that was accepted and its table: looks for its columns, and then runs it, or reports its depth.
+pub fn answer_frame<R: Threads + Wait + Sync, S: Sink, G: Gate + Sync>(
+    rt: &R,
+    alloc: Global,
+    script: &Script,
+    table: &Table,
+    options: Options,
+    sink: &mut S,
+    gate: &G,
+) -> u8
+    requires accepted { IsAccepted script.now }
+    requires workers { (1 ≤ options.workers) × (options.workers ≤ MOST_WORKERS) }
+    ensures answer { AnswersTo S.taken S.faults sink.old sink.new
+        (FrameCause script.now (columns_of table.now) options.depth options.workers)
+        (IsCut script.now (columns_of table.now) options.depth) result }
+{
+    if let Some(place) = missing_column(script, table) {
+        let name = column_name(&script.statements[place as usize].act);
+        return refuse_column(name, sink);
+    }
+    if options.depth {
+        report_depth(alloc, script, table, options.workers, sink)
+    } else {
+        run_script(rt, alloc, script, table, options.workers, sink, gate)
+    }
+}
