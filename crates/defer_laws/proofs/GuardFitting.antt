@@ -22,7 +22,7 @@ use Rattle.kernel_exec.specs.Laws.{HaveOwnParts}
 use Rattle.kernel_exec.specs.Layout.{Holds, StandFor}
 use Rattle.merge_laws.specs.Graph.{Cells}
 use Rattle.frame_core.proofs.Small.{not_both, some_is, none_some, get_before, get_below, get_either}
-use Rattle.same_trees.specs.Same.{SameParam, Pairwise}
+use Rattle.tree_laws.specs.Same.{SameParam, Pairwise}
 use Rattle.defer_laws.specs.GuardedRuns.{word_at}
 use Rattle.defer_laws.proofs.ArgumentBinds.{wrote}
 

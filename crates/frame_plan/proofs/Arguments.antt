@@ -19,7 +19,7 @@ use Rattle.frame_core.proofs.Small.{not_both, some_is, none_some}
 use Rattle.plan_laws.specs.Binds.{bind_of, bind_for, bind_as, array_for, stream_of, start_at, bind_by, binds_by}
 use Rattle.plan_laws.specs.Planned.{Outline}
 use Rattle.plan_laws.specs.Printing.{FitsContents, IsUsable}
-use Rattle.same_trees.specs.Same.{SameParam, Pairwise}
+use Rattle.tree_laws.specs.Same.{SameParam, Pairwise}
 use Rattle.frame_plan.specs.declared.state.Planner.{Planner}
 use Rattle.frame_plan.specs.JobBinds.{as_array, as_stream, as_kind, bind_of_value, job_bind, job_binds}
 use Rattle.frame_plan.specs.Stands.{Agrees, Stands}

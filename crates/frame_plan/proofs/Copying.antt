@@ -19,10 +19,10 @@ use Rattle.frame_ast.specs.Jobs.{both}
 use Rattle.frame_ast.specs.States.{ScriptState}
 use Rattle.frame_core.proofs.Small.{some_is}
 use Rattle.plan_laws.specs.Accepting.{Schedule, accepted, deps_of, IsAcceptedSchedule}
-use Rattle.same_trees.specs.Same.{SameKernel, SameParam, Pairwise}
-use Rattle.same_trees.proofs.Itself.{kernels_are_themselves}
-use Rattle.same_trees.proofs.Runs.{same_runs}
-use Rattle.same_trees.proofs.Settings.{same_refusal, same_effect}
+use Rattle.tree_laws.specs.Same.{SameKernel, SameParam, Pairwise}
+use Rattle.tree_laws.proofs.Itself.{kernels_are_themselves}
+use Rattle.tree_laws.proofs.Runs.{same_runs}
+use Rattle.tree_laws.proofs.Settings.{same_refusal, same_effect}
 use Rattle.frame_plan.proofs.Arguments.{same_args_fit, same_widths, same_at}
 use Rattle.frame_plan.proofs.Naming.{get_set}
 

@@ -34,8 +34,8 @@ use Rattle.plan_laws.specs.Ledgers.{later}
 use Rattle.plan_laws.specs.Planned.{Outline, IsPlanned, Closes, jobs_before}
 use Rattle.plan_laws.proofs.Accepting.{schedules_are_planned}
 use Rattle.plan_laws.proofs.ScheduleTexts.{schedules_are_accepted}
-use Rattle.same_trees.specs.Same.{SameKernel}
-use Rattle.same_trees.proofs.Checks.{same_kernels_are_checked}
+use Rattle.tree_laws.specs.Same.{SameKernel}
+use Rattle.tree_laws.proofs.Checks.{same_kernels_are_checked}
 use Rattle.frame_plan.specs.declared.state.Container.{Container}
 use Rattle.frame_plan.specs.declared.state.Planner.{Planner}
 use Rattle.frame_plan.specs.declared.uses.NamedUse.{NamedUse}

@@ -17,7 +17,7 @@ use Rattle.frame_ast.specs.Orders.{Setting}
 use Rattle.frame_ast.specs.Refusals.{is_temp}
 use Rattle.frame_ast.specs.States.{ScriptState, is_live, live_words}
 use Rattle.frame_ast.specs.States as states
-use Rattle.same_trees.specs.Same.{SameKernel}
+use Rattle.tree_laws.specs.Same.{SameKernel}
 use Rattle.job_handle.specs.declared.handle.Handle.{Handle}
 use Rattle.job_handle.specs.Sets.{jobs_of}
 use Rattle.job_handle.specs.Books.{StandsFor}

@@ -24,7 +24,7 @@ use Rattle.frame_core.specs.declared.plan.Segment.{Segment}
 use Rattle.frame_core.specs.Names.{has_job, pieces_of}
 use Rattle.plan_laws.specs.Ledgers.{later}
 use Rattle.plan_laws.specs.Planned.{AreJobsUpTo}
-use Rattle.same_trees.specs.Same.{SameKernel}
+use Rattle.tree_laws.specs.Same.{SameKernel}
 use Rattle.job_base.specs.declared.JobId.{JobId}
 use Rattle.frame_plan.specs.declared.state.Planner.{Planner}
 use Rattle.frame_plan.specs.declared.uses.NamedUse.{NamedUse}

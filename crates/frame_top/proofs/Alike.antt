@@ -22,9 +22,9 @@ use Rattle.frame_ast.specs.Checks.{refusal}
 use Rattle.frame_ast.specs.Effects.{lost, make, accept, dispose, effect}
 use Rattle.frame_ast.specs.Scripts.{decided, act_or_pass, act}
 use Rattle.job_base.specs.declared.Refusal.{Refusal}
-use Rattle.same_trees.specs.Same.{SameKernel, SameOrder, SameStatement, SameScript, Pairwise}
-use Rattle.same_trees.proofs.Runs.{same_runs}
-use Rattle.same_trees.proofs.Settings.{same_refusal, same_effect}
+use Rattle.tree_laws.specs.Same.{SameKernel, SameOrder, SameStatement, SameScript, Pairwise}
+use Rattle.tree_laws.proofs.Runs.{same_runs}
+use Rattle.tree_laws.proofs.Settings.{same_refusal, same_effect}
 use Rattle.frame_plan.specs.Missing.{lacks_column, is_none}
 use Rattle.frame_top.specs.Refusals.{Answer, answer, column_name, column_refusal, first_when, depth_refusal, limit_refusal, frame_refusal}
 use Rattle.frame_top.specs.declared.status.TheConstants.{TABLE_REFUSED, SCRIPT_REFUSED, PAST_LIMIT}

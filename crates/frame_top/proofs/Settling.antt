@@ -10,9 +10,9 @@ use Rattle.frame_ast.specs.Answers.{script_refused_line, usage_line}
 use Rattle.frame_ast.specs.Orders.{Table}
 use Rattle.frame_ast.specs.Scripts.{status_of, output_of}
 use Rattle.frame_script.specs.Loading.{IsRefused}
-use Rattle.same_trees.specs.Same.{SameScript}
-use Rattle.same_trees.proofs.Scripts.{same_scripts_run_alike}
-use Rattle.spelled_once.proofs.Laws.{scripts_are_spelled_once, refusals_are_once, spelled_is_not_refused}
+use Rattle.tree_laws.specs.Same.{SameScript}
+use Rattle.tree_laws.proofs.Scripts.{same_scripts_run_alike}
+use Rattle.text_laws.proofs.Laws.{scripts_are_spelled_once, refusals_are_once, spelled_is_not_refused}
 use Rattle.command_words.specs.Words.{Text, is_of_command}
 use Rattle.frame_top.specs.Words.{asks_depth, workers_in, script_name, table_name}
 use Rattle.frame_top.specs.Inputs.{Told, source_told, CanBe, CanBeTable, IsTable, Accepts, ReadsSource, ReadsScript, Reads, IsSource, IsGiven, IsUnread}

@@ -13,9 +13,9 @@ use Rattle.frame_ast.specs.Checked.{Demand, meets, param_meets, touch_meets, kin
 use Rattle.frame_ast.proofs.Simulation.{and_left, and_right}
 use Rattle.frame_ast.specs.Accepted.{guard_fits}
 use Rattle.frame_ast.specs.Schedules.{is_array, writes_to}
-use Rattle.same_trees.specs.Same.{SameParam, SameKernel, Pairwise}
-use Rattle.same_trees.proofs.Itself.{kernels_are_themselves}
-use Rattle.same_trees.proofs.Checks.{same_kernels_are_checked, same_count, same_measures, same_nodes, same_depth}
+use Rattle.tree_laws.specs.Same.{SameParam, SameKernel, Pairwise}
+use Rattle.tree_laws.proofs.Itself.{kernels_are_themselves}
+use Rattle.tree_laws.proofs.Checks.{same_kernels_are_checked, same_count, same_measures, same_nodes, same_depth}
 use Rattle.job_defer.specs.Guarded.{IsGuarded, IsGuard, IsLengthParam}
 use Rattle.job_defer.proofs.Fits.{Lets, body_more}
 

@@ -5,7 +5,7 @@ use Rattle.frame_ast.specs.declared.kernel.Expr.{Expr}
 use Rattle.frame_ast.specs.declared.kernel.Expr.TheVariants.{Number}
 use Rattle.frame_ast.specs.declared.kernel.Stmt.{Stmt}
 use Rattle.frame_ast.specs.declared.kernel.Param.{Param}
-use Rattle.same_trees.specs.Same.{SameExpr, SameStmt, SameBody, SameParam, Pairwise}
+use Rattle.tree_laws.specs.Same.{SameExpr, SameStmt, SameBody, SameParam, Pairwise}
 
 pub more_same : {A : Type 0} (Same : A → A → Type 0) (xs ys : List A) (x y : A) → Pairwise Same xs ys → Same x y
     → Pairwise Same (xs ++ x ∷ []) (ys ++ y ∷ [])

@@ -7,8 +7,8 @@ use Rattle.job_base.specs.declared.Access.TheVariants.{Read}
 use Rattle.frame_ast.specs.declared.kernel.Param.{Param}
 use Rattle.frame_ast.specs.declared.kernel.Kernel.{Kernel}
 use Rattle.native_array.specs.declared.ArrayAt.{ArrayAt}
-use Rattle.same_trees.specs.Same.{SameParam, Pairwise}
-use Rattle.same_trees.proofs.Checks.{same_count}
+use Rattle.tree_laws.specs.Same.{SameParam, Pairwise}
+use Rattle.tree_laws.proofs.Checks.{same_count}
 use Rattle.kernel_exec.specs.declared.binds.Bind.{Bind}
 use Rattle.kernel_exec.specs.declared.binds.Bind.TheVariants.{Array}
 use Rattle.kernel_exec.specs.Binds.{IsWordOf}

@@ -9,7 +9,7 @@ use Rattle.frame_ast.specs.Contents.{then_value}
 use Rattle.frame_ast.specs.Expressions.{Operations, one_if, holds, value_of}
 use Rattle.frame_ast.specs.Kernels.{Outcome, Action, Goes, Traps, then_do, with_value, choose, in_turn, statement, meaning, body_meaning, fresh, execution}
 use Rattle.frame_ast.specs.JobRuns.{full_steps, deferred_steps}
-use Rattle.same_trees.proofs.Runs.{same_meanings}
+use Rattle.tree_laws.proofs.Runs.{same_meanings}
 use Rattle.job_defer.specs.Guarded.{IsBelow, IsGuard}
 
 then_nothing : {S : Type 0} (o : Outcome S) → then_do o (in_turn []) ≡ o

@@ -17,7 +17,7 @@ use Rattle.frame_ast.specs.Kernels.{Outcome, execution, store_after, trap_after}
 use Rattle.frame_ast.specs.JobRuns.{full_steps, deferred_steps}
 use Rattle.frame_ast.specs.Simulation.{AlikeEnds}
 use Rattle.native_array.specs.declared.ArrayAt.{ArrayAt}
-use Rattle.same_trees.specs.Same.{SameBody, SameParam, Pairwise}
+use Rattle.tree_laws.specs.Same.{SameBody, SameParam, Pairwise}
 use Rattle.kernel_exec.specs.declared.binds.Bind.{Bind}
 use Rattle.kernel_exec.specs.declared.binds.Bind.TheVariants.{Array}
 use Rattle.kernel_exec.specs.Binds.{IsWordOf}

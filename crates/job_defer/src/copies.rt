@@ -1,7 +1,7 @@
 //! Copies of a kernel's parts, each in memory of its own.
 
 ghost use Rattle.std.specs.Prelude.{◌≡◌, IfOk, string_bytes};
-ghost use Rattle.same_trees.specs.Same.{SameExpr, SameStmt, SameBody, SameParam, SameKernel, Pairwise};
+ghost use Rattle.tree_laws.specs.Same.{SameExpr, SameStmt, SameBody, SameParam, SameKernel, Pairwise};
 
 use frame_ast::kernel::{Body, Expr, Kernel, Param, Stmt};
 use job_base::NoMemory;

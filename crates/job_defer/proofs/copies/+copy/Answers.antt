@@ -1,7 +1,7 @@
 use Rattle.std.proofs.Common.{[], sym, ap, subst, ◌∙◌}
 use Rattle.frame_ast.specs.declared.kernel.Stmt.{out-Stmt}
 use Rattle.frame_ast.specs.declared.kernel.Stmt.TheViews.{outs-Assign, outs-SetValue, outs-Add, outs-RemoveAt, outs-RemoveKey, outs-Write, outs-Store, outs-AddPair, outs-TryAdd, outs-Clear, outs-Begin, outs-If, outs-For, outs-While}
-use Rattle.same_trees.specs.Same.{SameStmt, SameBody}
+use Rattle.tree_laws.specs.Same.{SameStmt, SameBody}
 use Rattle.job_defer.proofs.Copied.{block_inner, block_more}
 use Rattle.job_defer.proofs.copies.+copy.Goals as goal
 

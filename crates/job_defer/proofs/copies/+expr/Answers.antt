@@ -1,6 +1,6 @@
 use Rattle.std.proofs.Common.{rules, ap}
 use Rattle.frame_ast.specs.declared.kernel.Expr.{Expr}
-use Rattle.same_trees.specs.Same.{SameExpr}
+use Rattle.tree_laws.specs.Same.{SameExpr}
 use Rattle.job_defer.proofs.Copied.{number_same, inner}
 use Rattle.job_defer.proofs.copies.+expr.Goals as goal
 

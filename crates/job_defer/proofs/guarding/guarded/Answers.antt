@@ -2,7 +2,7 @@ use Rattle.std.proofs.Common.{◌≡◌, [], ◌∷◌, ◌++◌, List, length, 
 use Rattle.frame_ast.specs.declared.kernel.Param.{Param}
 use Rattle.frame_ast.specs.declared.kernel.Stmt.{Stmt, If as Stmt-If}
 use Rattle.frame_ast.specs.declared.kernel.Stmt.TheViews.{outs-If}
-use Rattle.same_trees.specs.Same.{SameBody, SameParam, Pairwise}
+use Rattle.tree_laws.specs.Same.{SameBody, SameParam, Pairwise}
 use Rattle.job_defer.specs.Guarded.{IsBelow}
 use Rattle.job_defer.proofs.guarding.guarded.Goals as goal
 

@@ -1,5 +1,0 @@
-use Rattle.same_trees.proofs.Checks.{same_kernels_are_checked}
-use Rattle.same_trees.proofs.same_kernels_are_checked.Goals as goal
-
-pub returns : goal.returns
-returns c = same_kernels_are_checked

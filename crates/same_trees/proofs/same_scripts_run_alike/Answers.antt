@@ -1,5 +1,0 @@
-use Rattle.same_trees.proofs.Scripts.{same_scripts_run_alike}
-use Rattle.same_trees.proofs.same_scripts_run_alike.Goals as goal
-
-pub returns : goal.returns
-returns c = same_scripts_run_alike
