@@ -5,6 +5,8 @@ use Rattle.job_base.specs.Texts.{Writes}
 use Rattle.job_base.specs.declared.JobId.{JobId}
 use Rattle.job_base.specs.declared.Refusal.{Refusal}
 use Rattle.job_base.specs.declared.Refusal.TheVariants.{Pending, Busy}
+use Rattle.frame_ast.specs.declared.kernel.FaultKind.{FaultKind}
+use Rattle.frame_ast.specs.Answers.{fault_text, script_refused_line}
 use Rattle.frame_ast.specs.Texts.{overdue_line, refusal_text, refused_line}
 
 pub writes_as : {T E : Type 0} (old new : Option (List ℕ)) (r : Result T E) (t text : List ℕ) → t ≡ text → Writes old new r t → Writes old new r text
@@ -28,3 +30,7 @@ busy_is x job name p = simp (p, append-nil)
 pub refused_is : (x : List ℕ) (line : ℕ) (refusal : Refusal) (name : List ℕ) → x ≡ decimal line
     → ((codes "refused " ++ (x ++ (codes ": " ++ []))) ++ refusal_text refusal name) ++ codes "\n" ≡ refused_line line refusal name
 refused_is x line refusal name p = simp (p, append_assoc)
+
+pub script_refused_is : (x y : List ℕ) (line : ℕ) (kind : FaultKind) → x ≡ decimal line → y ≡ fault_text kind
+    → codes "script refused line " ++ (x ++ (codes ": " ++ (y ++ (codes "\n" ++ [])))) ≡ script_refused_line line kind
+script_refused_is x y line kind p q = simp (p, q, append_assoc)

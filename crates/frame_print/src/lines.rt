@@ -7,19 +7,19 @@ ghost use Rattle.frame_ast.specs.Texts.{overdue_line, trap_text, traps_text};
 ghost use Rattle.frame_print.specs.Gathering.{joined};
 ghost use Rattle.frame_print.specs.Reports.{IsReportOf};
 
-use crate::outgoing::Outgoing;
+use crate::outgoing::{LINE, Outgoing};
 use crate::report::Report;
 use itoa::Buffer;
 use job_base::{Sink, SinkFault, Trap};
 
-// Writes some parts, one behind the other.
-fn print_parts<S: Sink>(parts: &[&[u8]], sink: &mut S) -> Result<(), SinkFault>
+/// Writes a line of some parts, one behind the other.
+pub fn print_parts<S: Sink>(parts: &[&[u8]], sink: &mut S) -> Result<(), SinkFault>
     ensures text { Writes (S.taken sink.old) (S.taken sink.new) result (joined parts.now) }
     ensures count { OnOk result (S.faults sink.new ≡ S.faults sink.old) }
     ensures cause { OnErr result (Rose (S.faults sink.old) (S.faults sink.new)) }
     ensures later { S.faults sink.old ≤ S.faults sink.new }
 {
-    let mut out = Outgoing::new();
+    let mut out = Outgoing::<LINE>::new();
     out.put_all(parts, sink)?;
     out.flush(sink)
 }

@@ -10,35 +10,37 @@ use itoa::Buffer;
 use job_base::{Sink, SinkFault};
 use std::marker::Model;
 
-/// How many bytes of a text wait at most before a sink takes them.
-pub const ROOM: usize = 16_384;
+/// Room for a line of a few short parts. Each print clears its room before it begins, so a short line takes a small one.
+pub const LINE: usize = 512;
 
-/// The bytes of a text that no sink has taken yet, at most [`ROOM`] of them. They wait on the stack, so that a sink is
-/// called for thousands of bytes at a time. What still waits when it is dropped is lost: end with [`Outgoing::flush`].
+/// Room for a text of any length: a sink takes some 16,000 bytes at a time.
+pub const TEXT: usize = 16_384;
+
+/// The bytes of a text that no sink has taken yet, at most `N` of them. They wait on the stack, so that a sink is called
+/// once for many parts. What still waits when it is dropped is lost: end with [`Outgoing::flush`].
 #[derive(Drop)]
-pub struct Outgoing {
-    bytes: [u8; ROOM],
+pub struct Outgoing<const N: usize> {
+    bytes: [u8; N],
     len: usize,
 }
 
-impl Model for Outgoing {
+impl<const N: usize> Model for Outgoing<N> {
     ghost use Rattle.std.specs.Prelude.{ℕ, ◌≤◌, List, take};
-    ghost use Rattle.frame_print.specs.declared.outgoing.TheConstants.{ROOM};
 
     ghost Value = { List ℕ };
 
     ghost view = { λ o. take o.len o.bytes };
 
-    ghost invariant = { λ o. o.len ≤ ROOM };
+    ghost invariant = { λ o. o.len ≤ N };
 }
 
-impl Outgoing {
+impl<const N: usize> Outgoing<N> {
     /// With nothing that waits.
-    pub fn new() -> Outgoing
+    pub fn new() -> Outgoing<N>
         ensures { result ≡ [] }
     {
         Outgoing {
-            bytes: [0; ROOM],
+            bytes: [0; N],
             len: 0,
         }
     }
@@ -46,18 +48,20 @@ impl Outgoing {
     // How many bytes wait.
     fn len(&self) -> usize
         ensures len { result ≡ length self.now }
-        ensures most { result ≤ ROOM }
+        ensures most { result ≤ N }
     {
         self.len
     }
 
     // Lets a part wait for which there is room.
     fn keep(&mut self, part: &[u8])
-        requires { length self.old + length part.now ≤ ROOM }
+        requires { length self.old + length part.now ≤ N }
         ensures { self.new ≡ self.old ++ part.now }
     {
-        let end = self.len + part.len();
-        self.bytes[self.len..end].copy_from_slice(part);
+        let start = self.len;
+        let end = start + part.len();
+        let bytes = &mut self.bytes[..];
+        bytes[start..end].copy_from_slice(part);
         self.len = end;
     }
 
@@ -69,7 +73,8 @@ impl Outgoing {
         ensures cause { OnErr result (Rose (S.faults sink.old) (S.faults sink.new)) }
         ensures later { S.faults sink.old ≤ S.faults sink.new }
     {
-        print_text(&self.bytes[..self.len], sink)?;
+        let bytes = &self.bytes[..];
+        print_text(&bytes[..self.len], sink)?;
         self.len = 0;
         Ok(())
     }
@@ -81,12 +86,12 @@ impl Outgoing {
         ensures cause { OnErr result (Rose (S.faults sink.old) (S.faults sink.new)) }
         ensures later { S.faults sink.old ≤ S.faults sink.new }
     {
-        if part.len() <= ROOM - self.len() {
+        if part.len() <= N - self.len() {
             self.keep(part);
             return Ok(());
         }
         self.flush(sink)?;
-        if part.len() <= ROOM {
+        if part.len() <= N {
             self.keep(part);
             return Ok(());
         }

@@ -5,11 +5,11 @@ ghost use Rattle.job_base.specs.Texts.{Writes};
 ghost use Rattle.frame_ast.specs.Texts.{refusal_text, refused_line};
 ghost use Rattle.frame_print.specs.Gathering.{Gathers};
 
-use crate::outgoing::Outgoing;
+use crate::outgoing::{LINE, Outgoing};
 use itoa::Buffer;
 use job_base::{Refusal, Sink, SinkFault};
 
-impl Outgoing {
+impl<const N: usize> Outgoing<N> {
     // Puts the text of a refusal that names `name`.
     fn put_refusal<S: Sink>(
         &mut self,
@@ -61,7 +61,7 @@ pub fn print_refusal<S: Sink>(
 {
     let mut digits = Buffer::new();
     let line_text = digits.format(line).as_bytes();
-    let mut out = Outgoing::new();
+    let mut out = Outgoing::<LINE>::new();
     out.put_all(&[b"refused ", line_text, b": "], sink)?;
     out.put_refusal(refusal, name, sink)?;
     out.put(b"\n", sink)?;

@@ -8,6 +8,7 @@ ghost use Rattle.kernel_exec.specs.Binds.{kind_of, start_of, end_of};
 ghost use Rattle.kernel_exec.specs.Layout.{Holds};
 
 use crate::*;
+use frame_ast::kernel::FaultKind;
 use job_base::{FlatMem, JobId, Mem, MemSink, NoMemory, Refusal, Sink, SinkFault, Trap, Word};
 use kernel_exec::Bind;
 use native_array::{ArrayAt, RefAt};
@@ -241,6 +242,41 @@ fn traps(rt: HostRuntime) -> Result<(), Fail> {
     Ok(())
 }
 
+#[test]
+fn script_refusals(rt: HostRuntime) -> Result<(), Fail> {
+    let alloc = rt.alloc();
+    let table = [
+        (FaultKind::Syntax, "script refused line 12: syntax\n"),
+        (
+            FaultKind::UnknownName,
+            "script refused line 12: unknown name\n",
+        ),
+        (
+            FaultKind::DuplicateName,
+            "script refused line 12: duplicate name\n",
+        ),
+        (
+            FaultKind::KindMismatch,
+            "script refused line 12: kind mismatch\n",
+        ),
+        (
+            FaultKind::ReadOfWriteOnly,
+            "script refused line 12: read of write-only\n",
+        ),
+        (
+            FaultKind::WriteOfReadOnly,
+            "script refused line 12: write of read-only\n",
+        ),
+        (FaultKind::Limit, "script refused line 12: limit\n"),
+    ];
+    for (kind, want) in table {
+        let mut sink = sevens(alloc)?;
+        assert_eq!(rt; print_script_refusal(12, kind, &mut sink), Ok(()), "{want}");
+        assert_eq!(rt; sink.bytes(), want.as_bytes(), "{want}");
+    }
+    Ok(())
+}
+
 // The line of a status, and one of an overdue container.
 #[test]
 fn other_texts(rt: HostRuntime) -> Result<(), Fail> {
@@ -320,9 +356,11 @@ fn count(rt: &impl Abort, alloc: Global, len: u32) -> Result<Counter, NoMemory> 
     Ok(sink)
 }
 
-// The numbers 0 to 1,048,575 have 6,228,922 digits.
+// The numbers 0 to 1,048,575 have 6,228,922 digits. A short line is one write.
 #[test]
 fn few_writes(rt: HostRuntime) -> Result<(), Fail> {
+    let line = count(&rt, rt.alloc(), 20)?;
+    assert_eq!(rt; (line.writes, line.bytes), (1, 30 + 2 * 19 + 7));
     let sink = count(&rt, rt.alloc(), 1_048_576)?;
     assert_eq!(rt; sink.bytes, 6_228_922 + 2 * 1_048_575 + 7);
     assert!(rt; sink.writes < 600, "{} writes", sink.writes);

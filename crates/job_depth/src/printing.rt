@@ -6,12 +6,16 @@ ghost use Rattle.frame_print.specs.Gathering.{Gathers};
 ghost use Rattle.job_depth.specs.Texts.{depth_text, numbers_text, jobs_text};
 
 use crate::report::Depth;
-use frame_print::Outgoing;
+use frame_print::{Outgoing, TEXT};
 use itoa::Buffer;
 use job_base::{JobId, Sink, SinkFault};
 
 // Puts all before the jobs of the chain.
-fn put_numbers<S: Sink>(depth: &Depth, out: &mut Outgoing, sink: &mut S) -> Result<(), SinkFault>
+fn put_numbers<S: Sink>(
+    depth: &Depth,
+    out: &mut Outgoing<TEXT>,
+    sink: &mut S,
+) -> Result<(), SinkFault>
     ensures text { Gathers (S.taken sink.old) out.old (S.taken sink.new) out.new result (numbers_text depth.now) }
     ensures count { OnOk result (S.faults sink.new ≡ S.faults sink.old) }
     ensures cause { OnErr result (Rose (S.faults sink.old) (S.faults sink.new)) }
@@ -39,7 +43,7 @@ fn put_numbers<S: Sink>(depth: &Depth, out: &mut Outgoing, sink: &mut S) -> Resu
 }
 
 // Puts a job of the chain.
-fn put_job<S: Sink>(id: JobId, out: &mut Outgoing, sink: &mut S) -> Result<(), SinkFault>
+fn put_job<S: Sink>(id: JobId, out: &mut Outgoing<TEXT>, sink: &mut S) -> Result<(), SinkFault>
     ensures text { Gathers (S.taken sink.old) out.old (S.taken sink.new) out.new result (codes " " ++ decimal id.0) }
     ensures count { OnOk result (S.faults sink.new ≡ S.faults sink.old) }
     ensures cause { OnErr result (Rose (S.faults sink.old) (S.faults sink.new)) }
@@ -50,7 +54,11 @@ fn put_job<S: Sink>(id: JobId, out: &mut Outgoing, sink: &mut S) -> Result<(), S
     out.put_all(&parts, sink)
 }
 
-fn put_jobs<S: Sink>(jobs: &[JobId], out: &mut Outgoing, sink: &mut S) -> Result<(), SinkFault>
+fn put_jobs<S: Sink>(
+    jobs: &[JobId],
+    out: &mut Outgoing<TEXT>,
+    sink: &mut S,
+) -> Result<(), SinkFault>
     ensures text { Gathers (S.taken sink.old) out.old (S.taken sink.new) out.new result (jobs_text jobs.now) }
     ensures count { OnOk result (S.faults sink.new ≡ S.faults sink.old) }
     ensures cause { OnErr result (Rose (S.faults sink.old) (S.faults sink.new)) }
@@ -70,7 +78,7 @@ pub fn print_depth<S: Sink>(depth: &Depth, sink: &mut S) -> Result<(), SinkFault
     ensures cause { OnErr result (Rose (S.faults sink.old) (S.faults sink.new)) }
     ensures later { S.faults sink.old ≤ S.faults sink.new }
 {
-    let mut out = Outgoing::new();
+    let mut out = Outgoing::<TEXT>::new();
     put_numbers(depth, &mut out, sink)?;
     put_jobs(&depth.chain, &mut out, sink)?;
     out.put(b"\n", sink)?;
