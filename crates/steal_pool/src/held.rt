@@ -1,5 +1,5 @@
 // What is run on a seat's lease.
-ghost use Rattle.std.specs.Prelude.{◌≡◌, ◌<◌, ◌+◌, ◌^◌, Some, length};
+ghost use Rattle.std.specs.Prelude.{◌≡◌, ◌<◌, ◌≤◌, ◌+◌, ◌^◌, Some, length};
 ghost use Rattle.frame_print.specs.Reports.{IsReportOf};
 ghost use Rattle.frame_core.specs.declared.piece.Piece.TheVariants.{OfScript};
 ghost use Rattle.frame_core.specs.Names.{job_pieces};
@@ -96,6 +96,7 @@ fn run_segment_on<B: Board, K: Holding, S: Sink>(
     ensures still { IsStill (B.know seat) (B.know result.seat) }
     ensures cells { (B.know result.seat).cells ≡ segment_cells plan.now i }
     ensures text { SaysTo S.taken S.faults sink.old sink.new failed.old failed.new (segment_lines plan.now i) }
+    ensures later { S.faults sink.old ≤ S.faults sink.new }
     ensures refused { refused.new ≡ refused.old + segment_refused plan.now i }
     ensures traps { i + 1 ≡ length plan.now.segments.items → IsReportOf (plan_traps plan.now) result.traps }
 {
@@ -128,6 +129,7 @@ pub fn hold_segment<B: Board, S: Sink>(
     ensures still { IsStill (B.know seat) (B.know result.seat) }
     ensures cells { (B.know result.seat).cells ≡ segment_cells plan.now i }
     ensures text { SaysTo S.taken S.faults sink.old sink.new failed.old failed.new (segment_lines plan.now i) }
+    ensures later { S.faults sink.old ≤ S.faults sink.new }
     ensures refused { refused.new ≡ refused.old + segment_refused plan.now i }
     ensures traps { i + 1 ≡ length plan.now.segments.items → IsReportOf (plan_traps plan.now) result.traps }
 {

@@ -69,6 +69,7 @@ fn say_op<M: Mem, S: Sink>(
     requires stands { MayPrint op.now.act (M.cells mem.old) }
     ensures text { SaysTo S.taken S.faults sink.old sink.new failed.old failed.new
         (said_line plan.now op.now (M.cells mem.old) answer) }
+    ensures later { S.faults sink.old ≤ S.faults sink.new }
     ensures cells { M.cells mem.new ≡ M.cells mem.old }
     ensures readable { M.readable mem.new ≡ M.readable mem.old }
     ensures writable { M.writable mem.new ≡ M.writable mem.old }
@@ -98,6 +99,7 @@ fn run_op<M: Mem, S: Sink>(
     ensures refused { one_if result ≡ one_if_refused (op_answer plan.now op.now (M.cells mem.old)) }
     ensures text { SaysTo S.taken S.faults sink.old sink.new failed.old failed.new
         (op_line plan.now op.now (M.cells mem.old)) }
+    ensures later { S.faults sink.old ≤ S.faults sink.new }
     ensures cells { M.cells mem.new ≡ op_cells plan.now op.now (M.cells mem.old) }
     ensures readable { M.readable mem.new ≡ M.readable mem.old }
     ensures writable { M.writable mem.new ≡ M.writable mem.old }
@@ -124,6 +126,7 @@ pub fn run_ops<M: Mem, S: Sink>(
     requires few { refused.old + ops_refused plan.now ops.now (M.cells mem.old) < 2 ^ 64 }
     ensures text { SaysTo S.taken S.faults sink.old sink.new failed.old failed.new
         (ops_lines plan.now ops.now (M.cells mem.old)) }
+    ensures later { S.faults sink.old ≤ S.faults sink.new }
     ensures refused { refused.new ≡ refused.old + ops_refused plan.now ops.now (M.cells mem.old) }
     ensures cells { M.cells mem.new ≡ ops_cells plan.now ops.now (M.cells mem.old) }
     ensures readable { M.readable mem.new ≡ M.readable mem.old }

@@ -1,12 +1,13 @@
 // Pieces of jobs: opening them, running one, and what follows when a job is finished.
-ghost use Rattle.std.specs.Prelude.{◌≡◌, ◌+◌, ◌<◌, ◌≤◌, ℕ, suc, Some, None, length, All};
+ghost use Rattle.std.specs.Prelude.{◌≡◌, ◌+◌, ◌<◌, ◌≤◌, ℕ, suc, Some, None, IfSome, length, All};
 ghost use Rattle.frame_core.specs.Names.{job_pieces};
 ghost use Rattle.frame_core.specs.Ordered.{IsWellOrderedPlan};
 ghost use Rattle.steal_pool.specs.Followers.{IsJobOf, AreFollowers};
 ghost use Rattle.steal_pool.specs.Crews.{IsCrewOf};
 ghost use Rattle.steal_pool.specs.Seats.{IsIdle, IsOn, IsSteady, IsReleased, MayOpenFrom, HasDues};
 
-use crate::crew::Crew;
+use crate::claims::Claims;
+use crate::crew::{Crew, Shared};
 use crate::followers::Followers;
 use crate::held::hold_part;
 use crate::place::Tools;
@@ -14,7 +15,7 @@ use crate::queue::Queue;
 use frame_core::{Board, Plan};
 use job_base::{Gate, JobId, PieceId};
 
-// Opens the pieces of a job, and offers each of them once it is open, so that whoever finds it can begin it.
+// Opens the pieces of a job, and then offers the job, so that whoever finds it can begin them.
 fn open_job<B: Board>(plan: &Plan, board: &B, seat: &mut B::Seat, queue: &mut Queue, job: JobId)
     requires plan { plan.now ≡ B.plan board.now }
     requires well { IsWellOrderedPlan plan.now }
@@ -28,8 +29,8 @@ fn open_job<B: Board>(plan: &Plan, board: &B, seat: &mut B::Seat, queue: &mut Qu
     let first = entry.first.0;
     for p in first..first + entry.pieces() {
         board.open_piece(seat, PieceId(p));
-        queue.push(PieceId(p));
     }
+    queue.push(job);
 }
 
 // Ends the duty to release a job, and opens it where nothing is left to wait for.
@@ -109,7 +110,7 @@ fn end_piece<B: Board>(
     }
 }
 
-// Runs a piece of a job, if it is open. A number that is no piece of a job, or is not open, is let go.
+// Runs a piece of a job, if it is open.
 fn run_piece<R, B: Board, G: Gate>(
     crew: &Crew<R, B, G>,
     tools: &mut Tools,
@@ -119,6 +120,7 @@ fn run_piece<R, B: Board, G: Gate>(
     requires crew { IsCrewOf crew.now.plan.now (B.plan crew.now.board.now) crew.now.shared.now.followers }
     requires home { B.home seat ≡ B.name crew.now.board.now }
     requires idle { IsIdle (B.know seat) }
+    requires piece { piece.0 < job_pieces crew.now.plan.now }
     ensures home { B.home result.seat ≡ B.home seat }
     ensures idle { IsIdle (B.know result.seat) }
     ensures on { IsOn (B.know seat) (B.know result.seat) }
@@ -126,7 +128,7 @@ fn run_piece<R, B: Board, G: Gate>(
     let plan = crew.plan;
     let board = crew.board;
     let mut own = seat;
-    if piece.0 >= plan.job_pieces() || !board.begin(&mut own, piece) {
+    if !board.begin(&mut own, piece) {
         return Ran {
             seat: own,
             ran: false,
@@ -149,7 +151,54 @@ fn run_piece<R, B: Board, G: Gate>(
     }
 }
 
-/// Runs a piece of a job, if one is found that is open.
+// How many offers of jobs without a piece left are let go on the way, before a turn ends without a piece.
+const SPENT_OFFERS: u32 = 64;
+
+// The next piece of the job at hand.
+fn at_hand(plan: &Plan, claims: &Claims, tools: &mut Tools) -> Option<PieceId>
+    requires well { IsWellOrderedPlan plan.now }
+    ensures piece { IfSome result (λ piece. piece.0 < job_pieces plan.now) }
+{
+    let job = tools.at_hand?;
+    match claims.next(plan, job) {
+        Some(claimed) => Some(claimed.piece),
+        None => {
+            tools.at_hand = None;
+            None
+        }
+    }
+}
+
+// Takes up a job that is offered, and offers it again where it has more pieces than the one that is answered.
+fn take_up(plan: &Plan, shared: &Shared, tools: &mut Tools) -> Option<PieceId>
+    requires well { IsWellOrderedPlan plan.now }
+    ensures piece { IfSome result (λ piece. piece.0 < job_pieces plan.now) }
+{
+    for _ in 0..SPENT_OFFERS {
+        let job = tools.queue.find(tools.number, &shared.thieves)?;
+        if let Some(claimed) = shared.claims.next(plan, job) {
+            if claimed.more {
+                tools.at_hand = Some(job);
+                tools.queue.push(job);
+            }
+            return Some(claimed.piece);
+        }
+    }
+    None
+}
+
+// The next piece of a job that is for this worker to run.
+fn next_piece(plan: &Plan, shared: &Shared, tools: &mut Tools) -> Option<PieceId>
+    requires well { IsWellOrderedPlan plan.now }
+    ensures piece { IfSome result (λ piece. piece.0 < job_pieces plan.now) }
+{
+    if let Some(piece) = at_hand(plan, &shared.claims, tools) {
+        return Some(piece);
+    }
+    take_up(plan, shared, tools)
+}
+
+/// Runs a piece of a job, if one is found that is open: of the job at hand, or else of one that it takes up.
 pub fn help<R, B: Board, G: Gate>(
     crew: &Crew<R, B, G>,
     tools: &mut Tools,
@@ -162,7 +211,7 @@ pub fn help<R, B: Board, G: Gate>(
     ensures idle { IsIdle (B.know result.seat) }
     ensures on { IsOn (B.know seat) (B.know result.seat) }
 {
-    match tools.queue.find(tools.number, &crew.shared.thieves) {
+    match next_piece(crew.plan, crew.shared, tools) {
         Some(piece) => run_piece(crew, tools, seat, piece),
         None => Ran { seat, ran: false },
     }

@@ -2,7 +2,7 @@
 ghost use Rattle.std.specs.Prelude.{◌≡◌, IfOk, Some};
 
 use crate::queue::Queue;
-use job_base::NoMemory;
+use job_base::{JobId, NoMemory};
 use kernel_exec::Scratch;
 use std::alloc::Global;
 
@@ -11,6 +11,8 @@ use std::alloc::Global;
 pub struct Tools {
     pub number: u32,
     pub queue: Queue,
+    /// The job whose pieces it runs, one after another, while it has some left.
+    pub at_hand: Option<JobId>,
     pub scratch: Scratch,
 }
 
@@ -22,8 +24,8 @@ pub struct Place<S> {
 }
 
 impl<S: Drop> Place<S> {
-    /// The place of that number, whose deque has room for so many pieces.
-    pub fn new(alloc: Global, number: u32, seat: S, capacity: u32) -> Result<Place<S>, NoMemory>
+    /// The place of that number, whose deque has room for so many pushes.
+    pub fn new(alloc: Global, number: u32, seat: S, capacity: usize) -> Result<Place<S>, NoMemory>
         ensures { IfOk result (λ place. place.seat ≡ Some seat) }
     {
         let queue = Queue::new(alloc, capacity)?;
@@ -33,6 +35,7 @@ impl<S: Drop> Place<S> {
             tools: Tools {
                 number,
                 queue,
+                at_hand: None,
                 scratch,
             },
         })

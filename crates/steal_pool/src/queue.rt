@@ -1,19 +1,19 @@
-// A worker's own pieces of jobs, which other workers may steal.
+// A worker's own open jobs, which other workers may steal.
 ghost use Rattle.std.specs.Prelude.{◌≤◌};
 ghost use Rattle.crossbeam_deque.specs.Handles.{worker_capacity, worker_index};
 
 use crossbeam_deque::protocol::Free;
 use crossbeam_deque::{Steal, Stealer, Worker};
-use job_base::{NoMemory, PieceId};
+use job_base::{JobId, NoMemory};
 use std::alloc::Global;
 
-/// A deque of pieces that takes no memory: it has as many slots as its worker makes pushes.
+/// A deque of jobs that takes no memory: it has as many slots as its worker makes pushes.
 ///
 /// Fewer slots don't do. Where the slots are used again, a push that meets a thief halfway through its steal makes the
 /// deque grow, also where it isn't full.
 #[derive(Drop)]
 pub struct Queue {
-    pub own: Worker<PieceId>,
+    pub own: Worker<JobId>,
     pub pushes: u64,
     pub capacity: u64,
     pub ghost room: { capacity ≤ worker_capacity own },
@@ -21,21 +21,21 @@ pub struct Queue {
 }
 
 impl Queue {
-    /// An empty deque with room for so many pieces, whatever is popped in between.
-    pub fn new(alloc: Global, capacity: u32) -> Result<Queue, NoMemory> {
-        let own = Worker::new_lifo(alloc, capacity as usize)?;
+    /// An empty deque with room for so many pushes, whatever is popped in between.
+    pub fn new(alloc: Global, capacity: usize) -> Result<Queue, NoMemory> {
+        let own = Worker::new_lifo(alloc, capacity)?;
         Ok(Queue {
             own,
             pushes: 0,
-            capacity: u64::from(capacity),
+            capacity: capacity as u64,
         })
     }
 
-    /// Offers a piece to all workers. A push past the capacity would be left out. There is none: the capacity is the
-    /// number of all pieces of jobs, and each of them is opened once.
-    pub fn push(&mut self, piece: PieceId) {
+    /// Offers a job to all workers. A push past the capacity would be left out. There is none: the capacity is twice the
+    /// number of jobs, and a worker opens a job at most once, and offers it again at most once.
+    pub fn push(&mut self, job: JobId) {
         if self.pushes < self.capacity {
-            let pushed = self.own.push_as::<Free>(piece);
+            let pushed = self.own.push_as::<Free>(job);
             self.pushes += 1;
             match pushed {
                 Ok(()) => {}
@@ -44,22 +44,22 @@ impl Queue {
         }
     }
 
-    /// The newest piece of its own, or else the oldest one of another's. It looks at the others in turn from the place
+    /// The newest job of its own, or else the oldest one of another's. It looks at the others in turn from the place
     /// behind its own on, so that thieves don't all meet at the first one.
-    pub fn find(&mut self, worker: u32, thieves: &[Stealer<PieceId>]) -> Option<PieceId> {
-        if let Some(piece) = self.own.pop() {
-            return Some(piece);
+    pub fn find(&mut self, worker: u32, thieves: &[Stealer<JobId>]) -> Option<JobId> {
+        if let Some(job) = self.own.pop() {
+            return Some(job);
         }
         let behind = thieves.len().min(worker as usize + 1);
         steal(&thieves[behind..]).or_else(|| steal(&thieves[..behind]))
     }
 }
 
-// The oldest piece of the first of them that has one.
-fn steal(thieves: &[Stealer<PieceId>]) -> Option<PieceId> {
+// The oldest job of the first of them that has one.
+fn steal(thieves: &[Stealer<JobId>]) -> Option<JobId> {
     for thief in thieves {
-        if let Steal::Success(piece) = thief.steal() {
-            return Some(piece);
+        if let Steal::Success(job) = thief.steal() {
+            return Some(job);
         }
     }
     None

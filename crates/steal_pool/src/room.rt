@@ -4,6 +4,7 @@ ghost use Rattle.job_base.specs.declared.limits.TheConstants.{MOST_WORKERS};
 ghost use Rattle.frame_core.specs.Ordered.{IsWellOrderedPlan};
 ghost use Rattle.steal_pool.specs.Rooms.{HasSeats};
 
+use crate::claims::Claims;
 use crate::crew::Shared;
 use crate::followers::Followers;
 use crate::place::Place;
@@ -22,7 +23,7 @@ pub struct PoolRoom<T> {
 }
 
 impl<T: Drop> PoolRoom<T> {
-    /// A place for each seat, in their order. Each deque has room for all pieces of jobs.
+    /// A place for each seat, in their order. Each deque has room for every job twice.
     pub fn make(alloc: Global, plan: &Plan, seats: Vec<T>) -> Result<PoolRoom<T>, NoMemory>
         requires well { IsWellOrderedPlan plan.now }
         requires some { 0 < vec_len seats }
@@ -30,7 +31,8 @@ impl<T: Drop> PoolRoom<T> {
         ensures { IfOk result (HasSeats plan.now seats.items) }
     {
         let followers = Followers::of_plan(alloc, plan)?;
-        let capacity = plan.job_pieces();
+        let claims = Claims::of_plan(alloc, plan)?;
+        let capacity = plan.jobs.len().saturating_mul(2);
         let mut rest = seats;
         let first = Place::new(alloc, 0, rest.remove(0), capacity)?;
         let mut thieves = Vec::with_capacity(alloc, rest.len() + 1)?;
@@ -46,6 +48,7 @@ impl<T: Drop> PoolRoom<T> {
             others,
             shared: Shared {
                 followers,
+                claims,
                 thieves,
                 over: AtomicCell::new(false),
             },

@@ -1,5 +1,5 @@
 // The script thread: the segments one after another.
-ghost use Rattle.std.specs.Prelude.{◌≡◌, ◌<◌, ◌+◌, ◌^◌, None, IfSome, ℕ, List, length};
+ghost use Rattle.std.specs.Prelude.{◌≡◌, ◌<◌, ◌≤◌, ◌+◌, ◌^◌, None, IfSome, ℕ, List, length};
 ghost use Rattle.frame_ast.specs.States.{JobTrap};
 ghost use Rattle.frame_print.specs.Reports.{IsReportOf};
 ghost use Rattle.frame_core.specs.Know.{due_once};
@@ -66,6 +66,7 @@ fn run_next<R: Wait, B: Board, S: Sink, G: Gate>(
     ensures home { B.home result.seat ≡ B.home seat }
     ensures at { IsAt (i + 1) (B.know result.seat) }
     ensures text { SaysTo S.taken S.faults sink.old sink.new failed.old failed.new (segment_lines crew.now.plan.now i) }
+    ensures later { S.faults sink.old ≤ S.faults sink.new }
     ensures refused { refused.new ≡ refused.old + segment_refused crew.now.plan.now i }
     ensures traps { i + 1 ≡ length crew.now.plan.now.segments.items
         → IsReportOf (plan_traps crew.now.plan.now) result.traps }
@@ -122,6 +123,7 @@ pub fn run_script<R: Wait, B: Board, S: Sink, G: Gate>(
     ensures at { IsAt (length crew.now.plan.now.segments.items) (B.know result.seat) }
     ensures run { RunsTo S.taken S.faults crew.now.plan.now (plan_lines crew.now.plan.now)
         sink.old sink.new result.end }
+    ensures later { S.faults sink.old ≤ S.faults sink.new }
 {
     let mut own = seat;
     let mut failed = false;

@@ -1,5 +1,5 @@
 // A segment, on any memory.
-ghost use Rattle.std.specs.Prelude.{◌≡◌, ◌<◌, ◌+◌, ◌^◌, true, length};
+ghost use Rattle.std.specs.Prelude.{◌≡◌, ◌<◌, ◌≤◌, ◌+◌, ◌^◌, true, length};
 ghost use Rattle.frame_print.specs.Reports.{IsReportOf};
 ghost use Rattle.frame_core.specs.declared.piece.Piece.TheVariants.{OfScript};
 ghost use Rattle.frame_core.specs.Effects.{touches, piece_cells};
@@ -51,6 +51,7 @@ pub fn run_segment<M: Mem, S: Sink>(
     requires writable { MayWriteIn (touches plan.now (OfScript i)) (M.writable mem.old) }
     ensures cells { M.cells mem.new ≡ segment_cells plan.now i }
     ensures text { SaysTo S.taken S.faults sink.old sink.new failed.old failed.new (segment_lines plan.now i) }
+    ensures later { S.faults sink.old ≤ S.faults sink.new }
     ensures refused { refused.new ≡ refused.old + segment_refused plan.now i }
     ensures traps { i + 1 ≡ length plan.now.segments.items → IsReportOf (plan_traps plan.now) result }
     ensures readable { M.readable mem.new ≡ M.readable mem.old }

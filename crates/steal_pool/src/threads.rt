@@ -1,5 +1,5 @@
 // The threads of a run.
-ghost use Rattle.std.specs.Prelude.{◌≡◌, ◌<◌, All, length};
+ghost use Rattle.std.specs.Prelude.{◌≡◌, ◌<◌, ◌≤◌, All, length};
 ghost use Rattle.std.specs.Thread.{IsSync};
 ghost use Rattle.job_base.specs.declared.limits.TheConstants.{MOST_WORKERS};
 ghost use Rattle.frame_core.specs.Output.{plan_lines};
@@ -83,6 +83,7 @@ where
     requires first { IsFirst B.home B.know (B.name board.now) 0 place.old }
     ensures first { IsFirst B.home B.know (B.name board.now) (length plan.now.segments.items) place.new }
     ensures run { RunsTo S.taken S.faults plan.now (plan_lines plan.now) sink.old sink.new result }
+    ensures later { S.faults sink.old ≤ S.faults sink.new }
 {
     let crew = Crew {
         rt,
@@ -158,6 +159,7 @@ where
     requires many { length others.old < MOST_WORKERS }
     ensures first { IsFirst B.home B.know (B.name board.now) (length (P.shown plan.now).segments.items) first.new }
     ensures run { RunsTo S.taken S.faults (P.shown plan.now) (plan_lines (P.shown plan.now)) sink.old sink.new result }
+    ensures later { S.faults sink.old ≤ S.faults sink.new }
 {
     let busy = others.len().min(plan.plan().job_pieces() as usize);
     if busy == 0 {
@@ -177,6 +179,7 @@ where
             (length (P.shown plan.entry.now).segments.items) first.exit.now }
         ensures run { RunsTo S.taken S.faults (P.shown plan.entry.now) (plan_lines (P.shown plan.entry.now))
             sink.entry.now sink.exit.now result }
+        ensures later { S.faults sink.entry.now ≤ S.faults sink.exit.now }
     { run_script_on(rt, plan.plan(), board, gate, shared, first, sink) };
     let (_, end) = join_mut(rt, &mut f, &mut g);
     end

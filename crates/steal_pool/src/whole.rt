@@ -1,5 +1,5 @@
 // A run in a room.
-ghost use Rattle.std.specs.Prelude.{◌≡◌, length};
+ghost use Rattle.std.specs.Prelude.{◌≡◌, ◌≤◌, length};
 ghost use Rattle.frame_core.specs.Output.{plan_lines, plan_output};
 ghost use Rattle.frame_core.specs.Ordered.{IsWellOrderedPlan};
 ghost use Rattle.steal_pool.specs.Rooms.{IsRoomOf, IsRunRoom};
@@ -31,6 +31,7 @@ where
     requires room { IsRoomOf B.home B.know (P.shown plan.now) (B.name board.now) room.old }
     ensures room { IsRunRoom B.home B.know (P.shown plan.now) (B.name board.now) room.new }
     ensures run { RunsTo S.taken S.faults (P.shown plan.now) (plan_lines (P.shown plan.now)) sink.old sink.new result }
+    ensures sink_later { S.faults sink.old ≤ S.faults sink.new }
 {
     run_places(
         rt,
@@ -63,6 +64,7 @@ where
     requires room { IsRoomOf B.home B.know (P.shown plan.now) (B.name board.now) room.old }
     ensures room { IsRunRoom B.home B.know (P.shown plan.now) (B.name board.now) room.new }
     ensures run { RunsTo S.taken S.faults (P.shown plan.now) (plan_output (P.shown plan.now)) sink.old sink.new result }
+    ensures sink_later { S.faults sink.old ≤ S.faults sink.new }
 {
     match run_lines(rt, plan, board, room, sink, gate) {
         RunEnd::Done(report) => match print_traps(&report, sink) {

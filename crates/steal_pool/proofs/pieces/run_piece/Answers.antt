@@ -1,28 +1,18 @@
-use Rattle.std.proofs.Common.{◌<◌, arith}
-use Rattle.frame_core.specs.Names.{job_pieces}
 use Rattle.steal_pool.proofs.Turns.{begins, part_owed, part_dues, part_on}
 use Rattle.steal_pool.proofs.pieces.run_piece.Goals as goal
 
 pub begin-requires-clause-first : goal.begin-requires-clause-first
 begin-requires-clause-first g c =
-    let n = c.job_pieces.ensures in let t = c.if-piece-job_pieces.false in
-    let lt : c.args.piece.0 < job_pieces c.args.crew.now.plan.now = omega (arith, n, t) in
-    begins c.args.crew.now.plan.now (g.B.Board.plan c.args.crew.now.board.now) c.requires.crew.plan_is c.args.piece.0 lt (g.B.Board.know c.args.seat)
+    begins c.args.crew.now.plan.now (g.B.Board.plan c.args.crew.now.board.now) c.requires.crew.plan_is c.args.piece.0 c.requires.piece (g.B.Board.know c.args.seat)
 
 pub end_piece-requires-clause-owed : goal.end_piece-requires-clause-owed
 end_piece-requires-clause-owed g c =
-    let n = c.job_pieces.ensures in let t = c.if-piece-job_pieces.false in
-    let lt : c.args.piece.0 < job_pieces c.args.crew.now.plan.now = omega (arith, n, t) in
-    part_owed c.args.crew.now.plan.now (g.B.Board.plan c.args.crew.now.board.now) c.requires.crew.plan_is c.args.piece.0 lt (g.B.Board.know c.args.seat) (g.B.Board.know c.begin.new.seat) (g.B.Board.know c.hold_part-own.result) (g.B.Board.know c.end.new.seat) c.begin.result c.if-not-begin.false c.begin.ensures.know c.hold_part-own.ensures.still c.end.ensures.know
+    part_owed c.args.crew.now.plan.now (g.B.Board.plan c.args.crew.now.board.now) c.requires.crew.plan_is c.args.piece.0 c.requires.piece (g.B.Board.know c.args.seat) (g.B.Board.know c.begin.new.seat) (g.B.Board.know c.hold_part-own.result) (g.B.Board.know c.end.new.seat) c.begin.result c.if-not-begin.false c.begin.ensures.know c.hold_part-own.ensures.still c.end.ensures.know
 
 pub end_piece-requires-clause-dues : goal.end_piece-requires-clause-dues
 end_piece-requires-clause-dues g c =
-    let n = c.job_pieces.ensures in let t = c.if-piece-job_pieces.false in
-    let lt : c.args.piece.0 < job_pieces c.args.crew.now.plan.now = omega (arith, n, t) in
-    part_dues c.args.crew.now.plan.now (g.B.Board.plan c.args.crew.now.board.now) c.requires.crew.plan_is c.args.piece.0 lt (g.B.Board.know c.args.seat) (g.B.Board.know c.begin.new.seat) (g.B.Board.know c.hold_part-own.result) (g.B.Board.know c.end.new.seat) c.begin.result c.if-not-begin.false c.begin.ensures.know c.hold_part-own.ensures.still c.end.ensures.know c.requires.idle.dues
+    part_dues c.args.crew.now.plan.now (g.B.Board.plan c.args.crew.now.board.now) c.requires.crew.plan_is c.args.piece.0 c.requires.piece (g.B.Board.know c.args.seat) (g.B.Board.know c.begin.new.seat) (g.B.Board.know c.hold_part-own.result) (g.B.Board.know c.end.new.seat) c.begin.result c.if-not-begin.false c.begin.ensures.know c.hold_part-own.ensures.still c.end.ensures.know c.requires.idle.dues
 
 pub returns-clause-on : goal.returns-clause-on
 returns-clause-on g c =
-    let n = c.job_pieces.ensures in let t = c.if-piece-job_pieces.false in
-    let lt : c.args.piece.0 < job_pieces c.args.crew.now.plan.now = omega (arith, n, t) in
-    part_on c.args.crew.now.plan.now (g.B.Board.plan c.args.crew.now.board.now) c.requires.crew.plan_is c.args.piece.0 lt (g.B.Board.know c.args.seat) (g.B.Board.know c.begin.new.seat) (g.B.Board.know c.hold_part-own.result) (g.B.Board.know c.end.new.seat) c.begin.result c.if-not-begin.false c.begin.ensures.know c.hold_part-own.ensures.still c.end.ensures.know (g.B.Board.know c.end_piece.new.seat) c.end_piece.ensures.on
+    part_on c.args.crew.now.plan.now (g.B.Board.plan c.args.crew.now.board.now) c.requires.crew.plan_is c.args.piece.0 c.requires.piece (g.B.Board.know c.args.seat) (g.B.Board.know c.begin.new.seat) (g.B.Board.know c.hold_part-own.result) (g.B.Board.know c.end.new.seat) c.begin.result c.if-not-begin.false c.begin.ensures.know c.hold_part-own.ensures.still c.end.ensures.know (g.B.Board.know c.end_piece.new.seat) c.end_piece.ensures.on

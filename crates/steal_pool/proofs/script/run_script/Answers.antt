@@ -10,6 +10,7 @@ loop-i-preserved g c = let i = c.run_next-next.ensures in let v = c.loop-i.invar
   home = i.home ∙ v.home;
   at = i.at;
   says = lines_next c.args.crew.now.plan.now (g.S.Sink.taken c.args.sink.now) (g.S.Sink.taken c.loop-i.sink) (g.S.Sink.taken c.run_next-next.new.sink) (g.S.Sink.faults c.args.sink.now) (g.S.Sink.faults c.loop-i.sink) (g.S.Sink.faults c.run_next-next.new.sink) c.loop-i.failed c.run_next-next.new.failed c.loop-i.i v.says i.text;
+  later = let a = v.later in let b = i.later in omega (arith, a, b);
   refused = refused_next c.args.crew.now.plan.now c.loop-i.i c.loop-i.refused c.run_next-next.new.refused v.refused i.refused;
   traps = λ p e. i.traps e;
 }
