@@ -1,5 +1,5 @@
 -- Scripts that are the same but for where their parts lie in memory are refused alike.
-use Rattle.std.proofs.Common.{◌≡◌, refl, ap, sym, ◌∙◌, ℕ, zero, suc, ◌+◌, Bool, true, false, List, [], ◌∷◌, ◌++◌, Option, None, Some, option_map}
+use Rattle.std.proofs.Common.{◌≡◌, refl, ap, ◌∙◌, ℕ, zero, suc, ◌+◌, Bool, true, false, List, [], ◌∷◌, ◌++◌, Option, None, Some, option_map}
 use Rattle.std.specs.Prelude.{if◌then◌else◌, ◌||◌}
 use Rattle.std.specs.List.{list_any}
 use Rattle.frame_ast.specs.declared.kernel.Kernel.{Kernel}
@@ -26,7 +26,7 @@ use Rattle.tree_laws.specs.Same.{SameKernel, SameOrder, SameStatement, SameScrip
 use Rattle.tree_laws.proofs.Runs.{same_runs}
 use Rattle.tree_laws.proofs.Settings.{same_refusal, same_effect}
 use Rattle.frame_plan.specs.Missing.{lacks_column, is_none}
-use Rattle.frame_top.specs.Refusals.{Answer, answer, column_name, column_refusal, first_when, depth_refusal, limit_refusal, frame_refusal}
+use Rattle.frame_top.specs.Refusals.{answer, column_name, column_refusal, first_when, depth_refusal, limit_refusal, frame_refusal}
 use Rattle.frame_top.specs.declared.status.TheConstants.{TABLE_REFUSED, SCRIPT_REFUSED, PAST_LIMIT}
 
 -- STATEMENTS THAT ARE THE SAME, in one setting

@@ -1,20 +1,19 @@
 -- What the words of a command ask for, and what the command has.
-use Rattle.std.proofs.Common.{◌≡◌, refl, sym, ap, ◌∙◌, subst, ℕ, zero, suc, ◌<◌, ◌≤◌, Bool, true, false, cond, List, [], ◌∷◌, length, Option, None, Some, option_map, string_bytes, replicate, Result, Ok, Err, IfOk, arith}
-use Rattle.std.specs.Prelude.{nat_le, ◌&&◌, ◌||◌, find, IfSome, if◌then◌else◌, unwrap_or}
-use Rattle.std.specs.List.{list_any, list_all}
+use Rattle.std.proofs.Common.{◌≡◌, refl, sym, ap, ◌∙◌, subst, ℕ, suc, ◌<◌, ◌≤◌, Bool, true, false, cond, List, [], ◌∷◌, length, Option, None, Some, option_map, string_bytes, replicate, Result, Ok, Err, IfOk, arith}
+use Rattle.std.specs.Prelude.{nat_le, ◌||◌, find, IfSome}
+use Rattle.std.specs.List.{list_any}
 use Rattle.std.specs.Option.{option_map_or}
 use Rattle.std.proofs.lemmas.Bool.{leb-true, and_parts}
 use Rattle.std.proofs.lemmas.List.{length-replicate}
-use Rattle.job_base.specs.declared.limits.TheConstants.{MOST_WORKERS, MOST_SEED, MOST_GENERATED_JOBS, MOST_SCRIPT_BYTES, MOST_TABLE_BYTES}
-use Rattle.job_base.specs.Faults.{Rose}
+use Rattle.job_base.specs.declared.limits.TheConstants.{MOST_WORKERS, MOST_SEED, MOST_GENERATED_JOBS}
 use Rattle.command_words.specs.declared.command.Command.{Command}
 use Rattle.command_words.specs.declared.command.Command.TheVariants.{Run, Gen}
 use Rattle.command_words.specs.declared.place.Place.{Place}
 use Rattle.command_words.specs.declared.place.Place.TheVariants.{Workers, Number, Jobs, Depth, Script, Table}
-use Rattle.command_words.specs.Words.{Text, Item, Reading, Spells, SpellsItems, reading, is_of_command, is_accepted, has, text_at, same_place, number, workers_of, fits, is_number_in, all_fit}
+use Rattle.command_words.specs.Words.{Text, Item, is_of_command, has, text_at, same_place, number, fits, is_number_in, all_fit}
 use Rattle.script_gen.specs.Scripts.{script_text}
-use Rattle.frame_top.specs.Words.{items_of, script_name, table_name, workers_in, asks_depth, made_by, made_text, table_by}
-use Rattle.frame_top.specs.Inputs.{Told, CanBe, CanBeTable, IsUnread, ReadsSource, source_told, made_or_told, told_by}
+use Rattle.frame_top.specs.Words.{items_of, script_name, table_name, workers_in, made_by, made_text, table_by}
+use Rattle.frame_top.specs.Inputs.{Told, CanBe, CanBeTable, ReadsSource, source_told, made_or_told, told_by}
 use Rattle.frame_top.specs.Asking.{IsAsked}
 
 -- WHAT STANDS AT A PLACE

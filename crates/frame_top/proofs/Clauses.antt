@@ -7,7 +7,7 @@ use Rattle.job_base.specs.Faults.{Rose}
 use Rattle.frame_ast.specs.declared.kernel.FaultKind.TheVariants.{Limit}
 use Rattle.frame_ast.specs.declared.script.Script.{Script}
 use Rattle.frame_ast.specs.declared.script.Statement.{Statement}
-use Rattle.frame_ast.specs.Answers.{usage_line, script_refused_line, limit_line, no_column_line, table_size_line}
+use Rattle.frame_ast.specs.Answers.{script_refused_line, limit_line, no_column_line, table_size_line}
 use Rattle.frame_ast.specs.Limits.{Limit as PlanLimit, limit_of}
 use Rattle.frame_ast.specs.Lists.{first_some}
 use Rattle.frame_ast.specs.Orders.{Table, setting}
@@ -17,11 +17,11 @@ use Rattle.frame_plan.specs.Missing.{lacks_column}
 use Rattle.table_in.specs.declared.TableFault.{TableFault}
 use Rattle.table_in.specs.Rows.{rows_in, table_fault}
 use Rattle.command_words.specs.Words.{Text, is_of_command}
-use Rattle.frame_top.specs.Words.{asks_depth, workers_in}
+use Rattle.frame_top.specs.Words.{asks_depth}
 use Rattle.frame_top.specs.Inputs.{Told, IsUnreadOf, OfScript, OfTable}
 use Rattle.frame_top.specs.Refusals.{Answer, answer, Refuses, Size, Fault, Statements, table_refusal, refused_table, column_name, column_refusal, depth_refusal, limit_refusal, frame_refusal, first_when}
-use Rattle.frame_top.specs.Answers.{Cause, Usage, NoScript, BadScript, NoTable, BadTable, OfFrame, FrameCause, Refused, Ran, Reported, Said, Whole, Part, Answers, Caused, Early, Midway, Hindered, NotRead, NotTaken, NotFound}
-use Rattle.frame_top.specs.declared.status.TheConstants.{DONE, USAGE, SCRIPT_REFUSED, TABLE_REFUSED, UNREAD, UNWRITTEN, NO_MEMORY, PAST_LIMIT}
+use Rattle.frame_top.specs.Answers.{Cause, Usage, NoScript, BadScript, NoTable, BadTable, OfFrame, Refused, Ran, Reported, Whole, Part, Answers, Caused, Early, Midway, Hindered, NotRead, NotTaken, NotFound}
+use Rattle.frame_top.specs.declared.status.TheConstants.{USAGE, SCRIPT_REFUSED, TABLE_REFUSED, UNREAD, UNWRITTEN, NO_MEMORY, PAST_LIMIT}
 
 -- THE STATUSES
 

@@ -1,5 +1,5 @@
 -- What a script and its table answer.
-use Rattle.std.proofs.Common.{◌≡◌, ◌⊎◌, inl, inr, ⊎_elim, refl, sym, ap, ◌∙◌, subst, ℕ, zero, suc, ◌+◌, ◌-◌, ◌<◌, ◌≤◌, Bool, true, false, List, [], ◌∷◌, length, get_or, Option, None, Some, option_map, arith}
+use Rattle.std.proofs.Common.{◌≡◌, ◌⊎◌, ⊎_elim, refl, sym, ap, ◌∙◌, subst, ℕ, zero, suc, ◌-◌, ◌<◌, ◌≤◌, Bool, true, false, List, [], ◌∷◌, length, get_or, Option, None, Some, option_map, arith}
 use Rattle.std.specs.Prelude.{slice_get, if◌then◌else◌, ◌||◌}
 use Rattle.std.specs.Io.KnownBytes.{Appends}
 use Rattle.std.specs.List.{list_any}
@@ -12,7 +12,7 @@ use Rattle.frame_ast.specs.Lists.{first_some}
 use Rattle.frame_ast.specs.Orders.{Table, setting}
 use Rattle.frame_ast.specs.Scripts.{status_of, output_of}
 use Rattle.frame_plan.specs.declared.state.PlanFault.{PlanFault}
-use Rattle.frame_plan.specs.declared.state.PlanFault.TheVariants.{Jobs, Words, NoMemory}
+use Rattle.frame_plan.specs.declared.state.PlanFault.TheVariants.{NoMemory}
 use Rattle.frame_plan.specs.Missing.{lacks_column, missing_from}
 use Rattle.frame_plan.specs.Sections.{limit_told, IsPlanOf}
 use Rattle.frame_core.specs.declared.plan.Plan.{Plan}
@@ -20,7 +20,7 @@ use Rattle.job_depth.specs.declared.report.Depth.{Depth}
 use Rattle.job_depth.specs.Depths.{IsDepthOf}
 use Rattle.job_depth.specs.Texts.{depth_text}
 use Rattle.frame_ast.specs.declared.kernel.FaultKind.TheVariants.{Limit as Limited}
-use Rattle.frame_top.specs.Answers.{Said, SaidTo, AnswersTo, Answers, Caused, Early, Midway, FrameCause, Refused, Ran, Reported, IsCut, has_when}
+use Rattle.frame_top.specs.Answers.{SaidTo, AnswersTo, Answers, Caused, Early, Midway, FrameCause, Refused, Ran, Reported, IsCut, has_when}
 use Rattle.frame_top.specs.Refusals.{Answer, answer, column_name, column_refusal, depth_refusal, limit_refusal, frame_refusal, first_when}
 use Rattle.frame_top.specs.declared.status.TheConstants.{DONE, NO_MEMORY, PAST_LIMIT, SCRIPT_REFUSED, TABLE_REFUSED}
 use Rattle.frame_top.proofs.Saying.{appends_none}

@@ -1,5 +1,5 @@
 -- A statement adds lines, and at most one job.
-use Rattle.std.proofs.Common.{◌≡◌, refl, sym, ap, ◌∙◌, subst, ℕ, zero, suc, ◌+◌, ◌≤◌, Bool, true, false, List, [], ◌∷◌, ◌++◌, length, take, drop, Option, None, Some, Result, Ok, Err, append-nil, arith}
+use Rattle.std.proofs.Common.{◌≡◌, refl, sym, ap, ◌∙◌, ℕ, zero, suc, ◌+◌, ◌≤◌, Bool, true, false, List, [], ◌∷◌, ◌++◌, length, take, drop, Option, None, Some, Result, Ok, Err, append-nil, arith}
 use Rattle.std.specs.Prelude.{if◌then◌else◌, ◌&&◌}
 use Rattle.std.proofs.lemmas.List.{append_assoc}
 use Rattle.job_base.specs.declared.Trap.{Trap}
@@ -11,12 +11,12 @@ use Rattle.frame_ast.specs.declared.script.Order.TheVariants.{Array, Column, Lis
 use Rattle.frame_ast.specs.declared.script.Script.{Script}
 use Rattle.frame_ast.specs.declared.script.Statement.{Statement}
 use Rattle.frame_ast.specs.Contents.{Contents, Cells, Single, Items, Pairs, Entries, cleared}
-use Rattle.frame_ast.specs.Effects.{list_broken, views_broken, broken_by, lost, refuse, changed, all_broken, effect, breaks_views, view_broken, regrown}
-use Rattle.frame_ast.specs.Orders.{Table, Setting, setting, set_in, add_in, put_pair_in, remove_in, capacity_in, params_of, no_table}
+use Rattle.frame_ast.specs.Effects.{list_broken, views_broken, lost, refuse, changed, all_broken, effect, breaks_views, view_broken, regrown}
+use Rattle.frame_ast.specs.Orders.{Table, Setting, setting, set_in, add_in, put_pair_in, remove_in, capacity_in, params_of}
 use Rattle.frame_ast.specs.Refusals.{Refused}
 use Rattle.frame_ast.specs.Checks.{refusal}
-use Rattle.frame_ast.specs.Schedules.{Given, leave, leave_all, writes_to, is_list, givens, arguments_of}
-use Rattle.frame_ast.specs.Scripts.{decided, act_or_pass, act, act_all, final, output_at, output_of}
+use Rattle.frame_ast.specs.Schedules.{Given, leave, leave_all, writes_to, is_list, givens}
+use Rattle.frame_ast.specs.Scripts.{decided, act_or_pass, act, act_all, final, output_of}
 use Rattle.frame_ast.specs.States.{ScriptState, at_start, container_at, contents_at}
 use Rattle.frame_ast.specs.Texts.{traps_text}
 use Rattle.frame_plan.specs.Steps.{state_at}

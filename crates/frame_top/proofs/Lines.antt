@@ -1,8 +1,7 @@
 -- The lines of short parts, as they are written.
-use Rattle.std.proofs.Common.{◌≡◌, ℕ, List, [], ◌++◌, Option, Some, subst, refl, sym, ap, ◌∙◌, append_assoc}
+use Rattle.std.proofs.Common.{◌≡◌, ℕ, List, [], ◌++◌, Option, Some, subst, sym, ap, ◌∙◌, append_assoc}
 use Rattle.std.specs.Prelude.{codes, decimal}
-use Rattle.frame_ast.specs.declared.kernel.FaultKind.{FaultKind}
-use Rattle.frame_ast.specs.Answers.{fault_text, script_refused_line, no_column_line, unequal_row_line, not_number_line}
+use Rattle.frame_ast.specs.Answers.{no_column_line, unequal_row_line, not_number_line}
 use Rattle.frame_ast.specs.Limits.{Limit, TooManyJobs, TooManyWords}
 use Rattle.frame_plan.specs.declared.state.PlanFault.{PlanFault}
 use Rattle.frame_plan.specs.declared.state.PlanFault.TheVariants.{Jobs, Words, NoMemory}
@@ -22,10 +21,6 @@ limit_by NoMemory limit e = absurd cc
 
 pub said_as : (old new : Option (List ℕ)) (before now status result : ℕ) (t text : List ℕ) → t ≡ text → Said old new before now (answer status t) result → Said old new before now (answer status text) result
 said_as old new before now status result t text e p = subst (λ l. Said old new before now (answer status l) result) e p
-
-pub script_line_is : (x y : List ℕ) (line : ℕ) (kind : FaultKind) → x ≡ decimal line → y ≡ fault_text kind
-    → codes "script refused line " ++ (x ++ (codes ": " ++ (y ++ (codes "\n" ++ [])))) ≡ script_refused_line line kind
-script_line_is x y line kind p q = simp (p, q, append_assoc)
 
 pub row_is : (x why : List ℕ) (row : ℕ) → x ≡ decimal row
     → codes "table refused row " ++ (x ++ (codes ": " ++ (why ++ (codes "\n" ++ [])))) ≡ codes "table refused row " ++ decimal row ++ codes ": " ++ why ++ codes "\n"

@@ -1,6 +1,5 @@
 -- The loop over sections.
-use Rattle.std.proofs.Common.{◌≡◌, refl, sym, ap, ◌∙◌, subst, ℕ, zero, suc, ◌<◌, ◌≤◌, Bool, true, false, ℤ, pos, List, [], ◌∷◌, ◌++◌, length, take, Option, None, Some, arith}
-use Rattle.std.specs.List.{list_any}
+use Rattle.std.proofs.Common.{◌≡◌, refl, sym, ap, ◌∙◌, subst, ℕ, zero, suc, ◌≤◌, Bool, true, false, pos, List, [], ◌∷◌, ◌++◌, length, take, Option, None, arith}
 use Rattle.std.specs.Io.KnownBytes.{Appends}
 use Rattle.frame_ast.specs.declared.script.Script.{Script}
 use Rattle.frame_ast.specs.declared.script.Statement.{Statement}
@@ -17,8 +16,8 @@ use Rattle.steal_pool.specs.Says.{SaysTo}
 use Rattle.frame_top.specs.declared.sections.Progress.{Progress}
 use Rattle.frame_top.specs.declared.status.TheConstants.{UNWRITTEN, NO_MEMORY}
 use Rattle.frame_top.specs.Answers.{Said, SaidTo, AnswersTo, Caused, Early, Midway, has_when}
-use Rattle.frame_top.specs.Refusals.{Answer, answer}
-use Rattle.frame_top.specs.Running.{IsReportAt, HasRun, RunsOn, tests_before}
+use Rattle.frame_top.specs.Refusals.{answer}
+use Rattle.frame_top.specs.Running.{IsReportAt, HasRun, RunsOn}
 use Rattle.frame_top.proofs.Growing.{lines_begin}
 use Rattle.frame_top.proofs.Saying.{says_none, says_after, end_said, stop_said, cut_said}
 use Rattle.frame_top.proofs.Whens.{any_counted}
@@ -36,6 +35,7 @@ pub record InSections {S : Type 0} (taken : S → Option (List ℕ)) (faults : S
   pub from : ℕ
   pub ran : HasRun script table sections from book p
   pub said : SaysTo taken faults old new false p.failed (state_at script table from).lines
+  pub later : faults old ≤ faults new
 
 module _ {S : Type 0} (taken : S → Option (List ℕ)) (faults : S → ℕ) (script : Script) (table : Table) where
   pub at_first : (book : SectionBook) (p : Progress) (sink : S) → ((carried : Cells) (len : ℕ) → IsAt book script table 0 carried len)
@@ -57,6 +57,7 @@ module _ {S : Type 0} (taken : S → Option (List ℕ)) (faults : S → ℕ) (sc
           begins = λ e. refl;
         };
         said = subst (λ b. SaysTo taken faults sink sink false b []) (sym failed) (says_none (taken sink) (faults sink) false);
+        later = omega arith;
       }
 
   module _ (sections : ℕ) (old_book book : SectionBook) (p q : Progress) (old mid new : S) (was : InSections taken faults script table sections old_book p old mid) where
@@ -64,8 +65,8 @@ module _ {S : Type 0} (taken : S → Option (List ℕ)) (faults : S → ℕ) (sc
     all_said more next = subst (λ l. SaysTo taken faults old new false q.failed l) (sym next.lines_are)
         (says_after (taken old) (taken mid) (taken new) (faults old) (faults mid) (faults new) false p.failed q.failed (state_at script table was.from).lines next.lines was.said next.said)
 
-    pub one_more : RunsOn taken faults script table sections was.from mid new p.failed book q true → InSections taken faults script table (suc sections) book q old new
-    one_more next = record { from = next.to; ran = next.next refl; said = all_said true next }
+    pub one_more : RunsOn taken faults script table sections was.from mid new p.failed book q true → faults mid ≤ faults new → InSections taken faults script table (suc sections) book q old new
+    one_more next later = let was_later = was.later in record { from = next.to; ran = next.next refl; said = all_said true next; later = omega (arith, was_later, later) }
 
     -- the last section was run, and the traps were told
     pub at_last : (next : RunsOn taken faults script table sections was.from mid new p.failed book q false) (end : S) (result : ℕ)

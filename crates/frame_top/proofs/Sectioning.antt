@@ -1,10 +1,10 @@
 -- One section more.
-use Rattle.std.proofs.Common.{◌≡◌, refl, sym, ap, ◌∙◌, subst, ℕ, zero, suc, ◌+◌, ◌*◌, ◌<◌, ◌≤◌, ◌^◌, Bool, true, false, ℤ, pos, List, [], ◌∷◌, ◌++◌, length, map, take, Option, None, Some, IsSome, IfSome, length-append, arith}
+use Rattle.std.proofs.Common.{◌≡◌, refl, sym, ap, ◌∙◌, subst, ℕ, zero, suc, ◌+◌, ◌*◌, ◌<◌, ◌≤◌, ◌^◌, Bool, true, false, ℤ, List, [], ◌∷◌, ◌++◌, length, map, Option, None, Some, IsSome, length-append, arith}
 use Rattle.std.specs.Prelude.{slice_get, IsTrue, nat_le}
 use Rattle.std.specs.List.{list_any}
 use Rattle.std.proofs.lemmas.Bool.{leb-true}
 use Rattle.std.proofs.lemmas.List.{length-map}
-use Rattle.job_base.specs.declared.limits.TheConstants.{MOST_INDEXES, MOST_JOBS, MOST_STATEMENTS, MOST_TESTS}
+use Rattle.job_base.specs.declared.limits.TheConstants.{MOST_INDEXES, MOST_STATEMENTS, MOST_TESTS}
 use Rattle.job_base.specs.Cells.{cells_of}
 use Rattle.frame_ast.specs.declared.script.Order.{Order}
 use Rattle.frame_ast.specs.declared.script.Order.TheVariants.{Array, Column, List as NewList, Reference, Map, Stream, Slice, View, Copy, Set, Add, Put, Remove, Clear, SetCapacity, Schedule, Combine, Complete, CompleteAuto, Dispose, DisposeAuto, Print, Flush, Frame, When}
@@ -14,21 +14,18 @@ use Rattle.frame_ast.specs.Accepted.{IsAccepted, is_when}
 use Rattle.frame_ast.specs.Arguments.{value_in}
 use Rattle.frame_ast.specs.Orders.{Table, setting, compares}
 use Rattle.frame_ast.specs.States.{JobTrap, ScriptState, contents_at}
-use Rattle.frame_core.specs.declared.plan.Plan.{Plan}
 use Rattle.frame_core.specs.Graphs.{cells_after}
-use Rattle.frame_core.specs.Names.{job_pieces}
-use Rattle.frame_core.specs.Ordered.{IsWellOrderedPlan}
-use Rattle.frame_core.specs.Output.{plan_lines, plan_refused, plan_traps}
+use Rattle.frame_core.specs.Output.{plan_lines, plan_traps}
 use Rattle.frame_print.specs.declared.report.Report.{Report}
 use Rattle.frame_print.specs.Reports.{IsReportOf}
 use Rattle.steal_pool.specs.Runs.{IsReport}
 use Rattle.steal_pool.specs.Says.{SaysTo}
-use Rattle.steal_pool.specs.Sections.{shifted, IsWithin, ReportsAreWithin}
+use Rattle.steal_pool.specs.Sections.{shifted, ReportsAreWithin}
 use Rattle.plan_laws.specs.Planned.{renumbered}
 use Rattle.frame_plan.specs.declared.section.Section.{Section}
 use Rattle.frame_plan.specs.declared.section.Test.{Test}
 use Rattle.frame_plan.specs.declared.sections.SectionBook.{SectionBook}
-use Rattle.frame_plan.specs.Sections.{IsSectionOf, IsTestOf, EndsBy, IsOutcome, AreLeft, IsAt, IsNext, outcome_by, outcome_of}
+use Rattle.frame_plan.specs.Sections.{IsSectionOf, IsTestOf, EndsBy, IsOutcome, AreLeft, IsNext, outcome_by, outcome_of}
 use Rattle.frame_plan.specs.Steps.{state_at}
 use Rattle.frame_top.specs.declared.section.SectionRun.{SectionRun}
 use Rattle.frame_top.specs.declared.sections.Progress.{Progress}

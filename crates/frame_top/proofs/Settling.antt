@@ -1,24 +1,21 @@
 -- What is given settles what is answered.
-use Rattle.std.proofs.Common.{◌≡◌, ◌≢◌, ◌∙◌, ◌⊎◌, inl, inr, ⊎_elim, refl, sym, ap, subst, ℕ, ◌<◌, ◌≤◌, Bool, true, false, List, [], length, take, Option, None, Some, IfSome, arith}
+use Rattle.std.proofs.Common.{◌≡◌, ◌∙◌, ◌⊎◌, inl, inr, ⊎_elim, sym, ap, subst, ℕ, Bool, true, false, List, Option, None, Some, arith}
 use Rattle.std.specs.Io.KnownBytes.{Appends}
-use Rattle.job_base.specs.declared.limits.TheConstants.{MOST_SCRIPT_BYTES}
 use Rattle.job_base.specs.Faults.{Rose}
 use Rattle.frame_ast.specs.declared.kernel.FaultKind.{FaultKind}
 use Rattle.frame_ast.specs.declared.kernel.FaultKind.TheVariants.{TooLong}
 use Rattle.frame_ast.specs.declared.script.Script.{Script}
 use Rattle.frame_ast.specs.Answers.{script_refused_line, usage_line}
-use Rattle.frame_ast.specs.Orders.{Table}
 use Rattle.frame_ast.specs.Scripts.{status_of, output_of}
-use Rattle.frame_script.specs.Loading.{IsRefused}
 use Rattle.tree_laws.specs.Same.{SameScript}
 use Rattle.tree_laws.proofs.Scripts.{same_scripts_run_alike}
 use Rattle.text_laws.proofs.Laws.{scripts_are_spelled_once, refusals_are_once, spelled_is_not_refused}
 use Rattle.command_words.specs.Words.{Text, is_of_command}
-use Rattle.frame_top.specs.Words.{asks_depth, workers_in, script_name, table_name}
-use Rattle.frame_top.specs.Inputs.{Told, source_told, CanBe, CanBeTable, IsTable, Accepts, ReadsSource, ReadsScript, Reads, IsSource, IsGiven, IsUnread}
+use Rattle.frame_top.specs.Words.{asks_depth, workers_in, table_name}
+use Rattle.frame_top.specs.Inputs.{Told, source_told, CanBe, CanBeTable, IsTable, Accepts, ReadsSource, ReadsScript, Reads, IsSource, IsGiven}
 use Rattle.frame_top.specs.Refusals.{Answer, answer, Refuses, Size, Fault, Statements, table_refusal, table_of, frame_refusal}
 use Rattle.frame_top.specs.Answers.{Cause, Usage, NoScript, BadScript, NoTable, BadTable, OfFrame, FrameCause, Refused, Ran, Reported, IsDepthReport, IsFrame, Answers, Caused, Early, Midway, Whole, Part, Hindered}
-use Rattle.frame_top.specs.declared.status.TheConstants.{DONE, USAGE, UNREAD, UNWRITTEN, NO_MEMORY, SCRIPT_REFUSED, PAST_LIMIT}
+use Rattle.frame_top.specs.declared.status.TheConstants.{DONE, USAGE, UNREAD, UNWRITTEN, NO_MEMORY, SCRIPT_REFUSED}
 use Rattle.frame_top.proofs.Alike.{same_frame_refusal}
 
 none_some : {A : Type 0} (x : A) → None ≡ Some x → ⊥

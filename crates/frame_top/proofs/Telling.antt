@@ -1,6 +1,6 @@
 -- Why a call answers what it does.
 use Rattle.std.proofs.Common.{◌≡◌, ◌≢◌, ◌⊎◌, ◌≤◌, inl, inr, ⊎_elim, refl, sym, ap, ◌∙◌, subst, ℕ, ◌<◌, Bool, true, false, List, length, Option, None, Some, Result, Ok, Err, ◌↔◌, lt-ltb}
-use Rattle.std.specs.Prelude.{nat_lt, if◌then◌else◌, option_map}
+use Rattle.std.specs.Prelude.{if◌then◌else◌, option_map}
 use Rattle.job_base.specs.declared.limits.TheConstants.{MOST_TABLE_BYTES, MOST_SCRIPT_BYTES}
 use Rattle.frame_ast.specs.declared.kernel.FaultKind.{FaultKind}
 use Rattle.frame_ast.specs.declared.kernel.FaultKind.TheVariants.{Syntax, UnknownName, DuplicateName, KindMismatch, ReadOfWriteOnly, WriteOfReadOnly, Limit, TooLong}
@@ -14,10 +14,10 @@ use Rattle.table_in.specs.declared.TableFault.TheVariants as fault
 use Rattle.table_in.specs.Columns.{NamedColumn}
 use Rattle.table_in.specs.Rows.{rows_in, table_fault}
 use Rattle.command_words.specs.Words.{Text}
-use Rattle.frame_top.specs.Words.{asks_depth, workers_in, table_name}
-use Rattle.frame_top.specs.Inputs.{Told, CanBeTable, ReadsSource, ReadsScript, Reads, IsUnread, IsUnreadOf}
-use Rattle.frame_top.specs.Refusals.{Answer, answer, Refuses, Fault, Statements, table_refusal, refused_table, named_columns, table_of}
-use Rattle.frame_top.specs.Answers.{AnswersTo, Answers, Caused, Early, Midway, Cause, BadScript, BadTable, OfFrame, FrameCause, IsCut, CanBeCut, SaidTo}
+use Rattle.frame_top.specs.Words.{asks_depth, workers_in}
+use Rattle.frame_top.specs.Inputs.{Told, ReadsSource, Reads, IsUnreadOf}
+use Rattle.frame_top.specs.Refusals.{answer, Fault, Statements, table_refusal, refused_table, named_columns}
+use Rattle.frame_top.specs.Answers.{AnswersTo, Answers, Caused, Cause, BadScript, BadTable, OfFrame, FrameCause, IsCut, CanBeCut, SaidTo}
 use Rattle.frame_top.specs.declared.status.TheConstants.{NO_MEMORY, PAST_LIMIT, SCRIPT_REFUSED}
 use Rattle.frame_top.proofs.Framing.{by_cause, none_said}
 

@@ -2,13 +2,12 @@
 --
 -- Every answer is a status and a text, and has one cause. The text is written whole, or a first part of it where the
 -- sink fails, and then the status is another.
-use Rattle.std.specs.Prelude.{◌≡◌, ◌≢◌, ◌⊎◌, ℕ, ◌≤◌, Bool, true, false, List, [], ◌∷◌, take, codes, Option, None, Some, nat_eq, IsTrue}
+use Rattle.std.specs.Prelude.{◌≡◌, ◌⊎◌, ℕ, Bool, true, false, List, [], take, Option, None, Some}
 use Rattle.std.specs.List.{list_any}
 use Rattle.std.specs.Io.KnownBytes.{Appends}
 use Rattle.job_base.specs.Faults.{Rose}
 use Rattle.frame_core.specs.declared.plan.Plan.{Plan}
 use Rattle.frame_ast.specs.declared.script.Script.{Script}
-use Rattle.frame_ast.specs.declared.script.Statement.{Statement}
 use Rattle.frame_ast.specs.Accepted.{is_when}
 use Rattle.frame_ast.specs.Answers.{usage_line, no_script_line, no_table_line}
 use Rattle.frame_ast.specs.Orders.{Table}

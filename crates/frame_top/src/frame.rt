@@ -66,6 +66,7 @@ fn report_depth<S: Sink>(
     ensures answer { AnswersTo S.taken S.faults sink.old sink.new
         (FrameCause script.now (columns_of table.now) true workers)
         (IsCut script.now (columns_of table.now) true) result }
+    ensures later { S.faults sink.old ≤ S.faults sink.new }
 {
     if let Some(line) = first_when(script) {
         return refuse_script(line, FaultKind::Limit, sink);
@@ -99,6 +100,7 @@ fn run_script<R: Threads + Wait + Sync, S: Sink, G: Gate + Sync>(
     ensures answer { AnswersTo S.taken S.faults sink.old sink.new
         (FrameCause script.now (columns_of table.now) false workers)
         (IsCut script.now (columns_of table.now) false) result }
+    ensures later { S.faults sink.old ≤ S.faults sink.new }
 {
     match SectionBook::new(alloc, script, table) {
         Ok(book) => run_sections(rt, alloc, script, table, workers, book, sink, gate),
@@ -121,6 +123,7 @@ pub fn answer_frame<R: Threads + Wait + Sync, S: Sink, G: Gate + Sync>(
     ensures answer { AnswersTo S.taken S.faults sink.old sink.new
         (FrameCause script.now (columns_of table.now) options.depth options.workers)
         (IsCut script.now (columns_of table.now) options.depth) result }
+    ensures later { S.faults sink.old ≤ S.faults sink.new }
 {
     if let Some(place) = missing_column(script, table) {
         let name = column_name(&script.statements[place as usize].act);

@@ -78,6 +78,7 @@ fn run_on_board<R: Threads + Wait + Sync, P: ShowsPlan + Sync, S: Sink, G: Gate 
         sink.old sink.new r.end) }
     ensures left { IfOk result (λ r. keeps ≡ true → AreCellsOf (P.shown plan.now) r.left) }
     ensures none { OnErr result (sink.new ≡ sink.old) }
+    ensures later { S.faults sink.old ≤ S.faults sink.new }
 {
     let mut left = cells_for(alloc, plan.plan(), keeps)?;
     let seats = busy_workers(plan.plan(), workers);
@@ -106,6 +107,7 @@ fn run_plan<R: Threads + Wait + Sync, S: Sink, G: Gate + Sync>(
     requires workers { (1 ≤ workers) × (workers ≤ MOST_WORKERS) }
     ensures run { IfOk result (HasRunPlan S.taken S.faults plan.now keeps false sink.old sink.new) }
     ensures none { OnErr result (sink.new ≡ sink.old) }
+    ensures later { S.faults sink.old ≤ S.faults sink.new }
 {
     let BoardRun { end, left } = run_on_board(rt, alloc, plan, workers, keeps, sink, gate)?;
     match end {
@@ -138,6 +140,7 @@ pub fn run_section<R: Threads + Wait + Sync, S: Sink, G: Gate + Sync>(
     requires workers { (1 ≤ workers) × (workers ≤ MOST_WORKERS) }
     ensures run { IfOk result (HasRunPlan S.taken S.faults plan.now keeps failed sink.old sink.new) }
     ensures none { OnErr result (sink.new ≡ sink.old) }
+    ensures later { S.faults sink.old ≤ S.faults sink.new }
 {
     if !failed {
         return run_plan(rt, alloc, plan, workers, keeps, sink, gate);

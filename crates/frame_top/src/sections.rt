@@ -100,6 +100,7 @@ fn run_next<R: Threads + Wait + Sync, S: Sink, G: Gate + Sync>(
         → IfOk result (RunsOn S.taken S.faults script.now (columns_of table.now) sections from sink.old sink.new
         progress.old.failed book.new progress.new) }
     ensures sink { OnErr result (sink.new ≡ sink.old) }
+    ensures later { S.faults sink.old ≤ S.faults sink.new }
     ensures failed { OnErr result (progress.new.failed ≡ progress.old.failed) }
 {
     let section = book.next(alloc, script, table, progress.held, &mut progress.cells)?;
@@ -144,6 +145,7 @@ fn finish<S: Sink>(progress: &Progress, sink: &mut S) -> u8
     ensures failed { progress.now.failed ≡ true → (result ≡ UNWRITTEN) × (sink.new ≡ sink.old) }
     ensures whole { progress.now.failed ≡ false → (s : ScriptState) → IsReportAt s progress.now.report
         → SaidTo S.taken S.faults sink.old sink.new (answer (status_by s.traps s.refused) (traps_text s.traps)) result }
+    ensures later { S.faults sink.old ≤ S.faults sink.new }
 {
     if progress.failed {
         return UNWRITTEN;
@@ -187,6 +189,7 @@ pub fn run_sections<R: Threads + Wait + Sync, S: Sink, G: Gate + Sync>(
     ensures answer { AnswersTo S.taken S.faults sink.old sink.new
         (λ a. a ≡ answer (status_of script.now (columns_of table.now)) (output_of script.now (columns_of table.now)))
         (λ text. (has_when script.now ≡ true) × (text ≡ output_of script.now (columns_of table.now))) result }
+    ensures later { S.faults sink.old ≤ S.faults sink.new }
 {
     let Ok(cells) = FlatMem::new(alloc, 0) else {
         return NO_MEMORY;

@@ -1,9 +1,7 @@
 // The texts of the answers that run no script.
-ghost use Rattle.std.specs.Prelude.{◌≡◌, ◌≢◌, ◌≤◌, ◌⊎◌, ◌++◌, codes, decimal, None, Some, OnErr, OnOk};
-ghost use Rattle.job_base.specs.Faults.{Rose};
-ghost use Rattle.job_base.specs.Texts.{Writes};
+ghost use Rattle.std.specs.Prelude.{◌≡◌, ◌≢◌, ◌≤◌, ◌⊎◌, ◌++◌, codes, decimal, None, Some};
 ghost use Rattle.frame_ast.specs.declared.kernel.FaultKind.TheVariants.{TooLong};
-ghost use Rattle.frame_ast.specs.Answers.{fault_text, script_refused_line, statements_line, no_column_line, limit_line};
+ghost use Rattle.frame_ast.specs.Answers.{script_refused_line, statements_line, no_column_line, limit_line};
 ghost use Rattle.frame_ast.specs.Limits.{Limit};
 ghost use Rattle.frame_print.specs.Gathering.{joined};
 ghost use Rattle.frame_plan.specs.Sections.{limit_told};
@@ -14,38 +12,10 @@ ghost use Rattle.frame_top.specs.declared.status.TheConstants.{NO_MEMORY, PAST_L
 use crate::status::{NO_MEMORY, PAST_LIMIT, SCRIPT_REFUSED, TABLE_REFUSED, UNWRITTEN};
 use frame_ast::kernel::FaultKind;
 use frame_plan::PlanFault;
-use frame_print::{Outgoing, print_text};
+use frame_print::{print_parts, print_script_refusal, print_text};
 use itoa::Buffer;
 use job_base::{Sink, SinkFault};
 use table_in::TableFault;
-
-// What a fault is called.
-fn fault_text(kind: FaultKind) -> &'static [u8]
-    ensures { result.now ≡ fault_text kind }
-{
-    match kind {
-        FaultKind::Syntax => b"syntax",
-        FaultKind::UnknownName => b"unknown name",
-        FaultKind::DuplicateName => b"duplicate name",
-        FaultKind::KindMismatch => b"kind mismatch",
-        FaultKind::ReadOfWriteOnly => b"read of write-only",
-        FaultKind::WriteOfReadOnly => b"write of read-only",
-        FaultKind::Limit => b"limit",
-        FaultKind::TooLong => b"limit",
-    }
-}
-
-// Writes some parts, one behind the other.
-fn print_parts<S: Sink>(parts: &[&[u8]], sink: &mut S) -> Result<(), SinkFault>
-    ensures text { Writes (S.taken sink.old) (S.taken sink.new) result (joined parts.now) }
-    ensures count { OnOk result (S.faults sink.new ≡ S.faults sink.old) }
-    ensures cause { OnErr result (Rose (S.faults sink.old) (S.faults sink.new)) }
-    ensures later { S.faults sink.old ≤ S.faults sink.new }
-{
-    let mut out = Outgoing::new();
-    out.put_all(parts, sink)?;
-    out.flush(sink)
-}
 
 /// Writes the text of a status.
 pub fn say<S: Sink>(status: u8, text: &[u8], sink: &mut S) -> u8
@@ -78,16 +48,10 @@ pub fn refuse_script<S: Sink>(line: u32, kind: FaultKind, sink: &mut S) -> u8
     ensures status { (result ≡ SCRIPT_REFUSED) ⊎ (result ≡ UNWRITTEN) }
     ensures later { S.faults sink.old ≤ S.faults sink.new }
 {
-    let mut digits = Buffer::new();
-    let line_text = digits.format(line).as_bytes();
-    let parts = [
-        b"script refused line ",
-        line_text,
-        b": ",
-        fault_text(kind),
-        b"\n",
-    ];
-    say_parts(SCRIPT_REFUSED, &parts, sink)
+    match print_script_refusal(line, kind, sink) {
+        Ok(()) => SCRIPT_REFUSED,
+        Err(_) => UNWRITTEN,
+    }
 }
 
 /// Writes why the bytes of a script are refused.

@@ -48,6 +48,7 @@ fn answer_script<R: Threads + Wait + Sync, F: Files, S: Sink, G: Gate + Sync>(
     ensures memory { result ≡ NO_MEMORY → F.faults files.new ≡ F.faults files.old }
     ensures same { F.bytes files.new ≡ F.bytes files.old }
     ensures files_later { F.faults files.old ≤ F.faults files.new }
+    ensures sink_later { S.faults sink.old ≤ S.faults sink.new }
 {
     let bytes = match read_table_file(alloc, command, files) {
         Ok(bytes) => bytes,
@@ -80,6 +81,7 @@ fn answer_command<R: Threads + Wait + Sync, F: Files, S: Sink, G: Gate + Sync>(
     ensures memory { result ≡ NO_MEMORY → F.faults files.new ≡ F.faults files.old }
     ensures same { F.bytes files.new ≡ F.bytes files.old }
     ensures files_later { F.faults files.old ≤ F.faults files.new }
+    ensures sink_later { S.faults sink.old ≤ S.faults sink.new }
 {
     let source = match read_source(alloc, command, files) {
         Ok(source) => source,
@@ -112,6 +114,7 @@ fn answer_words<R: Threads + Wait + Sync, F: Files, S: Sink, G: Gate + Sync>(
         × (F.faults files.new ≡ F.faults files.old) }
     ensures same { F.bytes files.new ≡ F.bytes files.old }
     ensures files_later { F.faults files.old ≤ F.faults files.new }
+    ensures sink_later { S.faults sink.old ≤ S.faults sink.new }
 {
     match read_words(alloc, words) {
         Ok(command) => answer_command(rt, alloc, &command, files, sink, gate),
@@ -196,6 +199,7 @@ pub fn run_frame<R: Threads + Wait + Sync, F: Files, S: Sink, G: Gate + Sync>(
     // What stays.
     ensures same { F.bytes files.new ≡ F.bytes files.old }
     ensures files_later { F.faults files.old ≤ F.faults files.new }
+    ensures sink_later { S.faults sink.old ≤ S.faults sink.new }
     ensures reads { ReadFails F.faults F.last_failed (bytes_of words.now) files.old files.new }
     ensures taken_all { result ≢ UNWRITTEN → S.faults sink.new ≡ S.faults sink.old }
 {

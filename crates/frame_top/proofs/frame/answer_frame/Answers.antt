@@ -1,4 +1,4 @@
-use Rattle.std.proofs.Common.{◌<◌, length, refl, sym, subst, arith}
+use Rattle.std.proofs.Common.{◌<◌, length, sym, subst, arith}
 use Rattle.frame_plan.specs.Tables.{columns_of}
 use Rattle.frame_top.specs.Answers.{AnswersTo, FrameCause, IsCut}
 use Rattle.frame_top.proofs.Framing.{at_missing, index_there, column_answers, none_missing}
@@ -13,7 +13,7 @@ index-requires g c =
 
 pub returns-in-Some : goal.returns-in-Some
 returns-in-Some g c =
-    record { answer = column_answers g.S.Sink.taken g.S.Sink.faults _ _ _ _ _ _ _ _ _ _ (sym c.in-Some.ensures) c.index.ensures c.column_name-name.ensures c.refuse_column.ensures.said }
+    record { answer = column_answers g.S.Sink.taken g.S.Sink.faults _ _ _ _ _ _ _ _ _ _ (sym c.in-Some.ensures) c.index.ensures c.column_name-name.ensures c.refuse_column.ensures.said; later = c.refuse_column.ensures.later }
 
 pub report_depth-requires-clause-columns : goal.report_depth-requires-clause-columns
 report_depth-requires-clause-columns g c = none_missing (columns_of c.args.table.now) 0 c.args.script.now.statements.items (sym c.in_default.ensures)
@@ -25,10 +25,12 @@ pub returns-then-options : goal.returns-then-options
 returns-then-options g c =
     record {
       answer = subst (λ d. AnswersTo g.S.Sink.taken g.S.Sink.faults c.args.sink.now c.report_depth.new.sink (FrameCause c.args.script.now (columns_of c.args.table.now) d c.args.options.workers) (IsCut c.args.script.now (columns_of c.args.table.now) d) c.report_depth.result) (sym c.if-options.true) c.report_depth.ensures.answer;
+      later = c.report_depth.ensures.later;
     }
 
 pub returns-else-options : goal.returns-else-options
 returns-else-options g c =
     record {
       answer = subst (λ d. AnswersTo g.S.Sink.taken g.S.Sink.faults c.args.sink.now c.run_script.new.sink (FrameCause c.args.script.now (columns_of c.args.table.now) d c.args.options.workers) (IsCut c.args.script.now (columns_of c.args.table.now) d) c.run_script.result) (sym c.if-options.false) c.run_script.ensures.answer;
+      later = c.run_script.ensures.later;
     }

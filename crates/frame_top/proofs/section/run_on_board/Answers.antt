@@ -1,4 +1,4 @@
-use Rattle.std.proofs.Common.{◌∙◌, sym, subst, ap}
+use Rattle.std.proofs.Common.{◌∙◌, subst, ap}
 use Rattle.steal_pool.specs.Rooms.{IsRoomOf}
 use Rattle.word_board.specs.Boards.{home_of, know_of, name_of}
 use Rattle.frame_top.proofs.Rooms.{made_ready, closed_into}

@@ -1,4 +1,4 @@
-use Rattle.std.proofs.Common.{refl, sym, ap, ◌∙◌, is_some, Some}
+use Rattle.std.proofs.Common.{refl, ap, ◌∙◌, is_some, Some}
 use Rattle.frame_top.proofs.Sectioning.{section_last, section_more}
 use Rattle.frame_top.proofs.sections.run_next.Goals as goal
 

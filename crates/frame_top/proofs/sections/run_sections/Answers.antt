@@ -19,6 +19,7 @@ returns-in-Ok-false g c =
       answer = Caused _ refl (at_last g.S.Sink.taken g.S.Sink.faults _ _ c.loop-section._section _ _ _ _ _ _ _ was
           (subst (λ b. RunsOn g.S.Sink.taken g.S.Sink.faults c.args.script.now (columns_of c.args.table.now) c.loop-section._section was.from c.loop-section.sink c.run_next.new.sink c.loop-section.progress.failed c.run_next.new.book c.run_next.new.progress b) c.in-Ok-false.field-0-test next)
           c.finish.new.sink c.finish.result c.finish.ensures.failed c.finish.ensures.whole);
+      later = let first = was.later in let second = c.in-Ok-false.ensures.later in let third = c.finish.ensures.later in omega (arith, first, second, third);
     }
 
 pub returns-in-Err : goal.returns-in-Err
@@ -26,6 +27,7 @@ returns-in-Err g c =
     record {
       answer = at_none g.S.Sink.taken g.S.Sink.faults _ _ c.loop-section._section _ _ _ _ _ _ c.loop-section.invariant c.in-Err.ensures.sink
           (λ e. c.status_where_none.ensures.failed (c.in-Err.ensures.failed ∙ e)) (λ e. c.status_where_none.ensures.whole (c.in-Err.ensures.failed ∙ e));
+      later = let first = c.loop-section.invariant.later in let second = c.in-Err.ensures.later in omega (arith, first, second);
     }
 
 pub loop-section-preserved : goal.loop-section-preserved
@@ -35,7 +37,7 @@ loop-section-preserved g c =
     let next = c.in-Ok-true.ensures.next c.loop-section._section was.from (omega arith) was.ran in
     subst (λ n. InSections g.S.Sink.taken g.S.Sink.faults c.args.script.now (columns_of c.args.table.now) n c.run_next.new.book c.run_next.new.progress c.args.sink.now c.run_next.new.sink) (omega arith)
     (one_more g.S.Sink.taken g.S.Sink.faults _ _ c.loop-section._section _ _ _ _ _ _ _ was
-    (subst (λ b. RunsOn g.S.Sink.taken g.S.Sink.faults c.args.script.now (columns_of c.args.table.now) c.loop-section._section was.from c.loop-section.sink c.run_next.new.sink c.loop-section.progress.failed c.run_next.new.book c.run_next.new.progress b) c.in-Ok-true.field-0-test next))
+    (subst (λ b. RunsOn g.S.Sink.taken g.S.Sink.faults c.args.script.now (columns_of c.args.table.now) c.loop-section._section was.from c.loop-section.sink c.run_next.new.sink c.loop-section.progress.failed c.run_next.new.book c.run_next.new.progress b) c.in-Ok-true.field-0-test next) c.in-Ok-true.ensures.later)
 
 pub unreachable-requires : goal.unreachable-requires
 unreachable-requires g c =

@@ -1,6 +1,5 @@
-use Rattle.std.proofs.Common.{◌≤◌, ℕ, List, length, Err, ap, refl, subst, sym, ◌∙◌}
+use Rattle.std.proofs.Common.{Err, ap, refl, subst, sym}
 use Rattle.frame_script.specs.Loading.{Spells, IsRefused}
-use Rattle.job_base.specs.declared.limits.TheConstants.{MOST_SCRIPT_BYTES}
 use Rattle.frame_top.specs.Inputs.{ReadsScript}
 use Rattle.frame_top.specs.Answers.{Caused, NoScript, BadScript}
 use Rattle.frame_top.specs.Refusals.{Size}

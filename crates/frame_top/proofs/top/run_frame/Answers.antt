@@ -1,4 +1,3 @@
-use Rattle.std.proofs.Common.{inl, inr, ⊎_elim}
 use Rattle.frame_top.proofs.Clauses.{status_fits, caused_by, usage_row, unread_row, unwritten_row, none_row, taken_row, settled, gives}
 use Rattle.frame_top.proofs.Settling.{run_settles, script_settles, table_settles, frame_settles, report_settles, IsReported, reported_gives, usage_gives}
 use Rattle.frame_top.proofs.top.run_frame.Goals as goal
