@@ -6,11 +6,16 @@ use Rattle.frame_core.specs.Know.{Know, is_of, less_once}
 use Rattle.steal_pool.specs.declared.place.Place.{Place}
 use Rattle.steal_pool.specs.Followers.{times}
 
--- no lease, no count owed and no duty
+-- It may open no piece. Who may open the pieces of a job and may open none any more has opened them all.
+abbrev pub MayOpenNone : Know → Type 0
+MayOpenNone k = (q : ℕ) → k.rights q ≡ false
+
+-- no lease, no count owed, no duty and no piece to open
 pub record IsIdle (k : Know) : Type 0 where
   pub lease : k.lease ≡ None
   pub owed : k.owed ≡ None
   pub dues : (j : ℕ) → k.dues j ≡ 0
+  pub rights : MayOpenNone k
 
 -- what a seat says of segments stays, and it forgets no job that it saw finished
 pub record IsOn (old k : Know) : Type 0 where
@@ -33,9 +38,11 @@ pub record IsReleased (j : ℕ) (old k : Know) : Type 0 where
   pub dues : (i : ℕ) → k.dues i ≡ less_once old.dues j i
   pub on : IsOn old k
 
--- it may open the pieces of the job of that number, from one on
-abbrev pub MayOpenFrom : Plan → ℕ → ℕ → Know → Type 0
-MayOpenFrom plan j p k = (q : ℕ) → p ≤ q → is_of plan j q ≡ true → k.rights q ≡ true
+-- it may open the pieces of the job of that number, from one on, and no others
+pub record MayOpenFrom (plan : Plan) (j p : ℕ) (k : Know) : Type 0 where
+  pub these : (q : ℕ) → p ≤ q → is_of plan j q ≡ true → k.rights q ≡ true
+  pub low : (q : ℕ) → k.rights q ≡ true → p ≤ q
+  pub of_job : (q : ℕ) → k.rights q ≡ true → is_of plan j q ≡ true
 
 -- its duties are to release these jobs, each as often as it stands there
 abbrev pub HasDues : List JobId → Know → Type 0

@@ -13,11 +13,12 @@
 //! thread.
 //!
 //! **That a run ends is not proved**, since threads may wait. It rests on this: whoever may open a job opens each piece
-//! before it offers the job; a deque has room for all that its worker offers, each job once where it opens it and once
-//! where it takes it up; what is offered stays in a deque until somebody takes it; who takes up a job goes on until all
-//! its pieces are given out, or is the script thread and offered it before; a piece that was given out is run by who got
-//! it, and can be begun; the worker of a job's last piece releases what depends on the job before it looks for another
-//! piece; a worker ends only where it found none; and the script thread goes on looking for as long as it waits.
+//! (proved: between two turns a seat has none left to open) before it offers the job; a deque has room for all that its
+//! worker offers, each job once where it opens it and once where it takes it up; what is offered stays in a deque until
+//! somebody takes it; who takes up a job goes on until all its pieces are given out, or is the script thread and offered
+//! it before; a piece that was given out is run by who got it, and can be begun; the worker of a job's last piece
+//! releases what depends on the job before it looks for another piece; a worker ends only where it found none; and the
+//! script thread goes on looking for as long as it waits.
 #![tactic(auto)]
 
 mod claims;

@@ -4,7 +4,7 @@ ghost use Rattle.frame_core.specs.Names.{job_pieces};
 ghost use Rattle.frame_core.specs.Ordered.{IsWellOrderedPlan};
 ghost use Rattle.steal_pool.specs.Followers.{IsJobOf, AreFollowers};
 ghost use Rattle.steal_pool.specs.Crews.{IsCrewOf};
-ghost use Rattle.steal_pool.specs.Seats.{IsIdle, IsOn, IsSteady, IsReleased, MayOpenFrom, HasDues};
+ghost use Rattle.steal_pool.specs.Seats.{IsIdle, IsOn, IsSteady, IsReleased, MayOpenFrom, MayOpenNone, HasDues};
 
 use crate::claims::Claims;
 use crate::crew::{Crew, Shared};
@@ -24,6 +24,7 @@ fn open_job<B: Board>(plan: &Plan, board: &B, seat: &mut B::Seat, queue: &mut Qu
     requires rights { MayOpenFrom plan.now job.0 0 (B.know seat.old) }
     ensures home { B.home seat.new ≡ B.home seat.old }
     ensures steady { IsSteady (B.know seat.old) (B.know seat.new) }
+    ensures none { MayOpenNone (B.know seat.new) }
 {
     let entry = &plan.jobs[job.0 as usize - 1];
     let first = entry.first.0;
@@ -46,8 +47,10 @@ pub(crate) fn release_job<B: Board>(
     requires job { IsJobOf plan.now job }
     requires home { B.home seat.old ≡ B.name board.now }
     requires due { 0 < (B.know seat.old).dues job.0 }
+    requires none { MayOpenNone (B.know seat.old) }
     ensures home { B.home seat.new ≡ B.home seat.old }
     ensures released { IsReleased job.0 (B.know seat.old) (B.know seat.new) }
+    ensures none { MayOpenNone (B.know seat.new) }
 {
     if board.release(seat, job) {
         open_job(plan, board, seat, queue, job);
@@ -69,6 +72,7 @@ fn release_after<B: Board>(
     requires lease { (B.know seat.old).lease ≡ None }
     requires owed { (B.know seat.old).owed ≡ None }
     requires dues { HasDues jobs.now (B.know seat.old) }
+    requires none { MayOpenNone (B.know seat.old) }
     ensures home { B.home seat.new ≡ B.home seat.old }
     ensures idle { IsIdle (B.know seat.new) }
     ensures on { IsOn (B.know seat.old) (B.know seat.new) }
@@ -101,6 +105,7 @@ fn end_piece<B: Board>(
     requires owed { (j : ℕ) × ((B.know seat.old).owed ≡ Some (suc j)) × (j < length plan.now.jobs.items) }
     requires lease { (B.know seat.old).lease ≡ None }
     requires dues { (j : ℕ) → (B.know seat.old).dues j ≡ 0 }
+    requires none { MayOpenNone (B.know seat.old) }
     ensures home { B.home seat.new ≡ B.home seat.old }
     ensures idle { IsIdle (B.know seat.new) }
     ensures on { IsOn (B.know seat.old) (B.know seat.new) }

@@ -9,7 +9,7 @@ ghost use Rattle.steal_pool.specs.Followers.{IsJobOf};
 ghost use Rattle.steal_pool.specs.Crews.{IsCrewOf};
 ghost use Rattle.steal_pool.specs.Runs.{RunsTo, is_fault, report_of};
 ghost use Rattle.steal_pool.specs.Says.{SaysTo};
-ghost use Rattle.steal_pool.specs.Seats.{IsIdle, IsOn, IsAt};
+ghost use Rattle.steal_pool.specs.Seats.{IsIdle, IsOn, IsAt, MayOpenNone};
 
 use crate::crew::Crew;
 use crate::held::{Counted, hold_segment};
@@ -39,6 +39,7 @@ fn start_job<B: Board>(
     requires lease { (B.know seat.old).lease ≡ None }
     requires owed { (B.know seat.old).owed ≡ None }
     requires dues { (j : ℕ) → (B.know seat.old).dues j ≡ due_once starts j }
+    requires none { MayOpenNone (B.know seat.old) }
     ensures home { B.home seat.new ≡ B.home seat.old }
     ensures idle { IsIdle (B.know seat.new) }
     ensures on { IsOn (B.know seat.old) (B.know seat.new) }

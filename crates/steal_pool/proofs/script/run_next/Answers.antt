@@ -1,5 +1,5 @@
 use Rattle.std.proofs.Common.{◌+◌, ap, ℕ}
-use Rattle.steal_pool.proofs.Turns.{waits_are, starts_are, may_open_it, cells_here, segment_done, segment_owed, segment_dues, segment_at_next}
+use Rattle.steal_pool.proofs.Turns.{waits_are, starts_are, may_open_it, cells_here, segment_done, segment_owed, segment_dues, segment_rights, segment_at_next}
 use Rattle.steal_pool.proofs.script.run_next.Goals as goal
 
 pub wait_all-own-requires-clause-jobs : goal.wait_all-own-requires-clause-jobs
@@ -34,6 +34,12 @@ start_job-requires-clause-dues g c =
     segment_dues c.args.crew.now.plan.now c.requires.crew.well c.args.i c.requires.index c.index-segment.result.now c.index-segment.ensures (g.B.Board.plan c.args.crew.now.board.now) c.requires.crew.plan_is (c.job_pieces.result + c.args.i) (ap (λ (n : ℕ). n + c.args.i) c.job_pieces.ensures)
     (g.B.Board.know c.wait_all-own.result) (g.B.Board.know c.open_piece.new.seat) c.open_piece.ensures.know (g.B.Board.know c.begin_opened-own.result) c.begin_opened-own.ensures.know (g.B.Board.know c.hold_segment-own.result.seat) c.hold_segment-own.ensures.still
     (g.B.Board.know c.end.new.seat) c.end.ensures.know c.wait_all-own.ensures.idle.dues
+
+pub start_job-requires-clause-none : goal.start_job-requires-clause-none
+start_job-requires-clause-none g c =
+    segment_rights c.args.crew.now.plan.now c.requires.crew.well c.args.i c.requires.index c.index-segment.result.now c.index-segment.ensures (g.B.Board.plan c.args.crew.now.board.now) c.requires.crew.plan_is (c.job_pieces.result + c.args.i) (ap (λ (n : ℕ). n + c.args.i) c.job_pieces.ensures)
+    (g.B.Board.know c.wait_all-own.result) (g.B.Board.know c.open_piece.new.seat) c.open_piece.ensures.know (g.B.Board.know c.begin_opened-own.result) c.begin_opened-own.ensures.know (g.B.Board.know c.hold_segment-own.result.seat) c.hold_segment-own.ensures.still
+    (g.B.Board.know c.end.new.seat) c.end.ensures.know c.wait_all-own.ensures.idle.rights
 
 pub returns-clause-at : goal.returns-clause-at
 returns-clause-at g c =
