@@ -7,6 +7,7 @@ pub mod Texts
 pub mod Fronts
 pub mod Reserved
 pub mod Steps
+pub mod Blanks
 pub mod TokenLemmas
 pub mod Sentences
 pub mod Readings

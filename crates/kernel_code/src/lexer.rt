@@ -5,7 +5,7 @@ ghost use Rattle.kernel_code.specs.Tokens.{tokens_of, mark_len, line_after};
 ghost use Rattle.kernel_code.specs.Legible.{NamesAreText};
 
 use crate::token::Token;
-use crate::word::front_of;
+use crate::word::{front_of, is_blank};
 use frame_grammar::TokenKind;
 use job_base::NoMemory;
 use std::alloc::Global;
@@ -45,6 +45,10 @@ pub fn lex(alloc: Global, source: &[u8]) -> Result<Vec<Token>, NoMemory>
     let mut place = mark_len(source);
     let mut line = 1;
     while place < source.len() {
+        if is_blank(source[place]) {
+            place += 1;
+            continue;
+        }
         let word = front_of(&source[place..]);
         let end = place + word.len;
         if let Some(kind) = word.kind {

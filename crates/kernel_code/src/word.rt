@@ -1,9 +1,9 @@
 //! The word that a text begins with.
 
-ghost use Rattle.std.specs.Prelude.{◌≡◌, ◌<◌, ◌≤◌, length, slice_index};
+ghost use Rattle.std.specs.Prelude.{◌≡◌, ◌<◌, ◌≤◌, ◌∷◌, [], length, slice_index};
 ghost use Rattle.std.specs.List.{prefix_len};
 ghost use Rattle.std.specs.Char.{is_ascii_digit};
-ghost use Rattle.kernel_code.specs.Words.{begins_name, continues_name, stands_in_text, stays_in_line};
+ghost use Rattle.kernel_code.specs.Words.{begins_name, continues_name, stands_in_text, stays_in_line, is_blank};
 ghost use Rattle.kernel_code.specs.Tokens.{front_kind, front_len};
 ghost use Rattle.kernel_code.specs.Fronts.{IsOther};
 
@@ -35,6 +35,14 @@ fn stands_in_text(byte: u8) -> bool
     ensures { result ≡ stands_in_text byte }
 {
     0x20 <= byte && byte <= 0x7E && byte != b'"'
+}
+
+/// Whether a byte is a space, a tab or a carriage return.
+#[tactic(auto, unfolding(crate::specs::Words::is_blank))]
+pub fn is_blank(byte: u8) -> bool
+    ensures { result ≡ is_blank (byte ∷ []) }
+{
+    byte == b' ' || byte == b'\t' || byte == b'\r'
 }
 
 /// How many bytes that continue a name the bytes begin with.

@@ -2,6 +2,7 @@ use Rattle.std.proofs.Common.{◌≡◌, ◌+◌, ◌≤◌, ◌++◌, append-ni
 use Rattle.std.proofs.Math.ListN.{drop_of_length-le}
 use Rattle.kernel_code.specs.Tokens.{tokens_from, token_at}
 use Rattle.kernel_code.proofs.Steps.{slice_from, turn, tokens_from-end, tokens_of-start, mark_len-le, line_after-le}
+use Rattle.kernel_code.proofs.Blanks.{blank_passed}
 use Rattle.kernel_code.specs.Legible.{NamesAreText}
 use Rattle.kernel_code.proofs.NameTexts.{names_are_text}
 use Rattle.kernel_code.proofs.lexer.lex.Goals as goal
@@ -40,6 +41,16 @@ loop-place-preserved c =
           ap (λ line. c.match-word.tokens.items ++ tokens_from 0 (c.loop-place.place + word.result.len) line (drop (c.loop-place.place + word.result.len) source)) c.line_after-line.ensures
           ∙ turn source c.loop-place.place c.loop-place.line word.result.len word.result.kind c.loop-place.tokens.items c.match-word.tokens.items _
           c.loop-place-test.true word.ensures.kind word.ensures.len word.ensures.some room added c.loop-place.invariant.so_far;
+    }
+
+pub loop-place-preserved-then-is_blank : goal.loop-place-preserved-then-is_blank
+loop-place-preserved-then-is_blank c =
+    record {
+      in_range = omega (arith, c.loop-place-test.true);
+      lines = omega (arith, c.loop-place.invariant.lines);
+      so_far =
+          blank_passed c.args.source.now c.loop-place.place c.loop-place.line c.loop-place.tokens.items _ c.loop-place-test.true
+          (sym c.is_blank.ensures ∙ c.if-is_blank.true) c.loop-place.invariant.so_far;
     }
 
 pub returns : goal.returns
