@@ -4,3 +4,4 @@ pub mod Checks
 pub mod Run
 pub mod Ends
 pub mod Steps
+pub mod Levels

@@ -4,3 +4,4 @@ pub mod Table
 pub mod Sets
 pub mod Predict
 pub mod Parser
+pub mod Levels

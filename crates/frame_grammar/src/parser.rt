@@ -4,6 +4,7 @@ ghost use Rattle.std.specs.Prelude.{◌≡◌, ℕ, ◌<◌, ◌^◌, List, ◌+
 ghost use Rattle.frame_grammar.specs.Grammar.{body_of, written};
 ghost use Rattle.frame_grammar.specs.Sentences.{IsStart, IsEnded, IsOnlySentence, IsFault};
 ghost use Rattle.frame_grammar.specs.Predict.{found, predicted};
+ghost use Rattle.frame_grammar.specs.Levels.{expression_levels};
 ghost use Rattle.frame_grammar.specs.Parser.{Takes, Stops};
 
 use crate::symbols::{Event, Nonterminal, Production, Symbol};
@@ -90,6 +91,19 @@ fn push_body(stack: &mut Vec<Symbol>, production: Production) -> Result<(), Allo
     Ok(())
 }
 
+/// Goes on with an expression by five productions at once, since no token decides between others.
+fn push_expression(stack: &mut Vec<Symbol>) -> Result<(), AllocError>
+    ensures { IfOk result (λ _. stack.new.items ≡ stack.old.items ++ reverse expression_levels) }
+{
+    stack.push(Symbol::Nonterminal(Nonterminal::MoreOr))?;
+    stack.push(Symbol::Nonterminal(Nonterminal::MoreAnd))?;
+    stack.push(Symbol::Nonterminal(Nonterminal::Compared))?;
+    stack.push(Symbol::Nonterminal(Nonterminal::MoreSum))?;
+    stack.push(Symbol::Nonterminal(Nonterminal::MoreTerm))?;
+    stack.push(Symbol::Nonterminal(Nonterminal::Unary))?;
+    Ok(())
+}
+
 /// Goes on by productions until the token ahead is on top of the stack, and takes it. Says whether
 /// it could.
 fn advance(
@@ -108,12 +122,18 @@ fn advance(
             Symbol::Action(action) => {
                 events.push(Event { action, place })?;
             }
-            Symbol::Nonterminal(nonterminal) => match predict(nonterminal, ahead) {
-                None => return Ok(false),
-                Some(production) => {
-                    push_body(stack, production)?;
+            Symbol::Nonterminal(nonterminal) => {
+                if nonterminal == Nonterminal::Expression {
+                    push_expression(stack)?;
+                    continue;
                 }
-            },
+                match predict(nonterminal, ahead) {
+                    None => return Ok(false),
+                    Some(production) => {
+                        push_body(stack, production)?;
+                    }
+                }
+            }
         }
     }
     Ok(false)

@@ -1,5 +1,7 @@
 use Rattle.std.proofs.Common.{reverse, ◌∷◌, ◌∙◌, sym, subst, ap}
 use Rattle.frame_grammar.proofs.Steps.{Leads, top, no_top, taken, stops_empty, goes_on_by, acts, stops_at, smaller, kinds_same, kinds_differ, body_on_top}
+use Rattle.frame_grammar.specs.declared.symbols.Symbol.TheVariants as symbol
+use Rattle.frame_grammar.proofs.Levels.{nonterminals_same, levels_on_top, levels_lead, levels_smaller}
 use Rattle.frame_grammar.proofs.parser.advance.Goals as goal
 
 pub returns-in-Terminal : goal.returns-in-Terminal
@@ -49,3 +51,21 @@ returns c =
     let empty = no_top c.loop-symbol.stack.items _ c.pop.result (sym c.loop-symbol.stack.ok.0) c.pop.ensures.variant.1 c.in_default.not-Some in
     stops_empty c.args.ahead c.args.place c.args.events.now.items c.loop-symbol.events.items (reverse c.args.stack.now.items)
     (subst (λ ss. Leads c.args.ahead c.args.place c.args.events.now.items (reverse c.args.stack.now.items) c.loop-symbol.events.items ss) (ap reverse empty) c.loop-symbol.invariant)
+
+pub loop-symbol-preserved-then-eq : goal.loop-symbol-preserved-then-eq
+loop-symbol-preserved-then-eq c =
+    let seen = top c.loop-symbol.stack.items c.pop.new.self.items c.pop.result c.in-Some.symbol c.pop.ensures.items c.in-Some.is in
+    let same = nonterminals_same c.in-Nonterminal.nonterminal _ (sym c.eq-in-Nonterminal.ensures ∙ c.if-eq.true) in
+    let first = seen ∙ ap (λ s. s ∷ reverse c.pop.new.self.items) (c.in-Nonterminal.is ∙ ap symbol.Nonterminal same) in
+    let led = levels_lead c.args.ahead c.args.place c.args.events.now.items c.loop-symbol.events.items (reverse c.args.stack.now.items) (reverse c.pop.new.self.items)
+    (subst (λ ss. Leads c.args.ahead c.args.place c.args.events.now.items (reverse c.args.stack.now.items) c.loop-symbol.events.items ss) first c.loop-symbol.invariant) in
+    subst (λ ss. Leads c.args.ahead c.args.place c.args.events.now.items (reverse c.args.stack.now.items) c.loop-symbol.events.items ss)
+    (sym (levels_on_top c.push_expression.new.stack.items c.pop.new.self.items c.in_ok-push_expression-in-Nonterminal.ensures)) led
+
+pub loop-symbol-smaller-then-eq : goal.loop-symbol-smaller-then-eq
+loop-symbol-smaller-then-eq c =
+    let seen = top c.loop-symbol.stack.items c.pop.new.self.items c.pop.result c.in-Some.symbol c.pop.ensures.items c.in-Some.is in
+    let same = nonterminals_same c.in-Nonterminal.nonterminal _ (sym c.eq-in-Nonterminal.ensures ∙ c.if-eq.true) in
+    let first = seen ∙ ap (λ s. s ∷ reverse c.pop.new.self.items) (c.in-Nonterminal.is ∙ ap symbol.Nonterminal same) in
+    let on_top = levels_on_top c.push_expression.new.stack.items c.pop.new.self.items c.in_ok-push_expression-in-Nonterminal.ensures in
+    rw (on_top, first) (levels_smaller (reverse c.pop.new.self.items))
