@@ -1,5 +1,6 @@
 // What the tokens of a kernel say: their bytes, their lines, the values of Numbers.
 ghost use Rattle.std.specs.Prelude.{◌≡◌, ◌≤◌, ◌<◌, min, length};
+ghost use Rattle.std.specs.Str.{bytes_eq};
 ghost use Rattle.kernel_code.specs.Tokens.{text_of};
 ghost use Rattle.kernel_code.specs.StaticFaults.{text_at, line_at, value_of, value_at};
 
@@ -23,6 +24,24 @@ pub fn text_at<'a>(raw: &RawKernel<'a>, at: u32) -> &'a [u8]
         Some(token) => bytes_of(raw.source, *token),
         None => &[],
     }
+}
+
+/// Whether two texts are the same. Names that differ mostly differ in their lengths or their last bytes, so those are
+/// looked at first.
+pub fn is_same(a: &[u8], b: &[u8]) -> bool
+    ensures { result ≡ bytes_eq a.now b.now }
+{
+    let len = a.len();
+    if len != b.len() {
+        return false;
+    }
+    if len == 0 {
+        return true;
+    }
+    if a[len - 1] != b[len - 1] {
+        return false;
+    }
+    a == b
 }
 
 /// The line of the token at a place, counted from 1.
