@@ -1,6 +1,6 @@
 -- A kernel with its statements inside `if index < length[0] { .. }`: what it is, what it does, and which words it uses.
 use Rattle.std.specs.Prelude.{◌≡◌, ◌↔◌, ◌⊎◌, ℕ, ◌<◌, true, false, ℤ, pos, int_lt, None}
-use Rattle.std.specs.Prelude.{List, [], ◌∷◌, ◌++◌, length, Vec}
+use Rattle.std.specs.Prelude.{List, [], ◌∷◌, ◌++◌, length, Vec, codes, string_bytes}
 use Rattle.std.specs.declared.alloc.Global.{Global}
 use Rattle.job_base.specs.declared.Access.TheVariants.{Read}
 use Rattle.frame_ast.specs.declared.kernel.ParamKind.TheVariants.{Array as ArrayKind}
@@ -44,15 +44,17 @@ pub record IsGuard (x : ℕ) (old new : List Stmt) : Type 0 where
   pub same : SameBody old body.items
   pub nothing_else : other.items ≡ []
 
--- an `ro` array
+-- an `ro` array that is named `length`
 pub record IsLengthParam (p : Param) : Type 0 where
+  pub name : string_bytes p.name ≡ codes "length"
   pub kind : p.kind ≡ ArrayKind
   pub access : p.access ≡ Read
   pub by : p.by ≡ 1
 
--- The same parameters and one more `ro` array at the end, and the same statements where the index is below its first
--- element.
+-- The same name, the same parameters and one more `ro` array at the end, and the same statements where the index is
+-- below its first element.
 pub record IsGuarded (old new : Kernel) : Type 0 where
+  pub name : string_bytes new.name ≡ string_bytes old.name
   pub parallel : new.parallel ≡ true
   pub locals : new.locals ≡ old.locals
   pub same : List Param

@@ -10,6 +10,7 @@ pub returns : goal.returns
 returns c =
     let k = c.args.kernel.now in
     record {
+      name = c.in_ok-from_str.ensures.ok ∙ c.as_str.ensures.value;
       parallel = refl;
       locals = refl;
       same = c.in_ok-params.params.items;
