@@ -18,6 +18,7 @@ pub mod WritingRepeats
 pub mod Writing
 pub mod WritingRepeatCounts
 pub mod NameLemmas
+pub mod IndexLemmas
 pub mod PlaceLemmas
 pub mod FaultLemmas
 pub mod NumberLemmas

@@ -9,14 +9,9 @@ use Rattle.std.proofs.lemmas.List.Folds.{position_or_len_push}
 use Rattle.std.proofs.lemmas.List.Sums.{prefix_len-le-length}
 use Rattle.frame_ast.specs.declared.name_kind.NameKind.{NameKind}
 use Rattle.std.proofs.lemmas.List.{length-map, map-append}
-use Rattle.std.proofs.lemmas.Map.Text.{btree_map_updates_str}
 use Rattle.std.specs.Cmp.Lexicographic.{slice_cmp}
 use Rattle.std.specs.Ordering.{nat_cmp}
-use Rattle.std.specs.BTreeMap.{BTreeMap, get_by, UpdatesBy}
-use Rattle.std.specs.Borrow.{Bor}
-use Rattle.frame_script.specs.declared.names.Entry.{Entry}
 use Rattle.frame_script.specs.Names.{Name, place_in, is_called}
-use Rattle.frame_script.specs.Index.{known_of, IsIndex}
 
 -- the place of what a test holds of, among a list's elements and one more
 pub at_push : (b : Bool) (n len : ℕ) → n ≤ len →
@@ -55,26 +50,9 @@ pub on_ok : {T E : Type 0} (r : Result T E) (P : Type 0) → is_err r ≡ false 
 on_ok (Ok x) P h p = p
 on_ok (Err e) P h p = cc
 
-none_from : (o : Option ℕ) → is_some o ≡ false → o ≡ None
+pub none_from : (o : Option ℕ) → is_some o ≡ false → o ≡ None
 none_from None h = refl
 none_from (Some n) h = cc
 
 pub both : (b : Bool) (n m : ℕ) (x y : Option ℕ) → n ≡ m → x ≡ y → cond b (Some n) x ≡ cond b (Some m) y
 both b n m x y e f = cc
-
--- the map that finds the places of the names, with one more name
-pub index_added : (old new : BTreeMap (Bor (List ℕ)) ℕ) (entries : List Entry) (e : Entry) (place : ℕ) → place ≡ length entries → IsIndex old entries → length entries < 2 ^ 32 - 1 →
-    is_some (get_by (λ k. slice_cmp nat_cmp e.text.now k.now) old) ≡ false →
-    UpdatesBy (λ x y. slice_cmp nat_cmp x.now y.now) (λ k. slice_cmp nat_cmp e.text.now k.now) old new (Some place) →
-    IsIndex new (entries ++ e ∷ [])
-index_added old new entries e place is index room absent updates =
-    let names = map known_of entries in
-    let none : place_in names e.text.now ≡ None = none_from _ (ap is_some (sym (index.finds e.text.now)) ∙ absent) in
-    record {
-      few = rw (length-append entries (e ∷ [])) (omega (arith, room));
-      finds = λ text.
-          btree_map_updates_str e.text.now old new (Some place) updates text
-          ∙ (both (bytes_eq e.text.now text) place (length names) _ _ (is ∙ sym (length-map entries known_of)) (index.finds text)
-          ∙ (sym (place_in-push names e.text.now e.kind none text)
-          ∙ ap (λ ns. place_in ns text) (sym (map-append known_of entries (e ∷ [])))));
-    }

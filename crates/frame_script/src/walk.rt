@@ -57,6 +57,7 @@ fn keep_list(literals: &mut Vec<Vec<i64>>, list: Option<Vec<i64>>) -> Result<(),
 }
 
 // The refusal of a file for a fault of a statement.
+#[inline(never)]
 fn told(source: Source<'_>, fault: OrderFault) -> LoadFault
     ensures { (line : ℕ) (kind : FaultKind) → result ≡ LoadFault.Refused line kind →
         Tells source.entry fault line kind }
@@ -114,6 +115,7 @@ impl<'a> Walk<'a> {
     }
 
     // What stands before the brace of a `repeat`.
+    #[inline(never)]
     fn open_repeat(&mut self, source: Source<'a>, at: u32, count: u32) -> Result<(), OrderFault>
         ensures { Gives (first_some (order_faults source.entry (scope_of self.old) at (Repeat count)))
             (λ _. TakesRepeat source.entry count self.old self.new) result }
@@ -126,6 +128,7 @@ impl<'a> Walk<'a> {
     }
 
     // What stands before the brace of a `when`.
+    #[inline(never)]
     fn open_when(
         &mut self,
         source: Source<'a>,
@@ -158,6 +161,7 @@ impl<'a> Walk<'a> {
     }
 
     // The end of a block.
+    #[inline(never)]
     fn close(&mut self, alloc: Global) -> Result<(), NoMemory>
         requires inside { 0 < length self.old.around.items }
         requires open { 0 < length self.old.written.blocks }

@@ -14,6 +14,7 @@ use kernel_code::{KernelFault, check_kernel, raw_kernel};
 use std::alloc::Global;
 
 /// Checks the kernel that these events spell, behind those that are known, and adds it to them.
+#[inline(never)]
 pub fn add_kernel<'a>(
     alloc: Global,
     source: Source<'a>,

@@ -71,6 +71,7 @@ pub fn print(source: Source<'_>, names: &Names<'_>, name: u32) -> Result<Order, 
     Ok(Order::Print { name })
 }
 
+#[inline(never)]
 pub fn dispose(
     alloc: Global,
     source: Source<'_>,

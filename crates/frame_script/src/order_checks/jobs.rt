@@ -372,6 +372,7 @@ fn read_behind(
     })
 }
 
+#[inline(never)]
 pub fn check_schedule(
     alloc: Global,
     source: Source<'_>,

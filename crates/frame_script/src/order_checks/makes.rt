@@ -61,6 +61,7 @@ pub struct Valued<'a> {
 }
 
 /// An array with values, behind so many lists of values; and its own list.
+#[inline(never)]
 pub fn valued_array(
     alloc: Global,
     source: Source<'_>,
@@ -180,6 +181,7 @@ pub fn view(source: Source<'_>, names: &Names<'_>, name: u32, of: u32) -> Result
     Ok(Order::View { name, of })
 }
 
+#[inline(never)]
 pub fn column(
     alloc: Global,
     source: Source<'_>,
@@ -211,6 +213,7 @@ pub fn copy(source: Source<'_>, names: &Names<'_>, name: u32, of: u32) -> Result
     Ok(Order::Copy { name, of: place })
 }
 
+#[inline(never)]
 pub fn combine(
     alloc: Global,
     source: Source<'_>,
