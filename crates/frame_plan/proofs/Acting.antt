@@ -11,9 +11,10 @@ use Rattle.frame_ast.specs.Orders.{Table, setting}
 use Rattle.frame_ast.specs.States.{ScriptState}
 use Rattle.frame_plan.specs.declared.state.PlanFault.{PlanFault}
 use Rattle.frame_plan.specs.declared.state.Planner.{Planner}
-use Rattle.frame_plan.specs.Runs.{IsActingTest, IsAtStatement, HasPassed, StopsAt, FailsAtPlace}
+use Rattle.frame_plan.specs.Growth.{Grows}
+use Rattle.frame_plan.specs.Runs.{IsActingTest, IsAtStatement, IsFurther, HasPassed, StopsAt, FailsAtPlace}
 use Rattle.frame_plan.specs.Stands.{Stands}
-use Rattle.frame_plan.specs.Steps.{state_at, state_after, StandsAt, AtStatement, IsStep, IsBefore, IsReady, GoesOn, GoesOnIn, GoesOnWith, FailsBy, FailsIn, FailsWith, PassesLimit}
+use Rattle.frame_plan.specs.Steps.{state_at, state_after, StandsAt, HasStepped, AtStatement, IsStep, IsBefore, IsReady, GoesOn, GoesOnIn, GoesOnWith, FailsBy, FailsIn, FailsWith, PassesLimit}
 use Rattle.frame_plan.proofs.Reaching.{next_state}
 
 -- the statement, with its form written out
@@ -38,9 +39,13 @@ module _ (script : Script) (table : Table) (p : Planner) (x : Statement) (at : I
 
   module _ (q : Planner) where
     next : (begun : ScriptState) (n : ℕ) (found : List ℕ) → slice_get script.statements.items n ≡ Some x
-        → (more : List ℕ) × Stands q (setting script table) begun (suc n) (state_after script table n (written x a)) (found ++ more)
-        → (more : List ℕ) × StandsAt q script table begun (suc n) (found ++ more)
-    next begun n found e r = (r.0, subst (λ s. Stands q (setting script table) begun (suc n) s (found ++ r.0)) (next_state script table n (written x a) (here n e)) r.1)
+        → HasStepped script table begun n found p q (written x a)
+        → IsFurther script table begun n found p q x
+    next begun n found e r = record {
+      more = r.more;
+      stands = subst (λ s. Stands q (setting script table) begun (suc n) s (found ++ r.more)) (next_state script table n (written x a) (here n e)) r.stands;
+      grows = λ starts same. subst (λ y. Grows (setting script table) (state_at script table n) y starts begun.book.count p q) (sym (is_written x a is)) (r.grows starts same);
+    }
 
     pub passed : GoesOn p q (written x a) → HasPassed script table p q x
     passed h begun n found e st = next begun n found e (h script table begun n found (step begun n found e st) st)

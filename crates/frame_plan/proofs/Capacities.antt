@@ -33,7 +33,7 @@ use Rattle.slot_store.specs.Places.{is_taken}
 use Rattle.slot_store.specs.Stores.{place_of, live_words_of}
 use Rattle.safety_handle.specs.declared.book.SafetyBook.{SafetyBook}
 use Rattle.safety_handle.specs.Entries.{SlotState, state_of}
-use Rattle.frame_core.specs.declared.plan.Act.TheVariants.{Say}
+use Rattle.frame_core.specs.declared.plan.Act.TheVariants.{Say, Move}
 use Rattle.frame_core.proofs.Small.{not_both, some_is, none_some, get_below}
 use Rattle.plan_laws.specs.Binds.{bind_of}
 use Rattle.plan_laws.proofs.Making.{alive_is_live}
@@ -43,13 +43,15 @@ use Rattle.frame_plan.specs.declared.state.Container.{Container}
 use Rattle.frame_plan.specs.declared.state.Planner.{Planner}
 use Rattle.frame_plan.specs.Accesses.{IsPushed, MayUse, refused_as}
 use Rattle.frame_plan.specs.Stands.{jobs_at, value_for, AreNames, IsContainer, Stands}
-use Rattle.frame_plan.specs.Steps.{state_at, IsStep, StandsAt}
+use Rattle.frame_plan.specs.Steps.{state_at, IsStep, StandsAt, HasStepped}
 use Rattle.frame_plan.specs.Capacity.{IsWhole, IsList, HasBroken, IsMoved}
 use Rattle.frame_plan.proofs.Accessing.{there, read_some}
 use Rattle.frame_plan.proofs.NewContainers.{is_full, not_full}
 use Rattle.frame_plan.proofs.Naming.{same_names}
-use Rattle.frame_plan.proofs.Reaching.{holds_kinds, fits_at, used_below, statements_few, known_after, no_more, within}
-use Rattle.frame_plan.proofs.Restating.{IsRestated, changed_fields, like_state, one_op_more, refused_stands}
+use Rattle.frame_plan.proofs.Quiet.{given_one, refused_steps}
+use Rattle.frame_plan.proofs.Ranging.{range_steps}
+use Rattle.frame_plan.proofs.Reaching.{holds_kinds, fits_at, used_below, statements_few, known_after, within}
+use Rattle.frame_plan.proofs.Restating.{IsRestated, changed_fields, like_state, one_op_more, quiet_restated, refused_stands}
 use Rattle.frame_plan.proofs.Regrowing.{with_capacity, capacity_is, regrown_stands}
 
 -- THE CAUSES OF A USE, and those after them
@@ -293,33 +295,41 @@ module _ (script : Script) (table : Table) (begun : ScriptState) (n line name ca
             omega arith
 
         pub capacity_goes_on : (q : Planner) (at : ListAt) → l.it.bind ≡ WholeList at → p.created + (cap + 1) ≤ MOST_CREATED_WORDS → IsMoved p q line name l.c l.it at cap
-            → (more : List ℕ) × Stands q g begun (suc n) (act g s x) (found ++ more)
-        capacity_goes_on q at was small m = (
-          m.span.start ∷ [],
-          subst (λ z. Stands q g begun (suc n) z (found ++ m.span.start ∷ [])) (sym acted)
-              (subst (λ z. Stands z g begun (suc n) (with_capacity s l.c cap l.xs) (found ++ m.span.start ∷ [])) (sym m.rest)
-              (regrown_stands p g begun n s found line name l.c cap l.old l.xs l.it m.now m.span q.store q.safety q.containers q.created q.plan.ops
-              st named.below l.c_is l.contents l.alive grows
-              (record {
-                has = l.has;
-                store_is = m.regrown;
-                safety_is = m.broken;
-                bind = m.bind_is;
-                slot_is = m.slot_is;
-                version_is = m.version_is;
-                life_is = m.life_is;
-                frame_is = m.frame_is;
-                name_is = m.name_is;
-                line_is = m.line_is;
-                containers_are = m.containers;
-                created_is = m.created;
-                small = (let e = m.created in omega arith);
-                at = at;
-                was = was;
-                ops_are = m.ops;
-              })
-              unrefused)),
-        )
+            → HasStepped script table begun n found p q x
+        capacity_goes_on q at was small m =
+            range_steps script table begun n found x step p q st (cap + 1) m.span (record { line = line; name = name; act = Move (record { start = at.start; len = at.cap + 1 }) m.span })
+            (record { fit = m.regrown.fit; len = m.regrown.len_is; peak = m.regrown.peak })
+            (record {
+              ops = m.ops;
+              segments = ap (λ (z : Planner). z.plan.segments) m.rest;
+              waits = ap (λ (z : Planner). z.plan.waits) m.rest;
+              jobs = ap (λ (z : Planner). z.plan.jobs) m.rest;
+              kernels = ap (λ (z : Planner). z.plan.kernels) m.rest;
+            })
+            refl unrefused refl tt (ap (λ (z : ScriptState). z.book.completed) acted)
+            (subst (λ z. Stands q g begun (suc n) z (found ++ m.span.start ∷ [])) (sym acted)
+            (subst (λ z. Stands z g begun (suc n) (with_capacity s l.c cap l.xs) (found ++ m.span.start ∷ [])) (sym m.rest)
+            (regrown_stands p g begun n s found line name l.c cap l.old l.xs l.it m.now m.span q.store q.safety q.containers q.created q.plan.ops
+            st named.below l.c_is l.contents l.alive grows
+            (record {
+              has = l.has;
+              store_is = m.regrown;
+              safety_is = m.broken;
+              bind = m.bind_is;
+              slot_is = m.slot_is;
+              version_is = m.version_is;
+              life_is = m.life_is;
+              frame_is = m.frame_is;
+              name_is = m.name_is;
+              line_is = m.line_is;
+              containers_are = m.containers;
+              created_is = m.created;
+              small = (let e = m.created in omega arith);
+              at = at;
+              was = was;
+              ops_are = m.ops;
+            })
+            unrefused)))
 
       -- REFUSED SINCE IT IS TOO LOW: the views are broken
 
@@ -390,9 +400,11 @@ module _ (script : Script) (table : Table) (begun : ScriptState) (n line name ca
               views = views;
             }
 
-        pub low_goes_on : (more : List ℕ) × Stands q g begun (suc n) t (found ++ more)
+        pub low_goes_on : HasStepped script table begun n found p q y
         low_goes_on =
-            no_more q g begun (suc n) t found
+            refused_steps script table begun n found p q y step
             (refused_stands p q g begun n s found y (refused PastRange name) st step.acts (refused_low lt) named.below restates i.ops (known_after script table n y step)
             (subst (λ (z : Planner). AreNames z.values.items z.handles.items (length p.containers.items) t) (sym i.rest)
             (same_names p.values.items p.handles.items (length p.containers.items) s t (λ j m. like.values m refl j) st.names)))
+            (quiet_restated p q s t restates (given_one p.plan.ops.items q.plan.ops.items (record { line = line; name = name; act = Say PastRange }) i.ops refl))
+            (refused PastRange name) (refused_low lt)

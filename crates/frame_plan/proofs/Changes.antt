@@ -1,6 +1,6 @@
 -- `set`, `add`, `put`, `remove` and `clear`: what they are ready for, and that they go on: refused whatever the cells are,
 -- or as one operation, whether the contents allow it or not.
-use Rattle.std.proofs.Common.{◌≡◌, ◌≢◌, ℕ, suc, ◌+◌, ◌^◌, ◌<◌, ◌⊎◌, inl, inr, ⊎_elim, Bool, true, false, ◌&&◌, ℤ, List, [], ◌∷◌, ◌++◌, length, take, Option, Some, None, Result, Ok, Err, refl, sym, ap, subst, ◌∙◌, arith}
+use Rattle.std.proofs.Common.{◌≡◌, ◌≢◌, ℕ, ◌+◌, ◌^◌, ◌<◌, ◌⊎◌, inl, inr, ⊎_elim, Bool, true, false, ◌&&◌, ℤ, List, [], ◌∷◌, ◌++◌, length, take, Option, Some, None, Result, Ok, Err, refl, sym, ap, subst, ◌∙◌, arith}
 use Rattle.std.specs.Prelude.{slice_get, vec_len, nat_lt, get_or, set, pos, negsuc, unwrap_or, ◌-◌, nat_eq, if◌then◌else◌}
 use Rattle.std.specs.List.{list_any}
 use Rattle.std.proofs.lemmas.Bool.{and_parts, cases_eq, eqb-true, eq-eqb, ne_eqb}
@@ -53,14 +53,16 @@ use Rattle.frame_plan.specs.declared.state.Container.{Container}
 use Rattle.frame_plan.specs.declared.state.Planner.{Planner}
 use Rattle.frame_plan.specs.declared.state.Value.{Value}
 use Rattle.frame_plan.specs.Accesses.{bind_by, AreThere, IsPushed, MayUse}
+use Rattle.frame_plan.specs.Growth.{given_by}
 use Rattle.frame_plan.specs.Stands.{value_for, AreNames, Agrees, Stands, draft_of}
 use Rattle.frame_plan.specs.Steps.{state_at, IsStep, IsReady, GoesOn}
 use Rattle.frame_plan.specs.Views.{slot_by, slot_from, list_slot, with_break, IsBreakable, IsBroken}
 use Rattle.frame_plan.proofs.Accessing.{are_there, breaks_none}
 use Rattle.frame_plan.proofs.Binding.{binds_at}
 use Rattle.frame_plan.proofs.NewNames.{IsWholeAt, whole_at}
-use Rattle.frame_plan.proofs.Reaching.{fits_at, holds_kinds, known_after, no_more, statements_few, used_below, within}
-use Rattle.frame_plan.proofs.Restating.{IsRestated, accepted_state, adds_op, changed_fields, like_state, one_op_more, pushed_names, pushed_restates, restated, said}
+use Rattle.frame_plan.proofs.Quiet.{IsPlain, given_one, plain_steps}
+use Rattle.frame_plan.proofs.Reaching.{fits_at, holds_kinds, known_after, statements_few, used_below, within}
+use Rattle.frame_plan.proofs.Restating.{IsRestated, accepted_state, adds_op, changed_fields, like_state, one_op_more, pushed_names, pushed_restates, quiet_restated, restated, said}
 
 -- ---- forms and binds
 
@@ -171,6 +173,7 @@ pub record IsWrite (x : Order) (name : ℕ) (kinds : List NameKind) : Type 0 whe
   pub by : written_by x ≡ Some (name, kinds)
   pub unnamed : made_by x ≡ None
   pub passed : passed_with x ≡ 0
+  pub plain : (g : Setting) → IsPlain g x
   pub blocked : (g : Setting) (s : ScriptState) (r : Refused) → access s name (need_of s name true) [] ≡ Some r → refusal g s x ≡ Some r
   pub keeps : (s : ScriptState) (c : ℕ) → form_after s x c ≡ form_of (s.contents c)
   pub used : (g : Setting) (all : List NameKind) → FitsThere g all x → (made : ℕ) × (uses (record { kinds = all; made = made }) name kinds ≡ true)
@@ -473,7 +476,7 @@ pub record IsCalm (x : Order) : Type 0 where
   view : (g : Setting) (line : ℕ) (s : ScriptState) → (effect g line s x).view ≡ s.view
   sizes : (s : ScriptState) (c : ℕ) → resizes x s c ≡ false
 
-module _ (x : Statement) (name : ℕ) (kinds : List NameKind) (operation : Bind → Act) (plans : Plans x name kinds operation) where
+module _ (x : Statement) (name : ℕ) (kinds : List NameKind) (operation : Bind → Act) (plans : Plans x name kinds operation) (gives : (b : Bind) → given_by (operation b) ≡ []) where
   pub write_on : (w : IsWrite x.act name kinds) → IsCalm x.act → (p q : Planner) (v : Value) (at : Bind) → MayUse p name true None → slice_get p.values.items name ≡ Some v → at ≡ bind_by p.containers.items v
       → IsPushed p q (record { line = x.line; name = name; act = operation at }) → GoesOn p q x
   write_on w calm p q v at may value is i script table begun n found step st =
@@ -483,12 +486,15 @@ module _ (x : Statement) (name : ℕ) (kinds : List NameKind) (operation : Bind 
       let little = calm.little g x.line s in
       let a = after_calm x name kinds w script table n step little (calm.view g x.line s) (calm.sizes s) in
       let view = view_calm x name kinds w script table n step little (calm.view g x.line s) (calm.sizes s) in
-      no_more q g begun (suc n) t found
-      (restated p q g begun n s t found st
-      (pushed_restates p q _ g begun n s t found st i a.state (a.passing ∙ sym step.acts) view a.form)
+      let restates = pushed_restates p q _ g begun n s t found st i a.state (a.passing ∙ sym step.acts) view a.form in
+      let op : Op = record { line = x.line; name = name; act = operation at } in
+      plain_steps script table begun n found p q x step
+      (restated p q g begun n s t found st restates
       (known_after script table n x step)
       (pushed_names p q _ (length p.containers.items) s t i a.values st.names)
       (planned_on x name kinds w operation plans p q v at script table begun n found step st may value is i))
+      (quiet_restated p q s t restates (given_one p.plan.ops.items q.plan.ops.items op i.ops (gives at)))
+      (w.plain g) (ap (λ (u : ScriptState). u.book.completed) restates.state)
 
   -- one that breaks those of a list
   pub resize_on : (z : IsResize x.act name kinds) (p m q : Planner) (v : Value) (at : Bind) → MayUse p name true None → slice_get p.values.items name ≡ Some v → at ≡ bind_by p.containers.items v
@@ -498,14 +504,17 @@ module _ (x : Statement) (name : ℕ) (kinds : List NameKind) (operation : Bind 
       let s = state_at script table n in
       let t = act g s x in
       let none = sym (may g begun n s found st) in
-      no_more q g begun (suc n) t found
-      (restated p q g begun n s t found st
-      (broken_restates x name kinds z p v value script table begun n found step st none m q _ i e)
+      let restates = broken_restates x name kinds z p v value script table begun n found step st none m q _ i e in
+      let op : Op = record { line = x.line; name = name; act = operation at } in
+      plain_steps script table begun n found p q x step
+      (restated p q g begun n s t found st restates
       (known_after script table n x step)
       (subst (λ (k : Planner). AreNames k.values.items k.handles.items (length p.containers.items) t) (sym e.rest)
       (pushed_names p m _ (length p.containers.items) s t i (broken_values x name kinds z p v value script table begun n found step st none m q _ i e) st.names))
       (λ y a. subst (λ k. IsPlanned y t (draft_of k)) (sym e.rest)
       (planned_on x name kinds z.write operation plans p m v at script table begun n found step st may value is i y a)))
+      (quiet_restated p q s t restates (given_one p.plan.ops.items q.plan.ops.items op (ap (λ (k : Planner). k.plan.ops.items) e.rest ∙ i.ops) (gives at)))
+      (z.write.plain g) (ap (λ (u : ScriptState). u.book.completed) restates.state)
 
 pub resize_breakable : (x : Statement) (name : ℕ) (kinds : List NameKind) (z : IsResize x.act name kinds) (p m : Planner) (op : Op) (v : Value) → IsReady p x → MayUse p name true None → slice_get p.values.items name ≡ Some v
     → IsPushed p m op → IsBreakable m.safety (list_slot m.containers.items v)
@@ -522,6 +531,7 @@ set_write name at value = record {
   by = refl;
   unnamed = refl;
   passed = refl;
+  plain = λ g. (refl, tt);
   blocked = λ g s r e. access_some s name (unchanged name (set_in (s.values name) (contents_at s name) at value) ∷ []) r e;
   keeps = λ s c. refl;
   used = λ g all f. (f.made, f.fits);
@@ -543,6 +553,7 @@ put_write name key value = record {
   by = refl;
   unnamed = refl;
   passed = refl;
+  plain = λ g. (refl, tt);
   blocked = λ g s r e. access_some s name (unchanged name (put_pair_in (contents_at s name) key value) ∷ []) r e;
   keeps = λ s c. refl;
   used = λ g all f. (f.made, f.fits);
@@ -558,6 +569,10 @@ put_calm name key value = record {
 pub put_plans : (line name : ℕ) (key value : ℤ) → Plans (record { line = line; act = order.Put name key value }) name (kind.Map ∷ []) (λ b. Put b key value)
 put_plans line name key value y g s d e small known planned pass writable adds =
     puts_are_planned key value y g s (record { line = line; act = order.Put name key value }) name d e small known planned pass writable refl adds
+
+pub add_gives : (first : ℤ) (second : Option ℤ) (b : Bind) → given_by (add_act first second b) ≡ []
+add_gives first None b = refl
+add_gives first (Some second) b = refl
 
 -- what a change of a list's size is refused by
 
@@ -609,6 +624,7 @@ add_resize name first second = record {
     by = refl;
     unnamed = refl;
     passed = refl;
+    plain = λ g. (refl, tt);
     blocked = λ g s r e. access_some s name (unchanged name (add_in (contents_at s name) first second) ∷ []) r e;
     keeps = λ s c. refl;
     used = λ g all f. (f.made, f.fits);
@@ -630,6 +646,7 @@ remove_resize name at = record {
     by = refl;
     unnamed = refl;
     passed = refl;
+    plain = λ g. (refl, tt);
     blocked = λ g s r e. access_some s name (unchanged name (remove_in (contents_at s name) at) ∷ []) r e;
     keeps = λ s c. refl;
     used = λ g all f. (f.made, f.fits);
@@ -651,6 +668,7 @@ clear_resize name = record {
     by = refl;
     unnamed = refl;
     passed = refl;
+    plain = λ g. (refl, tt);
     blocked = λ g s r e. e;
     keeps = λ s c. refl;
     used = λ g all f. (f.made, f.fits);

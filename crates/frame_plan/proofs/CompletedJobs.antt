@@ -30,7 +30,7 @@ use Rattle.frame_plan.proofs.Settling.{AreBetween, are_ended, none_pending, all_
 
 -- ---- the jobs of a set in rising order
 
-has_append : (xs ys : List JobId) (j : ℕ) → has_job (xs ++ ys) j ≡ (has_job xs j || has_job ys j)
+pub has_append : (xs ys : List JobId) (j : ℕ) → has_job (xs ++ ys) j ≡ (has_job xs j || has_job ys j)
 has_append [] ys j = refl
 has_append (x ∷ xs) ys j = ap (λ b. nat_eq x.0 j || b) (has_append xs ys j) ∙ or_assoc (nat_eq x.0 j) (has_job xs j) (has_job ys j)
   where

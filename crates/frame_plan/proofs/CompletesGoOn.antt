@@ -1,8 +1,8 @@
 -- Completions go on: what follows waits for the jobs that are newly completed.
 use Rattle.std.proofs.Common.{◌≡◌, ℕ, suc, ◌+◌, ◌-◌, ◌<◌, ◌≤◌, ⊎_elim, Bool, true, false, ◌&&◌, ◌||◌, not, List, [], ◌∷◌, ◌++◌, length, Some, refl, sym, ap, subst, ◌∙◌, arith, append-nil}
-use Rattle.std.specs.Prelude.{Vec, vec_len, slice_get}
+use Rattle.std.specs.Prelude.{Vec, vec_len, nat_lt, slice_get}
 use Rattle.std.specs.declared.alloc.Global.{Global}
-use Rattle.std.proofs.lemmas.Bool.{cases_lt}
+use Rattle.std.proofs.lemmas.Bool.{cases_lt, lt-ltb}
 use Rattle.std.proofs.lemmas.List.{length-append}
 use Rattle.frame_ast.specs.declared.script.Order.TheVariants.{Complete}
 use Rattle.frame_ast.specs.declared.script.Script.{Script}
@@ -33,16 +33,18 @@ use Rattle.frame_plan.specs.declared.state.Planner.{Planner}
 use Rattle.frame_plan.specs.declared.state.Value.{Value}
 use Rattle.frame_plan.specs.Accesses.{AreThere, jobs_of_value}
 use Rattle.frame_plan.specs.Completions.{rising_jobs, newly_of, IsClosed, AreCompleted}
+use Rattle.frame_plan.specs.Growth.{given_so_far, waits_so_far, HasWaited}
 use Rattle.frame_plan.specs.Stands.{AreNames, AreContainers, AreTemps, AreTempJobs, Agrees, Stands, draft_of}
-use Rattle.frame_plan.specs.Steps.{state_at, state_after, IsStep, StandsAt, GoesOn, IsReady}
+use Rattle.frame_plan.specs.Steps.{state_at, IsStep, StandsAt, HasStepped, GoesOn, IsReady}
 use Rattle.frame_plan.proofs.Accessing.{are_there}
-use Rattle.frame_plan.proofs.CompletedJobs.{has_set, has_none, rising_up_to, completed_stand}
+use Rattle.frame_plan.proofs.CompletedJobs.{has_append, has_set, has_none, rising_up_to, completed_stand}
 use Rattle.frame_plan.proofs.Continuing.{IsContinued, continued, same_temps, same_tempjobs}
 use Rattle.frame_plan.proofs.DisposalsGoOn.{as_continued, value_jobs}
 use Rattle.frame_plan.proofs.Holding.{store_users}
 use Rattle.frame_plan.proofs.Naming.{same_names}
 use Rattle.frame_plan.proofs.Outlining.{jobs_are}
-use Rattle.frame_plan.proofs.Reaching.{known_after, fits_at, used_below, within, no_more}
+use Rattle.frame_plan.proofs.Quiet.{IsPlain, IsStill, given_closed, still_steps, waits_closed}
+use Rattle.frame_plan.proofs.Reaching.{known_after, fits_at, used_below, within}
 use Rattle.frame_plan.proofs.Restating.{accepted_state}
 
 ops_more : (xs : List Segment) (x : Segment) → ops_count (xs ++ x ∷ []) ≡ ops_count xs + length x.ops.items
@@ -97,6 +99,22 @@ module _ (script : Script) (table : Table) (begun : ScriptState) (n : ℕ) (foun
   has_newly j pos =
       ap (λ ids. has_job ids j) newly_is
       ∙ ⊎_elim (λ lt. has_none set last j lt ∙ sym (none_later j lt)) (λ le. has_set set last j pos le) (cases_lt last j)
+
+  -- what follows waits for what is completed
+  waited : waits_so_far q ≡ waits_so_far p ++ c.newly → HasWaited begun.book.count s p → HasWaited begun.book.count t q
+  waited are h j pos =
+      ap (λ ids. has_job ids j) are
+      ∙ has_append (waits_so_far p) c.newly j
+      ∙ (let old = h j pos in
+      let new = has_newly j pos ∙ ap (λ b. newly_of s.book b (ancestors_in s.book handle) j) st.numbers.before in
+      λ i. old i || new i)
+      ∙ by (nat_lt 0 j) (s.book.completed (begun.book.count + j)) (ancestors_in s.book handle (begun.book.count + j)) (lt-ltb 0 j pos)
+    where
+      by : (x done now : Bool) → x ≡ true → ((x && done) || (now && not done)) ≡ (x && (done || now))
+      by false done now e = absurd (not_both e refl)
+      by true true now e = refl
+      by true false true e = refl
+      by true false false e = refl
 
   module _ (y : Outline) (a : Agrees p g begun found y) where
     was : IsPlanned y s (draft_of p)
@@ -193,7 +211,12 @@ module _ (script : Script) (table : Table) (begun : ScriptState) (n : ℕ) (foun
       })
       (segments : length q.plan.segments.items ≤ suc (length p.plan.segments.items))
       (ops : (ops_count q.plan.segments.items + length q.plan.ops.items) ≤ (ops_count p.plan.segments.items + length p.plan.ops.items))
+      (spans : given_so_far q ≡ given_so_far p)
+      (segments_later : List Segment)
+      (segments_are : q.plan.segments.items ≡ p.plan.segments.items ++ segments_later)
+      (waits : waits_so_far q ≡ waits_so_far p ++ c.newly)
       (is : act g s x ≡ t)
+      (plain : IsPlain g x.act)
       (planned : (y : Outline) → Agrees p g begun found y → IsPlanned y t (draft_of q)) where
     values_are : q.values ≡ p.values
     values_are = ap (λ (k : Planner). k.values) rest ∙ values
@@ -227,18 +250,30 @@ module _ (script : Script) (table : Table) (begun : ScriptState) (n : ℕ) (foun
       containers = stand;
     }
 
-    onward : (more : List ℕ) × Stands q g begun (suc n) (state_after script table n x) (found ++ more)
+    still : IsStill g s x begun.book.count p q
+    still = record {
+      spans = spans;
+      peak = c.peak;
+      jobs = ap (λ (k : Planner). k.plan.jobs.items) goes.planner;
+      kernels = ap (λ (k : Planner). k.plan.kernels.items) goes.planner;
+      segments_later = segments_later;
+      segments_are = segments_are;
+      waited = λ h. subst (λ u. HasWaited begun.book.count u q) (sym is) (waited waits h);
+    }
+
+    onward : HasStepped script table begun n found p q x
     onward =
-        subst (λ u. (more : List ℕ) × Stands q g begun (suc n) u (found ++ more)) (sym is)
-        (no_more q g begun (suc n) t found
+        still_steps script table begun n found p q x step
+        (subst (λ u. Stands q g begun (suc n) u found) (sym is)
         (continued p q g begun n s t found st goes (subst IsKnown is (known_after script table n x step))
         (subst (λ (v : Vec Value Global). AreNames v.items q.handles.items (length p.containers.items) t) (sym values_are)
         (subst (λ (v : Vec Handle Global). AreNames p.values.items v.items (length p.containers.items) t) (sym handles_are)
         (same_names p.values.items p.handles.items (length p.containers.items) s t refl st.names)))
         planned))
+        still plain
 
-  pub completes_on : act g s x ≡ t → (more : List ℕ) × Stands q g begun (suc n) (state_after script table n x) (found ++ more)
-  completes_on is = ⊎_elim
+  pub completes_on : act g s x ≡ t → IsPlain g x.act → HasStepped script table begun n found p q x
+  completes_on is plain = ⊎_elim
       (λ i.
       let r : Planner = record p { jobs = q.jobs; store = q.store; plan = record p.plan { segments = q.plan.segments; waits = q.plan.waits; ops = q.plan.ops } } in
       let segments = ap length i.segments in
@@ -246,12 +281,19 @@ module _ (script : Script) (table : Table) (begun : ScriptState) (n : ℕ) (foun
       let counted = ap ops_count i.segments ∙ ops_more p.plan.segments.items i.segment in
       let were = ap length i.ops_were in
       let none = ap length i.ops in
-      onward r i.rest refl refl refl refl refl refl refl refl (omega arith) (omega arith) is (λ y a. closed_planned y a i))
-      (λ i.
+      onward r i.rest refl refl refl refl refl refl refl refl (omega arith) (omega arith)
+      (given_closed p.plan.segments.items q.plan.segments.items i.segment p.plan.ops.items q.plan.ops.items i.segments i.ops_were i.ops)
+      (i.segment ∷ []) i.segments
+      (waits_closed p.plan.segments.items q.plan.segments.items i.segment p.plan.waits.items q.plan.waits.items c.newly i.segments i.waits_were i.waits)
+      is plain (λ y a. closed_planned y a i))
+      (λ (i : (c.newly ≡ []) × (q ≡ record p { jobs = q.jobs; store = q.store })).
       let r : Planner = record p { jobs = q.jobs; store = q.store } in
       let segments = ap (λ (k : Planner). length k.plan.segments.items) i.1 in
       let counted = ap (λ (k : Planner). ops_count k.plan.segments.items + length k.plan.ops.items) i.1 in
-      onward r i.1 refl refl refl refl refl refl refl refl (omega arith) (omega arith) is
+      onward r i.1 refl refl refl refl refl refl refl refl (omega arith) (omega arith) (ap given_so_far i.1)
+      [] (ap (λ (k : Planner). k.plan.segments.items) i.1 ∙ sym (append-nil p.plan.segments.items))
+      (ap waits_so_far i.1 ∙ sym (append-nil (waits_so_far p)) ∙ ap (λ l. waits_so_far p ++ l) (sym i.0))
+      is plain
       (λ y a. subst (λ (k : Planner). IsPlanned y t (draft_of k)) (sym i.1) (open_planned y a i.0)))
       c.segment
 
@@ -292,4 +334,4 @@ module _ (p : Planner) (name : ℕ) where
       are ∙ (λ i j. value_jobs p.values.items p.handles.items (length p.containers.items) s st.names v j i) ∙ ap states.jobs_of (st.names.are name v h) in
       completes_on script table begun n found (statement line) step p st (states.jobs_of (s.values name)) (st.known.handles name) q
       (subst (AreCompleted p q) same c)
-      (accepted_state (setting script table) s (statement line) step.acts refl)
+      (accepted_state (setting script table) s (statement line) step.acts refl) (refl, tt)

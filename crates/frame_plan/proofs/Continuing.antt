@@ -3,7 +3,7 @@
 --
 -- `IsContinued` names what may change. That containers stand, and that the plan so far does what the script did, is shown
 -- statement by statement.
-use Rattle.std.proofs.Common.{◌≡◌, ℕ, suc, ◌+◌, ◌≤◌, Bool, true, List, length, sym, subst, ◌∙◌, arith}
+use Rattle.std.proofs.Common.{◌≡◌, ℕ, suc, ◌+◌, ◌≤◌, Bool, true, List, length, sym, ap, subst, ◌∙◌, arith}
 use Rattle.std.specs.Prelude.{Vec}
 use Rattle.std.specs.declared.alloc.Global.{Global}
 use Rattle.job_base.specs.declared.JobId.{JobId}
@@ -24,6 +24,7 @@ use Rattle.frame_core.specs.Ordered.{ops_count}
 use Rattle.plan_laws.specs.Planned.{Outline, IsPlanned}
 use Rattle.frame_plan.specs.declared.state.Value.{Value}
 use Rattle.frame_plan.specs.declared.state.Planner.{Planner}
+use Rattle.frame_plan.specs.Growth.{given_so_far, IsQuiet}
 use Rattle.frame_plan.specs.Stands.{AreNames, AreContainers, AreTemps, AreTempJobs, IsCopy, IsGuardedCopy, Agrees, Stands, draft_of}
 use Rattle.frame_plan.proofs.Ending.{changed, words_counted}
 
@@ -159,6 +160,18 @@ continued p q g begun n s t found st r known names planned =
     (subst IsKnown r.state known)
     (subst (AreNames q.values.items q.handles.items (length p.containers.items)) r.state names)
     (λ x a. subst (λ u. IsPlanned x u (draft_of as_q)) r.state (subst (λ k. IsPlanned x t (draft_of k)) r.planner (planned x a)))))
+
+-- It gives no range and starts no job where its segments and operations give none.
+pub quiet_continued : (p q : Planner) (s t : ScriptState) (found : List ℕ) → IsContinued p q s t found → given_so_far q ≡ given_so_far p
+    → q.plan.segments ≡ p.plan.segments → q.plan.waits ≡ p.plan.waits → IsQuiet p q
+quiet_continued p q s t found r same segments waits = record {
+  spans = same;
+  peak = r.peak;
+  jobs = ap (λ (k : Planner). k.plan.jobs.items) r.planner;
+  kernels = ap (λ (k : Planner). k.plan.kernels.items) r.planner;
+  segments = ap (λ (v : Vec Segment Global). v.items) segments;
+  waits = ap (λ (v : Vec JobId Global). v.items) waits;
+}
 
 -- ---- where no temp container was made, and the frame is the same
 

@@ -32,9 +32,8 @@ use Rattle.frame_plan.specs.Accesses.{IsPushed, HasHandle, jobs_by}
 use Rattle.frame_plan.specs.Causes.{as_refused}
 use Rattle.frame_plan.specs.Deferring.{IsLengthUse, IsDeferredStart, MayBeGuarded, deferred_refusal, noted_uses, with_length}
 use Rattle.frame_plan.specs.Noting.{MayNoteAll}
-use Rattle.frame_plan.specs.Stands.{Stands}
 use Rattle.frame_plan.specs.Starting.{AreDeps, IsFull}
-use Rattle.frame_plan.specs.Steps.{state_at, state_after, IsStep, StandsAt, PassesLimit}
+use Rattle.frame_plan.specs.Steps.{state_at, state_after, IsStep, StandsAt, HasStepped, PassesLimit}
 use Rattle.frame_plan.specs.Uses.{ForNames, IsUse, IsNameBelow, tags_of}
 use Rattle.frame_plan.proofs.DeferredChoosing.{deferred_refusal_is}
 use Rattle.frame_plan.proofs.DeferredMeaning.{length_value}
@@ -146,7 +145,7 @@ module _ (script : Script) (table : Table) (begun : ScriptState) (n : ℕ) (foun
           -- refused
           pub refused_on : (cause : Cause) → Some cause ≡ deferred_refusal uses length_use parallel auto → (q : Planner)
               → (said : Planner) × IsPushed p said (record { line = line; name = cause.name; act = Say cause.refusal }) × HasHandle said q handle nobody
-              → (more : List ℕ) × Stands q g begun (suc n) (state_after script table n x) (found ++ more)
+              → HasStepped script table begun n found p q x
           refused_on cause e q h =
               let r : Refused = record { cause = cause.refusal; name = cause.name } in
               let is : refusal g s x.act ≡ Some r = sym refusal_as ∙ ap as_refused (sym e) in
@@ -183,12 +182,12 @@ module _ (script : Script) (table : Table) (begun : ScriptState) (n : ℕ) (foun
                   let up = started.waited_up script table begun n found line auto handle kernel args list batch waive after step the_text p st uses length_use (jobs_of named) named_is in_text is_length none j (sym (ap (λ f. f j) waits) ∙ h) in
                   let e = count_is in (up.0, omega arith)
 
-              pub accepted_on : (q : Planner) (waived : List ℕ) → waived ≡ waive.items → IsDeferredStart script p q handle kernel given list waived (noted_uses uses length_use) deps
-                  → (more : List ℕ) × Stands q g begun (suc n) (state_after script table n x) (found ++ more)
+              pub accepted_on : (q : Planner) (waived : List ℕ) → waived ≡ waive.items → IsDeferredStart script p q handle kernel given list batch waived (noted_uses uses length_use) deps
+                  → HasStepped script table begun n found p q x
               accepted_on q waived w d =
-                  started.deferred_stands script table begun n found line auto handle kernel args list batch waive after step the_text p st uses length_use (jobs_of named) named_is in_text is_length none q deps waits
-                  (subst (λ ws. IsDeferredStart script p q handle kernel args.items list ws (noted_uses uses length_use) deps) w
-                  (subst (λ as_. IsDeferredStart script p q handle kernel as_ list waived (noted_uses uses length_use) deps) given_is d))
+                  started.deferred_on script table begun n found line auto handle kernel args list batch waive after step the_text p st uses length_use (jobs_of named) named_is in_text is_length none q deps waits
+                  (subst (λ ws. IsDeferredStart script p q handle kernel args.items list batch ws (noted_uses uses length_use) deps) w
+                  (subst (λ as_. IsDeferredStart script p q handle kernel as_ list batch waived (noted_uses uses length_use) deps) given_is d))
 
             -- there are all jobs already
             pub fails : (fault : PlanFault) → IsFull fault (count_of p.jobs) → PassesLimit fault (state_after script table n x)

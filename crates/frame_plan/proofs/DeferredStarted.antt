@@ -1,8 +1,9 @@
 -- An accepted schedule with `defer`: the planner that scheduled its job stands for the state after it.
-use Rattle.std.proofs.Common.{◌≡◌, ⊎_elim, ℕ, suc, ◌+◌, ◌-◌, ◌<◌, ◌≤◌, All, Bool, true, false, ◌&&◌, ◌||◌, List, [], ◌∷◌, ◌++◌, length, take, Some, None, refl, sym, ap, subst, ◌∙◌, arith, append_assoc, length-take}
+use Rattle.std.proofs.Common.{◌≡◌, ⊎_elim, ℕ, suc, ◌+◌, ◌-◌, ◌<◌, ◌≤◌, All, Bool, true, false, ◌&&◌, ◌||◌, List, [], ◌∷◌, ◌++◌, length, take, Some, None, refl, sym, ap, subst, ◌∙◌, arith, append-nil, append_assoc, length-take}
 use Rattle.std.specs.Prelude.{Vec, nat_eq, slice_get, if◌then◌else◌}
 use Rattle.std.specs.declared.alloc.Global.{Global}
 use Rattle.std.proofs.lemmas.Bool.{or_cases, eqb-true, and_parts}
+use Rattle.batch_cut.specs.Cuts.{step_of}
 use Rattle.job_base.specs.declared.JobId.{JobId}
 use Rattle.job_base.specs.declared.limits.TheConstants.{MOST_STATEMENTS, MOST_INDEXES}
 use Rattle.frame_ast.specs.declared.kernel.Param.{Param}
@@ -16,6 +17,7 @@ use Rattle.frame_ast.specs.Jobs.{Jobs, both, only, with_job}
 use Rattle.frame_ast.specs.Laws.{IsKnown, AreUpTo}
 use Rattle.frame_ast.specs.Orders.{Table, Setting, setting, kernel_params, is_parallel}
 use Rattle.frame_ast.specs.Refusals.{jobs_named, pending, schedule_refusal}
+use Rattle.frame_ast.specs.Ranges.{Starts}
 use Rattle.frame_ast.specs.Schedules.{Given, given_args, givens}
 use Rattle.frame_ast.specs.States as states
 use Rattle.frame_ast.specs.States.{ScriptState, with_at, container_at, contents_at}
@@ -42,10 +44,11 @@ use Rattle.frame_plan.specs.declared.state.Planner.{Planner}
 use Rattle.frame_plan.specs.declared.state.Value.{Value}
 use Rattle.frame_plan.specs.declared.uses.NamedUse.{NamedUse}
 use Rattle.frame_plan.specs.Deferring.{IsLengthUse, IsListName, IsDeferredStart, noted_uses, with_length}
+use Rattle.frame_plan.specs.Growth.{StartAs, IsJobOf, is_none}
 use Rattle.frame_plan.specs.JobBinds.{job_binds}
 use Rattle.frame_plan.specs.Noting.{MayNoteAll, noted_all}
 use Rattle.frame_plan.specs.Stands.{AreNames, Agrees, Stands, draft_of}
-use Rattle.frame_plan.specs.Steps.{state_at, state_after, IsStep, StandsAt}
+use Rattle.frame_plan.specs.Steps.{state_at, state_after, IsStep, StandsAt, HasStepped}
 use Rattle.frame_plan.specs.Uses.{ForNames, IsUse}
 use Rattle.frame_plan.proofs.ListCapacities.{capacities_are_small}
 use Rattle.frame_plan.proofs.Choosing.{AreAlive}
@@ -64,9 +67,11 @@ use Rattle.frame_plan.proofs.Meaning.{AreMeant, IsMeant, uses_meant}
 use Rattle.frame_plan.proofs.Naming.{IsNamed, handle_names, handles_more, set_long}
 use Rattle.frame_plan.proofs.NewJob as newly
 use Rattle.frame_plan.proofs.Notes.{needs, folded, folded_view, folded_unused, folded_stands, AreApart}
-use Rattle.frame_plan.proofs.Reaching.{known_after, statements_few, no_more}
+use Rattle.frame_plan.proofs.Reaching.{known_after, statements_few}
 use Rattle.frame_plan.proofs.Restating.{accepted_state}
 use Rattle.frame_plan.proofs.Scheduled.{bind_by_form, unpending, unblocked, deps_up}
+use Rattle.frame_plan.proofs.ScheduleGrown as growing
+use Rattle.frame_plan.proofs.ScheduleGrown.{none_waived}
 use Rattle.frame_plan.proofs.ScheduleText.{each_lower}
 use Rattle.frame_plan.proofs.Slots.{noted_live, noted_version, noted_folded, may_note}
 
@@ -204,7 +209,7 @@ module _ (script : Script) (table : Table) (begun : ScriptState) (n : ℕ) (foun
 
     -- ---- the planner afterwards
 
-    module _ (q : Planner) (deps : Jobs) (deps_is : deps ≡ waited) (d : IsDeferredStart script p q handle kernel args.items list waive.items noted deps) where
+    module _ (q : Planner) (deps : Jobs) (deps_is : deps ≡ waited) (d : IsDeferredStart script p q handle kernel args.items list batch waive.items noted deps) where
       kept : (d.after.kernels ≡ p.kernels) × (d.after.plan.kernels ≡ p.plan.kernels) × (d.after.guards ≡ p.guards)
       kept = (ap (λ (k : Planner). k.kernels) d.rest, ap (λ (k : Planner). k.plan.kernels) d.rest, ap (λ (k : Planner). k.guards) d.rest)
 
@@ -372,6 +377,28 @@ module _ (script : Script) (table : Table) (begun : ScriptState) (n : ℕ) (foun
         ops = d.started.ops;
       }
 
+      starts_next : d.started.segment.starts ≡ Some (record { 0 = suc (length p.plan.jobs.items) })
+      starts_next = d.started.starts ∙ ap (λ (k : Planner). Some (record { 0 = suc (length k.plan.jobs.items) })) middle_of
+
+      same_at : d.at ≡ the_list.at
+      same_at = whole (sym d.list_at ∙ the_list.is)
+        where
+          whole : {a b : ListAt} → WholeList a ≡ WholeList b → a ≡ b
+          whole e = cc
+
+      -- by any starts that agree with those found
+      binds_are : (y : Outline) → Agrees p g begun found y → d.job.binds.items ≡ deferred_binds y.starts s o d.source
+      binds_are y a = d.binds ∙ (λ i. args_now i ++ word_at (start_now i) ∷ [])
+        where
+          args_now : job_binds p d.source.parallel waive.items 0 d.source.params.items args.items
+              ≡ Rattle.plan_laws.specs.Binds.binds_by y.starts s d.source.params.items (Rattle.frame_ast.specs.Schedules.widths_from d.source.parallel waive.items 0 d.source.params.items) args.items
+          args_now = arguments.deferred_args p g begun n s found st y a (Some (list, batch)) d.source.parallel waive.items 0 d.source.params.items args.items
+              (each_lower (length g.names) (length p.values.items) (let e = st.each in omega arith) args.items is_text.below)
+              (subst (λ k. Rattle.frame_ast.specs.Fitting.ArgsFit s (Some (list, batch)) (kernel_params k) args.items) d.is_source accepted_as.args_fit)
+
+          start_now : d.at.start ≡ start_at y.starts s list
+          start_now = ap (λ (w : ListAt). w.start) same_at ∙ the_list.start ∙ sym (a.starts (s.range (container_at s list)) the_list.range)
+
       module _ (y : Outline) (a : Agrees as_q g begun found y) where
         later_jobs : y.plan.jobs.items ≡ (p.plan.jobs.items ++ d.job ∷ []) ++ a.jobs.0
         later_jobs = a.jobs.1 ∙ ap (λ js. js ++ a.jobs.0) jobs_are
@@ -394,26 +421,6 @@ module _ (script : Script) (table : Table) (begun : ScriptState) (n : ℕ) (foun
         begun_jobs : jobs_before y ≡ p.jobs_before
         begun_jobs = ap (λ (u : ScriptState). u.book.count) a.begins ∙ sym st.numbers.before
 
-        same_at : d.at ≡ the_list.at
-        same_at = whole (sym d.list_at ∙ the_list.is)
-          where
-            whole : {a b : ListAt} → WholeList a ≡ WholeList b → a ≡ b
-            whole e = cc
-
-        binds_are : d.job.binds.items ≡ deferred_binds y.starts s o d.source
-        binds_are =
-            d.binds
-            ∙ (λ i. args_now i ++ word_at (start_now i) ∷ [])
-          where
-            args_now : job_binds p d.source.parallel waive.items 0 d.source.params.items args.items
-                ≡ Rattle.plan_laws.specs.Binds.binds_by y.starts s d.source.params.items (Rattle.frame_ast.specs.Schedules.widths_from d.source.parallel waive.items 0 d.source.params.items) args.items
-            args_now = arguments.deferred_args p g begun n s found st y agrees (Some (list, batch)) d.source.parallel waive.items 0 d.source.params.items args.items
-                (each_lower (length g.names) (length p.values.items) (let e = st.each in omega arith) args.items is_text.below)
-                (subst (λ k. Rattle.frame_ast.specs.Fitting.ArgsFit s (Some (list, batch)) (kernel_params k) args.items) d.is_source accepted_as.args_fit)
-
-            start_now : d.at.start ≡ start_at y.starts s list
-            start_now = ap (λ (w : ListAt). w.start) same_at ∙ the_list.start ∙ sym (a.starts (s.range (container_at s list)) the_list.range)
-
         up_to_all : (ids : List JobId) (k m : ℕ) → k ≤ m → All (λ (id : JobId). id.0 ≤ k) ids → All (λ (id : JobId). id.0 ≤ m) ids
         up_to_all ids k m le h i e lt = let low = h i e lt in omega arith
 
@@ -430,10 +437,10 @@ module _ (script : Script) (table : Table) (begun : ScriptState) (n : ℕ) (foun
           old_checked = step.accepted.kernels kernel d.source d.is_source;
           checked = has_guard.guards.checked;
           first = d.first ∙ ap (λ (k : Planner). k.plan.pieces) middle_of ∙ st.numbers.pieces;
-          binds = binds_are;
+          binds = binds_are y agrees;
           indexes = d.indexes ∙ ap (λ (w : ListAt). w.cap) same_at ∙ the_list.cap;
           cut = d.cut;
-          parallel = λ e. (d.parallel e).1;
+          parallel = λ e. none_waived waive.items (and_parts d.source.parallel (is_none waive.items) (sym d.parallel ∙ e)).1;
           known_deps = (
             d.later_are.within.0,
             up_to_all d.job.deps.items (count_of p.jobs - p.jobs_before) (length y.plan.jobs.items)
@@ -448,7 +455,7 @@ module _ (script : Script) (table : Table) (begun : ScriptState) (n : ℕ) (foun
         planned : IsPlanned y as_t (draft_of as_q)
         planned = subst (λ u. IsPlanned y u (draft_of as_q)) t_is
             (deferred_schedules_are_planned y g s o d.source has_guard.copy (draft_of p) (draft_of as_q) d.started.segment d.job a.small st.known before accepted_as d.is_source job_is
-            (d.started.starts ∙ ap (λ (k : Planner). Some (record { 0 = suc (length k.plan.jobs.items) })) middle_of) closes)
+            starts_next closes)
 
       -- ---- it stands
 
@@ -479,10 +486,45 @@ module _ (script : Script) (table : Table) (begun : ScriptState) (n : ℕ) (foun
         planned = λ y a. planned y a;
       }
 
-      pub deferred_stands : (more : List ℕ) × Stands q g begun (suc n) (state_after script table n x) (found ++ more)
-      deferred_stands =
-          subst (λ u. (more : List ℕ) × Stands q g begun (suc n) u (found ++ more)) (sym (after_is ∙ t_is))
-          (no_more q g begun (suc n) as_t found
+      -- ---- its job is that of the schedule
+
+      kernels_now : q.plan.kernels.items ≡ d.middle.plan.kernels.items
+      kernels_now = ap (λ (k : Planner). k.plan.kernels.items) q_is
+
+      deferred_job : (starts : Starts) → StartAs starts found
+          → IsJobOf g starts begun.book.count s waited kernel args.items None (Some (list, batch)) waive.items q.plan.kernels.items d.job
+      deferred_job starts as_found = record {
+        source = d.source;
+        is_source = d.is_source;
+        copy = has_guard.copy;
+        is_copy = ap (λ ks. slice_get ks d.job.kernel) kernels_now ∙ has_guard.here;
+        copied = has_guard.guards.guarded;
+        binds = binds_are (growing.outline_by p script table begun n s found st starts) (growing.agrees_by p script table begun n s found st starts as_found);
+        indexes = d.indexes ∙ ap (λ (w : ListAt). w.cap) same_at ∙ the_list.cap;
+        step = d.step ∙ ap (λ cap. step_of cap batch) (ap (λ (w : ListAt). w.cap) same_at ∙ the_list.cap);
+        parallel = d.parallel;
+        deps = λ j. d.later_are.are j ∙ (λ i. later (st.numbers.before i) (deps_is i) j);
+      }
+
+      has_started : growing.HasStarted script table begun n found line auto handle kernel args None (Some (list, batch)) waive after p q d.started.segment d.job waited
+      has_started = record {
+        store = ap (λ (k : Planner). k.store) q_is;
+        segments = ap (λ (k : Planner). k.plan.segments.items) q_is ∙ segments_are;
+        waits_were = closes.waits_were;
+        ops_were = closes.ops_were;
+        starts = starts_next;
+        waits = ap (λ (k : Planner). k.plan.waits.items) q_is ∙ d.started.waits;
+        ops = ap (λ (k : Planner). k.plan.ops.items) q_is ∙ d.started.ops;
+        jobs = ap (λ (k : Planner). k.plan.jobs.items) q_is ∙ jobs_are;
+        kernels = places.kernels_later script g refl p d.after d.middle kernel d.job.kernel st.kernels kept d.guarded d.source d.is_source q.plan.kernels.items
+            ([], kernels_now ∙ sym (append-nil d.middle.plan.kernels.items));
+        book = ap (λ (u : ScriptState). u.book) (after_is ∙ t_is);
+        job_is = deferred_job;
+      }
+
+      pub deferred_on : HasStepped script table begun n found p q x
+      deferred_on = growing.stepped script table begun n found line auto handle kernel args None (Some (list, batch)) waive after p q step none st d.started.segment d.job waited has_started
+          (subst (λ u. Stands q g begun (suc n) u found) (sym (after_is ∙ t_is))
           (subst (λ k. Stands k g begun (suc n) as_t found) (sym q_is)
           (newly.with_job_stands p g begun n s found st q.values q.handles d.after.jobs d.after.safety p.kernels d.middle.guards d.middle.plan.kernels
           d.ended.plan.segments d.ended.plan.jobs d.ended.plan.waits d.ended.plan.ops d.ended.plan.pieces

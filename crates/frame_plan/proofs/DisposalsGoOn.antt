@@ -1,5 +1,5 @@
 -- Disposals go on: each is refused as it is in the script, or its container ends.
-use Rattle.std.proofs.Common.{◌≡◌, ℕ, zero, suc, ◌+◌, ◌<◌, inr, Bool, true, false, cond, ◌&&◌, ◌||◌, List, [], ◌∷◌, ◌++◌, length, Option, Some, None, Result, Ok, Err, refl, sym, ap, subst, ◌∙◌, arith}
+use Rattle.std.proofs.Common.{◌≡◌, ℕ, zero, suc, ◌+◌, ◌<◌, inr, Bool, true, false, cond, ◌&&◌, ◌||◌, List, [], ◌∷◌, length, Option, Some, None, Result, Ok, Err, refl, sym, ap, subst, ◌∙◌, arith}
 use Rattle.std.specs.Prelude.{Vec, vec_len, slice_get, get_or, nat_eq, nat_lt}
 use Rattle.std.specs.declared.alloc.Global.{Global}
 use Rattle.std.specs.List.{All}
@@ -43,16 +43,18 @@ use Rattle.frame_plan.specs.declared.state.Container.{Container}
 use Rattle.frame_plan.specs.declared.state.Planner.{Planner}
 use Rattle.frame_plan.specs.Accesses.{refused_as, jobs_in, jobs_of_value, jobs_for, jobs_by, IsPushed, AreThere}
 use Rattle.frame_plan.specs.Endings.{disposal, IsDisposable, CanEnd, CanHold, IsGiven}
+use Rattle.frame_plan.specs.Growth.{given_so_far}
 use Rattle.frame_plan.specs.Stands.{jobs_at, value_for, AreNames, AreContainers, AreTemps, AreTempJobs, Stands, draft_of}
-use Rattle.frame_plan.specs.Steps.{state_at, state_after, IsStep, StandsAt, GoesOn, IsReady}
+use Rattle.frame_plan.specs.Steps.{state_at, IsStep, StandsAt, HasStepped, GoesOn, IsReady}
 use Rattle.frame_plan.proofs.Accessing.{are_there, read_some}
-use Rattle.frame_plan.proofs.Continuing.{IsContinued, continued, same_temps, same_tempjobs}
+use Rattle.frame_plan.proofs.Continuing.{IsContinued, continued, quiet_continued, same_temps, same_tempjobs}
 use Rattle.frame_plan.proofs.Disposals.{disposed_alive, alive_container}
 use Rattle.frame_plan.proofs.Ending.{there}
 use Rattle.frame_plan.proofs.Giving.{fallen, taken0, version0, given_stand}
 use Rattle.frame_plan.proofs.Holding.{store_users}
 use Rattle.frame_plan.proofs.Naming.{same_names}
-use Rattle.frame_plan.proofs.Reaching.{known_after, fits_at, statements_few, used_below, within, no_more}
+use Rattle.frame_plan.proofs.Quiet.{plain_steps}
+use Rattle.frame_plan.proofs.Reaching.{known_after, fits_at, statements_few, used_below, within}
 use Rattle.frame_plan.proofs.Restating.{accepted_state, said}
 use Rattle.frame_plan.proofs.Settling.{latest_are_users}
 
@@ -228,7 +230,7 @@ module _ (script : Script) (table : Table) (begun : ScriptState) (n : ℕ) (foun
     refusal_is = ap (disposal s name) named_nobody
 
     pub plain_refused : (q : Planner) (cause : Refusal) → Answers p s name nobody (Err cause) → IsPushed p q (record { line = line; name = name; act = Say cause })
-        → (more : List ℕ) × Stands q g begun (suc n) (state_after script table n x) (found ++ more)
+        → HasStepped script table begun n found p q x
     plain_refused q cause a i =
         said script table begun n found x step (record { cause = cause; name = name }) p st (refusal_is ∙ sym a.0) plain_below q refl refl (inr (λ c. refl)) i
 
@@ -285,14 +287,16 @@ module _ (script : Script) (table : Table) (begun : ScriptState) (n : ℕ) (foun
           containers = containers;
         }
 
-        pub plain_ended : (more : List ℕ) × Stands q g begun (suc n) (state_after script table n x) (found ++ more)
+        pub plain_ended : HasStepped script table begun n found p q x
         plain_ended =
-            subst (λ u. (more : List ℕ) × Stands q g begun (suc n) u (found ++ more)) (sym is)
-            (no_more q g begun (suc n) t found
+            plain_steps script table begun n found p q x step
+            (subst (λ u. Stands q g begun (suc n) u found) (sym is)
             (continued p q g begun n s t found st goes (subst IsKnown is (known_after script table n x step))
             (subst (λ (k : Planner). AreNames k.values.items k.handles.items (length p.containers.items) t) (sym i.rest)
             (same_names p.values.items p.handles.items (length p.containers.items) s t refl st.names))
             (λ y b. subst (λ (k : Planner). IsPlanned y t (draft_of k)) (sym i.rest) (disposals_are_planned y s name (draft_of p) st.known (st.planned y b)))))
+            (quiet_continued p q s t found goes (ap given_so_far i.rest) (ap (λ (k : Planner). k.plan.segments) i.rest) (ap (λ (k : Planner). k.plan.waits) i.rest))
+            (refl, tt) (ap (λ (u : ScriptState). u.book.completed) is)
 
 -- the same as the code asks and answers
 module _ (p : Planner) (line name : ℕ) where

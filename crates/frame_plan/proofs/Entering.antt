@@ -580,7 +580,7 @@ module _ (p : Planner) (g : Setting) (begun : ScriptState) (n : ℕ) (s : Script
         let start : x.starts s.takes ≡ t.span.start = a.starts s.takes (let e = one_more found t.span.start in let k = st.takes in omega arith) ∙ get_new found t.span.start s.takes (sym st.takes) in
         let span : t.span ≡ next_span x s contents = (let st = sym start in let ln = w.len_is in λ i. record { start = st i; len = ln i }) in
         let f = fills x a in
-        let alike : is_live_word p.store ≡ ranges.is_live_word x.starts s = (λ i w. live_words_are_alike p g begun n s found x st b w i) in
+        let alike : is_live_word p.store ≡ ranges.is_live_word x.starts s = (λ i w. live_words_are_alike p g begun n s found x.starts st b.starts w i) in
         let shown : name < length x.plan.names.items = (let e = ap length b.names in let l = long (λ v. string_bytes v) x.plan.names.items in omega arith) in
         containers_are_planned x b.small s line name life contents literal name (draft_of p) (draft_of q) (st.planned x b)
         (subst (λ live. IsFirstFit live (words_of contents) (x.starts s.takes)) alike (subst (IsFirstFit (is_live_word p.store) (words_of contents)) (sym start) w.fit))

@@ -1,5 +1,5 @@
 -- A frame goes on: what is overdue is reported, and containers that live for one frame end.
-use Rattle.std.proofs.Common.{◌≡◌, ℕ, suc, ◌+◌, ◌<◌, ◌≤◌, ⊎_elim, Bool, true, false, ◌&&◌, not, List, [], ◌++◌, length, Some, refl, sym, ap, subst, ◌∙◌, arith}
+use Rattle.std.proofs.Common.{◌≡◌, ℕ, zero, suc, ◌+◌, ◌<◌, ◌≤◌, ⊎_elim, Bool, true, false, ◌&&◌, not, List, [], ◌∷◌, ◌++◌, length, Some, refl, sym, ap, subst, ◌∙◌, arith, append-nil}
 use Rattle.std.specs.Prelude.{Vec, vec_len, nat_eq, slice_get, get_or, if◌then◌else◌}
 use Rattle.std.specs.declared.alloc.Global.{Global}
 use Rattle.std.specs.List.{All}
@@ -8,7 +8,7 @@ use Rattle.frame_ast.specs.declared.script.Order.TheVariants.{Frame}
 use Rattle.frame_ast.specs.declared.script.Script.{Script}
 use Rattle.frame_ast.specs.declared.script.Statement.{Statement}
 use Rattle.frame_ast.specs.Conflicts.{has_pending}
-use Rattle.frame_ast.specs.Effects.{next_frame}
+use Rattle.frame_ast.specs.Effects.{is_overdue, next_frame}
 use Rattle.frame_ast.specs.Laws.{IsKnown}
 use Rattle.frame_ast.specs.Orders.{Table, Setting, setting}
 use Rattle.frame_ast.specs.Refusals.{is_temp}
@@ -19,21 +19,23 @@ use Rattle.slot_store.specs.Stores.{peak_of, slots_in_use}
 use Rattle.frame_core.specs.Ordered.{ops_count}
 use Rattle.frame_core.proofs.Small.{not_both, some_is, none_some, either_bool, get_below}
 use Rattle.plan_laws.specs.Disposing.{with_alive}
-use Rattle.plan_laws.specs.Frames.{report_ops}
+use Rattle.plan_laws.specs.Frames.{report_op, report_ops}
 use Rattle.plan_laws.specs.Planned.{Outline, IsPlanned}
 use Rattle.plan_laws.proofs.Frames.{frames_are_planned}
 use Rattle.frame_plan.specs.declared.state.Container.{Container}
 use Rattle.frame_plan.specs.declared.state.Planner.{Planner}
 use Rattle.frame_plan.specs.Frames.{is_kept, IsDue, AreSmall, IsOver, stays, AreUnused, AreSeen, AreReported, AreOver}
+use Rattle.frame_plan.specs.Growth.{given_in, given_from, given_so_far}
 use Rattle.frame_plan.specs.Stands.{AreNames, AreContainers, AreTemps, AreTempJobs, Agrees, Stands, draft_of}
-use Rattle.frame_plan.specs.Steps.{state_at, state_after, IsStep, StandsAt, GoesOn, IsReady}
+use Rattle.frame_plan.specs.Steps.{state_at, IsStep, StandsAt, HasStepped, GoesOn, IsReady}
 use Rattle.frame_plan.proofs.Accessing.{read_some}
-use Rattle.frame_plan.proofs.Continuing.{IsContinued, continued}
+use Rattle.frame_plan.proofs.Continuing.{IsContinued, continued, quiet_continued}
 use Rattle.frame_plan.proofs.DisposalsGoOn.{as_continued}
 use Rattle.frame_plan.proofs.Ending.{still, one_of}
 use Rattle.frame_plan.proofs.Giving.{at_here, at_other, fallen, given_stand}
 use Rattle.frame_plan.proofs.Naming.{same_names}
-use Rattle.frame_plan.proofs.Reaching.{known_after, statements_few, no_more}
+use Rattle.frame_plan.proofs.Quiet.{given_more, plain_steps}
+use Rattle.frame_plan.proofs.Reaching.{known_after, statements_few}
 use Rattle.frame_plan.proofs.Reporting.{get_there, place_low, AreReportedSoFar}
 use Rattle.frame_plan.proofs.Restating.{accepted_state, name_is, name_short}
 use Rattle.frame_plan.proofs.Settling.{all_done}
@@ -305,15 +307,35 @@ module _ (p r m q : Planner) (line : ℕ) (reported : AreReported p r line) (ove
       })
       (record { segments = refl; jobs = refl; waits = refl; ops = said.0 }))
 
-  pub frame_on : (more : List ℕ) × Stands q g begun (suc n) (state_after script table n x) (found ++ more)
+  -- reports give no range
+  none_reported : (c : ℕ) → given_in (report_ops s line c) ≡ []
+  none_reported zero = refl
+  none_reported (suc c) =
+      given_more (report_ops s line c) (if is_overdue s c then report_op s line c ∷ [] else [])
+      ∙ (λ i. none_reported c i ++ one (is_overdue s c) i)
+    where
+      one : (b : Bool) → given_in (if b then report_op s line c ∷ [] else []) ≡ []
+      one true = refl
+      one false = refl
+
+  spans : given_so_far q ≡ given_so_far p
+  spans =
+      ap given_so_far is_q
+      ∙ ap (λ ops. given_from p.plan.segments.items ++ given_in ops) said.0
+      ∙ ap (λ l. given_from p.plan.segments.items ++ l)
+      (given_more p.plan.ops.items (report_ops s line s.made) ∙ ap (λ l. given_in p.plan.ops.items ++ l) (none_reported s.made) ∙ append-nil (given_in p.plan.ops.items))
+
+  pub frame_on : HasStepped script table begun n found p q x
   frame_on =
       let is = accepted_state g s x step.acts refl in
-      subst (λ u. (more : List ℕ) × Stands q g begun (suc n) u (found ++ more)) (sym is)
-      (no_more q g begun (suc n) t found
+      plain_steps script table begun n found p q x step
+      (subst (λ u. Stands q g begun (suc n) u found) (sym is)
       (continued p q g begun n s t found st goes (subst IsKnown is (known_after script table n x step))
       (subst (λ (k : Planner). AreNames k.values.items k.handles.items (length p.containers.items) t) (sym is_q)
       (same_names p.values.items p.handles.items (length p.containers.items) s t refl st.names))
       planned))
+      (quiet_continued p q s t found goes spans (ap (λ (k : Planner). k.plan.segments) is_q) (ap (λ (k : Planner). k.plan.waits) is_q))
+      (refl, tt) (ap (λ (u : ScriptState). u.book.completed) is)
 
 pub frame_goes : (p r m q : Planner) (line : ℕ) → AreReported p r line → AreOver r m → q ≡ record m { frame = m.frame + 1 } → GoesOn p q (statement p line)
 frame_goes p r m q line reported over last script table begun n found step st = frame_on p r m q line reported over last script table begun n found step st

@@ -1,5 +1,5 @@
 -- A section is handed out, and the first one is planned.
-use Rattle.std.proofs.Common.{◌≡◌, ℕ, zero, suc, ◌+◌, ◌<◌, ◌⊎◌, inl, inr, ⊎_elim, Bool, true, false, List, [], ◌∷◌, ◌++◌, map, take, Option, None, Some, refl, sym, ap, subst, ◌∙◌, arith}
+use Rattle.std.proofs.Common.{◌≡◌, ℕ, zero, suc, ◌+◌, ◌<◌, ◌≤◌, ◌⊎◌, inl, inr, ⊎_elim, Bool, true, false, List, [], ◌∷◌, ◌++◌, length, map, take, Option, None, Some, refl, sym, ap, subst, ◌∙◌, arith, append-nil}
 use Rattle.std.specs.Prelude.{slice_get, IsSome, if◌then◌else◌}
 use Rattle.std.specs.List.{list_any}
 use Rattle.frame_ast.specs.declared.script.Order.{Order}
@@ -9,6 +9,7 @@ use Rattle.frame_ast.specs.declared.script.Statement.{Statement}
 use Rattle.frame_ast.specs.Accepted.{IsAccepted, is_when}
 use Rattle.frame_ast.specs.Limits.{limit_by_run, limit_by_text, limit_of}
 use Rattle.frame_ast.specs.Orders.{Table, Setting, setting}
+use Rattle.frame_ast.specs.Ranges.{Starts}
 use Rattle.frame_ast.specs.Scripts.{act_all}
 use Rattle.frame_ast.specs.States.{ScriptState, JobTrap, at_start}
 use Rattle.slot_store.specs.Stores.{peak_of}
@@ -24,12 +25,15 @@ use Rattle.frame_plan.specs.declared.sections.SectionBook.{SectionBook}
 use Rattle.frame_plan.specs.declared.state.PlanFault.{PlanFault}
 use Rattle.frame_plan.specs.declared.state.PlanFault.TheVariants.{NoMemory}
 use Rattle.frame_plan.specs.declared.state.Planner.{Planner}
+use Rattle.frame_plan.specs.Layouts.{starts_by, IsLaidOut}
 use Rattle.frame_plan.specs.References.{IsOfTest, IsTestFor}
 use Rattle.frame_plan.specs.Runs.{IsActingTest, IsStop, IsWithin, PassesOnce, IsFinished, IsEmptied, outline_of}
 use Rattle.frame_plan.specs.Sections.{limit_told, IsTestOf, EndsBy, IsPlannedFrom, IsBetween, IsAt, IsNext, IsPlanOf}
 use Rattle.frame_plan.specs.Steps.{state_at, IsStep}
+use Rattle.frame_plan.proofs.Laying.{scheduled_later}
 use Rattle.frame_plan.proofs.Limiting.{text_passes_none, script_run_passes, run_none}
 use Rattle.frame_plan.proofs.References.{reference_held, reference_inside, first_is_none}
+use Rattle.frame_plan.proofs.Wholes.{some_planned}
 
 -- a stop at a statement is a `when`
 pub not_test : (g : Setting) (s : ScriptState) (a : Order) → IsActingTest g s a → is_when a ≡ true
@@ -51,6 +55,25 @@ module _ (script : Script) (table : Table) (from : ℕ) (book : SectionBook) (re
 
   done : IsDone (outline_of plan ready.found (state_at script table from)) (state_at script table book.at)
   done = finished.done table (state_at script table from) book.at ready.found ready.inside ready.stands
+
+  -- the plan has the definitions' ranges, jobs and contents
+  laid_out : IsLaidOut script table from book.at plan
+  laid_out =
+      let starts : Starts = starts_by ready.found in
+      let h = ready.grown starts (λ k lt. refl) in
+      let planned = some_planned script table book.planner (state_at script table from) book.at ready.found ready.stands ready.accepted ready.inside in
+      let p = book.planner.plan in
+      record {
+        starts = starts;
+        ranges = h.ranges.fits;
+        spans = finished.spans ∙ h.spans;
+        cells = finished.cells ∙ h.ranges.peak;
+        count = (let e = ap length finished.jobs in let c = planned.ordered.count in omega arith);
+        jobs = scheduled_later script table starts from book.at
+            p.kernels.items [] plan.kernels.items p.jobs.items [] plan.jobs.items p.segments.items finished.segments_later plan.segments.items
+            (finished.kernels ∙ sym (append-nil p.kernels.items)) (finished.jobs ∙ sym (append-nil p.jobs.items)) finished.segments h.jobs;
+        contents = done.contents;
+      }
 
   test_of : (x : Statement) → slice_get script.statements.items book.at ≡ Some x → (t : Test) (a : Order) → x.act ≡ a → IsActingTest (setting script table) s a → IsOfTest book.planner t a → IsTestOf (setting script table) s (cells_after plan) t a
   test_of x here t (When name sign value count) is acts of =
@@ -93,6 +116,7 @@ module _ (script : Script) (table : Table) (from : ℕ) (book : SectionBook) (re
     begun = state_at script table from;
     found = ready.found;
     stood = ready.stands;
+    ranges = λ starts same. (ready.grown starts same).ranges;
     emptied = emptied;
     held = done.contents;
     len_is = finished.cells ∙ ap (λ (k : Planner). peak_of k.store) (sym emptied.rest);
@@ -112,6 +136,7 @@ module _ (script : Script) (table : Table) (from : ℕ) (book : SectionBook) (re
       lines = done.lines;
       refused = done.refused;
       traps = done.traps ∙ ap (λ k. (state_at script table from).traps ++ map (renumbered k) (plan_traps plan)) (sym ready.stands.numbers.before);
+      laid_out = laid_out;
       test = ends (slice_get script.statements.items book.at) refl ready.stops test tests;
     };
     inside = λ t e. inside (slice_get script.statements.items book.at) refl ready.stops t (subst (IsTestFor book.planner (slice_get script.statements.items book.at)) e tests);
@@ -177,6 +202,11 @@ first_later script table accepted zero stop some = by (slice_get script.statemen
 
 -- ---- a script without a `when`
 
+taken_long : {A : Type 0} (n : ℕ) (xs : List A) → length (take n xs) ≤ n
+taken_long zero xs = omega arith
+taken_long (suc n) [] = omega arith
+taken_long (suc n) (x ∷ xs) = let h = taken_long n xs in omega arith
+
 same_numbers : (ts : List JobTrap) → map (renumbered 0) ts ≡ ts
 same_numbers [] = refl
 same_numbers (t ∷ ts) =
@@ -193,6 +223,8 @@ plan_is script table book section none n =
       lines = sym (ap (λ (s : ScriptState). s.lines) last) ∙ o.lines;
       refused = sym (ap (λ (s : ScriptState). s.refused) last) ∙ o.refused ∙ (let z : 0 + plan_refused section.plan ≡ plan_refused section.plan = omega arith in z);
       traps = sym (ap (λ (s : ScriptState). s.traps) last) ∙ o.traps ∙ ap (λ k. map (renumbered k) (plan_traps section.plan)) o.jobs_before ∙ same_numbers (plan_traps section.plan);
+      laid_out = subst (λ k. IsLaidOut script table 0 k section.plan)
+          (let e = ap length whole in let few = taken_long n.to script.statements.items in let le = o.rising.1 in omega arith) o.laid_out;
     }
   where
     is_test : (x : Statement) (t : Test) (a : Order) → IsTestOf (setting script table) (state_at script table n.to) (cells_after section.plan) t a → is_when a ≡ true

@@ -1,5 +1,5 @@
 -- Disposals that wait go on: the container ends, its range is held, and a name of a handle stands for some jobs.
-use Rattle.std.proofs.Common.{◌≡◌, ℕ, zero, suc, ◌+◌, ◌<◌, ◌^◌, inr, true, false, ◌&&◌, List, [], ◌∷◌, ◌++◌, length, Some, None, Ok, Err, refl, sym, ap, subst, ◌∙◌, arith}
+use Rattle.std.proofs.Common.{◌≡◌, ℕ, zero, suc, ◌+◌, ◌<◌, ◌^◌, inr, true, false, ◌&&◌, List, [], ◌∷◌, length, Some, None, Ok, Err, refl, sym, ap, subst, ◌∙◌, arith}
 use Rattle.std.specs.Prelude.{Vec, vec_len, slice_get, nat_le}
 use Rattle.std.specs.declared.alloc.Global.{Global}
 use Rattle.std.specs.List.{All}
@@ -33,17 +33,19 @@ use Rattle.frame_plan.specs.declared.state.Value.TheVariants.{Jobs as Handles}
 use Rattle.frame_plan.specs.declared.state.Planner.{Planner}
 use Rattle.frame_plan.specs.Accesses.{jobs_by, IsPushed, HasHandle, AreThere}
 use Rattle.frame_plan.specs.Endings.{disposal, IsDisposable, CanHold, IsHeldBack}
+use Rattle.frame_plan.specs.Growth.{given_so_far}
 use Rattle.frame_plan.specs.Stands.{AreNames, AreContainers, AreTemps, AreTempJobs, Agrees, Stands, draft_of}
-use Rattle.frame_plan.specs.Steps.{state_at, state_after, IsStep, StandsAt, GoesOn, IsReady}
+use Rattle.frame_plan.specs.Steps.{state_at, IsStep, StandsAt, HasStepped, GoesOn, IsReady}
 use Rattle.frame_plan.proofs.Accessing.{are_there}
-use Rattle.frame_plan.proofs.Continuing.{IsContinued, continued, same_temps, same_tempjobs}
+use Rattle.frame_plan.proofs.Continuing.{IsContinued, continued, quiet_continued, same_temps, same_tempjobs}
 use Rattle.frame_plan.proofs.Disposals.{disposed_alive, alive_container}
 use Rattle.frame_plan.proofs.DisposalsGoOn.{Answers, all_named, can_hold, as_continued}
 use Rattle.frame_plan.proofs.Ending.{still}
 use Rattle.frame_plan.proofs.Giving.{at_here, at_other, fallen}
 use Rattle.frame_plan.proofs.Holding.{held_stand}
 use Rattle.frame_plan.proofs.Naming.{IsNamed, handle_names, handles_more, set_long}
-use Rattle.frame_plan.proofs.Reaching.{known_after, fits_at, statements_few, used_below, made_below, within, no_more}
+use Rattle.frame_plan.proofs.Quiet.{IsPlain, plain_steps}
+use Rattle.frame_plan.proofs.Reaching.{known_after, fits_at, statements_few, used_below, made_below, within}
 use Rattle.frame_plan.proofs.Restating.{accepted_state, said_nobody}
 
 -- ---- a container ends, and a name of a handle stands for some jobs
@@ -110,12 +112,14 @@ module _ (script : Script) (table : Table) (begun : ScriptState) (n : ℕ) (foun
       (record { made = refl; contents = refl; alive = refl; uses = refl; range = refl; book = refl; traps = refl; refused = refl; lines = refl })
       (disposals_are_planned y s name (draft_of p) st.known (st.planned y a)))
 
-  pub held_on : act g s x ≡ t → (more : List ℕ) × Stands q g begun (suc n) (state_after script table n x) (found ++ more)
-  held_on is =
-      subst (λ u. (more : List ℕ) × Stands q g begun (suc n) u (found ++ more)) (sym is)
-      (no_more q g begun (suc n) t found
+  pub held_on : act g s x ≡ t → IsPlain g x.act → HasStepped script table begun n found p q x
+  held_on is plain =
+      plain_steps script table begun n found p q x step
+      (subst (λ u. Stands q g begun (suc n) u found) (sym is)
       (continued p q g begun n s t found st goes (subst IsKnown is (known_after script table n x step))
       (handle_names m q (length p.containers.items) s t handle jobs was_named e named) planned))
+      (quiet_continued p q s t found goes (ap given_so_far is_q) (ap (λ (k : Planner). k.plan.segments) is_q) (ap (λ (k : Planner). k.plan.waits) is_q))
+      plain (ap (λ (u : ScriptState). u.book.completed) is)
 
 -- ---- `dispose` with `after`
 
@@ -171,7 +175,7 @@ module _ (script : Script) (table : Table) (begun : ScriptState) (n : ℕ) (foun
       refusal_is = ap (disposal s' name) (sym jobs_are)
 
       pub after_refused : (m q : Planner) (cause : Refusal) → Answers p s' name jobs (Err cause) → IsPushed p m (record { line = line; name = name; act = Say cause })
-          → HasHandle m q handle nobody → (more : List ℕ) × Stands q g' begun (suc n) (state_after script table n x_after) (found ++ more)
+          → HasHandle m q handle nobody → HasStepped script table begun n found p q x_after
       after_refused m q cause a i e =
           said_nobody script table begun n found x_after step (record { cause = cause; name = name }) p st (refusal_is ∙ sym a.0) name_below m q handle refl refl refl (inr (λ c. refl)) i e
 
@@ -185,10 +189,10 @@ module _ (script : Script) (table : Table) (begun : ScriptState) (n : ℕ) (foun
         pub after_can_hold : CanHold p (slice_get p.containers.items c)
         after_can_hold = can_hold p g' begun n s' found st (let few = statements_few script table n x_after step in omega arith) c a.1.1 (ap s'.alive (sym a.1.0) ∙ is_alive')
 
-        pub after_held : (m q : Planner) → IsHeldBack p m c → HasHandle m q handle jobs → (more : List ℕ) × Stands q g' begun (suc n) (state_after script table n x_after) (found ++ more)
+        pub after_held : (m q : Planner) → IsHeldBack p m c → HasHandle m q handle jobs → HasStepped script table begun n found p q x_after
         after_held m q i e =
             held_on script table begun n found x_after step p st name handle jobs is_alive' m q (subst (IsHeldBack p m) (sym a.1.0) i) e
-            (accepted_state g' s' x_after step.acts unrefused ∙ ap (λ js. with_name handle (states.Handle js) (dispose name s')) (sym jobs_are))
+            (accepted_state g' s' x_after step.acts unrefused ∙ ap (λ js. with_name handle (states.Handle js) (dispose name s')) (sym jobs_are)) (refl, tt)
 
 -- the same as the code asks and answers
 module _ (p : Planner) (line name : ℕ) (after : Vec ℕ Global) (handle : ℕ) where

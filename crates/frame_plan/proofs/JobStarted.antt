@@ -3,7 +3,8 @@ use Rattle.std.proofs.Common.{◌≡◌, ⊎_elim, ℕ, zero, suc, ◌+◌, ◌<
 use Rattle.std.specs.Prelude.{Vec, nat_eq, slice_get, if◌then◌else◌}
 use Rattle.std.specs.declared.alloc.Global.{Global}
 use Rattle.std.proofs.lemmas.List.{length-append, length-take}
-use Rattle.std.proofs.lemmas.Bool.{or_cases, eqb-true}
+use Rattle.std.proofs.lemmas.Bool.{or_cases, and_parts, eqb-true}
+use Rattle.batch_cut.specs.Cuts.{step_of}
 use Rattle.job_base.specs.declared.limits.TheConstants.{MOST_STATEMENTS}
 use Rattle.frame_ast.specs.declared.kernel.Kernel.{Kernel}
 use Rattle.frame_ast.specs.declared.kernel.Param.{Param}
@@ -18,7 +19,8 @@ use Rattle.frame_ast.specs.Jobs.{Jobs, only, with_job}
 use Rattle.frame_ast.specs.Laws.{IsKnown, AreUpTo}
 use Rattle.frame_ast.specs.Orders.{Table, Setting, setting, kernel_params, kernel_parallel, params_of, is_parallel}
 use Rattle.frame_ast.specs.Refusals.{jobs_named, schedule_refusal}
-use Rattle.frame_ast.specs.Schedules.{Given, given_args, givens}
+use Rattle.frame_ast.specs.Ranges.{Starts}
+use Rattle.frame_ast.specs.Schedules.{Given, given_args, givens, widths_from}
 use Rattle.frame_ast.specs.States as states
 use Rattle.frame_ast.specs.States.{ScriptState, with_at}
 use Rattle.frame_ast.proofs.Breaking.{view_numbers_are_few}
@@ -30,6 +32,7 @@ use Rattle.safety_handle.specs.Uses.{Latest, StandForUses}
 use Rattle.frame_core.specs.Names.{pieces_of}
 use Rattle.frame_core.proofs.Small.{not_both, some_is, none_some, get_below, get_before, get_behind, get_either}
 use Rattle.plan_laws.specs.Accepting.{Schedule, accepted, deps_of, IsAcceptedSchedule, IsPlannedJob}
+use Rattle.plan_laws.specs.Binds.{binds_by}
 use Rattle.plan_laws.specs.Ledgers.{later}
 use Rattle.plan_laws.specs.Planned.{Outline, IsPlanned, Closes, jobs_before}
 use Rattle.plan_laws.proofs.Accepting.{schedules_are_planned}
@@ -41,19 +44,22 @@ use Rattle.frame_plan.specs.declared.state.Planner.{Planner}
 use Rattle.frame_plan.specs.declared.uses.NamedUse.{NamedUse}
 use Rattle.frame_plan.specs.Noting.{noted_all}
 use Rattle.frame_plan.specs.Stands.{AreKernels, AreNames, IsCopy, Agrees, Stands, draft_of}
-use Rattle.frame_plan.specs.Starting.{IsCopied, IsCopiedAnew, IsStarted, IsScheduled}
-use Rattle.frame_plan.specs.Steps.{state_at, IsStep, StandsAt}
+use Rattle.frame_plan.specs.Growth.{StartAs, IsJobOf, is_none}
+use Rattle.frame_plan.specs.Starting.{IsCopied, IsCopiedAnew, IsScheduled, numbers_by}
+use Rattle.frame_plan.specs.Steps.{state_at, IsStep, StandsAt, HasStepped}
 use Rattle.frame_plan.specs.Uses.{ForNames, IsUse}
 use Rattle.frame_plan.proofs.Arguments.{args_are, same_args_fit, same_job_binds}
 use Rattle.frame_plan.proofs.Choosing.{AreAlive, all_alive}
 use Rattle.frame_plan.proofs.Copying as copying
 use Rattle.frame_plan.proofs.Meaning.{AreMeant, uses_meant}
-use Rattle.frame_plan.proofs.Reaching.{statements_few, known_after, no_more}
+use Rattle.frame_plan.proofs.Reaching.{statements_few, known_after}
 use Rattle.frame_plan.proofs.Restating.{accepted_state}
 use Rattle.frame_plan.proofs.Naming.{IsNamed, handle_names, handles_more, set_either, set_long}
 use Rattle.frame_plan.proofs.NewJob as newly
 use Rattle.frame_plan.proofs.Notes.{needs, folded, folded_view, folded_stands, unused_stand, AreApart, args_apart}
-use Rattle.frame_plan.proofs.Scheduled.{bind_by_form, accepted_is, left, left_view, unpending, unblocked, deps_up, indexes_are, no_cut}
+use Rattle.frame_plan.proofs.Scheduled.{bind_by_form, accepted_is, left, left_view, unpending, unblocked, deps_up, numbers_are, indexes_are, no_cut}
+use Rattle.frame_plan.proofs.ScheduleGrown as growing
+use Rattle.frame_plan.proofs.ScheduleGrown.{none_waived}
 use Rattle.frame_plan.proofs.ScheduleText.{IsText, EachBelow, each_lower}
 use Rattle.frame_plan.proofs.Slots.{noted_live, noted_version, noted_folded}
 
@@ -397,6 +403,9 @@ module _ (script : Script) (table : Table) (begun : ScriptState) (n : ℕ) (foun
         ops = is.started.ops;
       }
 
+      starts_next : is.started.segment.starts ≡ Some (record { 0 = suc (length p.plan.jobs.items) })
+      starts_next = is.started.starts ∙ ap (λ (k : Planner). Some (record { 0 = suc (length k.plan.jobs.items) })) middle_as
+
       agrees_back : (y : Outline) → Agrees q g begun found y → Agrees p g begun found y
       agrees_back y a = record {
         begins = a.begins;
@@ -441,11 +450,12 @@ module _ (script : Script) (table : Table) (begun : ScriptState) (n : ℕ) (foun
                 ∙ ap (λ b. Rattle.frame_plan.specs.JobBinds.job_binds p b waive.items 0 copy.copy.params.items args.items) parallel
                 ∙ args_are p g begun n s found st y back copy.copy.parallel waive.items 0 copy.copy.params.items args.items names_below fit;
             indexes = is.cut_by.indexes ∙ indexes_are s text.source.parallel cut text.one ∙ ap (λ b. Rattle.frame_ast.specs.JobRuns.executes b (Rattle.frame_ast.specs.Orders.job_length s cut None)) parallel;
-            cut = record { step = is.cut_by.step; pieces = is.cut_by.pieces; indexes = is.cut_by.few };
+            cut = record { step = is.cut_by.steps; pieces = is.cut_by.pieces; indexes = is.cut_by.few };
             one = λ seq.
                 let none = no_cut text.source.parallel cut text.one (parallel ∙ seq) in
-                (is.cut_by.indexes ∙ ap Rattle.frame_plan.specs.Starting.indexes_by none, is.cut_by.one none);
-            parallel = λ par. (let both = is.parallel par in (sym parallel ∙ ap (λ (k : Kernel). k.parallel) (sym source_same) ∙ both.0, both.1));
+                (is.cut_by.indexes ∙ ap (λ c. (numbers_by c).0) none, is.cut_by.step ∙ ap (λ c. step_of (numbers_by c).0 (numbers_by c).1) none);
+            parallel = λ par. (let both = and_parts is.source.parallel (is_none waive.items) (sym is.parallel ∙ par) in
+                (sym parallel ∙ ap (λ (k : Kernel). k.parallel) (sym source_same) ∙ both.0, none_waived waive.items both.1));
             known_deps = (
               is.later_are.within.0,
               λ k d lt.
@@ -464,7 +474,7 @@ module _ (script : Script) (table : Table) (begun : ScriptState) (n : ℕ) (foun
           (copying.new_is_accepted g s auto handle kernel args cut waive after text.source copy.copy text.has below copy.same accepted_as)
           (copying.has_new g s auto handle kernel args cut waive after text.source copy.copy text.has below copy.same)
           (planned_job y a)
-          (is.started.starts ∙ ap (λ (k : Planner). Some (record { 0 = suc (length k.plan.jobs.items) })) middle_as)
+          starts_next
           closes)
 
       -- the state after the statement
@@ -505,8 +515,53 @@ module _ (script : Script) (table : Table) (begun : ScriptState) (n : ℕ) (foun
         planned = λ y a. subst (λ u. IsPlanned y u (draft_of q)) (accepted_is g s o) (planned y a);
       }
 
-      pub goes_on : (more : List ℕ) × Stands new g begun (suc n) (Rattle.frame_ast.specs.Scripts.act g s x) (found ++ more)
-      goes_on = no_more new g begun (suc n) (Rattle.frame_ast.specs.Scripts.act g s x) found
+      -- the job is that of the schedule
+
+      kernels_now : new.plan.kernels.items ≡ middle.plan.kernels.items
+      kernels_now = ap (λ (k : Planner). k.plan.kernels.items) new_as
+
+      module _ (starts : Starts) (as_found : StartAs starts found) where
+        binds_now : is.job.binds.items ≡ binds_by starts s ps (widths_from text.source.parallel waive.items 0 ps) args.items
+        binds_now =
+            is.binds
+            ∙ ap (λ (k : Kernel). Rattle.frame_plan.specs.JobBinds.job_binds p k.parallel waive.items 0 k.params.items args.items) source_same
+            ∙ args_are p g begun n s found st (growing.outline_by p script table begun n s found st starts) (growing.agrees_by p script table begun n s found st starts as_found)
+            text.source.parallel waive.items 0 ps args.items
+            (each_lower (length g.names) (length p.values.items) (let e = st.each in omega arith) args.items text.below)
+            (subst (λ k. ArgsFit s None (kernel_params k) args.items) text.has accepted_as.args_fit)
+
+        job_is : IsJobOf g starts begun.book.count s waited kernel args.items cut None waive.items new.plan.kernels.items is.job
+        job_is = record {
+          source = text.source;
+          is_source = text.has;
+          copy = copy.copy;
+          is_copy = ap (λ ks. slice_get ks is.job.kernel) kernels_now ∙ copy.here;
+          copied = copy.same;
+          binds = binds_now ∙ sym (append-nil (binds_by starts s ps (widths_from text.source.parallel waive.items 0 ps) args.items));
+          indexes = is.cut_by.indexes ∙ ap (λ (c : ℕ × ℕ). c.0) (numbers_are s cut);
+          step = is.cut_by.step ∙ ap (λ (c : ℕ × ℕ). step_of c.0 c.1) (numbers_are s cut);
+          parallel = is.parallel ∙ ap (λ (k : Kernel). k.parallel && is_none waive.items) source_same;
+          deps = λ j. is.later_are.are j ∙ (λ i. later (st.numbers.before i) (deps_are i) j);
+        }
+
+      has_started : growing.HasStarted script table begun n found line auto handle kernel args cut None waive after p new is.started.segment is.job waited
+      has_started = record {
+        store = ap (λ (k : Planner). k.store) new_as;
+        segments = ap (λ (k : Planner). k.plan.segments.items) new_as ∙ segments_are;
+        waits_were = closes.waits_were;
+        ops_were = ops_were;
+        starts = starts_next;
+        waits = ap (λ (k : Planner). k.plan.waits.items) new_as ∙ is.started.waits;
+        ops = ap (λ (k : Planner). k.plan.ops.items) new_as ∙ is.started.ops;
+        jobs = ap (λ (k : Planner). k.plan.jobs.items) new_as ∙ jobs_are;
+        kernels = kernels_later script g refl p is.after middle kernel is.job.kernel st.kernels kept is.copied text.source text.has text.checked new.plan.kernels.items
+            ([], kernels_now ∙ sym (append-nil middle.plan.kernels.items));
+        book = ap (λ (u : ScriptState). u.book) acted;
+        job_is = job_is;
+      }
+
+      pub goes_on : HasStepped script table begun n found p new x
+      goes_on = growing.stepped script table begun n found line auto handle kernel args cut None waive after p new step none st is.started.segment is.job waited has_started
           (subst (λ u. Stands new g begun (suc n) u found) (sym acted)
           (subst (λ k. Stands k g begun (suc n) as_t found) (sym new_as)
           (newly.with_job_stands p g begun n s found st new.values new.handles is.after.jobs is.after.safety middle.kernels p.guards middle.plan.kernels ended.plan.segments ended.plan.jobs ended.plan.waits ended.plan.ops ended.plan.pieces

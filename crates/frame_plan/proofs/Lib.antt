@@ -3,6 +3,7 @@ pub mod Acting
 pub mod Arguments
 pub mod Binding
 pub mod Capacities
+pub mod Carrying
 pub mod Changes
 pub mod Choosing
 pub mod CompletedJobs
@@ -34,6 +35,7 @@ pub mod Holding
 pub mod HoldsGoOn
 pub mod JobStarted
 pub mod Later
+pub mod Laying
 pub mod Limiting
 pub mod ListCapacities
 pub mod Makings
@@ -47,6 +49,8 @@ pub mod Notes
 pub mod Outlining
 pub mod Passing
 pub mod Prints
+pub mod Quiet
+pub mod Ranging
 pub mod Reaching
 pub mod References
 pub mod Regrowing
@@ -54,6 +58,7 @@ pub mod Reporting
 pub mod Restating
 pub mod Resuming
 pub mod Rooms
+pub mod ScheduleGrown
 pub mod ScheduleReady
 pub mod ScheduleText
 pub mod Scheduled

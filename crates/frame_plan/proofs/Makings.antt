@@ -61,6 +61,8 @@ module _ (script : Script) (table : Table) (n line name len : ℕ) (life : Life)
     made = refl;
     lost = refl;
     passed = refl;
+    takes = refl;
+    job = tt;
     below = made_below script table n x step (fits_at script table n x step).made name kind.Array fits.0;
   }
 
@@ -101,6 +103,8 @@ module _ (script : Script) (table : Table) (n line name : ℕ) (column : Vec ℕ
         made = refl;
         lost = refl;
         passed = refl;
+        takes = refl;
+        job = tt;
         below = made_below script table n x step f.made name kind.Array
             (and_parts (makes (record { kinds = step.accepted.kinds; made = f.made }) name kind.Array) (up_to MOST_COLUMN_BYTES (length column.items)) f.fits).0;
       }
@@ -122,6 +126,8 @@ module _ (script : Script) (table : Table) (n line name cap : ℕ) (life : Life)
         made = refl;
         lost = refl;
         passed = refl;
+        takes = refl;
+        job = tt;
         below = made_below script table n x step f.made name kind.List (and_parts (makes (record { kinds = step.accepted.kinds; made = f.made }) name kind.List) (up_to MOST_ELEMENTS cap) f.fits).0;
       }
 
@@ -143,6 +149,8 @@ module _ (script : Script) (table : Table) (n line name : ℕ) (life : Life) (va
         made = refl;
         lost = refl;
         passed = refl;
+        takes = refl;
+        job = tt;
         below = made_below script table n x step f.made name kind.Reference f.fits;
       }
 
@@ -160,6 +168,8 @@ module _ (script : Script) (table : Table) (n line name cap : ℕ) (life : Life)
         made = refl;
         lost = refl;
         passed = refl;
+        takes = refl;
+        job = tt;
         below = made_below script table n x step f.made name kind.Map (and_parts (makes (record { kinds = step.accepted.kinds; made = f.made }) name kind.Map) (up_to MOST_PAIRS cap) f.fits).0;
       }
 
@@ -183,6 +193,8 @@ module _ (script : Script) (table : Table) (n line name count room : ℕ) (life 
         made = refl;
         lost = refl;
         passed = refl;
+        takes = refl;
+        job = tt;
         below = made_below script table n x step f.made name kind.Stream
             (and_parts (makes (record { kinds = step.accepted.kinds; made = f.made }) name kind.Stream) (up_to MOST_STREAM_INDEXES count && up_to MOST_STREAM_ITEMS room) f.fits).0;
       }

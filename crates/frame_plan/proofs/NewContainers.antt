@@ -15,15 +15,17 @@ use Rattle.frame_ast.specs.Lists.{some_if}
 use Rattle.frame_ast.specs.Laws.{lost_value, passed_with}
 use Rattle.frame_ast.specs.Forms.{form_of}
 use Rattle.frame_ast.specs.Orders.{Table, Setting, setting, made_by}
+use Rattle.frame_ast.specs.Ranges.{takes_words}
 use Rattle.frame_ast.specs.Refusals.{Refused, refused, store_full}
 use Rattle.frame_ast.specs.Scripts.{act, act_or_pass, decided}
 use Rattle.frame_ast.specs.States as states
 use Rattle.frame_ast.specs.States.{ScriptState, live_words}
 use Rattle.kernel_exec.specs.declared.binds.Bind.{Bind}
 use Rattle.slot_store.specs.declared.slot.Taken.{Taken}
-use Rattle.slot_store.specs.Stores.{live_words_of, slots_in_use}
+use Rattle.slot_store.specs.Stores.{peak_of, live_words_of, slots_in_use}
 use Rattle.safety_handle.specs.Entries.{state_of}
 use Rattle.frame_core.specs.declared.plan.Act.TheVariants.{Fill}
+use Rattle.frame_core.specs.declared.plan.Op.{Op}
 use Rattle.frame_core.specs.Names.{literal_of}
 use Rattle.frame_core.specs.Ordered.{IsLiteral}
 use Rattle.plan_laws.specs.Binds.{bind_of}
@@ -36,8 +38,10 @@ use Rattle.frame_plan.specs.declared.state.Planner.{Planner}
 use Rattle.frame_plan.specs.declared.state.Value.TheVariants.{Whole}
 use Rattle.frame_plan.specs.Making.{TakesWords, HasTaken, FailsToTake, HasLiteralOf, IsEntered, IsLost, and_if}
 use Rattle.frame_plan.specs.Stands.{Stands}
-use Rattle.frame_plan.specs.Steps.{state_at, state_after, IsStep, StandsAt, IsBefore, PassesLimit}
+use Rattle.frame_plan.specs.Steps.{state_at, state_after, IsStep, StandsAt, HasStepped, IsBefore, PassesLimit}
 use Rattle.frame_plan.proofs.Entering.{IsMade, made_stands}
+use Rattle.frame_plan.proofs.Quiet.{IsNoSchedule}
+use Rattle.frame_plan.proofs.Ranging.{HasFound, HasOneMore, range_steps}
 use Rattle.frame_plan.proofs.Reaching.{statements_few, within}
 use Rattle.frame_plan.proofs.Restating.{said_dead}
 
@@ -54,6 +58,8 @@ pub record Makes (g : Setting) (x : Statement) (name : ℕ) (life : Life) (c : C
   pub made : made_by x.act ≡ Some name
   pub lost : lost_value x.act ≡ states.Dead
   pub passed : passed_with x.act ≡ 0
+  pub takes : takes_words g x.act ≡ Some (words_of c)
+  pub job : IsNoSchedule x.act
   pub below : name < length g.names
 
 -- THE STORE IS FULL, OR IT ISN'T
@@ -135,10 +141,13 @@ module _ (script : Script) (table : Table) (begun : ScriptState) (n : ℕ) (x : 
   abbrev s : ScriptState
   s = state_at script table n
 
+  accepted : live_words_of p.store + words_of c ≤ MOST_LIVE_WORDS → refusal g s x.act ≡ None
+  accepted le = makes.refusal_is s ∙ not_full s (words_of c) name (let e = st.numbers.live_words in omega arith)
+
   acted : live_words_of p.store + words_of c ≤ MOST_LIVE_WORDS → act g s x ≡ make x.line name life c s
   acted le =
       ap (λ k. act_or_pass k g s x) step.acts
-      ∙ ap (λ o. decided o g s x) (makes.refusal_is s ∙ not_full s (words_of c) name (let e = st.numbers.live_words in omega arith))
+      ∙ ap (λ o. decided o g s x) (accepted le)
       ∙ makes.effect_is s
 
   -- too many words in all
@@ -154,7 +163,7 @@ module _ (script : Script) (table : Table) (begun : ScriptState) (n : ℕ) (x : 
 
   -- too many live words
   pub lost_goes_on : (q : Planner) (len : ℕ) → len ≡ words_of c → MOST_LIVE_WORDS < live_words_of p.store + len → IsLost p q x.line name
-      → (more : List ℕ) × Stands q g begun (suc n) (state_after script table n x) (found ++ more)
+      → HasStepped script table begun n found p q x
   lost_goes_on q len e lt l =
       said_dead script table begun n found x step (refused StoreFull name) p st
       (makes.refusal_is s ∙ is_full s (words_of c) name (let k = st.numbers.live_words in omega arith)) makes.below
@@ -245,11 +254,27 @@ module _ (script : Script) (table : Table) (begun : ScriptState) (n : ℕ) (x : 
           literals_fill y.plan t.span k c words.len_is (subst (λ zs. IsGivenBy zs c) (sym at) given),
         )
 
-    pub goes_on : (more : List ℕ) × Stands u g begun (suc n) (state_after script table n x) (found ++ more)
-    goes_on = (
-      t.span.start ∷ [],
-      subst (λ z. Stands u g begun (suc n) z (found ++ t.span.start ∷ [])) (sym (acted few_words))
-          (subst (λ z. Stands z g begun (suc n) (make x.line name life c s) (found ++ t.span.start ∷ [])) (sym after)
-          (made_stands p g begun n s found x.line name life c literal t entered.it q.store u.safety u.containers u.values u.temps u.tempjobs q.created r.plan.literals u.plan.ops st makes.below made_is
-          (λ y a. literal_is y a.literals.0 a.literals.1 xs literal given has))),
-    )
+    -- the operation that fills the words
+    abbrev filling : Op
+    filling = record { line = x.line; name = name; act = Fill t.span literal }
+
+    one_op : HasOneMore p u filling
+    one_op = record {
+      ops = made_is.ops_are;
+      segments = ap (λ (z : Planner). z.plan.segments) after;
+      waits = ap (λ (z : Planner). z.plan.waits) after;
+      jobs = ap (λ (z : Planner). z.plan.jobs) after;
+      kernels = ap (λ (z : Planner). z.plan.kernels) after;
+    }
+
+    found_is : HasFound p u (words_of c) t.span
+    found_is = record { fit = words.fit; len = words.len_is; peak = ap (λ (z : Planner). peak_of z.store) after ∙ words.peak }
+
+    pub goes_on : HasStepped script table begun n found p u x
+    goes_on =
+        range_steps script table begun n found x step p u st (words_of c) t.span filling found_is one_op refl
+        (accepted few_words) makes.takes makes.job (ap (λ (z : ScriptState). z.book.completed) (acted few_words))
+        (subst (λ z. Stands u g begun (suc n) z (found ++ t.span.start ∷ [])) (sym (acted few_words))
+        (subst (λ z. Stands z g begun (suc n) (make x.line name life c s) (found ++ t.span.start ∷ [])) (sym after)
+        (made_stands p g begun n s found x.line name life c literal t entered.it q.store u.safety u.containers u.values u.temps u.tempjobs q.created r.plan.literals u.plan.ops st makes.below made_is
+        (λ y a. literal_is y a.literals.0 a.literals.1 xs literal given has))))

@@ -1,5 +1,5 @@
 -- `slice`, `view`, `copy`, `combine` and `flush`: what they are ready for, and that they go on, refused or not.
-use Rattle.std.proofs.Common.{◌≡◌, ℕ, zero, suc, ◌+◌, ◌^◌, ◌<◌, ◌≤◌, ◌⊎◌, inr, ⊎_elim, Bool, true, false, cond, not, ◌&&◌, ◌||◌, List, [], ◌∷◌, ◌++◌, length, Option, Some, None, refl, sym, ap, subst, ◌∙◌, arith}
+use Rattle.std.proofs.Common.{◌≡◌, ℕ, zero, suc, ◌+◌, ◌^◌, ◌<◌, ◌≤◌, ◌⊎◌, inr, ⊎_elim, Bool, true, false, cond, not, ◌&&◌, ◌||◌, List, [], ◌∷◌, length, Option, Some, None, refl, sym, ap, subst, ◌∙◌, arith}
 use Rattle.std.specs.Prelude.{slice_get, get_or, if◌then◌else◌, vec_len, option_map, nat_le, Vec}
 use Rattle.std.specs.declared.alloc.Global.{Global}
 use Rattle.std.specs.List.{All, list_any}
@@ -42,9 +42,11 @@ use Rattle.frame_plan.specs.declared.state.Container.{Container}
 use Rattle.frame_plan.specs.declared.state.Planner.{Planner}
 use Rattle.frame_plan.specs.Accesses.{slice_in, bind_from, bind_in, bind_by, length_in, start_of, part_by, IsPushed, IsRenamed, HasHandle, IsGone, IsRefusal, IsLiveSlot, IsWholeAlive, AreThere, jobs_in, jobs_of_value, jobs_for, jobs_by, view_of, view_number, view_by}
 use Rattle.frame_plan.specs.Stands.{value_for, jobs_at, IsThere, AreNames, Stands, draft_of}
-use Rattle.frame_plan.specs.Steps.{state_at, state_after, IsStep, IsReady, GoesOn}
+use Rattle.frame_plan.specs.Growth.{given_in}
+use Rattle.frame_plan.specs.Steps.{state_at, IsStep, HasStepped, IsReady, GoesOn}
 use Rattle.frame_plan.proofs.Accessing.{are_there, there}
 use Rattle.frame_plan.proofs.Naming.{IsNamed, set_long, renamed_names, handle_names, handles_more}
+use Rattle.frame_plan.proofs.Quiet.{IsPlain}
 use Rattle.frame_plan.proofs.Reaching.{fits_at, holds_kinds, used_below, made_below, statements_few, within}
 use Rattle.frame_plan.proofs.Restating.{accepted_on, calm, changed_fields, said_dead}
 
@@ -61,9 +63,9 @@ module _ (script : Script) (table : Table) (begun : ScriptState) (n : ℕ) (foun
   s = state_at script table n
 
   abbrev Onward : Type 0
-  Onward = (more : List ℕ) × Stands q g begun (suc n) (state_after script table n x) (found ++ more)
+  Onward = HasStepped script table begun n found p q x
 
-  module _ (st : Stands p g begun n s found) (none : refusal g s x.act ≡ None) where
+  module _ (st : Stands p g begun n s found) (none : refusal g s x.act ≡ None) (plain : IsPlain g x.act) where
     -- with a value that is no handle
     pub renamed_on : (v : Value) (w : states.Value) → effect g x.line s x.act ≡ with_name name w s → IsRenamed p q name v
         → IsThere (length p.containers.items) (length p.handles.items) v → ((k : ℕ) → v ≡ Handles k → ⊥) → value_for p.handles.items v ≡ w → Onward
@@ -71,7 +73,7 @@ module _ (script : Script) (table : Table) (begun : ScriptState) (n : ℕ) (foun
         let t = effect g x.line s x.act in
         let handles = ap (λ (k : Planner). k.handles.items) e.rest in
         let ops = ap (λ (k : Planner). k.plan.ops.items) e.rest in
-        accepted_on script table begun n found x step p q st none
+        accepted_on script table begun n found x step p q st none plain (ap (λ (k : Planner). given_in k.plan.ops.items) e.rest)
         (calm p q g begun n s t found st
         (changed_fields p q q.values p.handles p.safety p.passing p.plan.ops e.rest)
         (subst (λ (u : ScriptState). u ≡ record s { values = u.values; contents = u.contents; view = u.view; refused = u.refused; passing = u.passing; lines = u.lines }) (sym is) refl)
@@ -91,7 +93,7 @@ module _ (script : Script) (table : Table) (begun : ScriptState) (n : ℕ) (foun
         let t = effect g x.line s x.act in
         let ops = ap (λ (k : Planner). k.plan.ops.items) e.rest in
         let is_named = subst (λ u. IsNamed s u name (states.Handle jobs)) (sym is) (named s name (states.Handle jobs)) in
-        accepted_on script table begun n found x step p q st none
+        accepted_on script table begun n found x step p q st none plain (ap (λ (k : Planner). given_in k.plan.ops.items) e.rest)
         (calm p q g begun n s t found st
         (changed_fields p q q.values q.handles p.safety p.passing p.plan.ops e.rest)
         (subst (λ (u : ScriptState). u ≡ record s { values = u.values; contents = u.contents; view = u.view; refused = u.refused; passing = u.passing; lines = u.lines }) (sym is) refl)
@@ -158,7 +160,7 @@ module _ (line name of : ℕ) where
       let used = is_used (names_at script table n step u.0) of CONTAINERS u.1 in
       let stands = st.names.are of v h in
       let held = subst (IsOfKind s used.kind) (sym stands) ((holds_kinds script table n copy step).names of used.kind used.at) in
-      renamed_on script table begun n found copy step p q name st refl v (s.values of) refl e (st.names.there of v h)
+      renamed_on script table begun n found copy step p q name st refl (refl, tt) v (s.values of) refl e (st.names.there of v h)
       (λ k is. container_no_jobs s used.kind p.handles.items v k held (no_handle used.kind used.fits) (st.names.there of (Handles k) (h ∙ ap Some is)) is)
       stands
 
@@ -443,7 +445,7 @@ module _ (line name of start len : ℕ) where
       let none : refusal g s (SliceOf name of start len) ≡ None = sym (is script table begun n found step st) in
       let both = accepted (is_alive s (s.values of)) (fits_in s) (sym (slice_decided g s) ∙ none) in
       let fits = leb-true (start + len) (length (value_elements (s.values of) (contents_at s of))) both.1 in
-      renamed_on script table begun n found slice step p q name st none (part_by v start len) (part_of (s.values of) start len) refl e
+      renamed_on script table begun n found slice step p q name st none (refl, tt) (part_by v start len) (part_of (s.values of) start len) refl e
       (source_part p script table begun n found step st v h both.0 fits) (part_no_jobs v start len)
       (part_stands p.handles.items v start len ∙ ap (λ v. part_of v start len) (st.names.are of v h))
 
@@ -555,7 +557,7 @@ module _ (line name of : ℕ) where
       let now : view_by p.safety p.containers.items v ≡ View l.c (s.view l.c) =
       ap (view_by p.safety p.containers.items) l.is ∙ ap (λ o. view_of l.c (view_number p.safety o)) l.has ∙ ap (View l.c) (k.view l.alive) in
       let at : l.c ≡ container_at s of = ap states.container_of (sym (ap (value_for p.handles.items) l.is) ∙ st.names.are of v h) in
-      renamed_on script table begun n found viewing step p q name st (view_decided g s ∙ ap unless_alive a) (View l.c (s.view l.c)) (states.View (container_at s of) (s.view (container_at s of))) refl
+      renamed_on script table begun n found viewing step p q name st (view_decided g s ∙ ap unless_alive a) (refl, tt) (View l.c (s.view l.c)) (states.View (container_at s of) (s.view (container_at s of))) refl
       (subst (IsRenamed p q name) now e) (get_below p.containers.items l.c l.it l.has) (λ k e. absurd cc) (ap (λ c. states.View c (s.view c)) at)
 
 -- ---- `combine`
@@ -630,7 +632,7 @@ module _ (line name : ℕ) (of : Vec ℕ Global) where
       let u = combine_used script table n step in
       let same : jobs_of jobs ≡ jobs_named s of.items =
       λ i j. (are j ∙ jobs_are p s (length p.containers.items) st.names of.items (λ k d lt. let b = u.below k d lt in let l = st.each in omega arith) j) i in
-      handle_on script table begun n found combining step p q name st refl (jobs_named s of.items) refl (subst (HasHandle p q name) same e)
+      handle_on script table begun n found combining step p q name st refl (refl, tt) (jobs_named s of.items) refl (subst (HasHandle p q name) same e)
 
 -- ---- `flush`
 
@@ -638,6 +640,6 @@ pub flushed : (line : ℕ) (p : Planner) → GoesOn p p (record { line = line; a
 flushed line p script table begun n found step st =
     let g = setting script table in
     let s = state_at script table n in
-    accepted_on script table begun n found (record { line = line; act = FlushAll }) step p p st refl
+    accepted_on script table begun n found (record { line = line; act = FlushAll }) step p p st refl (refl, tt) refl
     (calm p p g begun n s s found st refl refl refl refl refl st.numbers.passing refl (omega arith) (omega arith))
     st.names (λ y a. st.planned y a)

@@ -1,5 +1,5 @@
 -- How many statements are passed by is changed, and nothing else.
-use Rattle.std.proofs.Common.{◌≡◌, ℕ, suc, ◌-◌, ◌<◌, List, length, refl, sym, ap, subst, ◌∙◌, arith}
+use Rattle.std.proofs.Common.{◌≡◌, ℕ, suc, ◌-◌, ◌<◌, List, [], length, refl, sym, ap, subst, ◌∙◌, arith, append-nil}
 use Rattle.frame_ast.specs.declared.script.Script.{Script}
 use Rattle.frame_ast.specs.declared.script.Statement.{Statement}
 use Rattle.frame_ast.specs.Laws.{IsKnown}
@@ -12,7 +12,8 @@ use Rattle.frame_plan.specs.Runs.{HasPassed, IsWithin}
 use Rattle.frame_plan.specs.Stands.{Stands, draft_of}
 use Rattle.frame_plan.specs.Steps.{state_at}
 use Rattle.frame_plan.proofs.Naming.{same_names}
-use Rattle.frame_plan.proofs.Reaching.{next_state, no_more}
+use Rattle.frame_plan.proofs.Quiet.{passed_grows, quiet_still}
+use Rattle.frame_plan.proofs.Reaching.{next_state}
 use Rattle.frame_plan.proofs.Restating.{restated, calm}
 
 pub repassed : (p : Planner) (g : Setting) (begun : ScriptState) (n : ℕ) (s : ScriptState) (found : List ℕ) → Stands p g begun n s found
@@ -35,8 +36,16 @@ passed_by script table p x some begun n found here st =
     let e : s.passing ≡ suc (p.passing - 1) = (let same = st.numbers.passing in omega arith) in
     let now : act g s x ≡ record s { passing = p.passing - 1 } = ap (λ k. act_or_pass k g s x) e in
     let next : record s { passing = p.passing - 1 } ≡ state_at script table (suc n) = sym now ∙ next_state script table n x here in
-    no_more (record p { passing = p.passing - 1 }) g begun (suc n) (state_at script table (suc n)) found
-    (subst (λ t. Stands (record p { passing = p.passing - 1 }) g begun (suc n) t found) next (repassed p g begun n s found st (p.passing - 1)))
+    let q : Planner = record p { passing = p.passing - 1 } in
+    record {
+      more = [];
+      stands = subst (Stands q g begun (suc n) (state_at script table (suc n))) (sym (append-nil found))
+          (subst (λ t. Stands q g begun (suc n) t found) next (repassed p g begun n s found st (p.passing - 1)));
+      grows = λ starts same. passed_grows g s x starts begun.book.count p q
+          (quiet_still g s x begun.book.count p q (record { spans = refl; peak = refl; jobs = refl; kernels = refl; segments = refl; waits = refl })
+          (ap (λ (u : ScriptState). u.book.completed) now))
+          (p.passing - 1) e;
+    }
 
 -- a state that a planner stands for is within the limits
 pub stands_within : (p : Planner) (g : Setting) (begun : ScriptState) (n : ℕ) (s : ScriptState) (found : List ℕ) → Stands p g begun n s found → IsWithin s

@@ -19,6 +19,7 @@ use Rattle.frame_plan.specs.Stands.{draft_of}
 use Rattle.frame_plan.specs.Steps.{state_at, IsReady, GoesOn}
 use Rattle.frame_plan.proofs.Accessing.{are_there}
 use Rattle.frame_plan.proofs.Binding.{binds_at}
+use Rattle.frame_plan.proofs.Quiet.{given_one}
 use Rattle.frame_plan.proofs.Reaching.{fits_at, used_below, usable, within}
 use Rattle.frame_plan.proofs.Restating.{accepted_on, adds_op, name_is, name_short, pushed_names, pushed_restates, said}
 
@@ -55,7 +56,9 @@ module _ (line name : ℕ) where
       let u = usable script table n print step f.made name CONTAINERS f.fits (allowed s name false none).alive in
       let op : Op = record { line = line; name = name; act = Print at } in
       let restates = pushed_restates p q op g begun n s t found st i refl refl refl (λ c start below. refl) in
-      accepted_on script table begun n found print step p q st none restates
+      accepted_on script table begun n found print step p q st none (refl, tt)
+      (given_one p.plan.ops.items q.plan.ops.items op i.ops refl)
+      restates
       (pushed_names p q op _ s t i refl st.names)
       (λ y a. prints_are_planned y g s line name (draft_of p) (draft_of q) a.small st.known (st.planned y a) none u (name_short g y name a.names below) (name_is g y name a.names)
       (adds_op p q _ restates.planner (i.ops ∙ ap (λ b. p.plan.ops.items ++ record { line = line; name = name; act = Print b } ∷ []) (is ∙ binds_at p g begun n s found st y a name v value u))))

@@ -426,7 +426,7 @@ module _ (p : Planner) (g : Setting) (begun : ScriptState) (n : ℕ) (s : Script
       let b = agrees_back x a in
       let start : x.starts s.takes ≡ span.start = a.starts s.takes (let e = one_more found span.start in let k = st.takes in omega arith) ∙ get_new found span.start s.takes (sym st.takes) in
       let was : x.starts (s.range (container_at s name)) ≡ get_or found (s.range c) 0 = ap (λ d. x.starts (s.range d)) c_is ∙ b.starts (s.range c) (let r = k.range in let l = st.takes in omega arith) in
-      let alike : is_live_word p.store ≡ ranges.is_live_word x.starts s = (λ i v. live_words_are_alike p g begun n s found x st b v i) in
+      let alike : is_live_word p.store ≡ ranges.is_live_word x.starts s = (λ i v. live_words_are_alike p g begun n s found x.starts st b.starts v i) in
       let shown : name < length x.plan.names.items = (let e = ap length b.names in let l = long (λ v. string_bytes v) x.plan.names.items in omega arith) in
       let from : span_at made.at.start (made.at.cap + 1) ≡ span_at (x.starts (s.range (container_at s name))) (old + 1) =
       (let e = list_at in let f = sym was in λ i. span_at ((ap (λ (z : ListAt). z.start) e ∙ f) i) ((ap (λ (z : ListAt). z.cap) e) i + 1)) in

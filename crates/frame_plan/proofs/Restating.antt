@@ -26,6 +26,7 @@ use Rattle.frame_ast.specs.States.{ScriptState, is_live}
 use Rattle.frame_ast.proofs.Refusing.{refused_changes_little}
 use Rattle.kernel_exec.specs.declared.binds.Bind.{Bind}
 use Rattle.kernel_exec.specs.declared.binds.Bind.TheVariants.{Int, Array, View as ViewBind, List as WholeList, Ref, Map, Stream}
+use Rattle.slot_store.specs.Stores.{peak_of}
 use Rattle.safety_handle.specs.declared.book.SafetyBook.{SafetyBook}
 use Rattle.safety_handle.specs.Entries.{SlotState, state_of}
 use Rattle.safety_handle.specs.Checks.{is_current}
@@ -43,10 +44,12 @@ use Rattle.frame_plan.specs.declared.state.Container.{Container}
 use Rattle.frame_plan.specs.declared.state.Planner.{Planner}
 use Rattle.frame_plan.specs.Accesses.{IsPushed, IsRenamed, HasHandle}
 use Rattle.job_handle.specs.declared.handle.Handle.{Handle}
+use Rattle.frame_plan.specs.Growth.{given_from, given_in, IsQuiet}
 use Rattle.frame_plan.specs.Stands.{tag_of, IsThere, AreNames, IsContainer, IsOwned, IsCopy, IsGuardedCopy, Agrees, Stands, draft_of}
-use Rattle.frame_plan.specs.Steps.{state_at, state_after, IsStep, StandsAt}
+use Rattle.frame_plan.specs.Steps.{state_at, IsStep, StandsAt, HasStepped}
 use Rattle.frame_plan.proofs.Naming.{set_long, IsNamed, same_names, renamed_names, handle_names, handles_more}
-use Rattle.frame_plan.proofs.Reaching.{long, known_after, no_more}
+use Rattle.frame_plan.proofs.Quiet.{IsPlain, given_one, plain_steps, refused_steps}
+use Rattle.frame_plan.proofs.Reaching.{long, known_after}
 
 -- ---- the words of a container rest on its form
 
@@ -205,6 +208,20 @@ restated p q g begun n s t found st r known named planned =
     (subst IsKnown r.state known)
     (subst (AreNames q.values.items q.handles.items (length p.containers.items)) r.state named)
     (λ x a. subst (λ u. IsPlanned x u (draft_of as_q)) r.state (subst (λ k. IsPlanned x t (draft_of k)) r.planner (planned x a)))))
+
+-- ---- it gives no range and starts no job where its operations give none
+
+pub quiet_restated : (p q : Planner) (s t : ScriptState) → IsRestated p q s t → given_in q.plan.ops.items ≡ given_in p.plan.ops.items → IsQuiet p q
+quiet_restated p q s t r same =
+    let segments = ap (λ (k : Planner). k.plan.segments.items) r.planner in
+    record {
+      spans = λ i. given_from (segments i) ++ same i;
+      peak = ap (λ (k : Planner). peak_of k.store) r.planner;
+      jobs = ap (λ (k : Planner). k.plan.jobs.items) r.planner;
+      kernels = ap (λ (k : Planner). k.plan.kernels.items) r.planner;
+      segments = segments;
+      waits = ap (λ (k : Planner). k.plan.waits.items) r.planner;
+    }
 
 -- ---- in the forms in which it is used
 
@@ -366,18 +383,20 @@ module _ (script : Script) (table : Table) (begun : ScriptState) (n : ℕ) (foun
   abbrev s : ScriptState
   s = state_at script table n
 
-  -- what its planner stands for
-  abbrev Onward : Planner → Type 0
-  Onward q = (more : List ℕ) × Stands q g begun (suc n) (state_after script table n x) (found ++ more)
-
   module _ (p : Planner) (st : StandsAt p script table begun n found) (refused : refusal g s x.act ≡ Some r) (below : r.name < length g.names) where
     like : IsLikeBefore g x r s (act g s x)
     like = refused_changes_little g s x r step.acts refused
 
+    -- what a planner after it stands for
+    abbrev Onward : Planner → Type 0
+    Onward q = HasStepped script table begun n found p q x
+
     onward : (q : Planner) → IsRestated p q s (act g s x) → q.plan.ops.items ≡ p.plan.ops.items ++ say_op x r ∷ [] → AreNames q.values.items q.handles.items (length p.containers.items) (act g s x) → Onward q
     onward q restates ops named =
-        no_more q g begun (suc n) (act g s x) found
+        refused_steps script table begun n found p q x step
         (refused_stands p q g begun n s found x r st step.acts refused below restates ops (known_after script table n x step) named)
+        (quiet_restated p q s (act g s x) restates (given_one p.plan.ops.items q.plan.ops.items (say_op x r) ops refl))
+        r refused
 
     -- nothing but the line, and how many statements are passed by
     pub said_passing : (m q : Planner) (passing : ℕ) → made_by x.act ≡ None → passed_with x.act ≡ passing → BreaksNone r x.act s → IsPushed p m (say_op x r) → q ≡ record m { passing = passing } → Onward q
@@ -472,7 +491,7 @@ pub pushed_names : (p q : Planner) (op : Op) (made : ℕ) (s t : ScriptState) �
 pushed_names p q op made s t i values was =
     subst (λ (k : Planner). AreNames k.values.items k.handles.items made t) (sym i.rest) (same_names p.values.items p.handles.items made s t values was)
 
--- An accepted statement of an accepted script goes on where the plan so far does.
+-- An accepted statement of an accepted script that takes no words and starts no job goes on where the plan so far does.
 pub accepted_on : (script : Script) (table : Table) (begun : ScriptState) (n : ℕ) (found : List ℕ) (x : Statement)
     → IsStep script table n x
     → let g = setting script table in
@@ -481,15 +500,19 @@ pub accepted_on : (script : Script) (table : Table) (begun : ScriptState) (n : �
     (p q : Planner)
     → Stands p g begun n s found
     → refusal g s x.act ≡ None
+    → IsPlain g x.act
+    → given_in q.plan.ops.items ≡ given_in p.plan.ops.items
     → IsRestated p q s t
     → AreNames q.values.items q.handles.items (length p.containers.items) t
     → ((y : Outline) → Agrees p g begun found y → IsPlanned y t (draft_of q))
-    → (more : List ℕ) × Stands q g begun (suc n) (state_after script table n x) (found ++ more)
-accepted_on script table begun n found x step p q st none restates named planned =
+    → HasStepped script table begun n found p q x
+accepted_on script table begun n found x step p q st none plain same restates named planned =
     let g = setting script table in
     let s = state_at script table n in
     let t = effect g x.line s x.act in
     let is = accepted_state g s x step.acts none in
-    subst (λ u. (more : List ℕ) × Stands q g begun (suc n) u (found ++ more)) (sym is)
-    (no_more q g begun (suc n) t found
+    plain_steps script table begun n found p q x step
+    (subst (λ u. Stands q g begun (suc n) u found) (sym is)
     (restated p q g begun n s t found st restates (subst IsKnown is (known_after script table n x step)) named planned))
+    (quiet_restated p q s t restates same)
+    plain (ap (λ (u : ScriptState). u.book.completed) (is ∙ restates.state))

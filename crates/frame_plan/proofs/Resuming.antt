@@ -247,7 +247,7 @@ module _ (script : Script) (table : Table) (old : Planner) (begun : ScriptState)
 
 -- ---- the test acts
 
-test_acts : (g : Setting) (s : ScriptState) (x : Statement) (held : Bool) (a : Order) → x.act ≡ a → IsActingTest g s a → held ≡ outcome_of s a → act g s x ≡ record s { passing = passed_after held a }
+pub test_acts : (g : Setting) (s : ScriptState) (x : Statement) (held : Bool) (a : Order) → x.act ≡ a → IsActingTest g s a → held ≡ outcome_of s a → act g s x ≡ record s { passing = passed_after held a }
 test_acts g s x held (When name sign value count) is acts out =
     accepted_state g s x acts.0 (ap (refusal g s) is ∙ acts.1) ∙ ap (effect g x.line s) is ∙ ap (λ b. record s { passing = if b then 0 else count }) (sym out) ∙ ap (λ k. record s { passing = k }) (by held)
   where
@@ -256,7 +256,7 @@ test_acts g s x held (When name sign value count) is acts out =
     by false = refl
 test_acts g s x held a is acts out = absurd acts
 
-outcome_is : (script : Script) (table : Table) (n : ℕ) (x : Statement) (held : Bool) → IsOutcome script table n (Some held) → slice_get script.statements.items n ≡ Some x → held ≡ outcome_of (state_at script table n) x.act
+pub outcome_is : (script : Script) (table : Table) (n : ℕ) (x : Statement) (held : Bool) → IsOutcome script table n (Some held) → slice_get script.statements.items n ≡ Some x → held ≡ outcome_of (state_at script table n) x.act
 outcome_is script table zero x held h e = absurd (none_some (sym h))
 outcome_is script table (suc n) x held h e = some_is h ∙ ap (outcome_by (state_at script table (suc n))) e
 
@@ -270,11 +270,11 @@ module _ (script : Script) (table : Table) (book : SectionBook) (n : ℕ) (carri
   pub place_small : n < MOST_STATEMENTS
   place_small = let lt = below in let le = few in omega arith
 
-  peak_is : peak_of book.planner.store ≡ peak_of b.old.store
+  pub peak_is : peak_of book.planner.store ≡ peak_of b.old.store
   peak_is = ap (λ (k : Planner). peak_of k.store) b.emptied.rest
 
   module _ (q : Planner) (mem : List ℤ) (left : AreLeft mem carried len) (r : IsResumed script book.planner q mem) where
-    q_is : q ≡ record b.old { kernels = q.kernels; guards = q.guards; jobs_before = q.jobs_before; plan = record book.planner.plan { literals = q.plan.literals; ops = q.plan.ops } }
+    pub q_is : q ≡ record b.old { kernels = q.kernels; guards = q.guards; jobs_before = q.jobs_before; plan = record book.planner.plan { literals = q.plan.literals; ops = q.plan.ops } }
     q_is = r.rest ∙ ap (λ (k : Planner). record k { kernels = q.kernels; guards = q.guards; jobs_before = q.jobs_before; plan = record book.planner.plan { literals = q.plan.literals; ops = q.plan.ops } }) b.emptied.rest
 
     same_cells : cell_list (cells_of mem) 0 (peak_of book.planner.store) ≡ cell_list carried 0 (peak_of b.old.store)

@@ -52,8 +52,5 @@ module _ (script : Script) (table : Table) (p : Planner) (begun : ScriptState) (
   pub jobs_after : p.jobs_before ≤ count_of p.jobs
   jobs_after = let c = counted in omega arith
 
-  pub few_jobs : vec_len p.plan.jobs ≤ 4096
-  few_jobs = let c = counted in let room = p.jobs.room.0 in let len = p.plan.jobs.ok.0 in omega arith
-
   pub job_room : count_of p.jobs ≢ 4096 → vec_len p.plan.jobs < 4096
   job_room ne = let c = counted in let room = p.jobs.room.0 in let len = p.plan.jobs.ok.0 in omega arith

@@ -46,9 +46,8 @@ use Rattle.frame_ast.specs.Schedules.{alias}
 use Rattle.frame_plan.specs.Noting.{MayNoteAll}
 use Rattle.frame_plan.specs.Causes as causes
 use Rattle.frame_plan.specs.Causes.{has_cause, first_with, alias_after, or_next, greatest_blocker, pending_of, refusal_by, as_refused}
-use Rattle.frame_plan.specs.Stands.{Stands}
 use Rattle.frame_plan.specs.Starting.{AreDeps, IsFull, IsScheduled}
-use Rattle.frame_plan.specs.Steps.{state_at, state_after, IsStep, StandsAt, PassesLimit}
+use Rattle.frame_plan.specs.Steps.{state_at, state_after, IsStep, StandsAt, HasStepped, PassesLimit}
 use Rattle.frame_plan.specs.Uses.{given_of, AreNamesBelow, ForNames, IsUse, tags_by, tags_of}
 use Rattle.frame_plan.proofs.Choosing.{AreAlive, refusal_is}
 use Rattle.frame_plan.proofs.JobStarted as started
@@ -322,7 +321,7 @@ module _ (script : Script) (p : Planner) (line : ℕ) (auto : Bool) (handle kern
         pub goes_on : (new : Planner) (deps : Jobs) (xs : List Arg) (ws : List ℕ) (us : List NamedUse) → xs ≡ args.items → ws ≡ waive.items → us ≡ uses
             → AreDeps auto named p.jobs p.safety (tags_of uses) deps
             → IsScheduled script p new handle kernel xs cut ws us deps
-            → (more : List ℕ) × Stands new g begun (suc n) (state_after script table n x) (found ++ more)
+            → HasStepped script table begun n found p new x
         goes_on new deps xs ws us e f u d is =
             started.goes_on script table begun n found line auto handle kernel args cut waive after step text p st uses named are none new deps (deps_is deps d)
             (subst (λ xs. IsScheduled script p new handle kernel xs cut waive.items uses deps) e
@@ -340,7 +339,7 @@ module _ (script : Script) (p : Planner) (line : ℕ) (auto : Bool) (handle kern
       pub refused_on : (new said : Planner) (cause : Cause) (k : Kernel) → slice_get script.kernels.items kernel ≡ Some k → (us : List NamedUse) → us ≡ uses → Some cause ≡ refusal_by us k.parallel auto
           → IsPushed p said (record { line = line; name = cause.name; act = Say cause.refusal })
           → HasHandle said new handle nobody
-          → (more : List ℕ) × Stands new g begun (suc n) (state_after script table n x) (found ++ more)
+          → HasStepped script table begun n found p new x
       refused_on new said cause k h us e is pushed has =
           let low = refusal_named (length p.values.items) us k.parallel auto cause
           (subst (AreNamed (length p.values.items)) (sym e) (uses_named p named text.source.params.items args.items uses are)) (sym is) in

@@ -26,6 +26,8 @@ use Rattle.frame_ast.proofs.Known.{named_among}
 use Rattle.frame_ast.proofs.NameKinds.{first_none}
 use Rattle.plan_laws.specs.Accepting.{Schedule, accepted, deps_of}
 use Rattle.plan_laws.specs.Binds.{bind_of}
+use Rattle.frame_plan.specs.Growth.{numbers_of}
+use Rattle.frame_plan.specs.Starting.{numbers_by}
 
 -- ---- small facts
 
@@ -144,8 +146,13 @@ module _ (s : ScriptState) (known : IsKnown s) (auto : Bool) (after : List ℕ) 
           (or_cases (jobs_named s after j) (automatic s.book s.uses (jobs_named s after) needs j) h)
       by false h = named_among s known after j h
 
+-- the two numbers of a schedule, by the state before it
+pub numbers_are : (s : ScriptState) (cut : Option (ℕ × ℕ)) → numbers_by cut ≡ numbers_of s cut None
+numbers_are s None = refl
+numbers_are s (Some cut) = refl
+
 -- the number of indexes, and a cut for a kernel that isn't parallel
-pub indexes_are : (s : ScriptState) (parallel : Bool) (cut : Option (ℕ × ℕ)) → one_of parallel (is_some cut) false ≡ true → Rattle.frame_plan.specs.Starting.indexes_by cut ≡ executes parallel (job_length s cut None)
+pub indexes_are : (s : ScriptState) (parallel : Bool) (cut : Option (ℕ × ℕ)) → one_of parallel (is_some cut) false ≡ true → (numbers_by cut).0 ≡ executes parallel (job_length s cut None)
 indexes_are s true None e = absurd cc
 indexes_are s true (Some cut) e = refl
 indexes_are s false None e = refl

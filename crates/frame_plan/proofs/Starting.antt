@@ -1,6 +1,6 @@
 -- A planner at a script's beginning.
-use Rattle.std.proofs.Common.{◌≡◌, ℕ, zero, suc, List, [], length, Option, None, Some, refl, sym, ap, subst, ◌∙◌, arith}
-use Rattle.std.specs.Prelude.{replicate, slice_get, string_bytes}
+use Rattle.std.proofs.Common.{◌≡◌, ℕ, zero, suc, Bool, true, false, ◌&&◌, List, [], ◌++◌, length, Option, None, Some, refl, sym, ap, subst, ◌∙◌, arith}
+use Rattle.std.specs.Prelude.{nat_lt, replicate, slice_get, string_bytes}
 use Rattle.std.proofs.lemmas.List.{length-replicate}
 use Rattle.frame_ast.specs.declared.script.Script.{Script}
 use Rattle.frame_ast.specs.Jobs.{empty_book}
@@ -12,7 +12,7 @@ use Rattle.slot_store.specs.declared.place.Place.{Place}
 use Rattle.slot_store.specs.Places.{unused, in_use}
 use Rattle.slot_store.specs.Stores.{place_of, peak_of, live_words_of, slots_in_use}
 use Rattle.frame_core.specs.declared.plan.JobPlan.{JobPlan}
-use Rattle.frame_core.specs.Names.{pieces_before}
+use Rattle.frame_core.specs.Names.{has_job, pieces_before}
 use Rattle.frame_core.proofs.Small.{some_is, none_some, not_both}
 use Rattle.plan_laws.specs.Drafts.{empty_draft}
 use Rattle.plan_laws.specs.Planned.{Outline, IsPlanned}
@@ -20,6 +20,8 @@ use Rattle.plan_laws.proofs.AtStart.{nothing_is_planned}
 use Rattle.frame_plan.specs.declared.state.Value.{Value}
 use Rattle.frame_plan.specs.declared.state.Value.TheVariants.{Dead, Jobs}
 use Rattle.frame_plan.specs.declared.state.Planner.{Planner}
+use Rattle.frame_plan.specs.Growth.{given_from, given_in, waits_in}
+use Rattle.frame_plan.specs.Runs.{HasBegun}
 use Rattle.frame_plan.specs.Stands.{value_for, IsThere, Agrees, draft_of}
 use Rattle.frame_plan.specs.Steps.{StandsAt}
 use Rattle.frame_plan.proofs.Reaching.{long}
@@ -147,3 +149,18 @@ module _ (script : Script) (table : Table) (p : Planner) (new : IsNew p script) 
     where
       not_dead : (k : ℕ) → Jobs k ≡ Dead → ⊥
       not_dead k e = cc
+
+  pub begun_new : HasBegun script table p
+  begun_new = record {
+    stands = stands_new;
+    grown = λ starts. record {
+      ranges = record { fits = tt; peak = new.peak };
+      spans = (let a = new.segments in let b = new.ops in λ i. given_from (a i) ++ given_in (b i));
+      jobs = λ n x low high here. absurd (omega arith);
+      waited = λ j pos. (let a = new.segments in let b = new.waits in λ i. has_job (waits_in (a i) ++ b i) j) ∙ none (nat_lt 0 j);
+    };
+  }
+    where
+      none : (b : Bool) → false ≡ (b && false)
+      none true = refl
+      none false = refl

@@ -272,7 +272,7 @@ module _ (p : Planner) (line name handle : ℕ) where
       let l = live g begun n s found st in
       let none : refusal g s ending.act ≡ None = ap (λ a. option_map (refused Disposed) (cond (not a) (Some name) None)) l.alive in
       held_on script table begun n found ending step p st name handle jobs (alive_container s (s.values name) l.alive) m q (subst (IsHeldBack p m) (sym l.at) i) e
-      (accepted_state g s ending step.acts none ∙ ap (λ js. with_name handle (states.Handle js) (dispose name s)) (sym (set_is p g begun n s found st name c l jobs w)))
+      (accepted_state g s ending step.acts none ∙ ap (λ js. with_name handle (states.Handle js) (dispose name s)) (sym (set_is p g begun n s found st name c l jobs w))) (refl, tt)
 
 -- ---- `complete auto`
 module _ (p : Planner) (line name : ℕ) where
@@ -320,4 +320,4 @@ module _ (p : Planner) (line name : ℕ) where
       let m = may g begun n s found st in
       completes_on script table begun n found completing step p st (automatic s.book s.uses nobody (need_of s name true ∷ [])) (set_known p g begun n s found st name c m.1) q
       (subst (AreCompleted p q) (set_is p g begun n s found st name c m.1 jobs w) done)
-      (accepted_state g s completing step.acts (sym m.0))
+      (accepted_state g s completing step.acts (sym m.0)) (refl, tt)

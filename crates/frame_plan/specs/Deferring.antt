@@ -1,6 +1,8 @@
 -- A schedule whose length is that of a list, in the code's terms: the use of the list, why it is refused, and its job.
-use Rattle.std.specs.Prelude.{ℕ, ◌+◌, ◌≡◌, ◌≤◌, ◌⊎◌, Bool, true, false, ◌||◌, nat_eq, if◌then◌else◌, List, [], ◌∷◌, ◌++◌, length, Option, None, Some, slice_get, slice_set}
+use Rattle.std.specs.Prelude.{Vec, ℕ, ◌+◌, ◌≡◌, ◌≤◌, ◌⊎◌, Bool, true, false, ◌&&◌, ◌||◌, nat_eq, if◌then◌else◌, List, [], ◌∷◌, ◌++◌, length, Option, None, Some, slice_get, slice_set}
 use Rattle.std.specs.List.{list_any}
+use Rattle.std.specs.declared.alloc.Global.{Global}
+use Rattle.batch_cut.specs.Cuts.{step_of}
 use Rattle.job_base.specs.declared.Access.TheVariants.{Read}
 use Rattle.job_base.specs.declared.limits.TheConstants.{MOST_INDEXES}
 use Rattle.job_base.specs.declared.Refusal.TheVariants.{Disposed, StaleView, NotParallel, Alias, TempInJob}
@@ -10,6 +12,8 @@ use Rattle.frame_ast.specs.declared.script.Script.{Script}
 use Rattle.frame_ast.specs.Accepted.{guard_fits}
 use Rattle.frame_ast.specs.Checked.{IsChecked}
 use Rattle.frame_ast.specs.declared.script.Arg.{Arg}
+use Rattle.frame_ast.specs.declared.script.Order.TheVariants.{Schedule}
+use Rattle.frame_ast.specs.declared.script.Statement.{Statement}
 use Rattle.frame_ast.specs.Jobs.{Jobs as JobSet, Book, only, with_job}
 use Rattle.frame_ast.specs.Schedules.{Given, alias}
 use Rattle.job_defer.specs.Guarded.{IsGuarded, GuardsContents, GuardsWords, GuardsFootprint}
@@ -27,10 +31,19 @@ use Rattle.frame_plan.specs.declared.causes.Cause.{Cause}
 use Rattle.frame_plan.specs.declared.uses.NamedUse.{NamedUse}
 use Rattle.frame_plan.specs.Accesses.{tag_for, HasHandle}
 use Rattle.frame_plan.specs.Causes.{has_cause, first_with, alias_of, pending_of, or_next}
+use Rattle.frame_plan.specs.Growth.{is_none}
 use Rattle.frame_plan.specs.JobBinds.{bind_of_value, job_binds}
 use Rattle.frame_plan.specs.Noting.{noted_all}
 use Rattle.frame_plan.specs.Starting.{AreLater, IsStarted}
 use Rattle.frame_plan.specs.Uses.{IsBlockedBy, number_of_value, is_temp_in, given_of}
+
+-- THE SCHEDULE
+
+-- a schedule with `defer`, as a statement
+abbrev pub deferring : ℕ → Bool → ℕ → ℕ → Vec Arg Global → Option (ℕ × ℕ) → ℕ × ℕ → Vec ℕ Global → Vec ℕ Global
+    → Statement
+deferring line auto handle kernel args cut defer waive after =
+    record { line = line; act = Schedule auto handle kernel args cut (Some defer) waive after }
 
 -- THE USE OF THE LIST
 
@@ -104,7 +117,9 @@ pub record MayBeGuarded (source : Kernel) : Type 0 where
   pub fits : guard_fits source ≡ true
 
 abbrev pub IsKernelGuardable : Script → ℕ → Type 0
-IsKernelGuardable script kernel = (source : Kernel) → slice_get script.kernels.items kernel ≡ Some source → MayBeGuarded source
+IsKernelGuardable script kernel = (source : Kernel)
+    → slice_get script.kernels.items kernel ≡ Some source
+    → MayBeGuarded source
 
 -- A guarded copy of a kernel has a new place among the plan's, and all else is as it was.
 pub record IsGuardedAnew (script : Script) (old new : Planner) (kernel place : ℕ) : Type 0 where
@@ -141,8 +156,8 @@ IsListAt p name at = bind_of_value p (slice_get p.values.items name) ≡ WholeLi
 
 -- A job with a deferred length is scheduled: the book of jobs has it, the safety book has its uses, and the segment at
 -- hand starts it. It has an index for each element that the list can have.
-pub record IsDeferredStart (script : Script) (old new : Planner) (handle kernel : ℕ) (args : List Arg) (list : ℕ)
-    (waive : List ℕ) (noted : List NamedUse) (deps : JobSet) : Type 0 where
+pub record IsDeferredStart (script : Script) (old new : Planner) (handle kernel : ℕ) (args : List Arg)
+    (list batch : ℕ) (waive : List ℕ) (noted : List NamedUse) (deps : JobSet) : Type 0 where
   pub source : Kernel
   pub is_source : slice_get script.kernels.items kernel ≡ Some source
   -- the planner after the job was noted
@@ -158,8 +173,9 @@ pub record IsDeferredStart (script : Script) (old new : Planner) (handle kernel 
       ≡ job_binds old source.parallel waive 0 source.params.items args ++ word_at at.start ∷ []
   pub later_are : AreLater old.jobs_before (count_of old.jobs) deps job.deps.items
   pub indexes : job.cut.n ≡ at.cap
+  pub step : job.cut.step ≡ step_of at.cap batch
   pub cut : IsCutIn job
-  pub parallel : job.parallel ≡ true → (source.parallel ≡ true) × (waive ≡ [])
+  pub parallel : job.parallel ≡ (source.parallel && is_none waive)
   -- after its kernel was guarded, after it was started, and at last its name
   pub middle : Planner
   pub guarded : IsGuardedAt script after middle kernel job.kernel

@@ -1,4 +1,6 @@
 -- promises
+pub mod Growth
+pub mod Layouts
 pub mod Missing
 pub mod Sections
 pub mod Tables

@@ -8,9 +8,11 @@ use Rattle.frame_ast.specs.declared.script.Statement.{Statement}
 use Rattle.frame_ast.specs.Accepted.{IsAccepted}
 use Rattle.frame_ast.specs.Checks.{refusal}
 use Rattle.frame_ast.specs.Orders.{Table, Setting, setting}
-use Rattle.frame_ast.specs.States.{ScriptState, is_live}
+use Rattle.frame_ast.specs.Ranges.{Starts}
+use Rattle.frame_ast.specs.States.{ScriptState, at_start, is_live}
 use Rattle.slot_store.specs.Stores.{peak_of}
 use Rattle.frame_core.specs.declared.plan.Plan.{Plan}
+use Rattle.frame_core.specs.declared.plan.Segment.{Segment}
 use Rattle.kernel_exec.specs.Binds.{end_of}
 use Rattle.plan_laws.specs.Binds.{bind_of_container}
 use Rattle.plan_laws.specs.Drafts.{empty_draft}
@@ -19,6 +21,8 @@ use Rattle.plan_laws.specs.Planned.{Outline}
 use Rattle.std.specs.Prelude.{get_or}
 use Rattle.frame_plan.specs.declared.state.PlanFault.{PlanFault}
 use Rattle.frame_plan.specs.declared.state.Planner.{Planner}
+use Rattle.frame_plan.specs.Growth.{given_from, given_so_far, StartAs, Grows}
+use Rattle.frame_plan.specs.Layouts.{HasGrown}
 use Rattle.frame_plan.specs.Stands.{draft_of}
 use Rattle.frame_plan.specs.Steps.{state_at, StandsAt, PassesLimit}
 
@@ -52,10 +56,18 @@ AtPlace script table p x Holds = (begun : ScriptState) (n : ℕ) (found : List �
     → StandsAt p script table begun n found
     → Holds begun n found
 
--- it stands one statement further on
+-- it stands one statement further on, and has what the statement adds
+pub record IsFurther (script : Script) (table : Table) (begun : ScriptState) (n : ℕ) (found : List ℕ)
+    (old new : Planner) (x : Statement) : Type 0 where
+  pub more : List ℕ
+  pub stands : StandsAt new script table begun (suc n) (found ++ more)
+  pub grows : (starts : Starts)
+      → StartAs starts (found ++ more)
+      → Grows (setting script table) (state_at script table n) x starts begun.book.count old new
+
 abbrev pub HasPassed : Script → Table → Planner → Planner → Statement → Type 0
-HasPassed script table old new x = AtPlace script table old x (λ begun n found.
-    (more : List ℕ) × StandsAt new script table begun (suc n) (found ++ more))
+HasPassed script table old new x =
+    AtPlace script table old x (λ begun n found. IsFurther script table begun n found old new x)
 
 -- the statement is a test that acts
 abbrev pub StopsAt : Script → Table → Planner → Statement → Type 0
@@ -69,11 +81,28 @@ FailsAtPlace script table fault old x = AtPlace script table old x (λ begun n f
 
 -- ALL STATEMENTS up to a stop
 
--- The planner has gone from one place to another, where a section ends.
-pub record HasRun (script : Script) (table : Table) (new : Planner) (begun : ScriptState) (from : ℕ) (found : List ℕ)
+-- The planner stands at the script's beginning, and its plan has nothing.
+pub record HasBegun (script : Script) (table : Table) (p : Planner) : Type 0 where
+  pub stands : StandsAt p script table at_start 0 []
+  pub grown : (starts : Starts) → HasGrown script table starts p 0 0
+
+-- The planner has gone from one place to another.
+pub record HasGone (script : Script) (table : Table) (old new : Planner) (begun : ScriptState) (from : ℕ) (found : List ℕ)
     (to : ℕ) : Type 0 where
   pub more : List ℕ
   pub stands : StandsAt new script table begun to (found ++ more)
+  -- its plan has what the statements between add
+  pub grown : (start : ℕ) (starts : Starts)
+      → start ≤ from
+      → begun.book.count ≡ (state_at script table start).book.count
+      → StartAs starts (found ++ more)
+      → HasGrown script table starts old start from
+      → HasGrown script table starts new start to
+
+-- It has gone to a place where a section ends.
+pub record HasRun (script : Script) (table : Table) (old new : Planner) (begun : ScriptState) (from : ℕ) (found : List ℕ)
+    (to : ℕ) : Type 0 where
+  pub gone : HasGone script table old new begun from found to
   pub rising : from ≤ to
   pub inside : to ≤ length script.statements.items
   pub stops : IsStop (setting script table) (state_at script table to) (slice_get script.statements.items to)
@@ -103,6 +132,12 @@ AreWithin last found s = (c : ℕ) → is_live s c ≡ true → end_of (bind_of_
 -- The plan is that of a section which began in a state, up to the statement at which the planner stands.
 pub record IsFinished (script : Script) (p : Planner) (plan : Plan) : Type 0 where
   pub cells : plan.cells ≡ peak_of p.store
+  pub kernels : plan.kernels.items ≡ p.plan.kernels.items
+  pub jobs : plan.jobs.items ≡ p.plan.jobs.items
+  -- it gives what was given, and its last segments come after those so far
+  pub spans : given_from plan.segments.items ≡ given_so_far p
+  pub segments_later : List Segment
+  pub segments : plan.segments.items ≡ p.plan.segments.items ++ segments_later
   pub done : (table : Table) (begun : ScriptState) (n : ℕ) (found : List ℕ)
       → n ≤ length script.statements.items
       → StandsAt p script table begun n found

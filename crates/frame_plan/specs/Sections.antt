@@ -14,6 +14,7 @@ use Rattle.frame_ast.specs.Arguments.{value_in}
 use Rattle.frame_ast.specs.Checks.{refusal}
 use Rattle.frame_ast.specs.Limits.{Limit, TooManyJobs, TooManyWords, limit_of}
 use Rattle.frame_ast.specs.Orders.{Table, Setting, setting, compares}
+use Rattle.frame_ast.specs.Ranges.{Starts}
 use Rattle.frame_ast.specs.Scripts.{final}
 use Rattle.frame_ast.specs.States.{ScriptState, contents_at}
 use Rattle.kernel_exec.specs.declared.binds.Bind.TheVariants.{Ref}
@@ -32,6 +33,8 @@ use Rattle.frame_plan.specs.declared.sections.SectionBook.{SectionBook}
 use Rattle.frame_plan.specs.declared.state.PlanFault.{PlanFault}
 use Rattle.frame_plan.specs.declared.state.PlanFault.TheVariants.{Jobs, Words, NoMemory}
 use Rattle.frame_plan.specs.declared.state.Planner.{Planner}
+use Rattle.frame_plan.specs.Growth.{StartAs}
+use Rattle.frame_plan.specs.Layouts.{IsLaidOut, HasRanges, HasGrown}
 use Rattle.frame_plan.specs.Runs.{IsActingTest, IsStop, IsEmptied}
 use Rattle.frame_plan.specs.Steps.{state_at, StandsAt}
 
@@ -73,6 +76,8 @@ pub record IsSectionOf (script : Script) (table : Table) (from to : ℕ) (sectio
   pub refused : (state_at script table to).refused ≡ (state_at script table from).refused + plan_refused section.plan
   pub traps : (state_at script table to).traps
       ≡ (state_at script table from).traps ++ map (renumbered section.jobs_before) (plan_traps section.plan)
+  -- its ranges, jobs and contents are those of the definitions
+  pub laid_out : IsLaidOut script table from to section.plan
   pub test : EndsBy (setting script table) (state_at script table to) (cells_after section.plan)
       (slice_get script.statements.items to) section.test
 
@@ -111,6 +116,7 @@ pub record IsPlannedFrom (book : SectionBook) (script : Script) (table : Table) 
   pub within : limit_of (setting script table) script.statements.items ≡ None
   pub found : List ℕ
   pub stands : StandsAt book.planner script table (state_at script table from) book.at found
+  pub grown : (starts : Starts) → StartAs starts found → HasGrown script table starts book.planner from book.at
   pub rising : from ≤ book.at
   pub inside : book.at ≤ length script.statements.items
   pub stops : IsStop (setting script table) (state_at script table book.at)
@@ -132,6 +138,7 @@ pub record IsBetween (book : SectionBook) (script : Script) (table : Table) (n :
   pub begun : ScriptState
   pub found : List ℕ
   pub stood : StandsAt old script table begun n found
+  pub ranges : (starts : Starts) → StartAs starts found → HasRanges script table starts old n
   pub emptied : IsEmptied old book.planner
   pub held : AllHeld (λ k. get_or found k 0) (state_at script table n) carried
   pub len_is : len ≡ peak_of book.planner.store
@@ -161,3 +168,5 @@ pub record IsPlanOf (script : Script) (table : Table) (plan : Plan) : Type 0 whe
   pub lines : (final (setting script table) script.statements.items).lines ≡ plan_lines plan
   pub refused : (final (setting script table) script.statements.items).refused ≡ plan_refused plan
   pub traps : (final (setting script table) script.statements.items).traps ≡ plan_traps plan
+  -- its ranges, jobs and contents are those of the definitions
+  pub laid_out : IsLaidOut script table 0 (length script.statements.items) plan

@@ -1,7 +1,8 @@
 -- A new job of the plan, in the code's terms.
-use Rattle.std.specs.Prelude.{Vec, ℕ, suc, ◌+◌, ◌-◌, ◌*◌, ◌≡◌, ◌≤◌, ◌⊎◌, Bool, true, false, List, [], ◌∷◌, ◌++◌, length, Option, None, Some, slice_get, slice_set}
+use Rattle.std.specs.Prelude.{Vec, ℕ, suc, ◌+◌, ◌-◌, ◌*◌, ◌≡◌, ◌≤◌, ◌⊎◌, Bool, true, false, ◌&&◌, List, [], ◌∷◌, ◌++◌, length, Option, None, Some, slice_get, slice_set}
 use Rattle.job_base.specs.declared.limits.TheConstants.{MOST_INDEXES, MOST_PIECES, MOST_JOBS}
 use Rattle.batch_cut.specs.declared.pieces.Cut.{Cut}
+use Rattle.batch_cut.specs.Cuts.{step_of}
 use Rattle.frame_ast.specs.declared.kernel.Kernel.{Kernel}
 use Rattle.frame_ast.specs.declared.script.Script.{Script}
 use Rattle.std.specs.declared.alloc.Global.{Global}
@@ -29,6 +30,7 @@ use Rattle.job_base.specs.declared.JobId.{JobId}
 use Rattle.frame_plan.specs.declared.state.Planner.{Planner}
 use Rattle.frame_plan.specs.declared.uses.NamedUse.{NamedUse}
 use Rattle.frame_plan.specs.Accesses.{HasHandle}
+use Rattle.frame_plan.specs.Growth.{is_none}
 use Rattle.frame_plan.specs.JobBinds.{job_binds}
 use Rattle.frame_plan.specs.Noting.{noted_all}
 
@@ -37,18 +39,19 @@ abbrev pub scheduling : ℕ → Bool → ℕ → ℕ → Vec Arg Global → Opti
 scheduling line auto handle kernel args cut waive after =
     record { line = line; act = Schedule auto handle kernel args cut None waive after }
 
--- the number of indexes of a schedule's two numbers; 1 where there are none
-abbrev pub indexes_by : Option (ℕ × ℕ) → ℕ
-indexes_by None = 1
-indexes_by (Some cut) = cut.0
+-- a schedule's number of indexes and its batch; one index where there are none
+abbrev pub numbers_by : Option (ℕ × ℕ) → ℕ × ℕ
+numbers_by None = (1, 1)
+numbers_by (Some cut) = cut
 
--- A cut that `cut` gives for a schedule's two numbers; without them it is that of one index.
+-- The cut that `cut` gives for a schedule's two numbers; without them it is that of one index.
 pub record IsCutBy (given : Option (ℕ × ℕ)) (cut : Cut) : Type 0 where
-  pub indexes : cut.n ≡ indexes_by given
+  pub indexes : cut.n ≡ (numbers_by given).0
+  pub step : cut.step ≡ step_of (numbers_by given).0 (numbers_by given).1
+  -- so it has few pieces, none of them too large
   pub few : cut.n ≤ MOST_INDEXES
-  pub step : (1 ≤ cut.step) × (cut.step ≤ MOST_INDEXES)
+  pub steps : (1 ≤ cut.step) × (cut.step ≤ MOST_INDEXES)
   pub pieces : cut.n ≤ MOST_PIECES * cut.step
-  pub one : given ≡ None → cut.step ≡ 1
 
 -- The jobs of a set after the first ones, in rising order, by their numbers from there.
 pub record AreLater (before count : ℕ) (jobs : Jobs) (ids : List JobId) : Type 0 where
@@ -108,7 +111,7 @@ pub record IsScheduled (script : Script) (old new : Planner) (handle kernel : �
   pub binds : job.binds.items ≡ job_binds old source.parallel waive 0 source.params.items args
   pub later_are : AreLater old.jobs_before (count_of old.jobs) deps job.deps.items
   pub cut_by : IsCutBy cut job.cut
-  pub parallel : job.parallel ≡ true → (source.parallel ≡ true) × (waive ≡ [])
+  pub parallel : job.parallel ≡ (source.parallel && is_none waive)
   -- after its kernel was copied, after it was started, and at last its name
   pub middle : Planner
   pub copied : IsCopied script after middle kernel job.kernel

@@ -5,11 +5,13 @@ use Rattle.frame_ast.specs.declared.script.Script.{Script}
 use Rattle.frame_ast.specs.declared.script.Statement.{Statement}
 use Rattle.frame_ast.specs.Accepted.{IsAccepted}
 use Rattle.frame_ast.specs.Orders.{Table, setting}
+use Rattle.frame_ast.specs.Ranges.{Starts}
 use Rattle.frame_ast.specs.Scripts.{act, final}
 use Rattle.frame_ast.specs.States.{ScriptState}
 use Rattle.frame_plan.specs.declared.state.PlanFault.{PlanFault}
 use Rattle.frame_plan.specs.declared.state.PlanFault.TheVariants.{Jobs, Words, NoMemory}
 use Rattle.frame_plan.specs.declared.state.Planner.{Planner}
+use Rattle.frame_plan.specs.Growth.{StartAs, Grows}
 use Rattle.frame_plan.specs.Stands.{Stands}
 
 -- the state of a script after its first n statements
@@ -66,18 +68,27 @@ IsReady p x = (script : Script) × IsBefore script p x
 
 -- WHAT IT ANSWERS
 
--- it goes on: some more ranges were found
+-- Some more ranges were found: it stands for the state afterwards, and its plan grew by what the statement adds.
+pub record HasStepped (script : Script) (table : Table) (begun : ScriptState) (n : ℕ) (found : List ℕ)
+    (old new : Planner) (x : Statement) : Type 0 where
+  pub more : List ℕ
+  pub stands : Stands new (setting script table) begun (suc n) (state_after script table n x) (found ++ more)
+  pub grows : (starts : Starts)
+      → StartAs starts (found ++ more)
+      → Grows (setting script table) (state_at script table n) x starts begun.book.count old new
+
+-- it goes on
 abbrev pub GoesOn : Planner → Planner → Statement → Type 0
 GoesOn old new x = AtStatement old x (λ script table begun n found.
-    (more : List ℕ) × Stands new (setting script table) begun (suc n) (state_after script table n x) (found ++ more))
+    HasStepped script table begun n found old new x)
 
 abbrev pub GoesOnIn : Script → Planner → Planner → Statement → Type 0
 GoesOnIn script old new x = AtStatementOf script old x (λ table begun n found.
-    (more : List ℕ) × Stands new (setting script table) begun (suc n) (state_after script table n x) (found ++ more))
+    HasStepped script table begun n found old new x)
 
 abbrev pub GoesOnWith : Table → Planner → Planner → Statement → Type 0
 GoesOnWith table old new x = AtStatementWith table old x (λ script begun n found.
-    (more : List ℕ) × Stands new (setting script table) begun (suc n) (state_after script table n x) (found ++ more))
+    HasStepped script table begun n found old new x)
 
 -- a fault other than want of memory comes where the state afterwards passes a limit
 abbrev pub PassesLimit : PlanFault → ScriptState → Type 0

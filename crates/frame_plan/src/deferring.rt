@@ -1,14 +1,13 @@
 // `schedule` with `defer`: a job with as many indexes as a list can have, of which those below the list's length act.
 ghost use Rattle.std.specs.Prelude.{◌≡◌, ◌≢◌, ◌*◌, ◌^◌, ◌<◌, ◌≤◌, slice_get, ◌++◌, ◌∷◌, [], length, vec_len, IfErr, IfOk, OnOk, None, Some};
-ghost use Rattle.frame_ast.specs.declared.script.Order.TheVariants.{Schedule};
-ghost use Rattle.job_base.specs.declared.limits.TheConstants.{MOST_INDEXES};
+ghost use Rattle.job_base.specs.declared.limits.TheConstants.{MOST_INDEXES, MOST_JOBS, MOST_PARAMS, MOST_PIECES};
 ghost use Rattle.frame_ast.specs.declared.kernel.Kernel.{Kernel};
 ghost use Rattle.frame_ast.specs.Laws.{AreUpTo};
 ghost use Rattle.job_handle.specs.Books.{count_of};
 ghost use Rattle.job_handle.specs.Sets.{jobs_of};
 ghost use Rattle.safety_handle.specs.Entries.{state_of};
 ghost use Rattle.defer_laws.specs.GuardedRuns as deferred;
-ghost use Rattle.frame_plan.specs.Deferring.{IsDeferredStart, IsKernelGuardable, IsListName, noted_uses};
+ghost use Rattle.frame_plan.specs.Deferring.{IsDeferredStart, IsKernelGuardable, IsListName, deferring, noted_uses};
 ghost use Rattle.frame_plan.specs.Noting.{MayNoteAll};
 ghost use Rattle.frame_plan.specs.Starting.{IsFull};
 ghost use Rattle.frame_plan.specs.Accesses.{AreThere};
@@ -50,9 +49,13 @@ impl Planner {
         waive: &Vec<u32>,
         after: &Vec<u32>,
     ) -> Result<(), PlanFault>
-        requires ready { IsBefore script.now self.old (record { line = line; act = Schedule auto handle kernel args.now cut (Some defer) waive.now after.now }) }
-        ensures goes_on { OnOk result (GoesOnIn script.now self.old self.new (record { line = line; act = Schedule auto handle kernel args.now cut (Some defer) waive.now after.now })) }
-        ensures fails { IfErr result (λ fault. FailsIn script.now fault self.old (record { line = line; act = Schedule auto handle kernel args.now cut (Some defer) waive.now after.now })) }
+        requires ready { IsBefore script.now self.old
+            (deferring line auto handle kernel args.now cut defer waive.now after.now) }
+
+        ensures goes_on { OnOk result (GoesOnIn script.now self.old self.new
+            (deferring line auto handle kernel args.now cut defer waive.now after.now)) }
+        ensures fails { IfErr result (λ fault. FailsIn script.now fault self.old
+            (deferring line auto handle kernel args.now cut defer waive.now after.now)) }
     {
         self.schedule_by_list(
             alloc, script, line, auto, handle, kernel, args, defer.0, defer.1, waive, after,
@@ -74,9 +77,13 @@ impl Planner {
         waive: &Vec<u32>,
         after: &Vec<u32>,
     ) -> Result<(), PlanFault>
-        requires ready { IsBefore script.now self.old (record { line = line; act = Schedule auto handle kernel args.now None (Some (list, batch)) waive.now after.now }) }
-        ensures goes_on { OnOk result (GoesOnIn script.now self.old self.new (record { line = line; act = Schedule auto handle kernel args.now None (Some (list, batch)) waive.now after.now })) }
-        ensures fails { IfErr result (λ fault. FailsIn script.now fault self.old (record { line = line; act = Schedule auto handle kernel args.now None (Some (list, batch)) waive.now after.now })) }
+        requires ready { IsBefore script.now self.old
+            (deferring line auto handle kernel args.now None (list, batch) waive.now after.now) }
+
+        ensures goes_on { OnOk result (GoesOnIn script.now self.old self.new
+            (deferring line auto handle kernel args.now None (list, batch) waive.now after.now)) }
+        ensures fails { IfErr result (λ fault. FailsIn script.now fault self.old
+            (deferring line auto handle kernel args.now None (list, batch) waive.now after.now)) }
     {
         let params = &script.kernels[kernel as usize].params;
         let parallel = script.kernels[kernel as usize].parallel;
@@ -106,10 +113,12 @@ impl Planner {
         at: ListAt,
     ) -> Result<Vec<Bind>, NoMemory>
         requires each { length args.now ≡ vec_len kernel.now.params }
-        requires few { length args.now ≤ 16 }
+        requires few { length args.now ≤ MOST_PARAMS }
         requires names { AreNamesBelow (vec_len self.now.values) args.now }
         requires there { AreThere (vec_len self.now.containers) (vec_len self.now.handles) self.now.values.items }
-        ensures { IfOk result (λ binds. binds.items ≡ job_binds self.now kernel.now.parallel waive.now 0 kernel.now.params.items args.now ++ deferred.word_at at.start ∷ []) }
+        ensures { IfOk result (λ binds. binds.items
+            ≡ job_binds self.now kernel.now.parallel waive.now 0 kernel.now.params.items args.now
+            ++ deferred.word_at at.start ∷ []) }
     {
         let mut binds = self.job_binds(alloc, kernel, args, waive)?;
         binds.push(word_at(at.start))?;
@@ -135,8 +144,9 @@ impl Planner {
         requires guards { vec_len self.old.guards ≡ vec_len script.now.kernels }
         requires guardable { IsKernelGuardable script.now kernel }
         requires copies { vec_len self.old.plan.kernels < 2 ^ 32 }
-        requires each { (k : Kernel) → slice_get script.now.kernels.items kernel ≡ Some k → length args.now ≡ length k.params.items }
-        requires args { length args.now ≤ 16 }
+        requires each { (k : Kernel) → slice_get script.now.kernels.items kernel ≡ Some k
+            → length args.now ≡ length k.params.items }
+        requires args { length args.now ≤ MOST_PARAMS }
         requires names { AreNamesBelow (vec_len self.old.values) args.now }
         requires there { AreThere (vec_len self.old.containers) (vec_len self.old.handles) self.old.values.items }
         requires list { list < vec_len self.old.values }
@@ -147,10 +157,11 @@ impl Planner {
         requires uses { MayNoteAll (noted_uses uses.now length_use.now) (state_of self.old.safety) }
         requires deps { AreUpTo (count_of self.old.jobs) (jobs_of deps.now) }
         requires before { self.old.jobs_before ≤ count_of self.old.jobs }
-        requires jobs { vec_len self.old.plan.jobs ≤ 4096 }
-        requires room { count_of self.old.jobs ≢ 4096 → vec_len self.old.plan.jobs < 4096 }
-        requires pieces { self.old.plan.pieces ≤ 64 * 4096 }
-        ensures done { OnOk result (IsDeferredStart script.now self.old self.new handle kernel args.now list waive.now (noted_uses uses.now length_use.now) (jobs_of deps.now)) }
+        requires room { count_of self.old.jobs ≢ MOST_JOBS → vec_len self.old.plan.jobs < MOST_JOBS }
+        requires pieces { self.old.plan.pieces ≤ MOST_PIECES * MOST_JOBS }
+
+        ensures done { OnOk result (IsDeferredStart script.now self.old self.new handle kernel args.now list batch
+            waive.now (noted_uses uses.now length_use.now) (jobs_of deps.now)) }
         ensures full { IfErr result (λ fault. IsFull fault (count_of self.old.jobs)) }
     {
         let of = &script.kernels[kernel as usize];

@@ -2,8 +2,8 @@
 ghost use Rattle.std.specs.Prelude.{◌≡◌, ◌+◌, ◌≤◌, ℕ, List, [], true, false, None, replicate, IfOk, IfErr, OnOk, length};
 ghost use Rattle.frame_ast.specs.Accepted.{IsAccepted, is_when};
 ghost use Rattle.frame_ast.specs.Orders.{Table as Columns};
-ghost use Rattle.frame_ast.specs.States.{ScriptState, at_start};
-ghost use Rattle.frame_plan.specs.Runs.{IsAtStatement, HasPassed, StopsAt, FailsAtPlace, HasRun, PassesOnce};
+ghost use Rattle.frame_ast.specs.States.{ScriptState};
+ghost use Rattle.frame_plan.specs.Runs.{HasBegun, IsAtStatement, HasPassed, StopsAt, FailsAtPlace, HasRun, PassesOnce};
 ghost use Rattle.frame_plan.specs.Steps.{StandsAt};
 ghost use Rattle.frame_plan.specs.Tables.{columns_of};
 
@@ -19,7 +19,7 @@ use table_in::Table;
 impl Planner {
     /// At the script's beginning.
     pub(crate) fn new(alloc: Global, script: &Script) -> Result<Planner, NoMemory>
-        ensures { IfOk result (λ p. (table : Columns) → StandsAt p script.now table at_start 0 []) }
+        ensures { IfOk result (λ p. (table : Columns) → HasBegun script.now table p) }
     {
         Ok(Planner {
             values: dead_values(alloc, script.names.len())?,
@@ -55,7 +55,7 @@ impl Planner {
         requires inside { from ≤ length script.now.statements.items }
         ensures ran { IfOk result (λ to. (begun : ScriptState) (found : List ℕ)
             → StandsAt self.old script.now (columns_of table.now) begun from found
-            → HasRun script.now (columns_of table.now) self.new begun from found to) }
+            → HasRun script.now (columns_of table.now) self.old self.new begun from found to) }
         ensures fails { IfErr result (λ fault. PassesOnce fault script.now (columns_of table.now)) }
     {
         let mut at = from;

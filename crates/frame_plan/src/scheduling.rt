@@ -1,5 +1,5 @@
 // `schedule`: a job that is refused, or that the segment at hand starts.
-ghost use Rattle.std.specs.Prelude.{◌≡◌, ◌≢◌, ◌*◌, ◌<◌, ◌≤◌, ◌^◌, true, [], IfErr, IfOk, OnOk, Some, slice_get, vec_len, length};
+ghost use Rattle.std.specs.Prelude.{◌≡◌, ◌≢◌, ◌*◌, ◌<◌, ◌≤◌, ◌^◌, true, ◌&&◌, IfErr, IfOk, OnOk, Some, slice_get, vec_len, length};
 ghost use Rattle.frame_ast.specs.declared.kernel.Kernel.{Kernel};
 ghost use Rattle.job_base.specs.declared.limits.TheConstants.{MOST_JOBS, MOST_PARAMS, MOST_PIECES};
 ghost use Rattle.frame_ast.specs.Accepted.{cut_fits};
@@ -8,6 +8,7 @@ ghost use Rattle.frame_core.specs.declared.plan.Act.TheVariants.{Say};
 ghost use Rattle.auto_deps.specs.Needs.{conflicting_with};
 ghost use Rattle.safety_handle.specs.Entries.{state_of};
 ghost use Rattle.frame_plan.specs.Accesses.{AreThere, HasHandle, IsPushed};
+ghost use Rattle.frame_plan.specs.Growth.{is_none};
 ghost use Rattle.frame_plan.specs.Noting.{MayNoteAll};
 ghost use Rattle.frame_plan.specs.Starting.{AreDeps, IsFull, IsScheduled, scheduling};
 ghost use Rattle.frame_ast.specs.Laws.{AreUpTo};
@@ -160,7 +161,7 @@ impl Planner {
 
 /// Whether the pieces of a job may run at once: where nothing is waived, each index owns what it writes.
 pub(crate) fn is_split(parallel: bool, waive: &[u32]) -> bool
-    ensures { result ≡ true → (parallel ≡ true) × (waive.now ≡ []) }
+    ensures { result ≡ (parallel && is_none waive.now) }
 {
     parallel && waive.is_empty()
 }

@@ -1,4 +1,4 @@
-use Rattle.std.proofs.Common.{◌≡◌, ◌⊎◌, inl, inr, [], sym, ◌∙◌, arith}
+use Rattle.std.proofs.Common.{◌≡◌, ◌⊎◌, inl, inr, [], refl, sym, ◌∙◌, arith}
 use Rattle.frame_ast.specs.Limits.{limit_of}
 use Rattle.frame_ast.specs.Orders.{setting}
 use Rattle.frame_ast.specs.States.{at_start}
@@ -13,7 +13,7 @@ use Rattle.frame_plan.proofs.sections.SectionBook.new.Goals as goal
 use Rattle.frame_plan.proofs.sections.SectionBook.new.Goals.{then-has_test+in_ok-check_text, else-has_test}
 
 pub run-requires-clause-stands : goal.run-requires-clause-stands
-run-requires-clause-stands c = (at_start, [], c.in_ok-planner.ensures (columns_of c.args.table.now))
+run-requires-clause-stands c = (at_start, [], (c.in_ok-planner.ensures (columns_of c.args.table.now)).stands)
 
 pub returns-in_err-at-clause-limit : goal.returns-in_err-at-clause-limit
 returns-in_err-at-clause-limit c =
@@ -32,8 +32,8 @@ returns-clause-within c =
       | then-has_test+in_ok-check_text w ↦ inl (sym c.has_test.ensures ∙ w.if-has_test.true, w.in_ok-check_text.ensures)
       | else-has_test w ↦ inr (sym c.has_test.ensures ∙ w.if-has_test.false)
     ] in
-    let ran = c.in_ok-at.ensures.ran at_start [] (c.in_ok-planner.ensures t) in
-    limit_none c.args.script.now t c.in_ok-at.at asked ran.stops (stands_within c.run.new.self (setting c.args.script.now t) at_start c.in_ok-at.at (state_at c.args.script.now t c.in_ok-at.at) ran.more ran.stands)
+    let ran = c.in_ok-at.ensures.ran at_start [] (c.in_ok-planner.ensures t).stands in
+    limit_none c.args.script.now t c.in_ok-at.at asked ran.stops (stands_within c.run.new.self (setting c.args.script.now t) at_start c.in_ok-at.at (state_at c.args.script.now t c.in_ok-at.at) ran.gone.more ran.gone.stands)
 
 pub returns-clause-at : goal.returns-clause-at
 returns-clause-at c carried len =
@@ -42,12 +42,13 @@ returns-clause-at c carried len =
       | then-has_test+in_ok-check_text w ↦ inl (sym c.has_test.ensures ∙ w.if-has_test.true, w.in_ok-check_text.ensures)
       | else-has_test w ↦ inr (sym c.has_test.ensures ∙ w.if-has_test.false)
     ] in
-    let ran = c.in_ok-at.ensures.ran at_start [] (c.in_ok-planner.ensures t) in
+    let ran = c.in_ok-at.ensures.ran at_start [] (c.in_ok-planner.ensures t).stands in
     record {
       accepted = c.requires.accepted;
-      within = limit_none c.args.script.now t c.in_ok-at.at asked ran.stops (stands_within c.run.new.self (setting c.args.script.now t) at_start c.in_ok-at.at (state_at c.args.script.now t c.in_ok-at.at) ran.more ran.stands);
-      found = ran.more;
-      stands = ran.stands;
+      within = limit_none c.args.script.now t c.in_ok-at.at asked ran.stops (stands_within c.run.new.self (setting c.args.script.now t) at_start c.in_ok-at.at (state_at c.args.script.now t c.in_ok-at.at) ran.gone.more ran.gone.stands);
+      found = ran.gone.more;
+      stands = ran.gone.stands;
+      grown = λ starts same. ran.gone.grown 0 starts (omega arith) refl same ((c.in_ok-planner.ensures t).grown starts);
       rising = omega arith;
       inside = ran.inside;
       stops = ran.stops;

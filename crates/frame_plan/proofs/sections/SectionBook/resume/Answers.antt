@@ -1,7 +1,9 @@
-use Rattle.std.proofs.Common.{◌++◌, arith}
+use Rattle.std.proofs.Common.{◌++◌, refl, arith}
 use Rattle.frame_plan.specs.Steps.{state_at}
 use Rattle.frame_plan.specs.Tables.{columns_of}
 use Rattle.frame_plan.proofs.Accessing.{read_some}
+use Rattle.frame_plan.proofs.Carrying.{growing_on}
+use Rattle.frame_plan.proofs.Laying.{fewer}
 use Rattle.frame_plan.proofs.Resuming.{below, place_small, standing_on, no_limit}
 use Rattle.frame_plan.proofs.sections.SectionBook.resume.Goals as goal
 
@@ -48,8 +50,12 @@ returns-in-Ok-clause-planned c from carried len b out left =
     record {
       accepted = b.accepted;
       within = b.within;
-      found = b.found ++ ran.more;
-      stands = ran.stands;
+      found = b.found ++ ran.gone.more;
+      stands = ran.gone.stands;
+      grown = λ starts same.
+          ran.gone.grown from starts (omega arith) refl same
+          (growing_on c.args.script.now t c.args.self.now from carried len b c.begin.new.self c.args.cells.now left c.in_ok-begin.ensures.resumed c.args.held c.index-statement.result.now c.passed_after-self.result here out
+          starts (fewer starts b.found ran.gone.more same));
       rising = omega arith;
       inside = ran.inside;
       stops = ran.stops;

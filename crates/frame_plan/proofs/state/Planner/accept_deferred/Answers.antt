@@ -40,6 +40,7 @@ returns-clause-done c =
       binds = c.in_ok-binds.ensures;
       later_are = c.in_ok-later.ensures;
       indexes = c.cut.ensures.indexes;
+      step = c.cut.ensures.step;
       cut = record {
         step = (c.cut.ensures.met.0, c.cut.ensures.met.1);
         pieces = c.cut.ensures.met.2;

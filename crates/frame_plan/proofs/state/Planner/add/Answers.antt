@@ -7,7 +7,7 @@ use Rattle.std.proofs.lemmas.Int.{ints}
 use Rattle.frame_plan.specs.Accesses.{MayUse}
 use Rattle.frame_plan.proofs.Accessing.{read_some}
 use Rattle.frame_plan.proofs.Binding.{on_ok}
-use Rattle.frame_plan.proofs.Changes.{write_ready, write_refused, resize_on, resize_breakable, add_resize, add_plans}
+use Rattle.frame_plan.proofs.Changes.{write_ready, write_refused, resize_on, resize_breakable, add_resize, add_gives, add_plans}
 use Rattle.frame_plan.proofs.Restating.{pushed_there}
 use Rattle.frame_plan.proofs.state.Planner.add.Goals as goal
 
@@ -49,7 +49,7 @@ returns-in_ok-push-in-None c =
     let r = write_ready (record { line = c.args.line; act = order.Add c.args.name c.args.first c.args.second }) c.args.name (add_kinds c.args.second) (add_resize c.args.name c.args.first c.args.second).write s c.requires.ready in
     let first : to_z w64 (of_z w64 c.args.first) ≡ c.args.first = omega (arith, ints) in
     record {
-      goes_on = resize_on (record { line = c.args.line; act = order.Add c.args.name c.args.first c.args.second }) c.args.name (add_kinds c.args.second) (add_act c.args.first c.args.second) (add_plans c.args.line c.args.name c.args.first c.args.second) (add_resize c.args.name c.args.first c.args.second) s c.push.new.self c.break_views.new.self c.index-value.result.now c.bind-words.result
+      goes_on = resize_on (record { line = c.args.line; act = order.Add c.args.name c.args.first c.args.second }) c.args.name (add_kinds c.args.second) (add_act c.args.first c.args.second) (add_plans c.args.line c.args.name c.args.first c.args.second) (add_gives c.args.first c.args.second) (add_resize c.args.name c.args.first c.args.second) s c.push.new.self c.break_views.new.self c.index-value.result.now c.bind-words.result
           (subst (MayUse s c.args.name true) c.in-None.is c.blocked.ensures)
           (read_some s.values c.args.name c.index-value.result.now r.0 c.index-value.ensures) c.bind-words.ensures
           (subst (λ a. IsPushed s c.push.new.self (record { line = c.args.line; name = c.args.name; act = a })) (c.addition.ensures ∙ ap (λ z. add_act z c.args.second c.bind-words.result) first) c.in_ok-push-in-None.ensures) c.break_views.ensures;

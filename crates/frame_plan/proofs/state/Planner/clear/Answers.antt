@@ -1,6 +1,6 @@
 use Rattle.frame_ast.specs.declared.script.Order.TheVariants as order
 use Rattle.frame_ast.specs.declared.name_kind.TheConstants.{CLEARABLE}
-use Rattle.std.proofs.Common.{true, subst}
+use Rattle.std.proofs.Common.{true, refl, subst}
 use Rattle.frame_core.specs.declared.plan.Act.TheVariants.{Clear}
 use Rattle.frame_plan.specs.Accesses.{MayUse}
 use Rattle.frame_plan.proofs.Accessing.{read_some}
@@ -46,7 +46,7 @@ returns-in_ok-push-in-None c =
     let s = c.args.self.now in
     let r = write_ready (record { line = c.args.line; act = order.Clear c.args.name }) c.args.name CLEARABLE (clear_resize c.args.name).write s c.requires.ready in
     record {
-      goes_on = resize_on (record { line = c.args.line; act = order.Clear c.args.name }) c.args.name CLEARABLE (λ b. Clear b) (clear_plans c.args.line c.args.name) (clear_resize c.args.name) s c.push.new.self c.break_views.new.self c.index-value.result.now c.bind-words.result
+      goes_on = resize_on (record { line = c.args.line; act = order.Clear c.args.name }) c.args.name CLEARABLE (λ b. Clear b) (clear_plans c.args.line c.args.name) (λ b. refl) (clear_resize c.args.name) s c.push.new.self c.break_views.new.self c.index-value.result.now c.bind-words.result
           (subst (MayUse s c.args.name true) c.in-None.is c.blocked.ensures)
           (read_some s.values c.args.name c.index-value.result.now r.0 c.index-value.ensures) c.bind-words.ensures c.in_ok-push-in-None.ensures c.break_views.ensures;
     }

@@ -1,5 +1,6 @@
 use Rattle.std.proofs.Common.{◌≡◌, ◌+◌, ◌*◌, ◌<◌, ◌≤◌, ℕ, ◌++◌, ◌∷◌, [], length, map, None, true, refl, sym, ap, subst, ◌∙◌, arith}
 use Rattle.std.specs.Prelude.{string_bytes}
+use Rattle.std.proofs.lemmas.List.{append_assoc}
 use Rattle.frame_core.specs.declared.plan.Segment.{Segment}
 use Rattle.frame_core.specs.Names.{has_job}
 use Rattle.plan_laws.specs.Planned.{AreJobsUpTo}
@@ -7,6 +8,7 @@ use Rattle.slot_store.specs.Stores.{peak_of}
 use Rattle.frame_plan.specs.declared.state.Written.{Written}
 use Rattle.frame_plan.specs.Runs.{AreWithin}
 use Rattle.frame_plan.specs.Steps.{state_at}
+use Rattle.frame_plan.proofs.Quiet.{given_finished}
 use Rattle.frame_plan.proofs.Wholes.{jobs_few, pieces_small, cells_small, is_done, live_low}
 use Rattle.frame_plan.proofs.state.Planner.finish.Goals as goal
 
@@ -41,8 +43,14 @@ returns-clause-plan c =
     let last : Segment = record { waits = c.replace-kernels.result.waits; ops = c.replace-kernels.result.ops; starts = None } in
     let final : Segment = record { waits = c.in_ok-all.all; ops = c.new.result; starts = None } in
     let count : c.len.result ≡ length p.plan.jobs.items = (let len = p.plan.jobs.ok.0 in let e = c.len.ensures in omega arith) in
+    let segments = c.in_ok-push-2.ensures.items ∙ ap (λ l. l ++ final ∷ []) (c.in_ok-push.ensures.items ∙ ap (λ (w : Written). w.segments.items ++ last ∷ []) v) in
     record {
       cells = c.peak-cells.ensures;
+      kernels = ap (λ (w : Written). w.kernels.items) v;
+      jobs = ap (λ (w : Written). w.jobs.items) v;
+      spans = given_finished p.plan.segments.items _ last final p.plan.ops.items segments (ap (λ (w : Written). w.ops.items) v) c.new.ensures.items;
+      segments_later = last ∷ final ∷ [];
+      segments = segments ∙ append_assoc p.plan.segments.items (last ∷ []) (final ∷ []);
       done = λ table begun n found inside st.
           is_done c.args.script.now table p begun n found st c.requires.6 inside _ last final
           (c.in_ok-names.ensures ∙ ap (map (λ v. string_bytes v)) c.deref.ensures.value)
@@ -51,7 +59,7 @@ returns-clause-plan c =
           (ap (λ (w : Written). w.jobs.items) v)
           c.peak-cells.ensures
           (ap (λ (w : Written). c.peak-cells.result + 3 * w.pieces) v)
-          (c.in_ok-push-2.ensures.items ∙ ap (λ l. l ++ final ∷ []) (c.in_ok-push.ensures.items ∙ ap (λ (w : Written). w.segments.items ++ last ∷ []) v))
+          segments
           (ap (λ (w : Written). w.waits.items) v)
           (ap (λ (w : Written). w.ops.items) v)
           refl

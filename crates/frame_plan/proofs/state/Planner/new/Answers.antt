@@ -1,7 +1,7 @@
 use Rattle.std.proofs.Common.{◌≡◌, length, None, refl, ap, ◌∙◌, arith}
 use Rattle.std.specs.Prelude.{replicate}
 use Rattle.frame_plan.specs.declared.state.Value.TheVariants.{Dead}
-use Rattle.frame_plan.proofs.Starting.{stands_new}
+use Rattle.frame_plan.proofs.Starting.{begun_new}
 use Rattle.frame_plan.proofs.state.Planner.new.Goals as goal
 
 pub returns : goal.returns
@@ -9,7 +9,7 @@ returns c table =
     let names : c.len.result ≡ length c.args.script.now.names.items = (let e = c.len.ensures in let l = c.args.script.now.names.ok.0 in omega arith) in
     let kernels : c.len-2.result ≡ length c.args.script.now.kernels.items = (let e = c.len-2.ensures in let l = c.args.script.now.kernels.ok.0 in omega arith) in
     let guards : c.len-3.result ≡ length c.args.script.now.kernels.items = (let e = c.len-3.ensures in let l = c.args.script.now.kernels.ok.0 in omega arith) in
-    stands_new c.args.script.now table _ (record {
+    begun_new c.args.script.now table _ (record {
       values = c.in_ok-dead_values.ensures ∙ ap (λ n. replicate n Dead) names;
       handles = c.new.ensures.items;
       containers = c.new-2.ensures.items;

@@ -1,4 +1,4 @@
-use Rattle.std.proofs.Common.{[], ◌∷◌}
+use Rattle.std.proofs.Common.{[], ◌∷◌, refl}
 use Rattle.frame_ast.specs.declared.script.Order.TheVariants as order
 use Rattle.frame_ast.specs.declared.name_kind.NameKind.TheVariants as kind
 use Rattle.std.proofs.Common.{◌≡◌, true, subst, to_z, of_z, w64, arith}
@@ -35,7 +35,7 @@ returns-in-None c =
     let k : to_z w64 (of_z w64 c.args.key) ≡ c.args.key = omega (arith, ints) in
     let v : to_z w64 (of_z w64 c.args.value) ≡ c.args.value = omega (arith, ints) in
     record {
-      goes_on = on_ok c.push.result (λ pushed. write_on (record { line = c.args.line; act = order.Put c.args.name c.args.key c.args.value }) c.args.name (kind.Map ∷ []) (λ b. Put b c.args.key c.args.value) (put_plans c.args.line c.args.name c.args.key c.args.value) (put_write c.args.name c.args.key c.args.value) (put_calm c.args.name c.args.key c.args.value) s c.push.new.self c.index.result.now c.bind-words.result
+      goes_on = on_ok c.push.result (λ pushed. write_on (record { line = c.args.line; act = order.Put c.args.name c.args.key c.args.value }) c.args.name (kind.Map ∷ []) (λ b. Put b c.args.key c.args.value) (put_plans c.args.line c.args.name c.args.key c.args.value) (λ b. refl) (put_write c.args.name c.args.key c.args.value) (put_calm c.args.name c.args.key c.args.value) s c.push.new.self c.index.result.now c.bind-words.result
           (subst (MayUse s c.args.name true) c.in-None.is c.blocked.ensures)
           (read_some s.values c.args.name c.index.result.now r.0 c.index.ensures) c.bind-words.ensures
           (subst (λ z. IsPushed s c.push.new.self (record { line = c.args.line; name = c.args.name; act = Put c.bind-words.result c.args.key z })) v

@@ -1,6 +1,6 @@
 use Rattle.frame_ast.specs.declared.script.Order.TheVariants as order
 use Rattle.frame_ast.specs.declared.name_kind.TheConstants.{REMOVABLE}
-use Rattle.std.proofs.Common.{◌≡◌, true, subst, to_z, of_z, w64, arith}
+use Rattle.std.proofs.Common.{◌≡◌, true, refl, subst, to_z, of_z, w64, arith}
 use Rattle.std.proofs.lemmas.Int.{ints}
 use Rattle.frame_core.specs.declared.plan.Act.TheVariants.{Remove}
 use Rattle.frame_plan.specs.Accesses.{IsPushed, MayUse}
@@ -48,7 +48,7 @@ returns-in_ok-push-in-None c =
     let r = write_ready (record { line = c.args.line; act = order.Remove c.args.name c.args.at }) c.args.name REMOVABLE (remove_resize c.args.name c.args.at).write s c.requires.ready in
     let i : to_z w64 (of_z w64 c.args.at) ≡ c.args.at = omega (arith, ints) in
     record {
-      goes_on = resize_on (record { line = c.args.line; act = order.Remove c.args.name c.args.at }) c.args.name REMOVABLE (λ b. Remove b c.args.at) (remove_plans c.args.line c.args.name c.args.at) (remove_resize c.args.name c.args.at) s c.push.new.self c.break_views.new.self c.index-value.result.now c.bind-words.result
+      goes_on = resize_on (record { line = c.args.line; act = order.Remove c.args.name c.args.at }) c.args.name REMOVABLE (λ b. Remove b c.args.at) (remove_plans c.args.line c.args.name c.args.at) (λ b. refl) (remove_resize c.args.name c.args.at) s c.push.new.self c.break_views.new.self c.index-value.result.now c.bind-words.result
           (subst (MayUse s c.args.name true) c.in-None.is c.blocked.ensures)
           (read_some s.values c.args.name c.index-value.result.now r.0 c.index-value.ensures) c.bind-words.ensures
           (subst (λ z. IsPushed s c.push.new.self (record { line = c.args.line; name = c.args.name; act = Remove c.bind-words.result z })) i c.in_ok-push-in-None.ensures) c.break_views.ensures;

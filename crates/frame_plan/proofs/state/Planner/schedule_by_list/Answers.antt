@@ -1,18 +1,16 @@
-use Rattle.std.proofs.Common.{◌≡◌, ℕ, suc, List, ◌++◌, refl, sym, ap, subst, ◌∙◌}
+use Rattle.std.proofs.Common.{◌≡◌, refl, sym, ap, subst, ◌∙◌}
 use Rattle.frame_ast.specs.declared.kernel.Kernel.{Kernel}
 use Rattle.frame_ast.specs.Laws.{AreUpTo}
 use Rattle.job_handle.specs.Books.{count_of}
 use Rattle.job_handle.specs.Sets.{jobs_of}
 use Rattle.safety_handle.specs.Entries.{state_of}
 use Rattle.auto_deps.specs.Needs.{conflicting_with}
-use Rattle.frame_ast.specs.Orders.{setting}
 use Rattle.frame_plan.specs.declared.state.Planner.{Planner}
 use Rattle.frame_core.proofs.Small.{some_is}
 use Rattle.frame_plan.specs.Deferring.{IsDeferredStart, deferred_refusal, noted_uses, with_length}
 use Rattle.frame_plan.specs.Noting.{MayNoteAll}
 use Rattle.frame_plan.specs.Starting.{AreDeps}
-use Rattle.frame_plan.specs.Steps.{state_at, state_after}
-use Rattle.frame_plan.specs.Stands.{Stands}
+use Rattle.frame_plan.specs.Steps.{state_at, HasStepped}
 use Rattle.frame_plan.specs.Uses.{tags_of}
 use Rattle.frame_plan.proofs.Accessing.{read_some}
 use Rattle.frame_plan.proofs.DeferredReady as ready
@@ -178,11 +176,6 @@ accept_deferred-requires-clause-before c =
     let r = c.requires.ready in
     rooms.jobs_after c.args.script.now r.table c.args.self.now r.begun r.n (state_at c.args.script.now r.table r.n) r.found r.stands
 
-pub accept_deferred-requires-clause-jobs : goal.accept_deferred-requires-clause-jobs
-accept_deferred-requires-clause-jobs c =
-    let r = c.requires.ready in
-    rooms.few_jobs c.args.script.now r.table c.args.self.now r.begun r.n (state_at c.args.script.now r.table r.n) r.found r.stands
-
 pub accept_deferred-requires-clause-room : goal.accept_deferred-requires-clause-room
 accept_deferred-requires-clause-room c =
     let r = c.requires.ready in
@@ -221,12 +214,12 @@ returns-clause-goes_on c table begun n found step st =
           let waits = subst (λ us. AreDeps c.args.auto (jobs_of c.jobs_of_all-named.result) c.args.self.now.jobs c.args.self.now.safety (tags_of us) deps) all w.in_ok-deps-in-None.ensures in
           let given = w.deref-in-None-2.ensures.value ∙ sym c.deref-3.ensures.value in
           let q = w.accept_deferred.new.self in
-          let done = subst (λ us. IsDeferredStart c.args.script.now c.args.self.now q c.args.handle c.args.kernel w.deref-in-None-2.result.now c.args.list w.deref-in-None-3.result.now (noted_uses us c.length_use-length.result) deps) w.deref-in-None-4.ensures.value w.in_ok-accept_deferred-in-None.ensures.done in
+          let done = subst (λ us. IsDeferredStart c.args.script.now c.args.self.now q c.args.handle c.args.kernel w.deref-in-None-2.result.now c.args.list c.args.batch w.deref-in-None-3.result.now (noted_uses us c.length_use-length.result) deps) w.deref-in-None-4.ensures.value w.in_ok-accept_deferred-in-None.ensures.done in
           onward q c.match-deferred_refusal.self w.self-is
           (ready.accepted_on c.args.script.now table begun n found c.args.line c.args.auto c.args.handle c.args.kernel c.args.args.now c.args.list c.args.batch c.args.waive.now c.args.after.now step c.args.self.now st c.jobs_of_all-named.result c.deref.result.now c.deref.ensures.value c.jobs_of_all-named.ensures c.index.result.now at c.deref-2.result.now c.deref-2.ensures.value c.deref-3.result.now c.deref-3.ensures.value c.in_ok-uses.uses.items c.in_ok-uses.ensures c.length_use-length.result c.length_use-length.ensures c.index-2.result.now.parallel same unrefused deps waits q w.deref-in-None-3.result.now w.deref-in-None-3.ensures.value
-          (subst (λ as_. IsDeferredStart c.args.script.now c.args.self.now q c.args.handle c.args.kernel as_ c.args.list w.deref-in-None-3.result.now (noted_uses c.in_ok-uses.uses.items c.length_use-length.result) deps) given done))
+          (subst (λ as_. IsDeferredStart c.args.script.now c.args.self.now q c.args.handle c.args.kernel as_ c.args.list c.args.batch w.deref-in-None-3.result.now (noted_uses c.in_ok-uses.uses.items c.length_use-length.result) deps) given done))
     ]
   where
-    onward : (q r : Planner) → r ≡ q → (more : List ℕ) × Stands q (setting c.args.script.now table) begun (suc n) (state_after c.args.script.now table n (ready.x c.args.script.now table begun n found c.args.line c.args.auto c.args.handle c.args.kernel c.args.args.now c.args.list c.args.batch c.args.waive.now c.args.after.now)) (found ++ more)
-        → (more : List ℕ) × Stands r (setting c.args.script.now table) begun (suc n) (state_after c.args.script.now table n (ready.x c.args.script.now table begun n found c.args.line c.args.auto c.args.handle c.args.kernel c.args.args.now c.args.list c.args.batch c.args.waive.now c.args.after.now)) (found ++ more)
-    onward q r e h = subst (λ k. (more : List ℕ) × Stands k (setting c.args.script.now table) begun (suc n) (state_after c.args.script.now table n (ready.x c.args.script.now table begun n found c.args.line c.args.auto c.args.handle c.args.kernel c.args.args.now c.args.list c.args.batch c.args.waive.now c.args.after.now)) (found ++ more)) (sym e) h
+    onward : (q r : Planner) → r ≡ q → HasStepped c.args.script.now table begun n found c.args.self.now q (ready.x c.args.script.now table begun n found c.args.line c.args.auto c.args.handle c.args.kernel c.args.args.now c.args.list c.args.batch c.args.waive.now c.args.after.now)
+        → HasStepped c.args.script.now table begun n found c.args.self.now r (ready.x c.args.script.now table begun n found c.args.line c.args.auto c.args.handle c.args.kernel c.args.args.now c.args.list c.args.batch c.args.waive.now c.args.after.now)
+    onward q r e h = subst (λ k. HasStepped c.args.script.now table begun n found c.args.self.now k (ready.x c.args.script.now table begun n found c.args.line c.args.auto c.args.handle c.args.kernel c.args.args.now c.args.list c.args.batch c.args.waive.now c.args.after.now)) (sym e) h

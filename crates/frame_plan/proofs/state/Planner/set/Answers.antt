@@ -2,7 +2,7 @@ use Rattle.frame_ast.specs.declared.script.Order.TheVariants as order
 use Rattle.frame_ast.specs.Accepted.{set_kinds}
 use Rattle.frame_core.specs.declared.plan.Act.TheVariants.{Set}
 use Rattle.frame_plan.specs.Accesses.{IsPushed}
-use Rattle.std.proofs.Common.{◌≡◌, ◌∙◌, true, subst, pos, to_z, of_z, w64, arith}
+use Rattle.std.proofs.Common.{◌≡◌, ◌∙◌, true, refl, subst, pos, to_z, of_z, w64, arith}
 use Rattle.std.proofs.lemmas.Int.{ints}
 use Rattle.std.specs.Prelude.{unwrap_or}
 use Rattle.frame_plan.specs.Accesses.{MayUse}
@@ -36,7 +36,7 @@ returns-in-None c =
     let i : to_z w64 (of_z w64 c.unwrap_or-i.result) ≡ c.unwrap_or-i.result = omega (arith, ints) in
     let v : to_z w64 (of_z w64 c.args.value) ≡ c.args.value = omega (arith, ints) in
     record {
-      goes_on = on_ok c.push.result (λ pushed. write_on (record { line = c.args.line; act = order.Set c.args.name c.args.at c.args.value }) c.args.name (set_kinds c.args.at) (λ b. Set b (unwrap_or c.args.at (pos 0)) c.args.value) (set_plans c.args.line c.args.name c.args.at c.args.value) (set_write c.args.name c.args.at c.args.value) (set_calm c.args.name c.args.at c.args.value) s c.push.new.self c.index.result.now c.bind-words.result
+      goes_on = on_ok c.push.result (λ pushed. write_on (record { line = c.args.line; act = order.Set c.args.name c.args.at c.args.value }) c.args.name (set_kinds c.args.at) (λ b. Set b (unwrap_or c.args.at (pos 0)) c.args.value) (set_plans c.args.line c.args.name c.args.at c.args.value) (λ b. refl) (set_write c.args.name c.args.at c.args.value) (set_calm c.args.name c.args.at c.args.value) s c.push.new.self c.index.result.now c.bind-words.result
           (subst (MayUse s c.args.name true) c.in-None.is c.blocked.ensures)
           (read_some s.values c.args.name c.index.result.now r.0 c.index.ensures) c.bind-words.ensures (subst (λ z. IsPushed s c.push.new.self (record { line = c.args.line; name = c.args.name; act = Set c.bind-words.result (unwrap_or c.args.at (pos 0)) z })) v
           (subst (λ z. IsPushed s c.push.new.self (record { line = c.args.line; name = c.args.name; act = Set c.bind-words.result z (to_z w64 (of_z w64 c.args.value)) })) (i ∙ c.unwrap_or-i.ensures) pushed))) c.push.ensures;
