@@ -1,4 +1,5 @@
 use super::*;
+use std::test::Fail;
 
 /// Each text with a name, and the values of the first column of that name.
 const COLUMNS: [(&[u8], &[u8], Option<&[i64]>); 20] = [
@@ -82,6 +83,26 @@ fn finds_faults(rt: HostRuntime) {
             Err(fault) => assert!(rt; fault == wanted),
         }
     }
+}
+
+/// Each fault as it is told.
+const TEXTS: [(TableFault, &str); 4] = [
+    (TableFault::Empty, "empty"),
+    (TableFault::Unequal { row: 3 }, "row 3: unequal row"),
+    (
+        TableFault::NotNumber { row: 67_108_864 },
+        "row 67108864: not a number",
+    ),
+    (TableFault::NoMemory, "out of memory"),
+];
+
+#[test]
+fn tells_faults(rt: HostRuntime) -> Result<(), Fail> {
+    for (fault, text) in TEXTS {
+        let told = format!(in rt.alloc(); "{fault}")?;
+        assert_eq!(rt; told.as_str(), text);
+    }
+    Ok(())
 }
 
 #[test]
