@@ -16,3 +16,5 @@ pub mod Apart
 pub mod NextIndex
 pub mod Dividing
 pub mod Owning
+pub mod ZeroLocals
+pub mod Table

@@ -1,7 +1,8 @@
 -- What a bind is: its kind, its words and its own-index rule.
-use Rattle.std.specs.Prelude.{ℕ, ◌+◌, ◌≤◌, ◌<◌, Bool, true, false, List, get_or, map}
+use Rattle.std.specs.Prelude.{◌≡◌, ℕ, zero, suc, ◌+◌, ◌≤◌, ◌<◌, Bool, true, false, List, get_or, map}
 use Rattle.frame_ast.specs.declared.kernel.ParamKind.{ParamKind}
 use Rattle.frame_ast.specs.declared.kernel.ParamKind.TheVariants.{Int as IntKind, Array as ArrayKind, List as ListKind, Ref as RefKind, Map as MapKind, Stream as StreamKind}
+use Rattle.native_array.specs.declared.array.ArrayAt.{ArrayAt}
 use Rattle.native_array.specs.Layout.{end_of as array_end}
 use Rattle.native_list.specs.Layout.{end_of as list_end}
 use Rattle.native_map.specs.Table.{end_of as map_end}
@@ -66,3 +67,21 @@ no_bind = Array (record { start = 0; len = 0 }) 0
 
 abbrev pub bind_at : List Bind → ℕ → Bind
 bind_at binds x = get_or binds x no_bind
+
+-- The array of a bind where each index owns the place that is the index itself: there the width is 0 or 1, and the
+-- element at the index needs no other test than that there is one. Else an array of no length.
+abbrev pub no_array : ArrayAt
+no_array = record { start = 0; len = 0 }
+
+abbrev pub own_array_if : ArrayAt → ℕ → ArrayAt
+own_array_if at zero = at
+own_array_if at (suc zero) = at
+own_array_if at (suc (suc n)) = no_array
+
+abbrev pub own_array : Bind → ArrayAt
+own_array (Array at own) = own_array_if at own
+own_array _ = no_array
+
+-- a table of them, by the numbers of parameters
+abbrev pub IsTable : List ArrayAt → List Bind → Type 0
+IsTable own binds = (x : ℕ) → get_or own x no_array ≡ own_array (bind_at binds x)

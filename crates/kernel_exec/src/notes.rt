@@ -29,7 +29,8 @@ impl Notes {
     pub fn add(&mut self, index: u32, trap: Option<Trap>)
         requires few { self.old.count + 1 < 2 ^ 32 }
         ensures count { self.new.count ≤ self.old.count + 1 }
-        ensures note { (traps : List (ℕ × Trap)) → IsNoteOf traps self.old → IsNoteOf (traps ++ trap_at index trap) self.new }
+        ensures note { (traps : List (ℕ × Trap)) → IsNoteOf traps self.old
+            → IsNoteOf (traps ++ trap_at index trap) self.new }
     {
         let Some(trap) = trap else {
             return;

@@ -1,5 +1,5 @@
 // Places of which an index may own some alone: elements of arrays, and indexes of streams.
-ghost use Rattle.std.specs.Prelude.{◌≡◌, ◌^◌, ◌<◌, ◌+◌, ℕ, Ok, pos, IsTrue, OnErr, IfOk};
+ghost use Rattle.std.specs.Prelude.{◌≡◌, ◌^◌, ◌<◌, ◌+◌, ℕ, Ok, IsTrue, OnErr, IfOk};
 ghost use Rattle.frame_ast.specs.Contents.{place_in};
 ghost use Rattle.frame_ast.specs.Arguments.{owns, if_owned};
 ghost use Rattle.native_array.specs.Layout.{end_of};
@@ -50,7 +50,8 @@ pub fn element<M: Mem>(
     mem: &mut M,
 ) -> Result<i64, Trap>
     requires fits { end_of at < 2 ^ 32 }
-    requires readable { (k : ℕ) → place_in at.len i ≡ Ok k → IsTrue (owns width index i) → IsTrue (M.readable mem.old (at.start + k)) }
+    requires readable { (k : ℕ) → place_in at.len i ≡ Ok k → IsTrue (owns width index i)
+        → IsTrue (M.readable mem.old (at.start + k)) }
     ensures value { result ≡ if_owned width index i (get_words at (M.cells mem.old) i) }
     ensures cells { M.cells mem.new ≡ M.cells mem.old }
     ensures readable { M.readable mem.new ≡ M.readable mem.old }
@@ -63,23 +64,6 @@ pub fn element<M: Mem>(
     }
 }
 
-/// The element at the place that is the index itself: it owns that one wherever the width is at most 1.
-#[inline(always)]
-pub fn own_element<M: Mem>(at: ArrayAt, width: u32, index: u32, mem: &mut M) -> Result<i64, Trap>
-    requires fits { end_of at < 2 ^ 32 }
-    requires readable { (k : ℕ) → place_in at.len (pos index) ≡ Ok k → IsTrue (owns width index (pos index)) → IsTrue
-        (M.readable mem.old (at.start + k)) }
-    ensures value { result ≡ if_owned width index (pos index) (get_words at (M.cells mem.old) (pos index)) }
-    ensures cells { M.cells mem.new ≡ M.cells mem.old }
-    ensures readable { M.readable mem.new ≡ M.readable mem.old }
-    ensures writable { M.writable mem.new ≡ M.writable mem.old }
-{
-    if width > 1 {
-        return element(at, width, index, i64::from(index), mem);
-    }
-    at.get(mem, i64::from(index))
-}
-
 /// Sets the element at a place. `Range` where there is none, else `OwnIndex` where the index doesn't own it.
 pub fn set_element<M: Mem>(
     at: ArrayAt,
@@ -90,7 +74,8 @@ pub fn set_element<M: Mem>(
     mem: &mut M,
 ) -> Result<(), Trap>
     requires fits { end_of at < 2 ^ 32 }
-    requires writable { (k : ℕ) → place_in at.len i ≡ Ok k → IsTrue (owns width index i) → IsTrue (M.writable mem.old (at.start + k)) }
+    requires writable { (k : ℕ) → place_in at.len i ≡ Ok k → IsTrue (owns width index i)
+        → IsTrue (M.writable mem.old (at.start + k)) }
     ensures value { after_call (result, M.cells mem.new) ≡ if_owned width index i (after_call (set_words at
         (M.cells mem.old) i v)) }
     ensures err { OnErr result (M.cells mem.new ≡ M.cells mem.old) }
@@ -114,8 +99,10 @@ pub fn begin_index<M: Mem>(
     mem: &mut M,
 ) -> Result<(), Trap>
     requires fits { stream_end at < 2 ^ 32 }
-    requires readable { (k : ℕ) → place_in at.count i ≡ Ok k → IsTrue (owns (width_if own) index i) → MayUse at k (M.readable mem.old) }
-    requires writable { (k : ℕ) → place_in at.count i ≡ Ok k → IsTrue (owns (width_if own) index i) → MayUse at k (M.writable mem.old) }
+    requires readable { (k : ℕ) → place_in at.count i ≡ Ok k → IsTrue (owns (width_if own) index i)
+        → MayUse at k (M.readable mem.old) }
+    requires writable { (k : ℕ) → place_in at.count i ≡ Ok k → IsTrue (owns (width_if own) index i)
+        → MayUse at k (M.writable mem.old) }
     ensures value { after_call (result, M.cells mem.new) ≡ begin_word index i (Bind.Stream at own) (M.cells mem.old) }
     ensures err { OnErr result (M.cells mem.new ≡ M.cells mem.old) }
     ensures begun { IfOk result (λ _. IsBegun (Bind.Stream at own) index i) }

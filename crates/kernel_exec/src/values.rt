@@ -26,18 +26,19 @@ use job_base::{Mem, Trap};
 
 /// The value of an expression, whose parts are evaluated from left to right. Where one traps, the trap is put aside.
 #[cycle(value)]
-pub fn eval<M: Mem>(e: &Expr, call: &Call<'_>, machine: &mut Machine, mem: &mut M) -> i64
+pub fn eval<M: Mem>(call: &Call<'_>, machine: &mut Machine, mem: &mut M, e: &Expr) -> i64
     requires e { Fits call.now e.now }
     requires call { MayRun call.now (M.readable mem.old) (M.writable mem.old) }
-    ensures value { Told machine.old.trap result machine.new.trap (value_at call.now e.now machine.old.locals (M.cells mem.old)) }
+    ensures value { Told machine.old.trap result machine.new.trap
+        (value_at call.now e.now machine.old.locals (M.cells mem.old)) }
     ensures kept { Keeps machine.old machine.new }
     ensures cells { M.cells mem.new ≡ M.cells mem.old }
     ensures readable { M.readable mem.new ≡ M.readable mem.old }
     ensures writable { M.writable mem.new ≡ M.writable mem.old }
 {
     match e {
-        Expr::Binary(op, sides) => eval_binary(*op, &sides.0, &sides.1, call, machine, mem),
-        _ => eval_other(e, call, machine, mem),
+        Expr::Binary(op, sides) => eval_binary(call, machine, mem, *op, &sides.0, &sides.1),
+        _ => eval_other(call, machine, mem, e),
     }
 }
 
@@ -45,19 +46,19 @@ pub fn eval<M: Mem>(e: &Expr, call: &Call<'_>, machine: &mut Machine, mem: &mut 
 #[cycle(value)]
 #[inline(always)]
 fn eval_binary<M: Mem>(
-    op: Operator,
-    left: &Expr,
-    right: &Expr,
     call: &Call<'_>,
     machine: &mut Machine,
     mem: &mut M,
+    op: Operator,
+    left: &Expr,
+    right: &Expr,
 ) -> i64
     requires left { Fits call.now left.now }
     requires right { Fits call.now right.now }
     requires call { MayRun call.now (M.readable mem.old) (M.writable mem.old) }
-    ensures value { Told machine.old.trap result machine.new.trap (then_value (value_at call.now left.now machine.old.locals
-        (M.cells mem.old)) (λ m. then_value (value_at call.now right.now machine.old.locals (M.cells mem.old))
-        (λ n. operate op m n))) }
+    ensures value { Told machine.old.trap result machine.new.trap
+        (then_value (value_at call.now left.now machine.old.locals (M.cells mem.old))
+        (λ m. then_value (value_at call.now right.now machine.old.locals (M.cells mem.old)) (λ n. operate op m n))) }
     ensures kept { Keeps machine.old machine.new }
     ensures cells { M.cells mem.new ≡ M.cells mem.old }
     ensures readable { M.readable mem.new ≡ M.readable mem.old }
@@ -66,11 +67,11 @@ fn eval_binary<M: Mem>(
     let n = match right {
         Expr::Number(n) => *n,
         Expr::Local(k) => machine.locals[*k as usize],
-        _ => return far(op, left, right, call, machine, mem),
+        _ => return far(call, machine, mem, op, left, right),
     };
     let m = match left {
         Expr::Local(k) => machine.locals[*k as usize],
-        _ => return near(op, left, n, call, machine, mem),
+        _ => return near(call, machine, mem, op, left, n),
     };
     apply(op, m, n, machine)
 }
@@ -79,23 +80,23 @@ fn eval_binary<M: Mem>(
 #[cycle(value)]
 #[inline(never)]
 fn near<M: Mem>(
-    op: Operator,
-    left: &Expr,
-    n: i64,
     call: &Call<'_>,
     machine: &mut Machine,
     mem: &mut M,
+    op: Operator,
+    left: &Expr,
+    n: i64,
 ) -> i64
     requires left { Fits call.now left.now }
     requires call { MayRun call.now (M.readable mem.old) (M.writable mem.old) }
-    ensures value { Told machine.old.trap result machine.new.trap (then_value (value_at call.now left.now machine.old.locals
-        (M.cells mem.old)) (λ m. operate op m n)) }
+    ensures value { Told machine.old.trap result machine.new.trap
+        (then_value (value_at call.now left.now machine.old.locals (M.cells mem.old)) (λ m. operate op m n)) }
     ensures kept { Keeps machine.old machine.new }
     ensures cells { M.cells mem.new ≡ M.cells mem.old }
     ensures readable { M.readable mem.new ≡ M.readable mem.old }
     ensures writable { M.writable mem.new ≡ M.writable mem.old }
 {
-    let m = eval(left, call, machine, mem);
+    let m = eval(call, machine, mem, left);
     apply(op, m, n, machine)
 }
 
@@ -103,36 +104,37 @@ fn near<M: Mem>(
 #[cycle(value)]
 #[inline(never)]
 fn far<M: Mem>(
-    op: Operator,
-    left: &Expr,
-    right: &Expr,
     call: &Call<'_>,
     machine: &mut Machine,
     mem: &mut M,
+    op: Operator,
+    left: &Expr,
+    right: &Expr,
 ) -> i64
     requires left { Fits call.now left.now }
     requires right { Fits call.now right.now }
     requires call { MayRun call.now (M.readable mem.old) (M.writable mem.old) }
-    ensures value { Told machine.old.trap result machine.new.trap (then_value (value_at call.now left.now machine.old.locals
-        (M.cells mem.old)) (λ m. then_value (value_at call.now right.now machine.old.locals (M.cells mem.old))
-        (λ n. operate op m n))) }
+    ensures value { Told machine.old.trap result machine.new.trap
+        (then_value (value_at call.now left.now machine.old.locals (M.cells mem.old))
+        (λ m. then_value (value_at call.now right.now machine.old.locals (M.cells mem.old)) (λ n. operate op m n))) }
     ensures kept { Keeps machine.old machine.new }
     ensures cells { M.cells mem.new ≡ M.cells mem.old }
     ensures readable { M.readable mem.new ≡ M.readable mem.old }
     ensures writable { M.writable mem.new ≡ M.writable mem.old }
 {
-    let m = eval(left, call, machine, mem);
-    let n = eval(right, call, machine, mem);
+    let m = eval(call, machine, mem, left);
+    let n = eval(call, machine, mem, right);
     apply(op, m, n, machine)
 }
 
 // Every other form; out of line, so that the jump by operators stays a jump of its own.
 #[cycle(value)]
 #[inline(never)]
-fn eval_other<M: Mem>(e: &Expr, call: &Call<'_>, machine: &mut Machine, mem: &mut M) -> i64
+fn eval_other<M: Mem>(call: &Call<'_>, machine: &mut Machine, mem: &mut M, e: &Expr) -> i64
     requires e { Fits call.now e.now }
     requires call { MayRun call.now (M.readable mem.old) (M.writable mem.old) }
-    ensures value { Told machine.old.trap result machine.new.trap (value_at call.now e.now machine.old.locals (M.cells mem.old)) }
+    ensures value { Told machine.old.trap result machine.new.trap
+        (value_at call.now e.now machine.old.locals (M.cells mem.old)) }
     ensures kept { Keeps machine.old machine.new }
     ensures cells { M.cells mem.new ≡ M.cells mem.old }
     ensures readable { M.readable mem.new ≡ M.readable mem.old }
@@ -144,34 +146,52 @@ fn eval_other<M: Mem>(e: &Expr, call: &Call<'_>, machine: &mut Machine, mem: &mu
         Expr::Index => i64::from(call.index),
         Expr::Value(x) => single(*x, call, mem),
         Expr::Element(x, place) => match &**place {
-            Expr::Index => own_element(*x, call, machine, mem),
-            _ => eval_element(*x, place, call, machine, mem),
+            Expr::Index => own_element(call, machine, mem, *x),
+            _ => eval_element(call, machine, mem, *x, place),
         },
         Expr::Length(x) => i64::from(length(*x, call, mem)),
-        Expr::Has(x, key) => eval_has(*x, key, call, machine, mem),
-        Expr::Count(x, index) => eval_count(*x, index, call, machine, mem),
-        Expr::Item(x, index, place) => eval_item(*x, index, place, call, machine, mem),
-        Expr::Negative(inner) => eval_negative(inner, call, machine, mem),
-        Expr::Not(inner) => eval_not(inner, call, machine, mem),
-        Expr::And(left, right) => eval_and(left, right, call, machine, mem),
-        Expr::Or(left, right) => eval_or(left, right, call, machine, mem),
-        Expr::Binary(op, sides) => eval_binary(*op, &sides.0, &sides.1, call, machine, mem),
+        Expr::Has(x, key) => eval_has(call, machine, mem, *x, key),
+        Expr::Count(x, index) => eval_count(call, machine, mem, *x, index),
+        Expr::Item(x, index, place) => eval_item(call, machine, mem, *x, index, place),
+        Expr::Negative(inner) => eval_negative(call, machine, mem, inner),
+        Expr::Not(inner) => eval_not(call, machine, mem, inner),
+        Expr::And(left, right) => eval_and(call, machine, mem, left, right),
+        Expr::Or(left, right) => eval_or(call, machine, mem, left, right),
+        Expr::Binary(op, sides) => eval_binary(call, machine, mem, *op, &sides.0, &sides.1),
     }
 }
 
 // `x[index]`, for which no place is evaluated.
-#[inline(never)]
-fn own_element<M: Mem>(x: u32, call: &Call<'_>, machine: &mut Machine, mem: &mut M) -> i64
+#[inline(always)]
+fn own_element<M: Mem>(call: &Call<'_>, machine: &mut Machine, mem: &mut M, x: u32) -> i64
     requires param { Meets call.now x read_elements }
     requires call { MayRun call.now (M.readable mem.old) (M.writable mem.old) }
-    ensures value { Told machine.old.trap result machine.new.trap (get_word call.now.index (pos call.now.index)
-        (argument_at call.now x) (M.cells mem.old)) }
+    ensures value { Told machine.old.trap result machine.new.trap
+        (get_word call.now.index (pos call.now.index) (argument_at call.now x) (M.cells mem.old)) }
     ensures kept { Keeps machine.old machine.new }
     ensures cells { M.cells mem.new ≡ M.cells mem.old }
     ensures readable { M.readable mem.new ≡ M.readable mem.old }
     ensures writable { M.writable mem.new ≡ M.writable mem.old }
 {
-    let outcome = reads::own_element(x, call, mem);
+    match reads::own_element(x, call, mem) {
+        Some(z) => z,
+        None => any_element(call, machine, mem, x),
+    }
+}
+
+// `x[index]` of what is no array of the table.
+#[inline(never)]
+fn any_element<M: Mem>(call: &Call<'_>, machine: &mut Machine, mem: &mut M, x: u32) -> i64
+    requires param { Meets call.now x read_elements }
+    requires call { MayRun call.now (M.readable mem.old) (M.writable mem.old) }
+    ensures value { Told machine.old.trap result machine.new.trap
+        (get_word call.now.index (pos call.now.index) (argument_at call.now x) (M.cells mem.old)) }
+    ensures kept { Keeps machine.old machine.new }
+    ensures cells { M.cells mem.new ≡ M.cells mem.old }
+    ensures readable { M.readable mem.new ≡ M.readable mem.old }
+    ensures writable { M.writable mem.new ≡ M.writable mem.old }
+{
+    let outcome = element(x, i64::from(call.index), call, mem);
     machine.value_or_aside(outcome)
 }
 
@@ -179,23 +199,24 @@ fn own_element<M: Mem>(x: u32, call: &Call<'_>, machine: &mut Machine, mem: &mut
 #[cycle(value)]
 #[inline(never)]
 fn eval_element<M: Mem>(
-    x: u32,
-    place: &Expr,
     call: &Call<'_>,
     machine: &mut Machine,
     mem: &mut M,
+    x: u32,
+    place: &Expr,
 ) -> i64
     requires param { Meets call.now x read_elements }
     requires place { Fits call.now place.now }
     requires call { MayRun call.now (M.readable mem.old) (M.writable mem.old) }
-    ensures value { Told machine.old.trap result machine.new.trap (then_value (value_at call.now place.now machine.old.locals
-        (M.cells mem.old)) (λ i. get_word call.now.index i (argument_at call.now x) (M.cells mem.old))) }
+    ensures value { Told machine.old.trap result machine.new.trap
+        (then_value (value_at call.now place.now machine.old.locals (M.cells mem.old))
+        (λ i. get_word call.now.index i (argument_at call.now x) (M.cells mem.old))) }
     ensures kept { Keeps machine.old machine.new }
     ensures cells { M.cells mem.new ≡ M.cells mem.old }
     ensures readable { M.readable mem.new ≡ M.readable mem.old }
     ensures writable { M.writable mem.new ≡ M.writable mem.old }
 {
-    let i = eval(place, call, machine, mem);
+    let i = eval(call, machine, mem, place);
     let outcome = element(x, i, call, mem);
     machine.value_or_aside(outcome)
 }
@@ -203,18 +224,19 @@ fn eval_element<M: Mem>(
 // `has(m, e)`
 #[cycle(value)]
 #[inline(never)]
-fn eval_has<M: Mem>(x: u32, key: &Expr, call: &Call<'_>, machine: &mut Machine, mem: &mut M) -> i64
+fn eval_has<M: Mem>(call: &Call<'_>, machine: &mut Machine, mem: &mut M, x: u32, key: &Expr) -> i64
     requires param { Meets call.now x read_map }
     requires key { Fits call.now key.now }
     requires call { MayRun call.now (M.readable mem.old) (M.writable mem.old) }
-    ensures value { Told machine.old.trap result machine.new.trap (then_value (value_at call.now key.now machine.old.locals
-        (M.cells mem.old)) (λ k. Ok (one_if (has_word k (argument_at call.now x) (M.cells mem.old))))) }
+    ensures value { Told machine.old.trap result machine.new.trap
+        (then_value (value_at call.now key.now machine.old.locals (M.cells mem.old))
+        (λ k. Ok (one_if (has_word k (argument_at call.now x) (M.cells mem.old))))) }
     ensures kept { Keeps machine.old machine.new }
     ensures cells { M.cells mem.new ≡ M.cells mem.old }
     ensures readable { M.readable mem.new ≡ M.readable mem.old }
     ensures writable { M.writable mem.new ≡ M.writable mem.old }
 {
-    let k = eval(key, call, machine, mem);
+    let k = eval(call, machine, mem, key);
     i64::from(has(x, k, call, mem))
 }
 
@@ -222,24 +244,24 @@ fn eval_has<M: Mem>(x: u32, key: &Expr, call: &Call<'_>, machine: &mut Machine, 
 #[cycle(value)]
 #[inline(never)]
 fn eval_count<M: Mem>(
-    x: u32,
-    index: &Expr,
     call: &Call<'_>,
     machine: &mut Machine,
     mem: &mut M,
+    x: u32,
+    index: &Expr,
 ) -> i64
     requires param { Meets call.now x read_stream }
     requires index { Fits call.now index.now }
     requires call { MayRun call.now (M.readable mem.old) (M.writable mem.old) }
-    ensures value { Told machine.old.trap result machine.new.trap (then_value (value_at call.now index.now machine.old.locals
-        (M.cells mem.old)) (λ i. then_value (count_word i (argument_at call.now x) (M.cells mem.old)) (λ n. Ok
-        (pos n)))) }
+    ensures value { Told machine.old.trap result machine.new.trap
+        (then_value (value_at call.now index.now machine.old.locals (M.cells mem.old))
+        (λ i. then_value (count_word i (argument_at call.now x) (M.cells mem.old)) (λ n. Ok (pos n)))) }
     ensures kept { Keeps machine.old machine.new }
     ensures cells { M.cells mem.new ≡ M.cells mem.old }
     ensures readable { M.readable mem.new ≡ M.readable mem.old }
     ensures writable { M.writable mem.new ≡ M.writable mem.old }
 {
-    let i = eval(index, call, machine, mem);
+    let i = eval(call, machine, mem, index);
     match count(x, i, call, mem) {
         Ok(n) => i64::from(n),
         Err(trap) => machine.put_aside(trap),
@@ -250,27 +272,28 @@ fn eval_count<M: Mem>(
 #[cycle(value)]
 #[inline(never)]
 fn eval_item<M: Mem>(
-    x: u32,
-    index: &Expr,
-    place: &Expr,
     call: &Call<'_>,
     machine: &mut Machine,
     mem: &mut M,
+    x: u32,
+    index: &Expr,
+    place: &Expr,
 ) -> i64
     requires param { Meets call.now x read_stream }
     requires index { Fits call.now index.now }
     requires place { Fits call.now place.now }
     requires call { MayRun call.now (M.readable mem.old) (M.writable mem.old) }
-    ensures value { Told machine.old.trap result machine.new.trap (then_value (value_at call.now index.now machine.old.locals
-        (M.cells mem.old)) (λ i. then_value (value_at call.now place.now machine.old.locals (M.cells mem.old))
+    ensures value { Told machine.old.trap result machine.new.trap
+        (then_value (value_at call.now index.now machine.old.locals (M.cells mem.old))
+        (λ i. then_value (value_at call.now place.now machine.old.locals (M.cells mem.old))
         (λ k. item_word i k (argument_at call.now x) (M.cells mem.old)))) }
     ensures kept { Keeps machine.old machine.new }
     ensures cells { M.cells mem.new ≡ M.cells mem.old }
     ensures readable { M.readable mem.new ≡ M.readable mem.old }
     ensures writable { M.writable mem.new ≡ M.writable mem.old }
 {
-    let i = eval(index, call, machine, mem);
-    let k = eval(place, call, machine, mem);
+    let i = eval(call, machine, mem, index);
+    let k = eval(call, machine, mem, place);
     let outcome = item(x, i, k, call, mem);
     machine.value_or_aside(outcome)
 }
@@ -278,17 +301,17 @@ fn eval_item<M: Mem>(
 // `-e`
 #[cycle(value)]
 #[inline(never)]
-fn eval_negative<M: Mem>(inner: &Expr, call: &Call<'_>, machine: &mut Machine, mem: &mut M) -> i64
+fn eval_negative<M: Mem>(call: &Call<'_>, machine: &mut Machine, mem: &mut M, inner: &Expr) -> i64
     requires inner { Fits call.now inner.now }
     requires call { MayRun call.now (M.readable mem.old) (M.writable mem.old) }
-    ensures value { Told machine.old.trap result machine.new.trap (then_value (value_at call.now inner.now machine.old.locals
-        (M.cells mem.old)) (λ n. checked (neg_ℤ n))) }
+    ensures value { Told machine.old.trap result machine.new.trap
+        (then_value (value_at call.now inner.now machine.old.locals (M.cells mem.old)) (λ n. checked (neg_ℤ n))) }
     ensures kept { Keeps machine.old machine.new }
     ensures cells { M.cells mem.new ≡ M.cells mem.old }
     ensures readable { M.readable mem.new ≡ M.readable mem.old }
     ensures writable { M.writable mem.new ≡ M.writable mem.old }
 {
-    let n = eval(inner, call, machine, mem);
+    let n = eval(call, machine, mem, inner);
     match n.checked_neg() {
         Some(z) => z,
         None => machine.put_aside(Trap::Overflow),
@@ -298,17 +321,18 @@ fn eval_negative<M: Mem>(inner: &Expr, call: &Call<'_>, machine: &mut Machine, m
 // `!e`
 #[cycle(value)]
 #[inline(never)]
-fn eval_not<M: Mem>(inner: &Expr, call: &Call<'_>, machine: &mut Machine, mem: &mut M) -> i64
+fn eval_not<M: Mem>(call: &Call<'_>, machine: &mut Machine, mem: &mut M, inner: &Expr) -> i64
     requires inner { Fits call.now inner.now }
     requires call { MayRun call.now (M.readable mem.old) (M.writable mem.old) }
-    ensures value { Told machine.old.trap result machine.new.trap (then_value (value_at call.now inner.now machine.old.locals
-        (M.cells mem.old)) (λ n. Ok (one_if (not (holds n))))) }
+    ensures value { Told machine.old.trap result machine.new.trap
+        (then_value (value_at call.now inner.now machine.old.locals (M.cells mem.old))
+        (λ n. Ok (one_if (not (holds n))))) }
     ensures kept { Keeps machine.old machine.new }
     ensures cells { M.cells mem.new ≡ M.cells mem.old }
     ensures readable { M.readable mem.new ≡ M.readable mem.old }
     ensures writable { M.writable mem.new ≡ M.writable mem.old }
 {
-    let n = eval(inner, call, machine, mem);
+    let n = eval(call, machine, mem, inner);
     i64::from(n == 0)
 }
 
@@ -316,27 +340,27 @@ fn eval_not<M: Mem>(inner: &Expr, call: &Call<'_>, machine: &mut Machine, mem: &
 #[cycle(value)]
 #[inline(never)]
 fn eval_and<M: Mem>(
-    left: &Expr,
-    right: &Expr,
     call: &Call<'_>,
     machine: &mut Machine,
     mem: &mut M,
+    left: &Expr,
+    right: &Expr,
 ) -> i64
     requires left { Fits call.now left.now }
     requires right { Fits call.now right.now }
     requires call { MayRun call.now (M.readable mem.old) (M.writable mem.old) }
-    ensures value { Told machine.old.trap result machine.new.trap (then_value (value_at call.now left.now machine.old.locals
-        (M.cells mem.old)) (λ m. also (holds m) (λ _. value_at call.now right.now machine.old.locals
-        (M.cells mem.old)))) }
+    ensures value { Told machine.old.trap result machine.new.trap
+        (then_value (value_at call.now left.now machine.old.locals (M.cells mem.old)) (λ m. also (holds m)
+        (λ _. value_at call.now right.now machine.old.locals (M.cells mem.old)))) }
     ensures kept { Keeps machine.old machine.new }
     ensures cells { M.cells mem.new ≡ M.cells mem.old }
     ensures readable { M.readable mem.new ≡ M.readable mem.old }
     ensures writable { M.writable mem.new ≡ M.writable mem.old }
 {
-    if eval(left, call, machine, mem) == 0 {
+    if eval(call, machine, mem, left) == 0 {
         return 0;
     }
-    let n = eval(right, call, machine, mem);
+    let n = eval(call, machine, mem, right);
     i64::from(n != 0)
 }
 
@@ -344,26 +368,26 @@ fn eval_and<M: Mem>(
 #[cycle(value)]
 #[inline(never)]
 fn eval_or<M: Mem>(
-    left: &Expr,
-    right: &Expr,
     call: &Call<'_>,
     machine: &mut Machine,
     mem: &mut M,
+    left: &Expr,
+    right: &Expr,
 ) -> i64
     requires left { Fits call.now left.now }
     requires right { Fits call.now right.now }
     requires call { MayRun call.now (M.readable mem.old) (M.writable mem.old) }
-    ensures value { Told machine.old.trap result machine.new.trap (then_value (value_at call.now left.now machine.old.locals
-        (M.cells mem.old)) (λ m. otherwise (holds m) (λ _. value_at call.now right.now machine.old.locals
-        (M.cells mem.old)))) }
+    ensures value { Told machine.old.trap result machine.new.trap
+        (then_value (value_at call.now left.now machine.old.locals (M.cells mem.old)) (λ m. otherwise (holds m)
+        (λ _. value_at call.now right.now machine.old.locals (M.cells mem.old)))) }
     ensures kept { Keeps machine.old machine.new }
     ensures cells { M.cells mem.new ≡ M.cells mem.old }
     ensures readable { M.readable mem.new ≡ M.readable mem.old }
     ensures writable { M.writable mem.new ≡ M.writable mem.old }
 {
-    if eval(left, call, machine, mem) != 0 {
+    if eval(call, machine, mem, left) != 0 {
         return 1;
     }
-    let n = eval(right, call, machine, mem);
+    let n = eval(call, machine, mem, right);
     i64::from(n != 0)
 }

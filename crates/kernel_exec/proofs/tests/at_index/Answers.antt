@@ -1,9 +1,8 @@
-use Rattle.std.proofs.Common.{◌≡◌, ◌≢◌, ◌∙◌, ℕ, zero, suc, ◌+◌, ◌≤◌, ◌<◌, ◌^◌, Bool, IsTrue, nat_lt, List, [], ◌∷◌, length, map, Some, slice_get, refl, ap, sym, subst, arith}
+use Rattle.std.proofs.Common.{◌≡◌, ◌∙◌, ℕ, zero, suc, ◌≤◌, ◌<◌, ◌^◌, Bool, IsTrue, nat_lt, List, [], ◌∷◌, length, map, Some, slice_get, refl, ap, sym, subst, arith}
 use Rattle.std.proofs.lemmas.Bool.Decides.{nat_tests}
 use Rattle.frame_ast.specs.declared.kernel.Kernel.{Kernel}
 use Rattle.frame_ast.specs.declared.kernel.Param.{Param}
 use Rattle.frame_ast.specs.declared.kernel.ParamKind.TheVariants.{Array as ArrayKind}
-use Rattle.native_array.specs.declared.array.ArrayAt.{ArrayAt}
 use Rattle.kernel_exec.specs.declared.binds.Bind.{Bind}
 use Rattle.kernel_exec.specs.declared.binds.Bind.TheVariants.{Array}
 use Rattle.kernel_exec.specs.Binds.{IsWordOf, kind_of, end_of}
