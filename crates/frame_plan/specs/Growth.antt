@@ -1,9 +1,9 @@
 -- What one statement adds to a plan: the range that it takes, the job that it schedules, and what is waited for.
 --
--- Decided here is which words a statement gives to a container, and what the job of an accepted schedule is: its kernel,
--- where its arguments lie, its cut, whether its pieces may run at once, what it depends on, and what was waited for
--- before it is started. A statement that is refused or passed by adds neither. That a section adds what its statements
--- add, and nothing else, is said in `Layouts`.
+-- Decided here is which words a statement gives to a container, and what the job of an accepted schedule is: its
+-- kernel, where its arguments lie, its cut, whether its pieces may run at once, what it depends on, and what was waited
+-- for before it is started. A statement that is refused or passed by adds neither. That a section adds what its
+-- statements add, and nothing else, is said in `Layouts`.
 use Rattle.std.specs.Prelude.{ℕ, zero, suc, ◌+◌, ◌-◌, ◌≡◌, ◌<◌, Bool, true, false, ◌&&◌, max, List, [], ◌∷◌, ◌++◌, length, get_or, Option, None, Some, slice_get}
 use Rattle.job_base.specs.declared.JobId.{JobId}
 use Rattle.job_base.specs.declared.Span.{Span}

@@ -87,8 +87,8 @@ pub record HasBegun (script : Script) (table : Table) (p : Planner) : Type 0 whe
   pub grown : (starts : Starts) → HasGrown script table starts p 0 0
 
 -- The planner has gone from one place to another.
-pub record HasGone (script : Script) (table : Table) (old new : Planner) (begun : ScriptState) (from : ℕ) (found : List ℕ)
-    (to : ℕ) : Type 0 where
+pub record HasGone (script : Script) (table : Table) (old new : Planner) (begun : ScriptState) (from : ℕ)
+    (found : List ℕ) (to : ℕ) : Type 0 where
   pub more : List ℕ
   pub stands : StandsAt new script table begun to (found ++ more)
   -- its plan has what the statements between add
@@ -100,8 +100,8 @@ pub record HasGone (script : Script) (table : Table) (old new : Planner) (begun 
       → HasGrown script table starts new start to
 
 -- It has gone to a place where a section ends.
-pub record HasRun (script : Script) (table : Table) (old new : Planner) (begun : ScriptState) (from : ℕ) (found : List ℕ)
-    (to : ℕ) : Type 0 where
+pub record HasRun (script : Script) (table : Table) (old new : Planner) (begun : ScriptState) (from : ℕ)
+    (found : List ℕ) (to : ℕ) : Type 0 where
   pub gone : HasGone script table old new begun from found to
   pub rising : from ≤ to
   pub inside : to ≤ length script.statements.items

@@ -7,7 +7,9 @@
 //!
 //! `specs/Stands` says what a planner stands for: the state that the script is in, and a plan so far that does what the
 //! script did. Each statement has a function of its own, whose contract takes the one state to the next
-//! (`specs/Steps`). Why a plan does what its script says is shown in `plan_laws`.
+//! (`specs/Steps`), and says what the plan grows by (`specs/Growth`): a range, a job, and what is waited for. So a plan
+//! has the ranges and the jobs of the definitions, and no others (`specs/Layouts`). Why it does what its script says is
+//! shown in `plan_laws`.
 //!
 //! *Cost.* A statement costs nothing for each word of its containers. A job costs a set of 4,096 bits, and a disposal
 //! that waits another one.
