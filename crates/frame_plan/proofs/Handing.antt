@@ -1,6 +1,7 @@
 -- A section is handed out, and the first one is planned.
 use Rattle.std.proofs.Common.{◌≡◌, ℕ, zero, suc, ◌+◌, ◌<◌, ◌≤◌, ◌⊎◌, inl, inr, ⊎_elim, Bool, true, false, List, [], ◌∷◌, ◌++◌, length, map, take, Option, None, Some, refl, sym, ap, subst, ◌∙◌, arith, append-nil}
-use Rattle.std.specs.Prelude.{slice_get, IsSome, if◌then◌else◌}
+use Rattle.std.specs.Prelude.{slice_get, IsSome, if◌then◌else◌, String}
+use Rattle.std.specs.declared.alloc.Global.{Global}
 use Rattle.std.specs.List.{list_any}
 use Rattle.frame_ast.specs.declared.script.Order.{Order}
 use Rattle.frame_ast.specs.declared.script.Order.TheVariants.{When}
@@ -26,6 +27,7 @@ use Rattle.frame_plan.specs.declared.state.PlanFault.{PlanFault}
 use Rattle.frame_plan.specs.declared.state.PlanFault.TheVariants.{NoMemory}
 use Rattle.frame_plan.specs.declared.state.Planner.{Planner}
 use Rattle.frame_plan.specs.Layouts.{starts_by, IsLaidOut}
+use Rattle.frame_plan.specs.Names.{AreNamesOf}
 use Rattle.frame_plan.specs.References.{IsOfTest, IsTestFor}
 use Rattle.frame_plan.specs.Runs.{IsActingTest, IsStop, IsWithin, PassesOnce, IsFinished, IsEmptied, outline_of}
 use Rattle.frame_plan.specs.Sections.{limit_told, IsTestOf, EndsBy, IsPlannedFrom, IsBetween, IsAt, IsNext, IsPlanOf}
@@ -42,8 +44,12 @@ not_test g s a h = absurd h
 
 -- ---- a section
 
+-- names that a plan took over
+pub names_handed : (script : Script) (given taken : List (String Global)) → taken ≡ given → AreNamesOf script given → AreNamesOf script taken
+names_handed script given taken e names = subst (AreNamesOf script) (sym e) names
+
 module _ (script : Script) (table : Table) (from : ℕ) (book : SectionBook) (ready : IsPlannedFrom book script table from) (new : Planner) (plan : Plan) (test : Option Test)
-    (finished : IsFinished script book.planner plan) (emptied : IsEmptied book.planner new) (tests : IsTestFor book.planner (slice_get script.statements.items book.at) test) where
+    (finished : IsFinished script book.planner plan) (emptied : IsEmptied book.planner new) (tests : IsTestFor book.planner (slice_get script.statements.items book.at) test) (names : AreNamesOf script plan.names.items) where
   abbrev s : ScriptState
   s = state_at script table book.at
 
@@ -132,6 +138,7 @@ module _ (script : Script) (table : Table) (from : ℕ) (book : SectionBook) (re
     is_section = record {
       rising = (ready.rising, ready.inside);
       well_ordered = done.well_ordered;
+      names = names;
       jobs_before = ready.stands.numbers.before;
       lines = done.lines;
       refused = done.refused;

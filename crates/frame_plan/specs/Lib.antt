@@ -2,6 +2,7 @@
 pub mod Growth
 pub mod Layouts
 pub mod Missing
+pub mod Names
 pub mod Sections
 pub mod Tables
 -- for this crate's own contracts

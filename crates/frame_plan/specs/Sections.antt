@@ -35,6 +35,7 @@ use Rattle.frame_plan.specs.declared.state.PlanFault.TheVariants.{Jobs, Words, N
 use Rattle.frame_plan.specs.declared.state.Planner.{Planner}
 use Rattle.frame_plan.specs.Growth.{StartAs}
 use Rattle.frame_plan.specs.Layouts.{IsLaidOut, HasRanges, HasGrown}
+use Rattle.frame_plan.specs.Names.{AreNamesOf}
 use Rattle.frame_plan.specs.Runs.{IsActingTest, IsStop, IsEmptied}
 use Rattle.frame_plan.specs.Steps.{state_at, StandsAt}
 
@@ -71,6 +72,8 @@ EndsBy g s cells (Some x) (Some test) = IsTestOf g s cells test x.act
 pub record IsSectionOf (script : Script) (table : Table) (from to : ℕ) (section : Section) : Type 0 where
   pub rising : (from ≤ to) × (to ≤ length script.statements.items)
   pub well_ordered : IsWellOrderedPlan section.plan
+  -- the plan of the next section can take these names over
+  pub names : AreNamesOf script section.plan.names.items
   pub jobs_before : section.jobs_before ≡ (state_at script table from).book.count
   pub lines : (state_at script table to).lines ≡ (state_at script table from).lines ++ plan_lines section.plan
   pub refused : (state_at script table to).refused ≡ (state_at script table from).refused + plan_refused section.plan

@@ -1,5 +1,5 @@
 // The plan so far becomes a whole one.
-ghost use Rattle.std.specs.Prelude.{◌≡◌, ◌+◌, ◌*◌, ◌<◌, ◌≤◌, ◌^◌, ℕ, List, IfOk, OnOk, map, string_bytes, length, true};
+ghost use Rattle.std.specs.Prelude.{◌≡◌, ◌+◌, ◌*◌, ◌<◌, ◌≤◌, ◌^◌, ℕ, List, IfOk, OnOk, length, true};
 ghost use Rattle.job_base.specs.declared.limits.TheConstants.{MOST_JOBS};
 ghost use Rattle.frame_ast.specs.declared.script.Script.{Script};
 ghost use Rattle.frame_ast.specs.Accepted.{IsAccepted};
@@ -7,11 +7,11 @@ ghost use Rattle.frame_ast.specs.Orders.{Table};
 ghost use Rattle.frame_ast.specs.States.{ScriptState};
 ghost use Rattle.frame_core.specs.Names.{has_job};
 ghost use Rattle.plan_laws.specs.Planned.{AreJobsUpTo};
+ghost use Rattle.frame_plan.specs.Names.{AreNamesOf};
 ghost use Rattle.frame_plan.specs.Runs.{IsFinished, IsEmptied};
 ghost use Rattle.frame_plan.specs.Steps.{StandsAt};
 
 use crate::state::{Planner, Written};
-use frame_ast::script::Script;
 use frame_core::{Plan, Segment};
 use job_base::{JobId, NoMemory};
 use std::alloc::Global;
@@ -20,14 +20,15 @@ use std::mem;
 impl Planner {
     /// The plan so far as a whole one: the segment at hand is closed, and a last one waits for every job. The planner
     /// keeps all else that it knows.
-    pub(crate) fn finish(&mut self, alloc: Global, script: &Script) -> Result<Plan, NoMemory>
-        requires { (table : Table) × (begun : ScriptState) × (n : ℕ) × (found : List ℕ)
-            × StandsAt self.old script.now table begun n found
-            × (n ≤ length script.now.statements.items) × IsAccepted script.now }
-        ensures plan { IfOk result (IsFinished script.now self.old) }
+    pub(crate) fn finish(&mut self, alloc: Global, names: Vec<String>) -> Result<Plan, NoMemory>
+        requires { (script : Script) × (table : Table) × (begun : ScriptState) × (n : ℕ) × (found : List ℕ)
+            × StandsAt self.old script table begun n found
+            × (n ≤ length script.statements.items) × IsAccepted script }
+        ensures plan { (script : Script) → IsAccepted script → AreNamesOf script names.items
+            → IfOk result (IsFinished script self.old) }
+        ensures names { IfOk result (λ plan. plan.names.items ≡ names.items) }
         ensures emptied { OnOk result (IsEmptied self.old self.new) }
     {
-        let names = copy_names(alloc, &script.names)?;
         let all = all_jobs(alloc, self.plan.jobs.len() as u32)?;
         let cells = self.store.peak();
         let Written {
@@ -59,17 +60,6 @@ impl Planner {
             words: cells + 3 * pieces,
         })
     }
-}
-
-/// Copies of names.
-fn copy_names(alloc: Global, names: &[String]) -> Result<Vec<String>, NoMemory>
-    ensures { IfOk result (λ copies. map (λ v. string_bytes v) copies.items ≡ map (λ v. string_bytes v) names.now) }
-{
-    let mut copies = Vec::new(alloc);
-    for name in names {
-        copies.push(name.clone()?)?;
-    }
-    Ok(copies)
 }
 
 /// So many jobs, in their order.

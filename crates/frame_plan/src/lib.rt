@@ -12,7 +12,7 @@
 //! shown in `plan_laws`.
 //!
 //! *Cost.* A statement costs nothing for each word of its containers. A job costs a set of 4,096 bits, and a disposal
-//! that waits another one.
+//! that waits another one. The names of a script are copied once, and go from the plan of one section to the next.
 #![tactic(auto)]
 
 mod access;
@@ -49,6 +49,6 @@ mod writing;
 
 pub use missing::missing_column;
 pub use section::{Section, Test};
-pub use sections::SectionBook;
+pub use sections::{SectionBook, names_of};
 pub use state::PlanFault;
 pub use whole::plan;

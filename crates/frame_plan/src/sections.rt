@@ -4,6 +4,7 @@ ghost use Rattle.frame_ast.specs.Accepted.{IsAccepted};
 ghost use Rattle.frame_ast.specs.Limits.{limit_of};
 ghost use Rattle.frame_ast.specs.Orders.{Table as Columns, setting};
 ghost use Rattle.merge_laws.specs.Graph.{Cells};
+ghost use Rattle.frame_plan.specs.Names.{AreNamesOf};
 ghost use Rattle.frame_plan.specs.References.{IsReferenceOf, IsTestFor};
 ghost use Rattle.frame_plan.specs.Sections.{limit_told, passed_after, IsPlannedFrom, IsBetween, IsAt, IsOutcome, AreLeft, IsNext};
 ghost use Rattle.frame_plan.specs.Tables.{columns_of};
@@ -17,6 +18,17 @@ use kernel_exec::Bind;
 use native_array::RefAt;
 use std::alloc::Global;
 use table_in::Table;
+
+/// Copies of a script's names, for the plan of its first section.
+pub fn names_of(alloc: Global, script: &Script) -> Result<Vec<String>, NoMemory>
+    ensures { IfOk result (λ names. AreNamesOf script.now names.items) }
+{
+    let mut names = Vec::new(alloc);
+    for name in &script.names {
+        names.push(name.clone()?)?;
+    }
+    Ok(names)
+}
 
 /// The planner of a script, between two sections.
 #[derive(Drop)]
@@ -48,7 +60,9 @@ impl SectionBook {
     }
 
     /// The next section. `held` says whether the test holds at which the last one ended, and `cells` begin with the words
-    /// that it left; the first section has none before it. After an error the book is of no use.
+    /// that it left; the first section has none before it. Its plan takes the `names` of the script over: for the first
+    /// section `names_of` copies them, and a later one is given those of the plan before. After an error the book is of
+    /// no use.
     pub fn next(
         &mut self,
         alloc: Global,
@@ -56,11 +70,13 @@ impl SectionBook {
         table: &Table,
         held: Option<bool>,
         cells: &mut FlatMem,
+        names: Vec<String>,
     ) -> Result<Section, NoMemory>
         requires at { (from : ℕ) × (carried : Cells) × (len : ℕ)
             × IsAt self.old script.now (columns_of table.now) from carried len
             × IsOutcome script.now (columns_of table.now) from held
             × AreLeft cells.old carried len }
+        requires names { AreNamesOf script.now names.items }
         ensures section { (from : ℕ) (carried : Cells) (len : ℕ)
             → IsAt self.old script.now (columns_of table.now) from carried len
             → IsOutcome script.now (columns_of table.now) from held
@@ -69,23 +85,29 @@ impl SectionBook {
         ensures cells { cells.new ≡ cells.old }
     {
         match held {
-            None => self.hand_out(alloc, script),
+            None => self.hand_out(alloc, script, names),
             Some(held) => {
                 self.resume(alloc, script, table, held, cells)?;
-                self.hand_out(alloc, script)
+                self.hand_out(alloc, script, names)
             }
         }
     }
 
-    /// The section that is planned, as a whole plan.
-    pub(crate) fn hand_out(&mut self, alloc: Global, script: &Script) -> Result<Section, NoMemory>
-        requires { (table : Columns) × (from : ℕ) × IsPlannedFrom self.old script.now table from }
+    /// The section that is planned, as a whole plan with these names.
+    pub(crate) fn hand_out(
+        &mut self,
+        alloc: Global,
+        script: &Script,
+        names: Vec<String>,
+    ) -> Result<Section, NoMemory>
+        requires planned { (table : Columns) × (from : ℕ) × IsPlannedFrom self.old script.now table from }
+        requires names { AreNamesOf script.now names.items }
         ensures { (table : Columns) (from : ℕ) → IsPlannedFrom self.old script.now table from
             → IfOk result (IsNext self.new script.now table from) }
     {
         let test = self.test(script);
         let jobs_before = self.planner.jobs_before;
-        let plan = self.planner.finish(alloc, script)?;
+        let plan = self.planner.finish(alloc, names)?;
         Ok(Section {
             plan,
             jobs_before,

@@ -8,7 +8,7 @@ ghost use Rattle.frame_plan.specs.Sections.{limit_told, IsPlanOf};
 ghost use Rattle.frame_plan.specs.Tables.{columns_of};
 
 use crate::section::Section;
-use crate::sections::SectionBook;
+use crate::sections::{SectionBook, names_of};
 use crate::state::PlanFault;
 use frame_ast::script::Script;
 use frame_core::Plan;
@@ -26,10 +26,11 @@ pub fn plan(alloc: Global, script: &Script, table: &Table) -> Result<Plan, PlanF
     ensures plan { IfOk result (IsPlanOf script.now (columns_of table.now)) }
 {
     let mut book = SectionBook::new(alloc, script, table)?;
+    let names = names_of(alloc, script)?;
     let Section {
         plan,
         jobs_before: _,
         test: _,
-    } = book.hand_out(alloc, script)?;
+    } = book.hand_out(alloc, script, names)?;
     Ok(plan)
 }

@@ -1,7 +1,7 @@
 // Scripts at the limits of what is planned.
 
 use crate::section::script_of;
-use frame_plan::{PlanFault, SectionBook};
+use frame_plan::{PlanFault, SectionBook, names_of};
 use job_base::FlatMem;
 use std::alloc::Global;
 use std::test::Fail;
@@ -16,7 +16,8 @@ fn fault_of(alloc: Global, lines: &str) -> Result<Option<PlanFault>, Fail> {
         Ok(book) => book,
         Err(fault) => return Ok(Some(fault)),
     };
-    book.next(alloc, &script, &table, None, &mut cells)?;
+    let names = names_of(alloc, &script)?;
+    book.next(alloc, &script, &table, None, &mut cells, names)?;
     Ok(None)
 }
 

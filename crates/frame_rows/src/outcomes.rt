@@ -9,7 +9,7 @@ ghost use Rattle.frame_rows.specs.Between.{IsBetween};
 use crate::boards::run_plan;
 use crate::section::script_of;
 use frame_ast::script::{Script, Sign};
-use frame_plan::{SectionBook, Test};
+use frame_plan::{SectionBook, Test, names_of};
 use job_base::{FlatMem, Mem, MemSink, Word};
 use std::alloc::Global;
 use std::fmt::Write;
@@ -110,7 +110,8 @@ fn go_on<R: Threads + Wait + Sync>(
     ensures next { IfOk result (λ more. more ≡ true
         → IsBetween script.now (columns_of table.now) book.new held.new cells.new) }
 {
-    let section = book.next(alloc, script, table, *held, cells)?;
+    let names = names_of(alloc, script)?;
+    let section = book.next(alloc, script, table, *held, cells, names)?;
     write!(told, "{} jobs before", section.jobs_before)?;
     *cells = run_plan(rt, alloc, &section.plan, 2, sink)?;
     let Some(test) = section.test else {

@@ -3,7 +3,7 @@ ghost use Rattle.std.specs.Prelude.{IfOk};
 ghost use Rattle.frame_ast.specs.Accepted.{IsAccepted};
 ghost use Rattle.frame_core.specs.Ordered.{IsWellOrderedPlan};
 
-use frame_plan::{Section, SectionBook};
+use frame_plan::{Section, SectionBook, names_of};
 use frame_script::{Script, parse_script};
 use job_base::FlatMem;
 use job_base::limits::MOST_SCRIPT_BYTES;
@@ -48,5 +48,6 @@ pub fn section_of(alloc: Global, lines: &str) -> Result<Section, Fail>
     let table = Table::none(alloc);
     let mut cells = FlatMem::new(alloc, 0)?;
     let mut book = SectionBook::new(alloc, &script, &table)?;
-    Ok(book.next(alloc, &script, &table, None, &mut cells)?)
+    let names = names_of(alloc, &script)?;
+    Ok(book.next(alloc, &script, &table, None, &mut cells, names)?)
 }

@@ -1,6 +1,7 @@
 -- One section more.
 use Rattle.std.proofs.Common.{◌≡◌, refl, sym, ap, ◌∙◌, subst, ℕ, zero, suc, ◌+◌, ◌*◌, ◌<◌, ◌≤◌, ◌^◌, Bool, true, false, ℤ, List, [], ◌∷◌, ◌++◌, length, map, Option, None, Some, IsSome, length-append, arith}
-use Rattle.std.specs.Prelude.{slice_get, IsTrue, nat_le}
+use Rattle.std.specs.Prelude.{slice_get, IsTrue, nat_le, Vec, String}
+use Rattle.std.specs.declared.alloc.Global.{Global}
 use Rattle.std.specs.List.{list_any}
 use Rattle.std.proofs.lemmas.Bool.{leb-true}
 use Rattle.std.proofs.lemmas.List.{length-map}
@@ -25,6 +26,7 @@ use Rattle.plan_laws.specs.Planned.{renumbered}
 use Rattle.frame_plan.specs.declared.section.Section.{Section}
 use Rattle.frame_plan.specs.declared.section.Test.{Test}
 use Rattle.frame_plan.specs.declared.sections.SectionBook.{SectionBook}
+use Rattle.frame_plan.specs.Names.{AreNamesOf}
 use Rattle.frame_plan.specs.Sections.{IsSectionOf, IsTestOf, EndsBy, IsOutcome, AreLeft, IsNext, outcome_by, outcome_of}
 use Rattle.frame_plan.specs.Steps.{state_at}
 use Rattle.frame_top.specs.declared.section.SectionRun.{SectionRun}
@@ -197,8 +199,9 @@ pub runs_on : (script : Script) (table : Table) (sections from : ℕ) (book : Se
     → (p : Progress) (left : List ℤ) → AreCellsOf section.plan left → p.cells ≡ left
     → p.held ≡ Some (compares test.sign (cells_of left test.at.start) test.bound)
     → IsReportAt (state_at script table next.to) p.report → IsFew (suc sections) p.report
+    → p.names ≡ section.plan.names
     → HasRun script table (suc sections) next.to book p
-runs_on script table sections from book section next test e tests p left cells same held report few =
+runs_on script table sections from book section next test e tests p left cells same held report few names =
     let some : IsSome section.test = subst IsSome (sym e) refl in
     let is = next.is_section in
     let sized = is.well_ordered.sized in
@@ -216,6 +219,7 @@ runs_on script table sections from book section next test e tests p left cells s
       at = next.at some;
       outcome = outcome_at script table from next.to p.held later (held ∙ ap (λ z. Some (compares test.sign z test.bound)) (cells.each test.at.start low) ∙ ap Some at_test.outcome);
       left = subst (λ m. AreLeft m (cells_after section.plan) section.plan.cells) (sym same) (omega arith, λ w l. cells.each w (omega arith));
+      names = subst (λ (v : Vec (String Global) Global). AreNamesOf script v.items) (sym names) is.names;
       report = report;
       few = few;
       tests = omega arith;
@@ -248,16 +252,16 @@ module _ {S : Type 0} (taken : S → Option (List ℕ)) (faults : S → ℕ) (sc
     last = λ e. ends_last script table from next.to section is none;
   }
 
-  pub section_more : (q : Progress) (test : Test) → q.failed ≡ r.failed → q.report ≡ joined → section.test ≡ Some test → keeps ≡ true → q.cells ≡ r.left
+  pub section_more : (q : Progress) (test : Test) → q.failed ≡ r.failed → q.report ≡ joined → section.test ≡ Some test → keeps ≡ true → q.cells ≡ r.left → q.names ≡ section.plan.names
       → q.held ≡ Some (compares test.sign (cells_of r.left test.at.start) test.bound) → RunsOn taken faults script table sections from old new p.failed book q true
-  section_more q test failed report some kept cells held = record {
+  section_more q test failed report some kept cells names held = record {
     to = next.to;
     lines = plan_lines section.plan;
     lines_are = is.lines;
     said = subst (λ b. SaysTo taken faults old new p.failed b (plan_lines section.plan)) (sym failed) run.lines;
     report = subst (IsReportAt (state_at script table next.to)) (sym report) report_at;
     next = λ e. runs_on script table sections from book section next test some was.tests q r.left (run.cells kept) cells held
-        (subst (IsReportAt (state_at script table next.to)) (sym report) report_at) (subst (IsFew (suc sections)) (sym report) few);
+        (subst (IsReportAt (state_at script table next.to)) (sym report) report_at) (subst (IsFew (suc sections)) (sym report) few) names;
     last = λ e. absurd cc;
   }
 

@@ -10,6 +10,7 @@ use Rattle.frame_print.specs.declared.report.Report.{Report}
 use Rattle.frame_print.specs.Reports.{IsReportOf}
 use Rattle.steal_pool.specs.Says.{SaysTo}
 use Rattle.frame_plan.specs.declared.sections.SectionBook.{SectionBook}
+use Rattle.frame_plan.specs.Names.{AreNamesOf}
 use Rattle.frame_plan.specs.Sections.{IsAt, IsOutcome, AreLeft}
 use Rattle.frame_plan.specs.Steps.{state_at}
 use Rattle.frame_top.specs.declared.sections.Progress.{Progress}
@@ -36,6 +37,7 @@ pub record HasRun (script : Script) (table : Table) (sections from : ℕ) (book 
   pub at : IsAt book script table from carried len
   pub outcome : IsOutcome script table from p.held
   pub left : AreLeft p.cells carried len
+  pub names : AreNamesOf script p.names.items
   pub report : IsReportAt (state_at script table from) p.report
   pub few : IsFew sections p.report
   -- each section ended at another `when`

@@ -18,11 +18,12 @@ ghost use Rattle.frame_top.specs.declared.status.TheConstants.{NO_MEMORY, UNWRIT
 use crate::section::run_section;
 use crate::status::{DONE, NO_MEMORY, STATEMENT_REFUSED, TRAPPED, UNWRITTEN};
 use frame_ast::script::{Script, Sign};
-use frame_plan::{SectionBook, Test};
+use frame_plan::{Section, SectionBook, Test, names_of};
 use frame_print::{Report, print_traps};
 use job_base::limits::MOST_TESTS;
 use job_base::{FlatMem, Gate, JobId, Mem, NoMemory, Sink, Trap, Word};
 use std::alloc::Global;
+use std::mem;
 use std::sync::Wait;
 use std::thread::Threads;
 use steal_pool::join_reports;
@@ -36,6 +37,8 @@ pub struct Progress {
     pub held: Option<bool>,
     /// The cells that it left.
     pub cells: FlatMem,
+    /// The names of the script, which its plan had.
+    pub names: Vec<String>,
     /// Of all sections so far.
     pub report: Report,
     /// A write failed, and nothing was written since.
@@ -103,7 +106,15 @@ fn run_next<R: Threads + Wait + Sync, S: Sink, G: Gate + Sync>(
     ensures later { S.faults sink.old ≤ S.faults sink.new }
     ensures failed { OnErr result (progress.new.failed ≡ progress.old.failed) }
 {
-    let section = book.next(alloc, script, table, progress.held, &mut progress.cells)?;
+    let names = mem::replace(&mut progress.names, Vec::new(alloc));
+    let section = book.next(
+        alloc,
+        script,
+        table,
+        progress.held,
+        &mut progress.cells,
+        names,
+    )?;
     let keeps = section.test.is_some();
     let run = run_section(
         rt,
@@ -119,7 +130,9 @@ fn run_next<R: Threads + Wait + Sync, S: Sink, G: Gate + Sync>(
     progress.failed = run.failed;
     progress.report = join_reports(&progress.report, section.jobs_before, &run.report);
     progress.cells = run.left;
-    match section.test {
+    let Section { plan, test, .. } = section;
+    progress.names = plan.names;
+    match test {
         None => Ok(false),
         Some(test) => {
             progress.held = Some(holds(&test, &mut progress.cells));
@@ -194,10 +207,14 @@ pub fn run_sections<R: Threads + Wait + Sync, S: Sink, G: Gate + Sync>(
     let Ok(cells) = FlatMem::new(alloc, 0) else {
         return NO_MEMORY;
     };
+    let Ok(names) = names_of(alloc, script) else {
+        return NO_MEMORY;
+    };
     let mut book = first;
     let mut progress = Progress {
         held: None,
         cells,
+        names,
         report: no_report(),
         failed: false,
     };

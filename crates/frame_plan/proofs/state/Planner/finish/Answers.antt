@@ -1,5 +1,4 @@
-use Rattle.std.proofs.Common.{◌≡◌, ◌+◌, ◌*◌, ◌<◌, ◌≤◌, ℕ, ◌++◌, ◌∷◌, [], length, map, None, true, refl, sym, ap, subst, ◌∙◌, arith}
-use Rattle.std.specs.Prelude.{string_bytes}
+use Rattle.std.proofs.Common.{◌≡◌, ◌+◌, ◌*◌, ◌<◌, ◌≤◌, ℕ, ◌++◌, ◌∷◌, [], length, None, true, refl, sym, ap, subst, ◌∙◌, arith}
 use Rattle.std.proofs.lemmas.List.{append_assoc}
 use Rattle.frame_core.specs.declared.plan.Segment.{Segment}
 use Rattle.frame_core.specs.Names.{has_job}
@@ -15,7 +14,7 @@ use Rattle.frame_plan.proofs.state.Planner.finish.Goals as goal
 pub overflow_cast-len : goal.overflow_cast-len
 overflow_cast-len c =
     let r = c.requires in
-    let few = jobs_few c.args.script.now r.0 c.args.self.now r.1 r.2 r.3 r.4 r.6 r.5 in
+    let few = jobs_few r.0 r.1 c.args.self.now r.2 r.3 r.4 r.5 r.7 r.6 in
     let len = c.args.self.now.plan.jobs.ok.0 in
     let e = c.len.ensures in
     omega arith
@@ -23,21 +22,21 @@ overflow_cast-len c =
 pub overflow_mul-result : goal.overflow_mul-result
 overflow_mul-result c =
     let r = c.requires in
-    let few = pieces_small c.args.script.now r.0 c.args.self.now r.1 r.2 r.3 r.4 r.6 r.5 in
+    let few = pieces_small r.0 r.1 c.args.self.now r.2 r.3 r.4 r.5 r.7 r.6 in
     let is : c.replace-kernels.result.pieces ≡ c.args.self.now.plan.pieces = ap (λ (w : Written). w.pieces) c.replace-kernels.ensures.value in
     omega arith
 
 pub overflow_add-result : goal.overflow_add-result
 overflow_add-result c =
     let r = c.requires in
-    let few = pieces_small c.args.script.now r.0 c.args.self.now r.1 r.2 r.3 r.4 r.6 r.5 in
-    let less : peak_of c.args.self.now.store ≤ 8388608 = cells_small c.args.script.now r.0 c.args.self.now r.1 r.2 r.3 r.4 r.6 r.5 in
+    let few = pieces_small r.0 r.1 c.args.self.now r.2 r.3 r.4 r.5 r.7 r.6 in
+    let less : peak_of c.args.self.now.store ≤ 8388608 = cells_small r.0 r.1 c.args.self.now r.2 r.3 r.4 r.5 r.7 r.6 in
     let is : c.replace-kernels.result.pieces ≡ c.args.self.now.plan.pieces = ap (λ (w : Written). w.pieces) c.replace-kernels.ensures.value in
     let cells : c.peak-cells.result ≡ peak_of c.args.self.now.store = c.peak-cells.ensures in
     omega arith
 
 pub returns-clause-plan : goal.returns-clause-plan
-returns-clause-plan c =
+returns-clause-plan c script accepted names =
     let p = c.args.self.now in
     let v : c.replace-kernels.result ≡ p.plan = c.replace-kernels.ensures.value in
     let last : Segment = record { waits = c.replace-kernels.result.waits; ops = c.replace-kernels.result.ops; starts = None } in
@@ -52,8 +51,8 @@ returns-clause-plan c =
       segments_later = last ∷ final ∷ [];
       segments = segments ∙ append_assoc p.plan.segments.items (last ∷ []) (final ∷ []);
       done = λ table begun n found inside st.
-          is_done c.args.script.now table p begun n found st c.requires.6 inside _ last final
-          (c.in_ok-names.ensures ∙ ap (map (λ v. string_bytes v)) c.deref.ensures.value)
+          is_done script table p begun n found st accepted inside _ last final
+          names
           (ap (λ (w : Written). w.kernels.items) v)
           (ap (λ (w : Written). w.literals.items) v)
           (ap (λ (w : Written). w.jobs.items) v)
@@ -68,6 +67,6 @@ returns-clause-plan c =
           c.new.ensures.items
           refl;
       within = λ table begun n found inside st.
-          subst (λ k. AreWithin k found (state_at c.args.script.now table n)) (sym c.peak-cells.ensures)
-          (live_low c.args.script.now table p begun n found st c.requires.6 inside);
+          subst (λ k. AreWithin k found (state_at script table n)) (sym c.peak-cells.ensures)
+          (live_low script table p begun n found st accepted inside);
     }
