@@ -12,8 +12,7 @@ use std::test::Fail;
 use table_in::Table;
 
 /// The lines that a worked script begins with.
-pub(crate) const KERNELS: &str =
-    "parallel scale(x: ro array, y: wo array) { y[index] = x[index] * 3; }
+pub const KERNELS: &str = "parallel scale(x: ro array, y: wo array) { y[index] = x[index] * 3; }
 job total(y: ro array, t: wo ref) { var s = 0; for k in 0..len(y) { s = s + y[k]; } t = s; }
 job bump(a: rw array) { a[0] = a[0] + 1; }
 job peek(a: ro array, t: wo ref) { t = a[0]; }

@@ -1,6 +1,6 @@
 // Whole frames: command lines that are answered over files and a sink in memory.
 
-use crate::section::KERNELS;
+use frame_rows::KERNELS;
 use frame_top::run_frame;
 use job_base::{Gate, MemFiles, MemSink, OpenGate};
 use std::alloc::Global;

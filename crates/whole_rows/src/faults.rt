@@ -1,7 +1,7 @@
 // Frames whose files or sink fail.
 
 use crate::frames::{Given, WORKERS, sink_of, status_of, with_kernels};
-use crate::texts::TOTAL;
+use frame_rows::texts::TOTAL;
 use job_base::{MemSink, OpenGate};
 use std::test::Fail;
 

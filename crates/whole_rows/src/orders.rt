@@ -1,7 +1,7 @@
 // Frames whose pieces are let in in a given order, or watched.
 
 use crate::frames::{Given, WORKERS, sink_of, status_of, with_kernels};
-use crate::texts::TOTAL;
+use frame_rows::texts::TOTAL;
 use job_base::{Gate, NoMemory, OrderGate, PieceId};
 use std::alloc::Global;
 use std::sync::Wait;
