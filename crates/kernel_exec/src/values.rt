@@ -5,10 +5,11 @@
 // - A value is a plain number in a register, and a trap is put aside in the machine. So nothing is tested after the value
 //   of a part, and nothing is handed over in memory. (With a `Result` or an `Option` for each value an index took 1.4
 //   times as long.)
-// - `eval` makes no frame. Operators come first; their sides are tried as numbers and locals, and then no call is made.
-//   A deeper left side has its right one handed over as a number (`near`); only a deep right side needs both (`far`).
+// - `eval` makes no frame. Operators come first; their sides are tried as numbers, locals and own elements, and then no
+//   call is made. Where one side alone is deep, the other is handed over as a number (`near`, `behind`); only two deep
+//   sides need a frame with all that a walk stands on (`far`).
 // - Every other form is behind a second jump (`eval_other`), and each form with parts has a function of its own.
-ghost use Rattle.std.specs.Prelude.{◌≡◌, Ok, pos, neg_ℤ, not};
+ghost use Rattle.std.specs.Prelude.{◌≡◌, ℤ, Ok, IfSome, List, pos, neg_ℤ, not};
 ghost use Rattle.frame_ast.specs.Contents.{then_value};
 ghost use Rattle.frame_ast.specs.Expressions.{operate, checked, one_if, holds, also, otherwise};
 ghost use Rattle.frame_ast.specs.Checked.{read_elements, read_map, read_stream};
@@ -67,16 +68,140 @@ fn eval_binary<M: Mem>(
     let n = match right {
         Expr::Number(n) => *n,
         Expr::Local(k) => machine.locals[*k as usize],
-        _ => return far(call, machine, mem, op, left, right),
+        _ => return deep_right(call, machine, mem, op, left, right),
     };
-    let m = match left {
-        Expr::Local(k) => machine.locals[*k as usize],
-        _ => return near(call, machine, mem, op, left, n),
-    };
-    apply(op, m, n, machine)
+    with_right(call, machine, mem, op, left, n)
+}
+
+// The value of a form of which no part is evaluated, where nothing but one comparison has to be made.
+#[inline(always)]
+fn in_place<M: Mem>(call: &Call<'_>, mem: &mut M, e: &Expr) -> Option<i64>
+    requires e { Fits call.now e.now }
+    requires call { MayRun call.now (M.readable mem.old) (M.writable mem.old) }
+    ensures value { (locals : List ℤ) → IfSome result (λ z. value_at call.now e.now locals (M.cells mem.old) ≡ Ok z) }
+    ensures cells { M.cells mem.new ≡ M.cells mem.old }
+    ensures readable { M.readable mem.new ≡ M.readable mem.old }
+    ensures writable { M.writable mem.new ≡ M.writable mem.old }
+{
+    match e {
+        Expr::Index => Some(i64::from(call.index)),
+        Expr::Element(x, place) => match &**place {
+            Expr::Index => reads::own_element(*x, call, mem),
+            _ => None,
+        },
+        _ => None,
+    }
 }
 
 // The right side is a number already.
+#[cycle(value)]
+#[inline(always)]
+fn with_right<M: Mem>(
+    call: &Call<'_>,
+    machine: &mut Machine,
+    mem: &mut M,
+    op: Operator,
+    left: &Expr,
+    n: i64,
+) -> i64
+    requires left { Fits call.now left.now }
+    requires call { MayRun call.now (M.readable mem.old) (M.writable mem.old) }
+    ensures value { Told machine.old.trap result machine.new.trap
+        (then_value (value_at call.now left.now machine.old.locals (M.cells mem.old)) (λ m. operate op m n)) }
+    ensures kept { Keeps machine.old machine.new }
+    ensures cells { M.cells mem.new ≡ M.cells mem.old }
+    ensures readable { M.readable mem.new ≡ M.readable mem.old }
+    ensures writable { M.writable mem.new ≡ M.writable mem.old }
+{
+    match left {
+        Expr::Local(k) => apply(op, machine.locals[*k as usize], n, machine),
+        _ => deep_left(call, machine, mem, op, left, n),
+    }
+}
+
+// The right side is a number already, and the left one is no local.
+#[cycle(value)]
+#[inline(never)]
+fn deep_left<M: Mem>(
+    call: &Call<'_>,
+    machine: &mut Machine,
+    mem: &mut M,
+    op: Operator,
+    left: &Expr,
+    n: i64,
+) -> i64
+    requires left { Fits call.now left.now }
+    requires call { MayRun call.now (M.readable mem.old) (M.writable mem.old) }
+    ensures value { Told machine.old.trap result machine.new.trap
+        (then_value (value_at call.now left.now machine.old.locals (M.cells mem.old)) (λ m. operate op m n)) }
+    ensures kept { Keeps machine.old machine.new }
+    ensures cells { M.cells mem.new ≡ M.cells mem.old }
+    ensures readable { M.readable mem.new ≡ M.readable mem.old }
+    ensures writable { M.writable mem.new ≡ M.writable mem.old }
+{
+    match in_place(call, mem, left) {
+        Some(m) => apply(op, m, n, machine),
+        None => near(call, machine, mem, op, left, n),
+    }
+}
+
+// The right side is no number and no local. Where it is found in place it is read before the left side is evaluated,
+// since reading it traps nothing; and so is a left side that is a local.
+#[cycle(value)]
+#[inline(never)]
+fn deep_right<M: Mem>(
+    call: &Call<'_>,
+    machine: &mut Machine,
+    mem: &mut M,
+    op: Operator,
+    left: &Expr,
+    right: &Expr,
+) -> i64
+    requires left { Fits call.now left.now }
+    requires right { Fits call.now right.now }
+    requires call { MayRun call.now (M.readable mem.old) (M.writable mem.old) }
+    ensures value { Told machine.old.trap result machine.new.trap
+        (then_value (value_at call.now left.now machine.old.locals (M.cells mem.old))
+        (λ m. then_value (value_at call.now right.now machine.old.locals (M.cells mem.old)) (λ n. operate op m n))) }
+    ensures kept { Keeps machine.old machine.new }
+    ensures cells { M.cells mem.new ≡ M.cells mem.old }
+    ensures readable { M.readable mem.new ≡ M.readable mem.old }
+    ensures writable { M.writable mem.new ≡ M.writable mem.old }
+{
+    if let Some(n) = in_place(call, mem, right) {
+        return with_right(call, machine, mem, op, left, n);
+    }
+    match left {
+        Expr::Local(k) => behind(call, machine, mem, op, machine.locals[*k as usize], right),
+        _ => far(call, machine, mem, op, left, right),
+    }
+}
+
+// The left side is a number already, and the right one is deep.
+#[cycle(value)]
+#[inline(never)]
+fn behind<M: Mem>(
+    call: &Call<'_>,
+    machine: &mut Machine,
+    mem: &mut M,
+    op: Operator,
+    m: i64,
+    right: &Expr,
+) -> i64
+    requires right { Fits call.now right.now }
+    requires call { MayRun call.now (M.readable mem.old) (M.writable mem.old) }
+    ensures value { Told machine.old.trap result machine.new.trap
+        (then_value (value_at call.now right.now machine.old.locals (M.cells mem.old)) (λ n. operate op m n)) }
+    ensures kept { Keeps machine.old machine.new }
+    ensures cells { M.cells mem.new ≡ M.cells mem.old }
+    ensures readable { M.readable mem.new ≡ M.readable mem.old }
+    ensures writable { M.writable mem.new ≡ M.writable mem.old }
+{
+    let n = eval(call, machine, mem, right);
+    apply(op, m, n, machine)
+}
+
+// The right side is a number already, and the left one is deep.
 #[cycle(value)]
 #[inline(never)]
 fn near<M: Mem>(
@@ -100,7 +225,7 @@ fn near<M: Mem>(
     apply(op, m, n, machine)
 }
 
-// The right side is deep.
+// Both sides are deep.
 #[cycle(value)]
 #[inline(never)]
 fn far<M: Mem>(
