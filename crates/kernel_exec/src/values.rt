@@ -43,7 +43,8 @@ pub fn eval<M: Mem>(call: &Call<'_>, machine: &mut Machine, mem: &mut M, e: &Exp
     }
 }
 
-// Sides that are numbers or locals are read where they stand.
+// Sides that are numbers or locals are read where they stand. The rest is written out for either kind of right side: a
+// number that both brought would be loaded behind them, from a place that they would have to hand on.
 #[cycle(value)]
 #[inline(always)]
 fn eval_binary<M: Mem>(
@@ -65,15 +66,14 @@ fn eval_binary<M: Mem>(
     ensures readable { M.readable mem.new ≡ M.readable mem.old }
     ensures writable { M.writable mem.new ≡ M.writable mem.old }
 {
-    let n = match right {
-        Expr::Number(n) => *n,
-        Expr::Local(k) => machine.locals[*k as usize],
-        _ => return deep_right(call, machine, mem, op, left, right),
-    };
-    with_right(call, machine, mem, op, left, n)
+    match right {
+        Expr::Number(n) => with_right(call, machine, mem, op, left, *n),
+        Expr::Local(k) => with_right(call, machine, mem, op, left, machine.locals[*k as usize]),
+        _ => deep_right(call, machine, mem, op, left, right),
+    }
 }
 
-// The value of a form of which no part is evaluated, where nothing but one comparison has to be made.
+// The value of `x[index]`, where one comparison finds it.
 #[inline(always)]
 fn in_place<M: Mem>(call: &Call<'_>, mem: &mut M, e: &Expr) -> Option<i64>
     requires e { Fits call.now e.now }
@@ -84,7 +84,6 @@ fn in_place<M: Mem>(call: &Call<'_>, mem: &mut M, e: &Expr) -> Option<i64>
     ensures writable { M.writable mem.new ≡ M.writable mem.old }
 {
     match e {
-        Expr::Index => Some(i64::from(call.index)),
         Expr::Element(x, place) => match &**place {
             Expr::Index => reads::own_element(*x, call, mem),
             _ => None,
