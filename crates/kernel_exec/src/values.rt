@@ -1,13 +1,14 @@
 // The values of expressions.
 //
-// This walk is most of what a kernel costs, so its code has the shape that was measured to be the fastest (docs/SPEED.md):
+// This walk is most of what a kernel costs, so its code has the shape that was measured to be the fastest
+// (docs/SPEED.md):
 //
-// - A value is a plain number in a register, and a trap is put aside in the machine. So nothing is tested after the value
-//   of a part, and nothing is handed over in memory. (With a `Result` or an `Option` for each value an index took 1.4
-//   times as long.)
-// - `eval` makes no frame. Operators come first; their sides are tried as numbers, locals and own elements, and then no
-//   call is made. Where one side alone is deep, the other is handed over as a number (`near`, `behind`); only two deep
-//   sides need a frame with all that a walk stands on (`far`).
+// - A value is a plain number in a register, and a trap is put aside in the machine. So nothing is tested after the
+//   value of a part, and nothing is handed over in memory. (With a `Result` or an `Option` for each value an index took
+//   1.4 times as long.)
+// - `eval` makes no frame. Operators come first; their sides are tried as numbers and locals, then as own elements, and
+//   then no call is made. Where one side alone is deep, the other is handed over as a number (`near`, `behind`); only
+//   two deep sides need a frame with all that a walk stands on (`far`).
 // - Every other form is behind a second jump (`eval_other`), and each form with parts has a function of its own.
 ghost use Rattle.std.specs.Prelude.{◌≡◌, ℤ, Ok, IfSome, List, pos, neg_ℤ, not};
 ghost use Rattle.frame_ast.specs.Contents.{then_value};
