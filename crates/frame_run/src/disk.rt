@@ -15,7 +15,11 @@ pub struct DiskFiles<'a, R: rt::Files> {
 }
 
 impl<'a, R: rt::Files> DiskFiles<'a, R> {
-    pub fn new(system: &'a R) -> DiskFiles<'a, R> {
+    /// No read has failed yet.
+    pub fn new(system: &'a R) -> DiskFiles<'a, R>
+        ensures faults { result.faults ≡ 0 }
+        ensures last_failed { result.last_failed ≡ None }
+    {
         DiskFiles {
             system,
             faults: 0,

@@ -1,7 +1,13 @@
 // Executions over flat memory.
 ghost use Rattle.std.specs.Prelude.{◌≡◌, ◌<◌, ◌+◌, ◌^◌, length, is_some};
+ghost use Rattle.job_base.specs.Cells.{cells_of};
 ghost use Rattle.frame_ast.specs.Checked.{IsChecked};
+ghost use Rattle.frame_ast.specs.JobRuns.{full_steps};
+ghost use Rattle.frame_ast.specs.Kernels.{store_after, trap_after};
 ghost use Rattle.kernel_exec.specs.Conditions.{BindsFit};
+ghost use Rattle.kernel_exec.specs.Laws.{at_index, at_indexes};
+ghost use Rattle.kernel_exec.specs.Notes.{IsNoteOf};
+ghost use Rattle.kernel_exec.specs.Runs.{index_of, trap_of};
 ghost use Rattle.kernel_rows.specs.Standing.{AreBelow};
 
 use frame_ast::kernel::Kernel;
@@ -20,7 +26,12 @@ pub fn run(
     requires fit { BindsFit kernel.now binds.now }
     requires index { is_some index ≡ kernel.now.parallel }
     requires below { AreBelow binds.now (length mem.old) }
-    ensures { length mem.new ≡ length mem.old }
+
+    ensures trap { trap_of result
+        ≡ trap_after (at_index kernel.now binds.now full_steps (index_of index) (cells_of mem.old)) }
+    ensures cells { cells_of mem.new
+        ≡ store_after (at_index kernel.now binds.now full_steps (index_of index) (cells_of mem.old)) }
+    ensures length { length mem.new ≡ length mem.old }
 {
     execute(kernel, binds, index, scratch, mem)
 }
@@ -37,7 +48,12 @@ pub fn run_indexes(
     requires fit { BindsFit kernel.now binds.now }
     requires few { span.now.start + span.now.len < 2 ^ 32 }
     requires below { AreBelow binds.now (length mem.old) }
-    ensures { length mem.new ≡ length mem.old }
+
+    ensures cells { cells_of mem.new
+        ≡ (at_indexes kernel.now binds.now full_steps span.now.len span.now.start (cells_of mem.old)).store }
+    ensures note { IsNoteOf
+        (at_indexes kernel.now binds.now full_steps span.now.len span.now.start (cells_of mem.old)).traps result }
+    ensures length { length mem.new ≡ length mem.old }
 {
     execute_indexes(kernel, binds, span, scratch, mem)
 }

@@ -22,7 +22,8 @@ pub fn kernel_at(
     requires within { at < length tokens.now }
     ensures checked { IfOk result (λ found. IsChecked found.0) }
     ensures kernel { IfOk result (λ found. IsKernelAt source.now tokens.now at found.1 found.0) }
-    ensures refused { (line : ℕ) (kind : FaultKind) → result ≡ Err (KernelFault.Refused line kind) → IsRefusedAt source.now tokens.now at line kind }
+    ensures refused { (line : ℕ) (kind : FaultKind) → result ≡ Err (KernelFault.Refused line kind)
+        → IsRefusedAt source.now tokens.now at line kind }
 {
     let (raw, next) = parse_kernel(alloc, source, tokens, at)?;
     let kernel = check_kernel(alloc, &raw, &[])?;

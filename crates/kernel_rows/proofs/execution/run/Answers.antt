@@ -7,5 +7,5 @@ execute-requires-clause-readable c = may_read c.args.kernel.now c.args.binds.now
 pub execute-requires-clause-writable : goal.execute-requires-clause-writable
 execute-requires-clause-writable c = may_write_all c.args.kernel.now c.args.binds.now _ _ c.requires.below
 
-pub returns : goal.returns
-returns c = same_number _ _ c.execute.ensures.readable
+pub returns-clause-length : goal.returns-clause-length
+returns-clause-length c = same_number _ _ c.execute.ensures.readable

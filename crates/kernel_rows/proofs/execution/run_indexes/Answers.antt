@@ -7,5 +7,5 @@ execute_indexes-requires-clause-readable c = may_read_span c.args.kernel.now c.a
 pub execute_indexes-requires-clause-writable : goal.execute_indexes-requires-clause-writable
 execute_indexes-requires-clause-writable c = may_write_span c.args.kernel.now c.args.binds.now _ _ _ c.requires.below
 
-pub returns : goal.returns
-returns c = same_number _ _ c.execute_indexes.ensures.readable
+pub returns-clause-length : goal.returns-clause-length
+returns-clause-length c = same_number _ _ c.execute_indexes.ensures.readable
