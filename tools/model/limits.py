@@ -1,0 +1,33 @@
+"""The numbers past which a script, a table or a run is refused."""
+
+SCRIPT_BYTES = 16_777_216
+TABLE_BYTES = 67_108_864
+STATEMENTS = 65_536
+WHENS = 1_024
+REPEATS = 65_536
+OPEN_BLOCKS = 8
+JOBS = 4_096
+PIECES = 64
+KERNELS = 256
+PARAMS = 16
+LOCALS = 64
+NODES = 4_096
+DEPTH = 64
+NAME_BYTES = 64
+COLUMN_BYTES = 256
+PLACES = 1_048_576
+BATCH = 1_048_576
+MAP_CAPACITY = 4_096
+STREAM_INDEXES = 65_536
+STREAM_ROOM = 1_024
+WIDTH = 1_024
+LIVE_WORDS = 1_048_576
+CREATED_WORDS = 8_388_608
+STEPS = 1_000_000
+WORKERS = 64
+GEN_NUMBER = 2_147_483_647
+GEN_JOBS = 4_000
+LEAST, MOST = -(2**63), 2**63 - 1
+
+# A deferred job's kernel stands inside `if index < length[0] { }`: a parameter, five nodes, a level and a step.
+GUARD_PARAMS, GUARD_NODES, GUARD_DEPTH, GUARD_STEPS = 1, 5, 1, 1
