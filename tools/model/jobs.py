@@ -63,9 +63,10 @@ class Jobs:
         return conflicting & ~self.completed & ~self.closure(dependencies)
 
     def automatic(self, conflicting, dependencies):
-        """The blockers that aren't ancestors of another blocker."""
-        blockers = self.blockers(conflicting, dependencies)
-        needless = NONE
-        for job in jobs_in(blockers):
-            needless |= self.ancestors[job] & ~(1 << job)
-        return blockers & ~needless
+        """The blockers that aren't ancestors of another blocker. Ancestors are earlier, so the greatest one is none."""
+        waiting, kept = self.blockers(conflicting, dependencies), NONE
+        while waiting:
+            job = greatest(waiting)
+            kept |= 1 << job
+            waiting &= ~self.ancestors[job]
+        return kept

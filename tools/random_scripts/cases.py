@@ -1,0 +1,59 @@
+"""What each seed tests: a script with its table, or words of the command."""
+import random as chances
+
+from limit_scripts import limit_script
+from mutations import change_bytes, change_meaning, change_tokens
+from random_frames import RandomFrame
+from random_tables import NAMES, random_table
+
+# Of a thousand cases.
+SHARES = {
+    "frame": 600, "meaning": 110, "tokens": 90, "bytes": 50, "table": 80, "limit": 40, "words": 28, "generated": 2,
+}
+WORDS = (
+    b"--workers", b"--depth", b"--gen", b"--jobs", b"1", b"2", b"64", b"65", b"0", b"", b"-", b"--", b"-1", b"+1",
+    b"1 ", b"x", b"007", b"4000", b"4001", b"2147483647", b"2147483648", b"1" * 20, b"0" * 20 + b"1", b"0" * 19 + b"1",
+    b"\xff", b"--help", b"--workers=4", b"--workers=", b"--workers=65", b"--workers=0x1", b"--depth=", b"--gen=1",
+    b"--gen=", b"--jobs=1", b"--jobs=", b"--gen=2147483648", b"--jobs=0", b"--jobs=4001", b"--workers==1",
+    b"-workers", b"--worker", b"missing", b".",
+)
+
+
+class Case:
+    """Where `words` is None the script is run at several numbers of workers, also with its depth report."""
+
+    def __init__(self, kind, script=b"", table=None, words=None):
+        self.kind = kind
+        self.script = script
+        self.table = table
+        self.words = words
+
+
+def case_of(seed):
+    random = chances.Random(seed)
+    kind = random.choices(list(SHARES), list(SHARES.values()))[0]
+    if kind == "words":
+        return Case(kind, words=random_words(random))
+    if kind == "generated":
+        return Case(kind, words=[b"--gen", b"%d" % random.randrange(2**31), b"--jobs", b"%d" % random.randrange(1, 20)])
+    if kind == "limit":
+        return Case(kind, limit_script(random).encode())
+    if kind == "table" or random.random() < 0.1:
+        columns = [name.decode() for name in NAMES[: random.randrange(1, 1 + len(NAMES))]]
+        script, table = RandomFrame(random, columns).script().encode(), random_table(random)
+        table = table if random.random() < 0.95 else None
+    else:
+        script, table = RandomFrame(random).script().encode(), None
+    change = {"meaning": change_meaning, "tokens": change_tokens, "bytes": change_bytes}.get(kind)
+    return Case(kind, change(random, script) if change else script, table)
+
+
+def random_words(random):
+    """Mostly a few words, among them `SCRIPT` and `TABLE`, for which files are put."""
+    words = [random.choice(WORDS) for _ in range(random.choice((0, 0, 1, 1, 2, 3)))]
+    for name in (b"SCRIPT", b"TABLE"):
+        if random.random() < 0.6:
+            words.insert(random.randrange(len(words) + 1), name)
+    if random.random() < 0.2:
+        words = [b"--gen", b"1", b"--jobs", b"1", *words]
+    return words
