@@ -8,7 +8,8 @@ from random_tables import NAMES, random_table
 
 # Of a thousand cases.
 SHARES = {
-    "frame": 600, "meaning": 110, "tokens": 90, "bytes": 50, "table": 80, "limit": 40, "words": 28, "generated": 2,
+    "frame": 560, "bold": 100, "meaning": 80, "tokens": 80, "bytes": 40, "table": 80, "limit": 30, "words": 28,
+    "generated": 2,
 }
 WORDS = (
     b"--workers", b"--depth", b"--gen", b"--jobs", b"1", b"2", b"64", b"65", b"0", b"", b"-", b"--", b"-1", b"+1",
@@ -38,12 +39,12 @@ def case_of(seed):
         return Case(kind, words=[b"--gen", b"%d" % random.randrange(2**31), b"--jobs", b"%d" % random.randrange(1, 20)])
     if kind == "limit":
         return Case(kind, limit_script(random).encode())
+    columns, table = (), None
     if kind == "table" or random.random() < 0.1:
-        columns = [name.decode() for name in NAMES[: random.randrange(1, 1 + len(NAMES))]]
-        script, table = RandomFrame(random, columns).script().encode(), random_table(random)
+        names, table = random_table(random)
+        columns = [name.decode() for name in (names if random.random() < 0.9 else NAMES)]
         table = table if random.random() < 0.95 else None
-    else:
-        script, table = RandomFrame(random).script().encode(), None
+    script = RandomFrame(random, columns, kind == "bold").script().encode()
     change = {"meaning": change_meaning, "tokens": change_tokens, "bytes": change_bytes}.get(kind)
     return Case(kind, change(random, script) if change else script, table)
 

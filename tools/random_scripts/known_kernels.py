@@ -11,6 +11,7 @@ TEXTS = (
     "parallel {}(y: wo array, l: ro list, r: ro ref) { if index < len(l) { y[index] = l[index] + r; } }",
     "parallel {}(y: wo array, m: ro map) { if has(m, index) { y[index] = m[index]; } else { y[index] = -1; } }",
     "parallel {}(s: wo stream, x: ro array) { begin s[index] { for k in 0..x[index] % 4 { write(s, k + index); } } }",
+    "parallel {}(s: wo stream, c: int) { begin s[index * c % 4] { write(s, index); } }",
     "parallel {}(s: wo stream) { begin s[index] { for k in 0..index % 4 { write(s, index * 10 + k); } } }",
     "parallel {}(s: ro stream, y: wo array) { for k in 0..count(s, index) { y[index] = at(s, index, k); } }",
     "job {}(y: ro array, t: wo ref) { var s = 0; for k in 0..len(y) { s = s + y[k]; } t = s; }",

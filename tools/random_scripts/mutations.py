@@ -14,6 +14,7 @@ EXCHANGED = (
     (b"slice", b"view", b"copy"), (b"array", b"list", b"map", b"stream", b"reference"), (b"repeat", b"when"),
     (b"complete", b"dispose", b"print"), (b"after", b"waive"), (b"temp", b"tempjob", b"persistent"), (b"if", b"while"),
 )
+EXCHANGEABLE = frozenset(word for words in EXCHANGED for word in words)
 
 
 def change_bytes(random, source):
@@ -60,7 +61,8 @@ def change_meaning(random, source):
         if random.random() < 0.15:
             texts = texts_of(move_line(random, joined(texts)))
         else:
-            at = random.randrange(len(texts))
+            places = [at for at, text in enumerate(texts) if text in EXCHANGEABLE]
+            at = random.choice(places if places and random.random() < 0.4 else range(len(texts)))
             texts[at] = exchanged(random, texts[at], texts)
     return joined(texts)
 

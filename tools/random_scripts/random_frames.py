@@ -14,10 +14,14 @@ MOST_PRINTED = 2000
 
 
 class RandomFrame:
-    """A script in the making. The more care it takes, the fewer of its statements are refused."""
+    """A script in the making. The more care it takes, the fewer of its statements are refused.
 
-    def __init__(self, random, columns=()):
+    A bold one has names, numbers and clauses where they mostly don't fit, and so mostly a static fault.
+    """
+
+    def __init__(self, random, columns=(), bold=False):
         self.random = random
+        self.bold = bold
         self.columns = columns
         self.care = random.random()
         self.kinds = {}
@@ -27,6 +31,8 @@ class RandomFrame:
         self.lines = []
 
     def script(self):
+        if self.chance(0.12):
+            self.lines.append(f"array filler {1_048_576 - self.random.randrange(300)}")
         for _ in range(self.random.randrange(1, 5)):
             self.add_kernel()
         for _ in range(self.random.choice((5, 10, 20, 40))):
@@ -41,7 +47,7 @@ class RandomFrame:
         if self.chance(0.4):
             kernel = KnownKernel(self.random, name)
         else:
-            kernel = RandomKernel(self.random, name, self.chance(0.6))
+            kernel = RandomKernel(self.random, name, self.chance(0.6), self.bold)
         self.kernels.append(kernel)
         self.lines.append(kernel.text())
 
@@ -63,7 +69,7 @@ class RandomFrame:
         ]
         if depth < 3:
             forms.append((self.repeating, 1))
-            if not in_when:
+            if not in_when or self.is_bold():
                 forms.append((self.testing, 1))
         form = self.random.choices([form for form, _ in forms], [weight for _, weight in forms])[0]
         if form in (self.repeating, self.testing):
@@ -74,6 +80,9 @@ class RandomFrame:
 
     def chance(self, share):
         return self.random.random() < share
+
+    def is_bold(self):
+        return self.bold and self.chance(0.03)
 
     def number(self):
         if self.chance(0.03):
@@ -99,9 +108,11 @@ class RandomFrame:
     def used(self, kinds, lines):
         """A name of one of these kinds; where there is none, one is made first."""
         names = self.of_kinds(kinds)
+        if self.is_bold():
+            return self.random.choice([*self.kinds, "unknown"])
         if not names or self.chance(0.05):
             lines += self.make(kinds[0])
-            names = self.of_kinds(kinds)
+            names = self.of_kinds(kinds) or ["unknown"]
         return self.random.choice(names)
 
     def accessed(self, kinds, lines):
@@ -171,41 +182,42 @@ class RandomFrame:
     def slicing(self):
         lines = []
         of = self.used(("array", "slice"), lines)
-        length = self.sizes[of]
-        start = self.random.randrange(length + 1)
-        size = self.random.randrange(length - start + (2 if self.chance(0.1) else 1))
+        length = self.sizes.get(of, 0)
+        start = self.random.randrange(min(3, length + 1))
+        size = max(0, length - start + self.random.choice((0, 0, 0, -1, -2)) + self.chance(0.05))
         return self.line(lines, f"slice {self.name_for('slice', size)} {of} {start} {size}")
 
     def viewing(self):
         lines = []
         of = self.used(("list",), lines)
-        return self.line(lines, f"view {self.name_for('view', self.sizes[of])} {of}")
+        return self.line(lines, f"view {self.name_for('view', self.sizes.get(of, 0))} {of}")
 
     def copying(self):
         lines = []
         of = self.used(NAMED, lines)
-        return self.line(lines, f"copy {self.name_for(self.kinds[of], self.sizes[of])} {of}")
+        return self.line(lines, f"copy {self.name_for(self.kinds.get(of, 'array'), self.sizes.get(of, 0))} {of}")
 
     # CHANGES
 
     def place(self, name):
         if self.chance(0.1):
-            return self.random.choice((-1, self.sizes[name], 10**9, 2**63 - 1))
-        return self.random.randrange(max(1, min(self.sizes[name], 4)))
+            return self.random.choice((-1, self.sizes.get(name, 0), 10**9, 2**63 - 1))
+        return self.random.randrange(max(1, min(self.sizes.get(name, 0), 4)))
 
     def setting(self):
         lines = []
         name = self.accessed(self.random.choice((("array", "slice", "view", "list"), ("reference",))), lines)
-        if self.kinds[name] == "reference":
+        if self.kinds.get(name) == "reference":
             return self.line(lines, f"set {name} = {self.number()}")
         return self.line(lines, f"set {name} {self.place(name)} = {self.number()}")
 
     def adding(self):
         lines = []
         name = self.accessed(self.random.choice((("list",), ("list",), ("map",))), lines)
-        if self.kinds[name] == "map":
-            return self.line(lines, f"add {name} {self.number()} {self.number()}")
-        return self.line(lines, f"add {name} {self.number()}")
+        for _ in range(self.random.choice((1, 1, 2, 3, 4))):
+            number = f" {self.number()}" if self.kinds.get(name) == "map" else ""
+            lines = self.line(lines, f"add {name} {self.number()}{number}")
+        return lines
 
     def putting(self):
         lines = []
@@ -214,7 +226,7 @@ class RandomFrame:
     def removing(self):
         lines = []
         name = self.accessed(("list", "map"), lines)
-        return self.line(lines, f"remove {name} {self.number() if self.kinds[name] == 'map' else self.place(name)}")
+        return self.line(lines, f"remove {name} {self.number() if self.kinds.get(name) == 'map' else self.place(name)}")
 
     def clearing(self):
         lines = []
@@ -223,7 +235,7 @@ class RandomFrame:
     def resizing(self):
         lines = []
         name = self.accessed(("list",), lines)
-        self.sizes[name] = max(0, self.sizes[name] + self.random.choice((-1, 0, 1, 3, 10)))
+        self.sizes[name] = max(0, self.sizes.get(name, 0) + self.random.choice((-1, 0, 1, 3, 10)))
         return self.line(lines, f"setcapacity {name} {self.sizes[name]}")
 
     # JOBS
@@ -231,7 +243,7 @@ class RandomFrame:
     def scheduling(self):
         lines = []
         kernel = self.random.choice(self.kernels)
-        defer = self.used(("list",), lines) if kernel.parallel and self.chance(0.2) else None
+        defer = self.used(("list",), lines) if kernel.parallel and self.chance(0.3) else None
         args = self.arguments(kernel, defer, lines)
         auto = " auto" if self.chance(0.2 + 0.5 * self.care) else ""
         tail = self.length(kernel, args, defer) + self.waived(kernel)
@@ -241,8 +253,8 @@ class RandomFrame:
 
     def arguments(self, kernel, defer, lines):
         args = []
-        for param in kernel.params:
-            if param.kind == "int":
+        for param in kernel.params[self.is_bold() :]:
+            if param.kind == "int" or self.is_bold():
                 args.append(str(self.number()))
             elif param.kind == "array" and defer and self.chance(0.4):
                 args.append(defer)
@@ -262,21 +274,26 @@ class RandomFrame:
 
     def is_quick(self, kernel, name):
         """A loop over a large container would take the model long."""
-        return self.sizes[name] <= 100 or "for" not in kernel.body
+        return self.sizes.get(name, 0) <= 100 or "for" not in kernel.body
 
     def length(self, kernel, args, defer):
         batch = self.random.choice((1, 1, 2, 3, 16, 64, 1_048_576))
         if defer:
             return f" defer {defer} {batch}"
-        if not kernel.parallel:
+        if kernel.parallel == self.is_bold():
             return ""
-        sizes = [self.sizes[arg] for param, arg in zip(kernel.params, args) if param.kind in ("array", "stream")]
+        fitted = [arg for param, arg in zip(kernel.params, args) if param.kind in ("array", "stream")]
+        sizes = [self.sizes.get(name, 0) for name in fitted]
         length = min([100] + sizes) if self.chance(0.8) else self.random.choice((0, 1, 2, 5, 9))
         return f" {length + self.chance(0.1)} {batch}"
 
     def waived(self, kernel):
         names = [param.name for param in kernel.params if param.kind == "array" and param.writes()]
-        if not kernel.parallel or not names or not self.chance(0.25):
+        if self.is_bold():
+            names = [param.name for param in kernel.params]
+        elif not kernel.parallel or not self.chance(0.25):
+            names = []
+        if not names:
             return ""
         return " waive " + " ".join(self.random.choice(names) for _ in range(self.random.choice((1, 1, 2))))
 

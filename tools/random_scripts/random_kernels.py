@@ -26,10 +26,11 @@ class RandomParam:
 
 
 class RandomKernel:
-    """A kernel in the making. A calm one rarely traps."""
+    """A kernel in the making. A calm one rarely traps. A bold one has names where they mostly don't fit."""
 
-    def __init__(self, random, name, parallel):
+    def __init__(self, random, name, parallel, bold=False):
         self.random = random
+        self.bold = bold
         self.name = name
         self.parallel = parallel
         self.calm = random.random() < 0.6
@@ -56,7 +57,12 @@ class RandomKernel:
             width = self.random.choice(WIDTHS)
         return RandomParam(name, kind, access, width)
 
+    def is_bold(self):
+        return self.bold and self.random.random() < 0.03
+
     def of_kind(self, kinds, reads=False, writes=False):
+        if self.is_bold():
+            return self.params
         return [
             param for param in self.params
             if param.kind in kinds and (not reads or param.reads()) and (not writes or param.writes())
@@ -86,6 +92,8 @@ class RandomKernel:
         if self.declared >= 60:
             return self.assignment(0)
         value, name = self.expression(), self.fresh_name("v")
+        if self.is_bold():
+            name = self.random.choice(self.locals + self.loops + [name])
         self.locals.append(name)
         return f"var {name} = {value};"
 
@@ -119,6 +127,8 @@ class RandomKernel:
                 texts += self.effects(param)
         for name in self.begun:
             texts += [f"write({name}, {self.expression()});"] * 4
+        if self.is_bold():
+            texts.append(f"write({self.random.choice(self.params).name}, 1);" if self.params else "")
         return self.random.choice(texts) if texts else self.storing(depth)
 
     def effects(self, param):
@@ -129,7 +139,8 @@ class RandomKernel:
                 f"{name} = remove({param.name}, {self.key()});"]
 
     def beginning(self, depth):
-        params = [param for param in self.of_kind(("stream",), writes=True) if param.name not in self.begun]
+        params = self.of_kind(("stream",), writes=True)
+        params = [param for param in params if param.name not in self.begun or self.is_bold()]
         if not params:
             return self.changing(depth)
         param = self.random.choice(params)
@@ -221,7 +232,8 @@ class RandomKernel:
     def named(self, depth):
         names = self.locals + self.loops * 2 + [param.name for param in self.of_kind(("int",))]
         names += [param.name for param in self.of_kind(("ref",), reads=True)]
-        names += ["index"] * 2 if self.parallel else []
+        names += ["index"] * 2 if self.parallel or self.is_bold() else []
+        names += [f"{letter}{self.declared}" for letter in "vk"] if self.is_bold() else []
         return self.random.choice(names) if names else self.number(depth)
 
     def got(self, depth):

@@ -7,11 +7,12 @@ NO_NUMBERS = (b"", b"x", b"+1", b"1.5", b"- 1", b"--1", b"1 2", b"\t1", b"922337
 
 
 def random_table(random):
-    """A table's bytes. Its names are among `NAMES`."""
+    """The names of a table's columns, which are among `NAMES`, and its bytes."""
     width = random.choice((1, 1, 2, 2, 3, 4))
     faulty = random.random() < 0.3
     end = random.choice((b"\n", b"\n", b"\r\n", b"\r"))
-    records = [[quoted(random, random.choice(NAMES)) for _ in range(width)]]
+    names = [random.choice(NAMES) for _ in range(width)]
+    records = [[quoted(random, name) for name in names]]
     for _ in range(random.choice((0, 1, 2, 3, 5, 9))):
         count = width + (random.choice((-1, 1)) if faulty and random.random() < 0.1 else 0)
         records.append([entry(random, faulty) for _ in range(count)])
@@ -21,7 +22,7 @@ def random_table(random):
     table = end.join(lines) + random.choice((end, end, b""))
     if random.random() < 0.05:
         table = b""
-    return (b"\xef\xbb\xbf" if random.random() < 0.1 else b"") + table
+    return names, (b"\xef\xbb\xbf" if random.random() < 0.1 else b"") + table
 
 
 def entry(random, faulty):
