@@ -15,8 +15,9 @@ use Rattle.frame_grammar.specs.declared.symbols.Nonterminal.TheVariants.{File}
 use Rattle.frame_grammar.specs.declared.symbols.Event.{Event}
 use Rattle.frame_grammar.specs.Sentences.{IsOnlySentence, IsFault}
 use Rattle.kernel_code.specs.declared.token.Token.{Token}
-use Rattle.kernel_code.specs.Tokens.{tokens_of}
+use Rattle.kernel_code.specs.Tokens.{tokens_of, up_to_bad}
 use Rattle.kernel_code.specs.Parsing.{kinds}
+use Rattle.kernel_code.proofs.Lexed.{lexed_file_is_whole, lexed_fault_stands, lexed_fault_token}
 use Rattle.frame_script.specs.declared.source.Source.{Source}
 use Rattle.frame_script.specs.declared.walk.Walk.{Walk}
 use Rattle.frame_script.specs.Raw.{RawItems, Nothing, SpellsItems}
@@ -73,15 +74,19 @@ pub record IsRead (bytes : List ℕ) (s : Source) (events : List Event) : Type 0
   pub read : ℕ
   pub sentence : IsOnlySentence File (kinds (tokens_of bytes)) read events
 
--- what the parser answers of the tokens
-pub read_of : (bytes : List ℕ) (s : Source) (tokens : List Token) (read : ℕ) (events found : List Event) → s.bytes.now ≡ bytes → s.tokens.now ≡ tokens_of bytes → tokens ≡ tokens_of bytes → events ≡ found →
-    IsOnlySentence File (kinds tokens) read found → IsRead bytes s events
-read_of bytes s tokens read events found bytes_are tokens_are lexed derived sentence = record {
-  bytes_are = bytes_are;
-  tokens_are = tokens_are;
-  read = read;
-  sentence = subst (λ ts. IsOnlySentence File (kinds ts) read events) lexed (subst (IsOnlySentence File (kinds tokens) read) (sym derived) sentence);
-}
+-- what the parser answers of the tokens that the lexer answers: they are all, since they are a file
+pub read_of : (bytes : List ℕ) (s : Source) (lexed tokens : List Token) (read : ℕ) (events found : List Event) → s.bytes.now ≡ bytes → s.tokens.now ≡ lexed → tokens ≡ lexed → lexed ≡ up_to_bad (tokens_of bytes) →
+    events ≡ found → IsOnlySentence File (kinds tokens) read found → IsRead bytes s events
+read_of bytes s lexed tokens read events found bytes_are tokens_are same lexed_is derived sentence =
+    let there : IsOnlySentence File (kinds lexed) read events =
+    subst (λ ts. IsOnlySentence File (kinds ts) read events) same (subst (IsOnlySentence File (kinds tokens) read) (sym derived) sentence) in
+    let all : lexed ≡ tokens_of bytes = lexed_is ∙ lexed_file_is_whole bytes read events (subst (λ ts. IsOnlySentence File (kinds ts) read events) lexed_is there) in
+    record {
+      bytes_are = bytes_are;
+      tokens_are = tokens_are ∙ all;
+      read = read;
+      sentence = subst (λ ts. IsOnlySentence File (kinds ts) read events) all there;
+    }
 
 has_items : (bytes : List ℕ) (s : Source) (events : List Event) (items : RawItems) → IsRead bytes s events → SpellsItems true events items → HasItems bytes s items
 has_items bytes s events items r spells = record { bytes_are = r.bytes_are; tokens_are = r.tokens_are; read = r.read; events = events; sentence = r.sentence; spells = spells }
@@ -95,15 +100,19 @@ spelled bytes s events w script r t g = record {
   script_is = script_read s events w script t g;
 }
 
-pub no_syntax : (bytes : List ℕ) (tokens : List Token) (place : ℕ) (token : Token) → tokens ≡ tokens_of bytes → IsFault File (kinds tokens) place → token ≡ get_or tokens place token →
+pub no_syntax : (bytes : List ℕ) (tokens : List Token) (place : ℕ) (token : Token) → tokens ≡ up_to_bad (tokens_of bytes) → IsFault File (kinds tokens) place → token ≡ get_or tokens place token →
     IsRefused bytes token.line Syntax
-no_syntax bytes tokens place token lexed fault is = syntax refl (record {
-  place = place;
-  token = token;
-  fault = subst (λ ts. IsFault File (kinds ts) place) lexed fault;
-  stands = subst (λ ts. slice_get ts place ≡ Some token) lexed (slice_get-get_or tokens place token (subst (λ n. place < n) (length-map tokens (λ t. t.kind)) fault.within) ∙ ap (λ t. Some t) (sym is));
-  on_line = refl;
-})
+no_syntax bytes tokens place token lexed fault is =
+    let there = subst (λ ts. IsFault File (kinds ts) place) lexed fault in
+    let stands = lexed_fault_stands bytes File place there in
+    let here : token ≡ get_or (tokens_of bytes) place token = is ∙ ap (λ ts. get_or ts place token) lexed ∙ lexed_fault_token bytes File place token there in
+    syntax refl (record {
+      place = place;
+      token = token;
+      fault = stands;
+      stands = slice_get-get_or (tokens_of bytes) place token (subst (λ n. place < n) (length-map (tokens_of bytes) (λ t. t.kind)) stands.within) ∙ ap (λ t. Some t) (sym here);
+      on_line = refl;
+    })
 
 pub refused_statically : (bytes : List ℕ) (s : Source) (events : List Event) (line : ℕ) (kind : FaultKind) → IsRead bytes s events → RefusesItems s events line kind → IsRefused bytes line kind
 refused_statically bytes s events line kind r f = static (record {

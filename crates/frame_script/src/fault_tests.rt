@@ -127,7 +127,7 @@ fn limits_are_refused(rt: HostRuntime) -> Result<(), Fail> {
 #[test]
 fn syntax_comes_before_every_other_fault(rt: HostRuntime) -> Result<(), Fail> {
     let alloc = rt.alloc();
-    let rows: [(&str, &str); 23] = [
+    let rows: [(&str, &str); 26] = [
         ("array a", "4: Syntax"),
         ("print x\narray", "5: Syntax"),
         ("print x\narray\n", "5: Syntax"),
@@ -149,6 +149,9 @@ fn syntax_comes_before_every_other_fault(rt: HostRuntime) -> Result<(), Fail> {
         ("reference r\nwhen r = 1 {\n}", "5: Syntax"),
         ("print if", "4: Syntax"),
         ("print x $", "4: Syntax"),
+        ("flush\n$", "5: Syntax"),
+        ("print x\n\n$ }\n$", "6: Syntax"),
+        ("array\nflush $", "4: Syntax"),
         ("job bad() {", "4: Syntax"),
         ("job bad() { } flush", "4: Syntax"),
     ];

@@ -3,7 +3,7 @@ use Rattle.std.proofs.Common.{◌≡◌, ◌⊎◌, inl, inr, ℕ, ◌+◌, ◌<
 use Rattle.std.proofs.lemmas.Bool.{or_cases, eqb-true}
 use Rattle.kernel_code.specs.declared.token.Token.{Token}
 use Rattle.kernel_code.specs.Words.{is_blank}
-use Rattle.kernel_code.specs.Tokens.{tokens_from, line_after}
+use Rattle.kernel_code.specs.Tokens.{tokens_from, line_after, up_to_bad}
 use Rattle.kernel_code.proofs.Fronts.{front_blank}
 use Rattle.kernel_code.proofs.Steps.{one_word}
 
@@ -26,12 +26,12 @@ same_line byte line (inr (inr is)) = ap (λ b. line_after b line) is
 
 -- it adds no token, and the tokens behind it are those of the file
 pub blank_passed : (source : List ℕ) (place line : ℕ) (before all : List Token) → place < length source → is_blank (get_or source place 0 ∷ []) ≡ true →
-    before ++ tokens_from 0 place line (drop place source) ≡ all → before ++ tokens_from 0 (place + 1) line (drop (place + 1) source) ≡ all
+    before ++ up_to_bad (tokens_from 0 place line (drop place source)) ≡ all → before ++ up_to_bad (tokens_from 0 (place + 1) line (drop (place + 1) source)) ≡ all
 blank_passed source place line before all within blank so_far =
     let byte_is : get_or (drop place source) 0 0 ≡ get_or source place 0 = get_or-drop place source 0 0 ∙ ap (λ n. get_or source n 0) (add-zero place) in
     let byte = blank_byte (get_or source place 0) blank in
     let front = front_blank (drop place source) (omega (arith, length-drop place source)) (subst IsBlankByte (sym byte_is) byte) in
-    let word = one_word source place line 1 None before all within front.kind_is front.len_is (omega arith) (omega arith) so_far in
-    ap (λ ts. ts ++ tokens_from 0 (place + 1) line (drop (place + 1) source)) (sym (append-nil before))
-    ∙ ap (λ l. (before ++ []) ++ tokens_from 0 (place + 1) l (drop (place + 1) source)) (sym (same_line (get_or source place 0) line byte))
+    let word = one_word source place line 1 None before all within front.kind_is front.len_is (omega arith) (omega arith) (λ k is. cc) so_far in
+    ap (λ ts. ts ++ up_to_bad (tokens_from 0 (place + 1) line (drop (place + 1) source))) (sym (append-nil before))
+    ∙ ap (λ l. (before ++ []) ++ up_to_bad (tokens_from 0 (place + 1) l (drop (place + 1) source))) (sym (same_line (get_or source place 0) line byte))
     ∙ word

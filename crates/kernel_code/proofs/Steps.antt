@@ -1,11 +1,11 @@
 -- The tokens from a place on: what a word adds to them, and what is left behind it.
-use Rattle.std.proofs.Common.{◌≡◌, ℕ, zero, suc, ◌+◌, ◌-◌, ◌<◌, ◌≤◌, ◌==◌, List, [], ◌∷◌, ◌++◌, length, take, drop, get_or, Option, ◌∙◌, sym, refl, ap, arith, add-zero, zero-add, append_assoc, drop-drop, take_all, length-drop, get_or-drop}
+use Rattle.std.proofs.Common.{◌≡◌, ℕ, zero, suc, ◌+◌, ◌-◌, ◌<◌, ◌≤◌, ◌==◌, true, false, List, [], ◌∷◌, ◌++◌, length, take, drop, get_or, Option, Some, ◌∙◌, sym, refl, ap, arith, add-zero, zero-add, append_assoc, drop-drop, take_all, length-drop, get_or-drop}
 use Rattle.std.proofs.lemmas.Grind.{common_steps}
 use Rattle.std.proofs.lemmas.Bool.{cond_both}
 use Rattle.frame_grammar.specs.declared.TokenKind.{TokenKind}
-use Rattle.frame_grammar.specs.declared.TokenKind.TheVariants.{End}
 use Rattle.kernel_code.specs.declared.token.Token.{Token}
-use Rattle.kernel_code.specs.Tokens.{front_len, front_kind, token_at, line_after, tokens_from, mark_len, tokens_of}
+use Rattle.kernel_code.specs.Tokens.{front_len, front_kind, token_at, line_after, tokens_from, mark_len, tokens_of, is_bad, end_at, up_to_bad}
+use Rattle.kernel_code.proofs.Cuts.{cut_behind_word, cut_at_word, cut_end}
 
 -- the bytes of a word that began before them are passed over
 pub tokens_from-skip : (n place line : ℕ) (bytes : List ℕ) → n ≤ length bytes → tokens_from n place line bytes ≡ tokens_from 0 (place + n) line (drop n bytes)
@@ -36,26 +36,33 @@ tokens_from-front place line (byte ∷ bytes) some moves within =
 pub slice_from : (source : List ℕ) (place : ℕ) → take (length source - place) (drop place source) ≡ drop place source
 slice_from source place = take_all (length source - place) (drop place source) (omega (arith, length-drop place source))
 
--- the token of the word at this place, if it is one, joins those before it
-pub one_word : (source : List ℕ) (place line len : ℕ) (kind : Option TokenKind) (before all : List Token) → place < length source →
+-- the word at this place, and the tokens behind it
+word_at : (source : List ℕ) (place line len : ℕ) (kind : Option TokenKind) → place < length source →
     kind ≡ front_kind (drop place source) → len ≡ front_len (drop place source) → 0 < len → place + len ≤ length source →
-    before ++ tokens_from 0 place line (drop place source) ≡ all →
-    (before ++ token_at kind place (place + len) line) ++ tokens_from 0 (place + len) (line_after (get_or source place 0) line) (drop (place + len) source) ≡ all
-one_word source place line len kind before all within kind_is len_is some room so_far =
+    tokens_from 0 place line (drop place source) ≡ token_at kind place (place + len) line ++ tokens_from 0 (place + len) (line_after (get_or source place 0) line) (drop (place + len) source)
+word_at source place line len kind within kind_is len_is some room =
     let rest = drop place source in
     let length_rest = length-drop place source in
     let front = tokens_from-front place line rest (omega arith) (omega arith) (omega arith) in
     let byte_is : get_or rest 0 0 ≡ get_or source place 0 = get_or-drop place source 0 0 ∙ ap (λ n. get_or source n 0) (add-zero place) in
     let left : drop (place + len) source ≡ drop (front_len rest) rest = sym (drop-drop len place source) ∙ ap (λ n. drop n rest) len_is in
+    front ∙ sym (λ i. token_at (kind_is i) place (place + len_is i) line ++ tokens_from 0 (place + len_is i) (line_after (sym byte_is i) line) (left i))
+
+-- the token of the word at this place, if it is one other than Bad, joins those before it
+pub one_word : (source : List ℕ) (place line len : ℕ) (kind : Option TokenKind) (before all : List Token) → place < length source →
+    kind ≡ front_kind (drop place source) → len ≡ front_len (drop place source) → 0 < len → place + len ≤ length source →
+    ((k : TokenKind) → kind ≡ Some k → is_bad k ≡ false) → before ++ up_to_bad (tokens_from 0 place line (drop place source)) ≡ all →
+    (before ++ token_at kind place (place + len) line) ++ up_to_bad (tokens_from 0 (place + len) (line_after (get_or source place 0) line) (drop (place + len) source)) ≡ all
+one_word source place line len kind before all within kind_is len_is some room fine so_far =
     append_assoc before _ _
     ∙ ap (λ ts. before ++ ts)
-    ((λ i. token_at (kind_is i) place (place + len_is i) line ++ tokens_from 0 (place + len_is i) (line_after (sym byte_is i) line) (left i)) ∙ sym front)
+    (sym (cut_behind_word kind place (place + len) line _ fine) ∙ ap up_to_bad (sym (word_at source place line len kind within kind_is len_is some room)))
     ∙ so_far
 
 -- the end is the last token
-pub tokens_from-end : (place line : ℕ) → tokens_from 0 place line [] ≡ record { kind = End; start = place; end = place; line = line } ∷ []
+pub tokens_from-end : (place line : ℕ) → up_to_bad (tokens_from 0 place line []) ≡ end_at place line ∷ []
 unfolding tokens_from
-tokens_from-end place line = refl
+tokens_from-end place line = cut_end place line
 
 pub tokens_of-start : (source : List ℕ) → mark_len source ≤ length source → tokens_from 0 (mark_len source) 1 (drop (mark_len source) source) ≡ tokens_of source
 unfolding tokens_of
@@ -67,11 +74,23 @@ mark_len-le source = grind (arith, common_steps)
 -- one turn of the lexer, as its loop has it
 pub turn : (source : List ℕ) (place line len : ℕ) (kind : Option TokenKind) (before after all : List Token) → place < length source →
     kind ≡ front_kind (take (length source - place) (drop place source)) → len ≡ front_len (take (length source - place) (drop place source)) → 0 < len → place + len ≤ length source →
-    after ≡ before ++ token_at kind place (place + len) line → before ++ tokens_from 0 place line (drop place source) ≡ all →
-    after ++ tokens_from 0 (place + len) (line_after (get_or source place 0) line) (drop (place + len) source) ≡ all
-turn source place line len kind before after all within kind_is len_is some room after_is so_far =
-    (λ i. after_is i ++ tokens_from 0 (place + len) (line_after (get_or source place 0) line) (drop (place + len) source))
-    ∙ one_word source place line len kind before all within (kind_is ∙ ap front_kind (slice_from source place)) (len_is ∙ ap front_len (slice_from source place)) some room so_far
+    ((k : TokenKind) → kind ≡ Some k → is_bad k ≡ false) → after ≡ before ++ token_at kind place (place + len) line → before ++ up_to_bad (tokens_from 0 place line (drop place source)) ≡ all →
+    after ++ up_to_bad (tokens_from 0 (place + len) (line_after (get_or source place 0) line) (drop (place + len) source)) ≡ all
+turn source place line len kind before after all within kind_is len_is some room fine after_is so_far =
+    (λ i. after_is i ++ up_to_bad (tokens_from 0 (place + len) (line_after (get_or source place 0) line) (drop (place + len) source)))
+    ∙ one_word source place line len kind before all within (kind_is ∙ ap front_kind (slice_from source place)) (len_is ∙ ap front_len (slice_from source place)) some room fine so_far
+
+-- its last turn, at a Bad token
+pub last_turn : (source : List ℕ) (place line len : ℕ) (kind : TokenKind) (before after all : List Token) → place < length source →
+    Some kind ≡ front_kind (take (length source - place) (drop place source)) → len ≡ front_len (take (length source - place) (drop place source)) → 0 < len → place + len ≤ length source →
+    is_bad kind ≡ true → after ≡ before ++ token_at (Some kind) place (place + len) line → before ++ up_to_bad (tokens_from 0 place line (drop place source)) ≡ all →
+    after ++ end_at (place + len) line ∷ [] ≡ all
+last_turn source place line len kind before after all within kind_is len_is some room bad after_is so_far =
+    ap (λ ts. ts ++ end_at (place + len) line ∷ []) after_is ∙ append_assoc before _ _
+    ∙ ap (λ ts. before ++ ts)
+    (sym (cut_at_word kind place (place + len) line _ bad)
+    ∙ ap up_to_bad (sym (word_at source place line len (Some kind) within (kind_is ∙ ap front_kind (slice_from source place)) (len_is ∙ ap front_len (slice_from source place)) some room)))
+    ∙ so_far
 
 pub line_after-le : (byte line : ℕ) → line_after byte line ≤ line + 1
 line_after-le byte line = cond_both (byte == 10) (line + 1) line (λ next. next ≤ line + 1) (λ _. omega arith) (λ _. omega arith)

@@ -1,5 +1,5 @@
 -- The tokens of a file: from left to right, the longest first.
-use Rattle.std.specs.Prelude.{◌==◌, ℕ, ◌+◌, ◌-◌, max, zero, suc, List, [], ◌∷◌, ◌++◌, length, take, Option, Some, None, nat_eq, if◌then◌else◌, slice_range}
+use Rattle.std.specs.Prelude.{◌==◌, ℕ, Bool, true, false, ◌+◌, ◌-◌, max, zero, suc, List, [], ◌∷◌, ◌++◌, length, take, Option, Some, None, nat_eq, if◌then◌else◌, slice_range}
 use Rattle.std.specs.List.{starts_with}
 use Rattle.frame_grammar.specs.declared.TokenKind.{TokenKind}
 use Rattle.frame_grammar.specs.declared.TokenKind.TheVariants.{End, Bad}
@@ -48,6 +48,20 @@ mark_len source = if starts_with nat_eq source (0xEF ∷ 0xBB ∷ 0xBF ∷ []) t
 -- the tokens of a file
 unfoldable pub tokens_of : List ℕ → List Token
 tokens_of source = tokens_from (mark_len source) 0 1 source
+
+-- a byte that begins no token
+abbrev pub is_bad : TokenKind → Bool
+is_bad Bad = true
+is_bad _ = false
+
+-- an end at a place of a line
+abbrev pub end_at : (place line : ℕ) → Token
+end_at place line = record { kind = End; start = place; end = place; line = line }
+
+-- the tokens up to the first Bad one, with it, and an end behind it; all of them where none is Bad
+unfoldable pub up_to_bad : List Token → List Token
+up_to_bad [] = []
+up_to_bad (token ∷ tokens) = token ∷ (if is_bad token.kind then end_at token.end token.line ∷ [] else up_to_bad tokens)
 
 -- the bytes of a token
 abbrev pub text_of : List ℕ → Token → List ℕ

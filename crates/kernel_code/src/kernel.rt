@@ -6,7 +6,7 @@ ghost use Rattle.frame_ast.specs.declared.kernel.FaultKind.TheVariants.{Syntax};
 ghost use Rattle.job_base.specs.declared.limits.TheConstants.{MOST_SCRIPT_BYTES};
 ghost use Rattle.kernel_code.specs.Raw.{SpellsRaw, IsKernel};
 ghost use Rattle.kernel_code.specs.Reading.{is_parallel};
-ghost use Rattle.kernel_code.specs.Tokens.{tokens_of};
+ghost use Rattle.kernel_code.specs.Tokens.{tokens_of, up_to_bad};
 ghost use Rattle.kernel_code.specs.Parsing.{kinds, StandsAt, StopsAt, refusal_of};
 ghost use Rattle.kernel_code.specs.Legible.{NamesAreText, NamesStand, IsParsed};
 
@@ -83,7 +83,7 @@ pub fn parse_kernel<'a>(
     at: u32,
 ) -> Result<(RawKernel<'a>, u32), KernelFault>
     requires few { length source.now ≤ MOST_SCRIPT_BYTES }
-    requires lexed { tokens.now ≡ tokens_of source.now }
+    requires lexed { tokens.now ≡ up_to_bad (tokens_of source.now) }
     requires within { at < length tokens.now }
     ensures kernel { IfOk result (λ found. StandsAt source.now tokens.now at found.1 found.0) }
     ensures parsed { IfOk result (λ found. IsParsed found.0) }

@@ -130,7 +130,7 @@ fn kernels_have_their_raw_forms(rt: HostRuntime) -> Result<(), Fail> {
 /// For each production of kernels a text in which no kernel goes on by it, and the line of the fault.
 #[test]
 fn a_fault_has_the_line_of_its_token(rt: HostRuntime) -> Result<(), Fail> {
-    let rows: [(&[u8], &str); 61] = [
+    let rows: [(&[u8], &str); 63] = [
         (b"flush", "1: Syntax"),
         (b"job\n(", "2: Syntax"),
         (b"job k\n\n{", "3: Syntax"),
@@ -192,6 +192,8 @@ fn a_fault_has_the_line_of_its_token(rt: HostRuntime) -> Result<(), Fail> {
         (b"job k() { x = y[1\n;", "2: Syntax"),
         (b"job k() { x = 1\n& 2; }", "2: Syntax"),
         (b"job k() {\nvar index = 1; }", "2: Syntax"),
+        (b"job k() {\n\n$ }", "3: Syntax"),
+        (b"job k()\n; $", "2: Syntax"),
     ];
     for (source, expected) in rows {
         if source.len() <= 1000 {

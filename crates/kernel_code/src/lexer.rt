@@ -1,7 +1,7 @@
-ghost use Rattle.std.specs.Prelude.{◌≡◌, ◌<◌, ◌≤◌, length, IfOk};
+ghost use Rattle.std.specs.Prelude.{◌≡◌, ◌<◌, ◌≤◌, ◌^◌, ◌++◌, ◌∷◌, [], length, IfOk};
 ghost use Rattle.std.specs.List.{starts_with};
 ghost use Rattle.job_base.specs.declared.limits.TheConstants.{MOST_SCRIPT_BYTES};
-ghost use Rattle.kernel_code.specs.Tokens.{tokens_of, mark_len, line_after};
+ghost use Rattle.kernel_code.specs.Tokens.{tokens_of, up_to_bad, is_bad, end_at, mark_len, line_after};
 ghost use Rattle.kernel_code.specs.Legible.{NamesAreText};
 
 use crate::token::Token;
@@ -30,15 +30,39 @@ fn line_after(byte: u8, line: u32) -> u32
     if byte == b'\n' { line + 1 } else { line }
 }
 
+/// Whether a token of this kind is a byte that begins none.
+fn is_bad(kind: TokenKind) -> bool
+    ensures { result ≡ is_bad kind }
+{
+    matches!(kind, TokenKind::Bad)
+}
+
+/// Adds the `End` behind the last token.
+fn push_end(tokens: &mut Vec<Token>, place: usize, line: u32) -> Result<(), NoMemory>
+    requires { place < 2 ^ 32 }
+    ensures { IfOk result (λ _. tokens.new.items ≡ tokens.old.items ++ end_at place line ∷ []) }
+{
+    tokens.push(Token {
+        kind: TokenKind::End,
+        start: place as u32,
+        end: place as u32,
+        line,
+    })?;
+    Ok(())
+}
+
 /// The tokens of a file, from its first byte to the `End` behind its last one.
 ///
 /// Names, numbers, texts, symbols and reserved words are found from left to right, the longest
 /// first. Spaces, tabs, carriage returns and comments separate them; a comment is `#` and what
 /// follows it in its line. A byte that begins no token is a `Bad` token, so lexing itself finds no
 /// fault.
+///
+/// Nothing is read behind a `Bad` token, and the `End` stands right behind it: no file and no kernel
+/// goes on with it, and a file of such bytes alone would be as many tokens.
 pub fn lex(alloc: Global, source: &[u8]) -> Result<Vec<Token>, NoMemory>
     requires { length source.now ≤ MOST_SCRIPT_BYTES }
-    ensures tokens { IfOk result (λ tokens. tokens.items ≡ tokens_of source.now) }
+    ensures tokens { IfOk result (λ tokens. tokens.items ≡ up_to_bad (tokens_of source.now)) }
     ensures text { IfOk result (λ tokens. NamesAreText source.now tokens.items) }
 {
     let mut tokens = Vec::new(alloc);
@@ -58,15 +82,14 @@ pub fn lex(alloc: Global, source: &[u8]) -> Result<Vec<Token>, NoMemory>
                 end: end as u32,
                 line,
             })?;
+            if is_bad(kind) {
+                push_end(&mut tokens, end, line)?;
+                return Ok(tokens);
+            }
         }
         line = line_after(source[place], line);
         place = end;
     }
-    tokens.push(Token {
-        kind: TokenKind::End,
-        start: place as u32,
-        end: place as u32,
-        line,
-    })?;
+    push_end(&mut tokens, place, line)?;
     Ok(tokens)
 }

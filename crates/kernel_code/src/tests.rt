@@ -34,7 +34,7 @@ fn kinds_in(alloc: Global, source: &[u8]) -> Result<String, Fail> {
 
 #[test]
 fn tokens_have_kinds_spans_and_lines(rt: HostRuntime) -> Result<(), Fail> {
-    let rows: [(&[u8], &str); 20] = [
+    let rows: [(&[u8], &str); 28] = [
         (b"", "End 0-0 1, "),
         (b"x", "Name 0-1 1, End 1-1 1, "),
         (b"x\n", "Name 0-1 1, Line 1-2 1, End 2-2 2, "),
@@ -44,11 +44,8 @@ fn tokens_have_kinds_spans_and_lines(rt: HostRuntime) -> Result<(), Fail> {
             "Name 0-1 1, Line 2-3 1, Name 4-5 2, End 5-5 2, ",
         ),
         (b"\xEF\xBB\xBFx", "Name 3-4 1, End 4-4 1, "),
-        (b"\xEF\xBB", "Bad 0-1 1, Bad 1-2 1, End 2-2 1, "),
-        (
-            b"x\xEF\xBB\xBF",
-            "Name 0-1 1, Bad 1-2 1, Bad 2-3 1, Bad 3-4 1, End 4-4 1, ",
-        ),
+        (b"\xEF\xBB", "Bad 0-1 1, End 1-1 1, "),
+        (b"x\xEF\xBB\xBF", "Name 0-1 1, Bad 1-2 1, End 2-2 1, "),
         (b"# \xFF \"= job", "End 10-10 1, "),
         (b"#\n#", "Line 1-2 1, End 3-3 2, "),
         (
@@ -61,10 +58,22 @@ fn tokens_have_kinds_spans_and_lines(rt: HostRuntime) -> Result<(), Fail> {
             b"1..2",
             "Number 0-1 1, DotDot 1-3 1, Number 3-4 1, End 4-4 1, ",
         ),
-        (b"&|.", "Bad 0-1 1, Bad 1-2 1, Bad 2-3 1, End 3-3 1, "),
+        (b"&|.", "Bad 0-1 1, End 1-1 1, "),
+        (b"|.&", "Bad 0-1 1, End 1-1 1, "),
+        (b".&|", "Bad 0-1 1, End 1-1 1, "),
         (
-            b"&&&...|||",
-            "AndAnd 0-2 1, Bad 2-3 1, DotDot 3-5 1, Bad 5-6 1, OrOr 6-8 1, Bad 8-9 1, End 9-9 1, ",
+            b"&&..||",
+            "AndAnd 0-2 1, DotDot 2-4 1, OrOr 4-6 1, End 6-6 1, ",
+        ),
+        (
+            b"&&&&&",
+            "AndAnd 0-2 1, AndAnd 2-4 1, Bad 4-5 1, End 5-5 1, ",
+        ),
+        (b"...", "DotDot 0-2 1, Bad 2-3 1, End 3-3 1, "),
+        (b"|||", "OrOr 0-2 1, Bad 2-3 1, End 3-3 1, "),
+        (
+            b"x\n\n$ y\n",
+            "Name 0-1 1, Line 1-2 1, Line 2-3 2, Bad 3-4 3, End 4-4 3, ",
         ),
         (b"4temp", "Number 0-1 1, Temp 1-5 1, End 5-5 1, "),
         (b"3{", "Number 0-1 1, OpenBrace 1-2 1, End 2-2 1, "),
@@ -72,7 +81,9 @@ fn tokens_have_kinds_spans_and_lines(rt: HostRuntime) -> Result<(), Fail> {
             b"_a1 jobs Job",
             "Name 0-3 1, Name 4-8 1, Name 9-12 1, End 12-12 1, ",
         ),
-        (b"\x00~\x7F", "Bad 0-1 1, Bad 1-2 1, Bad 2-3 1, End 3-3 1, "),
+        (b"\x00~\x7F", "Bad 0-1 1, End 1-1 1, "),
+        (b"~\x7F\x00", "Bad 0-1 1, End 1-1 1, "),
+        (b"\x7F\x00~", "Bad 0-1 1, End 1-1 1, "),
     ];
     for (source, expected) in rows {
         assert_eq!(rt; tokens_in(rt.alloc(), source)?.as_str(), expected);
@@ -85,20 +96,11 @@ fn texts_are_closed_and_printable(rt: HostRuntime) -> Result<(), Fail> {
     let rows: [(&[u8], &str); 7] = [
         (b"\" ~#\"", "Text 0-5 1, End 5-5 1, "),
         (b"\"a\"\"b\"", "Text 0-3 1, Text 3-6 1, End 6-6 1, "),
-        (b"\"\"", "Bad 0-1 1, Bad 1-2 1, End 2-2 1, "),
-        (b"\"a", "Bad 0-1 1, Name 1-2 1, End 2-2 1, "),
-        (
-            b"\"a\n\"",
-            "Bad 0-1 1, Name 1-2 1, Line 2-3 1, Bad 3-4 2, End 4-4 2, ",
-        ),
-        (
-            b"\"a\tb\"",
-            "Bad 0-1 1, Name 1-2 1, Name 3-4 1, Bad 4-5 1, End 5-5 1, ",
-        ),
-        (
-            b"\"a\xC3\xA4\"",
-            "Bad 0-1 1, Name 1-2 1, Bad 2-3 1, Bad 3-4 1, Bad 4-5 1, End 5-5 1, ",
-        ),
+        (b"\"\"", "Bad 0-1 1, End 1-1 1, "),
+        (b"\"a", "Bad 0-1 1, End 1-1 1, "),
+        (b"\"a\n\"", "Bad 0-1 1, End 1-1 1, "),
+        (b"\"a\tb\"", "Bad 0-1 1, End 1-1 1, "),
+        (b"\"a\xC3\xA4\"", "Bad 0-1 1, End 1-1 1, "),
     ];
     for (source, expected) in rows {
         assert_eq!(rt; tokens_in(rt.alloc(), source)?.as_str(), expected);

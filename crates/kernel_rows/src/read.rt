@@ -3,7 +3,7 @@ ghost use Rattle.std.specs.Prelude.{◌≡◌, ◌≤◌, ◌<◌, ℕ, length, 
 ghost use Rattle.job_base.specs.declared.limits.TheConstants.{MOST_SCRIPT_BYTES};
 ghost use Rattle.frame_ast.specs.declared.kernel.FaultKind.{FaultKind};
 ghost use Rattle.frame_ast.specs.Checked.{IsChecked};
-ghost use Rattle.kernel_code.specs.Tokens.{tokens_of};
+ghost use Rattle.kernel_code.specs.Tokens.{tokens_of, up_to_bad};
 ghost use Rattle.kernel_rows.specs.Texts.{IsKernelAt, IsRefusedAt};
 
 use frame_ast::kernel::Kernel;
@@ -18,7 +18,7 @@ pub fn kernel_at(
     at: u32,
 ) -> Result<(Kernel, u32), KernelFault>
     requires few { length source.now ≤ MOST_SCRIPT_BYTES }
-    requires lexed { tokens.now ≡ tokens_of source.now }
+    requires lexed { tokens.now ≡ up_to_bad (tokens_of source.now) }
     requires within { at < length tokens.now }
     ensures checked { IfOk result (λ found. IsChecked found.0) }
     ensures kernel { IfOk result (λ found. IsKernelAt source.now tokens.now at found.1 found.0) }

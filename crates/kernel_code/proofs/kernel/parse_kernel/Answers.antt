@@ -1,10 +1,10 @@
 use Rattle.std.proofs.Common.{◌<◌, ◌≤◌, ◌-◌, length, take, drop, length-drop, sym, ◌∙◌, ap, subst, arith}
 use Rattle.kernel_code.proofs.Names.{names_stand}
-use Rattle.kernel_code.proofs.NameTexts.{names_are_text, names_are_text-drop}
+use Rattle.kernel_code.proofs.NameTexts.{names_are_text-drop}
+use Rattle.kernel_code.proofs.Lexed.{lexed-few, lexed-text}
 use Rattle.std.proofs.lemmas.List.{length-map}
 use Rattle.frame_grammar.specs.Sentences.{IsEnded}
 use Rattle.kernel_code.specs.declared.token.Token.{Token}
-use Rattle.kernel_code.proofs.Sentences.{tokens_of-few}
 use Rattle.kernel_code.specs.Parsing.{kinds}
 use Rattle.kernel_code.specs.Legible.{NamesAreText}
 use Rattle.kernel_code.proofs.Parsing.{ahead_is, ahead_ended, ahead_few, sentence_spells}
@@ -29,7 +29,7 @@ raw_kernel-requires-clause-kernel c =
 
 pub raw_kernel-requires-clause-text : goal.raw_kernel-requires-clause-text
 raw_kernel-requires-clause-text c =
-    let text = names_are_text-drop c.args.source.now c.args.at c.args.tokens.now (subst (NamesAreText c.args.source.now) (sym c.requires.lexed) (names_are_text c.args.source.now)) in
+    let text = names_are_text-drop c.args.source.now c.args.at c.args.tokens.now (subst (NamesAreText c.args.source.now) (sym c.requires.lexed) (lexed-text c.args.source.now)) in
     subst (NamesAreText c.args.source.now) (sym (ahead_is c.args.tokens.now c.args.at)) text
 
 pub raw_kernel-requires-clause-named : goal.raw_kernel-requires-clause-named
@@ -42,4 +42,4 @@ overflow_add-result c =
     let within = c.in-Ok.ensures.sentence.within in
     let read : c.in-Ok.sentence.read ≤ length (drop c.args.at c.args.tokens.now) =
     omega (arith, within, length-map (take (length c.args.tokens.now - c.args.at) (drop c.args.at c.args.tokens.now)) (λ (t : Token). t.kind), ap length ahead) in
-    omega (arith, read, length-drop c.args.at c.args.tokens.now, ap length c.requires.lexed, tokens_of-few c.args.source.now, c.requires.few, c.requires.within)
+    omega (arith, read, length-drop c.args.at c.args.tokens.now, ap length c.requires.lexed, lexed-few c.args.source.now, c.requires.few, c.requires.within)
