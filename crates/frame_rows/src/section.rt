@@ -39,14 +39,20 @@ pub fn script_of(alloc: Global, lines: &str) -> Result<Script, Fail>
     Ok(parse_script(alloc, source)?)
 }
 
-/// The first section of that script, with no table.
-pub fn section_of(alloc: Global, lines: &str) -> Result<Section, Fail>
+/// The first section of that script, with a table.
+pub fn section_with(alloc: Global, lines: &str, table: &Table) -> Result<Section, Fail>
     ensures { IfOk result (λ section. IsWellOrderedPlan section.plan) }
 {
     let script = script_of(alloc, lines)?;
-    let table = Table::none(alloc);
     let mut cells = FlatMem::new(alloc, 0)?;
-    let mut book = SectionBook::new(alloc, &script, &table)?;
+    let mut book = SectionBook::new(alloc, &script, table)?;
     let names = names_of(alloc, &script)?;
-    Ok(book.next(alloc, &script, &table, None, &mut cells, names)?)
+    Ok(book.next(alloc, &script, table, None, &mut cells, names)?)
+}
+
+/// The same with no table.
+pub fn section_of(alloc: Global, lines: &str) -> Result<Section, Fail>
+    ensures { IfOk result (λ section. IsWellOrderedPlan section.plan) }
+{
+    section_with(alloc, lines, &Table::none(alloc))
 }
