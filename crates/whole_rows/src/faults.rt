@@ -1,0 +1,91 @@
+// Frames whose files or sink fail.
+
+use crate::frames::{Given, WORKERS, difference, status_of, with_kernels};
+use frame_rows::texts::TOTAL;
+use job_base::{MemSink, OpenGate};
+use std::test::Fail;
+
+const TRIPLE: &str =
+    "job triple(x: ro array, y: wo array) { for k in 0..len(x) { y[k] = x[k] * 3; } }
+array x 4 = 1 2 3 4
+array y 4
+schedule h triple(x, y)
+complete h
+print y
+";
+
+// A sink that takes a byte at each write fails at each write in turn, and not at all.
+#[test]
+fn writes_that_fail(rt: HostRuntime) -> Result<(), Fail> {
+    let alloc = rt.alloc();
+    let total = with_kernels(alloc, TOTAL)?;
+    let rows: [(&str, u64, u8, &str); 9] = [
+        (&total, 0, 7, ""),
+        (&total, 1, 7, "t"),
+        (&total, 2, 7, "t "),
+        (&total, 3, 7, "t ="),
+        (&total, 4, 7, "t = "),
+        (&total, 5, 7, "t = 3"),
+        (&total, 6, 7, "t = 30"),
+        (&total, 7, 0, "t = 30\n"),
+        (TRIPLE, 2, 7, "y "),
+    ];
+    for (script, failing, status, text) in rows {
+        let given = Given::script(script);
+        for workers in WORKERS {
+            let mut sink = MemSink::new(alloc, 100, 1, vec![in alloc; failing]?)?;
+            let got = status_of(&rt, workers, &["s"], &given, &mut sink, &OpenGate)?;
+            assert_eq!(rt; got, status, "{failing}");
+            assert_eq!(rt; sink.bytes(), text.as_bytes());
+        }
+    }
+    Ok(())
+}
+
+// A sink with no room at all, and a refusal that can't be written.
+#[test]
+fn nothing_is_written(rt: HostRuntime) -> Result<(), Fail> {
+    let alloc = rt.alloc();
+    let total = with_kernels(alloc, TOTAL)?;
+    let rows: [(&[u8], u32, &[u64]); 2] = [(total.as_bytes(), 0, &[]), (b"\xFF", 100, &[0])];
+    for (script, room, failing) in rows {
+        let given = Given {
+            script,
+            table: b"",
+            failing: &[],
+        };
+        for workers in WORKERS {
+            let mut sink = MemSink::new(alloc, room, 100, Vec::from_slice(alloc, failing)?)?;
+            let got = status_of(&rt, workers, &["s"], &given, &mut sink, &OpenGate)?;
+            assert_eq!(rt; got, 7);
+            assert_eq!(rt; sink.bytes(), b"".as_slice());
+        }
+    }
+    Ok(())
+}
+
+#[test]
+fn reads_that_fail(rt: HostRuntime) -> Result<(), Fail> {
+    let script = with_kernels(
+        rt.alloc(),
+        "column p \"price\"\nreference t\nschedule h total(p, t)\ncomplete h\nprint t\n",
+    )?;
+    let rows: [(&[u64], u8, &str); 3] = [
+        (&[0], 6, "cannot read script\n"),
+        (&[1], 6, "cannot read table\n"),
+        (&[2], 0, "t = 300\n"),
+    ];
+    for (failing, status, text) in rows {
+        let given = Given {
+            script: script.as_bytes(),
+            table: b"item,price\n1,250\n2,-30\n3,80\n",
+            failing,
+        };
+        assert_eq!(rt;
+            difference(&rt, &["s", "t"], &given, status, text)?,
+            None,
+            "{text}"
+        );
+    }
+    Ok(())
+}

@@ -1,0 +1,114 @@
+// Whole frames: command lines that are answered over files and a sink in memory.
+
+use frame_rows::KERNELS;
+use frame_top::run_frame;
+use job_base::{Gate, MemFiles, MemSink, OpenGate};
+use std::alloc::Global;
+use std::sync::Wait;
+use std::test::Fail;
+use std::thread::Threads;
+
+/// The numbers of workers at which each frame gives the same.
+pub const WORKERS: [&str; 3] = ["1", "4", "64"];
+
+/// What lies in the files `s` and `t`, and which reads of them fail, counted from 0.
+#[derive(Clone, Copy)]
+pub struct Given<'a> {
+    pub script: &'a [u8],
+    pub table: &'a [u8],
+    pub failing: &'a [u64],
+}
+
+impl<'a> Given<'a> {
+    /// A script and an empty file, both of which can be read.
+    pub fn script(text: &'a str) -> Given<'a> {
+        Given {
+            script: text.as_bytes(),
+            table: b"",
+            failing: &[],
+        }
+    }
+}
+
+/// The worked kernels, and then these lines.
+pub fn with_kernels(alloc: Global, lines: &str) -> Result<String, Fail> {
+    Ok(format!(in alloc; "{}{}", KERNELS, lines)?)
+}
+
+// The files of a run.
+fn files_of(alloc: Global, given: &Given) -> Result<MemFiles, Fail> {
+    let mut names = Vec::new(alloc);
+    names.push(String::from_str(alloc, "s")?)?;
+    names.push(String::from_str(alloc, "t")?)?;
+    let mut contents = Vec::new(alloc);
+    contents.push(Vec::from_slice(alloc, given.script)?)?;
+    contents.push(Vec::from_slice(alloc, given.table)?)?;
+    let failing = Vec::from_slice(alloc, given.failing)?;
+    let files = MemFiles::new(alloc, names, contents, failing);
+    Ok(files.ok().ok_or("memory")?)
+}
+
+/// The status of a command line with so many workers.
+pub fn status_of<R: Threads + Wait + Sync + AllocGlobal, G: Gate + Sync>(
+    rt: &R,
+    workers: &str,
+    words: &[&str],
+    given: &Given,
+    sink: &mut MemSink,
+    gate: &G,
+) -> Result<u8, Fail> {
+    let alloc = rt.alloc();
+    let mut all = Vec::new(alloc);
+    all.push(String::from_str(alloc, "--workers")?)?;
+    all.push(String::from_str(alloc, workers)?)?;
+    for word in words {
+        all.push(String::from_str(alloc, *word)?)?;
+    }
+    let mut files = files_of(alloc, given)?;
+    Ok(run_frame(rt, alloc, &all, &mut files, sink, gate))
+}
+
+/// A sink with room for all that a frame writes here.
+pub fn sink_of<R: AllocGlobal>(rt: &R) -> Result<MemSink, Fail> {
+    let sink = MemSink::new(rt.alloc(), 4096, 4096, Vec::new(rt.alloc()));
+    Ok(sink.ok().ok_or("memory")?)
+}
+
+/// What a command line gives instead of a status and a text, if it gives something else.
+pub fn difference_at<R: Threads + Wait + Sync + AllocGlobal>(
+    rt: &R,
+    workers: &str,
+    words: &[&str],
+    given: &Given,
+    status: u8,
+    text: &str,
+) -> Result<Option<String>, Fail> {
+    let mut sink = sink_of(rt)?;
+    let got = status_of(rt, workers, words, given, &mut sink, &OpenGate)?;
+    if got == status && sink.bytes() == text.as_bytes() {
+        return Ok(None);
+    }
+    let told = format!(in rt.alloc();
+        "at {} workers status {} and {:?}",
+        workers,
+        got,
+        sink.bytes()
+    )?;
+    Ok(Some(told))
+}
+
+/// The same at the first number of workers at which it does.
+pub fn difference<R: Threads + Wait + Sync + AllocGlobal>(
+    rt: &R,
+    words: &[&str],
+    given: &Given,
+    status: u8,
+    text: &str,
+) -> Result<Option<String>, Fail> {
+    for workers in WORKERS {
+        if let Some(told) = difference_at(rt, workers, words, given, status, text)? {
+            return Ok(Some(told));
+        }
+    }
+    Ok(None)
+}

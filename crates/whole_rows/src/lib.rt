@@ -1,0 +1,23 @@
+//! Whole frames, by the top call: what `run_frame` answers to worked scripts, hostile texts and texts at their limits, over
+//! files and sinks that fail, and where pieces come in each order. Then what is planned of each statement, and which
+//! scripts have no plan. Tests alone.
+#![tactic(auto)]
+
+#[cfg(test)]
+mod bounds;
+#[cfg(test)]
+mod faults;
+#[cfg(test)]
+mod frames;
+#[cfg(test)]
+mod limits;
+#[cfg(test)]
+mod orders;
+#[cfg(test)]
+mod pieces;
+#[cfg(test)]
+mod rows;
+#[cfg(test)]
+mod statements;
+#[cfg(test)]
+mod tables;
