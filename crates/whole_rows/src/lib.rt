@@ -1,6 +1,6 @@
-//! Whole frames, by the top call: what `run_frame` answers to worked scripts, hostile texts and texts at their limits, over
-//! files and sinks that fail, and where pieces come in each order. Then what is planned of each statement, and which
-//! scripts have no plan. Tests alone.
+//! Whole frames, by the top call: what `run_frame` answers to worked scripts, hostile texts and texts at their limits,
+//! over files and sinks that fail, and where pieces come in each order. Then what is planned of each statement, and
+//! which scripts have no plan. Tests alone.
 #![tactic(auto)]
 
 #[cfg(test)]

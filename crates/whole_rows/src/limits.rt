@@ -48,7 +48,8 @@ fn limits(rt: HostRuntime) -> Result<(), Fail> {
         ),
         // The limit that is passed first.
         (
-            "reference t\narray a 1\nrepeat 4097 {\nschedule h bump(a)\n}\nrepeat 9 {\narray a 1048576\n}\nwhen t == 1 {\n}\n",
+            "reference t\narray a 1\nrepeat 4097 {\nschedule h bump(a)\n}\nrepeat 9 {\narray a 1048576\n}\n\
+             when t == 1 {\n}\n",
             Some(PlanFault::Jobs),
         ),
     ];

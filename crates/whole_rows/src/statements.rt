@@ -196,7 +196,8 @@ fn scheduling(rt: HostRuntime) -> Result<(), Fail> {
             "13 fill 3 l; 14 fill 2 y; start 1; 16 Pending(JobId(1)) y; await 1; ",
         ),
         (
-            "array a 1\nschedule auto h bump(a)\nschedule auto h bump(a)\ndispose a after h as d\nschedule auto h bump(a)\n",
+            "array a 1\nschedule auto h bump(a)\nschedule auto h bump(a)\n\
+             dispose a after h as d\nschedule auto h bump(a)\n",
             "13 fill 1 a; start 1; start 2; 17 Disposed a; await 1; await 2; ",
         ),
     ];
