@@ -5,11 +5,12 @@ from limit_scripts import limit_script
 from mutations import change_bytes, change_meaning, change_tokens
 from random_frames import RandomFrame
 from random_tables import NAMES, random_table
+from tiny_scripts import TinyScript
 
 # Of a thousand cases.
 SHARES = {
-    "frame": 560, "bold": 100, "meaning": 80, "tokens": 80, "bytes": 40, "table": 80, "limit": 30, "words": 28,
-    "generated": 2,
+    "frame": 500, "tiny": 150, "bold": 60, "meaning": 70, "tokens": 70, "bytes": 40, "table": 70, "limit": 20,
+    "words": 18, "generated": 2,
 }
 WORDS = (
     b"--workers", b"--depth", b"--gen", b"--jobs", b"1", b"2", b"64", b"65", b"0", b"", b"-", b"--", b"-1", b"+1",
@@ -39,6 +40,8 @@ def case_of(seed):
         return Case(kind, words=[b"--gen", b"%d" % random.randrange(2**31), b"--jobs", b"%d" % random.randrange(1, 20)])
     if kind == "limit":
         return Case(kind, limit_script(random).encode())
+    if kind == "tiny":
+        return Case(kind, TinyScript(random).script().encode())
     columns, table = (), None
     if kind == "table" or random.random() < 0.1:
         names, table = random_table(random)

@@ -63,7 +63,7 @@ class RandomFrame:
         """The lines of one more statement."""
         forms = [
             (self.making, 6), (self.slicing, 2), (self.viewing, 2), (self.copying, 1), (self.setting, 3),
-            (self.adding, 4), (self.removing, 2), (self.putting, 2), (self.clearing, 1), (self.resizing, 1),
+            (self.adding, 4), (self.removing, 3), (self.putting, 2), (self.clearing, 1), (self.resizing, 1),
             (self.scheduling, 12), (self.combining, 1), (self.completing, 4), (self.disposing, 1), (self.printing, 5),
             (self.passing, 1),
         ]
@@ -235,6 +235,10 @@ class RandomFrame:
     def resizing(self):
         lines = []
         name = self.accessed(("list",), lines)
+        if self.chance(0.2):
+            lines = self.line(lines, f"view {self.name_for('view')} {name}")
+            view = lines[-1].split()[1]
+            return lines + [f"setcapacity {name} {self.random.choice((0, 1_048_576))}", f"print {view}"]
         self.sizes[name] = max(0, self.sizes.get(name, 0) + self.random.choice((-1, 0, 1, 3, 10)))
         return self.line(lines, f"setcapacity {name} {self.sizes[name]}")
 

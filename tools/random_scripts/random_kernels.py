@@ -57,12 +57,14 @@ class RandomKernel:
             width = self.random.choice(WIDTHS)
         return RandomParam(name, kind, access, width)
 
-    def is_bold(self):
-        return self.bold and self.random.random() < 0.03
+    def is_bold(self, share=0.02):
+        return self.bold and self.random.random() < share
 
     def of_kind(self, kinds, reads=False, writes=False):
-        if self.is_bold():
+        if self.is_bold(0.01):
             return self.params
+        if self.is_bold(0.04):
+            reads = writes = False
         return [
             param for param in self.params
             if param.kind in kinds and (not reads or param.reads()) and (not writes or param.writes())
@@ -140,7 +142,7 @@ class RandomKernel:
 
     def beginning(self, depth):
         params = self.of_kind(("stream",), writes=True)
-        params = [param for param in params if param.name not in self.begun or self.is_bold()]
+        params = [param for param in params if param.name not in self.begun or self.is_bold(0.5)]
         if not params:
             return self.changing(depth)
         param = self.random.choice(params)
