@@ -5,12 +5,13 @@ from limit_scripts import limit_script
 from mutations import change_bytes, change_meaning, change_tokens
 from random_frames import RandomFrame
 from random_tables import NAMES, random_table
+from sums import sum_script
 from tiny_scripts import TinyScript
 
 # Of a thousand cases.
 SHARES = {
-    "frame": 500, "tiny": 150, "bold": 60, "meaning": 70, "tokens": 70, "bytes": 40, "table": 70, "limit": 20,
-    "words": 18, "generated": 2,
+    "frame": 480, "sums": 40, "tiny": 130, "bold": 60, "meaning": 70, "tokens": 70, "bytes": 40, "table": 70,
+    "limit": 20, "words": 18, "generated": 2,
 }
 WORDS = (
     b"--workers", b"--depth", b"--gen", b"--jobs", b"1", b"2", b"64", b"65", b"0", b"", b"-", b"--", b"-1", b"+1",
@@ -40,6 +41,8 @@ def case_of(seed):
         return Case(kind, words=[b"--gen", b"%d" % random.randrange(2**31), b"--jobs", b"%d" % random.randrange(1, 20)])
     if kind == "limit":
         return Case(kind, limit_script(random).encode())
+    if kind == "sums":
+        return Case(kind, sum_script(random).encode())
     if kind == "tiny":
         return Case(kind, TinyScript(random).script().encode())
     columns, table = (), None
@@ -49,7 +52,16 @@ def case_of(seed):
         table = table if random.random() < 0.95 else None
     script = RandomFrame(random, columns, kind == "bold").script().encode()
     change = {"meaning": change_meaning, "tokens": change_tokens, "bytes": change_bytes}.get(kind)
-    return Case(kind, change(random, script) if change else script, table)
+    return Case(kind, change(random, script) if change else dressed(random, script), table)
+
+
+def dressed(random, script):
+    """The script, sometimes with what stands between tokens and means nothing."""
+    if random.random() < 0.8:
+        return script
+    mark = random.choice((b"", b"\xef\xbb\xbf"))
+    end = random.choice((b"\n", b"\r\n", b" \t\r \n", b"# \xff\x00 job f() {\n"))
+    return mark + script.replace(b"\n", end)
 
 
 def random_words(random):

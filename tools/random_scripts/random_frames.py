@@ -27,15 +27,18 @@ class RandomFrame:
         self.kinds = {}
         self.sizes = {}
         self.made = None
+        self.containers = {}
+        self.ended = set()
+        self.temps = set()
         self.kernels = []
         self.lines = []
 
     def script(self):
-        if self.chance(0.12):
-            self.lines.append(f"array filler {1_048_576 - self.random.randrange(300)}")
+        if self.chance(0.08):
+            self.lines.append(f"array filler {1_048_576 - self.random.randrange(2000)}")
         for _ in range(self.random.randrange(1, 5)):
             self.add_kernel()
-        for _ in range(self.random.choice((5, 10, 20, 40))):
+        for _ in range(self.random.choice((5, 10, 20, 20, 40, 120))):
             if self.random.random() < 0.03:
                 self.add_kernel()
             self.lines += self.statement(0, False)
@@ -90,8 +93,8 @@ class RandomFrame:
         return self.random.choice((0, 1, 2, 3, -1, self.random.randrange(-50, 100)))
 
     def size(self):
-        if self.chance(0.01):
-            return self.random.choice((4096, 60_000, 1_048_576))
+        if self.chance(0.02):
+            return self.random.choice((4096, 60_000, 1_048_576, self.random.randrange(2000)))
         return self.random.choice((0, 1, 2, 3, 4, 5, 6, 8, self.random.randrange(1, 80)))
 
     def name_for(self, kind, size=0):
@@ -107,7 +110,7 @@ class RandomFrame:
 
     def used(self, kinds, lines):
         """A name of one of these kinds; where there is none, one is made first."""
-        names = self.of_kinds(kinds)
+        names = self.living(self.of_kinds(kinds))
         if self.is_bold():
             return self.random.choice([*self.kinds, "unknown"])
         if not names or self.chance(0.05):
@@ -127,7 +130,27 @@ class RandomFrame:
         if self.made:
             name, kind, size = self.made
             self.kinds[name], self.sizes[name], self.made = kind, size, None
+        self.note(text.split())
         return lines + [text]
+
+    def note(self, words):
+        """Keeps which container each name stands for, and which ones have ended, as far as no statement is refused."""
+        form, names = words[0] if words else "", words[1:]
+        if form in ("slice", "view", "copy"):
+            self.containers[names[0]] = self.containers.get(names[1])
+        elif form in CONTAINERS + ("column",):
+            self.containers[names[0]] = " ".join(words)
+            self.ended.discard(" ".join(words))
+            if "temp" in words:
+                self.temps.add(" ".join(words))
+        elif form == "dispose":
+            self.ended.add(self.containers.get(names[names[0] == "auto"], "none"))
+        elif form == "frame":
+            self.ended |= self.temps
+
+    def living(self, names):
+        living = [name for name in names if self.containers.get(name) not in self.ended]
+        return names if self.chance(0.1) else living
 
     def handles(self):
         names = self.of_kinds(("handle",))
@@ -156,7 +179,7 @@ class RandomFrame:
     def make_array(self):
         size = self.size()
         name = self.name_for("array", size)
-        if size <= 80 and self.chance(0.6):
+        if size <= MOST_PRINTED and self.chance(0.6):
             return f"array {name} {size}{self.life()}" + self.values(size)
         return f"array {name} {size}{self.life()}"
 
@@ -325,7 +348,7 @@ class RandomFrame:
 
     def printing(self):
         lines = []
-        names = [name for name in self.of_kinds(NAMED) if self.sizes[name] <= MOST_PRINTED]
+        names = [name for name in self.living(self.of_kinds(NAMED)) if self.sizes[name] <= MOST_PRINTED]
         if not names:
             return self.making()
         name = self.random.choice(names)
@@ -333,7 +356,7 @@ class RandomFrame:
         return self.line(lines, f"print {name}")
 
     def passing(self):
-        return [self.random.choice(("frame", "frame", "flush", "", "# a comment"))]
+        return self.line([], self.random.choice(("frame", "frame", "flush", "", "# a comment")))
 
     # BLOCKS
 
@@ -344,8 +367,8 @@ class RandomFrame:
     def testing(self, depth, _):
         lines = []
         name = self.used(("reference",), lines)
-        for handle in self.of_kinds(("handle",)) if self.chance(0.3 + 0.7 * self.care) else []:
-            lines.append(f"complete {handle}")
+        for used in self.of_kinds(NAMED) if self.chance(0.3 + 0.7 * self.care) else []:
+            lines.append(f"complete auto {used}")
         lines.append(f"when {name} {self.random.choice(SIGNS)} {self.number()} {{")
         return self.block(lines, depth, True)
 
