@@ -1,7 +1,6 @@
 """Random kernels without static faults: every form of statement and value, with loops that end soon."""
 
 EDGES = ("9223372036854775807", "4611686018427387904", "3037000500", "1000000")
-OPERATORS = ("+", "-", "*", "/", "%")
 SIGNS = ("==", "!=", "<", "<=", ">", ">=")
 WIDTHS = (1, 1, 2, 2, 3)
 
