@@ -17,8 +17,8 @@ pub struct DiskFiles<'a, R: rt::Files> {
 impl<'a, R: rt::Files> DiskFiles<'a, R> {
     /// No read has failed yet.
     pub fn new(system: &'a R) -> DiskFiles<'a, R>
-        ensures faults { result.faults ≡ 0 }
-        ensures last_failed { result.last_failed ≡ None }
+        ensures faults { ⟦<DiskFiles<'a, R> as Files>⟧.faults result ≡ 0 }
+        ensures last_failed { ⟦<DiskFiles<'a, R> as Files>⟧.last_failed result ≡ None }
     {
         DiskFiles {
             system,

@@ -3,7 +3,6 @@
 use crate::run_frame;
 use job_base::{CountingGate, Gate, MemFiles, MemSink, OpenGate, PieceId};
 use std::alloc::Global;
-use std::process::Abort;
 use std::sync::Wait;
 use std::test::Fail;
 use std::thread::Threads;
@@ -97,21 +96,6 @@ fn sink_of<R: AllocGlobal>(rt: &R) -> Result<MemSink, Fail> {
     Ok(sink.ok().ok_or("memory")?)
 }
 
-// Answers the words on a sink with room for all, and compares the status and the text.
-fn compare<R: Threads + Wait + Sync + AllocGlobal + Abort>(
-    rt: &R,
-    words: &[&str],
-    given: &Given,
-    status: u8,
-    text: &str,
-) -> Result<(), Fail> {
-    let mut sink = sink_of(rt)?;
-    let answered = answer(rt, words, given, &mut sink, &OpenGate)?;
-    assert_eq!(rt; answered, status, "{text}");
-    assert_eq!(rt; sink.bytes(), text.as_bytes(), "{text}");
-    Ok(())
-}
-
 /// The first row that gives something else at 1, 4 or 64 workers.
 pub fn difference<R: Threads + Wait + Sync + AllocGlobal>(
     rt: &R,
@@ -164,7 +148,13 @@ fn the_words_of_the_command(rt: HostRuntime) -> Result<(), Fail> {
             script: b"",
             table: b"",
         };
-        compare(&rt, words, &given, status, text)?;
+        let mut sink = sink_of(&rt)?;
+        assert_eq!(rt;
+            answer(&rt, words, &given, &mut sink, &OpenGate)?,
+            status,
+            "{text}"
+        );
+        assert_eq!(rt; sink.bytes(), text.as_bytes());
     }
     Ok(())
 }
@@ -201,7 +191,13 @@ fn scripts_that_are_refused(rt: HostRuntime) -> Result<(), Fail> {
             script: script.as_bytes(),
             table: b"",
         };
-        compare(&rt, &["s"], &given, status, text)?;
+        let mut sink = sink_of(&rt)?;
+        assert_eq!(rt;
+            answer(&rt, &["s"], &given, &mut sink, &OpenGate)?,
+            status,
+            "{lines}"
+        );
+        assert_eq!(rt; sink.bytes(), text.as_bytes(), "{lines}");
     }
     Ok(())
 }
@@ -225,13 +221,25 @@ fn tables(rt: HostRuntime) -> Result<(), Fail> {
             script: script.as_bytes(),
             table: table.as_bytes(),
         };
-        compare(&rt, &["s", "t"], &given, status, text)?;
+        let mut sink = sink_of(&rt)?;
+        assert_eq!(rt;
+            answer(&rt, &["s", "t"], &given, &mut sink, &OpenGate)?,
+            status,
+            "{table}"
+        );
+        assert_eq!(rt; sink.bytes(), text.as_bytes(), "{table}");
     }
     let given = Given {
         script: script.as_bytes(),
         table: b"",
     };
-    compare(&rt, &["s"], &given, 4, "table refused: no column price\n")
+    let mut sink = sink_of(&rt)?;
+    assert_eq!(rt; answer(&rt, &["s"], &given, &mut sink, &OpenGate)?, 4);
+    assert_eq!(rt;
+        sink.bytes(),
+        b"table refused: no column price\n".as_slice()
+    );
+    Ok(())
 }
 
 #[test]
@@ -276,7 +284,13 @@ fn the_report_of_the_depth(rt: HostRuntime) -> Result<(), Fail> {
             script: script.as_bytes(),
             table: b"",
         };
-        compare(&rt, words, &given, status, text)?;
+        let mut sink = sink_of(&rt)?;
+        assert_eq!(rt;
+            answer(&rt, words, &given, &mut sink, &OpenGate)?,
+            status,
+            "{text}"
+        );
+        assert_eq!(rt; sink.bytes(), text.as_bytes());
     }
     Ok(())
 }
@@ -355,7 +369,9 @@ fn a_file_that_is_too_long(rt: HostRuntime) -> Result<(), Fail> {
             script: &source,
             table: b"",
         };
-        compare(&rt, &["s"], &given, status, text)?;
+        let mut sink = sink_of(&rt)?;
+        assert_eq!(rt; answer(&rt, &["s"], &given, &mut sink, &OpenGate)?, status);
+        assert_eq!(rt; sink.bytes(), text.as_bytes());
     }
     Ok(())
 }

@@ -58,7 +58,8 @@ pub fn refuse_script<S: Sink>(line: u32, kind: FaultKind, sink: &mut S) -> u8
 pub fn refuse_source<S: Sink>(line: u32, kind: FaultKind, sink: &mut S) -> u8
     ensures fault { kind ≢ TooLong → SaidTo S.taken S.faults sink.old sink.new
         (answer SCRIPT_REFUSED (script_refused_line line kind)) result }
-    ensures many { kind ≡ TooLong → SaidTo S.taken S.faults sink.old sink.new (answer PAST_LIMIT statements_line) result }
+    ensures many { kind ≡ TooLong → SaidTo S.taken S.faults sink.old sink.new
+        (answer PAST_LIMIT statements_line) result }
     ensures status { (result ≡ SCRIPT_REFUSED) ⊎ ((result ≡ PAST_LIMIT) ⊎ (result ≡ UNWRITTEN)) }
     ensures later { S.faults sink.old ≤ S.faults sink.new }
 {
@@ -71,7 +72,8 @@ pub fn refuse_source<S: Sink>(line: u32, kind: FaultKind, sink: &mut S) -> u8
 // Writes for what a record of a table is refused.
 fn refuse_row<S: Sink>(row: u32, why: &[u8], sink: &mut S) -> u8
     ensures said { SaidTo S.taken S.faults sink.old sink.new
-        (answer TABLE_REFUSED (codes "table refused row " ++ decimal row ++ codes ": " ++ why.now ++ codes "\n")) result }
+        (answer TABLE_REFUSED (codes "table refused row " ++ decimal row ++ codes ": " ++ why.now ++ codes "\n"))
+        result }
     ensures status { (result ≡ TABLE_REFUSED) ⊎ (result ≡ UNWRITTEN) }
     ensures later { S.faults sink.old ≤ S.faults sink.new }
 {
@@ -83,7 +85,8 @@ fn refuse_row<S: Sink>(row: u32, why: &[u8], sink: &mut S) -> u8
 
 /// Writes why the bytes of a table are refused. Memory is no reason.
 pub fn refuse_table<S: Sink>(fault: TableFault, sink: &mut S) -> u8
-    ensures said { fault ≢ TableFault.NoMemory → SaidTo S.taken S.faults sink.old sink.new (refused_table fault) result }
+    ensures said { fault ≢ TableFault.NoMemory
+        → SaidTo S.taken S.faults sink.old sink.new (refused_table fault) result }
     ensures none { fault ≡ TableFault.NoMemory → (result ≡ NO_MEMORY) × (sink.new ≡ sink.old) }
     ensures status { fault ≢ TableFault.NoMemory → (result ≡ TABLE_REFUSED) ⊎ (result ≡ UNWRITTEN) }
     ensures later { S.faults sink.old ≤ S.faults sink.new }

@@ -154,8 +154,9 @@ pub fn run_frame<R: Threads + Wait + Sync, F: Files, S: Sink, G: Gate + Sync>(
     sink: &mut S,
     gate: &G,
 ) -> u8
-    // THE HEADLINE. Where the words ask for a script and a table whose bytes are told, and these are accepted, the status
-    // and the bytes are those of the script's meaning, unless a read failed, the sink failed or memory was wanting.
+    // THE HEADLINE. Where the words ask for a script and a table whose bytes are told, and these are accepted, the
+    // status and the bytes are those of the script's meaning, unless a read failed, the sink failed or memory was
+    // wanting.
     ensures headline { (script : ScriptTree) (table : Option Text)
         → IsFrame (bytes_of words.now) (F.bytes files.old) script table
         → asks_depth (bytes_of words.now) ≡ false
