@@ -4,7 +4,7 @@
 //! the processor time of an index, in nanoseconds, on standard error. `tools/instructions` counts instructions.
 #![tactic(auto)]
 
-ghost use Rattle.std.specs.Prelude.{◌≡◌, ◌<◌, ◌≤◌, ◌^◌, length, IfSome};
+ghost use Rattle.std.specs.Prelude.{◌≡◌, ◌<◌, ◌≤◌, ◌+◌, ◌^◌, length, IfSome};
 ghost use Rattle.frame_ast.specs.Checked.{IsChecked};
 
 use frame_ast::kernel::Kernel;
@@ -87,28 +87,26 @@ fn kernel_of(alloc: Global, text: &str) -> Option<Kernel>
     }
 }
 
-// Runs a kernel so often at each index of its arrays, and says whether nothing trapped.
+// Runs a kernel so often at these indexes, and says whether nothing trapped.
 fn run_all(
     kernel: &Kernel,
     binds: &[Bind],
+    span: &Span,
     cells: u32,
     rounds: u32,
     scratch: &mut Scratch,
     mem: &mut FlatMem,
 ) -> bool
     requires checked { IsChecked kernel.now }
+    requires few { span.now.start + span.now.len < 2 ^ 32 }
     requires cells { length mem.old ≡ cells }
     ensures { length mem.new ≡ cells }
 {
     if !kernel.parallel || !fits(kernel, binds, cells) {
         return false;
     }
-    let span = Span {
-        start: 0,
-        len: ELEMENTS,
-    };
     for _ in 0..rounds {
-        if run_indexes(kernel, binds, &span, scratch, mem).count != 0 {
+        if run_indexes(kernel, binds, span, scratch, mem).count != 0 {
             return false;
         }
     }
@@ -142,8 +140,12 @@ fn time<R: CpuClock + Eprint>(
     let Ok(mut scratch) = Scratch::new(alloc) else {
         return Ok(None);
     };
+    let span = Span {
+        start: 0,
+        len: ELEMENTS,
+    };
     let start = rt.thread_cpu_time()?;
-    let ran = run_all(&kernel, binds, cells, rounds, &mut scratch, &mut mem);
+    let ran = run_all(&kernel, binds, &span, cells, rounds, &mut scratch, &mut mem);
     let end = rt.thread_cpu_time()?;
     if !ran {
         return Ok(None);
