@@ -32,9 +32,10 @@ class Case:
         self.words = words
 
 
-def case_of(seed):
+def case_of(seed, only=None):
+    """The case of a seed, of one kind alone where one is named."""
     random = chances.Random(seed)
-    kind = random.choices(list(SHARES), list(SHARES.values()))[0]
+    kind = only or random.choices(list(SHARES), list(SHARES.values()))[0]
     if kind == "words":
         return Case(kind, words=random_words(random))
     if kind == "generated":
