@@ -23,13 +23,17 @@ WORDS = (
 
 
 class Case:
-    """Where `words` is None the script is run at several numbers of workers, also with its depth report."""
+    """Where `words` is None the script is run at several numbers of workers, also with its depth report.
 
-    def __init__(self, kind, script=b"", table=None, words=None):
+    A smaller case is part of one that differs.
+    """
+
+    def __init__(self, kind, script=b"", table=None, words=None, is_smaller=False):
         self.kind = kind
         self.script = script
         self.table = table
         self.words = words
+        self.is_smaller = is_smaller
 
 
 def case_of(seed, only=None):
