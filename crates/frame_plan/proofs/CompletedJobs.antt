@@ -147,8 +147,44 @@ module _ (set : Jobs) (at : ℕ) where
   none_more ids was is =
       was ∙ sym (append-nil (rising_jobs set at)) ∙ ap (λ b. rising_jobs set at ++ (if b then record { 0 = suc at } ∷ [] else [])) (sym is) ∙ sym next_is
 
-pub as_newly : (b : Book) (before : ℕ) (all : Jobs) (at : ℕ) (is : Bool) → is ≡ (all (before + at + 1) && not (b.completed (before + at + 1))) → is ≡ newly_of b before all (suc at)
-as_newly b before all at is e = e ∙ (let same : before + at + 1 ≡ before + suc at = omega arith in ap (λ k. all k && not (b.completed k)) same)
+-- Where a set has none of some numbers, these add nothing.
+pub none_to : (set : Jobs) (m n : ℕ) → m ≤ n → ((k : ℕ) → m < k → k ≤ n → set k ≡ false) → rising_jobs set n ≡ rising_jobs set m
+none_to set m zero le none = let z : 0 ≡ m = omega arith in ap (rising_jobs set) z
+none_to set m (suc n) le none = ⊎_elim
+    (λ same. ap (rising_jobs set) (sym same))
+    (λ less. sym (none_more set n (rising_jobs set n) refl (none (suc n) (omega arith) (omega arith)) ∙ (let e : n + 1 ≡ suc n = omega arith in ap (rising_jobs set) e))
+    ∙ none_to set m n (omega arith) (λ k low high. none k low (omega arith)))
+    (cases_eq m (suc n))
+
+module _ (b : Book) (before : ℕ) (all : Jobs) where
+  -- the jobs of a set that aren't completed, by their own numbers
+  abbrev pub open_of : Jobs
+  open_of j = all j && not (b.completed j)
+
+  moved : (k j : ℕ) → before + k ≡ j → newly_of b before all k ≡ open_of j
+  moved k j e = ap open_of e
+
+  -- none of a set between two numbers, and then one
+  pub next_to : (at j : ℕ) → before ≤ at → at < j → open_of j ≡ true → ((k : ℕ) → at < k → k < j → open_of k ≡ false)
+      → (ids new : List JobId) → ids ≡ rising_jobs (newly_of b before all) (at - before) → new ≡ ids ++ record { 0 = j - before } ∷ []
+      → new ≡ rising_jobs (newly_of b before all) (j - before)
+  next_to at j le lt is none ids new was more =
+      let set : Jobs = newly_of b before all in
+      let n : ℕ = j - before - 1 in
+      let up : n + 1 ≡ j - before = omega arith in
+      let here : before + suc n ≡ j = omega arith in
+      let skipped = none_to set (at - before) n (omega arith)
+      (λ k low high. moved k (before + k) refl ∙ none (before + k) (omega arith) (omega arith)) in
+      let id : ℕ → JobId = λ m. record { 0 = m } in
+      one_more set n ids new (was ∙ sym skipped) (moved (suc n) j here ∙ is) (more ∙ ap (λ m. ids ++ id m ∷ []) (sym up))
+      ∙ ap (rising_jobs set) up
+
+  -- none any more
+  pub none_left : (at count : ℕ) → before ≤ at → at ≤ count → ((k : ℕ) → at < k → k ≤ count → open_of k ≡ false)
+      → (ids : List JobId) → ids ≡ rising_jobs (newly_of b before all) (at - before) → ids ≡ rising_jobs (newly_of b before all) (count - before)
+  none_left at count le few none ids was =
+      was ∙ sym (none_to (newly_of b before all) (at - before) (count - before) (omega arith)
+      (λ k low high. moved k (before + k) refl ∙ none (before + k) (omega arith) (omega arith)))
 
 pub is_empty : (v : Vec JobId Global) → nat_eq (vec_len v) 0 ≡ true → v.items ≡ []
 is_empty v e = by v.items (let len = v.ok.0 in let none = eqb-true (vec_len v) 0 e in omega arith)

@@ -1,9 +1,9 @@
 -- The jobs of a section among some jobs, in rising order.
-use Rattle.std.proofs.Common.{◌≡◌, ℕ, zero, suc, ◌+◌, ◌-◌, ◌<◌, ◌≤◌, Bool, true, false, ◌&&◌, ◌||◌, eq-eqb, eqb-true, List, [], ◌∷◌, ◌++◌, length, get_or, refl, sym, ap, subst, ◌∙◌, arith}
+use Rattle.std.proofs.Common.{◌≡◌, ℕ, zero, suc, ◌+◌, ◌-◌, ◌<◌, ◌≤◌, ⊎_elim, Bool, true, false, ◌&&◌, not, ◌||◌, eq-eqb, eqb-true, List, [], ◌∷◌, ◌++◌, length, get_or, refl, sym, ap, subst, ◌∙◌, arith}
 use Rattle.std.specs.Prelude.{nat_eq, nat_lt, nat_le}
-use Rattle.std.proofs.lemmas.Bool.{lt-ltb, leb-true, leb-false, le-leb}
+use Rattle.std.proofs.lemmas.Bool.{cases_eq, lt-ltb, leb-true, leb-false, le-leb}
 use Rattle.job_base.specs.declared.JobId.{JobId}
-use Rattle.frame_ast.specs.Jobs.{Jobs}
+use Rattle.frame_ast.specs.Jobs.{Jobs, nobody}
 use Rattle.frame_ast.specs.Laws.{AreUpTo}
 use Rattle.frame_core.specs.Names.{has_job}
 use Rattle.frame_core.specs.Ordered.{IsAbove}
@@ -55,6 +55,13 @@ none_so_far before jobs (suc j) = by (nat_le (before + suc j) before) refl
     by : (b : Bool) → nat_le (before + suc j) before ≡ b → false ≡ (b && later before jobs (suc j))
     by true e = (let le = leb-true (before + suc j) before e in absurd (omega arith))
     by false e = refl
+
+-- no job of the plan is there at first
+pub none_within : (n : ℕ) (ids : List JobId) → ids ≡ [] → AreJobsUpTo n ids
+none_within n ids e = subst (AreJobsUpTo n) (sym e) (tt, λ k d lt. absurd (omega arith))
+
+pub none_has : (ids : List JobId) → ids ≡ [] → (j : ℕ) → has_job ids j ≡ false
+none_has ids e j = ap (λ xs. has_job xs j) e
 
 -- one number more
 next_number : (before n j : ℕ) (jobs : Jobs) → before ≤ n → (b : Bool) → b ≡ jobs (n + 1)
@@ -118,6 +125,37 @@ number_passed before n jobs ids le so is = (
     or_none : (b : Bool) → (b || false) ≡ b
     or_none true = refl
     or_none false = refl
+
+-- some numbers that aren't among them
+pub numbers_passed : (before m n : ℕ) (jobs : Jobs) (ids : List JobId) → before ≤ m → m ≤ n → AreSoFar before m jobs ids
+    → ((k : ℕ) → m < k → k ≤ n → jobs k ≡ false) → AreSoFar before n jobs ids
+numbers_passed before m zero jobs ids low le so none = let z : m ≡ 0 = omega arith in subst (λ x. AreSoFar before x jobs ids) z so
+numbers_passed before m (suc n) jobs ids low le so none = ⊎_elim
+    (λ same. subst (λ x. AreSoFar before x jobs ids) same so)
+    (λ less. let e : n + 1 ≡ suc n = omega arith in
+    subst (λ x. AreSoFar before x jobs ids) e
+    (number_passed before n jobs ids (omega arith) (numbers_passed before m n jobs ids low (omega arith) so (λ k a b. none k a (omega arith)))
+    (ap jobs e ∙ none (suc n) (omega arith) (omega arith))))
+    (cases_eq m (suc n))
+
+-- none of some numbers, and then one
+pub number_reached : (before at j : ℕ) (jobs : Jobs) (ids new : List JobId) → before ≤ at → at < j → AreSoFar before at jobs ids
+    → jobs j ≡ true → ((k : ℕ) → at < k → k < j → jobs k ≡ false) → new ≡ ids ++ id (j - before) ∷ [] → AreSoFar before j jobs new
+number_reached before at j jobs ids new low lt so is none more =
+    let n : ℕ = j - 1 in
+    let up : n + 1 ≡ j = omega arith in
+    subst (λ x. AreSoFar before x jobs new) up
+    (number_taken before n jobs ids new (omega arith)
+    (numbers_passed before at n jobs ids low (omega arith) so (λ k a b. none k a (omega arith)))
+    (ap jobs up ∙ is) (more ∙ ap (λ m. ids ++ id (m - before) ∷ []) (sym up)))
+
+-- a set without nobody
+pub without_none : (a none : Jobs) → none ≡ nobody → (k : ℕ) (b : Bool) → (a k && not (none k)) ≡ b → a k ≡ b
+without_none a none e k b is = sym (and_true (a k)) ∙ ap (λ (o : Jobs). a k && not (o k)) (sym e) ∙ is
+  where
+    and_true : (x : Bool) → (x && true) ≡ x
+    and_true true = refl
+    and_true false = refl
 
 -- all of them
 pub all_numbers : (before n : ℕ) (jobs : Jobs) (ids : List JobId) → AreUpTo n jobs → AreSoFar before n jobs ids → (j : ℕ) → has_job ids j ≡ later before jobs j

@@ -51,20 +51,12 @@ impl Planner {
         ensures { IfOk result (λ ids. AreNotCompleted self.now (jobs_of all.now) ids.items) }
     {
         let mut ids = Vec::new(alloc);
-        for at in 0..self.jobs.count() - self.jobs_before {
-            if self.is_new(all, JobId(self.jobs_before + at + 1)) {
-                ids.push(JobId(at + 1))?;
-            }
+        let mut at = self.jobs_before;
+        while let Some(job) = self.jobs.next_open(all, at) {
+            ids.push(JobId(job.0 - self.jobs_before))?;
+            at = job.0;
         }
         Ok(ids)
-    }
-
-    /// Whether a job of the book is in a set and isn't completed.
-    fn is_new(&self, all: &Handle, job: JobId) -> bool
-        requires { (0 < job.0) × (job.0 ≤ count_of self.now.jobs) × (job.0 ≤ MOST_JOBS) }
-        ensures { (b : Book) → StandsFor self.now.jobs b → result ≡ (jobs_of all.now job.0 && not (b.completed job.0)) }
-    {
-        all.has(job) && !self.jobs.is_completed(job)
     }
 
     /// The segment at hand is closed, and the next one waits for these jobs.

@@ -40,11 +40,12 @@ impl Planner {
         ensures { IfOk result (λ later.
             AreLater self.now.jobs_before (count_of self.now.jobs) (jobs_of jobs.now) later.items) }
     {
+        let none = Handle::empty();
         let mut later = Vec::new(alloc);
-        for number in self.jobs_before..self.jobs.count() {
-            if jobs.has(JobId(number + 1)) {
-                later.push(JobId(number + 1 - self.jobs_before))?;
-            }
+        let mut at = self.jobs_before;
+        while let Some(job) = jobs.next_outside(&none, at, self.jobs.count()) {
+            later.push(JobId(job.0 - self.jobs_before))?;
+            at = job.0;
         }
         Ok(later)
     }

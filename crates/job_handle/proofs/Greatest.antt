@@ -1,4 +1,4 @@
--- The greatest of a set, where it has none of the upper jobs.
+-- The greatest of a set, where it has none of the upper jobs, and sets that have none of some jobs.
 use Rattle.std.proofs.Common.{◌≡◌, ℕ, zero, suc, ◌-◌, ◌<◌, ◌≤◌, ⊎_elim, true, false, ◌&&◌, Some, None, refl, sym, ap, subst, ◌∙◌, arith}
 use Rattle.std.specs.Prelude.{not, nat_lt}
 use Rattle.std.proofs.lemmas.Bool.{cases_eq, cases_lt, cond-true, cond-false, and_parts, and_from, and_left, and_right, le-ltb, not_from_true, not_from_false, false_from_ne_true}
@@ -37,6 +37,17 @@ module _ (a b : Handle) where
       let p = and_parts (jobs_of a k) (not (jobs_of b k)) t in
       not_both p.1 (not_from_true (jobs_of b k) (there k low here p.0))))
       (cases_lt left k)
+
+  -- as far as was looked, and from there on the jobs that are in the one are in the other
+  pub none_up_to : (from at next : ℕ) → ((k : ℕ) → from < k → k ≤ at → outside (jobs_of a) (jobs_of b) k ≡ false)
+      → ((k : ℕ) → at < k → k ≤ next → jobs_of a k ≡ true → jobs_of b k ≡ true)
+      → (k : ℕ) → from < k → k ≤ next → outside (jobs_of a) (jobs_of b) k ≡ false
+  none_up_to from at next none there k low high = ⊎_elim
+      (λ above. false_from_ne_true (outside (jobs_of a) (jobs_of b) k) (λ t.
+      let p = and_parts (jobs_of a k) (not (jobs_of b k)) t in
+      not_both p.1 (not_from_true (jobs_of b k) (there k above high p.0))))
+      (λ here. none k low here)
+      (cases_lt at k)
 
   pub found_last : (j : ℕ) → 0 < j → jobs_of a j ≡ true → jobs_of b j ≡ false → ((k : ℕ) → j < k → outside (jobs_of a) (jobs_of b) k ≡ false)
       → (n : ℕ) → AreUpTo n (jobs_of a) → Some (record { 0 = j }) ≡ job_numbered (greatest (outside (jobs_of a) (jobs_of b)) n)

@@ -1,5 +1,5 @@
 -- The set of jobs that a handle is.
-use Rattle.std.specs.Prelude.{◌≡◌, ℕ, zero, suc, ◌+◌, ◌-◌, ◌/◌, ◌%◌, ◌<◌, Bool, true, ◌&&◌, not, nat_eq, nat_lt, List, slice_index, slice_index_or, Option, None, Some}
+use Rattle.std.specs.Prelude.{◌≡◌, ℕ, zero, suc, ◌+◌, ◌-◌, ◌/◌, ◌%◌, ◌<◌, ◌≤◌, Bool, true, false, ◌&&◌, not, nat_eq, nat_lt, List, slice_index, slice_index_or, Option, None, Some}
 use Rattle.std.specs.Int.{bit_at}
 use Rattle.job_base.specs.declared.JobId.{JobId}
 use Rattle.job_base.specs.declared.limits.TheConstants.{MOST_JOBS}
@@ -26,3 +26,8 @@ outside a b j = a j && not (b j)
 abbrev pub job_numbered : ℕ → Option JobId
 job_numbered zero = None
 job_numbered (suc j) = Some (record { 0 = suc j })
+
+-- An answer is the least job of a set after job `from` and up to job `to`, or there is none.
+abbrev pub IsNext : Jobs → ℕ → ℕ → Option JobId → Type 0
+IsNext set from to None = (k : ℕ) → from < k → k ≤ to → set k ≡ false
+IsNext set from to (Some j) = (from < j.0) × (j.0 ≤ to) × (set j.0 ≡ true) × ((k : ℕ) → from < k → k < j.0 → set k ≡ false)

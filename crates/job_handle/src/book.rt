@@ -1,5 +1,5 @@
 // The jobs of a script, each with all that it waits for.
-ghost use Rattle.std.specs.Prelude.{◌≡◌, ℕ, ◌+◌, ◌<◌, ◌≤◌, ◌↔◌, IfOk, OnOk, OnErr, IsErr, is_ok, if◌then◌else◌, vec_len, vec_capacity, true};
+ghost use Rattle.std.specs.Prelude.{◌≡◌, ℕ, ◌+◌, ◌<◌, ◌≤◌, ◌↔◌, IfOk, IfSome, OnOk, OnErr, IsErr, is_ok, if◌then◌else◌, vec_len, vec_capacity, true};
 ghost use Rattle.job_base.specs.declared.limits.TheConstants.{MOST_JOBS};
 ghost use Rattle.job_handle.specs.Sets.{HaveOwnJobs};
 
@@ -28,7 +28,7 @@ pub struct JobBook {
 impl JobBook {
     ghost use Rattle.frame_ast.specs.Jobs.{Book, empty_book, ancestors_in, happens_before, with_job, with_completed};
     ghost use Rattle.frame_ast.specs.Laws.{AreUpTo};
-    ghost use Rattle.job_handle.specs.Sets.{jobs_of};
+    ghost use Rattle.job_handle.specs.Sets.{jobs_of, outside, IsNext};
     ghost use Rattle.job_handle.specs.Books.{count_of, StandsFor};
 
     /// No job. All memory of the book is taken here.
@@ -88,6 +88,15 @@ impl JobBook {
         ensures { (b : Book) → StandsFor self.now b → result ≡ b.completed j.0 }
     {
         self.completed.has(j)
+    }
+
+    /// The least job of the book after job `from` that is in `h` and wasn't completed, or none.
+    pub fn next_open(&self, h: &Handle, from: u32) -> Option<JobId>
+        ensures within { IfSome result (λ j. (from < j.0) × (j.0 ≤ count_of self.now)) }
+        ensures next { (b : Book) → StandsFor self.now b
+            → IsNext (outside (jobs_of h.now) b.completed) from (count_of self.now) result }
+    {
+        h.next_outside(&self.completed, from, self.count())
     }
 
     /// Whether a job of the book is in `h`, or an ancestor of a job of it.

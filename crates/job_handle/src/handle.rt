@@ -2,7 +2,7 @@
 ghost use Rattle.std.specs.Prelude.{◌≡◌, ℕ, ◌<◌, ◌≤◌, ◌+◌, ◌*◌, IsTrue, true};
 ghost use Rattle.frame_ast.specs.Jobs.{nobody, only, both, greatest};
 ghost use Rattle.frame_ast.specs.Laws.{AreUpTo};
-ghost use Rattle.job_handle.specs.Sets.{jobs_of, outside, job_numbered};
+ghost use Rattle.job_handle.specs.Sets.{jobs_of, outside, job_numbered, IsNext};
 
 use job_base::JobId;
 use job_base::limits::MOST_JOBS;
@@ -79,6 +79,28 @@ impl Handle {
                     return Some(j);
                 }
                 left -= 1;
+            }
+        }
+        None
+    }
+
+    /// The least job after job `from` and up to job `to` that is in this set and not in another one, or none. It costs a
+    /// step a word, and one a job in words that have such a job.
+    pub fn next_outside(&self, other: &Handle, from: u32, to: u32) -> Option<JobId>
+        requires { to ≤ MOST_JOBS }
+        ensures { IsNext (outside (jobs_of self.now) (jobs_of other.now)) from to result }
+    {
+        let mut at = from;
+        while at < to {
+            let word = at as usize / WORD_JOBS;
+            if other.has_word_of(self, word) {
+                at = ((word + 1) * WORD_JOBS) as u32;
+            } else {
+                at += 1;
+                let j = JobId(at);
+                if self.has(j) && !other.has(j) {
+                    return Some(j);
+                }
             }
         }
         None
