@@ -1,7 +1,7 @@
 -- A set of the jobs whose use conflicts, and the greatest of them that doesn't happen before.
-use Rattle.std.proofs.Common.{◌≡◌, ℕ, zero, suc, ◌+◌, ◌-◌, ◌<◌, ◌≤◌, ⊎_elim, Bool, true, false, ◌&&◌, ◌||◌, Option, refl, sym, ap, subst, ◌∙◌, arith}
+use Rattle.std.proofs.Common.{◌≡◌, ℕ, zero, suc, ◌+◌, ◌-◌, ◌<◌, ◌≤◌, ⊎_elim, Bool, true, false, ◌&&◌, ◌||◌, Option, None, refl, sym, ap, subst, ◌∙◌, arith}
 use Rattle.std.specs.Prelude.{not, nat_eq, nat_lt, if◌then◌else◌}
-use Rattle.std.proofs.lemmas.Bool.{or_left, or_right, or_cases, and_parts, and_from, eqb-true, ltb-true, lt-ltb, false_from_ne_true}
+use Rattle.std.proofs.lemmas.Bool.{cond-false, or_left, or_right, or_cases, and_parts, and_from, eqb-true, ltb-true, lt-ltb, false_from_ne_true}
 use Rattle.job_base.specs.declared.JobId.{JobId}
 use Rattle.job_base.specs.declared.limits.TheConstants.{MOST_JOBS}
 use Rattle.frame_ast.specs.Jobs.{Jobs, nobody, only, both, greatest, Book, happens_before}
@@ -89,3 +89,18 @@ blocks book l users before after writes found e is latest b u F U S =
     same k some =
         (λ i. e i k && not (is b F k i))
         ∙ ap (λ (x : Bool). (x && (nat_eq k l.writer || (writes && l.readers k))) && not (happens_before b (jobs_of after) k)) (lt-ltb 0 k some)
+
+none_greatest : (set : Jobs) (n : ℕ) → ((k : ℕ) → 0 < k → set k ≡ false) → 0 ≡ greatest set n
+none_greatest set zero none = refl
+none_greatest set (suc n) none = none_greatest set n none ∙ sym (cond-false (set (suc n)) (suc n) (greatest set n) (none (suc n) (omega arith)))
+
+-- where no job conflicts, none blocks
+pub nothing_blocks : (book : JobBook) (l : Latest) (after : Handle) (writes : Bool) → ((k : ℕ) → conflicting_in l writes k ≡ false)
+    → (b : Book) (u : Uses) → StandsFor book b → AreUses b u → StandForUses b l u → None ≡ job_numbered (blocker b u (jobs_of after) writes)
+nothing_blocks book l after writes free b u F U S =
+    ap (λ n. job_numbered n) (none_greatest (latest_blockers b l (jobs_of after) writes) b.count none ∙ latest_decide b l u F.known U S (jobs_of after) writes)
+  where
+    none : (k : ℕ) → 0 < k → latest_blockers b l (jobs_of after) writes k ≡ false
+    none k some =
+        (λ i. (sym (lt-ltb 0 k some) i && (nat_eq k l.writer || (writes && l.readers k))) && not (happens_before b (jobs_of after) k))
+        ∙ (λ i. free k i && not (happens_before b (jobs_of after) k))
