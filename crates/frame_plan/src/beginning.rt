@@ -46,7 +46,7 @@ fn carried_cells(alloc: Global, cells: &mut FlatMem, len: u32) -> Result<Vec<i64
     ensures list { IfOk result (λ v. v.items ≡ cell_list (cells_of cells.old) 0 len) }
     ensures cells { cells.new ≡ cells.old }
 {
-    let mut list = Vec::new(alloc);
+    let mut list = Vec::with_capacity(alloc, len as usize)?;
     for w in 0..len {
         list.push(cells.load(Word(w)))?;
     }
