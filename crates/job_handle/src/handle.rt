@@ -97,9 +97,9 @@ impl Handle {
                 at = ((word + 1) * WORD_JOBS) as u32;
             } else {
                 at += 1;
-                let j = JobId(at);
-                if self.has(j) && !other.has(j) {
-                    return Some(j);
+                let next = JobId(at);
+                if self.has(next) && !other.has(next) {
+                    return Some(next);
                 }
             }
         }
