@@ -11,3 +11,5 @@ mod Opening
 mod Turns
 mod Running
 mod Joining
+mod Giving
+mod Claiming

@@ -1,4 +1,6 @@
 -- promises
+pub mod Claims
+pub mod Given
 pub mod Laws
 pub mod Rooms
 pub mod Runs

@@ -4,6 +4,7 @@ use Rattle.job_base.specs.declared.limits.TheConstants.{MOST_WORKERS}
 use Rattle.frame_core.specs.declared.plan.Plan.{Plan}
 use Rattle.frame_core.specs.Know.{Know}
 use Rattle.steal_pool.specs.declared.room.PoolRoom.{PoolRoom}
+use Rattle.steal_pool.specs.Claims.{AreClaimsOf}
 use Rattle.steal_pool.specs.Followers.{AreFollowers}
 use Rattle.steal_pool.specs.Seats.{IsReady, IsFirst}
 
@@ -12,6 +13,7 @@ use Rattle.steal_pool.specs.Seats.{IsReady, IsFirst}
 pub record IsRoomOf {S : Type 0} (home : S → List ℕ) (know : S → Know) (plan : Plan) (name : List ℕ)
     (room : PoolRoom S) : Type 0 where
   pub followers : AreFollowers plan room.shared.followers
+  pub claims : AreClaimsOf plan room.shared.claims
   pub first : IsFirst home know name 0 room.first
   pub others : All (IsReady home know name) room.others.items
   pub many : length room.others.items < MOST_WORKERS
@@ -19,6 +21,7 @@ pub record IsRoomOf {S : Type 0} (home : S → List ℕ) (know : S → Know) (pl
 -- It is made for the plan, and its places have these seats, in their order.
 pub record HasSeats {S : Type 0} (plan : Plan) (seats : List S) (room : PoolRoom S) : Type 0 where
   pub followers : AreFollowers plan room.shared.followers
+  pub claims : AreClaimsOf plan room.shared.claims
   pub seats_are : room.first.seat ∷ map (λ place. place.seat) room.others.items ≡ map (λ seat. Some seat) seats
   pub many : length room.others.items < MOST_WORKERS
 

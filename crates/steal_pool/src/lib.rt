@@ -38,6 +38,7 @@ mod segment;
 mod shown_plan;
 mod tally;
 mod threads;
+mod view;
 mod waiting;
 mod whole;
 

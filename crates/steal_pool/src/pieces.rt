@@ -3,10 +3,11 @@ ghost use Rattle.std.specs.Prelude.{◌≡◌, ◌+◌, ◌<◌, ◌≤◌, ℕ,
 ghost use Rattle.frame_core.specs.Names.{job_pieces};
 ghost use Rattle.frame_core.specs.Ordered.{IsWellOrderedPlan};
 ghost use Rattle.steal_pool.specs.Followers.{IsJobOf, AreFollowers};
+ghost use Rattle.steal_pool.specs.Claims.{AreClaimsOf, IsGiven};
 ghost use Rattle.steal_pool.specs.Crews.{IsCrewOf};
 ghost use Rattle.steal_pool.specs.Seats.{IsIdle, IsOn, IsSteady, IsReleased, MayOpenFrom, MayOpenNone, HasDues};
 
-use crate::claims::Claims;
+use crate::claims::{Claimed, Claims};
 use crate::crew::{Crew, Shared};
 use crate::followers::Followers;
 use crate::held::hold_part;
@@ -115,23 +116,24 @@ fn end_piece<B: Board>(
     }
 }
 
-// Runs a piece of a job, if it is open.
+// Runs a piece of a job that is given to this worker, if it is open.
 fn run_piece<R, B: Board, G: Gate>(
     crew: &Crew<R, B, G>,
     tools: &mut Tools,
     seat: B::Seat,
-    piece: PieceId,
+    claimed: Claimed,
 ) -> Ran<B::Seat>
-    requires crew { IsCrewOf crew.now.plan.now (B.plan crew.now.board.now) crew.now.shared.now.followers }
+    requires crew { IsCrewOf crew.now.plan.now (B.plan crew.now.board.now) crew.now.shared.now }
     requires home { B.home seat ≡ B.name crew.now.board.now }
     requires idle { IsIdle (B.know seat) }
-    requires piece { piece.0 < job_pieces crew.now.plan.now }
+    requires given { IsGiven crew.now.plan.now crew.now.shared.now.claims claimed }
     ensures home { B.home result.seat ≡ B.home seat }
     ensures idle { IsIdle (B.know result.seat) }
     ensures on { IsOn (B.know seat) (B.know result.seat) }
 {
     let plan = crew.plan;
     let board = crew.board;
+    let piece = claimed.piece;
     let mut own = seat;
     if !board.begin(&mut own, piece) {
         return Ran {
@@ -160,14 +162,15 @@ fn run_piece<R, B: Board, G: Gate>(
 const SPENT_OFFERS: u32 = 64;
 
 // The next piece of the job at hand.
-fn at_hand(plan: &Plan, claims: &Claims, tools: &mut Tools) -> Option<PieceId>
+fn at_hand(plan: &Plan, claims: &Claims, tools: &mut Tools) -> Option<Claimed>
     requires well { IsWellOrderedPlan plan.now }
-    ensures piece { IfSome result (λ piece. piece.0 < job_pieces plan.now) }
+    requires claims { AreClaimsOf plan.now claims.now }
+    ensures given { IfSome result (IsGiven plan.now claims.now) }
 {
     let job = tools.at_hand?;
     match claims.next(plan, job) {
-        Some(claimed) => Some(claimed.piece),
-        None => {
+        Ok(claimed) => Some(claimed),
+        Err(_) => {
             tools.at_hand = None;
             None
         }
@@ -175,30 +178,32 @@ fn at_hand(plan: &Plan, claims: &Claims, tools: &mut Tools) -> Option<PieceId>
 }
 
 // Takes up a job that is offered, and offers it again where it has more pieces than the one that is answered.
-fn take_up(plan: &Plan, shared: &Shared, tools: &mut Tools) -> Option<PieceId>
+fn take_up(plan: &Plan, shared: &Shared, tools: &mut Tools) -> Option<Claimed>
     requires well { IsWellOrderedPlan plan.now }
-    ensures piece { IfSome result (λ piece. piece.0 < job_pieces plan.now) }
+    requires claims { AreClaimsOf plan.now shared.now.claims }
+    ensures given { IfSome result (IsGiven plan.now shared.now.claims) }
 {
     for _ in 0..SPENT_OFFERS {
         let job = tools.queue.find(tools.number, &shared.thieves)?;
-        if let Some(claimed) = shared.claims.next(plan, job) {
+        if let Ok(claimed) = shared.claims.next(plan, job) {
             if claimed.more {
                 tools.at_hand = Some(job);
                 tools.queue.push(job);
             }
-            return Some(claimed.piece);
+            return Some(claimed);
         }
     }
     None
 }
 
 // The next piece of a job that is for this worker to run.
-fn next_piece(plan: &Plan, shared: &Shared, tools: &mut Tools) -> Option<PieceId>
+fn next_piece(plan: &Plan, shared: &Shared, tools: &mut Tools) -> Option<Claimed>
     requires well { IsWellOrderedPlan plan.now }
-    ensures piece { IfSome result (λ piece. piece.0 < job_pieces plan.now) }
+    requires claims { AreClaimsOf plan.now shared.now.claims }
+    ensures given { IfSome result (IsGiven plan.now shared.now.claims) }
 {
-    if let Some(piece) = at_hand(plan, &shared.claims, tools) {
-        return Some(piece);
+    if let Some(claimed) = at_hand(plan, &shared.claims, tools) {
+        return Some(claimed);
     }
     take_up(plan, shared, tools)
 }
@@ -209,7 +214,7 @@ pub fn help<R, B: Board, G: Gate>(
     tools: &mut Tools,
     seat: B::Seat,
 ) -> Ran<B::Seat>
-    requires crew { IsCrewOf crew.now.plan.now (B.plan crew.now.board.now) crew.now.shared.now.followers }
+    requires crew { IsCrewOf crew.now.plan.now (B.plan crew.now.board.now) crew.now.shared.now }
     requires home { B.home seat ≡ B.name crew.now.board.now }
     requires idle { IsIdle (B.know seat) }
     ensures home { B.home result.seat ≡ B.home seat }
@@ -217,7 +222,7 @@ pub fn help<R, B: Board, G: Gate>(
     ensures on { IsOn (B.know seat) (B.know result.seat) }
 {
     match next_piece(crew.plan, crew.shared, tools) {
-        Some(piece) => run_piece(crew, tools, seat, piece),
+        Some(claimed) => run_piece(crew, tools, seat, claimed),
         None => Ran { seat, ran: false },
     }
 }

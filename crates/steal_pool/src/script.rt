@@ -59,7 +59,7 @@ fn run_next<R: Wait, B: Board, S: Sink, G: Gate>(
     refused: &mut u64,
     i: u32,
 ) -> Counted<B::Seat>
-    requires crew { IsCrewOf crew.now.plan.now (B.plan crew.now.board.now) crew.now.shared.now.followers }
+    requires crew { IsCrewOf crew.now.plan.now (B.plan crew.now.board.now) crew.now.shared.now }
     requires home { B.home seat ≡ B.name crew.now.board.now }
     requires at { IsAt i (B.know seat) }
     requires index { i < length crew.now.plan.now.segments.items }
@@ -117,7 +117,7 @@ pub fn run_script<R: Wait, B: Board, S: Sink, G: Gate>(
     seat: B::Seat,
     sink: &mut S,
 ) -> Scripted<B::Seat>
-    requires crew { IsCrewOf crew.now.plan.now (B.plan crew.now.board.now) crew.now.shared.now.followers }
+    requires crew { IsCrewOf crew.now.plan.now (B.plan crew.now.board.now) crew.now.shared.now }
     requires home { B.home seat ≡ B.name crew.now.board.now }
     requires at { IsAt 0 (B.know seat) }
     ensures home { B.home result.seat ≡ B.home seat }

@@ -34,7 +34,7 @@ fn work<R: Wait, B: Board, G: Gate>(
 )
 where
     B::Seat: Drop,
-    requires crew { IsCrewOf plan.now (B.plan board.now) shared.now.followers }
+    requires crew { IsCrewOf plan.now (B.plan board.now) shared.now }
     requires ready { IsReady B.home B.know (B.name board.now) place.old }
 {
     let crew = Crew {
@@ -79,7 +79,7 @@ fn run_script_on<R: Wait, B: Board, S: Sink, G: Gate>(
 ) -> RunEnd
 where
     B::Seat: Drop,
-    requires crew { IsCrewOf plan.now (B.plan board.now) shared.now.followers }
+    requires crew { IsCrewOf plan.now (B.plan board.now) shared.now }
     requires first { IsFirst B.home B.know (B.name board.now) 0 place.old }
     ensures first { IsFirst B.home B.know (B.name board.now) (length plan.now.segments.items) place.new }
     ensures run { RunsTo S.taken S.faults plan.now (plan_lines plan.now) sink.old sink.new result }
@@ -112,7 +112,7 @@ fn run_workers<R: Threads + Wait + Sync, P: ShowsPlan + Sync, B: Board + Sync, G
 )
 where
     B::Seat: Send + Drop,
-    requires crew { IsCrewOf (P.shown plan.now) (B.plan board.now) shared.now.followers }
+    requires crew { IsCrewOf (P.shown plan.now) (B.plan board.now) shared.now }
     requires others { All (IsReady B.home B.know (B.name board.now)) others.old }
     requires many { length others.old < MOST_WORKERS }
 {
@@ -126,7 +126,7 @@ where
         threads,
         &|_, place|
             requires { IsSync R.row
-                × IsCrewOf (P.shown plan.now) (B.plan board.now) shared.now.followers
+                × IsCrewOf (P.shown plan.now) (B.plan board.now) shared.now
                 × IsReady B.home B.know (B.name board.now) place.old }
         { work(rt, plan.plan(), board, gate, shared, place) },
     );
@@ -153,7 +153,7 @@ pub(crate) fn run_places<
 ) -> RunEnd
 where
     B::Seat: Send + Drop,
-    requires crew { IsCrewOf (P.shown plan.now) (B.plan board.now) shared.now.followers }
+    requires crew { IsCrewOf (P.shown plan.now) (B.plan board.now) shared.now }
     requires first { IsFirst B.home B.know (B.name board.now) 0 first.old }
     requires others { All (IsReady B.home B.know (B.name board.now)) others.old }
     requires many { length others.old < MOST_WORKERS }
@@ -168,12 +168,12 @@ where
     let workers = &mut others[..busy];
     let mut f = ||
         requires { IsSync R.row
-            × IsCrewOf (P.shown plan.now) (B.plan board.now) shared.now.followers
+            × IsCrewOf (P.shown plan.now) (B.plan board.now) shared.now
             × All (IsReady B.home B.know (B.name board.now)) workers.now
             × (length workers.now < MOST_WORKERS) }
     { run_workers(rt, plan, board, gate, shared, workers) };
     let mut g = ||
-        requires { IsCrewOf (P.shown plan.now) (B.plan board.now) shared.now.followers
+        requires { IsCrewOf (P.shown plan.now) (B.plan board.now) shared.now
             × IsFirst B.home B.know (B.name board.now) 0 first.now }
         ensures first { IsFirst B.home B.know (B.name board.entry.now)
             (length (P.shown plan.entry.now).segments.items) first.exit.now }

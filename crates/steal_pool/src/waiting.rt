@@ -23,7 +23,7 @@ fn wait_one<R: Wait, B: Board, G: Gate>(
     seat: B::Seat,
     job: JobId,
 ) -> B::Seat
-    requires crew { IsCrewOf crew.now.plan.now (B.plan crew.now.board.now) crew.now.shared.now.followers }
+    requires crew { IsCrewOf crew.now.plan.now (B.plan crew.now.board.now) crew.now.shared.now }
     requires home { B.home seat ≡ B.name crew.now.board.now }
     requires idle { IsIdle (B.know seat) }
     requires job { IsJobOf crew.now.plan.now job }
@@ -56,7 +56,7 @@ pub fn wait_all<R: Wait, B: Board, G: Gate>(
     seat: B::Seat,
     waits: &[JobId],
 ) -> B::Seat
-    requires crew { IsCrewOf crew.now.plan.now (B.plan crew.now.board.now) crew.now.shared.now.followers }
+    requires crew { IsCrewOf crew.now.plan.now (B.plan crew.now.board.now) crew.now.shared.now }
     requires home { B.home seat ≡ B.name crew.now.board.now }
     requires idle { IsIdle (B.know seat) }
     requires jobs { All (IsJobOf crew.now.plan.now) waits.now }

@@ -1,68 +1,97 @@
-use Rattle.std.proofs.Common.{◌≡◌, ◌+◌, ◌-◌, length, arith, rules}
+use Rattle.std.proofs.Common.{◌≡◌, length, arith, rules, refl}
+use Rattle.frame_core.specs.Names.{pieces_of}
 use Rattle.steal_pool.specs.Followers.{IsJobOf}
-use Rattle.steal_pool.proofs.Opening.{number_is, there, cut_is, end_within, low, high}
-use Rattle.steal_pool.proofs.Seating.{is_one, below}
+use Rattle.steal_pool.proofs.Opening.{cut_is, end_within}
+use Rattle.steal_pool.proofs.Claiming.{of_job, piece, own, spent}
 use Rattle.steal_pool.proofs.claims.Claims.next.Goals as goal
 
-pub pieces-count-requires : goal.pieces-count-requires
-pieces-count-requires c =
+pub pieces-requires : goal.pieces-requires
+pieces-requires c =
     let plan = c.args.plan.now in
     let w = c.requires.well in
     let id = c.args.job in
-    let n : c.len.result ≡ length plan.jobs.items = search (rules, c.len.ensures) in
+    let len : c.len.result ≡ length plan.jobs.items = search (rules, c.len.ensures) in
     let a = c.if-job-eq0.false in
     let b = c.if-job-len.false in
-    let is : IsJobOf plan id = (omega (arith, a), omega (arith, n, b)) in
+    let is : IsJobOf plan id = (omega (arith, a), omega (arith, len, b)) in
     let x = c.index-entry.result.now in
-    let e = c.index-entry.ensures in
-    record { cut = cut_is plan w id is x e }
+    let at = c.index-entry.ensures in
+    record { cut = cut_is plan w id is x at }
 
 pub overflow_add-result : goal.overflow_add-result
 overflow_add-result c =
     let plan = c.args.plan.now in
     let w = c.requires.well in
     let id = c.args.job in
-    let n : c.len.result ≡ length plan.jobs.items = search (rules, c.len.ensures) in
+    let len : c.len.result ≡ length plan.jobs.items = search (rules, c.len.ensures) in
     let a = c.if-job-eq0.false in
     let b = c.if-job-len.false in
-    let is : IsJobOf plan id = (omega (arith, a), omega (arith, n, b)) in
+    let is : IsJobOf plan id = (omega (arith, a), omega (arith, len, b)) in
     let x = c.index-entry.result.now in
-    let e = c.index-entry.ensures in
-    let t = c.if-place-count.false in
-    let fits = end_within plan w id is x e c.pieces-count.result 0 c.pieces-count.ensures in
+    let at = c.index-entry.ensures in
+    let n = c.from-count.result in
+    let count : n ≡ pieces_of x = search (rules, c.from-count.ensures, c.pieces.ensures) in
+    let fits = end_within plan w id is x at n 0 count in
     let few = w.sized.pieces in
-    omega (arith, t, fits, few)
+    let low = c.in-Ok.ensures.low in
+    omega (arith, low, fits, few)
 
-pub returns-clause-of_job : goal.returns-clause-of_job
-returns-clause-of_job c =
+pub returns-in-Ok-clause-own : goal.returns-in-Ok-clause-own
+returns-in-Ok-clause-own c =
     let plan = c.args.plan.now in
     let w = c.requires.well in
     let id = c.args.job in
-    let n : c.len.result ≡ length plan.jobs.items = search (rules, c.len.ensures) in
+    let len : c.len.result ≡ length plan.jobs.items = search (rules, c.len.ensures) in
     let a = c.if-job-eq0.false in
     let b = c.if-job-len.false in
-    let is : IsJobOf plan id = (omega (arith, a), omega (arith, n, b)) in
+    let is : IsJobOf plan id = (omega (arith, a), omega (arith, len, b)) in
     let x = c.index-entry.result.now in
-    let e = c.index-entry.ensures in
-    let p = x.first.0 + c.fetch_add-place.result in
-    let t = c.if-place-count.false in
-    let lo = low plan w id is x e c.pieces-count.result p c.pieces-count.ensures (omega arith) in
-    let hi = high plan w id is x e c.pieces-count.result p c.pieces-count.ensures (omega (arith, t)) in
-    is_one plan id.0 (id.0 - 1) p x (number_is plan w id is x e) (there plan w id is x e) lo hi
+    let at = c.index-entry.ensures in
+    let n = c.from-count.result in
+    let count : n ≡ pieces_of x = search (rules, c.from-count.ensures, c.pieces.ensures) in
+    own plan w id is x at n count c.in-Ok.place c.in-Ok.ensures.low c.args.self.now _ refl refl c.in-Ok.ensures.given
 
-pub returns-clause-piece : goal.returns-clause-piece
-returns-clause-piece c =
+pub returns-in-Ok-clause-of_job : goal.returns-in-Ok-clause-of_job
+returns-in-Ok-clause-of_job c =
     let plan = c.args.plan.now in
     let w = c.requires.well in
     let id = c.args.job in
-    let n : c.len.result ≡ length plan.jobs.items = search (rules, c.len.ensures) in
+    let len : c.len.result ≡ length plan.jobs.items = search (rules, c.len.ensures) in
     let a = c.if-job-eq0.false in
     let b = c.if-job-len.false in
-    let is : IsJobOf plan id = (omega (arith, a), omega (arith, n, b)) in
+    let is : IsJobOf plan id = (omega (arith, a), omega (arith, len, b)) in
     let x = c.index-entry.result.now in
-    let e = c.index-entry.ensures in
-    let p = x.first.0 + c.fetch_add-place.result in
-    let t = c.if-place-count.false in
-    let lo = low plan w id is x e c.pieces-count.result p c.pieces-count.ensures (omega arith) in
-    let hi = high plan w id is x e c.pieces-count.result p c.pieces-count.ensures (omega (arith, t)) in
-    below plan id.0 (id.0 - 1) p x (number_is plan w id is x e) (there plan w id is x e) lo hi
+    let at = c.index-entry.ensures in
+    let n = c.from-count.result in
+    let count : n ≡ pieces_of x = search (rules, c.from-count.ensures, c.pieces.ensures) in
+    of_job plan w id is x at n count c.in-Ok.place c.in-Ok.ensures.low
+
+pub returns-in-Ok-clause-piece : goal.returns-in-Ok-clause-piece
+returns-in-Ok-clause-piece c =
+    let plan = c.args.plan.now in
+    let w = c.requires.well in
+    let id = c.args.job in
+    let len : c.len.result ≡ length plan.jobs.items = search (rules, c.len.ensures) in
+    let a = c.if-job-eq0.false in
+    let b = c.if-job-len.false in
+    let is : IsJobOf plan id = (omega (arith, a), omega (arith, len, b)) in
+    let x = c.index-entry.result.now in
+    let at = c.index-entry.ensures in
+    let n = c.from-count.result in
+    let count : n ≡ pieces_of x = search (rules, c.from-count.ensures, c.pieces.ensures) in
+    piece plan w id is x at n count c.in-Ok.place c.in-Ok.ensures.low
+
+pub returns-in-Err-clause-spent : goal.returns-in-Err-clause-spent
+returns-in-Err-clause-spent c =
+    let plan = c.args.plan.now in
+    let w = c.requires.well in
+    let id = c.args.job in
+    let len : c.len.result ≡ length plan.jobs.items = search (rules, c.len.ensures) in
+    let a = c.if-job-eq0.false in
+    let b = c.if-job-len.false in
+    let is : IsJobOf plan id = (omega (arith, a), omega (arith, len, b)) in
+    let x = c.index-entry.result.now in
+    let at = c.index-entry.ensures in
+    let n = c.from-count.result in
+    let count : n ≡ pieces_of x = search (rules, c.from-count.ensures, c.pieces.ensures) in
+    spent plan w id is x at n count c.args.self.now c.in-Err.token c.in-Err.ensures.none
