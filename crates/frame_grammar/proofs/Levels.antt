@@ -1,6 +1,6 @@
 -- An expression goes through all its levels, whatever token is ahead.
 use Rattle.std.proofs.Common.{◌≡◌, ℕ, ◌<◌, true, ◌∷◌, List, ◌++◌, reverse, refl, ap, ◌∙◌, arith}
-use Rattle.std.proofs.lemmas.List.{reverse-append, reverse-reverse}
+use Rattle.std.proofs.lemmas.List.{reverse-append}
 use denote.Enum.Bare.{sameb, same_true}
 use Rattle.frame_grammar.specs.contracts.symbols.Nonterminal.{the_type}
 use Rattle.frame_grammar.specs.declared.TokenKind.{TokenKind}

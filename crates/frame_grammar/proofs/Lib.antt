@@ -5,3 +5,4 @@ pub mod Run
 pub mod Ends
 pub mod Steps
 pub mod Levels
+pub mod Takings

@@ -5,6 +5,7 @@
 mod bodies;
 mod choices;
 mod parser;
+mod shortcuts;
 mod symbols;
 mod table;
 #[cfg(test)]

@@ -7,6 +7,7 @@ ghost use Rattle.frame_grammar.specs.Predict.{found, predicted};
 ghost use Rattle.frame_grammar.specs.Levels.{expression_levels};
 ghost use Rattle.frame_grammar.specs.Parser.{Takes, Stops};
 
+use crate::shortcuts::take_known;
 use crate::symbols::{Event, Nonterminal, Production, Symbol};
 use crate::table::{body, choices, default_production};
 use crate::{HasKind, TokenKind};
@@ -126,6 +127,9 @@ fn advance(
                 if nonterminal == Nonterminal::Expression {
                     push_expression(stack)?;
                     continue;
+                }
+                if take_known(stack, events, nonterminal, ahead, place)? {
+                    return Ok(true);
                 }
                 match predict(nonterminal, ahead) {
                     None => return Ok(false),

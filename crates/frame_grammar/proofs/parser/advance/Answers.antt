@@ -1,4 +1,7 @@
-use Rattle.std.proofs.Common.{reverse, ◌∷◌, ◌∙◌, sym, subst, ap}
+use Rattle.std.proofs.Common.{reverse, ◌∷◌, ◌++◌, ◌∙◌, sym, subst, ap}
+use Rattle.std.proofs.lemmas.Bool.{MatchBool-at_true, MatchBool-at_false}
+use Rattle.frame_grammar.specs.Grammar.{body_of}
+use Rattle.frame_grammar.proofs.Takings.{leads_take}
 use Rattle.frame_grammar.proofs.Steps.{Leads, top, no_top, taken, stops_empty, goes_on_by, acts, stops_at, smaller, kinds_same, kinds_differ, body_on_top}
 use Rattle.frame_grammar.specs.declared.symbols.Symbol.TheVariants as symbol
 use Rattle.frame_grammar.proofs.Levels.{nonterminals_same, levels_on_top, levels_lead, levels_smaller}
@@ -31,19 +34,23 @@ returns-in-None c =
 
 pub loop-symbol-preserved : goal.loop-symbol-preserved
 loop-symbol-preserved c =
+    let kept = MatchBool-at_false _ _ c.if-branch.false c.in_ok-take_known-in-Nonterminal.ensures in
     let seen = top c.loop-symbol.stack.items c.pop.new.self.items c.pop.result c.in-Some.symbol c.pop.ensures.items c.in-Some.is in
     let first = seen ∙ ap (λ s. s ∷ reverse c.pop.new.self.items) c.in-Nonterminal.is in
-    let on_top = body_on_top c.push_body.new.stack.items c.pop.new.self.items c.in-Some-predict.production c.in_ok-push_body-in-Some-predict.ensures in
+    let pushed = c.in_ok-push_body-in-Some-predict.ensures ∙ ap (λ ss. ss ++ reverse (body_of c.in-Some-predict.production)) kept.1 in
+    let on_top = body_on_top c.push_body.new.stack.items c.pop.new.self.items c.in-Some-predict.production pushed in
     let led = goes_on_by c.args.ahead c.args.place c.args.events.now.items c.loop-symbol.events.items (reverse c.args.stack.now.items) (reverse c.pop.new.self.items) c.in-Nonterminal.nonterminal c.in-Some-predict.production
     (subst (λ ss. Leads c.args.ahead c.args.place c.args.events.now.items (reverse c.args.stack.now.items) c.loop-symbol.events.items ss) first c.loop-symbol.invariant)
     (sym c.predict.ensures ∙ c.in-Some-predict.is) in
-    subst (λ ss. Leads c.args.ahead c.args.place c.args.events.now.items (reverse c.args.stack.now.items) c.loop-symbol.events.items ss) (sym on_top) led
+    rw (kept.0, on_top) led
 
 pub loop-symbol-smaller : goal.loop-symbol-smaller
 loop-symbol-smaller c =
+    let kept = MatchBool-at_false _ _ c.if-branch.false c.in_ok-take_known-in-Nonterminal.ensures in
     let seen = top c.loop-symbol.stack.items c.pop.new.self.items c.pop.result c.in-Some.symbol c.pop.ensures.items c.in-Some.is in
     let first = seen ∙ ap (λ s. s ∷ reverse c.pop.new.self.items) c.in-Nonterminal.is in
-    let on_top = body_on_top c.push_body.new.stack.items c.pop.new.self.items c.in-Some-predict.production c.in_ok-push_body-in-Some-predict.ensures in
+    let pushed = c.in_ok-push_body-in-Some-predict.ensures ∙ ap (λ ss. ss ++ reverse (body_of c.in-Some-predict.production)) kept.1 in
+    let on_top = body_on_top c.push_body.new.stack.items c.pop.new.self.items c.in-Some-predict.production pushed in
     rw (on_top, first) (smaller c.args.ahead c.in-Nonterminal.nonterminal c.in-Some-predict.production (reverse c.pop.new.self.items) (sym c.predict.ensures ∙ c.in-Some-predict.is))
 
 pub returns : goal.returns
@@ -69,3 +76,12 @@ loop-symbol-smaller-then-eq c =
     let first = seen ∙ ap (λ s. s ∷ reverse c.pop.new.self.items) (c.in-Nonterminal.is ∙ ap symbol.Nonterminal same) in
     let on_top = levels_on_top c.push_expression.new.stack.items c.pop.new.self.items c.in_ok-push_expression-in-Nonterminal.ensures in
     rw (on_top, first) (levels_smaller (reverse c.pop.new.self.items))
+
+pub returns-then-branch : goal.returns-then-branch
+returns-then-branch c =
+    let step = MatchBool-at_true _ _ c.if-branch.true c.in_ok-take_known-in-Nonterminal.ensures in
+    let seen = top c.loop-symbol.stack.items c.pop.new.self.items c.pop.result c.in-Some.symbol c.pop.ensures.items c.in-Some.is in
+    let first = seen ∙ ap (λ s. s ∷ reverse c.pop.new.self.items) c.in-Nonterminal.is in
+    leads_take c.args.ahead c.args.place c.args.events.now.items c.loop-symbol.events.items c.take_known.new.events.items (reverse c.args.stack.now.items)
+    (symbol.Nonterminal c.in-Nonterminal.nonterminal ∷ reverse c.pop.new.self.items) (reverse c.take_known.new.stack.items)
+    (subst (λ ss. Leads c.args.ahead c.args.place c.args.events.now.items (reverse c.args.stack.now.items) c.loop-symbol.events.items ss) first c.loop-symbol.invariant) step
