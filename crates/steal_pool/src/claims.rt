@@ -20,8 +20,8 @@ pub struct Claims {
     pub ghost size: { table.shared.table_id.words ≡ table.shared.key },
 }
 
-/// A piece that nobody else has, and whether its job has more of them.
-#[derive(Drop)]
+/// A piece that nobody else has, and whether its job has more of them. It can't be dropped: a piece that was given comes
+/// to where it is run.
 pub struct Claimed {
     pub piece: PieceId,
     pub more: bool,

@@ -6,11 +6,14 @@
 //! until all are given out. Who runs which piece and when says nothing of what is printed: the board gives each piece the
 //! cells of the run in script order. So what [`run`] promises is proved of the first seat alone.
 //!
-//! **Cost.** A piece costs one count beside the steps of its board, and a job one push and one pop or steal for each
-//! worker that comes to it, and a step for each job that depends on it. Nothing is allocated, locked or scanned for a
-//! piece or a job. A deque has 24 bytes for each of two pushes a job, so a plan of 4,096 jobs takes 0.2 MB a worker. An
-//! idle worker looks at each deque once a turn and backs off; a plan without pieces of jobs, or with one place, starts no
-//! thread.
+//! **Cost.** A piece costs a load and an exchange of its job's count beside the steps of its board, and one exchange
+//! more for each worker that was quicker. A job costs one push and one pop or steal for each worker that comes to it, and
+//! a step for each job that depends on it. Nothing is allocated, locked or scanned for a piece or a job. A deque has 24
+//! bytes for each of two pushes a job, so a plan of 4,096 jobs takes 0.2 MB a worker. An idle worker looks at each deque
+//! once a turn and backs off; a plan without pieces of jobs, or with one place, starts no thread.
+//!
+//! **Each piece is given once.** The counts are words under a rule (`specs/Given`): a piece is given by a token, no two
+//! tokens have one piece, and who is refused a piece of a job learns that all of them are given ([`laws`]).
 //!
 //! **That a run ends is not proved**, since threads may wait. It rests on this: whoever may open a job opens each piece
 //! (proved: between two turns a seat has none left to open) before it offers the job; a deque has room for all that its

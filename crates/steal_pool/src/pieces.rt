@@ -1,9 +1,8 @@
 // Pieces of jobs: opening them, running one, and what follows when a job is finished.
 ghost use Rattle.std.specs.Prelude.{◌≡◌, ◌+◌, ◌<◌, ◌≤◌, ℕ, suc, Some, None, IfSome, length, All};
-ghost use Rattle.frame_core.specs.Names.{job_pieces};
 ghost use Rattle.frame_core.specs.Ordered.{IsWellOrderedPlan};
-ghost use Rattle.steal_pool.specs.Followers.{IsJobOf, AreFollowers};
 ghost use Rattle.steal_pool.specs.Claims.{AreClaimsOf, IsGiven};
+ghost use Rattle.steal_pool.specs.Followers.{IsJobOf, AreFollowers};
 ghost use Rattle.steal_pool.specs.Crews.{IsCrewOf};
 ghost use Rattle.steal_pool.specs.Seats.{IsIdle, IsOn, IsSteady, IsReleased, MayOpenFrom, MayOpenNone, HasDues};
 
@@ -133,7 +132,11 @@ fn run_piece<R, B: Board, G: Gate>(
 {
     let plan = crew.plan;
     let board = crew.board;
-    let piece = claimed.piece;
+    let Claimed {
+        piece,
+        more: _,
+        token: _,
+    } = claimed;
     let mut own = seat;
     if !board.begin(&mut own, piece) {
         return Ran {
