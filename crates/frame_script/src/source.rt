@@ -3,10 +3,9 @@
 ghost use Rattle.std.specs.Prelude.{◌≡◌, ◌-◌, ◌^◌, ◌≤◌, min, length, slice_get};
 ghost use Rattle.frame_script.specs.Signs.{sign_of, sign_in};
 ghost use Rattle.kernel_code.specs.Tokens.{text_of};
-ghost use Rattle.kernel_code.specs.StaticFaults.{value_of};
 
 use frame_ast::script::Sign;
-use kernel_code::{Token, TokenKind};
+use kernel_code::{Token, TokenKind, value_of};
 
 /// A file: its bytes, and its tokens.
 #[derive(Clone, Copy, Debug)]
@@ -22,25 +21,6 @@ fn bytes_of<'a>(bytes: &'a [u8], token: &Token) -> &'a [u8]
     let end = bytes.len().min(token.end as usize);
     let start = end.min(token.start as usize);
     &bytes[start..end]
-}
-
-// One more digit behind a lesser value than this makes no more than 64 bits, which is quicker to know than to test.
-const NEVER_SATURATES: u64 = 1_000_000_000_000_000_000;
-
-// The value of decimal digits, or the greatest u64 where it is greater.
-fn value(digits: &[u8]) -> u64
-    ensures { result ≡ min (value_of digits.now) (2 ^ 64 - 1) }
-{
-    let mut value: u64 = 0;
-    for byte in digits {
-        let digit = u64::from(byte.saturating_sub(b'0'));
-        value = if value < NEVER_SATURATES {
-            value * 10 + digit
-        } else {
-            value.saturating_mul(10).saturating_add(digit)
-        };
-    }
-    value
 }
 
 impl<'a> Source<'a> {
@@ -70,7 +50,7 @@ impl<'a> Source<'a> {
     pub fn number(self, at: u32) -> u64
         ensures { result ≡ min (number_at self.entry at) (2 ^ 64 - 1) }
     {
-        value(self.text(at))
+        value_of(self.text(at))
     }
 
     /// The Text at a place, without its quotes.

@@ -1,5 +1,5 @@
 -- A byte that only separates tokens, as the lexer passes over it.
-use Rattle.std.proofs.Common.{◌≡◌, ◌⊎◌, inl, inr, ℕ, ◌+◌, ◌<◌, ◌≤◌, true, List, [], ◌∷◌, ◌++◌, length, drop, get_or, None, ◌∙◌, sym, ap, subst, ⊎_elim, arith, add-zero, length-drop, get_or-drop, append-nil}
+use Rattle.std.proofs.Common.{◌≡◌, ◌⊎◌, inl, inr, ℕ, ◌+◌, ◌<◌, true, List, [], ◌∷◌, ◌++◌, length, drop, get_or, None, ◌∙◌, sym, ap, subst, ⊎_elim, arith, add-zero, length-drop, get_or-drop, append-nil}
 use Rattle.std.proofs.lemmas.Bool.{or_cases, eqb-true}
 use Rattle.kernel_code.specs.declared.token.Token.{Token}
 use Rattle.kernel_code.specs.Words.{is_blank}

@@ -1,9 +1,7 @@
 -- The tokens that a lexer answers, which stops at the first Bad one: what a parser finds among them stands among all.
-use Rattle.std.proofs.Common.{◌≡◌, ℕ, ◌+◌, ◌<◌, ◌≤◌, List, [], ◌∷◌, ◌++◌, length, map, Some, refl, sym, ◌∙◌, ap, subst, arith, append_assoc, length-append, get_or}
-use Rattle.std.specs.List.{slice_get}
+use Rattle.std.proofs.Common.{◌≡◌, ℕ, ◌+◌, ◌<◌, ◌≤◌, List, [], ◌∷◌, ◌++◌, length, sym, ◌∙◌, ap, subst, arith, length-append, get_or}
 use Rattle.std.proofs.lemmas.List.{length-map, map-append}
 use Rattle.std.proofs.Math.ListN.{get_or-append}
-use Rattle.frame_grammar.specs.declared.TokenKind.{TokenKind}
 use Rattle.frame_grammar.specs.declared.TokenKind.TheVariants.{Name, End, Bad}
 use Rattle.frame_grammar.specs.declared.symbols.Event.{Event}
 use Rattle.frame_grammar.specs.declared.symbols.Nonterminal.{Nonterminal}

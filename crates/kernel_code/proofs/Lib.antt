@@ -45,3 +45,4 @@ pub mod DepthLimits
 pub mod ParamLimits
 pub mod Limits
 pub mod Checking
+pub mod Decimals

@@ -1,5 +1,5 @@
 -- The tokens from a place on: what a word adds to them, and what is left behind it.
-use Rattle.std.proofs.Common.{◌≡◌, ℕ, zero, suc, ◌+◌, ◌-◌, ◌<◌, ◌≤◌, ◌==◌, true, false, List, [], ◌∷◌, ◌++◌, length, take, drop, get_or, Option, Some, ◌∙◌, sym, refl, ap, arith, add-zero, zero-add, append_assoc, drop-drop, take_all, length-drop, get_or-drop}
+use Rattle.std.proofs.Common.{◌≡◌, ℕ, zero, suc, ◌+◌, ◌-◌, ◌<◌, ◌≤◌, ◌==◌, true, false, List, [], ◌∷◌, ◌++◌, length, take, drop, get_or, Option, Some, ◌∙◌, sym, ap, arith, add-zero, zero-add, append_assoc, drop-drop, take_all, length-drop, get_or-drop}
 use Rattle.std.proofs.lemmas.Grind.{common_steps}
 use Rattle.std.proofs.lemmas.Bool.{cond_both}
 use Rattle.frame_grammar.specs.declared.TokenKind.{TokenKind}

@@ -8,6 +8,7 @@
 mod check;
 #[cfg(test)]
 mod check_tests;
+mod decimal;
 mod fault;
 mod kernel;
 #[cfg(test)]
@@ -23,6 +24,7 @@ mod token;
 mod word;
 
 pub use check::{StaticFault, check_kernel};
+pub use decimal::value_of;
 pub use fault::KernelFault;
 pub use frame_ast::kernel::{Body, FaultKind, Kernel, Param, ParamKind};
 pub use frame_grammar::TokenKind;

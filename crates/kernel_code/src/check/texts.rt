@@ -2,8 +2,9 @@
 ghost use Rattle.std.specs.Prelude.{◌≡◌, ◌≤◌, ◌<◌, min, length};
 ghost use Rattle.std.specs.Str.{bytes_eq};
 ghost use Rattle.kernel_code.specs.Tokens.{text_of};
-ghost use Rattle.kernel_code.specs.StaticFaults.{text_at, line_at, value_of, value_at};
+ghost use Rattle.kernel_code.specs.StaticFaults.{text_at, line_at, value_at};
 
+use crate::decimal::value_of;
 use crate::raw::RawKernel;
 use crate::token::Token;
 
@@ -52,25 +53,6 @@ pub fn line_at(raw: &RawKernel<'_>, at: u32) -> u32
         Some(token) => token.line,
         None => 0,
     }
-}
-
-// One more digit behind a lesser value than this makes no more than 64 bits, which is quicker to know than to test.
-const NEVER_SATURATES: u64 = 1_000_000_000_000_000_000;
-
-// The value of decimal digits, or 2 ^ 64 - 1 where it is greater.
-fn value_of(digits: &[u8]) -> u64
-    ensures { result ≡ min 18446744073709551615 (value_of digits.now) }
-{
-    let mut value: u64 = 0;
-    for byte in digits {
-        let digit = u64::from(byte.saturating_sub(b'0'));
-        value = if value < NEVER_SATURATES {
-            value * 10 + digit
-        } else {
-            value.saturating_mul(10).saturating_add(digit)
-        };
-    }
-    value
 }
 
 /// The value of the Number at a place, or 2 ^ 64 - 1 where it is greater.

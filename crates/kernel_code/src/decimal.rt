@@ -1,0 +1,42 @@
+//! The values of Numbers.
+
+ghost use Rattle.std.specs.Prelude.{◌≡◌, ◌≤◌, min, length};
+ghost use Rattle.kernel_code.specs.StaticFaults.{value_of};
+
+/// So many digits make no more than 64 bits, whatever bytes they are.
+const PLAIN_DIGITS: usize = 17;
+
+// The value of so few digits that no step can saturate, which takes half as long.
+fn plain_value(digits: &[u8]) -> u64
+    requires { length digits.now ≤ 17 }
+    ensures { result ≡ value_of digits.now }
+{
+    let mut value: u64 = 0;
+    for digit in digits {
+        value = value * 10 + u64::from(*digit).saturating_sub(48);
+    }
+    value
+}
+
+fn saturated_value(digits: &[u8]) -> u64
+    ensures { result ≡ min 18446744073709551615 (value_of digits.now) }
+{
+    let mut value: u64 = 0;
+    for digit in digits {
+        value = value
+            .saturating_mul(10)
+            .saturating_add(u64::from(digit.saturating_sub(b'0')));
+    }
+    value
+}
+
+/// The value of decimal digits, or 2 ^ 64 - 1 where it is greater.
+pub fn value_of(digits: &[u8]) -> u64
+    ensures { result ≡ min 18446744073709551615 (value_of digits.now) }
+{
+    if digits.len() <= PLAIN_DIGITS {
+        plain_value(digits)
+    } else {
+        saturated_value(digits)
+    }
+}
