@@ -130,6 +130,8 @@ pub const ATOM: [(K, P); 8] = [
 
 pub const PLACE: [(K, P); 1] = [(K::OpenBracket, P::PlaceSome)];
 
+// TO ADD A STATEMENT: 4, its first token, here, in ITEMS and in LINED.
+
 pub const STATEMENT: [(K, P); 24] = [
     (K::Array, P::ArrayStatement),
     (K::Column, P::ColumnStatement),

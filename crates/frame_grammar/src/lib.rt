@@ -166,6 +166,7 @@ pub enum TokenKind {
     /// `index`
     Index,
 
+    // TO ADD A STATEMENT: 1, its reserved word, here and on both lists of kernel_code/src/spelling.rt.
     // Reserved words of scripts
     /// `column`
     Column,

@@ -191,6 +191,8 @@ pub struct Event {
     pub place: u32,
 }
 
+// TO ADD A STATEMENT: 2, its production, and above the actions that its text notes, of which the last ends it.
+
 /// A production of the grammar: one of the ways in which its nonterminal, the head, derives tokens.
 #[derive(Clone, Copy, Debug, PartialEq, Eq)]
 pub enum Production {

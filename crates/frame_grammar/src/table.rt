@@ -36,6 +36,8 @@ fn in_script(symbols: &'static [Symbol]) -> ProductionBody
     }
 }
 
+// TO ADD A STATEMENT: 5, its body's name.
+
 /// What a production's head is made of by it.
 #[tactic(auto, unfolding(crate::specs::Grammar::body_of))]
 pub fn body(production: Production) -> ProductionBody

@@ -16,12 +16,12 @@ two : (es es' rest : List Event) → (es ++ es') ++ rest ≡ es ++ (es' ++ rest)
 two es es' rest = append_assoc es es' rest
 
 values_read : (x n : ℕ) (life : Life) (q : ℕ) (rest : List Event) {events : List Event} {values : Option (List RawNumber)} → SpellsValues events values →
-    order_from (reading (record no_words { names = record no_names { latest = x }; numbers = record no_numbers { latest = n }; life = life }) [] [] [] []) (events ++ on action.ArrayStatement q ∷ rest)
+    order_from (reading (record no_words { names = record no_names { last = x }; numbers = record no_numbers { last = n }; life = life }) [] [] [] []) (events ++ on action.ArrayStatement q ∷ rest)
     ≡ Some (NewArray x n life values, rest)
 values_read x n life q rest {events} (none p e) =
-    of_events (reading (record no_words { names = record no_names { latest = x }; numbers = record no_numbers { latest = n }; life = life }) [] [] [] []) events (on action.NoValues p ∷ []) (on action.ArrayStatement q ∷ rest) e
+    of_events (reading (record no_words { names = record no_names { last = x }; numbers = record no_numbers { last = n }; life = life }) [] [] [] []) events (on action.NoValues p ∷ []) (on action.ArrayStatement q ∷ rest) e
 values_read x n life q rest {events} (some o c es s e) =
-    let w = record no_words { names = record no_names { latest = x }; numbers = record no_numbers { latest = n }; life = life } in
+    let w = record no_words { names = record no_names { last = x }; numbers = record no_numbers { last = n }; life = life } in
     let r = reading w [] [] [] [] in
     let end = on action.ArrayStatement q ∷ rest in
     let all = numbers_read s (record w { len = n }) [] [] [] [] (on action.CloseValues c ∷ end) in
@@ -41,7 +41,7 @@ schedule_read : (auto : Bool) (h k o c q : ℕ) (as' ss ws fs rest : List Event)
     order_from (reading (record no_words { auto = auto }) [] [] [] []) (schedule_events h k o c q as' ss ws fs ++ rest) ≡ Some (Schedule auto h k args cut waive after, rest)
 schedule_read auto h k o c q as' ss ws fs rest {args} {cut} {waive} {after} a s v f =
     let end = on action.ScheduleStatement q ∷ rest in
-    let w = record no_words { auto = auto; names = record no_names { former = h; latest = k; handle = h; kernel = k } } in
+    let w = record no_words { auto = auto; names = record no_names { before_last = h; last = k; handle = h; kernel = k } } in
     let a' = args_read a w [] [] [] [] (on action.CloseArguments c ∷ ss ++ (ws ++ (fs ++ end))) in
     let w1 = record w { names = a'.names; numbers = a'.numbers } in
     let s' = sizes_read s w1 [] args [] [] (ws ++ (fs ++ end)) in
@@ -59,22 +59,22 @@ schedule_read auto h k o c q as' ss ws fs rest {args} {cut} {waive} {after} a s 
 
 pub order_read : {events : List Event} {form : OrderForm} → SpellsOrder events form → (rest : List Event) → order_from nothing_read (events ++ rest) ≡ Some (form, rest)
 order_read {events} (array {x = x} {n = n} {life = life} a p q vs l v e) rest =
-    let w = record no_words { names = record no_names { latest = x }; numbers = record no_numbers { latest = n } } in
+    let w = record no_words { names = record no_names { last = x }; numbers = record no_numbers { last = n } } in
     let end = on action.ArrayStatement q ∷ rest in
     of_events nothing_read events (on action.Name x ∷ on action.Number n ∷ on a p ∷ vs ++ on action.ArrayStatement q ∷ []) rest e
     ∙ life_read w [] [] [] [] ((vs ++ on action.ArrayStatement q ∷ []) ++ rest) p l
     ∙ ap (λ y. order_from (reading (record w { life = life }) [] [] [] []) y) (two vs (on action.ArrayStatement q ∷ []) rest)
     ∙ values_read x n life q rest v
 order_read {events} (column {x = x} {n = n} a p q l e) rest =
-    let w = record no_words { names = record no_names { latest = x }; numbers = record no_numbers { latest = n } } in
+    let w = record no_words { names = record no_names { last = x }; numbers = record no_numbers { last = n } } in
     of_events nothing_read events (on action.Name x ∷ on action.Text n ∷ on a p ∷ on action.ColumnStatement q ∷ []) rest e
     ∙ life_read w [] [] [] [] (on action.ColumnStatement q ∷ rest) p l
 order_read {events} (list {x = x} {n = n} a p q l e) rest =
-    let w = record no_words { names = record no_names { latest = x }; numbers = record no_numbers { latest = n } } in
+    let w = record no_words { names = record no_names { last = x }; numbers = record no_numbers { last = n } } in
     of_events nothing_read events (on action.Name x ∷ on action.Number n ∷ on a p ∷ on action.ListStatement q ∷ []) rest e
     ∙ life_read w [] [] [] [] (on action.ListStatement q ∷ rest) p l
 order_read {events} (reference {x = x} {life = life} a p q vs l v e) rest =
-    let w = record no_words { names = record no_names { latest = x } } in
+    let w = record no_words { names = record no_names { last = x } } in
     let m = maybe_read (record w { life = life }) [] [] [] [] (on action.ReferenceStatement q ∷ rest) v in
     of_events nothing_read events (on action.Name x ∷ on a p ∷ vs ++ on action.ReferenceStatement q ∷ []) rest e
     ∙ life_read w [] [] [] [] ((vs ++ on action.ReferenceStatement q ∷ []) ++ rest) p l
@@ -82,11 +82,11 @@ order_read {events} (reference {x = x} {life = life} a p q vs l v e) rest =
     ∙ m.read
     ∙ ap (λ y. Some (NewReference x life y, rest)) m.is
 order_read {events} (mapped {x = x} {n = n} a p q l e) rest =
-    let w = record no_words { names = record no_names { latest = x }; numbers = record no_numbers { latest = n } } in
+    let w = record no_words { names = record no_names { last = x }; numbers = record no_numbers { last = n } } in
     of_events nothing_read events (on action.Name x ∷ on action.Number n ∷ on a p ∷ on action.MapStatement q ∷ []) rest e
     ∙ life_read w [] [] [] [] (on action.MapStatement q ∷ rest) p l
 order_read {events} (stream {x = x} {n = n} {m = m} a p q l e) rest =
-    let w = record no_words { names = record no_names { latest = x }; numbers = record no_numbers { former = n; latest = m } } in
+    let w = record no_words { names = record no_names { last = x }; numbers = record no_numbers { before_last = n; last = m } } in
     of_events nothing_read events (on action.Name x ∷ on action.Number n ∷ on action.Number m ∷ on a p ∷ on action.StreamStatement q ∷ []) rest e
     ∙ life_read w [] [] [] [] (on action.StreamStatement q ∷ rest) p l
 order_read {events} (slice {x = x} {y = y} {n = n} {m = m} q e) rest =
@@ -94,7 +94,7 @@ order_read {events} (slice {x = x} {y = y} {n = n} {m = m} q e) rest =
 order_read {events} (view {x = x} {y = y} q e) rest = of_events nothing_read events (on action.Name x ∷ on action.Name y ∷ on action.ViewStatement q ∷ []) rest e
 order_read {events} (copy {x = x} {y = y} q e) rest = of_events nothing_read events (on action.Name x ∷ on action.Name y ∷ on action.CopyStatement q ∷ []) rest e
 order_read {events} (set {x = x} {at = at} {value = value} q is vs i v e) rest =
-    let w = record no_words { names = record no_names { latest = x } } in
+    let w = record no_words { names = record no_names { last = x } } in
     let end = on action.SetStatement q ∷ rest in
     let m = maybe_read w [] [] [] [] (vs ++ end) i in
     let s = signed_read (reading (record w { numbers = m.numbers }) [] [] [] []) end v in
@@ -102,10 +102,10 @@ order_read {events} (set {x = x} {at = at} {value = value} q is vs i v e) rest =
     ∙ ap (λ y. order_from (reading w [] [] [] []) y) (two is (vs ++ on action.SetStatement q ∷ []) rest ∙ ap (λ y. is ++ y) (two vs (on action.SetStatement q ∷ []) rest))
     ∙ m.read
     ∙ s.read
-    ∙ ap (λ y. Some (Set x y (signed_of s.numbers.signed), rest)) (s.former ∙ m.is)
+    ∙ ap (λ y. Some (Set x y (signed_of s.numbers.signed), rest)) (s.before_last ∙ m.is)
     ∙ ap (λ y. Some (Set x at (signed_of y), rest)) s.is
 order_read {events} (add {x = x} {first = first} {second = second} q is vs i v e) rest =
-    let w = record no_words { names = record no_names { latest = x } } in
+    let w = record no_words { names = record no_names { last = x } } in
     let end = on action.AddToStatement q ∷ rest in
     let s = signed_read (reading w [] [] [] []) (vs ++ end) i in
     let m = maybe_read (record w { numbers = s.numbers }) [] [] [] [] end v in
@@ -113,10 +113,10 @@ order_read {events} (add {x = x} {first = first} {second = second} q is vs i v e
     ∙ ap (λ y. order_from (reading w [] [] [] []) y) (two is (vs ++ on action.AddToStatement q ∷ []) rest ∙ ap (λ y. is ++ y) (two vs (on action.AddToStatement q ∷ []) rest))
     ∙ s.read
     ∙ m.read
-    ∙ ap (λ y. Some (Add x (signed_of y) m.numbers.signed, rest)) (m.former ∙ s.is)
+    ∙ ap (λ y. Some (Add x (signed_of y) m.numbers.signed, rest)) (m.before_last ∙ s.is)
     ∙ ap (λ y. Some (Add x first y, rest)) m.is
 order_read {events} (put {x = x} {key = key} {value = value} q is vs i v e) rest =
-    let w = record no_words { names = record no_names { latest = x } } in
+    let w = record no_words { names = record no_names { last = x } } in
     let end = on action.PutStatement q ∷ rest in
     let s = signed_read (reading w [] [] [] []) (vs ++ end) i in
     let t = signed_read (reading (record w { numbers = s.numbers }) [] [] [] []) end v in
@@ -124,10 +124,10 @@ order_read {events} (put {x = x} {key = key} {value = value} q is vs i v e) rest
     ∙ ap (λ y. order_from (reading w [] [] [] []) y) (two is (vs ++ on action.PutStatement q ∷ []) rest ∙ ap (λ y. is ++ y) (two vs (on action.PutStatement q ∷ []) rest))
     ∙ s.read
     ∙ t.read
-    ∙ ap (λ y. Some (Put x (signed_of y) (signed_of t.numbers.signed), rest)) (t.former ∙ s.is)
+    ∙ ap (λ y. Some (Put x (signed_of y) (signed_of t.numbers.signed), rest)) (t.before_last ∙ s.is)
     ∙ ap (λ y. Some (Put x key (signed_of y), rest)) t.is
 order_read {events} (remove {x = x} {at = at} q is i e) rest =
-    let w = record no_words { names = record no_names { latest = x } } in
+    let w = record no_words { names = record no_names { last = x } } in
     let s = signed_read (reading w [] [] [] []) (on action.RemoveFromStatement q ∷ rest) i in
     of_events nothing_read events (on action.Name x ∷ is ++ on action.RemoveFromStatement q ∷ []) rest e
     ∙ ap (λ y. order_from (reading w [] [] [] []) y) (two is (on action.RemoveFromStatement q ∷ []) rest)
@@ -140,8 +140,8 @@ order_read {events} (schedule {auto = true} {h = h} {k = k} {args = args} {cut =
 order_read {events} (schedule {auto = false} {h = h} {k = k} {args = args} {cut = cut} {waive = waive} {after = after} u o c q as' ss ws fs a s v f e) rest =
     of_events nothing_read events (on action.NotAuto u ∷ schedule_events h k o c q as' ss ws fs) rest e ∙ schedule_read false h k o c q as' ss ws fs rest a s v f
 order_read {events} (combine {x = x} {of = of} o q e) rest =
-    let r = reading (record no_words { names = record no_names { latest = x } }) [] [] [] [] in
-    let all = names_read of (record no_words { names = record no_names { latest = x; opener = x } }) [] [] [] [] (on action.CombineStatement q ∷ rest) in
+    let r = reading (record no_words { names = record no_names { last = x } }) [] [] [] [] in
+    let all = names_read of (record no_words { names = record no_names { last = x; opener = x } }) [] [] [] [] (on action.CombineStatement q ∷ rest) in
     of_events nothing_read events (on action.Name x ∷ on action.OpenNames o ∷ names_events of ++ on action.CombineStatement q ∷ []) rest e
     ∙ ap (λ y. order_from r (on action.OpenNames o ∷ y)) (two (names_events of) (on action.CombineStatement q ∷ []) rest)
     ∙ all.read
@@ -150,9 +150,9 @@ order_read {events} (complete {auto = true} {x = x} u q e) rest = of_events noth
 order_read {events} (complete {auto = false} {x = x} u q e) rest = of_events nothing_read events (on action.NotAuto u ∷ on action.Name x ∷ on action.CompleteStatement q ∷ []) rest e
 order_read {events} (dispose {x = x} q e) rest = of_events nothing_read events (on action.Name x ∷ on action.DisposeStatement q ∷ []) rest e
 order_read {events} (dispose_after {x = x} {y = y} {h = h} {ys = ys} o a q e) rest =
-    let r = reading (record no_words { names = record no_names { latest = x } }) [] [] [] [] in
+    let r = reading (record no_words { names = record no_names { last = x } }) [] [] [] [] in
     let last = on action.After a ∷ on action.Name h ∷ on action.DisposeAfterStatement q ∷ [] in
-    let all = names_read (y ∷ ys) (record no_words { names = record no_names { latest = x; opener = x } }) [] [] [] [] (last ++ rest) in
+    let all = names_read (y ∷ ys) (record no_words { names = record no_names { last = x; opener = x } }) [] [] [] [] (last ++ rest) in
     of_events nothing_read events (on action.Name x ∷ on action.OpenNames o ∷ names_events (y ∷ ys) ++ last) rest e
     ∙ ap (λ z. order_from r (on action.OpenNames o ∷ z)) (two (names_events (y ∷ ys)) last rest)
     ∙ all.read
@@ -163,11 +163,11 @@ order_read {events} (flush q e) rest = of_events nothing_read events (on action.
 order_read {events} (frame q e) rest = of_events nothing_read events (on action.FrameStatement q ∷ []) rest e
 order_read {events} (repeated {n = n} q e) rest = of_events nothing_read events (on action.Number n ∷ on action.OpenRepeat q ∷ []) rest e
 order_read {events} (when {x = x} {s = s} q vs (minus {at = at} o p e') e) rest =
-    let w = record no_words { names = record no_names { latest = x }; numbers = record no_numbers { operator = s } } in
+    let w = record no_words { names = record no_names { last = x }; numbers = record no_numbers { operator = s } } in
     of_events nothing_read events (on action.Name x ∷ on action.Operator s ∷ vs ++ on action.OpenWhen q ∷ []) rest e
     ∙ ap (λ y. order_from (reading w [] [] [] []) ((y ++ on action.OpenWhen q ∷ []) ++ rest)) e'
 order_read {events} (when {x = x} {s = s} q vs (plain {at = at} p e') e) rest =
-    let w = record no_words { names = record no_names { latest = x }; numbers = record no_numbers { operator = s } } in
+    let w = record no_words { names = record no_names { last = x }; numbers = record no_numbers { operator = s } } in
     of_events nothing_read events (on action.Name x ∷ on action.Operator s ∷ vs ++ on action.OpenWhen q ∷ []) rest e
     ∙ ap (λ y. order_from (reading w [] [] [] []) ((y ++ on action.OpenWhen q ∷ []) ++ rest)) e'
 

@@ -44,34 +44,34 @@ pub record SignedRead (r : Reading) (n : RawNumber) (events rest : List Event) :
   pub numbers : LastNumbers
   pub read : order_from r (events ++ rest) ≡ order_from (with_number_read numbers n r) rest
   pub is : numbers.signed ≡ Some n
-  pub former : numbers.former_signed ≡ r.words.numbers.signed
+  pub before_last : numbers.signed_before ≡ r.words.numbers.signed
 
 pub signed_read : (r : Reading) (rest : List Event) {events : List Event} {n : RawNumber} → SpellsSigned events n → SignedRead r n events rest
 signed_read r rest {events} (minus {at = at} o q e) = record {
   numbers = record {
-    former = r.words.numbers.latest;
-    latest = at;
-    former_operator = r.words.numbers.operator;
+    before_last = r.words.numbers.last;
+    last = at;
+    operator_before = r.words.numbers.operator;
     operator = o;
-    former_signed = r.words.numbers.signed;
+    signed_before = r.words.numbers.signed;
     signed = Some (record { minus = true; at = at });
   };
   read = of_events r events (on action.Operator o ∷ on action.Number at ∷ on action.MinusNumber q ∷ []) rest e;
   is = refl;
-  former = refl;
+  before_last = refl;
 }
 signed_read r rest {events} (plain {at = at} q e) = record {
   numbers = record {
-    former = r.words.numbers.latest;
-    latest = at;
-    former_operator = r.words.numbers.former_operator;
+    before_last = r.words.numbers.last;
+    last = at;
+    operator_before = r.words.numbers.operator_before;
     operator = r.words.numbers.operator;
-    former_signed = r.words.numbers.signed;
+    signed_before = r.words.numbers.signed;
     signed = Some (record { minus = false; at = at });
   };
   read = of_events r events (on action.Number at ∷ on action.PlainNumber q ∷ []) rest e;
   is = refl;
-  former = refl;
+  before_last = refl;
 }
 
 -- a signed number, or none, outside an array's values
@@ -79,19 +79,19 @@ pub record MaybeRead (w : Words) (vs : List RawNumber) (as' : List RawArg) (ns w
   pub numbers : LastNumbers
   pub read : order_from (reading (record w { has_values = false }) vs as' ns ws) (events ++ rest) ≡ order_from (reading (record w { has_values = false; numbers = numbers }) vs as' ns ws) rest
   pub is : numbers.signed ≡ m
-  pub former : numbers.former_signed ≡ w.numbers.signed
+  pub before_last : numbers.signed_before ≡ w.numbers.signed
 
 pub maybe_read : (w : Words) (vs : List RawNumber) (as' : List RawArg) (ns ws : List ℕ) (rest : List Event) {events : List Event} {m : Option RawNumber} → SpellsMaybe events m →
     MaybeRead w vs as' ns ws m events rest
 maybe_read w vs as' ns ws rest {events} (none q e) = record {
-  numbers = record w.numbers { former_signed = w.numbers.signed; signed = None };
+  numbers = record w.numbers { signed_before = w.numbers.signed; signed = None };
   read = of_events (reading (record w { has_values = false }) vs as' ns ws) events (on action.NoNumber q ∷ []) rest e;
   is = refl;
-  former = refl;
+  before_last = refl;
 }
 maybe_read w vs as' ns ws rest (some s) =
     let r = signed_read (reading (record w { has_values = false }) vs as' ns ws) rest s in
-    record { numbers = r.numbers; read = r.read; is = r.is; former = r.former }
+    record { numbers = r.numbers; read = r.read; is = r.is; before_last = r.before_last }
 
 -- the values of an array
 pub record NumbersRead (w : Words) (vs : List RawNumber) (as' : List RawArg) (ns ws : List ℕ) (numbers : List RawNumber) (events rest : List Event) : Type 0 where
@@ -136,7 +136,7 @@ names_read [] w vs as' ns ws rest = record {
   kernel = refl;
 }
 names_read (x ∷ names) w vs as' ns ws rest =
-    let more = names_read names (record w { names = record w.names { former = w.names.latest; latest = x } }) vs as' (ns ++ x ∷ []) ws rest in
+    let more = names_read names (record w { names = record w.names { before_last = w.names.last; last = x } }) vs as' (ns ++ x ∷ []) ws rest in
     record {
       last = more.last;
       read = more.read ∙ ap (λ y. order_from (reading (record w { is_listing = true; names = more.last }) vs as' y ws) rest) (append_assoc ns (x ∷ []) names);
@@ -160,7 +160,7 @@ pub record ArgsRead (w : Words) (vs : List RawNumber) (as' : List RawArg) (ns ws
 
 arg_read : {events : List Event} {a : RawArg} → SpellsArg events a → (w : Words) (vs : List RawNumber) (as' : List RawArg) (ns ws : List ℕ) (rest : List Event) → ArgsRead w vs as' ns ws (a ∷ []) events rest
 arg_read {events} (named {x = x} q e) w vs as' ns ws rest = record {
-  names = record w.names { former = w.names.latest; latest = x };
+  names = record w.names { before_last = w.names.last; last = x };
   numbers = w.numbers;
   read = of_events (reading (plainly w) vs as' ns ws) events (on action.Name x ∷ on action.NameArgument q ∷ []) rest e;
   handle = refl;
@@ -223,14 +223,14 @@ sizes_read {events} (none q e) w vs as' ns ws rest = record {
 }
 sizes_read {events} (counted {len = len} {batch = batch} q e) w vs as' ns ws rest = record {
   names = w.names;
-  numbers = record w.numbers { former = len; latest = batch };
+  numbers = record w.numbers { before_last = len; last = batch };
   read = of_events (reading (record (plainly w) { sizes = sizes.None }) vs as' ns ws) events (on action.Number len ∷ on action.Number batch ∷ on action.SizesLength q ∷ []) rest e;
   handle = refl;
   kernel = refl;
 }
 sizes_read {events} (deferred {list = l} {batch = batch} q e) w vs as' ns ws rest = record {
-  names = record w.names { former = w.names.latest; latest = l };
-  numbers = record w.numbers { former = w.numbers.latest; latest = batch };
+  names = record w.names { before_last = w.names.last; last = l };
+  numbers = record w.numbers { before_last = w.numbers.last; last = batch };
   read = of_events (reading (record (plainly w) { sizes = sizes.None }) vs as' ns ws) events (on action.Name l ∷ on action.Number batch ∷ on action.SizesDefer q ∷ []) rest e;
   handle = refl;
   kernel = refl;
@@ -251,7 +251,7 @@ waived_read {events} (none q e) w vs as' rest = record {
 }
 waived_read {events} (some o q {x} {xs} e) w vs as' rest =
     let r = reading (plainly w) vs as' [] [] in
-    let w' = record (plainly w) { names = record w.names { opener = w.names.latest } } in
+    let w' = record (plainly w) { names = record w.names { opener = w.names.last } } in
     let all = names_read (x ∷ xs) w' vs as' [] [] (on action.Waived q ∷ rest) in
     record {
       names = all.last;
@@ -277,7 +277,7 @@ after_read {events} (none q e) w vs as' ws rest = record {
 }
 after_read {events} (some o q {x} {xs} e) w vs as' ws rest =
     let r = reading (plainly w) vs as' [] ws in
-    let w' = record (plainly w) { names = record w.names { opener = w.names.latest } } in
+    let w' = record (plainly w) { names = record w.names { opener = w.names.last } } in
     let all = names_read (x ∷ xs) w' vs as' [] ws (on action.After q ∷ rest) in
     record {
       names = all.last;

@@ -20,10 +20,10 @@ signed_of None = record { minus = false; at = 0 }
 signed_of (Some n) = n
 
 abbrev pub no_names : LastNames
-no_names = record { former = 0; latest = 0; opener = 0; handle = 0; kernel = 0 }
+no_names = record { before_last = 0; last = 0; opener = 0; handle = 0; kernel = 0 }
 
 abbrev pub no_numbers : LastNumbers
-no_numbers = record { former = 0; latest = 0; former_operator = 0; operator = 0; former_signed = None; signed = None }
+no_numbers = record { before_last = 0; last = 0; operator_before = 0; operator = 0; signed_before = None; signed = None }
 
 abbrev pub no_words : Words
 no_words =
@@ -39,16 +39,16 @@ no_words =
     }
 
 abbrev pub with_name : ℕ → Words → Words
-with_name q w = record w { names = record w.names { former = w.names.latest; latest = q } }
+with_name q w = record w { names = record w.names { before_last = w.names.last; last = q } }
 
 abbrev pub with_number : ℕ → Words → Words
-with_number q w = record w { numbers = record w.numbers { former = w.numbers.latest; latest = q } }
+with_number q w = record w { numbers = record w.numbers { before_last = w.numbers.last; last = q } }
 
 abbrev pub with_operator : ℕ → Words → Words
-with_operator q w = record w { numbers = record w.numbers { former_operator = w.numbers.operator; operator = q } }
+with_operator q w = record w { numbers = record w.numbers { operator_before = w.numbers.operator; operator = q } }
 
 abbrev pub with_signed : Option RawNumber → Words → Words
-with_signed n w = record w { numbers = record w.numbers { former_signed = w.numbers.signed; signed = n } }
+with_signed n w = record w { numbers = record w.numbers { signed_before = w.numbers.signed; signed = n } }
 
 -- what has been read, when this event comes at this place
 abbrev pub words_after : Action → ℕ → Words → Words
@@ -56,19 +56,19 @@ words_after action.Name q w = with_name q w
 words_after action.Number q w = with_number q w
 words_after action.Text q w = with_number q w
 words_after action.Operator q w = with_operator q w
-words_after action.MinusNumber q w = with_signed (Some (record { minus = true; at = w.numbers.latest })) w
-words_after action.PlainNumber q w = with_signed (Some (record { minus = false; at = w.numbers.latest })) w
+words_after action.MinusNumber q w = with_signed (Some (record { minus = true; at = w.numbers.last })) w
+words_after action.PlainNumber q w = with_signed (Some (record { minus = false; at = w.numbers.last })) w
 words_after action.NoNumber q w = with_signed None w
 words_after action.LifeTemp q w = record w { life = Temp }
 words_after action.LifeTempJob q w = record w { life = TempJob }
 words_after action.Auto q w = record w { auto = true }
-words_after action.NoValues q w = record w { len = w.numbers.latest }
-words_after action.OpenValues q w = record w { len = w.numbers.latest; has_values = true }
+words_after action.NoValues q w = record w { len = w.numbers.last }
+words_after action.OpenValues q w = record w { len = w.numbers.last; has_values = true }
 words_after action.OpenArguments q w =
-    record w { names = record w.names { handle = w.names.former; kernel = w.names.latest } }
-words_after action.SizesLength q w = record w { sizes = sizes.Length w.numbers.former w.numbers.latest }
-words_after action.SizesDefer q w = record w { sizes = sizes.Defer w.names.latest w.numbers.latest }
-words_after action.OpenNames q w = record w { names = record w.names { opener = w.names.latest }; is_listing = true }
+    record w { names = record w.names { handle = w.names.before_last; kernel = w.names.last } }
+words_after action.SizesLength q w = record w { sizes = sizes.Length w.numbers.before_last w.numbers.last }
+words_after action.SizesDefer q w = record w { sizes = sizes.Defer w.names.last w.numbers.last }
+words_after action.OpenNames q w = record w { names = record w.names { opener = w.names.last }; is_listing = true }
 words_after action.Waived q w = record w { is_listing = false }
 words_after action.After q w = record w { is_listing = false }
 words_after _ q w = w
@@ -102,7 +102,7 @@ lists_after action.MinusNumber q w r =
     record r { words = w; values = if w.has_values then r.values ++ signed_of w.numbers.signed ∷ [] else r.values }
 lists_after action.PlainNumber q w r =
     record r { words = w; values = if w.has_values then r.values ++ signed_of w.numbers.signed ∷ [] else r.values }
-lists_after action.NameArgument q w r = record r { words = w; args = r.args ++ arg.Name w.names.latest ∷ [] }
+lists_after action.NameArgument q w r = record r { words = w; args = r.args ++ arg.Name w.names.last ∷ [] }
 lists_after action.NumberArgument q w r =
     record r { words = w; args = r.args ++ arg.Number (signed_of w.numbers.signed) ∷ [] }
 lists_after action.Waived q w r = record r { words = w; names = r.waive; waive = r.names }
@@ -143,45 +143,45 @@ ends action.OpenWhen = true
 ends _ = false
 
 abbrev pub operator_of : LastNumbers → ℕ
-operator_of n = if (signed_of n.signed).minus then n.former_operator else n.operator
+operator_of n = if (signed_of n.signed).minus then n.operator_before else n.operator
 
 -- a statement without lists that makes nothing but a handle, when it is whole with this event
 abbrev pub used : Action → Words → OrderForm
-used action.SetStatement w = Set w.names.latest w.numbers.former_signed (signed_of w.numbers.signed)
-used action.AddToStatement w = Add w.names.latest (signed_of w.numbers.former_signed) w.numbers.signed
-used action.PutStatement w = Put w.names.latest (signed_of w.numbers.former_signed) (signed_of w.numbers.signed)
-used action.RemoveFromStatement w = Remove w.names.latest (signed_of w.numbers.signed)
-used action.ClearOutStatement w = Clear w.names.latest
-used action.SetCapacityStatement w = SetCapacity w.names.latest w.numbers.latest
-used action.CompleteStatement w = Complete w.auto w.names.latest
-used action.DisposeAutoStatement w = DisposeAuto w.names.former w.names.latest
-used action.PrintStatement w = Print w.names.latest
+used action.SetStatement w = Set w.names.last w.numbers.signed_before (signed_of w.numbers.signed)
+used action.AddToStatement w = Add w.names.last (signed_of w.numbers.signed_before) w.numbers.signed
+used action.PutStatement w = Put w.names.last (signed_of w.numbers.signed_before) (signed_of w.numbers.signed)
+used action.RemoveFromStatement w = Remove w.names.last (signed_of w.numbers.signed)
+used action.ClearOutStatement w = Clear w.names.last
+used action.SetCapacityStatement w = SetCapacity w.names.last w.numbers.last
+used action.CompleteStatement w = Complete w.auto w.names.last
+used action.DisposeAutoStatement w = DisposeAuto w.names.before_last w.names.last
+used action.PrintStatement w = Print w.names.last
 used action.FrameStatement w = Frame
-used action.OpenRepeat w = Repeat w.numbers.latest
-used action.OpenWhen w = When w.names.latest (operator_of w.numbers) (signed_of w.numbers.signed)
+used action.OpenRepeat w = Repeat w.numbers.last
+used action.OpenWhen w = When w.names.last (operator_of w.numbers) (signed_of w.numbers.signed)
 used _ w = Flush
 
 -- a statement without lists
 abbrev pub worded : Action → Words → OrderForm
-worded action.ColumnStatement w = NewColumn w.names.latest w.numbers.latest w.life
-worded action.ListStatement w = NewList w.names.latest w.numbers.latest w.life
-worded action.ReferenceStatement w = NewReference w.names.latest w.life w.numbers.signed
-worded action.MapStatement w = NewMap w.names.latest w.numbers.latest w.life
-worded action.StreamStatement w = NewStream w.names.latest w.numbers.former w.numbers.latest w.life
-worded action.SliceStatement w = Slice w.names.former w.names.latest w.numbers.former w.numbers.latest
-worded action.ViewStatement w = View w.names.former w.names.latest
-worded action.CopyStatement w = Copy w.names.former w.names.latest
+worded action.ColumnStatement w = NewColumn w.names.last w.numbers.last w.life
+worded action.ListStatement w = NewList w.names.last w.numbers.last w.life
+worded action.ReferenceStatement w = NewReference w.names.last w.life w.numbers.signed
+worded action.MapStatement w = NewMap w.names.last w.numbers.last w.life
+worded action.StreamStatement w = NewStream w.names.last w.numbers.before_last w.numbers.last w.life
+worded action.SliceStatement w = Slice w.names.before_last w.names.last w.numbers.before_last w.numbers.last
+worded action.ViewStatement w = View w.names.before_last w.names.last
+worded action.CopyStatement w = Copy w.names.before_last w.names.last
 worded a w = used a w
 
 -- the statement that is whole with this event
 abbrev pub finished : Action → Reading → OrderForm
 finished action.ArrayStatement r =
-    NewArray r.words.names.latest r.words.len r.words.life (if r.words.has_values then Some r.values else None)
+    NewArray r.words.names.last r.words.len r.words.life (if r.words.has_values then Some r.values else None)
 finished action.ScheduleStatement r =
     Schedule r.words.auto r.words.names.handle r.words.names.kernel r.args r.words.sizes r.waive r.names
 finished action.CombineStatement r = Combine r.words.names.opener r.names
-finished action.DisposeStatement r = Dispose r.words.names.latest r.names None
-finished action.DisposeAfterStatement r = Dispose r.words.names.opener r.names (Some r.words.names.latest)
+finished action.DisposeStatement r = Dispose r.words.names.last r.names None
+finished action.DisposeAfterStatement r = Dispose r.words.names.opener r.names (Some r.words.names.last)
 finished a r = worded a r.words
 
 -- the statement that the events spell from here on, and the events behind it

@@ -9,6 +9,8 @@ use crate::raw::{RawArg, RawNumber, RawOrder};
 use frame_grammar::{Action, Event};
 use std::alloc::{AllocError, Global};
 
+// TO ADD A STATEMENT: 7, the event that ends it, here and in specs/Reading.
+
 /// Whether a statement, or what stands before its brace, is whole with this event.
 fn ends(action: Action) -> bool
     ensures { result ≡ ends action }
@@ -84,7 +86,7 @@ impl Reader {
                     self.values.push(signed_of(self.words.numbers.signed))?;
                 }
             }
-            Action::NameArgument => self.args.push(RawArg::Name(self.words.names.latest))?,
+            Action::NameArgument => self.args.push(RawArg::Name(self.words.names.last))?,
             Action::NumberArgument => {
                 let number = signed_of(self.words.numbers.signed);
                 self.args.push(RawArg::Number(number))?;
@@ -100,7 +102,7 @@ impl Reader {
         ensures { form_of result ≡ finished action (reading_of self) }
     {
         let words = self.words;
-        let name = words.names.latest;
+        let name = words.names.last;
         match action {
             Action::ArrayStatement => RawOrder::Array {
                 name,

@@ -8,30 +8,38 @@ use crate::raw::{RawNumber, RawOrder, RawSizes};
 use frame_ast::script::Life;
 use frame_grammar::{Action, Event};
 
-/// The names that were read last. Tokens are told by their places.
+/// The names that were read last, by the places of their tokens.
+///
+/// A statement's names stand in its text in one order, so where it is whole the last two tell which is which: in
+/// `slice v a 0 2` the one before the last is v, which is made, and the last is a, of which v is a part. Names that are
+/// followed by a list of others are kept apart before the list begins.
 #[derive(Clone, Copy, Debug, PartialEq, Eq)]
 pub struct LastNames {
-    /// The one before the last.
-    pub former: u32,
-    pub latest: u32,
-    /// The last before a list of names.
+    /// The v of `slice v a 0 2`.
+    pub before_last: u32,
+    /// The a of `slice v a 0 2`, the x of `print x`.
+    pub last: u32,
+    /// The last before a list of names: the h of `combine h j k`.
     pub opener: u32,
-    /// The last two before arguments.
+    /// The last two before arguments: the h and the k of `schedule h k(x, 3)`.
     pub handle: u32,
     pub kernel: u32,
 }
 
-/// The Numbers, the operators and the signed numbers that were read last.
+/// The Numbers, the operators and the signed numbers that were read last. Tokens are told by their places.
 #[derive(Clone, Copy, Debug, PartialEq, Eq)]
 pub struct LastNumbers {
-    /// The Number before the last.
-    pub former: u32,
-    /// A Number, or a Text.
-    pub latest: u32,
-    pub former_operator: u32,
+    /// The 0 of `slice v a 0 2`.
+    pub before_last: u32,
+    /// The 2 of `slice v a 0 2`; a Text in `column`.
+    pub last: u32,
+    /// A comparison, where a `-` is read behind it: the `<` of `when x < -3 {`.
+    pub operator_before: u32,
+    /// The `-` of a signed number, or a comparison with a number that has none: the `<` of `when x < 3 {`.
     pub operator: u32,
-    /// The signed number before the last. None where it was left out.
-    pub former_signed: Option<RawNumber>,
+    /// The 1 of `set x 1 = -5`. None where a statement leaves it out.
+    pub signed_before: Option<RawNumber>,
+    /// The -5 of `set x 1 = -5`.
     pub signed: Option<RawNumber>,
 }
 
@@ -68,18 +76,18 @@ impl Words {
     {
         Words {
             names: LastNames {
-                former: 0,
-                latest: 0,
+                before_last: 0,
+                last: 0,
                 opener: 0,
                 handle: 0,
                 kernel: 0,
             },
             numbers: LastNumbers {
-                former: 0,
-                latest: 0,
-                former_operator: 0,
+                before_last: 0,
+                last: 0,
+                operator_before: 0,
                 operator: 0,
-                former_signed: None,
+                signed_before: None,
                 signed: None,
             },
             len: 0,
@@ -94,7 +102,7 @@ impl Words {
     fn take_signed(&mut self, number: Option<RawNumber>)
         ensures { self.new ≡ with_signed number self.old }
     {
-        self.numbers.former_signed = self.numbers.signed;
+        self.numbers.signed_before = self.numbers.signed;
         self.numbers.signed = number;
     }
 
@@ -103,18 +111,18 @@ impl Words {
         ensures { self.new ≡ words_after event.action event.place self.old }
     {
         let place = event.place;
-        let number = self.numbers.latest;
+        let number = self.numbers.last;
         match event.action {
             Action::Name => {
-                self.names.former = self.names.latest;
-                self.names.latest = place;
+                self.names.before_last = self.names.last;
+                self.names.last = place;
             }
             Action::Number | Action::Text => {
-                self.numbers.former = number;
-                self.numbers.latest = place;
+                self.numbers.before_last = number;
+                self.numbers.last = place;
             }
             Action::Operator => {
-                self.numbers.former_operator = self.numbers.operator;
+                self.numbers.operator_before = self.numbers.operator;
                 self.numbers.operator = place;
             }
             Action::MinusNumber => self.take_signed(Some(RawNumber {
@@ -135,13 +143,13 @@ impl Words {
                 self.has_values = true;
             }
             Action::OpenArguments => {
-                self.names.handle = self.names.former;
-                self.names.kernel = self.names.latest;
+                self.names.handle = self.names.before_last;
+                self.names.kernel = self.names.last;
             }
-            Action::SizesLength => self.sizes = RawSizes::Length(self.numbers.former, number),
-            Action::SizesDefer => self.sizes = RawSizes::Defer(self.names.latest, number),
+            Action::SizesLength => self.sizes = RawSizes::Length(self.numbers.before_last, number),
+            Action::SizesDefer => self.sizes = RawSizes::Defer(self.names.last, number),
             Action::OpenNames => {
-                self.names.opener = self.names.latest;
+                self.names.opener = self.names.last;
                 self.is_listing = true;
             }
             Action::Waived | Action::After => self.is_listing = false,
@@ -153,8 +161,8 @@ impl Words {
     pub fn finish(self, action: Action) -> RawOrder
         ensures { form_of result ≡ worded action self }
     {
-        let name = self.names.latest;
-        let number = self.numbers.latest;
+        let name = self.names.last;
+        let number = self.numbers.last;
         let life = self.life;
         match action {
             Action::ColumnStatement => RawOrder::Column {
@@ -179,50 +187,52 @@ impl Words {
             },
             Action::StreamStatement => RawOrder::Stream {
                 name,
-                count: self.numbers.former,
+                count: self.numbers.before_last,
                 room: number,
                 life,
             },
             Action::SliceStatement => RawOrder::Slice {
-                name: self.names.former,
+                name: self.names.before_last,
                 of: name,
-                start: self.numbers.former,
+                start: self.numbers.before_last,
                 len: number,
             },
             Action::ViewStatement => RawOrder::View {
-                name: self.names.former,
+                name: self.names.before_last,
                 of: name,
             },
             Action::CopyStatement => RawOrder::Copy {
-                name: self.names.former,
+                name: self.names.before_last,
                 of: name,
             },
             _ => self.finish_use(action),
         }
     }
 
+    // TO ADD A STATEMENT: 8, its raw form of what was read; above where it makes a name, in build.rt where it has a list.
+
     /// The same of a statement that makes nothing but a handle.
     fn finish_use(self, action: Action) -> RawOrder
         ensures { form_of result ≡ used action self }
     {
-        let name = self.names.latest;
-        let number = self.numbers.latest;
-        let former = signed_of(self.numbers.former_signed);
+        let name = self.names.last;
+        let number = self.numbers.last;
+        let before_last = signed_of(self.numbers.signed_before);
         let value = signed_of(self.numbers.signed);
         match action {
             Action::SetStatement => RawOrder::Set {
                 name,
-                at: self.numbers.former_signed,
+                at: self.numbers.signed_before,
                 value,
             },
             Action::AddToStatement => RawOrder::Add {
                 name,
-                first: former,
+                first: before_last,
                 second: self.numbers.signed,
             },
             Action::PutStatement => RawOrder::Put {
                 name,
-                key: former,
+                key: before_last,
                 value,
             },
             Action::RemoveFromStatement => RawOrder::Remove { name, at: value },
@@ -233,7 +243,7 @@ impl Words {
                 name,
             },
             Action::DisposeAutoStatement => RawOrder::DisposeAuto {
-                name: self.names.former,
+                name: self.names.before_last,
                 handle: name,
             },
             Action::PrintStatement => RawOrder::Print { name },
@@ -241,13 +251,15 @@ impl Words {
             Action::OpenRepeat => RawOrder::Repeat { count: number },
             Action::OpenWhen => RawOrder::When {
                 name,
+                // The `-` of the value was read behind the comparison.
                 sign: if value.minus {
-                    self.numbers.former_operator
+                    self.numbers.operator_before
                 } else {
                     self.numbers.operator
                 },
                 value,
             },
+            // `FlushStatement`: no other event ends a statement.
             _ => RawOrder::Flush,
         }
     }

@@ -63,6 +63,8 @@ fn order_copy(alloc: Global, order: &Order) -> Result<Order, NoMemory>
     }
 }
 
+// TO ADD A STATEMENT: 11, its copy; above where it has a list.
+
 // A copy of a statement without lists.
 fn plain_copy(order: &Order) -> Order
     requires { IsTrue (has_no_lists order.now) }

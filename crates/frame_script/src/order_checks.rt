@@ -24,6 +24,8 @@ use jobs::{Schedule, check_schedule};
 pub use makes::{Valued, valued_array};
 use std::alloc::Global;
 
+// TO ADD A STATEMENT: 9, its checks.
+
 /// The check of a statement that has no block and no list of values.
 pub fn check_order(
     alloc: Global,

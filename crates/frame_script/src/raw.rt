@@ -28,6 +28,8 @@ pub enum RawSizes {
     Defer(u32, u32),
 }
 
+// TO ADD A STATEMENT: 6, its raw form, after the one of frame_ast's `Order`.
+
 /// A statement of a script; of `repeat` and `when`, what stands before the brace.
 #[derive(Drop)]
 pub enum RawOrder {

@@ -17,6 +17,8 @@ use frame_ast::script::Order;
 use job_base::NoMemory;
 use std::alloc::Global;
 
+// TO ADD A STATEMENT: 10, the name that it makes, where it makes one.
+
 /// The name that a statement makes, and what it then stands for.
 fn made_name(source: Source<'_>, names: &Names<'_>, raw: &RawOrder) -> Option<(u32, NameKind)>
     ensures { result ≡ made_by source.entry names.now (form_of raw.now) }

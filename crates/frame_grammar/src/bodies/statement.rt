@@ -4,6 +4,8 @@ use crate::TokenKind as K;
 use crate::symbols::Symbol::{self, Action, Nonterminal, Terminal};
 use crate::symbols::{Action as A, Nonterminal as N};
 
+// TO ADD A STATEMENT: 3, its body.
+
 /// Statement: 'array' Name Number Life ArrayValues
 pub const ARRAY_STATEMENT: [Symbol; 8] = [
     Terminal(K::Array),
