@@ -46,6 +46,7 @@ fn answer_script<R: Threads + Wait + Sync, F: Files, S: Sink, G: Gate + Sync>(
     ensures reads { (words : List Text) → IsAsked words command.now
         → ReadFails F.faults F.last_failed words files.old files.new }
     ensures memory { result ≡ NO_MEMORY → F.faults files.new ≡ F.faults files.old }
+    ensures read_all { result ≢ UNREAD → result ≢ UNWRITTEN → F.faults files.new ≡ F.faults files.old }
     ensures same { F.bytes files.new ≡ F.bytes files.old }
     ensures files_later { F.faults files.old ≤ F.faults files.new }
     ensures sink_later { S.faults sink.old ≤ S.faults sink.new }
@@ -79,6 +80,7 @@ fn answer_command<R: Threads + Wait + Sync, F: Files, S: Sink, G: Gate + Sync>(
     ensures reads { (words : List Text) → IsAsked words command.now
         → ReadFails F.faults F.last_failed words files.old files.new }
     ensures memory { result ≡ NO_MEMORY → F.faults files.new ≡ F.faults files.old }
+    ensures read_all { result ≢ UNREAD → result ≢ UNWRITTEN → F.faults files.new ≡ F.faults files.old }
     ensures same { F.bytes files.new ≡ F.bytes files.old }
     ensures files_later { F.faults files.old ≤ F.faults files.new }
     ensures sink_later { S.faults sink.old ≤ S.faults sink.new }
@@ -112,6 +114,7 @@ fn answer_words<R: Threads + Wait + Sync, F: Files, S: Sink, G: Gate + Sync>(
     ensures reads { ReadFails F.faults F.last_failed (bytes_of words.now) files.old files.new }
     ensures memory { result ≡ NO_MEMORY → (is_of_command (bytes_of words.now) ≡ true)
         × (F.faults files.new ≡ F.faults files.old) }
+    ensures read_all { result ≢ UNREAD → result ≢ UNWRITTEN → F.faults files.new ≡ F.faults files.old }
     ensures same { F.bytes files.new ≡ F.bytes files.old }
     ensures files_later { F.faults files.old ≤ F.faults files.new }
     ensures sink_later { S.faults sink.old ≤ S.faults sink.new }
@@ -203,6 +206,7 @@ pub fn run_frame<R: Threads + Wait + Sync, F: Files, S: Sink, G: Gate + Sync>(
     ensures sink_later { S.faults sink.old ≤ S.faults sink.new }
     ensures reads { ReadFails F.faults F.last_failed (bytes_of words.now) files.old files.new }
     ensures taken_all { result ≢ UNWRITTEN → S.faults sink.new ≡ S.faults sink.old }
+    ensures read_all { result ≢ UNREAD → result ≢ UNWRITTEN → F.faults files.new ≡ F.faults files.old }
 {
     answer_words(rt, alloc, words, files, sink, gate)
 }
