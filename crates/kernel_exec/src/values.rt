@@ -6,13 +6,11 @@
 // - A value is a plain number in a register, and a trap is put aside in the machine. So nothing is tested after the
 //   value of a part, and nothing is handed over in memory. (With a `Result` or an `Option` for each value an index took
 //   1.4 times as long.)
-// - `eval` makes no frame. Operators come first; their sides are tried as numbers and locals, then as own elements, and
-//   then no call is made. Where one side alone is deep, the other is handed over as a number (`near`, `behind`); only
-//   two deep sides need a frame with all that a walk stands on (`far`).
-// - Every other form is behind a second jump (`eval_other`), and each form with parts has a function of its own.
-ghost use Rattle.std.specs.Prelude.{◌≡◌, ℤ, Ok, IfSome, List, pos, neg_ℤ, not};
+// - `eval` makes no frame. Operators come first (`sides`); every other form is behind a second jump (`eval_other`), and
+//   each form with parts has a function of its own.
+ghost use Rattle.std.specs.Prelude.{◌≡◌, Ok, pos, neg_ℤ, not};
 ghost use Rattle.frame_ast.specs.Contents.{then_value};
-ghost use Rattle.frame_ast.specs.Expressions.{operate, checked, one_if, holds, also, otherwise};
+ghost use Rattle.frame_ast.specs.Expressions.{checked, one_if, holds, also, otherwise};
 ghost use Rattle.frame_ast.specs.Checked.{read_elements, read_map, read_stream};
 ghost use Rattle.kernel_exec.specs.Words.{get_word, has_word, count_word, item_word};
 ghost use Rattle.kernel_exec.specs.Asides.{Told};
@@ -20,10 +18,10 @@ ghost use Rattle.kernel_exec.specs.Machines.{MayRun, Meets, Fits, Keeps, argumen
 
 use crate::call::Call;
 use crate::machine::Machine;
-use crate::operators::apply;
 use crate::reads;
 use crate::reads::{count, element, has, item, length, single};
-use frame_ast::kernel::{Expr, Operator};
+use crate::sides::eval_binary;
+use frame_ast::kernel::Expr;
 use job_base::{Mem, Trap};
 
 /// The value of an expression, whose parts are evaluated from left to right. Where one traps, the trap is put aside.
@@ -42,214 +40,6 @@ pub fn eval<M: Mem>(call: &Call<'_>, machine: &mut Machine, mem: &mut M, e: &Exp
         Expr::Binary(op, sides) => eval_binary(call, machine, mem, *op, &sides.0, &sides.1),
         _ => eval_other(call, machine, mem, e),
     }
-}
-
-// Sides that are numbers or locals are read where they stand. The rest is written out for either kind of right side: a
-// number that both brought would be loaded behind them, from a place that they would have to hand on.
-#[cycle(value)]
-#[inline(always)]
-fn eval_binary<M: Mem>(
-    call: &Call<'_>,
-    machine: &mut Machine,
-    mem: &mut M,
-    op: Operator,
-    left: &Expr,
-    right: &Expr,
-) -> i64
-    requires left { Fits call.now left.now }
-    requires right { Fits call.now right.now }
-    requires call { MayRun call.now (M.readable mem.old) (M.writable mem.old) }
-    ensures value { Told machine.old.trap result machine.new.trap
-        (then_value (value_at call.now left.now machine.old.locals (M.cells mem.old))
-        (λ m. then_value (value_at call.now right.now machine.old.locals (M.cells mem.old)) (λ n. operate op m n))) }
-    ensures kept { Keeps machine.old machine.new }
-    ensures cells { M.cells mem.new ≡ M.cells mem.old }
-    ensures readable { M.readable mem.new ≡ M.readable mem.old }
-    ensures writable { M.writable mem.new ≡ M.writable mem.old }
-{
-    match right {
-        Expr::Number(n) => with_right(call, machine, mem, op, left, *n),
-        Expr::Local(k) => with_right(call, machine, mem, op, left, machine.locals[*k as usize]),
-        _ => deep_right(call, machine, mem, op, left, right),
-    }
-}
-
-// The value of `x[index]`, where one comparison finds it.
-#[inline(always)]
-fn in_place<M: Mem>(call: &Call<'_>, mem: &mut M, e: &Expr) -> Option<i64>
-    requires e { Fits call.now e.now }
-    requires call { MayRun call.now (M.readable mem.old) (M.writable mem.old) }
-    ensures value { (locals : List ℤ) → IfSome result (λ z. value_at call.now e.now locals (M.cells mem.old) ≡ Ok z) }
-    ensures cells { M.cells mem.new ≡ M.cells mem.old }
-    ensures readable { M.readable mem.new ≡ M.readable mem.old }
-    ensures writable { M.writable mem.new ≡ M.writable mem.old }
-{
-    match e {
-        Expr::Element(x, place) => match &**place {
-            Expr::Index => reads::own_element(*x, call, mem),
-            _ => None,
-        },
-        _ => None,
-    }
-}
-
-// The right side is a number already.
-#[cycle(value)]
-#[inline(always)]
-fn with_right<M: Mem>(
-    call: &Call<'_>,
-    machine: &mut Machine,
-    mem: &mut M,
-    op: Operator,
-    left: &Expr,
-    n: i64,
-) -> i64
-    requires left { Fits call.now left.now }
-    requires call { MayRun call.now (M.readable mem.old) (M.writable mem.old) }
-    ensures value { Told machine.old.trap result machine.new.trap
-        (then_value (value_at call.now left.now machine.old.locals (M.cells mem.old)) (λ m. operate op m n)) }
-    ensures kept { Keeps machine.old machine.new }
-    ensures cells { M.cells mem.new ≡ M.cells mem.old }
-    ensures readable { M.readable mem.new ≡ M.readable mem.old }
-    ensures writable { M.writable mem.new ≡ M.writable mem.old }
-{
-    match left {
-        Expr::Local(k) => apply(op, machine.locals[*k as usize], n, machine),
-        _ => deep_left(call, machine, mem, op, left, n),
-    }
-}
-
-// The right side is a number already, and the left one is no local.
-#[cycle(value)]
-#[inline(never)]
-fn deep_left<M: Mem>(
-    call: &Call<'_>,
-    machine: &mut Machine,
-    mem: &mut M,
-    op: Operator,
-    left: &Expr,
-    n: i64,
-) -> i64
-    requires left { Fits call.now left.now }
-    requires call { MayRun call.now (M.readable mem.old) (M.writable mem.old) }
-    ensures value { Told machine.old.trap result machine.new.trap
-        (then_value (value_at call.now left.now machine.old.locals (M.cells mem.old)) (λ m. operate op m n)) }
-    ensures kept { Keeps machine.old machine.new }
-    ensures cells { M.cells mem.new ≡ M.cells mem.old }
-    ensures readable { M.readable mem.new ≡ M.readable mem.old }
-    ensures writable { M.writable mem.new ≡ M.writable mem.old }
-{
-    match in_place(call, mem, left) {
-        Some(m) => apply(op, m, n, machine),
-        None => near(call, machine, mem, op, left, n),
-    }
-}
-
-// The right side is no number and no local. Where it is found in place it is read before the left side is evaluated,
-// since reading it traps nothing; and so is a left side that is a local.
-#[cycle(value)]
-#[inline(never)]
-fn deep_right<M: Mem>(
-    call: &Call<'_>,
-    machine: &mut Machine,
-    mem: &mut M,
-    op: Operator,
-    left: &Expr,
-    right: &Expr,
-) -> i64
-    requires left { Fits call.now left.now }
-    requires right { Fits call.now right.now }
-    requires call { MayRun call.now (M.readable mem.old) (M.writable mem.old) }
-    ensures value { Told machine.old.trap result machine.new.trap
-        (then_value (value_at call.now left.now machine.old.locals (M.cells mem.old))
-        (λ m. then_value (value_at call.now right.now machine.old.locals (M.cells mem.old)) (λ n. operate op m n))) }
-    ensures kept { Keeps machine.old machine.new }
-    ensures cells { M.cells mem.new ≡ M.cells mem.old }
-    ensures readable { M.readable mem.new ≡ M.readable mem.old }
-    ensures writable { M.writable mem.new ≡ M.writable mem.old }
-{
-    if let Some(n) = in_place(call, mem, right) {
-        return with_right(call, machine, mem, op, left, n);
-    }
-    match left {
-        Expr::Local(k) => behind(call, machine, mem, op, machine.locals[*k as usize], right),
-        _ => far(call, machine, mem, op, left, right),
-    }
-}
-
-// The left side is a number already, and the right one is deep.
-#[cycle(value)]
-#[inline(never)]
-fn behind<M: Mem>(
-    call: &Call<'_>,
-    machine: &mut Machine,
-    mem: &mut M,
-    op: Operator,
-    m: i64,
-    right: &Expr,
-) -> i64
-    requires right { Fits call.now right.now }
-    requires call { MayRun call.now (M.readable mem.old) (M.writable mem.old) }
-    ensures value { Told machine.old.trap result machine.new.trap
-        (then_value (value_at call.now right.now machine.old.locals (M.cells mem.old)) (λ n. operate op m n)) }
-    ensures kept { Keeps machine.old machine.new }
-    ensures cells { M.cells mem.new ≡ M.cells mem.old }
-    ensures readable { M.readable mem.new ≡ M.readable mem.old }
-    ensures writable { M.writable mem.new ≡ M.writable mem.old }
-{
-    let n = eval(call, machine, mem, right);
-    apply(op, m, n, machine)
-}
-
-// The right side is a number already, and the left one is deep.
-#[cycle(value)]
-#[inline(never)]
-fn near<M: Mem>(
-    call: &Call<'_>,
-    machine: &mut Machine,
-    mem: &mut M,
-    op: Operator,
-    left: &Expr,
-    n: i64,
-) -> i64
-    requires left { Fits call.now left.now }
-    requires call { MayRun call.now (M.readable mem.old) (M.writable mem.old) }
-    ensures value { Told machine.old.trap result machine.new.trap
-        (then_value (value_at call.now left.now machine.old.locals (M.cells mem.old)) (λ m. operate op m n)) }
-    ensures kept { Keeps machine.old machine.new }
-    ensures cells { M.cells mem.new ≡ M.cells mem.old }
-    ensures readable { M.readable mem.new ≡ M.readable mem.old }
-    ensures writable { M.writable mem.new ≡ M.writable mem.old }
-{
-    let m = eval(call, machine, mem, left);
-    apply(op, m, n, machine)
-}
-
-// Both sides are deep.
-#[cycle(value)]
-#[inline(never)]
-fn far<M: Mem>(
-    call: &Call<'_>,
-    machine: &mut Machine,
-    mem: &mut M,
-    op: Operator,
-    left: &Expr,
-    right: &Expr,
-) -> i64
-    requires left { Fits call.now left.now }
-    requires right { Fits call.now right.now }
-    requires call { MayRun call.now (M.readable mem.old) (M.writable mem.old) }
-    ensures value { Told machine.old.trap result machine.new.trap
-        (then_value (value_at call.now left.now machine.old.locals (M.cells mem.old))
-        (λ m. then_value (value_at call.now right.now machine.old.locals (M.cells mem.old)) (λ n. operate op m n))) }
-    ensures kept { Keeps machine.old machine.new }
-    ensures cells { M.cells mem.new ≡ M.cells mem.old }
-    ensures readable { M.readable mem.new ≡ M.readable mem.old }
-    ensures writable { M.writable mem.new ≡ M.writable mem.old }
-{
-    let m = eval(call, machine, mem, left);
-    let n = eval(call, machine, mem, right);
-    apply(op, m, n, machine)
 }
 
 // Every other form; out of line, so that the jump by operators stays a jump of its own.
