@@ -53,7 +53,7 @@ fn frame_command<'a>(alloc: Global) -> Result<Command<'a>, AllocError>
         .arg(Arg::new(alloc, "table"))
 }
 
-/// The words as `clap` reads them. It refuses none that are of the command, but for want of memory.
+/// The words as `clap` reads them. It refuses none that are of the command, unless memory runs out.
 pub(crate) fn parse<'a>(alloc: Global, words: &'a [String]) -> Result<ArgMatches<'a>, Error>
     requires { is_of_command (map string_bytes words.now) ≡ true }
     ensures ok { IfOk result (λ m. HasItems (reading (map string_bytes words.entry.now)).items (found_of m)) }

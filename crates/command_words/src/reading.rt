@@ -1,4 +1,4 @@
-// The command that the words spell.
+// The command that the words are.
 ghost use Rattle.std.specs.Prelude.{◌≡◌, ◌↔◌, IfOk, IsErrOf, true, false, map, string_bytes};
 ghost use Rattle.command_words.specs.Words.{Spells, is_of_command};
 
@@ -7,8 +7,8 @@ use crate::parsing::{number_at, parse, text_at};
 use crate::progress::are_of_command;
 use std::alloc::{AllocError, Global};
 
-/// Reads the words of the command, which come without the program's name. Words that aren't of the command are told
-/// without memory.
+/// Reads the words of the command, which come without the program's name. Words that aren't of the command are
+/// refused without memory.
 pub fn read_words(alloc: Global, words: &[String]) -> Result<Command, WordsFault>
     ensures usage { IsErrOf result WordsFault.Usage ↔ (is_of_command (map string_bytes words.now) ≡ false) }
     ensures ok { IfOk result (Spells (map string_bytes words.now)) }
@@ -22,7 +22,7 @@ pub fn read_words(alloc: Global, words: &[String]) -> Result<Command, WordsFault
     }
 }
 
-/// The command that the words spell.
+/// The command that the words are.
 fn command_of(alloc: Global, words: &[String]) -> Result<Command, AllocError>
     requires { is_of_command (map string_bytes words.now) ≡ true }
     ensures { IfOk result (Spells (map string_bytes words.now)) }

@@ -54,7 +54,7 @@ pub fn parts_are_apart()
     ensures { PartsAreApart }
 {}
 
-/// In the run in script order the own words of each piece tell its traps, before the last segment and after all pieces.
+/// In the run in script order the own words of each piece hold its traps, before the last segment and after all pieces.
 pub fn traps_are_told()
     ensures { TrapsAreTold }
 {}

@@ -12,7 +12,7 @@ use crate::report::Report;
 use itoa::Buffer;
 use job_base::{Sink, SinkFault, Trap};
 
-/// Writes a line of some parts, one behind the other.
+/// Writes a line of some parts, one after the other.
 pub fn print_parts<S: Sink>(parts: &[&[u8]], sink: &mut S) -> Result<(), SinkFault>
     ensures text { Writes (S.taken sink.old) (S.taken sink.new) result (joined parts.now) }
     ensures count { OnOk result (S.faults sink.new ≡ S.faults sink.old) }

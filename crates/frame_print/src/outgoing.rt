@@ -79,7 +79,7 @@ impl<const N: usize> Outgoing<N> {
         Ok(())
     }
 
-    /// Puts a part of the text behind what waits.
+    /// Puts a part of the text after what waits.
     pub fn put<S: Sink>(&mut self, part: &[u8], sink: &mut S) -> Result<(), SinkFault>
         ensures text { Gathers (S.taken sink.old) self.old (S.taken sink.new) self.new result part.now }
         ensures count { OnOk result (S.faults sink.new ≡ S.faults sink.old) }
@@ -98,7 +98,7 @@ impl<const N: usize> Outgoing<N> {
         print_text(part, sink)
     }
 
-    /// Puts some parts of the text, one behind the other.
+    /// Puts some parts of the text, one after the other.
     pub fn put_all<S: Sink>(&mut self, parts: &[&[u8]], sink: &mut S) -> Result<(), SinkFault>
         ensures text { Gathers (S.taken sink.old) self.old (S.taken sink.new) self.new result (joined parts.now) }
         ensures count { OnOk result (S.faults sink.new ≡ S.faults sink.old) }

@@ -6,7 +6,7 @@ use std::alloc::Global;
 use std::io::Read;
 use std::{fs, rt};
 
-/// Real files, by their paths. Their bytes are the system's, so none are told.
+/// Real files, by their paths. Their bytes are the system's, so nothing is said of them.
 #[derive(Drop)]
 pub struct DiskFiles<'a, R: rt::Files> {
     system: &'a R,

@@ -1,6 +1,6 @@
 //! The program: does what its words ask for, over real files and standard output, on threads of the system.
 //!
-//! `DiskFiles` and `StdoutSink` are the trusted edge: what they read and write is the system's, and no contract tells
+//! `DiskFiles` and `StdoutSink` are the trusted edge: what they read and write is the system's, and no contract says
 //! it.
 #![tactic(auto)]
 

@@ -150,7 +150,7 @@ pub struct ReadOrder {
     pub read: usize,
 }
 
-/// The statement that the events begin with, from the event behind its `StartStatement` on.
+/// The statement that the events begin with, from the event after its `StartStatement` on.
 pub fn raw_order(alloc: Global, events: &[Event]) -> Result<ReadOrder, AllocError>
     requires { BeginsOrder events.now }
     ensures form { IfOk result (λ found. (begun : BeginsOrder events.now) → form_of found.order ≡ begun.form) }

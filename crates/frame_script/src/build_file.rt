@@ -11,7 +11,7 @@ use frame_grammar::{Nonterminal, ParseError, Sentence, parse};
 use kernel_code::Token;
 use std::alloc::Global;
 
-/// The events of the file that the tokens are. They spell its items, one after another.
+/// The events of the file that the tokens are. They are those of its items, one after another.
 pub fn file_events(alloc: Global, tokens: &[Token]) -> Result<Sentence, ParseError>
     requires few { length tokens.now < 2 ^ 32 }
     requires ended { IsEnded (kinds tokens.now) }

@@ -10,7 +10,7 @@ use crate::raw::RawOrder;
 use frame_grammar::{Action, Event};
 use std::alloc::{AllocError, Global};
 
-/// What begins or ends at an event, with the event behind it.
+/// What begins or ends at an event, with the event after it.
 #[derive(Drop)]
 pub enum RawItem {
     /// No event is left.

@@ -96,7 +96,7 @@ impl<'a> Kernels<'a> {
         self.kernels
     }
 
-    /// Adds a kernel behind the others. No other one has its name.
+    /// Adds a kernel after the others. No other one has its name.
     pub fn add(&mut self, text: &'a [u8], kernel: Kernel, size: Size) -> Result<(), NoMemory>
         requires name { text.now ≡ string_bytes kernel.name }
         requires other { kernel_at self.old text.now ≡ None }

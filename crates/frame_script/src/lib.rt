@@ -1,4 +1,4 @@
-//! Scripts as texts: what a file spells, and its first fault.
+//! Scripts as texts: what a file parses to, and its first fault.
 #![tactic(auto)]
 
 mod build;

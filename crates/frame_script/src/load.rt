@@ -39,7 +39,7 @@ fn script_of(alloc: Global, walk: Walk<'_>) -> Result<Script, LoadFault>
     }
 }
 
-/// The script that the bytes of a file spell.
+/// The script that the bytes of a file parse to.
 ///
 /// A file is refused for its first fault: of syntax, else the first static fault in the order of the
 /// tokens, else `TooLong` where it stands for more than `MOST_STATEMENTS` statements or more than

@@ -1,6 +1,6 @@
 //! The raw form of a statement: what its tokens say before any name is looked up.
 //!
-//! Tokens are told by their places among those of the file.
+//! Tokens are given by their places among those of the file.
 
 use frame_ast::script::Life;
 

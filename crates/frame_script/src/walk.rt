@@ -1,4 +1,4 @@
-//! Goes over the items of a file, and writes out the script that they spell.
+//! Goes over the items of a file, and writes out the script that they parse to.
 
 ghost use Rattle.std.specs.Prelude.{◌≡◌, ◌<◌, ◌≤◌, ◌^◌, ◌++◌, ℕ, [], None, Some, false, length, IfOk, MatchOption};
 ghost use Rattle.frame_ast.specs.declared.kernel.FaultKind.{FaultKind};
@@ -23,7 +23,7 @@ use frame_grammar::Event;
 use job_base::NoMemory;
 use std::alloc::Global;
 
-/// What is known behind some items of a file, and the part of its script that they are.
+/// What is known after some items of a file, and the part of its script that they are.
 #[derive(Drop)]
 pub struct Walk<'a> {
     pub names: Names<'a>,
@@ -195,7 +195,7 @@ impl<'a> Walk<'a> {
         }
     }
 
-    /// Goes over the item at an event. Answers the event behind it, or none where no item is left.
+    /// Goes over the item at an event. Answers the event after it, or none where no item is left.
     fn step(
         &mut self,
         alloc: Global,

@@ -13,7 +13,7 @@ use frame_grammar::Event;
 use kernel_code::{KernelFault, check_kernel, raw_kernel};
 use std::alloc::Global;
 
-/// Checks the kernel that these events spell, behind those that are known, and adds it to them.
+/// Checks the kernel that these events are of, after those that are known, and adds it to them.
 #[inline(never)]
 pub fn add_kernel<'a>(
     alloc: Global,

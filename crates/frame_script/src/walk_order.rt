@@ -85,7 +85,7 @@ fn valued(raw: &RawOrder) -> Option<Valued<'_>>
     }
 }
 
-/// What a statement without a block says, behind so many lists of values; and its own list, where
+/// What a statement without a block says, after so many lists of values; and its own list, where
 /// it has one.
 pub fn order_said(
     alloc: Global,

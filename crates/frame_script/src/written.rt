@@ -17,7 +17,7 @@ use std::marker::Model;
 pub enum OpenBlock {
     /// Its statements begin at a place, and are to stand so many times.
     Repeat { start: u32, count: u32 },
-    /// The `when` stands at a place, and its statements behind it.
+    /// The `when` stands at a place, and its statements after it.
     When { at: u32 },
 }
 
@@ -154,7 +154,7 @@ impl Written {
         Ok(())
     }
 
-    // A `when` counts the statements behind it. One for which there was no room isn't there.
+    // A `when` counts the statements after it. One for which there was no room isn't there.
     fn count(&mut self, at: usize)
         ensures { self.new ≡ record self.old { statements = count_at at self.old.statements } }
     {

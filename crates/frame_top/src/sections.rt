@@ -141,7 +141,7 @@ fn run_next<R: Threads + Wait + Sync, S: Sink, G: Gate + Sync>(
     }
 }
 
-/// The status where memory for the next section is wanting.
+/// The status where memory for the next section runs out.
 fn status_where_none(progress: &Progress) -> u8
     ensures failed { progress.now.failed ≡ true → result ≡ UNWRITTEN }
     ensures whole { progress.now.failed ≡ false → result ≡ NO_MEMORY }

@@ -133,9 +133,9 @@ fn answer_words<R: Threads + Wait + Sync, F: Files, S: Sink, G: Gate + Sync>(
 /// Answers a command line: reads or makes the script that its words ask for, reads the table, and runs the script with
 /// so many workers, or reports how deep it is. The answer is the exit status of the program.
 ///
-/// The work is done in this order: the words; the script's bytes; what they spell; the table's bytes; what they hold;
-/// the columns that the script names; with `--depth`, whether it has a `when`; the limits on jobs and words; the run.
-/// The first step that refuses decides the status.
+/// The work is done in this order: the words; the script's bytes; what they parse to; the table's bytes; what they
+/// hold; the columns that the script names; with `--depth`, whether it has a `when`; the limits on jobs and words; the
+/// run. The first step that refuses decides the status.
 ///
 /// | Status | Text |
 /// |---|---|
@@ -157,9 +157,9 @@ pub fn run_frame<R: Threads + Wait + Sync, F: Files, S: Sink, G: Gate + Sync>(
     sink: &mut S,
     gate: &G,
 ) -> u8
-    // THE HEADLINE. Where the words ask for a script and a table whose bytes are told, and these are accepted, the
-    // status and the bytes are those of the script's meaning, unless a read failed, the sink failed or memory was
-    // wanting.
+    // THE HEADLINE. Where the words ask for a script and a table whose bytes are known, and these are accepted, the
+    // status and the bytes are those of the script's meaning, unless a read failed, the sink failed or memory ran
+    // out.
     ensures headline { (script : ScriptTree) (table : Option Text)
         → IsFrame (bytes_of words.now) (F.bytes files.old) script table
         → asks_depth (bytes_of words.now) ≡ false

@@ -1,6 +1,6 @@
 //! Times two kernels over a million elements: a mix of operators over three arrays, and a heavy one over one array.
 //!
-//! Two words are how many rounds each runs, 1 where none is given. What they wrote is told by checksums on standard output;
+//! Two words are how many rounds each runs, 1 where none is given. Checksums of what they wrote go to standard output;
 //! the processor time of an index, in nanoseconds, on standard error. `tools/instructions` counts instructions.
 #![tactic(auto)]
 
@@ -119,8 +119,8 @@ fn nanoseconds(took: Duration, rounds: u32) -> u128 {
     took.as_nanos().checked_div(indexes).unwrap_or(0)
 }
 
-// Runs the kernel of a text on cells with numbers in them; tells its time, and the checksum of the last array. None where
-// no memory is found or something traps.
+// Runs the kernel of a text on cells with numbers in them; prints its time, and gives the checksum of the last array.
+// None where no memory is found or something traps.
 fn time<R: CpuClock + Eprint>(
     rt: &R,
     alloc: Global,

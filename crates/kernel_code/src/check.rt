@@ -53,7 +53,7 @@ fn refusal(raw: &RawKernel<'_>, fault: StaticFault) -> KernelFault
     }
 }
 
-/// The kernel that a raw kernel behind earlier ones is.
+/// The kernel that a raw kernel after earlier ones is.
 ///
 /// Its names are looked up: each becomes the number of a parameter or of a local. It is refused for
 /// its first fault in the order of the tokens; of the faults of one token, for the one of the lowest

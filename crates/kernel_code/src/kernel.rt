@@ -24,7 +24,7 @@ fn is_parallel(action: Action) -> bool
     matches!(action, Action::OpenParallel)
 }
 
-/// The raw form of the kernel that these events of the grammar spell. They tell its parts by the
+/// The raw form of the kernel that these events of the grammar are of. They give its parts by the
 /// places of these tokens.
 pub fn raw_kernel<'a>(
     alloc: Global,
@@ -56,7 +56,7 @@ pub fn raw_kernel<'a>(
     })
 }
 
-/// How what the parser finds among these tokens is told.
+/// How what the parser finds among these tokens is reported.
 fn refusal(error: ParseError, ahead: &[Token]) -> KernelFault
     requires { (place : ℕ) → error ≡ ParseError.Syntax place → place < length ahead.now }
     ensures { result ≡ refusal_of error ahead.now }
@@ -70,10 +70,10 @@ fn refusal(error: ParseError, ahead: &[Token]) -> KernelFault
     }
 }
 
-/// The kernel that begins at a token of a file, and the place of the token behind it.
+/// The kernel that begins at a token of a file, and the place of the token after it.
 ///
-/// Line ends behind a token of a kernel are of the kernel, those behind its last `}` are not. What
-/// follows the kernel says nothing. The raw form tells its tokens by their places from `at` on.
+/// Line ends after a token of a kernel are of the kernel, those after its last `}` are not. What
+/// follows the kernel says nothing. The raw form gives its tokens by their places from `at` on.
 ///
 /// A refusal is of syntax. Its line is that of the first token with which no kernel goes on.
 pub fn parse_kernel<'a>(

@@ -37,7 +37,7 @@ fn is_bad(kind: TokenKind) -> bool
     matches!(kind, TokenKind::Bad)
 }
 
-/// Adds the `End` behind the last token.
+/// Adds the `End` after the last token.
 fn push_end(tokens: &mut Vec<Token>, place: usize, line: u32) -> Result<(), NoMemory>
     requires { place < 2 ^ 32 }
     ensures { IfOk result (λ _. tokens.new.items ≡ tokens.old.items ++ end_at place line ∷ []) }
@@ -51,14 +51,14 @@ fn push_end(tokens: &mut Vec<Token>, place: usize, line: u32) -> Result<(), NoMe
     Ok(())
 }
 
-/// The tokens of a file, from its first byte to the `End` behind its last one.
+/// The tokens of a file, from its first byte to the `End` after its last one.
 ///
 /// Names, numbers, texts, symbols and reserved words are found from left to right, the longest
 /// first. Spaces, tabs, carriage returns and comments separate them; a comment is `#` and what
 /// follows it in its line. A byte that begins no token is a `Bad` token, so lexing itself finds no
 /// fault.
 ///
-/// Nothing is read behind a `Bad` token, and the `End` stands right behind it: no file and no kernel
+/// Nothing is read after a `Bad` token, and the `End` stands right after it: no file and no kernel
 /// goes on with it, and a file of such bytes alone would be as many tokens.
 pub fn lex(alloc: Global, source: &[u8]) -> Result<Vec<Token>, NoMemory>
     requires { length source.now ≤ MOST_SCRIPT_BYTES }

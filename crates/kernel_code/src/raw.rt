@@ -62,10 +62,10 @@ pub enum RawForm {
     While,
 }
 
-/// A node. Tokens are told by their places among those of the kernel.
+/// A node. Tokens are given by their places among those of the kernel.
 ///
 /// The nodes of a kernel stand in the order of their tokens: an operator between two sides has the
-/// nodes of its left side before it, any other node has all that is under it behind it.
+/// nodes of its left side before it, any other node has all that is under it after it.
 #[derive(Clone, Copy, Debug, PartialEq, Eq)]
 pub struct RawNode {
     pub form: RawForm,
@@ -79,15 +79,15 @@ pub struct RawNode {
     pub owner: Option<u32>,
     /// How many nodes under it stand before it.
     pub before: u32,
-    /// How many nodes under it stand behind it.
+    /// How many nodes under it stand after it.
     pub after: u32,
-    /// How many of the nodes behind it are of its expressions and not of its blocks.
+    /// How many of the nodes after it are of its expressions and not of its blocks.
     pub heads: u32,
-    /// How many of the nodes behind it are of its first block.
+    /// How many of the nodes after it are of its first block.
     pub inside: u32,
 }
 
-/// A parameter. Tokens are told by their places among those of the kernel.
+/// A parameter. Tokens are given by their places among those of the kernel.
 #[derive(Clone, Copy, Debug, PartialEq, Eq)]
 pub struct RawParam {
     pub name: u32,
@@ -105,7 +105,7 @@ pub struct RawParam {
 pub struct RawKernel<'a> {
     /// The bytes of the file.
     pub source: &'a [u8],
-    /// The tokens among which its parts are told by place.
+    /// The tokens among which its parts are given by place.
     pub tokens: &'a [Token],
     pub parallel: bool,
     /// Its name.

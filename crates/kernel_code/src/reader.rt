@@ -66,7 +66,7 @@ fn param_with(part: Part, place: u32, param: RawParam) -> RawParam
     }
 }
 
-/// The open node, when this part of it has been read at this place and so many nodes stand behind
+/// The open node, when this part of it has been read at this place and so many nodes stand after
 /// it.
 fn changed(part: Part, place: u32, behind: u32, node: RawNode) -> RawNode
     ensures { result ≡ changed part place behind node }

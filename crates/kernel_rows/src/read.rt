@@ -10,7 +10,7 @@ use frame_ast::kernel::Kernel;
 use kernel_code::{KernelFault, Token, check_kernel, parse_kernel};
 use std::alloc::Global;
 
-/// The kernel that begins at a token of a file with no earlier kernels, and the place of the token behind it.
+/// The kernel that begins at a token of a file with no earlier kernels, and the place of the token after it.
 pub fn kernel_at(
     alloc: Global,
     source: &[u8],

@@ -157,7 +157,7 @@ impl SafetyBook {
         entry.view()
     }
 
-    /// The container is disposed: the slot is live no longer. Its users are told as before.
+    /// The container is disposed: the slot is live no longer. Its users are answered as before.
     pub fn release(&mut self, slot: Slot)
         ensures slot { state_of self.new slot.0 ≡ record (state_of self.old slot.0) { live = false } }
         ensures others { (k : ℕ) → (k ≢ slot.0) → state_of self.new k ≡ state_of self.old k }

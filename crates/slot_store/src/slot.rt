@@ -7,7 +7,7 @@ use job_base::Span;
 pub struct Slot(pub u32);
 
 /// How often a slot was given back or held, from 0. A container is known by its slot and the version at its making, so
-/// one that was disposed is told from a later one that has its slot.
+/// one that was disposed is known from a later one that has its slot.
 ///
 /// <https://docs.unity3d.com/ScriptReference/Unity.Collections.LowLevel.Unsafe.AtomicSafetyHandle.html>
 #[derive(Clone, Copy, Debug, PartialEq, Eq)]

@@ -45,7 +45,7 @@ impl Queue {
     }
 
     /// The newest job of its own, or else the oldest one of another's. It looks at the others in turn from the place
-    /// behind its own on, so that thieves don't all meet at the first one.
+    /// after its own on, so that thieves don't all meet at the first one.
     pub fn find(&mut self, worker: u32, thieves: &[Stealer<JobId>]) -> Option<JobId> {
         if let Some(job) = self.own.pop() {
             return Some(job);

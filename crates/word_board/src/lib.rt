@@ -6,7 +6,7 @@
 //! predecessors not yet released (`specs/Words`).
 //!
 //! *Views.* What a seat knows and holds is its view, which exists in proofs alone (`specs/Views`). A seat has four
-//! bytes, the number of its piece, since `end` and `count` are told none.
+//! bytes, the number of its piece, since `end` and `count` aren't given it.
 //!
 //! *Rule.* Words and views together are a moment that `merge_laws` rules (`specs/Rule`). So a leased word holds the
 //! lease's cell whatever others do, a piece is leased once, and countdowns are exact (`laws`).

@@ -6,7 +6,7 @@ use atomic_table::Seat;
 
 /// What a worker holds: a token of no bytes, and the number of the piece that it began last.
 ///
-/// `end` and `count` are told no piece, so the seat keeps it: four bytes.
+/// `end` and `count` aren't given a piece, so the seat keeps it: four bytes.
 #[derive(Drop)]
 pub struct WordSeat {
     pub(crate) token: Seat<u8, View>,

@@ -332,7 +332,7 @@ pub struct Schedule<'a> {
     pub after: &'a [u32],
 }
 
-/// What stands behind a schedule's kernel.
+/// What stands after a schedule's kernel.
 #[derive(Drop)]
 pub struct Behind {
     pub args: Vec<Arg>,
@@ -342,7 +342,7 @@ pub struct Behind {
     pub after: Vec<u32>,
 }
 
-// What stands behind a known kernel, which has room for more or not.
+// What stands after a known kernel, which has room for more or not.
 fn read_behind(
     alloc: Global,
     source: Source<'_>,

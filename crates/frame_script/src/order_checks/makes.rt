@@ -60,7 +60,7 @@ pub struct Valued<'a> {
     pub values: &'a [RawNumber],
 }
 
-/// An array with values, behind so many lists of values; and its own list.
+/// An array with values, after so many lists of values; and its own list.
 #[inline(never)]
 pub fn valued_array(
     alloc: Global,

@@ -1,7 +1,7 @@
 // The expressions of a kernel without faults.
 //
 // The nodes of an expression stand in the order of their tokens. A part that is no operator between
-// two sides has what is under it behind it. Behind the left side of an operator stands the operator
+// two sides has what is under it after it. After the left side of an operator stands the operator
 // itself, which says how many nodes its left side has, and then the right side.
 ghost use Rattle.std.specs.Prelude.{◌≡◌, ◌≤◌, ◌<◌, ◌+◌, ◌-◌, ◌↔◌, ℕ, pos, min, if◌then◌else◌, length, slice_get, IfOk, IfSome, MatchOption, Some, IsTrue};
 ghost use Rattle.kernel_code.specs.declared.raw.RawNode.{RawNode};
@@ -22,7 +22,7 @@ use frame_grammar::TokenKind;
 use job_base::NoMemory;
 use std::alloc::Global;
 
-/// What was built of nodes, and the place of the node behind them.
+/// What was built of nodes, and the place of the node after them.
 #[derive(Drop)]
 pub struct Built {
     pub expr: Expr,
