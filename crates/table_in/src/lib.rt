@@ -1,10 +1,8 @@
 //! Reads a table of numbers, with a row of column names first.
 //!
 //! A table is a text of comma-separated values, as the crate `csv` reads it with its default settings: a byte-order
-//! mark at
-//! the head is skipped, and empty lines give no record. The first record holds the names of the columns, and every
-//! later
-//! one has a number for each column.
+//! mark at the head is skipped, and empty lines give no record. The first record holds the names of the columns, and
+//! every later one has a number for each column.
 #![tactic(auto)]
 
 mod columns;
