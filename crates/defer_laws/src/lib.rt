@@ -3,8 +3,8 @@
 //! over the definitions in `specs/`.
 //!
 //! A schedule with `defer l BATCH` has the length that list l has where the schedule stands in script order, but a plan
-//! fixes the pieces of a job before anything runs. So the job is one of the guarded kernel that job_defer makes, with an
-//! index for each element that the list can have. Its last array is the word in which the list keeps its length.
+//! fixes the pieces of a job before anything runs. So the job is one of the guarded kernel that job_defer makes, with
+//! an index for each element that the list can have. Its last array is the word in which the list keeps its length.
 //!
 //! `specs/GuardedRuns` says that such a job does at all its indexes what the old kernel does at those below the length.
 //! `specs/Deferring` says that a plan goes on with it as the script does, and `specs/DeferTexts` that what this asks of

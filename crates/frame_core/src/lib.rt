@@ -11,10 +11,10 @@
 //! kernel it writes three words where an index trapped, and none else. A lease tests nothing: what a piece may touch is
 //! known before.
 //!
-//! A script reaches this crate as a plan alone, and that the plan is well ordered is a condition of the calls.
-//! `specs/` says what a plan means, in this order: `Names` and `Pieces` (what its numbers name, script order, places),
-//! `Touches` and `Operations` (what an operation touches, does and answers), `Effects` (what a piece touches and makes of
-//! the cells), `Graphs` (the run in script order), `Reading` and `Output` (lines, refused statements, traps), `Ordered`
+//! A script reaches this crate as a plan alone, and that the plan is well ordered is a condition of the calls. `specs/`
+//! says what a plan means, in this order: `Names` and `Pieces` (what its numbers name, script order, places), `Touches`
+//! and `Operations` (what an operation touches, does and answers), `Effects` (what a piece touches and makes of the
+//! cells), `Graphs` (the run in script order), `Reading` and `Output` (lines, refused statements, traps), `Ordered`
 //! (when a plan is well ordered), `Know` (what a seat knows) and `Laws`, `Framed`, `Touched`, `Tallies` (what follows).
 #![tactic(auto)]
 

@@ -39,8 +39,8 @@ pub struct SectionBook {
 }
 
 impl SectionBook {
-    /// The book at the script's beginning, if the script stays within the limits of the language. Without a `when` it is
-    /// what the statements do that counts, with one it is what their text says.
+    /// The book at the script's beginning, if the script stays within the limits of the language. Without a `when` it
+    /// is what the statements do that counts, with one it is what their text says.
     pub fn new(alloc: Global, script: &Script, table: &Table) -> Result<SectionBook, PlanFault>
         requires accepted { IsAccepted script.now }
         ensures limit { IfErr result (λ fault. (fault ≡ PlanFault.NoMemory)
@@ -59,10 +59,10 @@ impl SectionBook {
         Ok(SectionBook { planner, at })
     }
 
-    /// The next section. `held` says whether the test holds at which the last one ended, and `cells` begin with the words
-    /// that it left; the first section has none before it. Its plan takes the `names` of the script over: for the first
-    /// section `names_of` copies them, and a later one is given those of the plan before. After an error the book is of
-    /// no use.
+    /// The next section. `held` says whether the test holds at which the last one ended, and `cells` begin with the
+    /// words that it left; the first section has none before it. Its plan takes the `names` of the script over: for the
+    /// first section `names_of` copies them, and a later one is given those of the plan before. After an error the book
+    /// is of no use.
     pub fn next(
         &mut self,
         alloc: Global,

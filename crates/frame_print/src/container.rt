@@ -124,8 +124,8 @@ fn words(at: &Bind) -> u64
 /// An array, a view and a list are their elements, a reference is its value, a map its pairs in rising key order, and a
 /// stream the items of each index in foreach order. A view has the length that its list has now.
 ///
-/// The text is gathered on the stack, so that the sink is called once for some 16,000 bytes, and once for a container of
-/// a few words. A map of n keys is gone through n times, as each key is sought among all places of its table.
+/// The text is gathered on the stack, so that the sink is called once for some 16,000 bytes, and once for a container
+/// of a few words. A map of n keys is gone through n times, as each key is sought among all places of its table.
 pub fn print_container<M: Mem, S: Sink>(
     name: &[u8],
     at: &Bind,

@@ -4,8 +4,8 @@
 //! `frame_ast`. After a fault the sink has taken some first part of them, and a fault is answered only where the sink's
 //! count of faults rose.
 //!
-//! A text is gathered in `Outgoing`, a buffer on the stack, so that a sink is called once for some 16,000 bytes. A line of
-//! a few short parts has a small one, since a buffer is cleared before it is used. Numbers are written by `itoa`.
+//! A text is gathered in `Outgoing`, a buffer on the stack, so that a sink is called once for some 16,000 bytes. A line
+//! of a few short parts has a small one, since a buffer is cleared before it is used. Numbers are written by `itoa`.
 #![tactic(auto)]
 
 mod cells;

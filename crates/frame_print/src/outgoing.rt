@@ -10,14 +10,15 @@ use itoa::Buffer;
 use job_base::{Sink, SinkFault};
 use std::marker::Model;
 
-/// Room for a line of a few short parts. Each print clears its room before it begins, so a short line takes a small one.
+/// Room for a line of a few short parts. Each print clears its room before it begins, so a short line takes a small
+/// one.
 pub const LINE: usize = 512;
 
 /// Room for a text of any length: a sink takes some 16,000 bytes at a time.
 pub const TEXT: usize = 16_384;
 
-/// The bytes of a text that no sink has taken yet, at most `N` of them. They wait on the stack, so that a sink is called
-/// once for many parts. What still waits when it is dropped is lost: end with [`Outgoing::flush`].
+/// The bytes of a text that no sink has taken yet, at most `N` of them. They wait on the stack, so that a sink is
+/// called once for many parts. What still waits when it is dropped is lost: end with [`Outgoing::flush`].
 #[derive(Drop)]
 pub struct Outgoing<const N: usize> {
     bytes: [u8; N],

@@ -1,9 +1,9 @@
 //! The whole run of a frame script, from the words of the command line to the bytes that are written.
 //!
 //! `run_frame` reads the words, the script and the table, and refuses what isn't accepted, in the order in which the
-//! work is done (`specs/Refusals`). A script that is accepted is planned section by section: a section ends at a `when`,
-//! whose test is decided by what was computed before it. Each section is run by the workers of `steal_pool` on a
-//! `WordBoard` of its own, which takes no lock, and the lines of traps are written once, after the last one.
+//! work is done (`specs/Refusals`). A script that is accepted is planned section by section: a section ends at a
+//! `when`, whose test is decided by what was computed before it. Each section is run by the workers of `steal_pool` on
+//! a `WordBoard` of its own, which takes no lock, and the lines of traps are written once, after the last one.
 //!
 //! *Promise.* Each status comes with its cause and its text, and each cause with its status (`specs/Answers`). What a
 //! script writes is its meaning, `output_of`, whatever the number of workers and the cuts of its jobs.

@@ -114,8 +114,9 @@ impl JobBook {
         ensures all { (b : Book) → StandsFor self.now b → (k : ℕ) → jobs_of result k ≡ ancestors_in b (jobs_of h.now) k }
         ensures own { (k : ℕ) → jobs_of h.now k ≡ true → jobs_of result k ≡ true }
     {
-        // From the newest job down: a row that is taken brings all that it leads to, so a job that is there already adds
-        // nothing, and neither does a whole word of them. A job that waits for all earlier ones then takes few rows.
+        // From the newest job down: a row that is taken brings all that it leads to, so a job that is there already
+        // adds nothing, and neither does a whole word of them. A job that waits for all earlier ones then takes few
+        // rows.
         let mut all = Handle::empty();
         let mut left = self.rows.len();
         while left > 0 {

@@ -13,8 +13,8 @@ pub(crate) const WORD_JOBS: usize = 64;
 // The words of a handle.
 const WORDS: usize = 64;
 
-/// A set of jobs, each of them 1 to [`MOST_JOBS`]. Unity's handle stands for a job; this one, like one that was combined, for
-/// several.
+/// A set of jobs, each of them 1 to [`MOST_JOBS`]. Unity's handle stands for a job; this one, like one that was
+/// combined, for several.
 ///
 /// <https://docs.unity3d.com/ScriptReference/Unity.Jobs.JobHandle.html>
 #[derive(Clone, Copy)]

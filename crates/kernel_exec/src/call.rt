@@ -18,7 +18,8 @@ pub struct Call<'a> {
     pub kernel: &'a Kernel,
     pub binds: &'a [Bind],
     pub index: u32,
-    /// For each parameter the array in which the element at the index is found by one comparison, else one of no length.
+    /// For each parameter the array in which the element at the index is found by one comparison, else one of no
+    /// length.
     pub own: [ArrayAt; PARAMS],
     ghost table: { IsTable own binds.now },
 }

@@ -1,5 +1,5 @@
-//! Laws of what kernels mean for words, and of their footprints. Each function does nothing: its contract is the law, as
-//! `specs/Laws` states it.
+//! Laws of what kernels mean for words, and of their footprints. Each function does nothing: its contract is the law,
+//! as `specs/Laws` states it.
 ghost use Rattle.kernel_exec.specs.Laws.{FootprintsGrow, IndexesAreCut, OnlyWrittenWordsChange, OwnPartsAreApart, ReadWordsDecide, WordsStandForContents, WrittenWordsAreRead};
 
 /// A checked kernel, at an index and at indexes that follow one another, changes no word but those that they write by

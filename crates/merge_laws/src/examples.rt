@@ -1,4 +1,5 @@
-//! Worked plans: one of four pieces, two of which commute, and one in which a word is used again. What the definitions say of them is computed.
+//! Worked plans: one of four pieces, two of which commute, and one in which a word is used again. What the definitions
+//! say of them is computed.
 
 ghost use Rattle.merge_laws.specs.DiamondBoard.{DiamondIsRun};
 ghost use Rattle.merge_laws.specs.Examples.{DiamondCounts, DiamondIsAPlan, DiamondMerges, DiamondRuns, IllegalRuns};

@@ -7,7 +7,8 @@ pub fn leases_are_apart()
     ensures { LeasesAreApart }
 {}
 
-/// A piece that may begin shares no word with what runs that one of them writes, and finds its cells as script order has them before it.
+/// A piece that may begin shares no word with what runs that one of them writes, and finds its cells as script order
+/// has them before it.
 pub fn what_may_begin_is_clear()
     ensures { WhatMayBeginIsClear }
 {}

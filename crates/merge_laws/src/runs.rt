@@ -2,8 +2,8 @@
 
 ghost use Rattle.merge_laws.specs.Runs.{EndedRunsAgree, EndedRunsAreInScriptOrder, RunsCanGoOn, RunsKeepTheMerge};
 
-/// In each state that a legal list of events reaches the merge holds, each lease sees on its footprint the cells of script order, and each
-/// piece was ended once at most.
+/// In each state that a legal list of events reaches the merge holds, each lease sees on its footprint the cells of
+/// script order, and each piece was ended once at most.
 pub fn runs_keep_the_merge()
     ensures { RunsKeepTheMerge }
 {}

@@ -64,7 +64,8 @@ impl ArrayAt {
         }
     }
 
-    /// The `len` elements from `start` on, as an array in the same words. `None` where `start + len` exceeds the length.
+    /// The `len` elements from `start` on, as an array in the same words. `None` where `start + len` exceeds the
+    /// length.
     ///
     /// <https://docs.unity3d.com/ScriptReference/Unity.Collections.NativeArray_1.GetSubArray.html>
     pub fn slice(&self, start: u32, len: u32) -> Option<ArrayAt>

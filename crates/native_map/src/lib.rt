@@ -11,9 +11,9 @@
 //! The home place is the low bits of a fixed hash, the last steps of SplitMix64
 //! (<https://prng.di.unimi.it/splitmix64.c>). It spreads the usual patterns of keys: numbers in order, multiples of a
 //! number or of a power of two, two numbers packed into one. At most half of the places hold a pair, so a call is
-//! expected to visit one or two places, whatever the capacity. The hash is public and has no seed: keys that were chosen
-//! against it can all have one home place, and then a call visits as many places as there are keys. The answers stay
-//! the same.
+//! expected to visit one or two places, whatever the capacity. The hash is public and has no seed: keys that were
+//! chosen against it can all have one home place, and then a call visits as many places as there are keys. The answers
+//! stay the same.
 //!
 //! Measured on one thread of a server, with capacity 4,096 and 4,096 keys (half of the places), in keys 0, 1, 2 .. and
 //! their multiples of 1,000,003, of 8,192, of 2^32 and of a random odd number of 64 bits alike: 12 ns to get the value

@@ -27,8 +27,8 @@ impl StreamAt {
         }
     }
 
-    /// Item `k` of index `i`, counted from 0 in the order of their writing. `Range` where `i` is below 0 or not below the
-    /// count, or `k` is below 0 or not below the number of items.
+    /// Item `k` of index `i`, counted from 0 in the order of their writing. `Range` where `i` is below 0 or not below
+    /// the count, or `k` is below 0 or not below the number of items.
     ///
     /// <https://docs.unity3d.com/Packages/com.unity.collections@2.5/api/Unity.Collections.NativeStream.Reader.Read.html>
     pub fn at<M: Mem>(&self, mem: &mut M, i: i64, k: i64) -> Result<i64, Trap>

@@ -31,7 +31,8 @@ impl SafetyBook {
         })
     }
 
-    /// The slot becomes live with this version, for a container that no job uses. It makes the room that its notes need.
+    /// The slot becomes live with this version, for a container that no job uses. It makes the room that its notes
+    /// need.
     pub fn enroll(&mut self, slot: Slot, version: Version) -> Result<(), NoMemory>
         ensures slot { OnOk result (state_of self.new slot.0 ≡ fresh version.0) }
         ensures same { OnErr result (state_of self.new slot.0 ≡ state_of self.old slot.0) }
@@ -92,8 +93,8 @@ impl SafetyBook {
         self.check(tag, deps, jobs, true)
     }
 
-    /// The newest job, 1 to [`MOST_JOBS`], reads the container; its check answered Ok. A job that reads it through several
-    /// arguments is noted once.
+    /// The newest job, 1 to [`MOST_JOBS`], reads the container; its check answered Ok. A job that reads it through
+    /// several arguments is noted once.
     pub fn note_read(&mut self, slot: Slot, j: JobId)
         requires live { (state_of self.old slot.0).live ≡ true }
         requires job { (0 < j.0) × (j.0 ≤ MOST_JOBS) }

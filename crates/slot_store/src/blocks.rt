@@ -13,8 +13,8 @@ const BLOCK: u32 = 1_024;
 
 const BLOCKS: usize = 2_048;
 
-/// For each block, a length that no hole exceeds which starts in it. It falls to the greatest such length when the holes
-/// of the block are gone through.
+/// For each block, a length that no hole exceeds which starts in it. It falls to the greatest such length when the
+/// holes of the block are gone through.
 #[derive(Drop)]
 pub(crate) struct Bounds {
     pub(crate) lens: Vec<u32>,

@@ -9,8 +9,8 @@ use job_handle::Handle;
 // How many jobs below the one that was noted are looked at, before all are.
 const NEAR: u32 = 8;
 
-/// A user that isn't completed: one just below the job that was noted, or else the latest. Where jobs are completed from
-/// the latest down, the next one is near, and a set of jobs is seldom gone through.
+/// A user that isn't completed: one just below the job that was noted, or else the latest. Where jobs are completed
+/// from the latest down, the next one is near, and a set of jobs is seldom gone through.
 pub(crate) fn pending_of(users: &Handle, completed: &Handle, noted: u32) -> Option<JobId>
     requires { noted ≤ MOST_JOBS }
     ensures some { IfSome result (λ j. (0 < j.0) × (jobs_of users.now j.0 ≡ true) × (jobs_of completed.now j.0 ≡ false)) }

@@ -59,8 +59,8 @@ impl SlotStore {
         })
     }
 
-    /// Takes the lowest range of `len` words of which none is live, and the lowest slot that is free. An empty range starts
-    /// at 0.
+    /// Takes the lowest range of `len` words of which none is live, and the lowest slot that is free. An empty range
+    /// starts at 0.
     pub fn take(&mut self, len: u32) -> Result<Taken, StoreFault>
         requires fits { peak_of self.old + len < 2 ^ 32 }
         requires slots { slots_in_use self.old < 4294967295 }
@@ -86,8 +86,8 @@ impl SlotStore {
         }
     }
 
-    /// Takes a range of `len` words for a slot that is taken, by the rule of `take` and while its old range is still live.
-    /// Then the old one comes back.
+    /// Takes a range of `len` words for a slot that is taken, by the rule of `take` and while its old range is still
+    /// live. Then the old one comes back.
     pub fn regrow(&mut self, slot: Slot, len: u32) -> Result<Span, StoreFault>
         requires taken { is_taken (place_of self.old slot.0).state ≡ true }
         requires fits { peak_of self.old + len < 2 ^ 32 }
@@ -163,8 +163,8 @@ impl SlotStore {
         };
     }
 
-    /// Each held range whose users are all completed comes back with its slot, and no other. It looks at those that were
-    /// held since the last call, and at the others where a job was completed since.
+    /// Each held range whose users are all completed comes back with its slot, and no other. It looks at those that
+    /// were held since the last call, and at the others where a job was completed since.
     pub fn settle(&mut self, book: &JobBook)
         requires known { (s : ℕ) → AreUpTo (count_of book.now) (users_of (place_of self.old s).state) }
         ensures places { (b : Book) → StandsFor book.now b → (s : ℕ) → place_of self.new s ≡ settled b (place_of self.old s) }

@@ -3,8 +3,8 @@
 //! The script thread runs the segments one after another and prints as it goes. While it waits for jobs it helps: like
 //! every worker it takes an open job from its own deque, the newest first, or steals the oldest one of another's, and
 //! offers it again where it has more pieces than the one that it runs then. It goes on with this job, piece by piece,
-//! until all are given out. Who runs which piece and when says nothing of what is printed: the board gives each piece the
-//! cells of the run in script order. So what [`run`] promises is proved of the first seat alone.
+//! until all are given out. Who runs which piece and when says nothing of what is printed: the board gives each piece
+//! the cells of the run in script order. So what [`run`] promises is proved of the first seat alone.
 //!
 //! **Cost.** A piece costs a load and an exchange of its job's count beside the steps of its board, and one exchange
 //! more for each worker that was quicker. A job costs one push and one pop or steal for each worker that comes to it, and
@@ -18,10 +18,10 @@
 //! **That a run ends is not proved**, since threads may wait. It rests on this: whoever may open a job opens each piece
 //! (proved: between two turns a seat has none left to open) before it offers the job; a deque has room for all that its
 //! worker offers, each job once where it opens it and once where it takes it up; what is offered stays in a deque until
-//! somebody takes it; who takes up a job goes on until all its pieces are given out, or is the script thread and offered
-//! it before; a piece that was given out is run by who got it, and can be begun; the worker of a job's last piece
-//! releases what depends on the job before it looks for another piece; a worker ends only where it found none; and the
-//! script thread goes on looking for as long as it waits.
+//! somebody takes it; who takes up a job goes on until all its pieces are given out, or is the script thread and
+//! offered it before; a piece that was given out is run by who got it, and can be begun; the worker of a job's last
+//! piece releases what depends on the job before it looks for another piece; a worker ends only where it found none;
+//! and the script thread goes on looking for as long as it waits.
 #![tactic(auto)]
 
 mod claims;

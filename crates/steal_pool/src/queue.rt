@@ -31,8 +31,8 @@ impl Queue {
         })
     }
 
-    /// Offers a job to all workers. A push past the capacity would be left out. There is none: the capacity is twice the
-    /// number of jobs, and a worker opens a job at most once, and offers it again at most once.
+    /// Offers a job to all workers. A push past the capacity would be left out. There is none: the capacity is twice
+    /// the number of jobs, and a worker opens a job at most once, and offers it again at most once.
     pub fn push(&mut self, job: JobId) {
         if self.pushes < self.capacity {
             let pushed = self.own.push_as::<Free>(job);

@@ -7,8 +7,8 @@ use frame_core::Plan;
 /// What shows a plan: the plan itself. A run knows its plan by a type parameter of this kind, which is `Sync`.
 ///
 /// That threads may share a plan goes through all the trees of its kernels. Where threads are started, among all that
-/// they are handed, the checker can't show it of the plan's own type within its limits; of a parameter it knows it. So it
-/// is shown where a run is called, and [`may_be_shared`] shows that it can be.
+/// they are handed, the checker can't show it of the plan's own type within its limits; of a parameter it knows it. So
+/// it is shown where a run is called, and [`may_be_shared`] shows that it can be.
 pub trait ShowsPlan {
     ghost shown: { Self → Plan };
 
