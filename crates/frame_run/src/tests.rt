@@ -28,6 +28,26 @@ fn a_file_of_the_disk(rt: HostRuntime) -> Result<(), Fail> {
     Ok(())
 }
 
+// More bytes than one part has.
+#[test]
+fn a_file_of_several_parts(rt: HostRuntime) -> Result<(), Fail> {
+    let alloc = rt.alloc();
+    let bytes = vec![in alloc; b'x'; 10_000]?;
+    fs::write(&rt, "long", bytes.as_slice())?;
+    let mut files = DiskFiles::new(&rt);
+    let whole = files
+        .read(alloc, "long", 10_000)
+        .ok()
+        .ok_or("the file is there")?;
+    assert_eq!(rt; whole.len(), 10_000);
+    assert_eq!(rt;
+        files.read(alloc, "long", 9_999).err(),
+        Some(FileFault::TooLong)
+    );
+    fs::remove_file(&rt, "long")?;
+    Ok(())
+}
+
 #[test]
 fn standard_output(rt: HostRuntime) -> Result<(), Fail> {
     let mut sink = StdoutSink::new(&rt);
