@@ -9,9 +9,9 @@ pub struct Report {
     pub traps: u64,
     /// How many statements were refused.
     pub refused: u64,
-    /// The job of the first trap, `JobId(0)` where there is none.
+    /// The job of the first trap. It says nothing where there is none.
     pub job: JobId,
-    /// The index of the first trap, 0 where there is none.
+    /// The index of the first trap. It says nothing where there is none.
     pub index: u32,
     /// The first trap. It says nothing where there is none.
     pub trap: Trap,

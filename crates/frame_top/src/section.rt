@@ -1,6 +1,7 @@
 // The run of one section, on a board of its own.
-ghost use Rattle.std.specs.Prelude.{◌≡◌, ◌≤◌, false, length, true, IfOk, OnErr};
+ghost use Rattle.std.specs.Prelude.{◌≡◌, ◌≤◌, false, length, min, ◌+◌, true, IfOk, OnErr};
 ghost use Rattle.job_base.specs.declared.limits.TheConstants.{MOST_WORKERS};
+ghost use Rattle.frame_core.specs.Names.{job_pieces};
 ghost use Rattle.frame_core.specs.Ordered.{IsWellOrderedPlan};
 ghost use Rattle.frame_core.specs.Output.{plan_lines};
 ghost use Rattle.steal_pool.specs.Runs.{RunsTo};
@@ -38,6 +39,7 @@ pub struct SectionRun {
 fn busy_workers(plan: &Plan, workers: u32) -> u32
     requires well { IsWellOrderedPlan plan.now }
     requires workers { 1 ≤ workers }
+    ensures busy { result ≡ min workers (job_pieces plan.now + 1) }
     ensures some { 1 ≤ result }
     ensures most { result ≤ workers }
 {
