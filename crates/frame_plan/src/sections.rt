@@ -61,7 +61,8 @@ impl SectionBook {
 
     /// The next section. `held` says whether the test holds at which the last one ended, and `cells` begin with the
     /// words that it left; the first section has none before it. Its plan takes the `names` of the script over: for the
-    /// first section `names_of` copies them, and a later one is given those of the plan before. After an error the book
+    /// first section `names_of` copies them, and a later one is given those of the plan before. So is `room`, a list
+    /// that is needed no more, as the first literal of the plan before: the words go into it. After an error the book
     /// is of no use.
     pub fn next(
         &mut self,
@@ -71,6 +72,7 @@ impl SectionBook {
         held: Option<bool>,
         cells: &mut FlatMem,
         names: Vec<String>,
+        room: Vec<i64>,
     ) -> Result<Section, NoMemory>
         requires at { (from : ℕ) × (carried : Cells) × (len : ℕ)
             × IsAt self.old script.now (columns_of table.now) from carried len
@@ -87,7 +89,7 @@ impl SectionBook {
         match held {
             None => self.hand_out(alloc, script, names),
             Some(held) => {
-                self.resume(alloc, script, table, held, cells)?;
+                self.resume(alloc, script, table, held, cells, room)?;
                 self.hand_out(alloc, script, names)
             }
         }
@@ -146,6 +148,7 @@ impl SectionBook {
         table: &Table,
         held: bool,
         cells: &mut FlatMem,
+        room: Vec<i64>,
     ) -> Result<(), NoMemory>
         requires at { (from : ℕ) × (carried : Cells) × (len : ℕ)
             × IsBetween self.old script.now (columns_of table.now) from carried len
@@ -158,7 +161,7 @@ impl SectionBook {
             → IsPlannedFrom self.new script.now (columns_of table.now) from) }
         ensures cells { cells.new ≡ cells.old }
     {
-        self.planner.begin(alloc, script, cells)?;
+        self.planner.begin(alloc, script, cells, room)?;
         let statement = &script.statements[self.at as usize];
         self.planner.passing = passed_after(&statement.act, held);
         match self.planner.run(alloc, script, table, self.at + 1) {

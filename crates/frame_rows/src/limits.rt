@@ -17,7 +17,15 @@ fn fault_of(alloc: Global, lines: &str) -> Result<Option<PlanFault>, Fail> {
         Err(fault) => return Ok(Some(fault)),
     };
     let names = names_of(alloc, &script)?;
-    book.next(alloc, &script, &table, None, &mut cells, names)?;
+    book.next(
+        alloc,
+        &script,
+        &table,
+        None,
+        &mut cells,
+        names,
+        Vec::new(alloc),
+    )?;
     Ok(None)
 }
 

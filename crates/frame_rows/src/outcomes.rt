@@ -111,7 +111,7 @@ fn go_on<R: Threads + Wait + Sync>(
         → IsBetween script.now (columns_of table.now) book.new held.new cells.new) }
 {
     let names = names_of(alloc, script)?;
-    let section = book.next(alloc, script, table, *held, cells, names)?;
+    let section = book.next(alloc, script, table, *held, cells, names, Vec::new(alloc))?;
     write!(told, "{} jobs before", section.jobs_before)?;
     *cells = run_plan(rt, alloc, &section.plan, 2, sink)?;
     let Some(test) = section.test else {

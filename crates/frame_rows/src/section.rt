@@ -47,7 +47,15 @@ pub fn section_with(alloc: Global, lines: &str, table: &Table) -> Result<Section
     let mut cells = FlatMem::new(alloc, 0)?;
     let mut book = SectionBook::new(alloc, &script, table)?;
     let names = names_of(alloc, &script)?;
-    Ok(book.next(alloc, &script, table, None, &mut cells, names)?)
+    Ok(book.next(
+        alloc,
+        &script,
+        table,
+        None,
+        &mut cells,
+        names,
+        Vec::new(alloc),
+    )?)
 }
 
 /// The same with no table.

@@ -40,8 +40,8 @@ pub record InSections {S : Type 0} (taken : S → Option (List ℕ)) (faults : S
 
 module _ {S : Type 0} (taken : S → Option (List ℕ)) (faults : S → ℕ) (script : Script) (table : Table) where
   pub at_first : (book : SectionBook) (p : Progress) (sink : S) → ((carried : Cells) (len : ℕ) → IsAt book script table 0 carried len)
-      → p.held ≡ None → p.failed ≡ false → IsReportAt (state_at script table 0) p.report → AreNamesOf script p.names.items → InSections taken faults script table 0 book p sink sink
-  at_first book p sink at held failed report names =
+      → p.held ≡ None → p.failed ≡ false → IsReportAt (state_at script table 0) p.report → AreNamesOf script p.names.items → length p.cells ≡ p.words → InSections taken faults script table 0 book p sink sink
+  at_first book p sink at held failed report names words =
       let none = report.traps.number in
       let nothing = report.refused in
       record {
@@ -52,6 +52,7 @@ module _ {S : Type 0} (taken : S → Option (List ℕ)) (faults : S → ℕ) (sc
           at = at (λ w. pos 0) 0;
           outcome = held;
           left = (omega arith, λ w l. absurd (omega (arith, l)));
+          words = words;
           names = names;
           report = report;
           few = record { traps = omega arith; refused = omega arith };

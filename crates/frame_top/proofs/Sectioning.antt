@@ -199,9 +199,9 @@ pub runs_on : (script : Script) (table : Table) (sections from : ℕ) (book : Se
     → (p : Progress) (left : List ℤ) → AreCellsOf section.plan left → p.cells ≡ left
     → p.held ≡ Some (compares test.sign (cells_of left test.at.start) test.bound)
     → IsReportAt (state_at script table next.to) p.report → IsFew (suc sections) p.report
-    → p.names ≡ section.plan.names
+    → p.names ≡ section.plan.names → p.words ≡ section.plan.words
     → HasRun script table (suc sections) next.to book p
-runs_on script table sections from book section next test e tests p left cells same held report few names =
+runs_on script table sections from book section next test e tests p left cells same held report few names words =
     let some : IsSome section.test = subst IsSome (sym e) refl in
     let is = next.is_section in
     let sized = is.well_ordered.sized in
@@ -219,6 +219,7 @@ runs_on script table sections from book section next test e tests p left cells s
       at = next.at some;
       outcome = outcome_at script table from next.to p.held later (held ∙ ap (λ z. Some (compares test.sign z test.bound)) (cells.each test.at.start low) ∙ ap Some at_test.outcome);
       left = subst (λ m. AreLeft m (cells_after section.plan) section.plan.cells) (sym same) (omega arith, λ w l. cells.each w (omega arith));
+      words = ap length same ∙ size ∙ sym words;
       names = subst (λ (v : Vec (String Global) Global). AreNamesOf script v.items) (sym names) is.names;
       report = report;
       few = few;
@@ -252,16 +253,16 @@ module _ {S : Type 0} (taken : S → Option (List ℕ)) (faults : S → ℕ) (sc
     last = λ e. ends_last script table from next.to section is none;
   }
 
-  pub section_more : (q : Progress) (test : Test) → q.failed ≡ r.failed → q.report ≡ joined → section.test ≡ Some test → keeps ≡ true → q.cells ≡ r.left → q.names ≡ section.plan.names
+  pub section_more : (q : Progress) (test : Test) → q.failed ≡ r.failed → q.report ≡ joined → section.test ≡ Some test → keeps ≡ true → q.cells ≡ r.left → q.names ≡ section.plan.names → q.words ≡ section.plan.words
       → q.held ≡ Some (compares test.sign (cells_of r.left test.at.start) test.bound) → RunsOn taken faults script table sections from old new p.failed book q true
-  section_more q test failed report some kept cells names held = record {
+  section_more q test failed report some kept cells names words held = record {
     to = next.to;
     lines = plan_lines section.plan;
     lines_are = is.lines;
     said = subst (λ b. SaysTo taken faults old new p.failed b (plan_lines section.plan)) (sym failed) run.lines;
     report = subst (IsReportAt (state_at script table next.to)) (sym report) report_at;
     next = λ e. runs_on script table sections from book section next test some was.tests q r.left (run.cells kept) cells held
-        (subst (IsReportAt (state_at script table next.to)) (sym report) report_at) (subst (IsFew (suc sections)) (sym report) few) names;
+        (subst (IsReportAt (state_at script table next.to)) (sym report) report_at) (subst (IsFew (suc sections)) (sym report) few) names words;
     last = λ e. absurd cc;
   }
 

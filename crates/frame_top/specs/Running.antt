@@ -37,6 +37,7 @@ pub record HasRun (script : Script) (table : Table) (sections from : ℕ) (book 
   pub at : IsAt book script table from carried len
   pub outcome : IsOutcome script table from p.held
   pub left : AreLeft p.cells carried len
+  pub words : length p.cells ≡ p.words
   pub names : AreNamesOf script p.names.items
   pub report : IsReportAt (state_at script table from) p.report
   pub few : IsFew sections p.report

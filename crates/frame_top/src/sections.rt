@@ -15,7 +15,7 @@ ghost use Rattle.frame_top.specs.Refusals.{answer};
 ghost use Rattle.frame_top.specs.Running.{HasRun, IsReportAt, RunsOn};
 ghost use Rattle.frame_top.specs.declared.status.TheConstants.{NO_MEMORY, UNWRITTEN};
 
-use crate::section::run_section;
+use crate::section::{CountedCells, run_section};
 use crate::status::{DONE, NO_MEMORY, STATEMENT_REFUSED, TRAPPED, UNWRITTEN};
 use frame_ast::script::{Script, Sign};
 use frame_plan::{Section, SectionBook, Test, names_of};
@@ -35,10 +35,13 @@ use table_in::Table;
 pub struct Progress {
     /// Whether the test holds at which the last section ended.
     pub held: Option<bool>,
-    /// The cells that it left.
+    /// The cells that it left, and how many they are.
     pub cells: FlatMem,
+    pub words: u32,
     /// The names of the script, which its plan had.
     pub names: Vec<String>,
+    /// A list of its plan that is needed no more. The next plan has the cells in it.
+    pub room: Vec<i64>,
     /// Of all sections so far.
     pub report: Report,
     /// A write failed, and nothing was written since.
@@ -82,6 +85,15 @@ fn status_of_report(report: &Report) -> u8
     }
 }
 
+/// The first of some lists, which is the one with the cells where a plan has them.
+fn first_list(alloc: Global, lists: Vec<Vec<i64>>) -> Vec<i64> {
+    let mut lists = lists;
+    if lists.is_empty() {
+        return Vec::new(alloc);
+    }
+    lists.swap_remove(0)
+}
+
 /// Runs the next section, and says whether there is one after it.
 fn run_next<R: Threads + Wait + Sync, S: Sink, G: Gate + Sync>(
     rt: &R,
@@ -107,6 +119,7 @@ fn run_next<R: Threads + Wait + Sync, S: Sink, G: Gate + Sync>(
     ensures failed { OnErr result (progress.new.failed ≡ progress.old.failed) }
 {
     let names = mem::replace(&mut progress.names, Vec::new(alloc));
+    let room = mem::replace(&mut progress.room, Vec::new(alloc));
     let section = book.next(
         alloc,
         script,
@@ -114,8 +127,13 @@ fn run_next<R: Threads + Wait + Sync, S: Sink, G: Gate + Sync>(
         progress.held,
         &mut progress.cells,
         names,
+        room,
     )?;
     let keeps = section.test.is_some();
+    let before = CountedCells {
+        cells: mem::replace(&mut progress.cells, FlatMem::new(alloc, 0)?),
+        count: progress.words,
+    };
     let run = run_section(
         rt,
         alloc,
@@ -123,6 +141,7 @@ fn run_next<R: Threads + Wait + Sync, S: Sink, G: Gate + Sync>(
         workers,
         keeps,
         progress.failed,
+        before,
         sink,
         gate,
     )?;
@@ -131,7 +150,9 @@ fn run_next<R: Threads + Wait + Sync, S: Sink, G: Gate + Sync>(
     progress.report = join_reports(&progress.report, section.jobs_before, &run.report);
     progress.cells = run.left;
     let Section { plan, test, .. } = section;
+    progress.words = plan.words;
     progress.names = plan.names;
+    progress.room = first_list(alloc, plan.literals);
     match test {
         None => Ok(false),
         Some(test) => {
@@ -214,7 +235,9 @@ pub fn run_sections<R: Threads + Wait + Sync, S: Sink, G: Gate + Sync>(
     let mut progress = Progress {
         held: None,
         cells,
+        words: 0,
         names,
+        room: Vec::new(alloc),
         report: no_report(),
         failed: false,
     };

@@ -16,4 +16,4 @@ returns-clause-next g c sections from few was =
     c.reports_are_within.ensures was
     (c.in_ok-section.ensures.section from was.carried was.len was.at was.outcome was.left)
     c.in_ok-run.ensures.run c.join_reports-progress.ensures.traps c.join_reports-progress.ensures.refused
-    _ c.in-Some.test refl refl c.in-Some.is (c.is_some-keeps.ensures ∙ ap is_some c.in-Some.is) c.holds.ensures.cells refl (ap Some c.holds.ensures.held)
+    _ c.in-Some.test refl refl c.in-Some.is (c.is_some-keeps.ensures ∙ ap is_some c.in-Some.is) c.holds.ensures.cells refl refl (ap Some c.holds.ensures.held)
