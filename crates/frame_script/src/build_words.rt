@@ -209,7 +209,8 @@ impl Words {
         }
     }
 
-    // TO ADD A STATEMENT: 8, its raw form of what was read; above where it makes a name, in build.rt where it has a list.
+    // TO ADD A STATEMENT: 8, its raw form of what was read; above, where it makes a name; in build.rt, where it has a
+    // list.
 
     /// The same of a statement that makes nothing but a handle.
     fn finish_use(self, action: Action) -> RawOrder
