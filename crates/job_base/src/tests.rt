@@ -18,6 +18,15 @@ fn flat_cells(rt: HostRuntime) -> Result<(), Fail> {
         (mem.load(Word(0)), mem.load(Word(1)), mem.load(Word(2))),
         (0, -7, 0)
     );
+    let mut again = FlatMem::of(mem.into_cells());
+    assert_eq!(rt;
+        (
+            again.load(Word(0)),
+            again.load(Word(1)),
+            again.load(Word(2))
+        ),
+        (0, -7, 0)
+    );
     Ok(())
 }
 
