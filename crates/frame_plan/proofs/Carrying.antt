@@ -1,6 +1,7 @@
 -- A section that begins after a test is laid out: the one range of its plan so far has all words that were ever taken.
 use Rattle.std.proofs.Common.{◌≡◌, ℕ, zero, suc, ◌+◌, ◌<◌, Bool, true, false, ◌&&◌, ℤ, List, [], ◌∷◌, ◌++◌, Some, refl, sym, ap, subst, ◌∙◌, arith, append-nil}
 use Rattle.std.specs.Prelude.{◌-◌, max, nat_lt, IsSome, slice_get}
+use Rattle.frame_ast.specs.declared.kernel.Kernel.{Kernel}
 use Rattle.frame_ast.specs.declared.script.Order.{Order}
 use Rattle.frame_ast.specs.declared.script.Order.TheVariants.{When}
 use Rattle.frame_ast.specs.declared.script.Script.{Script}
@@ -34,9 +35,9 @@ plain_test g s (When name sign value count) h = (refl, tt)
 plain_test g s a h = absurd h
 
 module _ (script : Script) (table : Table) (book : SectionBook) (n : ℕ) (carried : Cells) (len : ℕ) (b : IsBetween book script table n carried len)
-    (q : Planner) (mem : List ℤ) (left : AreLeft mem carried len) (r : IsResumed script book.planner q mem) where
-  resumed_is : q ≡ record b.old { kernels = q.kernels; guards = q.guards; jobs_before = q.jobs_before; plan = record book.planner.plan { literals = q.plan.literals; ops = q.plan.ops } }
-  resumed_is = q_is script table book n carried len b q mem left r
+    (kernels : List Kernel) (q : Planner) (mem : List ℤ) (left : AreLeft mem carried len) (r : IsResumed kernels book.planner q mem) where
+  resumed_is : q ≡ record b.old { jobs_before = q.jobs_before; plan = record book.planner.plan { kernels = q.plan.kernels; literals = q.plan.literals; ops = q.plan.ops } }
+  resumed_is = q_is script table book n carried len b kernels q mem left r
 
   module _ (x : Statement) (here : slice_get script.statements.items n ≡ Some x) (held : Bool) (out : IsOutcome script table n (Some held)) (k : ℕ) where
     test_is : b.test ≡ x

@@ -147,6 +147,14 @@ module _ (script : Script) (table : Table) (from : ℕ) (book : SectionBook) (re
       test = ends (slice_get script.statements.items book.at) refl ready.stops test tests;
     };
     inside = λ t e. inside (slice_get script.statements.items book.at) refl ready.stops t (subst (IsTestFor book.planner (slice_get script.statements.items book.at)) e tests);
+    kernels = record {
+      old = book.planner;
+      places = ap (λ (k : Planner). k.kernels) emptied.rest;
+      guard_places = ap (λ (k : Planner). k.guards) emptied.rest;
+      had = finished.kernels;
+      stood = ready.stands.kernels;
+      few = (let e = ap length finished.kernels in let l = ready.stands.numbers.kernels_few in omega arith);
+    };
     later = λ some. ready.later (there_too (slice_get script.statements.items book.at) test tests some);
     at = λ some.
         let here = there_too (slice_get script.statements.items book.at) test tests some in

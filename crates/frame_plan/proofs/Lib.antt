@@ -27,6 +27,7 @@ pub mod DisposalsGoOn
 pub mod Ending
 pub mod Entered
 pub mod Entering
+pub mod FirstCells
 pub mod FramesGoOn
 pub mod Giving
 pub mod GuardPlaces

@@ -1,14 +1,15 @@
 -- A section begins after a test, in the state in which the test stands.
 use Rattle.std.proofs.Common.{◌≡◌, ℕ, zero, suc, ◌+◌, ◌<◌, ◌≤◌, ⊎_elim, Bool, true, false, not, ℤ, List, [], ◌∷◌, ◌++◌, length, map, get_or, Option, None, Some, refl, sym, ap, subst, ◌∙◌, arith}
-use Rattle.std.specs.Prelude.{Vec, slice_get, replicate, string_bytes, if◌then◌else◌}
+use Rattle.std.specs.Prelude.{Vec, slice_get, string_bytes, if◌then◌else◌}
 use Rattle.std.specs.declared.alloc.Global.{Global}
 use Rattle.std.proofs.lemmas.Bool.{cases_lt}
-use Rattle.std.proofs.lemmas.List.{length-append, length-replicate}
+use Rattle.std.proofs.lemmas.List.{length-append}
 use Rattle.std.specs.List.{list_any}
 use Rattle.std.proofs.lemmas.Bool.{leb-true}
 use Rattle.job_base.specs.declared.limits.TheConstants.{MOST_STATEMENTS}
 use Rattle.job_base.specs.Cells.{cells_of, cell_list}
 use Rattle.job_base.proofs.Windows.{cell_list-same}
+use Rattle.frame_ast.specs.declared.kernel.Kernel.{Kernel}
 use Rattle.frame_ast.specs.declared.script.Order.{Order}
 use Rattle.frame_ast.specs.declared.script.Order.TheVariants.{When}
 use Rattle.frame_ast.specs.declared.script.Script.{Script}
@@ -46,8 +47,8 @@ use Rattle.frame_plan.specs.declared.state.Planner.{Planner}
 use Rattle.frame_plan.specs.declared.state.Written.{Written}
 use Rattle.frame_plan.specs.Runs.{IsActingTest, outline_of, PassesOnce}
 use Rattle.frame_plan.specs.Resuming.{IsResumed}
-use Rattle.frame_plan.specs.Sections.{IsBetween, IsOutcome, AreLeft, outcome_of, outcome_by, passed_after}
-use Rattle.frame_plan.specs.Stands.{IsContainer, IsOwned, Agrees, Stands, draft_of}
+use Rattle.frame_plan.specs.Sections.{AreKernelsOf, IsBetween, IsOutcome, AreLeft, outcome_of, outcome_by, passed_after}
+use Rattle.frame_plan.specs.Stands.{IsContainer, IsOwned, AreKernels, Agrees, Stands, draft_of}
 use Rattle.frame_plan.specs.Steps.{state_at, StandsAt}
 use Rattle.frame_plan.proofs.Accessing.{there}
 use Rattle.frame_plan.proofs.Wholes.{plan_so_far, some_planned}
@@ -57,7 +58,7 @@ use Rattle.frame_plan.proofs.Passing.{repassed}
 use Rattle.frame_plan.proofs.Reaching.{long, next_state}
 use Rattle.frame_plan.proofs.Restating.{accepted_state}
 use Rattle.frame_plan.proofs.References.{name_below}
-use Rattle.frame_plan.proofs.Starting.{none_in, none_long, no_copy, no_pieces}
+use Rattle.frame_plan.proofs.Starting.{none_long, no_pieces}
 
 -- ---- all jobs are completed
 
@@ -98,11 +99,11 @@ names_there script table old begun n found x st accepted here a is acts = absurd
 module _ (script : Script) (table : Table) (old : Planner) (begun : ScriptState) (n : ℕ) (found : List ℕ) (x : Statement) (st : StandsAt old script table begun n found)
     (accepted : IsAccepted script) (here : slice_get script.statements.items n ≡ Some x) (acts : IsActingTest (setting script table) (state_at script table n) x.act)
     (carried : Cells) (held : AllHeld (λ k. get_or found k 0) (state_at script table n) carried)
-    (kernels guards : Vec (Option ℕ) Global) (before : ℕ) (w : Written)
-    (kernels_are : kernels.items ≡ replicate (length script.kernels.items) None) (guards_are : guards.items ≡ replicate (length script.kernels.items) None)
+    (before : ℕ) (w : Written)
     (before_is : before ≡ (state_at script table n).book.count)
     (segments : w.segments.items ≡ []) (jobs : w.jobs.items ≡ []) (waits : w.waits.items ≡ []) (ops : w.ops.items ≡ carried_op (peak_of old.store) 0 ∷ [])
-    (literals : map (λ v. v.items) w.literals.items ≡ cell_list carried 0 (peak_of old.store) ∷ []) (no_kernels : w.kernels.items ≡ []) (pieces : w.pieces ≡ 0) where
+    (literals : map (λ v. v.items) w.literals.items ≡ cell_list carried 0 (peak_of old.store) ∷ []) (pieces : w.pieces ≡ 0)
+    (kernels : AreKernels (record old { jobs_before = before; plan = w }) (setting script table)) (kernels_few : length w.kernels.items ≤ n) where
   abbrev g : Setting
   g = setting script table
 
@@ -110,7 +111,7 @@ module _ (script : Script) (table : Table) (old : Planner) (begun : ScriptState)
   s = state_at script table n
 
   abbrev q : Planner
-  q = record old { kernels = kernels; guards = guards; jobs_before = before; plan = w }
+  q = record old { jobs_before = before; plan = w }
 
   abbrev len : ℕ
   len = peak_of old.store
@@ -199,7 +200,7 @@ module _ (script : Script) (table : Table) (old : Planner) (begun : ScriptState)
         let x_is : x' ≡ y = λ i. record { plan = y.plan; starts = y.starts; begun = b i } in
         subst (λ o. IsPlanned o s (draft_of q)) x_is begins
 
-  pub stands_resumed : StandsAt (record old { kernels = kernels; guards = guards; jobs_before = before; plan = w }) script table (state_at script table n) n found
+  pub stands_resumed : StandsAt (record old { jobs_before = before; plan = w }) script table (state_at script table n) n found
   stands_resumed =
       let m = st.numbers in record {
         known = st.known;
@@ -218,7 +219,7 @@ module _ (script : Script) (table : Table) (old : Planner) (begun : ScriptState)
           ops_few = (let e = ap ops_count segments in let f = ap length ops in omega arith);
           segments_few = (let e = none_long w.segments.items segments in omega arith);
           literals_few = (let e = one_literal in omega arith);
-          kernels_few = (let e = none_long w.kernels.items no_kernels in omega arith);
+          kernels_few = kernels_few;
           handles_few = m.handles_few;
         };
         names = st.names;
@@ -235,13 +236,7 @@ module _ (script : Script) (table : Table) (old : Planner) (begun : ScriptState)
         tempjobs = st.tempjobs;
         frames = st.frames;
         jobs = st.jobs;
-        kernels = record {
-          each = ap length kernels_are ∙ length-replicate (length script.kernels.items) None;
-          each_guard = ap length guards_are ∙ length-replicate (length script.kernels.items) None;
-          copies = λ k place e. absurd (no_copy kernels.items (length script.kernels.items) k place kernels_are e);
-          guards = λ k place e. absurd (no_copy guards.items (length script.kernels.items) k place guards_are e);
-          checked = λ place k e. absurd (none_in w.kernels.items place k no_kernels e);
-        };
+        kernels = kernels;
         planned = planned;
       }
 
@@ -273,44 +268,75 @@ module _ (script : Script) (table : Table) (book : SectionBook) (n : ℕ) (carri
   pub peak_is : peak_of book.planner.store ≡ peak_of b.old.store
   peak_is = ap (λ (k : Planner). peak_of k.store) b.emptied.rest
 
-  module _ (q : Planner) (mem : List ℤ) (left : AreLeft mem carried len) (r : IsResumed script book.planner q mem) where
-    pub q_is : q ≡ record b.old { kernels = q.kernels; guards = q.guards; jobs_before = q.jobs_before; plan = record book.planner.plan { literals = q.plan.literals; ops = q.plan.ops } }
-    q_is = r.rest ∙ ap (λ (k : Planner). record k { kernels = q.kernels; guards = q.guards; jobs_before = q.jobs_before; plan = record book.planner.plan { literals = q.plan.literals; ops = q.plan.ops } }) b.emptied.rest
+  module _ (kernels : List Kernel) (q : Planner) (mem : List ℤ) (left : AreLeft mem carried len) (r : IsResumed kernels book.planner q mem) where
+    -- the planner of the section before, with another plan
+    abbrev again : Planner
+    again = record b.old { jobs_before = q.jobs_before; plan = record book.planner.plan { kernels = q.plan.kernels; literals = q.plan.literals; ops = q.plan.ops } }
+
+    pub q_is : q ≡ record b.old { jobs_before = q.jobs_before; plan = record book.planner.plan { kernels = q.plan.kernels; literals = q.plan.literals; ops = q.plan.ops } }
+    q_is = r.rest ∙ ap (λ (k : Planner). record k { jobs_before = q.jobs_before; plan = record book.planner.plan { kernels = q.plan.kernels; literals = q.plan.literals; ops = q.plan.ops } }) b.emptied.rest
 
     same_cells : cell_list (cells_of mem) 0 (peak_of book.planner.store) ≡ cell_list carried 0 (peak_of b.old.store)
     same_cells =
         cell_list-same (cells_of mem) carried 0 (peak_of book.planner.store) (λ k lo hi. left.1 k (let e = b.len_is in omega arith))
         ∙ ap (cell_list carried 0) peak_is
 
-    stands_again : StandsAt q script table (state_at script table n) n b.found
-    stands_again =
+    -- the copies are where they were
+    kernels_again : AreKernelsOf book script table kernels → AreKernels again (setting script table)
+    kernels_again ks =
+        let places : b.old.kernels ≡ ks.old.kernels = ap (λ (k : Planner). k.kernels) (sym b.emptied.rest) ∙ ks.places in
+        let guard_places : b.old.guards ≡ ks.old.guards = ap (λ (k : Planner). k.guards) (sym b.emptied.rest) ∙ ks.guard_places in
+        let had : q.plan.kernels.items ≡ ks.old.plan.kernels.items = r.kernels_are ∙ ks.had in
+        record {
+          each = ap (λ (v : Vec (Option ℕ) Global). length v.items) places ∙ ks.stood.each;
+          each_guard = ap (λ (v : Vec (Option ℕ) Global). length v.items) guard_places ∙ ks.stood.each_guard;
+          copies = λ k place h.
+              let c = ks.stood.copies k place (ap (λ (v : Vec (Option ℕ) Global). slice_get v.items k) (sym places) ∙ h) in
+              record { old = c.old; new = c.new; is_old = c.is_old; is_new = ap (λ xs. slice_get xs place) had ∙ c.is_new; same = c.same };
+          guards = λ k place h.
+              let c = ks.stood.guards k place (ap (λ (v : Vec (Option ℕ) Global). slice_get v.items k) (sym guard_places) ∙ h) in
+              record {
+                old = c.old;
+                new = c.new;
+                is_old = c.is_old;
+                is_new = ap (λ xs. slice_get xs place) had ∙ c.is_new;
+                guarded = c.guarded;
+                contents = c.contents;
+                words = c.words;
+                footprint = c.footprint;
+              };
+          checked = λ place k h. ks.stood.checked place k (ap (λ xs. slice_get xs place) (sym had) ∙ h);
+        }
+
+    stands_again : AreKernelsOf book script table kernels → StandsAt q script table (state_at script table n) n b.found
+    stands_again ks =
         subst (λ p. StandsAt p script table (state_at script table n) n b.found) (sym q_is)
-        (stands_resumed script table b.old b.begun n b.found b.test b.stood b.accepted b.here b.acts carried b.held q.kernels q.guards q.jobs_before (record book.planner.plan { literals = q.plan.literals; ops = q.plan.ops })
-        r.kernels r.guards
+        (stands_resumed script table b.old b.begun n b.found b.test b.stood b.accepted b.here b.acts carried b.held q.jobs_before (record book.planner.plan { kernels = q.plan.kernels; literals = q.plan.literals; ops = q.plan.ops })
         (r.before ∙ ap (λ (k : Planner). count_of k.jobs) b.emptied.rest ∙ b.stood.jobs.count)
         (ap (λ (d : Draft). d.segments) b.emptied.draft)
         (ap (λ (d : Draft). d.jobs) b.emptied.draft)
         (ap (λ (d : Draft). d.waits) b.emptied.draft)
         (r.ops ∙ ap (λ k. carried_op k 0 ∷ []) peak_is)
         (r.literals ∙ ap (λ l. l ∷ []) same_cells)
-        b.emptied.kernels
-        b.emptied.pieces)
+        b.emptied.pieces
+        (kernels_again ks)
+        (let e = ap length r.kernels_are in let few = ks.few in let at = b.at in omega arith))
 
-    pub resumed_on : (held : Bool) (x : Statement) → slice_get script.statements.items n ≡ Some x → IsOutcome script table n (Some held) → StandsAt (record q { passing = passed_after held x.act }) script table (state_at script table n) (suc n) b.found
-    resumed_on held x here out =
+    pub resumed_on : AreKernelsOf book script table kernels → (held : Bool) (x : Statement) → slice_get script.statements.items n ≡ Some x → IsOutcome script table n (Some held) → StandsAt (record q { passing = passed_after held x.act }) script table (state_at script table n) (suc n) b.found
+    resumed_on ks held x here out =
         let same : b.test ≡ x = some_is (sym b.here ∙ here) in
         let acts = subst (λ (y : Statement). IsActingTest (setting script table) (state_at script table n) y.act) same b.acts in
         let now = test_acts (setting script table) (state_at script table n) x held x.act refl acts (outcome_is script table n x held out here) in
         subst (λ t. Stands (record q { passing = passed_after held x.act }) (setting script table) (state_at script table n) (suc n) t b.found) (sym now ∙ next_state script table n x here)
-        (repassed q (setting script table) (state_at script table n) n (state_at script table n) b.found stands_again (passed_after held x.act))
+        (repassed q (setting script table) (state_at script table n) n (state_at script table n) b.found (stands_again ks) (passed_after held x.act))
 
-    pub standing_on : (held : Bool) (x : Statement) (k : ℕ) → slice_get script.statements.items book.at ≡ Some x → IsOutcome script table n (Some held) → k ≡ passed_after held x.act
+    pub standing_on : AreKernelsOf book script table kernels → (held : Bool) (x : Statement) (k : ℕ) → slice_get script.statements.items book.at ≡ Some x → IsOutcome script table n (Some held) → k ≡ passed_after held x.act
         → StandsAt (record q { passing = k }) script table (state_at script table n) (book.at + 1) b.found
-    standing_on held x k there_is out is =
+    standing_on ks held x k there_is out is =
         let here : slice_get script.statements.items n ≡ Some x = ap (slice_get script.statements.items) (sym b.at) ∙ there_is in
         let next : suc n ≡ book.at + 1 = (let a = b.at in omega arith) in
         subst (λ m. StandsAt (record q { passing = k }) script table (state_at script table n) m b.found) next
-        (subst (λ j. StandsAt (record q { passing = j }) script table (state_at script table n) (suc n) b.found) (sym is) (resumed_on held x here out))
+        (subst (λ j. StandsAt (record q { passing = j }) script table (state_at script table n) (suc n) b.found) (sym is) (resumed_on ks held x here out))
 
   pub no_limit : (fault : PlanFault) → PassesOnce fault script table → fault ≡ NoMemory
   no_limit fault p =

@@ -1,7 +1,7 @@
 -- A planner takes up a section after a test.
-use Rattle.std.specs.Prelude.{◌≡◌, ◌≤◌, ℤ, List, [], ◌∷◌, length, map, replicate, None}
+use Rattle.std.specs.Prelude.{◌≡◌, ◌≤◌, ℤ, List, [], ◌∷◌, length, map}
 use Rattle.job_base.specs.Cells.{cells_of, cell_list}
-use Rattle.frame_ast.specs.declared.script.Script.{Script}
+use Rattle.frame_ast.specs.declared.kernel.Kernel.{Kernel}
 use Rattle.job_handle.specs.Books.{count_of}
 use Rattle.slot_store.specs.Stores.{peak_of}
 use Rattle.plan_laws.specs.Sections.{carried_op}
@@ -13,17 +13,14 @@ pub record IsToResume (p : Planner) (mem : List ℤ) : Type 0 where
   pub ops : p.plan.ops.items ≡ []
   pub words : peak_of p.store ≤ length mem
 
--- The section's first operation fills in the words so far. The jobs so far are those of earlier sections, and no kernel
--- is copied yet. All else is as it was.
-pub record IsResumed (script : Script) (old new : Planner) (mem : List ℤ) : Type 0 where
+-- The section's first operation fills in the words so far. The jobs so far are those of earlier sections, and the plan
+-- begins with kernels that it was given. All else is as it was.
+pub record IsResumed (kernels : List Kernel) (old new : Planner) (mem : List ℤ) : Type 0 where
   pub ops : new.plan.ops.items ≡ carried_op (peak_of old.store) 0 ∷ []
   pub literals : map (λ v. v.items) new.plan.literals.items ≡ cell_list (cells_of mem) 0 (peak_of old.store) ∷ []
-  pub kernels : new.kernels.items ≡ replicate (length script.kernels.items) None
-  pub guards : new.guards.items ≡ replicate (length script.kernels.items) None
+  pub kernels_are : new.plan.kernels.items ≡ kernels
   pub before : new.jobs_before ≡ count_of old.jobs
   pub rest : new ≡ record old {
-    kernels = new.kernels;
-    guards = new.guards;
     jobs_before = new.jobs_before;
-    plan = record old.plan { literals = new.plan.literals; ops = new.plan.ops };
+    plan = record old.plan { kernels = new.plan.kernels; literals = new.plan.literals; ops = new.plan.ops };
   }

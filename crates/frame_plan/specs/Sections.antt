@@ -5,6 +5,7 @@
 -- one section.
 use Rattle.std.specs.Prelude.{ℕ, zero, suc, ◌+◌, ◌≡◌, ◌<◌, ◌≤◌, Bool, true, false, ℤ, List, ◌++◌, length, map, get_or, Option, None, Some, IsSome, slice_get}
 use Rattle.job_base.specs.Cells.{cells_of}
+use Rattle.frame_ast.specs.declared.kernel.Kernel.{Kernel}
 use Rattle.frame_ast.specs.declared.script.Order.{Order}
 use Rattle.frame_ast.specs.declared.script.Order.TheVariants.{When}
 use Rattle.frame_ast.specs.declared.script.Script.{Script}
@@ -37,6 +38,7 @@ use Rattle.frame_plan.specs.Growth.{StartAs}
 use Rattle.frame_plan.specs.Layouts.{IsLaidOut, HasRanges, HasGrown}
 use Rattle.frame_plan.specs.Names.{AreNamesOf}
 use Rattle.frame_plan.specs.Runs.{IsActingTest, IsStop, IsEmptied}
+use Rattle.frame_plan.specs.Stands.{AreKernels}
 use Rattle.frame_plan.specs.Steps.{state_at, StandsAt}
 
 -- THE LIMITS
@@ -127,6 +129,15 @@ pub record IsPlannedFrom (book : SectionBook) (script : Script) (table : Table) 
   -- where it ends at a test, this is a later one
   pub later : IsSome (slice_get script.statements.items book.at) → from < book.at
 
+-- These are the kernels of the plan that was handed out last: the planner that had them knew the same places of copies.
+pub record AreKernelsOf (book : SectionBook) (script : Script) (table : Table) (kernels : List Kernel) : Type 0 where
+  pub old : Planner
+  pub places : book.planner.kernels ≡ old.kernels
+  pub guard_places : book.planner.guards ≡ old.guards
+  pub had : kernels ≡ old.plan.kernels.items
+  pub stood : AreKernels old (setting script table)
+  pub few : length kernels ≤ book.at
+
 -- The sections up to a test were handed out, and left these cells in so many words. The planner is the one that stood
 -- there, without its plan.
 pub record IsBetween (book : SectionBook) (script : Script) (table : Table) (n : ℕ) (carried : Cells) (len : ℕ)
@@ -161,6 +172,8 @@ pub record IsNext (book : SectionBook) (script : Script) (table : Table) (from :
   pub inside : (test : Test) → section.test ≡ Some test → test.at.start < section.plan.cells
   -- it is a later one, and the book is there
   pub later : IsSome section.test → from < to
+  -- the plan of the next section can take these kernels over
+  pub kernels : AreKernelsOf book script table section.plan.kernels.items
   pub at : IsSome section.test → IsAt book script table to (cells_after section.plan) section.plan.cells
 
 -- A SCRIPT WITHOUT A `when`

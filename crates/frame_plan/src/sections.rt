@@ -1,17 +1,18 @@
 // A script section by section: each is planned once the test is decided at which the one before it ended.
-ghost use Rattle.std.specs.Prelude.{◌≡◌, ◌⊎◌, ◌<◌, ◌≤◌, ◌+◌, ℕ, IfOk, IfErr, OnOk, None, Some, slice_get, length};
+ghost use Rattle.std.specs.Prelude.{◌≡◌, ◌⊎◌, ◌<◌, ◌≤◌, ◌+◌, ℕ, IfOk, IfErr, IsSome, OnOk, None, Some, slice_get, length};
 ghost use Rattle.frame_ast.specs.Accepted.{IsAccepted};
 ghost use Rattle.frame_ast.specs.Limits.{limit_of};
 ghost use Rattle.frame_ast.specs.Orders.{Table as Columns, setting};
 ghost use Rattle.merge_laws.specs.Graph.{Cells};
 ghost use Rattle.frame_plan.specs.Names.{AreNamesOf};
 ghost use Rattle.frame_plan.specs.References.{IsReferenceOf, IsTestFor};
-ghost use Rattle.frame_plan.specs.Sections.{limit_told, passed_after, IsPlannedFrom, IsBetween, IsAt, IsOutcome, AreLeft, IsNext};
+ghost use Rattle.frame_plan.specs.Sections.{limit_told, passed_after, AreKernelsOf, IsPlannedFrom, IsBetween, IsAt, IsOutcome, AreLeft, IsNext};
 ghost use Rattle.frame_plan.specs.Tables.{columns_of};
 
 use crate::limits::{check_text, has_test};
 use crate::section::{Section, Test};
 use crate::state::{PlanFault, Planner, Value};
+use frame_ast::kernel::Kernel;
 use frame_ast::script::{Order, Script};
 use job_base::{FlatMem, NoMemory};
 use kernel_exec::Bind;
@@ -60,36 +61,36 @@ impl SectionBook {
     }
 
     /// The next section. `held` says whether the test holds at which the last one ended, and `cells` begin with the
-    /// words that it left; the first section has none before it. Its plan takes the `names` of the script over: for the
-    /// first section `names_of` copies them, and a later one is given those of the plan before. So is `room`, a list
-    /// that is needed no more, as the first literal of the plan before: the words go into it. After an error the book
-    /// is of no use.
+    /// words that it left; the first section has none before it. Its plan takes all that it is given over, and copies
+    /// none of it: the `cells`, as its first literal, the `names` of the script, which `names_of` copies for the first
+    /// section, and the `kernels`; a later section is given names and kernels of the plan before. After an error the
+    /// book is of no use.
     pub fn next(
         &mut self,
         alloc: Global,
         script: &Script,
         table: &Table,
         held: Option<bool>,
-        cells: &mut FlatMem,
+        cells: FlatMem,
         names: Vec<String>,
-        room: Vec<i64>,
+        kernels: Vec<Kernel>,
     ) -> Result<Section, NoMemory>
         requires at { (from : ℕ) × (carried : Cells) × (len : ℕ)
             × IsAt self.old script.now (columns_of table.now) from carried len
             × IsOutcome script.now (columns_of table.now) from held
-            × AreLeft cells.old carried len }
+            × AreLeft cells carried len }
         requires names { AreNamesOf script.now names.items }
+        requires kernels { IsSome held → AreKernelsOf self.old script.now (columns_of table.now) kernels.items }
         ensures section { (from : ℕ) (carried : Cells) (len : ℕ)
             → IsAt self.old script.now (columns_of table.now) from carried len
             → IsOutcome script.now (columns_of table.now) from held
-            → AreLeft cells.old carried len
+            → AreLeft cells carried len
             → IfOk result (IsNext self.new script.now (columns_of table.now) from) }
-        ensures cells { cells.new ≡ cells.old }
     {
         match held {
             None => self.hand_out(alloc, script, names),
             Some(held) => {
-                self.resume(alloc, script, table, held, cells, room)?;
+                self.resume(alloc, script, table, held, cells, kernels)?;
                 self.hand_out(alloc, script, names)
             }
         }
@@ -147,21 +148,21 @@ impl SectionBook {
         script: &Script,
         table: &Table,
         held: bool,
-        cells: &mut FlatMem,
-        room: Vec<i64>,
+        cells: FlatMem,
+        kernels: Vec<Kernel>,
     ) -> Result<(), NoMemory>
         requires at { (from : ℕ) × (carried : Cells) × (len : ℕ)
             × IsBetween self.old script.now (columns_of table.now) from carried len
             × IsOutcome script.now (columns_of table.now) from (Some held)
-            × AreLeft cells.old carried len }
+            × AreLeft cells carried len }
+        requires kernels { AreKernelsOf self.old script.now (columns_of table.now) kernels.items }
         ensures planned { OnOk result ((from : ℕ) (carried : Cells) (len : ℕ)
             → IsBetween self.old script.now (columns_of table.now) from carried len
             → IsOutcome script.now (columns_of table.now) from (Some held)
-            → AreLeft cells.old carried len
+            → AreLeft cells carried len
             → IsPlannedFrom self.new script.now (columns_of table.now) from) }
-        ensures cells { cells.new ≡ cells.old }
     {
-        self.planner.begin(alloc, script, cells, room)?;
+        self.planner.begin(cells, kernels)?;
         let statement = &script.statements[self.at as usize];
         self.planner.passing = passed_after(&statement.act, held);
         match self.planner.run(alloc, script, table, self.at + 1) {

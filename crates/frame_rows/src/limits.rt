@@ -11,7 +11,7 @@ use table_in::Table;
 fn fault_of(alloc: Global, lines: &str) -> Result<Option<PlanFault>, Fail> {
     let script = script_of(alloc, lines)?;
     let table = Table::none(alloc);
-    let mut cells = FlatMem::new(alloc, 0)?;
+    let cells = FlatMem::new(alloc, 0)?;
     let mut book = match SectionBook::new(alloc, &script, &table) {
         Ok(book) => book,
         Err(fault) => return Ok(Some(fault)),
@@ -22,7 +22,7 @@ fn fault_of(alloc: Global, lines: &str) -> Result<Option<PlanFault>, Fail> {
         &script,
         &table,
         None,
-        &mut cells,
+        cells,
         names,
         Vec::new(alloc),
     )?;

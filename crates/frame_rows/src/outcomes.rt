@@ -8,11 +8,13 @@ ghost use Rattle.frame_rows.specs.Between.{IsBetween};
 
 use crate::boards::run_plan;
 use crate::section::script_of;
+use frame_ast::kernel::Kernel;
 use frame_ast::script::{Script, Sign};
 use frame_plan::{SectionBook, Test, names_of};
 use job_base::{FlatMem, Mem, MemSink, Word};
 use std::alloc::Global;
 use std::fmt::Write;
+use std::mem;
 use std::sync::Wait;
 use std::test::Fail;
 use std::thread::Threads;
@@ -103,15 +105,18 @@ fn go_on<R: Threads + Wait + Sync>(
     book: &mut SectionBook,
     held: &mut Option<bool>,
     cells: &mut FlatMem,
+    kernels: &mut Vec<Kernel>,
     told: &mut String,
     sink: &mut MemSink,
 ) -> Result<bool, Fail>
-    requires here { IsBetween script.now (columns_of table.now) book.old held.old cells.old }
+    requires here { IsBetween script.now (columns_of table.now) book.old held.old cells.old kernels.old.items }
     ensures next { IfOk result (λ more. more ≡ true
-        → IsBetween script.now (columns_of table.now) book.new held.new cells.new) }
+        → IsBetween script.now (columns_of table.now) book.new held.new cells.new kernels.new.items) }
 {
     let names = names_of(alloc, script)?;
-    let section = book.next(alloc, script, table, *held, cells, names, Vec::new(alloc))?;
+    let left = mem::replace(cells, FlatMem::of(Vec::new(alloc)));
+    let copies = mem::replace(kernels, Vec::new(alloc));
+    let section = book.next(alloc, script, table, *held, left, names, copies)?;
     write!(told, "{} jobs before", section.jobs_before)?;
     *cells = run_plan(rt, alloc, &section.plan, 2, sink)?;
     let Some(test) = section.test else {
@@ -119,6 +124,7 @@ fn go_on<R: Threads + Wait + Sync>(
     };
     let answer = holds(&test, cells, section.plan.words)?;
     *held = Some(answer);
+    *kernels = section.plan.kernels;
     write!(
         told,
         ", {:?} {} of word {}: {answer}; ",
@@ -141,9 +147,19 @@ fn outcomes_with<R: Threads + Wait + Sync>(
     let mut book = SectionBook::new(alloc, script, table)?;
     let mut held = None;
     let mut cells = FlatMem::new(alloc, 0)?;
+    let mut kernels = Vec::new(alloc);
     for _ in 0..8 {
         if !go_on(
-            rt, alloc, script, table, &mut book, &mut held, &mut cells, &mut told, sink,
+            rt,
+            alloc,
+            script,
+            table,
+            &mut book,
+            &mut held,
+            &mut cells,
+            &mut kernels,
+            &mut told,
+            sink,
         )? {
             break;
         }

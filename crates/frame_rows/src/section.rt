@@ -44,7 +44,7 @@ pub fn section_with(alloc: Global, lines: &str, table: &Table) -> Result<Section
     ensures { IfOk result (λ section. IsWellOrderedPlan section.plan) }
 {
     let script = script_of(alloc, lines)?;
-    let mut cells = FlatMem::new(alloc, 0)?;
+    let cells = FlatMem::new(alloc, 0)?;
     let mut book = SectionBook::new(alloc, &script, table)?;
     let names = names_of(alloc, &script)?;
     Ok(book.next(
@@ -52,7 +52,7 @@ pub fn section_with(alloc: Global, lines: &str, table: &Table) -> Result<Section
         &script,
         table,
         None,
-        &mut cells,
+        cells,
         names,
         Vec::new(alloc),
     )?)

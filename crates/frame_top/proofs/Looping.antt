@@ -1,5 +1,5 @@
 -- The loop over sections.
-use Rattle.std.proofs.Common.{◌≡◌, refl, sym, ap, ◌∙◌, subst, ℕ, zero, suc, ◌≤◌, Bool, true, false, pos, List, [], ◌∷◌, ◌++◌, length, take, Option, None, arith}
+use Rattle.std.proofs.Common.{◌≡◌, refl, sym, ap, ◌∙◌, subst, ℕ, zero, suc, ◌≤◌, Bool, true, false, pos, List, [], ◌∷◌, ◌++◌, length, take, Option, None, IsSome, arith}
 use Rattle.std.specs.Io.KnownBytes.{Appends}
 use Rattle.frame_ast.specs.declared.script.Script.{Script}
 use Rattle.frame_ast.specs.declared.script.Statement.{Statement}
@@ -9,6 +9,7 @@ use Rattle.frame_ast.specs.Scripts.{status_of, output_of}
 use Rattle.frame_ast.specs.Texts.{traps_text}
 use Rattle.frame_ast.specs.Scripts.{status_by}
 use Rattle.merge_laws.specs.Graph.{Cells}
+use Rattle.frame_core.proofs.Small.{not_both}
 use Rattle.frame_plan.specs.declared.sections.SectionBook.{SectionBook}
 use Rattle.frame_plan.specs.Names.{AreNamesOf}
 use Rattle.frame_plan.specs.Sections.{IsAt}
@@ -40,8 +41,8 @@ pub record InSections {S : Type 0} (taken : S → Option (List ℕ)) (faults : S
 
 module _ {S : Type 0} (taken : S → Option (List ℕ)) (faults : S → ℕ) (script : Script) (table : Table) where
   pub at_first : (book : SectionBook) (p : Progress) (sink : S) → ((carried : Cells) (len : ℕ) → IsAt book script table 0 carried len)
-      → p.held ≡ None → p.failed ≡ false → IsReportAt (state_at script table 0) p.report → AreNamesOf script p.names.items → length p.cells ≡ p.words → InSections taken faults script table 0 book p sink sink
-  at_first book p sink at held failed report names words =
+      → p.held ≡ None → p.failed ≡ false → IsReportAt (state_at script table 0) p.report → AreNamesOf script p.names.items → InSections taken faults script table 0 book p sink sink
+  at_first book p sink at held failed report names =
       let none = report.traps.number in
       let nothing = report.refused in
       record {
@@ -52,8 +53,8 @@ module _ {S : Type 0} (taken : S → Option (List ℕ)) (faults : S → ℕ) (sc
           at = at (λ w. pos 0) 0;
           outcome = held;
           left = (omega arith, λ w l. absurd (omega (arith, l)));
-          words = words;
           names = names;
+          kernels = λ some. absurd (not_both (subst IsSome held some) refl);
           report = report;
           few = record { traps = omega arith; refused = omega arith };
           tests = omega arith;

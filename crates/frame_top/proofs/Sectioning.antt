@@ -7,6 +7,7 @@ use Rattle.std.proofs.lemmas.Bool.{leb-true}
 use Rattle.std.proofs.lemmas.List.{length-map}
 use Rattle.job_base.specs.declared.limits.TheConstants.{MOST_INDEXES, MOST_STATEMENTS, MOST_TESTS}
 use Rattle.job_base.specs.Cells.{cells_of}
+use Rattle.frame_ast.specs.declared.kernel.Kernel.{Kernel}
 use Rattle.frame_ast.specs.declared.script.Order.{Order}
 use Rattle.frame_ast.specs.declared.script.Order.TheVariants.{Array, Column, List as NewList, Reference, Map, Stream, Slice, View, Copy, Set, Add, Put, Remove, Clear, SetCapacity, Schedule, Combine, Complete, CompleteAuto, Dispose, DisposeAuto, Print, Flush, Frame, When}
 use Rattle.frame_ast.specs.declared.script.Script.{Script}
@@ -27,7 +28,7 @@ use Rattle.frame_plan.specs.declared.section.Section.{Section}
 use Rattle.frame_plan.specs.declared.section.Test.{Test}
 use Rattle.frame_plan.specs.declared.sections.SectionBook.{SectionBook}
 use Rattle.frame_plan.specs.Names.{AreNamesOf}
-use Rattle.frame_plan.specs.Sections.{IsSectionOf, IsTestOf, EndsBy, IsOutcome, AreLeft, IsNext, outcome_by, outcome_of}
+use Rattle.frame_plan.specs.Sections.{AreKernelsOf, IsSectionOf, IsTestOf, EndsBy, IsOutcome, AreLeft, IsNext, outcome_by, outcome_of}
 use Rattle.frame_plan.specs.Steps.{state_at}
 use Rattle.frame_top.specs.declared.section.SectionRun.{SectionRun}
 use Rattle.frame_top.specs.declared.sections.Progress.{Progress}
@@ -199,9 +200,9 @@ pub runs_on : (script : Script) (table : Table) (sections from : ℕ) (book : Se
     → (p : Progress) (left : List ℤ) → AreCellsOf section.plan left → p.cells ≡ left
     → p.held ≡ Some (compares test.sign (cells_of left test.at.start) test.bound)
     → IsReportAt (state_at script table next.to) p.report → IsFew (suc sections) p.report
-    → p.names ≡ section.plan.names → p.words ≡ section.plan.words
+    → p.names ≡ section.plan.names → p.kernels ≡ section.plan.kernels
     → HasRun script table (suc sections) next.to book p
-runs_on script table sections from book section next test e tests p left cells same held report few names words =
+runs_on script table sections from book section next test e tests p left cells same held report few names kernels =
     let some : IsSome section.test = subst IsSome (sym e) refl in
     let is = next.is_section in
     let sized = is.well_ordered.sized in
@@ -219,7 +220,7 @@ runs_on script table sections from book section next test e tests p left cells s
       at = next.at some;
       outcome = outcome_at script table from next.to p.held later (held ∙ ap (λ z. Some (compares test.sign z test.bound)) (cells.each test.at.start low) ∙ ap Some at_test.outcome);
       left = subst (λ m. AreLeft m (cells_after section.plan) section.plan.cells) (sym same) (omega arith, λ w l. cells.each w (omega arith));
-      words = ap length same ∙ size ∙ sym words;
+      kernels = λ _. subst (λ (v : Vec Kernel Global). AreKernelsOf book script table v.items) (sym kernels) next.kernels;
       names = subst (λ (v : Vec (String Global) Global). AreNamesOf script v.items) (sym names) is.names;
       report = report;
       few = few;
@@ -253,16 +254,16 @@ module _ {S : Type 0} (taken : S → Option (List ℕ)) (faults : S → ℕ) (sc
     last = λ e. ends_last script table from next.to section is none;
   }
 
-  pub section_more : (q : Progress) (test : Test) → q.failed ≡ r.failed → q.report ≡ joined → section.test ≡ Some test → keeps ≡ true → q.cells ≡ r.left → q.names ≡ section.plan.names → q.words ≡ section.plan.words
+  pub section_more : (q : Progress) (test : Test) → q.failed ≡ r.failed → q.report ≡ joined → section.test ≡ Some test → keeps ≡ true → q.cells ≡ r.left → q.names ≡ section.plan.names → q.kernels ≡ section.plan.kernels
       → q.held ≡ Some (compares test.sign (cells_of r.left test.at.start) test.bound) → RunsOn taken faults script table sections from old new p.failed book q true
-  section_more q test failed report some kept cells names words held = record {
+  section_more q test failed report some kept cells names kernels held = record {
     to = next.to;
     lines = plan_lines section.plan;
     lines_are = is.lines;
     said = subst (λ b. SaysTo taken faults old new p.failed b (plan_lines section.plan)) (sym failed) run.lines;
     report = subst (IsReportAt (state_at script table next.to)) (sym report) report_at;
     next = λ e. runs_on script table sections from book section next test some was.tests q r.left (run.cells kept) cells held
-        (subst (IsReportAt (state_at script table next.to)) (sym report) report_at) (subst (IsFew (suc sections)) (sym report) few) names words;
+        (subst (IsReportAt (state_at script table next.to)) (sym report) report_at) (subst (IsFew (suc sections)) (sym report) few) names kernels;
     last = λ e. absurd cc;
   }
 

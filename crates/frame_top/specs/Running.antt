@@ -1,5 +1,5 @@
 -- How far a frame has been run, section by section.
-use Rattle.std.specs.Prelude.{◌≡◌, ℕ, suc, ◌*◌, ◌≤◌, ◌^◌, Bool, true, false, List, ◌++◌, length, take, count_by, Option}
+use Rattle.std.specs.Prelude.{◌≡◌, ℕ, suc, ◌*◌, ◌≤◌, ◌^◌, Bool, true, false, List, ◌++◌, length, take, count_by, Option, IsSome}
 use Rattle.job_base.specs.declared.limits.TheConstants.{MOST_INDEXES}
 use Rattle.frame_ast.specs.declared.script.Script.{Script}
 use Rattle.frame_ast.specs.Accepted.{is_when}
@@ -11,7 +11,7 @@ use Rattle.frame_print.specs.Reports.{IsReportOf}
 use Rattle.steal_pool.specs.Says.{SaysTo}
 use Rattle.frame_plan.specs.declared.sections.SectionBook.{SectionBook}
 use Rattle.frame_plan.specs.Names.{AreNamesOf}
-use Rattle.frame_plan.specs.Sections.{IsAt, IsOutcome, AreLeft}
+use Rattle.frame_plan.specs.Sections.{AreKernelsOf, IsAt, IsOutcome, AreLeft}
 use Rattle.frame_plan.specs.Steps.{state_at}
 use Rattle.frame_top.specs.declared.sections.Progress.{Progress}
 
@@ -37,8 +37,8 @@ pub record HasRun (script : Script) (table : Table) (sections from : ℕ) (book 
   pub at : IsAt book script table from carried len
   pub outcome : IsOutcome script table from p.held
   pub left : AreLeft p.cells carried len
-  pub words : length p.cells ≡ p.words
   pub names : AreNamesOf script p.names.items
+  pub kernels : IsSome p.held → AreKernelsOf book script table p.kernels.items
   pub report : IsReportAt (state_at script table from) p.report
   pub few : IsFew sections p.report
   -- each section ended at another `when`

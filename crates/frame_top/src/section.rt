@@ -17,13 +17,6 @@ use steal_pool::laws::rooms_are_ready;
 use steal_pool::{PoolRoom, RunEnd, ShowsPlan, run_lines};
 use word_board::WordBoard;
 
-/// Cells, and how many they are.
-#[derive(Drop)]
-pub struct CountedCells {
-    pub cells: FlatMem,
-    pub count: u32,
-}
-
 // How a plan ended on its board, and the cells that it left, where they were asked for.
 #[derive(Drop)]
 struct BoardRun {
@@ -58,23 +51,15 @@ fn busy_workers(plan: &Plan, workers: u32) -> u32
     }
 }
 
-// Cells for what a plan leaves, where they are asked for: those from before, which are needed no more, or new ones
-// where they are more or fewer.
-fn cells_for(
-    alloc: Global,
-    plan: &Plan,
-    keeps: bool,
-    before: CountedCells,
-) -> Result<FlatMem, NoMemory>
-    requires { length before.cells ≡ before.count }
+// Cells for what a plan leaves, where they are asked for, in a list that is needed no more.
+fn cells_for(plan: &Plan, keeps: bool, spare: Vec<i64>) -> Result<FlatMem, NoMemory>
     ensures { IfOk result (λ left. keeps ≡ true → length left ≡ plan.now.words) }
 {
-    let CountedCells { cells, count } = before;
-    if !keeps || count == plan.words {
-        return Ok(cells);
+    let mut cells = spare;
+    if keeps {
+        cells.resize(plan.words as usize, 0)?;
     }
-    drop(cells);
-    FlatMem::new(alloc, plan.words)
+    Ok(FlatMem::of(cells))
 }
 
 // Runs a plan with so many workers, and writes its lines. All that the run needs is made before its first piece is
@@ -87,20 +72,19 @@ fn run_on_board<R: Threads + Wait + Sync, P: ShowsPlan + Sync, S: Sink, G: Gate 
     plan: &P,
     workers: u32,
     keeps: bool,
-    before: CountedCells,
+    spare: Vec<i64>,
     sink: &mut S,
     gate: &G,
 ) -> Result<BoardRun, NoMemory>
     requires well { IsWellOrderedPlan (P.shown plan.now) }
     requires workers { (1 ≤ workers) × (workers ≤ MOST_WORKERS) }
-    requires before { length before.cells ≡ before.count }
     ensures run { IfOk result (λ r. RunsTo S.taken S.faults (P.shown plan.now) (plan_lines (P.shown plan.now))
         sink.old sink.new r.end) }
     ensures left { IfOk result (λ r. keeps ≡ true → AreCellsOf (P.shown plan.now) r.left) }
     ensures none { OnErr result (sink.new ≡ sink.old) }
     ensures later { S.faults sink.old ≤ S.faults sink.new }
 {
-    let mut left = cells_for(alloc, plan.plan(), keeps, before)?;
+    let mut left = cells_for(plan.plan(), keeps, spare)?;
     let seats = busy_workers(plan.plan(), workers);
     let (board, made) = WordBoard::make(alloc, plan.plan(), seats)?;
     let mut room = PoolRoom::make(alloc, plan.plan(), made)?;
@@ -120,18 +104,17 @@ fn run_plan<R: Threads + Wait + Sync, S: Sink, G: Gate + Sync>(
     plan: &Plan,
     workers: u32,
     keeps: bool,
-    before: CountedCells,
+    spare: Vec<i64>,
     sink: &mut S,
     gate: &G,
 ) -> Result<SectionRun, NoMemory>
     requires well { IsWellOrderedPlan plan.now }
     requires workers { (1 ≤ workers) × (workers ≤ MOST_WORKERS) }
-    requires before { length before.cells ≡ before.count }
     ensures run { IfOk result (HasRunPlan S.taken S.faults plan.now keeps false sink.old sink.new) }
     ensures none { OnErr result (sink.new ≡ sink.old) }
     ensures later { S.faults sink.old ≤ S.faults sink.new }
 {
-    let BoardRun { end, left } = run_on_board(rt, alloc, plan, workers, keeps, before, sink, gate)?;
+    let BoardRun { end, left } = run_on_board(rt, alloc, plan, workers, keeps, spare, sink, gate)?;
     match end {
         RunEnd::Done(report) => Ok(SectionRun {
             report,
@@ -147,7 +130,7 @@ fn run_plan<R: Threads + Wait + Sync, S: Sink, G: Gate + Sync>(
 }
 
 /// Runs the plan of a section with so many workers, and writes its lines, unless the sink has `failed` before. `keeps`
-/// says whether the cells are needed afterwards; they may take the place of those from `before`.
+/// says whether the cells are needed afterwards; then they are put into `spare`, a list that is needed no more.
 pub fn run_section<R: Threads + Wait + Sync, S: Sink, G: Gate + Sync>(
     rt: &R,
     alloc: Global,
@@ -155,22 +138,21 @@ pub fn run_section<R: Threads + Wait + Sync, S: Sink, G: Gate + Sync>(
     workers: u32,
     keeps: bool,
     failed: bool,
-    before: CountedCells,
+    spare: Vec<i64>,
     sink: &mut S,
     gate: &G,
 ) -> Result<SectionRun, NoMemory>
     requires well { IsWellOrderedPlan plan.now }
     requires workers { (1 ≤ workers) × (workers ≤ MOST_WORKERS) }
-    requires before { length before.cells ≡ before.count }
     ensures run { IfOk result (HasRunPlan S.taken S.faults plan.now keeps failed sink.old sink.new) }
     ensures none { OnErr result (sink.new ≡ sink.old) }
     ensures later { S.faults sink.old ≤ S.faults sink.new }
 {
     if !failed {
-        return run_plan(rt, alloc, plan, workers, keeps, before, sink, gate);
+        return run_plan(rt, alloc, plan, workers, keeps, spare, sink, gate);
     }
     let mut nowhere = NullSink::new();
-    let run = run_plan(rt, alloc, plan, workers, keeps, before, &mut nowhere, gate)?;
+    let run = run_plan(rt, alloc, plan, workers, keeps, spare, &mut nowhere, gate)?;
     Ok(SectionRun {
         report: run.report,
         failed: true,

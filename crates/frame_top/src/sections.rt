@@ -15,8 +15,9 @@ ghost use Rattle.frame_top.specs.Refusals.{answer};
 ghost use Rattle.frame_top.specs.Running.{HasRun, IsReportAt, RunsOn};
 ghost use Rattle.frame_top.specs.declared.status.TheConstants.{NO_MEMORY, UNWRITTEN};
 
-use crate::section::{CountedCells, run_section};
+use crate::section::run_section;
 use crate::status::{DONE, NO_MEMORY, STATEMENT_REFUSED, TRAPPED, UNWRITTEN};
+use frame_ast::kernel::Kernel;
 use frame_ast::script::{Script, Sign};
 use frame_plan::{Section, SectionBook, Test, names_of};
 use frame_print::{Report, print_traps};
@@ -35,13 +36,13 @@ use table_in::Table;
 pub struct Progress {
     /// Whether the test holds at which the last section ended.
     pub held: Option<bool>,
-    /// The cells that it left, and how many they are.
+    /// The cells that it left, with which the next one begins.
     pub cells: FlatMem,
-    pub words: u32,
-    /// The names of the script, which its plan had.
+    /// The names and kernels of its plan, which the next plan takes over.
     pub names: Vec<String>,
-    /// A list of its plan that is needed no more. The next plan has the cells in it.
-    pub room: Vec<i64>,
+    pub kernels: Vec<Kernel>,
+    /// A list of its plan that is needed no more. The next section leaves its cells in it.
+    pub spare: Vec<i64>,
     /// Of all sections so far.
     pub report: Report,
     /// A write failed, and nothing was written since.
@@ -118,22 +119,12 @@ fn run_next<R: Threads + Wait + Sync, S: Sink, G: Gate + Sync>(
     ensures later { S.faults sink.old ≤ S.faults sink.new }
     ensures failed { OnErr result (progress.new.failed ≡ progress.old.failed) }
 {
+    let cells = mem::replace(&mut progress.cells, FlatMem::of(Vec::new(alloc)));
     let names = mem::replace(&mut progress.names, Vec::new(alloc));
-    let room = mem::replace(&mut progress.room, Vec::new(alloc));
-    let section = book.next(
-        alloc,
-        script,
-        table,
-        progress.held,
-        &mut progress.cells,
-        names,
-        room,
-    )?;
+    let kernels = mem::replace(&mut progress.kernels, Vec::new(alloc));
+    let spare = mem::replace(&mut progress.spare, Vec::new(alloc));
+    let section = book.next(alloc, script, table, progress.held, cells, names, kernels)?;
     let keeps = section.test.is_some();
-    let before = CountedCells {
-        cells: mem::replace(&mut progress.cells, FlatMem::new(alloc, 0)?),
-        count: progress.words,
-    };
     let run = run_section(
         rt,
         alloc,
@@ -141,7 +132,7 @@ fn run_next<R: Threads + Wait + Sync, S: Sink, G: Gate + Sync>(
         workers,
         keeps,
         progress.failed,
-        before,
+        spare,
         sink,
         gate,
     )?;
@@ -150,9 +141,9 @@ fn run_next<R: Threads + Wait + Sync, S: Sink, G: Gate + Sync>(
     progress.report = join_reports(&progress.report, section.jobs_before, &run.report);
     progress.cells = run.left;
     let Section { plan, test, .. } = section;
-    progress.words = plan.words;
     progress.names = plan.names;
-    progress.room = first_list(alloc, plan.literals);
+    progress.kernels = plan.kernels;
+    progress.spare = first_list(alloc, plan.literals);
     match test {
         None => Ok(false),
         Some(test) => {
@@ -225,19 +216,16 @@ pub fn run_sections<R: Threads + Wait + Sync, S: Sink, G: Gate + Sync>(
         (λ text. (has_when script.now ≡ true) × (text ≡ output_of script.now (columns_of table.now))) result }
     ensures later { S.faults sink.old ≤ S.faults sink.new }
 {
-    let Ok(cells) = FlatMem::new(alloc, 0) else {
-        return NO_MEMORY;
-    };
     let Ok(names) = names_of(alloc, script) else {
         return NO_MEMORY;
     };
     let mut book = first;
     let mut progress = Progress {
         held: None,
-        cells,
-        words: 0,
+        cells: FlatMem::of(Vec::new(alloc)),
         names,
-        room: Vec::new(alloc),
+        kernels: Vec::new(alloc),
+        spare: Vec::new(alloc),
         report: no_report(),
         failed: false,
     };

@@ -1,4 +1,4 @@
-use Rattle.std.proofs.Common.{◌≡◌, ◌∙◌, sym, subst, ℕ, zero, suc, Bool, Option, Some}
+use Rattle.std.proofs.Common.{◌≡◌, ◌∙◌, refl, sym, subst, ℕ, zero, suc, Bool, Option, Some, IsSome}
 use Rattle.frame_ast.specs.declared.script.Script.{Script}
 use Rattle.frame_ast.specs.Orders.{Table}
 use Rattle.frame_core.proofs.Small.{none_some}
@@ -23,4 +23,19 @@ hand_out-requires-in-Some-clause-planned c =
       c.in_ok-resume-in-Some.ensures.planned r.0 r.1 r.2
           (answered c.args.self.now c.args.script.now t r.0 r.1 r.2 c.args.held c.in-Some.held c.in-Some.is r.3 r.4)
           (subst (IsOutcome c.args.script.now t r.0) c.in-Some.is r.4) r.5,
+    )
+
+pub resume-requires-clause-kernels : goal.resume-requires-clause-kernels
+resume-requires-clause-kernels c = c.requires.kernels (subst IsSome (sym c.in-Some.is) refl)
+
+pub resume-requires-clause-at : goal.resume-requires-clause-at
+resume-requires-clause-at c =
+    let r = c.requires.at in
+    let t = columns_of c.args.table.now in (
+      r.0,
+      r.1,
+      r.2,
+      answered c.args.self.now c.args.script.now t r.0 r.1 r.2 c.args.held c.in-Some.held c.in-Some.is r.3 r.4,
+      subst (IsOutcome c.args.script.now t r.0) c.in-Some.is r.4,
+      r.5,
     )

@@ -30,7 +30,7 @@ run-requires-clause-stands c =
     let here = read_some c.args.script.now.statements c.args.self.now.at c.index-statement.result.now (let len = c.args.script.now.statements.ok.0 in omega arith) c.index-statement.ensures in (
       state_at c.args.script.now t r.0,
       r.3.found,
-      standing_on c.args.script.now t c.args.self.now r.0 r.1 r.2 r.3 c.begin.new.self c.args.cells.now r.5 c.in_ok-begin.ensures.resumed c.args.held c.index-statement.result.now c.passed_after-self.result here r.4 c.passed_after-self.ensures,
+      standing_on c.args.script.now t c.args.self.now r.0 r.1 r.2 r.3 c.args.kernels.items c.begin.new.self c.args.cells r.5 c.in_ok-begin.ensures.resumed c.requires.kernels c.args.held c.index-statement.result.now c.passed_after-self.result here r.4 c.passed_after-self.ensures,
     )
 
 pub memory_fault-requires : goal.memory_fault-requires
@@ -38,26 +38,28 @@ memory_fault-requires c =
     let r = c.requires.at in
     no_limit c.args.script.now (columns_of c.args.table.now) c.args.self.now r.0 r.1 r.2 r.3 c.in-Err.fault c.in-Err.ensures.fails
 
-pub returns-in-Ok-clause-planned : goal.returns-in-Ok-clause-planned
-returns-in-Ok-clause-planned c from carried len b out left =
-    let t = columns_of c.args.table.now in
-    let lt = below c.args.script.now t c.args.self.now from carried len b in
-    let at = b.at in
-    let here = read_some c.args.script.now.statements c.args.self.now.at c.index-statement.result.now (let len = c.args.script.now.statements.ok.0 in omega arith) c.index-statement.ensures in
-    let stands = standing_on c.args.script.now t c.args.self.now from carried len b c.begin.new.self c.args.cells.now left c.in_ok-begin.ensures.resumed c.args.held c.index-statement.result.now c.passed_after-self.result here out c.passed_after-self.ensures in
-    let ran = c.in-Ok.ensures.ran (state_at c.args.script.now t from) b.found stands in
-    let rising = ran.rising in
-    record {
-      accepted = b.accepted;
-      within = b.within;
-      found = b.found ++ ran.gone.more;
-      stands = ran.gone.stands;
-      grown = λ starts same.
-          ran.gone.grown from starts (omega arith) refl same
-          (growing_on c.args.script.now t c.args.self.now from carried len b c.begin.new.self c.args.cells.now left c.in_ok-begin.ensures.resumed c.args.held c.index-statement.result.now c.passed_after-self.result here out
-          starts (fewer starts b.found ran.gone.more same));
-      rising = omega arith;
-      inside = ran.inside;
-      stops = ran.stops;
-      later = λ some. omega arith;
-    }
+pub returns-in-Ok : goal.returns-in-Ok
+returns-in-Ok c = record {
+  planned = λ from carried len b out left.
+      let t = columns_of c.args.table.now in
+      let lt = below c.args.script.now t c.args.self.now from carried len b in
+      let at = b.at in
+      let here = read_some c.args.script.now.statements c.args.self.now.at c.index-statement.result.now (let len = c.args.script.now.statements.ok.0 in omega arith) c.index-statement.ensures in
+      let stands = standing_on c.args.script.now t c.args.self.now from carried len b c.args.kernels.items c.begin.new.self c.args.cells left c.in_ok-begin.ensures.resumed c.requires.kernels c.args.held c.index-statement.result.now c.passed_after-self.result here out c.passed_after-self.ensures in
+      let ran = c.in-Ok.ensures.ran (state_at c.args.script.now t from) b.found stands in
+      let rising = ran.rising in
+      record {
+        accepted = b.accepted;
+        within = b.within;
+        found = b.found ++ ran.gone.more;
+        stands = ran.gone.stands;
+        grown = λ starts same.
+            ran.gone.grown from starts (omega arith) refl same
+            (growing_on c.args.script.now t c.args.self.now from carried len b c.args.kernels.items c.begin.new.self c.args.cells left c.in_ok-begin.ensures.resumed c.args.held c.index-statement.result.now c.passed_after-self.result here out
+            starts (fewer starts b.found ran.gone.more same));
+        rising = omega arith;
+        inside = ran.inside;
+        stops = ran.stops;
+        later = λ some. omega arith;
+      };
+}

@@ -1,4 +1,4 @@
-use Rattle.std.proofs.Common.{◌≡◌, ◌-◌, ◌<◌, ◌≤◌, true, false, ◌∙◌, arith}
+use Rattle.std.proofs.Common.{◌-◌, true, false, ◌∙◌, arith}
 use Rattle.job_handle.specs.Books.{count_of}
 use Rattle.job_handle.specs.Sets.{jobs_of}
 use Rattle.frame_plan.proofs.Later.{none_within, none_has, none_so_far, number_reached, numbers_passed, without_none, all_numbers}
