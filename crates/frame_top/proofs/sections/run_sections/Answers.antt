@@ -1,4 +1,4 @@
-use Rattle.std.proofs.Common.{◌∙◌, refl, subst, ap, length, arith}
+use Rattle.std.proofs.Common.{◌∙◌, refl, subst, arith}
 use Rattle.frame_plan.specs.Tables.{columns_of}
 use Rattle.frame_top.specs.Answers.{Caused}
 use Rattle.frame_top.specs.Running.{RunsOn}
