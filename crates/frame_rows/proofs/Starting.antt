@@ -1,5 +1,5 @@
 -- A script before its first section.
-use Rattle.std.proofs.Common.{◌≡◌, refl, ℕ, ◌<◌, ◌≤◌, ℤ, pos, List, length, None, arith}
+use Rattle.std.proofs.Common.{refl, ℕ, ℤ, pos, List, None, arith}
 use Rattle.frame_ast.specs.declared.kernel.Kernel.{Kernel}
 use Rattle.frame_ast.specs.declared.script.Script.{Script}
 use Rattle.frame_ast.specs.Orders.{Table}

@@ -17,15 +17,7 @@ fn fault_of(alloc: Global, lines: &str) -> Result<Option<PlanFault>, Fail> {
         Err(fault) => return Ok(Some(fault)),
     };
     let names = names_of(alloc, &script)?;
-    book.next(
-        alloc,
-        &script,
-        &table,
-        None,
-        cells,
-        names,
-        Vec::new(alloc),
-    )?;
+    book.next(alloc, &script, &table, None, cells, names, Vec::new(alloc))?;
     Ok(None)
 }
 

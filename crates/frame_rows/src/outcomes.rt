@@ -10,7 +10,7 @@ use crate::boards::run_plan;
 use crate::section::script_of;
 use frame_ast::kernel::Kernel;
 use frame_ast::script::{Script, Sign};
-use frame_plan::{SectionBook, Test, names_of};
+use frame_plan::{Section, SectionBook, Test, names_of};
 use job_base::{FlatMem, Mem, MemSink, Word};
 use std::alloc::Global;
 use std::fmt::Write;
@@ -119,12 +119,13 @@ fn go_on<R: Threads + Wait + Sync>(
     let section = book.next(alloc, script, table, *held, left, names, copies)?;
     write!(told, "{} jobs before", section.jobs_before)?;
     *cells = run_plan(rt, alloc, &section.plan, 2, sink)?;
-    let Some(test) = section.test else {
+    let Section { plan, test, .. } = section;
+    let Some(test) = test else {
         return Ok(false);
     };
-    let answer = holds(&test, cells, section.plan.words)?;
+    let answer = holds(&test, cells, plan.words)?;
     *held = Some(answer);
-    *kernels = section.plan.kernels;
+    *kernels = plan.kernels;
     write!(
         told,
         ", {:?} {} of word {}: {answer}; ",

@@ -47,15 +47,7 @@ pub fn section_with(alloc: Global, lines: &str, table: &Table) -> Result<Section
     let cells = FlatMem::new(alloc, 0)?;
     let mut book = SectionBook::new(alloc, &script, table)?;
     let names = names_of(alloc, &script)?;
-    Ok(book.next(
-        alloc,
-        &script,
-        table,
-        None,
-        cells,
-        names,
-        Vec::new(alloc),
-    )?)
+    Ok(book.next(alloc, &script, table, None, cells, names, Vec::new(alloc))?)
 }
 
 /// The same with no table.
