@@ -12,7 +12,8 @@
 //! shown in `plan_laws`.
 //!
 //! *Cost.* A statement costs nothing for each word of its containers. A job costs a set of 4,096 bits, and a disposal
-//! that waits another one. The names of a script are copied once, and go from the plan of one section to the next.
+//! that waits another one. The names of a script and the kernels that its jobs run are copied once, and go from the
+//! plan of one section to the next.
 #![tactic(auto)]
 
 mod access;
