@@ -5,3 +5,4 @@ pub mod Sets
 pub mod Predict
 pub mod Parser
 pub mod Levels
+pub mod Shortcuts

@@ -1,10 +1,12 @@
 -- What holds of the parser's stack.
-use Rattle.std.specs.Prelude.{◌≡◌, ℕ, suc, ◌+◌, Bool, true, false, List, [], ◌∷◌, ◌++◌, Option, Some, None, ◌⊎◌}
+use Rattle.std.specs.Prelude.{◌≡◌, ℕ, suc, ◌+◌, Bool, true, false, List, [], ◌∷◌, ◌++◌, ◌<◌, Option, Some, None, ◌⊎◌}
 use Rattle.frame_grammar.specs.declared.TokenKind.{TokenKind}
 use Rattle.frame_grammar.specs.declared.symbols.Nonterminal.{Nonterminal}
 use Rattle.frame_grammar.specs.declared.symbols.Symbol.{Symbol}
 use Rattle.frame_grammar.specs.declared.symbols.Symbol.TheVariants as symbol
 use Rattle.frame_grammar.specs.declared.symbols.Event.{Event}
+use Rattle.frame_grammar.specs.declared.shortcuts.Step.{Step}
+use Rattle.frame_grammar.specs.declared.shortcuts.Step.TheVariants.{Took, WentOn, Unknown}
 use Rattle.frame_grammar.specs.Grammar.{Derives}
 use Rattle.frame_grammar.specs.Sets.{firsts_of, is_nullable_of, barred_of, is_closed_of, rank_of}
 use Rattle.frame_grammar.specs.Sentences.{IsSentence}
@@ -80,6 +82,20 @@ Takes ahead place done ss done' ss' =
     ((start : Nonterminal) (read : List TokenKind) → IsReachedAt start ahead place done read ss →
     IsReached start (place + 1) done' (read ++ ahead ∷ []) ss')
     × (closes ss ≡ true → (ss' ≡ []) ⊎ (closes ss' ≡ true))
+
+-- The step took no token: where it was before is where it is now, and it came nearer to the token ahead.
+abbrev pub Goes : TokenKind → ℕ → List Event → List Symbol → List Event → List Symbol → Type 0
+Goes ahead place done ss done' ss' =
+    ((start : Nonterminal) (read : List TokenKind) → IsReachedAt start ahead place done read ss →
+    IsReachedAt start ahead place done' read ss')
+    × (closes ss ≡ true → closes ss' ≡ true)
+    × (weight ss' < weight ss)
+
+-- what was done with a nonterminal that was on top of the stack
+abbrev pub IsStep : Step → TokenKind → ℕ → Nonterminal → List Event → List Symbol → List Event → List Symbol → Type 0
+IsStep Took ahead place n done ss done' ss' = Takes ahead place done (symbol.Nonterminal n ∷ ss) done' ss'
+IsStep WentOn ahead place n done ss done' ss' = Goes ahead place done (symbol.Nonterminal n ∷ ss) done' ss'
+IsStep Unknown ahead place n done ss done' ss' = (done' ≡ done) × (ss' ≡ ss)
 
 -- No sentence has the token ahead there.
 abbrev pub Stops : TokenKind → ℕ → List Event → List Symbol → Type 0

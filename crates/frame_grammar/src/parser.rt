@@ -4,10 +4,9 @@ ghost use Rattle.std.specs.Prelude.{◌≡◌, ℕ, ◌<◌, ◌^◌, List, ◌+
 ghost use Rattle.frame_grammar.specs.Grammar.{body_of, written};
 ghost use Rattle.frame_grammar.specs.Sentences.{IsStart, IsEnded, IsOnlySentence, IsFault};
 ghost use Rattle.frame_grammar.specs.Predict.{found, predicted};
-ghost use Rattle.frame_grammar.specs.Levels.{expression_levels};
 ghost use Rattle.frame_grammar.specs.Parser.{Takes, Stops};
 
-use crate::shortcuts::take_known;
+use crate::shortcuts::{Step, known_step, take_next_value};
 use crate::symbols::{Event, Nonterminal, Production, Symbol};
 use crate::table::{body, choices, default_production};
 use crate::{HasKind, TokenKind};
@@ -92,19 +91,6 @@ fn push_body(stack: &mut Vec<Symbol>, production: Production) -> Result<(), Allo
     Ok(())
 }
 
-/// Goes on with an expression by five productions at once, since no token decides between others.
-fn push_expression(stack: &mut Vec<Symbol>) -> Result<(), AllocError>
-    ensures { IfOk result (λ _. stack.new.items ≡ stack.old.items ++ reverse expression_levels) }
-{
-    stack.push(Symbol::Nonterminal(Nonterminal::MoreOr))?;
-    stack.push(Symbol::Nonterminal(Nonterminal::MoreAnd))?;
-    stack.push(Symbol::Nonterminal(Nonterminal::Compared))?;
-    stack.push(Symbol::Nonterminal(Nonterminal::MoreSum))?;
-    stack.push(Symbol::Nonterminal(Nonterminal::MoreTerm))?;
-    stack.push(Symbol::Nonterminal(Nonterminal::Unary))?;
-    Ok(())
-}
-
 /// Goes on by productions until the token ahead is on top of the stack, and takes it. Says whether
 /// it could.
 fn advance(
@@ -121,21 +107,21 @@ fn advance(
         match symbol {
             Symbol::Terminal(kind) => return Ok(kind == ahead),
             Symbol::Action(action) => {
+                if take_next_value(stack, events, action, ahead, place)? {
+                    return Ok(true);
+                }
                 events.push(Event { action, place })?;
             }
             Symbol::Nonterminal(nonterminal) => {
-                if nonterminal == Nonterminal::Expression {
-                    push_expression(stack)?;
-                    continue;
-                }
-                if take_known(stack, events, nonterminal, ahead, place)? {
-                    return Ok(true);
-                }
-                match predict(nonterminal, ahead) {
-                    None => return Ok(false),
-                    Some(production) => {
-                        push_body(stack, production)?;
-                    }
+                match known_step(stack, events, nonterminal, ahead, place)? {
+                    Step::Took => return Ok(true),
+                    Step::WentOn => {}
+                    Step::Unknown => match predict(nonterminal, ahead) {
+                        None => return Ok(false),
+                        Some(production) => {
+                            push_body(stack, production)?;
+                        }
+                    },
                 }
             }
         }

@@ -1,81 +1,381 @@
-//! Steps that the parser takes at once: several productions, or one that makes nothing. Each does what the table says.
+//! Steps that the parser takes at once: several productions and actions, or one that derives nothing. Each does what
+//! the table says.
+//!
+//! Most tokens of long files are such ones: assignments and expressions in kernels, the values of arrays. To look up
+//! their productions, and to push and pop all symbols between, costs twice as much. What a step puts on the stack
+//! stands here from the bottom up.
 
-ghost use Rattle.std.specs.Prelude.{◌≡◌, ◌+◌, ◌≤◌, ◌∷◌, reverse, vec_len, vec_capacity, IfOk, OnOk, MatchBool};
+ghost use Rattle.std.specs.Prelude.{◌≡◌, ℕ, ◌-◌, List, ◌∷◌, ◌++◌, [], length, reverse, slice_get, true, Some, IfOk, MatchBool};
+ghost use Rattle.frame_grammar.specs.declared.TokenKind.{TokenKind};
+ghost use Rattle.frame_grammar.specs.declared.symbols.Nonterminal.TheVariants as nonterminal;
 ghost use Rattle.frame_grammar.specs.declared.symbols.Symbol.TheVariants as symbol;
-ghost use Rattle.frame_grammar.specs.Parser.{Takes};
+ghost use Rattle.frame_grammar.specs.declared.symbols.Event.{Event};
+ghost use Rattle.frame_grammar.specs.Parser.{Takes, IsStep};
+ghost use Rattle.frame_grammar.specs.Shortcuts.{multiplies, adds, compares};
 
-use crate::TokenKind;
-use crate::symbols::{Action, Event, Nonterminal, Symbol};
+use crate::TokenKind as K;
+use crate::symbols::Symbol::{self, Nonterminal, Terminal};
+use crate::symbols::{Action as A, Event, Nonterminal as N};
 use std::alloc::AllocError;
 
-// Makes room for two more. Room that was made isn't asked for at each push, and the test stands in line.
-fn make_room<T>(list: &mut Vec<T>) -> Result<(), AllocError>
-    ensures items { list.new.items ≡ list.old.items }
-    ensures room { OnOk result (vec_len list.new + 2 ≤ vec_capacity list.new) }
+/// What was done with the nonterminal that was on top of the stack.
+#[derive(Clone, Copy, Debug, PartialEq, Eq)]
+pub enum Step {
+    /// It begins with the token ahead, which is taken.
+    Took,
+    /// It went on by productions and actions, and took no token.
+    WentOn,
+    /// Nothing: the table has to tell.
+    Unknown,
+}
+
+// The operators of each level of an expression
+
+fn multiplies(kind: K) -> bool
+    ensures { result ≡ multiplies kind }
 {
-    if list.capacity() - list.len() < 2 {
-        list.reserve(2)?;
-    }
+    matches!(kind, K::Star | K::Slash | K::Percent)
+}
+
+fn adds(kind: K) -> bool
+    ensures { result ≡ adds kind }
+{
+    matches!(kind, K::Plus | K::Minus)
+}
+
+fn compares(kind: K) -> bool
+    ensures { result ≡ compares kind }
+{
+    matches!(
+        kind,
+        K::Equal | K::NotEqual | K::Less | K::LessEqual | K::Greater | K::GreaterEqual
+    )
+}
+
+// What is noted
+
+fn note(events: &mut Vec<Event>, action: A, place: u32) -> Result<(), AllocError>
+    ensures { IfOk result (λ _. events.new.items ≡ events.old.items ++ record { action = action; place = place } ∷ []) }
+{
+    events.push(Event { action, place })?;
     Ok(())
 }
 
-/// Takes the token ahead, where the nonterminal that was on top of the stack begins with it and what it goes on by is
-/// known: names and numbers of expressions, the values of an array, line ends in kernels. Else nothing changes.
-///
-/// Most tokens of long files are such ones, and to push and pop the symbols between costs three times as much.
-pub fn take_known(
+// Room for both is made once.
+fn note_both(events: &mut Vec<Event>, first: A, second: A, place: u32) -> Result<(), AllocError>
+    ensures { IfOk result (λ _. events.new.items ≡
+        events.old.items ++ record { action = first; place = place } ∷ record { action = second; place = place } ∷ []) }
+{
+    events.extend_from_slice(&[
+        Event {
+            action: first,
+            place,
+        },
+        Event {
+            action: second,
+            place,
+        },
+    ])
+}
+
+// Steps of each nonterminal
+
+fn lines(stack: &mut Vec<Symbol>, ahead: K) -> Result<Step, AllocError>
+    ensures { IfOk result (λ step. (place : ℕ) (done : List Event) →
+        IsStep step ahead place nonterminal.Lines done (reverse stack.old.items) done (reverse stack.new.items)) }
+{
+    if ahead == K::Line {
+        stack.push(Nonterminal(N::Lines))?;
+        Ok(Step::Took)
+    } else {
+        Ok(Step::WentOn)
+    }
+}
+
+fn statements(
     stack: &mut Vec<Symbol>,
     events: &mut Vec<Event>,
-    nonterminal: Nonterminal,
-    ahead: TokenKind,
+    ahead: K,
+    place: u32,
+) -> Result<Step, AllocError>
+    ensures { IfOk result (λ step. IsStep step ahead place nonterminal.Statements events.old.items
+        (reverse stack.old.items) events.new.items (reverse stack.new.items)) }
+{
+    match ahead {
+        K::Name => {
+            note_both(events, A::StartStatement, A::Name, place)?;
+            stack.extend_from_slice(&[
+                Nonterminal(N::Statements),
+                Nonterminal(N::Lines),
+                Terminal(K::Semicolon),
+                Nonterminal(N::Target),
+                Nonterminal(N::Lines),
+            ])?;
+            Ok(Step::Took)
+        }
+        _ => Ok(Step::Unknown),
+    }
+}
+
+fn target(stack: &mut Vec<Symbol>, ahead: K) -> Result<Step, AllocError>
+    ensures { IfOk result (λ step. (place : ℕ) (done : List Event) →
+        IsStep step ahead place nonterminal.Target done (reverse stack.old.items) done (reverse stack.new.items)) }
+{
+    match ahead {
+        K::Assign => {
+            stack.extend_from_slice(&[Nonterminal(N::Value), Nonterminal(N::Lines)])?;
+            Ok(Step::Took)
+        }
+        _ => Ok(Step::Unknown),
+    }
+}
+
+// Goes through all levels, since no token decides between them.
+fn expression(stack: &mut Vec<Symbol>) -> Result<Step, AllocError>
+    ensures { IfOk result (λ step. (ahead : TokenKind) (place : ℕ) (done : List Event) →
+        IsStep step ahead place nonterminal.Expression done (reverse stack.old.items) done (reverse stack.new.items)) }
+{
+    stack.extend_from_slice(&[
+        Nonterminal(N::MoreOr),
+        Nonterminal(N::MoreAnd),
+        Nonterminal(N::Compared),
+        Nonterminal(N::MoreSum),
+        Nonterminal(N::MoreTerm),
+        Nonterminal(N::Unary),
+    ])?;
+    Ok(Step::WentOn)
+}
+
+fn operand(
+    stack: &mut Vec<Symbol>,
+    events: &mut Vec<Event>,
+    ahead: K,
+    place: u32,
+) -> Result<Step, AllocError>
+    ensures { IfOk result (λ step. IsStep step ahead place nonterminal.Unary events.old.items
+        (reverse stack.old.items) events.new.items (reverse stack.new.items)) }
+{
+    match ahead {
+        K::Name => {
+            note_both(events, A::StartAtom, A::Name, place)?;
+            stack.extend_from_slice(&[Nonterminal(N::Place), Nonterminal(N::Lines)])?;
+            Ok(Step::Took)
+        }
+        K::Number => {
+            note(events, A::Number, place)?;
+            stack.extend_from_slice(&[Symbol::Action(A::NumberAtom), Nonterminal(N::Lines)])?;
+            Ok(Step::Took)
+        }
+        K::Index => {
+            note(events, A::StartAtom, place)?;
+            stack.extend_from_slice(&[Symbol::Action(A::IndexAtom), Nonterminal(N::Lines)])?;
+            Ok(Step::Took)
+        }
+        K::OpenParen => {
+            stack.extend_from_slice(&[
+                Nonterminal(N::Lines),
+                Terminal(K::CloseParen),
+                Nonterminal(N::Expression),
+                Nonterminal(N::Lines),
+            ])?;
+            Ok(Step::Took)
+        }
+        _ => Ok(Step::Unknown),
+    }
+}
+
+// What may stand after the name of an operand.
+fn place_of_name(
+    stack: &mut Vec<Symbol>,
+    events: &mut Vec<Event>,
+    ahead: K,
+    place: u32,
+) -> Result<Step, AllocError>
+    ensures { IfOk result (λ step. IsStep step ahead place nonterminal.Place events.old.items
+        (reverse stack.old.items) events.new.items (reverse stack.new.items)) }
+{
+    if ahead == K::OpenBracket {
+        stack.extend_from_slice(&[
+            Symbol::Action(A::PlaceAtom),
+            Nonterminal(N::Lines),
+            Terminal(K::CloseBracket),
+            Nonterminal(N::Expression),
+            Nonterminal(N::Lines),
+        ])?;
+        Ok(Step::Took)
+    } else {
+        note(events, A::NameAtom, place)?;
+        Ok(Step::WentOn)
+    }
+}
+
+fn more_factors(
+    stack: &mut Vec<Symbol>,
+    events: &mut Vec<Event>,
+    ahead: K,
+    place: u32,
+) -> Result<Step, AllocError>
+    ensures { IfOk result (λ step. IsStep step ahead place nonterminal.MoreTerm events.old.items
+        (reverse stack.old.items) events.new.items (reverse stack.new.items)) }
+{
+    if multiplies(ahead) {
+        note(events, A::Operator, place)?;
+        stack.extend_from_slice(&[
+            Nonterminal(N::MoreTerm),
+            Symbol::Action(A::Binary),
+            Nonterminal(N::Unary),
+            Nonterminal(N::Lines),
+        ])?;
+        Ok(Step::Took)
+    } else {
+        Ok(Step::WentOn)
+    }
+}
+
+fn more_terms(
+    stack: &mut Vec<Symbol>,
+    events: &mut Vec<Event>,
+    ahead: K,
+    place: u32,
+) -> Result<Step, AllocError>
+    ensures { IfOk result (λ step. IsStep step ahead place nonterminal.MoreSum events.old.items
+        (reverse stack.old.items) events.new.items (reverse stack.new.items)) }
+{
+    if adds(ahead) {
+        note(events, A::Operator, place)?;
+        stack.extend_from_slice(&[
+            Nonterminal(N::MoreSum),
+            Symbol::Action(A::Binary),
+            Nonterminal(N::Term),
+            Nonterminal(N::Lines),
+        ])?;
+        Ok(Step::Took)
+    } else {
+        Ok(Step::WentOn)
+    }
+}
+
+// The levels above sums are seldom more than a sum.
+
+fn compared(ahead: K) -> Step
+    ensures { (place : ℕ) (done : List Event) (ss : List Symbol) →
+        IsStep result ahead place nonterminal.Compared done ss done ss }
+{
+    if compares(ahead) {
+        Step::Unknown
+    } else {
+        Step::WentOn
+    }
+}
+
+fn more_and(ahead: K) -> Step
+    ensures { (place : ℕ) (done : List Event) (ss : List Symbol) →
+        IsStep result ahead place nonterminal.MoreAnd done ss done ss }
+{
+    if ahead == K::AndAnd {
+        Step::Unknown
+    } else {
+        Step::WentOn
+    }
+}
+
+fn more_or(ahead: K) -> Step
+    ensures { (place : ℕ) (done : List Event) (ss : List Symbol) →
+        IsStep result ahead place nonterminal.MoreOr done ss done ss }
+{
+    if ahead == K::OrOr {
+        Step::Unknown
+    } else {
+        Step::WentOn
+    }
+}
+
+fn more_values(
+    stack: &mut Vec<Symbol>,
+    events: &mut Vec<Event>,
+    ahead: K,
+    place: u32,
+) -> Result<Step, AllocError>
+    ensures { IfOk result (λ step. IsStep step ahead place nonterminal.MoreValues events.old.items
+        (reverse stack.old.items) events.new.items (reverse stack.new.items)) }
+{
+    match ahead {
+        K::Number => {
+            note(events, A::Number, place)?;
+            stack.extend_from_slice(&[Nonterminal(N::MoreValues), Symbol::Action(A::PlainNumber)])?;
+            Ok(Step::Took)
+        }
+        K::Minus => {
+            note(events, A::Operator, place)?;
+            stack.extend_from_slice(&[
+                Nonterminal(N::MoreValues),
+                Symbol::Action(A::MinusNumber),
+                Terminal(K::Number),
+                Symbol::Action(A::Number),
+            ])?;
+            Ok(Step::Took)
+        }
+        _ => Ok(Step::Unknown),
+    }
+}
+
+/// Goes on with a nonterminal that was on top of the stack, where what it does before the token ahead is known.
+pub fn known_step(
+    stack: &mut Vec<Symbol>,
+    events: &mut Vec<Event>,
+    nonterminal: N,
+    ahead: K,
+    place: u32,
+) -> Result<Step, AllocError>
+    ensures { IfOk result (λ step. IsStep step ahead place nonterminal events.old.items (reverse stack.old.items)
+        events.new.items (reverse stack.new.items)) }
+{
+    match nonterminal {
+        N::Lines => lines(stack, ahead),
+        N::Statements => statements(stack, events, ahead, place),
+        N::Target => target(stack, ahead),
+        N::Expression => expression(stack),
+        N::Unary => operand(stack, events, ahead, place),
+        N::Place => place_of_name(stack, events, ahead, place),
+        N::MoreTerm => more_factors(stack, events, ahead, place),
+        N::MoreSum => more_terms(stack, events, ahead, place),
+        N::Compared => Ok(compared(ahead)),
+        N::MoreAnd => Ok(more_and(ahead)),
+        N::MoreOr => Ok(more_or(ahead)),
+        N::MoreValues => more_values(stack, events, ahead, place),
+        _ => Ok(Step::Unknown),
+    }
+}
+
+// Whether values of an array are what is on top of the stack.
+fn has_values_on_top(stack: &[Symbol]) -> bool
+    ensures { result ≡ true →
+        slice_get stack.now (length stack.now - 1) ≡ Some (symbol.Nonterminal nonterminal.MoreValues) }
+{
+    match stack.last().copied() {
+        Some(Nonterminal(N::MoreValues)) => true,
+        _ => false,
+    }
+}
+
+/// Takes the next value of an array, where the value before it is whole with the action that was on top of the stack.
+/// Else nothing changes. Says whether it did.
+pub fn take_next_value(
+    stack: &mut Vec<Symbol>,
+    events: &mut Vec<Event>,
+    action: A,
+    ahead: K,
     place: u32,
 ) -> Result<bool, AllocError>
     ensures { IfOk result (λ taken. MatchBool taken
-        (Takes ahead place events.old.items (symbol.Nonterminal nonterminal ∷ reverse stack.old.items)
-        events.new.items (reverse stack.new.items))
+        (Takes ahead place events.old.items (symbol.Action action ∷ reverse stack.old.items) events.new.items
+        (reverse stack.new.items))
         ((events.new.items ≡ events.old.items) × (stack.new.items ≡ stack.old.items))) }
 {
-    match (nonterminal, ahead) {
-        (Nonterminal::Lines, TokenKind::Line) => {
-            make_room(stack)?;
-            stack.push_reserved(Symbol::Nonterminal(Nonterminal::Lines));
-            Ok(true)
-        }
-        (Nonterminal::Unary, TokenKind::Name) => {
-            make_room(events)?;
-            make_room(stack)?;
-            events.push_reserved(Event {
-                action: Action::StartAtom,
-                place,
-            });
-            events.push_reserved(Event {
-                action: Action::Name,
-                place,
-            });
-            stack.push_reserved(Symbol::Nonterminal(Nonterminal::Place));
-            stack.push_reserved(Symbol::Nonterminal(Nonterminal::Lines));
-            Ok(true)
-        }
-        (Nonterminal::Unary, TokenKind::Number) => {
-            make_room(events)?;
-            make_room(stack)?;
-            events.push_reserved(Event {
-                action: Action::Number,
-                place,
-            });
-            stack.push_reserved(Symbol::Action(Action::NumberAtom));
-            stack.push_reserved(Symbol::Nonterminal(Nonterminal::Lines));
-            Ok(true)
-        }
-        (Nonterminal::MoreValues, TokenKind::Number) => {
-            make_room(events)?;
-            make_room(stack)?;
-            events.push_reserved(Event {
-                action: Action::Number,
-                place,
-            });
-            stack.push_reserved(Symbol::Nonterminal(Nonterminal::MoreValues));
-            stack.push_reserved(Symbol::Action(Action::PlainNumber));
+    match (action, ahead) {
+        (A::PlainNumber, K::Number) if has_values_on_top(stack) => {
+            note_both(events, A::PlainNumber, A::Number, place)?;
+            stack.push(Symbol::Action(A::PlainNumber))?;
             Ok(true)
         }
         _ => Ok(false),

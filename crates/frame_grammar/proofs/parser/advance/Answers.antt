@@ -1,10 +1,10 @@
-use Rattle.std.proofs.Common.{reverse, ◌∷◌, ◌++◌, ◌∙◌, sym, subst, ap}
+use Rattle.std.proofs.Common.{reverse, ◌∷◌, [], ◌++◌, ◌∙◌, sym, subst, ap}
 use Rattle.std.proofs.lemmas.Bool.{MatchBool-at_true, MatchBool-at_false}
 use Rattle.frame_grammar.specs.Grammar.{body_of}
-use Rattle.frame_grammar.proofs.Takings.{leads_take}
+use Rattle.frame_grammar.specs.Parser.{IsStep}
+use Rattle.frame_grammar.proofs.Takings.{leads_take, leads_go}
 use Rattle.frame_grammar.proofs.Steps.{Leads, top, no_top, taken, stops_empty, goes_on_by, acts, stops_at, smaller, kinds_same, kinds_differ, body_on_top}
 use Rattle.frame_grammar.specs.declared.symbols.Symbol.TheVariants as symbol
-use Rattle.frame_grammar.proofs.Levels.{nonterminals_same, levels_on_top, levels_lead, levels_smaller}
 use Rattle.frame_grammar.proofs.parser.advance.Goals as goal
 
 pub returns-in-Terminal : goal.returns-in-Terminal
@@ -16,13 +16,52 @@ returns-in-Terminal c =
     (λ e. kinds_same c.in-Terminal.kind c.args.ahead (sym c.eq.ensures ∙ e))
     (λ e. kinds_differ c.in-Terminal.kind c.args.ahead (sym c.eq.ensures ∙ e))
 
-pub loop-symbol-preserved-in-Continue-1 : goal.loop-symbol-preserved-in-Continue-1
-loop-symbol-preserved-in-Continue-1 c =
+pub loop-symbol-preserved-in-Continue-branch-2 : goal.loop-symbol-preserved-in-Continue-branch-2
+loop-symbol-preserved-in-Continue-branch-2 c =
+    let kept = MatchBool-at_false _ _ c.if-branch.false c.in_ok-take_next_value-in-Action.ensures in
     let seen = top c.loop-symbol.stack.items c.pop.new.self.items c.pop.result c.in-Some.symbol c.pop.ensures.items c.in-Some.is in
     let first = seen ∙ ap (λ s. s ∷ reverse c.pop.new.self.items) c.in-Action.is in
     let led = acts c.args.ahead c.args.place c.args.events.now.items c.loop-symbol.events.items (reverse c.args.stack.now.items) (reverse c.pop.new.self.items) c.in-Action.action
     (subst (λ ss. Leads c.args.ahead c.args.place c.args.events.now.items (reverse c.args.stack.now.items) c.loop-symbol.events.items ss) first c.loop-symbol.invariant) in
-    subst (λ es. Leads c.args.ahead c.args.place c.args.events.now.items (reverse c.args.stack.now.items) es (reverse c.pop.new.self.items)) (sym c.in_ok-push-in-Action.ensures.items) led
+    rw (kept.1) (subst (λ es. Leads c.args.ahead c.args.place c.args.events.now.items (reverse c.args.stack.now.items) es (reverse c.pop.new.self.items))
+    (sym (c.in_ok-push-in-Action.ensures.items ∙ ap (λ es. es ++ record { action = c.in-Action.action; place = c.args.place } ∷ []) kept.0)) led)
+
+pub returns-then-branch : goal.returns-then-branch
+returns-then-branch c =
+    let step = MatchBool-at_true _ _ c.if-branch.true c.in_ok-take_next_value-in-Action.ensures in
+    let seen = top c.loop-symbol.stack.items c.pop.new.self.items c.pop.result c.in-Some.symbol c.pop.ensures.items c.in-Some.is in
+    let first = seen ∙ ap (λ s. s ∷ reverse c.pop.new.self.items) c.in-Action.is in
+    leads_take c.args.ahead c.args.place c.args.events.now.items c.loop-symbol.events.items c.take_next_value.new.events.items (reverse c.args.stack.now.items)
+    (symbol.Action c.in-Action.action ∷ reverse c.pop.new.self.items) (reverse c.take_next_value.new.stack.items)
+    (subst (λ ss. Leads c.args.ahead c.args.place c.args.events.now.items (reverse c.args.stack.now.items) c.loop-symbol.events.items ss) first c.loop-symbol.invariant) step
+
+pub returns-in-Took : goal.returns-in-Took
+returns-in-Took c =
+    let step = subst (λ s. IsStep s c.args.ahead c.args.place c.in-Nonterminal.nonterminal c.loop-symbol.events.items (reverse c.pop.new.self.items) c.known_step.new.events.items (reverse c.known_step.new.stack.items))
+    c.in-Took.is c.in_ok-known_step-in-Nonterminal.ensures in
+    let seen = top c.loop-symbol.stack.items c.pop.new.self.items c.pop.result c.in-Some.symbol c.pop.ensures.items c.in-Some.is in
+    let first = seen ∙ ap (λ s. s ∷ reverse c.pop.new.self.items) c.in-Nonterminal.is in
+    leads_take c.args.ahead c.args.place c.args.events.now.items c.loop-symbol.events.items c.known_step.new.events.items (reverse c.args.stack.now.items)
+    (symbol.Nonterminal c.in-Nonterminal.nonterminal ∷ reverse c.pop.new.self.items) (reverse c.known_step.new.stack.items)
+    (subst (λ ss. Leads c.args.ahead c.args.place c.args.events.now.items (reverse c.args.stack.now.items) c.loop-symbol.events.items ss) first c.loop-symbol.invariant) step
+
+pub loop-symbol-preserved-in-WentOn : goal.loop-symbol-preserved-in-WentOn
+loop-symbol-preserved-in-WentOn c =
+    let step = subst (λ s. IsStep s c.args.ahead c.args.place c.in-Nonterminal.nonterminal c.loop-symbol.events.items (reverse c.pop.new.self.items) c.known_step.new.events.items (reverse c.known_step.new.stack.items))
+    c.in-WentOn.is c.in_ok-known_step-in-Nonterminal.ensures in
+    let seen = top c.loop-symbol.stack.items c.pop.new.self.items c.pop.result c.in-Some.symbol c.pop.ensures.items c.in-Some.is in
+    let first = seen ∙ ap (λ s. s ∷ reverse c.pop.new.self.items) c.in-Nonterminal.is in
+    leads_go c.args.ahead c.args.place c.args.events.now.items c.loop-symbol.events.items c.known_step.new.events.items (reverse c.args.stack.now.items)
+    (symbol.Nonterminal c.in-Nonterminal.nonterminal ∷ reverse c.pop.new.self.items) (reverse c.known_step.new.stack.items)
+    (subst (λ ss. Leads c.args.ahead c.args.place c.args.events.now.items (reverse c.args.stack.now.items) c.loop-symbol.events.items ss) first c.loop-symbol.invariant) step
+
+pub loop-symbol-smaller-in-WentOn : goal.loop-symbol-smaller-in-WentOn
+loop-symbol-smaller-in-WentOn c =
+    let step = subst (λ s. IsStep s c.args.ahead c.args.place c.in-Nonterminal.nonterminal c.loop-symbol.events.items (reverse c.pop.new.self.items) c.known_step.new.events.items (reverse c.known_step.new.stack.items))
+    c.in-WentOn.is c.in_ok-known_step-in-Nonterminal.ensures in
+    let seen = top c.loop-symbol.stack.items c.pop.new.self.items c.pop.result c.in-Some.symbol c.pop.ensures.items c.in-Some.is in
+    let first = seen ∙ ap (λ s. s ∷ reverse c.pop.new.self.items) c.in-Nonterminal.is in
+    rw (first) (step.2)
 
 pub returns-in-None : goal.returns-in-None
 returns-in-None c =
@@ -34,11 +73,12 @@ returns-in-None c =
 
 pub loop-symbol-preserved : goal.loop-symbol-preserved
 loop-symbol-preserved c =
-    let kept = MatchBool-at_false _ _ c.if-branch.false c.in_ok-take_known-in-Nonterminal.ensures in
+    let kept = subst (λ s. IsStep s c.args.ahead c.args.place c.in-Nonterminal.nonterminal c.loop-symbol.events.items (reverse c.pop.new.self.items) c.known_step.new.events.items (reverse c.known_step.new.stack.items))
+    c.in-Unknown.is c.in_ok-known_step-in-Nonterminal.ensures in
     let seen = top c.loop-symbol.stack.items c.pop.new.self.items c.pop.result c.in-Some.symbol c.pop.ensures.items c.in-Some.is in
     let first = seen ∙ ap (λ s. s ∷ reverse c.pop.new.self.items) c.in-Nonterminal.is in
-    let pushed = c.in_ok-push_body-in-Some-predict.ensures ∙ ap (λ ss. ss ++ reverse (body_of c.in-Some-predict.production)) kept.1 in
-    let on_top = body_on_top c.push_body.new.stack.items c.pop.new.self.items c.in-Some-predict.production pushed in
+    let on_top = body_on_top c.push_body.new.stack.items c.known_step.new.stack.items c.in-Some-predict.production c.in_ok-push_body-in-Some-predict.ensures
+    ∙ ap (λ ss. body_of c.in-Some-predict.production ++ ss) kept.1 in
     let led = goes_on_by c.args.ahead c.args.place c.args.events.now.items c.loop-symbol.events.items (reverse c.args.stack.now.items) (reverse c.pop.new.self.items) c.in-Nonterminal.nonterminal c.in-Some-predict.production
     (subst (λ ss. Leads c.args.ahead c.args.place c.args.events.now.items (reverse c.args.stack.now.items) c.loop-symbol.events.items ss) first c.loop-symbol.invariant)
     (sym c.predict.ensures ∙ c.in-Some-predict.is) in
@@ -46,11 +86,12 @@ loop-symbol-preserved c =
 
 pub loop-symbol-smaller : goal.loop-symbol-smaller
 loop-symbol-smaller c =
-    let kept = MatchBool-at_false _ _ c.if-branch.false c.in_ok-take_known-in-Nonterminal.ensures in
+    let kept = subst (λ s. IsStep s c.args.ahead c.args.place c.in-Nonterminal.nonterminal c.loop-symbol.events.items (reverse c.pop.new.self.items) c.known_step.new.events.items (reverse c.known_step.new.stack.items))
+    c.in-Unknown.is c.in_ok-known_step-in-Nonterminal.ensures in
     let seen = top c.loop-symbol.stack.items c.pop.new.self.items c.pop.result c.in-Some.symbol c.pop.ensures.items c.in-Some.is in
     let first = seen ∙ ap (λ s. s ∷ reverse c.pop.new.self.items) c.in-Nonterminal.is in
-    let pushed = c.in_ok-push_body-in-Some-predict.ensures ∙ ap (λ ss. ss ++ reverse (body_of c.in-Some-predict.production)) kept.1 in
-    let on_top = body_on_top c.push_body.new.stack.items c.pop.new.self.items c.in-Some-predict.production pushed in
+    let on_top = body_on_top c.push_body.new.stack.items c.known_step.new.stack.items c.in-Some-predict.production c.in_ok-push_body-in-Some-predict.ensures
+    ∙ ap (λ ss. body_of c.in-Some-predict.production ++ ss) kept.1 in
     rw (on_top, first) (smaller c.args.ahead c.in-Nonterminal.nonterminal c.in-Some-predict.production (reverse c.pop.new.self.items) (sym c.predict.ensures ∙ c.in-Some-predict.is))
 
 pub returns : goal.returns
@@ -58,30 +99,3 @@ returns c =
     let empty = no_top c.loop-symbol.stack.items _ c.pop.result (sym c.loop-symbol.stack.ok.0) c.pop.ensures.variant.1 c.in_default.not-Some in
     stops_empty c.args.ahead c.args.place c.args.events.now.items c.loop-symbol.events.items (reverse c.args.stack.now.items)
     (subst (λ ss. Leads c.args.ahead c.args.place c.args.events.now.items (reverse c.args.stack.now.items) c.loop-symbol.events.items ss) (ap reverse empty) c.loop-symbol.invariant)
-
-pub loop-symbol-preserved-then-eq : goal.loop-symbol-preserved-then-eq
-loop-symbol-preserved-then-eq c =
-    let seen = top c.loop-symbol.stack.items c.pop.new.self.items c.pop.result c.in-Some.symbol c.pop.ensures.items c.in-Some.is in
-    let same = nonterminals_same c.in-Nonterminal.nonterminal _ (sym c.eq-in-Nonterminal.ensures ∙ c.if-eq.true) in
-    let first = seen ∙ ap (λ s. s ∷ reverse c.pop.new.self.items) (c.in-Nonterminal.is ∙ ap symbol.Nonterminal same) in
-    let led = levels_lead c.args.ahead c.args.place c.args.events.now.items c.loop-symbol.events.items (reverse c.args.stack.now.items) (reverse c.pop.new.self.items)
-    (subst (λ ss. Leads c.args.ahead c.args.place c.args.events.now.items (reverse c.args.stack.now.items) c.loop-symbol.events.items ss) first c.loop-symbol.invariant) in
-    subst (λ ss. Leads c.args.ahead c.args.place c.args.events.now.items (reverse c.args.stack.now.items) c.loop-symbol.events.items ss)
-    (sym (levels_on_top c.push_expression.new.stack.items c.pop.new.self.items c.in_ok-push_expression-in-Nonterminal.ensures)) led
-
-pub loop-symbol-smaller-then-eq : goal.loop-symbol-smaller-then-eq
-loop-symbol-smaller-then-eq c =
-    let seen = top c.loop-symbol.stack.items c.pop.new.self.items c.pop.result c.in-Some.symbol c.pop.ensures.items c.in-Some.is in
-    let same = nonterminals_same c.in-Nonterminal.nonterminal _ (sym c.eq-in-Nonterminal.ensures ∙ c.if-eq.true) in
-    let first = seen ∙ ap (λ s. s ∷ reverse c.pop.new.self.items) (c.in-Nonterminal.is ∙ ap symbol.Nonterminal same) in
-    let on_top = levels_on_top c.push_expression.new.stack.items c.pop.new.self.items c.in_ok-push_expression-in-Nonterminal.ensures in
-    rw (on_top, first) (levels_smaller (reverse c.pop.new.self.items))
-
-pub returns-then-branch : goal.returns-then-branch
-returns-then-branch c =
-    let step = MatchBool-at_true _ _ c.if-branch.true c.in_ok-take_known-in-Nonterminal.ensures in
-    let seen = top c.loop-symbol.stack.items c.pop.new.self.items c.pop.result c.in-Some.symbol c.pop.ensures.items c.in-Some.is in
-    let first = seen ∙ ap (λ s. s ∷ reverse c.pop.new.self.items) c.in-Nonterminal.is in
-    leads_take c.args.ahead c.args.place c.args.events.now.items c.loop-symbol.events.items c.take_known.new.events.items (reverse c.args.stack.now.items)
-    (symbol.Nonterminal c.in-Nonterminal.nonterminal ∷ reverse c.pop.new.self.items) (reverse c.take_known.new.stack.items)
-    (subst (λ ss. Leads c.args.ahead c.args.place c.args.events.now.items (reverse c.args.stack.now.items) c.loop-symbol.events.items ss) first c.loop-symbol.invariant) step

@@ -1,0 +1,13 @@
+use Rattle.std.proofs.Common.{sym, ◌∙◌, reverse, refl}
+use Rattle.frame_grammar.proofs.Takings.{behind, told, factor, no_factor}
+use Rattle.frame_grammar.proofs.shortcuts.more_factors.Goals as goal
+
+pub returns-in_ok-extend_from_slice : goal.returns-in_ok-extend_from_slice
+returns-in_ok-extend_from_slice c =
+    told c.args.ahead c.args.ahead c.args.place c.args.events.now.items _ _ _ _ _ refl c.in_ok-note.ensures
+    (behind c.args.stack.now.items _ _ c.in_ok-extend_from_slice.ensures.items)
+    (factor c.args.ahead c.args.place c.args.events.now.items (reverse c.args.stack.now.items) (sym c.multiplies.ensures ∙ c.if-multiplies.true))
+
+pub returns-else-multiplies : goal.returns-else-multiplies
+returns-else-multiplies c =
+    no_factor c.args.ahead c.args.place c.args.events.now.items (reverse c.args.stack.now.items) (sym c.multiplies.ensures ∙ c.if-multiplies.false)

@@ -1,0 +1,13 @@
+use Rattle.std.proofs.Common.{sym, ◌∙◌, reverse, refl}
+use Rattle.frame_grammar.proofs.Takings.{behind, told, term, no_term}
+use Rattle.frame_grammar.proofs.shortcuts.more_terms.Goals as goal
+
+pub returns-in_ok-extend_from_slice : goal.returns-in_ok-extend_from_slice
+returns-in_ok-extend_from_slice c =
+    told c.args.ahead c.args.ahead c.args.place c.args.events.now.items _ _ _ _ _ refl c.in_ok-note.ensures
+    (behind c.args.stack.now.items _ _ c.in_ok-extend_from_slice.ensures.items)
+    (term c.args.ahead c.args.place c.args.events.now.items (reverse c.args.stack.now.items) (sym c.adds.ensures ∙ c.if-adds.true))
+
+pub returns-else-adds : goal.returns-else-adds
+returns-else-adds c =
+    no_term c.args.ahead c.args.place c.args.events.now.items (reverse c.args.stack.now.items) (sym c.adds.ensures ∙ c.if-adds.false)

@@ -1,0 +1,27 @@
+-- The operators of each level of an expression.
+use Rattle.std.specs.Prelude.{Bool, true, false}
+use Rattle.frame_grammar.specs.declared.TokenKind.{TokenKind}
+use Rattle.frame_grammar.specs.declared.TokenKind.TheVariants.{Star, Slash, Percent, Plus, Minus, Equal, NotEqual, Less, LessEqual, Greater, GreaterEqual}
+
+-- * / %
+abbrev pub multiplies : TokenKind → Bool
+multiplies Star = true
+multiplies Slash = true
+multiplies Percent = true
+multiplies _ = false
+
+-- + -
+abbrev pub adds : TokenKind → Bool
+adds Plus = true
+adds Minus = true
+adds _ = false
+
+-- == != < <= > >=
+abbrev pub compares : TokenKind → Bool
+compares Equal = true
+compares NotEqual = true
+compares Less = true
+compares LessEqual = true
+compares Greater = true
+compares GreaterEqual = true
+compares _ = false
