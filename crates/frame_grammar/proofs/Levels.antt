@@ -1,5 +1,5 @@
 -- An expression goes through all its levels, whatever token is ahead.
-use Rattle.std.proofs.Common.{◌≡◌, ℕ, ◌<◌, ◌∷◌, List, ◌++◌, refl, arith}
+use Rattle.std.proofs.Common.{ℕ, ◌<◌, ◌∷◌, List, ◌++◌, refl, arith}
 use Rattle.frame_grammar.specs.declared.TokenKind.{TokenKind}
 use Rattle.frame_grammar.specs.declared.symbols.Nonterminal.TheVariants as nonterminal
 use Rattle.frame_grammar.specs.declared.symbols.Production.TheVariants as production

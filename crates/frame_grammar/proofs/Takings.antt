@@ -10,7 +10,6 @@ use Rattle.frame_grammar.specs.declared.symbols.Nonterminal.{Nonterminal}
 use Rattle.frame_grammar.specs.declared.symbols.Nonterminal.TheVariants as nonterminal
 use Rattle.frame_grammar.specs.declared.symbols.Production.{Production}
 use Rattle.frame_grammar.specs.declared.symbols.Production.TheVariants as production
-use Rattle.frame_grammar.specs.declared.symbols.Action.{Action}
 use Rattle.frame_grammar.specs.declared.symbols.Action.TheVariants as action
 use Rattle.frame_grammar.specs.declared.symbols.Symbol.{Symbol}
 use Rattle.frame_grammar.specs.declared.symbols.Symbol.TheVariants as symbol
@@ -18,9 +17,9 @@ use Rattle.frame_grammar.specs.declared.symbols.Event.{Event}
 use Rattle.frame_grammar.specs.Grammar.{body_of}
 use Rattle.frame_grammar.specs.Table.{choices_of, default_of}
 use Rattle.frame_grammar.specs.Predict.{predicted, same_kind}
-use Rattle.frame_grammar.specs.Parser.{Takes, Goes, IsReachedAt, closes, weight}
+use Rattle.frame_grammar.specs.Parser.{Takes, Goes, weight}
 use Rattle.frame_grammar.specs.Shortcuts.{multiplies, adds, compares}
-use Rattle.frame_grammar.proofs.Steps.{Leads, leads_start, goes_on_by, acts, smaller, kinds_same}
+use Rattle.frame_grammar.proofs.Steps.{Leads, leads_start, goes_on_by, acts, smaller}
 use Rattle.frame_grammar.proofs.Run.{shift}
 use Rattle.frame_grammar.proofs.Ends.{closes-terminal}
 

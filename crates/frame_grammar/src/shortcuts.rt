@@ -52,21 +52,36 @@ fn compares(kind: K) -> bool
     )
 }
 
-// What is noted
+// What is put on the stack and noted
 
-fn note(events: &mut Vec<Event>, action: A, place: u32) -> Result<(), AllocError>
-    ensures { IfOk result (λ _. events.new.items ≡ events.old.items ++ record { action = action; place = place } ∷ []) }
+// Adds these to a list. Room for all is made once, and where it stands in line no loop is left of it.
+#[inline(always)]
+fn put<T: Copy>(list: &mut Vec<T>, items: &[T]) -> Result<(), AllocError>
+    ensures { IfOk result (λ _. list.new.items ≡ list.old.items ++ items.now) }
 {
-    events.push(Event { action, place })?;
+    if list.capacity() - list.len() < items.len() {
+        list.reserve(items.len())?;
+    }
+    for item in items {
+        list.push_reserved(*item);
+    }
     Ok(())
 }
 
-// Room for both is made once.
+// Out of line: where it stands in line, the compiler makes what it writes ready at each token, for every action.
+#[inline(never)]
+fn note(events: &mut Vec<Event>, action: A, place: u32) -> Result<(), AllocError>
+    ensures { IfOk result (λ _. events.new.items ≡ events.old.items ++ record { action = action; place = place } ∷ []) }
+{
+    put(events, &[Event { action, place }])
+}
+
+#[inline(always)]
 fn note_both(events: &mut Vec<Event>, first: A, second: A, place: u32) -> Result<(), AllocError>
     ensures { IfOk result (λ _. events.new.items ≡
         events.old.items ++ record { action = first; place = place } ∷ record { action = second; place = place } ∷ []) }
 {
-    events.extend_from_slice(&[
+    let notes = [
         Event {
             action: first,
             place,
@@ -75,7 +90,8 @@ fn note_both(events: &mut Vec<Event>, first: A, second: A, place: u32) -> Result
             action: second,
             place,
         },
-    ])
+    ];
+    put(events, &notes)
 }
 
 // Steps of each nonterminal
@@ -85,7 +101,7 @@ fn lines(stack: &mut Vec<Symbol>, ahead: K) -> Result<Step, AllocError>
         IsStep step ahead place nonterminal.Lines done (reverse stack.old.items) done (reverse stack.new.items)) }
 {
     if ahead == K::Line {
-        stack.push(Nonterminal(N::Lines))?;
+        put(stack, &[Nonterminal(N::Lines)])?;
         Ok(Step::Took)
     } else {
         Ok(Step::WentOn)
@@ -104,13 +120,16 @@ fn statements(
     match ahead {
         K::Name => {
             note_both(events, A::StartStatement, A::Name, place)?;
-            stack.extend_from_slice(&[
-                Nonterminal(N::Statements),
-                Nonterminal(N::Lines),
-                Terminal(K::Semicolon),
-                Nonterminal(N::Target),
-                Nonterminal(N::Lines),
-            ])?;
+            put(
+                stack,
+                &[
+                    Nonterminal(N::Statements),
+                    Nonterminal(N::Lines),
+                    Terminal(K::Semicolon),
+                    Nonterminal(N::Target),
+                    Nonterminal(N::Lines),
+                ],
+            )?;
             Ok(Step::Took)
         }
         _ => Ok(Step::Unknown),
@@ -123,7 +142,7 @@ fn target(stack: &mut Vec<Symbol>, ahead: K) -> Result<Step, AllocError>
 {
     match ahead {
         K::Assign => {
-            stack.extend_from_slice(&[Nonterminal(N::Value), Nonterminal(N::Lines)])?;
+            put(stack, &[Nonterminal(N::Value), Nonterminal(N::Lines)])?;
             Ok(Step::Took)
         }
         _ => Ok(Step::Unknown),
@@ -135,14 +154,17 @@ fn expression(stack: &mut Vec<Symbol>) -> Result<Step, AllocError>
     ensures { IfOk result (λ step. (ahead : TokenKind) (place : ℕ) (done : List Event) →
         IsStep step ahead place nonterminal.Expression done (reverse stack.old.items) done (reverse stack.new.items)) }
 {
-    stack.extend_from_slice(&[
-        Nonterminal(N::MoreOr),
-        Nonterminal(N::MoreAnd),
-        Nonterminal(N::Compared),
-        Nonterminal(N::MoreSum),
-        Nonterminal(N::MoreTerm),
-        Nonterminal(N::Unary),
-    ])?;
+    put(
+        stack,
+        &[
+            Nonterminal(N::MoreOr),
+            Nonterminal(N::MoreAnd),
+            Nonterminal(N::Compared),
+            Nonterminal(N::MoreSum),
+            Nonterminal(N::MoreTerm),
+            Nonterminal(N::Unary),
+        ],
+    )?;
     Ok(Step::WentOn)
 }
 
@@ -158,26 +180,35 @@ fn operand(
     match ahead {
         K::Name => {
             note_both(events, A::StartAtom, A::Name, place)?;
-            stack.extend_from_slice(&[Nonterminal(N::Place), Nonterminal(N::Lines)])?;
+            put(stack, &[Nonterminal(N::Place), Nonterminal(N::Lines)])?;
             Ok(Step::Took)
         }
         K::Number => {
             note(events, A::Number, place)?;
-            stack.extend_from_slice(&[Symbol::Action(A::NumberAtom), Nonterminal(N::Lines)])?;
+            put(
+                stack,
+                &[Symbol::Action(A::NumberAtom), Nonterminal(N::Lines)],
+            )?;
             Ok(Step::Took)
         }
         K::Index => {
             note(events, A::StartAtom, place)?;
-            stack.extend_from_slice(&[Symbol::Action(A::IndexAtom), Nonterminal(N::Lines)])?;
+            put(
+                stack,
+                &[Symbol::Action(A::IndexAtom), Nonterminal(N::Lines)],
+            )?;
             Ok(Step::Took)
         }
         K::OpenParen => {
-            stack.extend_from_slice(&[
-                Nonterminal(N::Lines),
-                Terminal(K::CloseParen),
-                Nonterminal(N::Expression),
-                Nonterminal(N::Lines),
-            ])?;
+            put(
+                stack,
+                &[
+                    Nonterminal(N::Lines),
+                    Terminal(K::CloseParen),
+                    Nonterminal(N::Expression),
+                    Nonterminal(N::Lines),
+                ],
+            )?;
             Ok(Step::Took)
         }
         _ => Ok(Step::Unknown),
@@ -195,13 +226,16 @@ fn place_of_name(
         (reverse stack.old.items) events.new.items (reverse stack.new.items)) }
 {
     if ahead == K::OpenBracket {
-        stack.extend_from_slice(&[
-            Symbol::Action(A::PlaceAtom),
-            Nonterminal(N::Lines),
-            Terminal(K::CloseBracket),
-            Nonterminal(N::Expression),
-            Nonterminal(N::Lines),
-        ])?;
+        put(
+            stack,
+            &[
+                Symbol::Action(A::PlaceAtom),
+                Nonterminal(N::Lines),
+                Terminal(K::CloseBracket),
+                Nonterminal(N::Expression),
+                Nonterminal(N::Lines),
+            ],
+        )?;
         Ok(Step::Took)
     } else {
         note(events, A::NameAtom, place)?;
@@ -220,12 +254,15 @@ fn more_factors(
 {
     if multiplies(ahead) {
         note(events, A::Operator, place)?;
-        stack.extend_from_slice(&[
-            Nonterminal(N::MoreTerm),
-            Symbol::Action(A::Binary),
-            Nonterminal(N::Unary),
-            Nonterminal(N::Lines),
-        ])?;
+        put(
+            stack,
+            &[
+                Nonterminal(N::MoreTerm),
+                Symbol::Action(A::Binary),
+                Nonterminal(N::Unary),
+                Nonterminal(N::Lines),
+            ],
+        )?;
         Ok(Step::Took)
     } else {
         Ok(Step::WentOn)
@@ -243,12 +280,15 @@ fn more_terms(
 {
     if adds(ahead) {
         note(events, A::Operator, place)?;
-        stack.extend_from_slice(&[
-            Nonterminal(N::MoreSum),
-            Symbol::Action(A::Binary),
-            Nonterminal(N::Term),
-            Nonterminal(N::Lines),
-        ])?;
+        put(
+            stack,
+            &[
+                Nonterminal(N::MoreSum),
+                Symbol::Action(A::Binary),
+                Nonterminal(N::Term),
+                Nonterminal(N::Lines),
+            ],
+        )?;
         Ok(Step::Took)
     } else {
         Ok(Step::WentOn)
@@ -302,17 +342,23 @@ fn more_values(
     match ahead {
         K::Number => {
             note(events, A::Number, place)?;
-            stack.extend_from_slice(&[Nonterminal(N::MoreValues), Symbol::Action(A::PlainNumber)])?;
+            put(
+                stack,
+                &[Nonterminal(N::MoreValues), Symbol::Action(A::PlainNumber)],
+            )?;
             Ok(Step::Took)
         }
         K::Minus => {
             note(events, A::Operator, place)?;
-            stack.extend_from_slice(&[
-                Nonterminal(N::MoreValues),
-                Symbol::Action(A::MinusNumber),
-                Terminal(K::Number),
-                Symbol::Action(A::Number),
-            ])?;
+            put(
+                stack,
+                &[
+                    Nonterminal(N::MoreValues),
+                    Symbol::Action(A::MinusNumber),
+                    Terminal(K::Number),
+                    Symbol::Action(A::Number),
+                ],
+            )?;
             Ok(Step::Took)
         }
         _ => Ok(Step::Unknown),
@@ -375,7 +421,7 @@ pub fn take_next_value(
     match (action, ahead) {
         (A::PlainNumber, K::Number) if has_values_on_top(stack) => {
             note_both(events, A::PlainNumber, A::Number, place)?;
-            stack.push(Symbol::Action(A::PlainNumber))?;
+            put(stack, &[Symbol::Action(A::PlainNumber)])?;
             Ok(true)
         }
         _ => Ok(false),

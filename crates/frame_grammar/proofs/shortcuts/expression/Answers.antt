@@ -5,5 +5,5 @@ use Rattle.frame_grammar.proofs.shortcuts.expression.Goals as goal
 
 pub returns : goal.returns
 returns c ahead place done =
-    told_going ahead place done done done _ _ _ refl (behind c.args.stack.now.items _ _ c.in_ok-extend_from_slice.ensures.items)
+    told_going ahead place done done done _ _ _ refl (behind c.args.stack.now.items _ _ c.in_ok-put.ensures)
     (levels ahead place done (reverse c.args.stack.now.items))

@@ -5,10 +5,10 @@ use Rattle.frame_grammar.proofs.Steps.{kinds_same}
 use Rattle.frame_grammar.proofs.Takings.{behind, told, line_end, no_line_end}
 use Rattle.frame_grammar.proofs.shortcuts.lines.Goals as goal
 
-pub returns-in_ok-push : goal.returns-in_ok-push
-returns-in_ok-push c place done =
+pub returns-in_ok-put : goal.returns-in_ok-put
+returns-in_ok-put c place done =
     told c.args.ahead _ place done done done _ _ _ (kinds_same c.args.ahead _ (sym c.eq.ensures ∙ c.if-eq.true)) refl
-    (behind c.args.stack.now.items _ (symbol.Nonterminal nonterminal.Lines ∷ []) c.in_ok-push.ensures.items)
+    (behind c.args.stack.now.items _ (symbol.Nonterminal nonterminal.Lines ∷ []) c.in_ok-put.ensures)
     (line_end place done (reverse c.args.stack.now.items))
 
 pub returns-else-eq : goal.returns-else-eq

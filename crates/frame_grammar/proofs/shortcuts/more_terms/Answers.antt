@@ -2,10 +2,10 @@ use Rattle.std.proofs.Common.{sym, ◌∙◌, reverse, refl}
 use Rattle.frame_grammar.proofs.Takings.{behind, told, term, no_term}
 use Rattle.frame_grammar.proofs.shortcuts.more_terms.Goals as goal
 
-pub returns-in_ok-extend_from_slice : goal.returns-in_ok-extend_from_slice
-returns-in_ok-extend_from_slice c =
+pub returns-in_ok-put : goal.returns-in_ok-put
+returns-in_ok-put c =
     told c.args.ahead c.args.ahead c.args.place c.args.events.now.items _ _ _ _ _ refl c.in_ok-note.ensures
-    (behind c.args.stack.now.items _ _ c.in_ok-extend_from_slice.ensures.items)
+    (behind c.args.stack.now.items _ _ c.in_ok-put.ensures)
     (term c.args.ahead c.args.place c.args.events.now.items (reverse c.args.stack.now.items) (sym c.adds.ensures ∙ c.if-adds.true))
 
 pub returns-else-adds : goal.returns-else-adds

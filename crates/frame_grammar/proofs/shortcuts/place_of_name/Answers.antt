@@ -3,10 +3,10 @@ use Rattle.frame_grammar.proofs.Steps.{kinds_same}
 use Rattle.frame_grammar.proofs.Takings.{behind, told, told_going, bracket, no_bracket}
 use Rattle.frame_grammar.proofs.shortcuts.place_of_name.Goals as goal
 
-pub returns-in_ok-extend_from_slice : goal.returns-in_ok-extend_from_slice
-returns-in_ok-extend_from_slice c =
+pub returns-in_ok-put : goal.returns-in_ok-put
+returns-in_ok-put c =
     told c.args.ahead _ c.args.place c.args.events.now.items _ _ _ _ _ (kinds_same c.args.ahead _ (sym c.eq.ensures ∙ c.if-eq.true)) refl
-    (behind c.args.stack.now.items _ _ c.in_ok-extend_from_slice.ensures.items)
+    (behind c.args.stack.now.items _ _ c.in_ok-put.ensures)
     (bracket c.args.place c.args.events.now.items (reverse c.args.stack.now.items))
 
 pub returns-in_ok-note : goal.returns-in_ok-note

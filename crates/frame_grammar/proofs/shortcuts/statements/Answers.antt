@@ -2,8 +2,8 @@ use Rattle.std.proofs.Common.{reverse}
 use Rattle.frame_grammar.proofs.Takings.{behind, both, told, assignment}
 use Rattle.frame_grammar.proofs.shortcuts.statements.Goals as goal
 
-pub returns-in_ok-extend_from_slice-in-Name : goal.returns-in_ok-extend_from_slice-in-Name
-returns-in_ok-extend_from_slice-in-Name c =
+pub returns-in_ok-put-in-Name : goal.returns-in_ok-put-in-Name
+returns-in_ok-put-in-Name c =
     told c.args.ahead _ c.args.place c.args.events.now.items _ _ _ _ _ c.in-Name.is (both c.args.events.now.items _ _ _ c.in_ok-note_both-in-Name.ensures)
-    (behind c.args.stack.now.items _ _ c.in_ok-extend_from_slice-in-Name.ensures.items)
+    (behind c.args.stack.now.items _ _ c.in_ok-put-in-Name.ensures)
     (assignment c.args.place c.args.events.now.items (reverse c.args.stack.now.items))
