@@ -1,5 +1,5 @@
 -- What a text begins with, by its first byte.
-use Rattle.std.proofs.Common.{◌≡◌, ◌⊎◌, inl, inr, ℕ, suc, ◌+◌, ◌-◌, ◌<◌, Bool, true, List, [], ◌∷◌, length, take, drop, get_or, take_all, length-drop, Option, Some, None, unwrap_or, ◌∙◌, sym, refl, ap, subst, arith, one-add}
+use Rattle.std.proofs.Common.{◌≡◌, ◌⊎◌, inl, inr, ℕ, suc, ◌+◌, ◌<◌, true, List, [], ◌∷◌, length, take, drop, get_or, Option, Some, None, unwrap_or, ◌∙◌, sym, refl, ap, subst, arith, one-add}
 use Rattle.std.specs.List.{prefix_len}
 use Rattle.std.specs.Char.{is_ascii_digit}
 use Rattle.std.proofs.lemmas.Bool.{cond-true}
@@ -14,10 +14,6 @@ use Rattle.kernel_code.proofs.Runs.{longest_run, run_passes}
 use Rattle.kernel_code.proofs.FirstBytes.{kind_of-name, names, kind_of-number, numbers, kind_of-comment, comments}
 use Rattle.kernel_code.proofs.Others.{kind_of-space, kind_of-tab, kind_of-return, longest-space, longest-tab, longest-return, longest-line, kind_of-other, longest_pair, longest_single, longest_none}
 use Rattle.kernel_code.proofs.Texts.{longest_text, kind_of_text, longest_quote}
-
--- the run behind the first byte, as a slice from there has it
-pub behind_first : (p : ℕ → Bool) (text : List ℕ) → prefix_len p (take (length text - 1) (drop 1 text)) ≡ prefix_len p (drop 1 text)
-behind_first p text = ap (prefix_len p) (take_all (length text - 1) (drop 1 text) (omega (arith, length-drop 1 text)))
 
 -- a text begins with a token of this kind, or with what separates tokens, of so many bytes
 pub record IsFront (text : List ℕ) (kind : Option TokenKind) (len : ℕ) : Type 0 where

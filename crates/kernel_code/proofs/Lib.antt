@@ -5,6 +5,7 @@ pub mod FirstBytes
 pub mod Others
 pub mod Texts
 pub mod Fronts
+pub mod FrontsAt
 pub mod Reserved
 pub mod Cuts
 pub mod Steps

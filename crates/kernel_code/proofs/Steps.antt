@@ -1,5 +1,5 @@
 -- The tokens from a place on: what a word adds to them, and what is left behind it.
-use Rattle.std.proofs.Common.{◌≡◌, ℕ, zero, suc, ◌+◌, ◌-◌, ◌<◌, ◌≤◌, ◌==◌, true, false, List, [], ◌∷◌, ◌++◌, length, take, drop, get_or, Option, Some, ◌∙◌, sym, ap, arith, add-zero, zero-add, append_assoc, drop-drop, take_all, length-drop, get_or-drop}
+use Rattle.std.proofs.Common.{◌≡◌, ℕ, zero, suc, ◌+◌, ◌-◌, ◌<◌, ◌≤◌, ◌==◌, true, false, List, [], ◌∷◌, ◌++◌, length, drop, get_or, Option, Some, ◌∙◌, sym, refl, ap, arith, add-zero, zero-add, append_assoc, drop-drop, length-drop, get_or-drop}
 use Rattle.std.proofs.lemmas.Grind.{common_steps}
 use Rattle.std.proofs.lemmas.Bool.{cond_both}
 use Rattle.frame_grammar.specs.declared.TokenKind.{TokenKind}
@@ -31,10 +31,6 @@ tokens_from-front place line (byte ∷ bytes) some moves within =
     ap (λ ts. token_at (front_kind (byte ∷ bytes)) place (place + n) line ++ ts)
     (tokens_from-skip (n - 1) (place + 1) (line_after byte line) bytes (omega arith)
     ∙ (λ i. tokens_from 0 (place_is i) (line_after byte line) (drop-front n byte bytes moves i)))
-
--- the bytes from a place on, as a slice from there has them
-pub slice_from : (source : List ℕ) (place : ℕ) → take (length source - place) (drop place source) ≡ drop place source
-slice_from source place = take_all (length source - place) (drop place source) (omega (arith, length-drop place source))
 
 -- the word at this place, and the tokens behind it
 word_at : (source : List ℕ) (place line len : ℕ) (kind : Option TokenKind) → place < length source →
@@ -72,24 +68,27 @@ pub mark_len-le : (source : List ℕ) → mark_len source ≤ length source
 mark_len-le source = grind (arith, common_steps)
 
 -- one turn of the lexer, as its loop has it
-pub turn : (source : List ℕ) (place line len : ℕ) (kind : Option TokenKind) (before after all : List Token) → place < length source →
-    kind ≡ front_kind (take (length source - place) (drop place source)) → len ≡ front_len (take (length source - place) (drop place source)) → 0 < len → place + len ≤ length source →
-    ((k : TokenKind) → kind ≡ Some k → is_bad k ≡ false) → after ≡ before ++ token_at kind place (place + len) line → before ++ up_to_bad (tokens_from 0 place line (drop place source)) ≡ all →
-    after ++ up_to_bad (tokens_from 0 (place + len) (line_after (get_or source place 0) line) (drop (place + len) source)) ≡ all
-turn source place line len kind before after all within kind_is len_is some room fine after_is so_far =
-    (λ i. after_is i ++ up_to_bad (tokens_from 0 (place + len) (line_after (get_or source place 0) line) (drop (place + len) source)))
-    ∙ one_word source place line len kind before all within (kind_is ∙ ap front_kind (slice_from source place)) (len_is ∙ ap front_len (slice_from source place)) some room fine so_far
+pub turn : (source : List ℕ) (place line end : ℕ) (kind : Option TokenKind) (before after all : List Token) → place < length source →
+    kind ≡ front_kind (drop place source) → end ≡ place + front_len (drop place source) → place < end → end ≤ length source →
+    ((k : TokenKind) → kind ≡ Some k → is_bad k ≡ false) → after ≡ before ++ token_at kind place end line → before ++ up_to_bad (tokens_from 0 place line (drop place source)) ≡ all →
+    after ++ up_to_bad (tokens_from 0 end (line_after (get_or source place 0) line) (drop end source)) ≡ all
+turn source place line end kind before after all within kind_is end_is some room fine after_is so_far =
+    (λ i. after_is i ++ up_to_bad (tokens_from 0 end (line_after (get_or source place 0) line) (drop end source)))
+    ∙ (λ i. (before ++ token_at kind place (end_is i) line) ++ up_to_bad (tokens_from 0 (end_is i) (line_after (get_or source place 0) line) (drop (end_is i) source)))
+    ∙ one_word source place line (front_len (drop place source)) kind before all within kind_is refl (omega (arith, end_is)) (omega (arith, end_is)) fine so_far
 
 -- its last turn, at a Bad token
-pub last_turn : (source : List ℕ) (place line len : ℕ) (kind : TokenKind) (before after all : List Token) → place < length source →
-    Some kind ≡ front_kind (take (length source - place) (drop place source)) → len ≡ front_len (take (length source - place) (drop place source)) → 0 < len → place + len ≤ length source →
-    is_bad kind ≡ true → after ≡ before ++ token_at (Some kind) place (place + len) line → before ++ up_to_bad (tokens_from 0 place line (drop place source)) ≡ all →
-    after ++ end_at (place + len) line ∷ [] ≡ all
-last_turn source place line len kind before after all within kind_is len_is some room bad after_is so_far =
-    ap (λ ts. ts ++ end_at (place + len) line ∷ []) after_is ∙ append_assoc before _ _
+pub last_turn : (source : List ℕ) (place line end : ℕ) (kind : TokenKind) (before after all : List Token) → place < length source →
+    Some kind ≡ front_kind (drop place source) → end ≡ place + front_len (drop place source) → place < end → end ≤ length source →
+    is_bad kind ≡ true → after ≡ before ++ token_at (Some kind) place end line → before ++ up_to_bad (tokens_from 0 place line (drop place source)) ≡ all →
+    after ++ end_at end line ∷ [] ≡ all
+last_turn source place line end kind before after all within kind_is end_is some room bad after_is so_far =
+    let len = front_len (drop place source) in
+    ap (λ ts. ts ++ end_at end line ∷ []) after_is
+    ∙ (λ i. (before ++ token_at (Some kind) place (end_is i) line) ++ end_at (end_is i) line ∷ []) ∙ append_assoc before _ _
     ∙ ap (λ ts. before ++ ts)
     (sym (cut_at_word kind place (place + len) line _ bad)
-    ∙ ap up_to_bad (sym (word_at source place line len (Some kind) within (kind_is ∙ ap front_kind (slice_from source place)) (len_is ∙ ap front_len (slice_from source place)) some room)))
+    ∙ ap up_to_bad (sym (word_at source place line len (Some kind) within kind_is refl (omega (arith, end_is)) (omega (arith, end_is)))))
     ∙ so_far
 
 pub line_after-le : (byte line : ℕ) → line_after byte line ≤ line + 1

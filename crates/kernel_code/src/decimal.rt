@@ -2,13 +2,14 @@
 
 ghost use Rattle.std.specs.Prelude.{◌≡◌, ◌≤◌, min, length};
 ghost use Rattle.kernel_code.specs.StaticFaults.{value_of};
+ghost use Rattle.kernel_code.specs.declared.decimal.TheConstants.{PLAIN_DIGITS};
 
 /// So many digits make no more than 64 bits, whatever bytes they are.
 const PLAIN_DIGITS: usize = 17;
 
 // The value of so few digits that no step can saturate, which takes half as long.
 fn plain_value(digits: &[u8]) -> u64
-    requires { length digits.now ≤ 17 }
+    requires { length digits.now ≤ PLAIN_DIGITS }
     ensures { result ≡ value_of digits.now }
 {
     let mut value: u64 = 0;

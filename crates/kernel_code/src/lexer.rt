@@ -5,7 +5,7 @@ ghost use Rattle.kernel_code.specs.Tokens.{tokens_of, up_to_bad, is_bad, end_at,
 ghost use Rattle.kernel_code.specs.Legible.{NamesAreText};
 
 use crate::token::Token;
-use crate::word::{front_of, is_blank};
+use crate::word::{front_at, is_blank};
 use frame_grammar::TokenKind;
 use job_base::NoMemory;
 use std::alloc::Global;
@@ -60,6 +60,8 @@ fn push_end(tokens: &mut Vec<Token>, place: usize, line: u32) -> Result<(), NoMe
 ///
 /// Nothing is read after a `Bad` token, and the `End` stands right after it: no file and no kernel
 /// goes on with it, and a file of such bytes alone would be as many tokens.
+// In line it would share its caller's registers, of which its loop wants all.
+#[inline(never)]
 pub fn lex(alloc: Global, source: &[u8]) -> Result<Vec<Token>, NoMemory>
     requires { length source.now ≤ MOST_SCRIPT_BYTES }
     ensures tokens { IfOk result (λ tokens. tokens.items ≡ up_to_bad (tokens_of source.now)) }
@@ -73,22 +75,21 @@ pub fn lex(alloc: Global, source: &[u8]) -> Result<Vec<Token>, NoMemory>
             place += 1;
             continue;
         }
-        let word = front_of(&source[place..]);
-        let end = place + word.len;
+        let word = front_at(source, place);
         if let Some(kind) = word.kind {
             tokens.push(Token {
                 kind,
                 start: place as u32,
-                end: end as u32,
+                end: word.end as u32,
                 line,
             })?;
             if is_bad(kind) {
-                push_end(&mut tokens, end, line)?;
+                push_end(&mut tokens, word.end, line)?;
                 return Ok(tokens);
             }
         }
         line = line_after(source[place], line);
-        place = end;
+        place = word.end;
     }
     push_end(&mut tokens, place, line)?;
     Ok(tokens)

@@ -12,7 +12,6 @@ ghost use Rattle.kernel_code.specs.Reading.{
   is_whole,
   last_after,
   left,
-  replaced,
   top,
   begun,
   change,
@@ -66,53 +65,38 @@ fn param_with(part: Part, place: u32, param: RawParam) -> RawParam
     }
 }
 
-/// The open node, when this part of it has been read at this place and so many nodes stand after
-/// it.
-fn changed(part: Part, place: u32, behind: u32, node: RawNode) -> RawNode
-    ensures { result ≡ changed part place behind node }
+/// Changes the open node by this part of it, which has been read at this place, where so many nodes stand after it.
+fn change_node(part: Part, place: u32, behind: u32, node: &mut RawNode)
+    ensures { node.new ≡ changed part place behind node.old }
 {
     match part {
-        Part::Name => RawNode {
-            name: place,
-            ..node
-        },
-        Part::Ends(form) => RawNode {
-            form,
-            before: 0,
-            after: behind,
-            ..node
-        },
-        Part::Joins => RawNode {
-            form: RawForm::Binary,
-            after: behind,
-            ..node
-        },
-        Part::Closes(form) => RawNode {
-            form,
-            after: behind,
-            heads: behind,
-            ..node
-        },
-        Part::Heads => RawNode {
-            heads: behind,
-            ..node
-        },
-        Part::Block => RawNode {
-            inside: behind.saturating_sub(node.heads),
-            ..node
-        },
-        Part::Nests(form) => RawNode {
-            form,
-            after: behind,
-            inside: behind.saturating_sub(node.heads),
-            ..node
-        },
-        Part::Branches => RawNode {
-            form: RawForm::IfElse,
-            after: behind,
-            ..node
-        },
-        _ => node,
+        Part::Name => node.name = place,
+        Part::Ends(form) => {
+            node.form = form;
+            node.before = 0;
+            node.after = behind;
+        }
+        Part::Joins => {
+            node.form = RawForm::Binary;
+            node.after = behind;
+        }
+        Part::Closes(form) => {
+            node.form = form;
+            node.after = behind;
+            node.heads = behind;
+        }
+        Part::Heads => node.heads = behind,
+        Part::Block => node.inside = behind.saturating_sub(node.heads),
+        Part::Nests(form) => {
+            node.form = form;
+            node.after = behind;
+            node.inside = behind.saturating_sub(node.heads);
+        }
+        Part::Branches => {
+            node.form = RawForm::IfElse;
+            node.after = behind;
+        }
+        _ => {}
     }
 }
 
@@ -207,16 +191,6 @@ impl Reader {
         }
     }
 
-    /// Puts the node in the place of what it was before this part was read.
-    fn replace(&mut self, part: Part, at: u32, node: RawNode)
-        requires { at < length self.old.nodes.items }
-        ensures { reading_of self.new ≡ replaced part at node (reading_of self.old) }
-    {
-        self.nodes[at as usize] = node;
-        self.last = last_after(part, at, node.before, self.last);
-        self.leave(part);
-    }
-
     /// Changes the innermost open node by what was read of it.
     fn change(&mut self, part: Part, place: u32)
         requires { length self.old.nodes.items < 2 ^ 32 }
@@ -227,8 +201,10 @@ impl Reader {
         };
         if (at as usize) < self.nodes.len() {
             let behind = (self.nodes.len() - 1 - at as usize) as u32;
-            let node = changed(part, place, behind, self.nodes[at as usize]);
-            self.replace(part, at, node);
+            change_node(part, place, behind, &mut self.nodes[at as usize]);
+            let before = self.nodes[at as usize].before;
+            self.last = last_after(part, at, before, self.last);
+            self.leave(part);
         }
     }
 

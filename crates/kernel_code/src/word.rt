@@ -1,22 +1,22 @@
-//! The word that a text begins with.
+//! The word that stands at a place of a file.
 
-ghost use Rattle.std.specs.Prelude.{◌≡◌, ◌<◌, ◌≤◌, ◌∷◌, [], length, slice_index};
+ghost use Rattle.std.specs.Prelude.{◌≡◌, ◌<◌, ◌≤◌, ◌+◌, ◌∷◌, [], length, drop, slice_index};
 ghost use Rattle.std.specs.List.{prefix_len};
 ghost use Rattle.std.specs.Char.{is_ascii_digit};
 ghost use Rattle.kernel_code.specs.Words.{begins_name, continues_name, stands_in_text, stays_in_line, is_blank};
 ghost use Rattle.kernel_code.specs.Tokens.{front_kind, front_len};
 ghost use Rattle.kernel_code.specs.Fronts.{IsOther};
 
-use crate::spelling::{pair_symbol, single_symbol, word_kind};
+use crate::spelling::{lone_symbol, pair_symbol, single_symbol, word_kind};
 use frame_grammar::TokenKind;
 
-/// What a text begins with.
+/// What stands at a place of a file.
 #[derive(Clone, Copy, Debug, PartialEq, Eq)]
 pub struct Front {
     /// The kind of the token that stands there, or none where it is no token but separates tokens.
     pub kind: Option<TokenKind>,
-    /// The number of its bytes, at least one.
-    pub len: usize,
+    /// The place after its last byte.
+    pub end: usize,
 }
 
 fn begins_name(byte: u8) -> bool
@@ -45,127 +45,153 @@ pub fn is_blank(byte: u8) -> bool
     byte == b' ' || byte == b'\t' || byte == b'\r'
 }
 
-/// How many bytes that continue a name the bytes begin with.
-fn name_len(bytes: &[u8]) -> usize
-    ensures within { result ≤ length bytes.now }
-    ensures run { result ≡ prefix_len continues_name bytes.now }
+/// The place after the bytes that continue a name from a place on.
+fn name_end(source: &[u8], from: usize) -> usize
+    requires { from ≤ length source.now }
+    ensures run { result ≡ from + prefix_len continues_name (drop from source.now) }
+    ensures within { result ≤ length source.now }
 {
-    bytes
-        .iter()
-        .take_while(|byte| continues_name(**byte))
-        .count()
+    let mut end = from;
+    while end < source.len() && continues_name(source[end]) {
+        end += 1;
+    }
+    end
 }
 
-/// How many digits the bytes begin with.
-fn digits_len(bytes: &[u8]) -> usize
-    ensures within { result ≤ length bytes.now }
-    ensures run { result ≡ prefix_len is_ascii_digit bytes.now }
+/// The place after the digits from a place on.
+fn digits_end(source: &[u8], from: usize) -> usize
+    requires { from ≤ length source.now }
+    ensures run { result ≡ from + prefix_len is_ascii_digit (drop from source.now) }
+    ensures within { result ≤ length source.now }
 {
-    bytes
-        .iter()
-        .take_while(|byte| byte.is_ascii_digit())
-        .count()
+    let mut end = from;
+    while end < source.len() && source[end].is_ascii_digit() {
+        end += 1;
+    }
+    end
 }
 
-/// How many bytes stand before the first line feed, or at all.
-fn line_len(bytes: &[u8]) -> usize
-    ensures within { result ≤ length bytes.now }
-    ensures run { result ≡ prefix_len stays_in_line bytes.now }
+/// The place of the next line feed, or the end of the file.
+// Comments are rare, and in line this loop would take registers from the lexer's.
+#[inline(never)]
+fn line_end(source: &[u8], from: usize) -> usize
+    requires { from ≤ length source.now }
+    ensures run { result ≡ from + prefix_len stays_in_line (drop from source.now) }
+    ensures within { result ≤ length source.now }
 {
-    bytes.iter().take_while(|byte| **byte != b'\n').count()
+    let mut end = from;
+    while end < source.len() && source[end] != b'\n' {
+        end += 1;
+    }
+    end
 }
 
-/// How many bytes that stand in a text the bytes begin with.
-fn text_len(bytes: &[u8]) -> usize
-    ensures within { result ≤ length bytes.now }
-    ensures run { result ≡ prefix_len stands_in_text bytes.now }
+/// The place after the bytes that stand in a text from a place on.
+fn text_end(source: &[u8], from: usize) -> usize
+    requires { from ≤ length source.now }
+    ensures run { result ≡ from + prefix_len stands_in_text (drop from source.now) }
+    ensures within { result ≤ length source.now }
 {
-    bytes
-        .iter()
-        .take_while(|byte| stands_in_text(**byte))
-        .count()
+    let mut end = from;
+    while end < source.len() && stands_in_text(source[end]) {
+        end += 1;
+    }
+    end
 }
 
-/// The text that this quote begins, or the quote alone where it begins none.
-fn text_front(text: &[u8]) -> Front
-    requires some { 0 < length text.now }
-    requires quote { slice_index text.now 0 ≡ 34 }
-    ensures kind { result.kind ≡ front_kind text.now }
-    ensures len { result.len ≡ front_len text.now }
-    ensures within { result.len ≤ length text.now }
-    ensures some { 0 < result.len }
+/// The text that the quote at this place begins, or the quote alone where it begins none.
+// Out of line as `line_end` is: texts are rare.
+#[inline(never)]
+fn text_at(source: &[u8], place: usize) -> Front
+    requires some { place < length source.now }
+    requires quote { slice_index source.now place ≡ 34 }
+    ensures kind { result.kind ≡ front_kind (drop place source.now) }
+    ensures end { result.end ≡ place + front_len (drop place source.now) }
+    ensures within { result.end ≤ length source.now }
+    ensures some { place < result.end }
 {
-    let inside = text_len(&text[1..]);
-    if inside > 0 && inside + 1 < text.len() && text[inside + 1] == b'"' {
+    let quote = text_end(source, place + 1);
+    if quote > place + 1 && quote < source.len() && source[quote] == b'"' {
         Front {
             kind: Some(TokenKind::Text),
-            len: inside + 2,
+            end: quote + 1,
         }
     } else {
         Front {
             kind: Some(TokenKind::Bad),
-            len: 1,
+            end: place + 1,
         }
     }
 }
 
-/// The symbol that this byte begins, or the byte alone where it begins none.
-fn symbol_front(text: &[u8]) -> Front
-    requires some { 0 < length text.now }
-    requires other { IsOther (slice_index text.now 0) }
-    ensures kind { result.kind ≡ front_kind text.now }
-    ensures len { result.len ≡ front_len text.now }
-    ensures within { result.len ≤ length text.now }
-    ensures some { 0 < result.len }
+/// The symbol that stands at this place, or the byte alone where none does.
+fn symbol_at(source: &[u8], place: usize) -> Front
+    requires some { place < length source.now }
+    requires other { IsOther (slice_index source.now place) }
+    ensures kind { result.kind ≡ front_kind (drop place source.now) }
+    ensures end { result.end ≡ place + front_len (drop place source.now) }
+    ensures within { result.end ≤ length source.now }
+    ensures some { place < result.end }
 {
-    if text.len() > 1
-        && let Some(kind) = pair_symbol(text[0], text[1])
+    let next = place + 1;
+    // Most symbols begin no longer one, so that they are told by one byte.
+    if let Some(kind) = lone_symbol(source[place]) {
+        return Front {
+            kind: Some(kind),
+            end: next,
+        };
+    }
+    if next < source.len()
+        && let Some(kind) = pair_symbol(source[place], source[next])
     {
         return Front {
             kind: Some(kind),
-            len: 2,
+            end: next + 1,
         };
     }
-    let kind = single_symbol(text[0]).unwrap_or(TokenKind::Bad);
+    let kind = single_symbol(source[place]).unwrap_or(TokenKind::Bad);
     Front {
         kind: Some(kind),
-        len: 1,
+        end: next,
     }
 }
 
-/// What a text begins with: the longest word, or a byte that begins none.
-pub fn front_of(text: &[u8]) -> Front
-    requires { 0 < length text.now }
-    ensures kind { result.kind ≡ front_kind text.now }
-    ensures len { result.len ≡ front_len text.now }
-    ensures within { result.len ≤ length text.now }
-    ensures some { 0 < result.len }
+/// What stands at a place of a file: the longest word, or a byte that begins none.
+pub fn front_at(source: &[u8], place: usize) -> Front
+    requires { place < length source.now }
+    ensures kind { result.kind ≡ front_kind (drop place source.now) }
+    ensures end { result.end ≡ place + front_len (drop place source.now) }
+    ensures within { result.end ≤ length source.now }
+    ensures some { place < result.end }
 {
-    let first = text[0];
-    if begins_name(first) {
-        let len = 1 + name_len(&text[1..]);
-        return Front {
-            kind: Some(word_kind(&text[..len])),
-            len,
-        };
-    }
+    let first = source[place];
     if first.is_ascii_digit() {
         return Front {
             kind: Some(TokenKind::Number),
-            len: 1 + digits_len(&text[1..]),
+            end: digits_end(source, place + 1),
+        };
+    }
+    if begins_name(first) {
+        let end = name_end(source, place + 1);
+        return Front {
+            kind: Some(word_kind(&source[place..end])),
+            end,
         };
     }
     match first {
-        b' ' | b'\t' | b'\r' => Front { kind: None, len: 1 },
+        b' ' | b'\t' | b'\r' => Front {
+            kind: None,
+            end: place + 1,
+        },
         b'\n' => Front {
             kind: Some(TokenKind::Line),
-            len: 1,
+            end: place + 1,
         },
         b'#' => Front {
             kind: None,
-            len: 1 + line_len(&text[1..]),
+            end: line_end(source, place + 1),
         },
-        b'"' => text_front(text),
-        _ => symbol_front(text),
+        b'"' => text_at(source, place),
+        _ => symbol_at(source, place),
     }
 }

@@ -52,7 +52,7 @@ pub fn depths_of(alloc: Global, nodes: &[RawNode]) -> Result<Vec<usize>, NoMemor
 {
     let count = nodes.len().min(MOST_NODES as usize);
     let edges = count_edges(alloc, nodes, count)?;
-    let mut depths = Vec::new(alloc);
+    let mut depths = Vec::with_capacity(alloc, count)?;
     let mut depth = 0;
     for i in 0..count {
         depth = depth - edges.closed[i] + edges.opened[i];

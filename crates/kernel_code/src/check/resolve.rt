@@ -149,7 +149,8 @@ pub fn resolve(
     let depths = depths_of(alloc, &raw.nodes)?;
     let mut locals = Vec::new(alloc);
     let mut blocks = Vec::new(alloc);
-    let mut of_nodes = Vec::new(alloc);
+    // A kernel of more nodes is refused, so that there is room for all.
+    let mut of_nodes = Vec::with_capacity(alloc, depths.len())?;
     for number in 0..raw.nodes.len() {
         let node = raw.nodes[number];
         close_blocks(&mut blocks, number);

@@ -1,9 +1,9 @@
-use Rattle.std.proofs.Common.{◌≡◌, ℕ, false, List, Option, ◌+◌, ◌≤◌, ◌++◌, append-nil, length, length-drop, drop, get_or, sym, ap, subst, ◌∙◌, arith, Some}
+use Rattle.std.proofs.Common.{◌≡◌, ℕ, false, List, Option, ◌++◌, append-nil, drop, get_or, sym, ap, subst, ◌∙◌, arith, Some}
 use Rattle.std.proofs.Math.ListN.{drop_of_length-le}
 use Rattle.frame_grammar.specs.declared.TokenKind.{TokenKind}
 use Rattle.kernel_code.specs.declared.token.Token.{Token}
 use Rattle.kernel_code.specs.Tokens.{tokens_from, token_at, up_to_bad, is_bad}
-use Rattle.kernel_code.proofs.Steps.{slice_from, turn, last_turn, tokens_from-end, tokens_of-start, mark_len-le, line_after-le}
+use Rattle.kernel_code.proofs.Steps.{turn, last_turn, tokens_from-end, tokens_of-start, mark_len-le, line_after-le}
 use Rattle.kernel_code.proofs.Blanks.{blank_passed}
 use Rattle.kernel_code.specs.Legible.{NamesAreText}
 use Rattle.kernel_code.proofs.Lexed.{lexed-text}
@@ -33,30 +33,29 @@ loop-place-init c =
 pub loop-place-preserved : goal.loop-place-preserved
 loop-place-preserved c =
     let source = c.args.source.now in
-    let word = c.front_of-word in
-    let room : c.loop-place.place + word.result.len ≤ length source = omega (arith, ap length (slice_from source c.loop-place.place), length-drop c.loop-place.place source) in
-    let kind_told : FoundHere c.loop-place.tokens.items word.result.kind c.loop-place.place (c.loop-place.place + word.result.len) c.loop-place.line c.match-word.tokens.items =
+    let word = c.front_at-word in
+    let kind_told : FoundHere c.loop-place.tokens.items word.result.kind c.loop-place.place word.result.end c.loop-place.line c.match-word.tokens.items =
     elim c.match-word.branch [
       | in-Some+in_ok-push+else-is_bad w ↦ record {
         added =
             ap (λ v. v.items) w.tokens-is ∙ w.in_ok-push.ensures.items
-            ∙ ap (λ kind. c.loop-place.tokens.items ++ token_at kind c.loop-place.place (c.loop-place.place + word.result.len) c.loop-place.line) (sym w.in-Some.is);
+            ∙ ap (λ kind. c.loop-place.tokens.items ++ token_at kind c.loop-place.place word.result.end c.loop-place.line) (sym w.in-Some.is);
         fine = λ kind is. let same : w.in-Some.kind ≡ kind = Some_same (sym w.in-Some.is ∙ is) in ap is_bad (sym same) ∙ sym w.is_bad.ensures ∙ w.if-is_bad.false;
       }
       | in_default w ↦ record {
         added =
             ap (λ v. v.items) w.tokens-is ∙ sym (append-nil _)
-            ∙ ap (λ kind. c.loop-place.tokens.items ++ token_at kind c.loop-place.place (c.loop-place.place + word.result.len) c.loop-place.line) (sym w.in_default.is);
+            ∙ ap (λ kind. c.loop-place.tokens.items ++ token_at kind c.loop-place.place word.result.end c.loop-place.line) (sym w.in_default.is);
         fine = λ kind is. let clash = sym w.in_default.is ∙ is in cc;
       }
     ] in
     record {
-      in_range = room;
+      in_range = word.ensures.within;
       lines = omega (arith, c.line_after-line.ensures, line_after-le (get_or source c.loop-place.place 0) c.loop-place.line);
       so_far =
-          ap (λ line. c.match-word.tokens.items ++ up_to_bad (tokens_from 0 (c.loop-place.place + word.result.len) line (drop (c.loop-place.place + word.result.len) source))) c.line_after-line.ensures
-          ∙ turn source c.loop-place.place c.loop-place.line word.result.len word.result.kind c.loop-place.tokens.items c.match-word.tokens.items _
-          c.loop-place-test.true word.ensures.kind word.ensures.len word.ensures.some room kind_told.fine kind_told.added c.loop-place.invariant.so_far;
+          ap (λ line. c.match-word.tokens.items ++ up_to_bad (tokens_from 0 word.result.end line (drop word.result.end source))) c.line_after-line.ensures
+          ∙ turn source c.loop-place.place c.loop-place.line word.result.end word.result.kind c.loop-place.tokens.items c.match-word.tokens.items _
+          c.loop-place-test.true word.ensures.kind word.ensures.end word.ensures.some word.ensures.within kind_told.fine kind_told.added c.loop-place.invariant.so_far;
     }
 
 pub loop-place-preserved-then-is_blank : goal.loop-place-preserved-then-is_blank
@@ -72,12 +71,11 @@ loop-place-preserved-then-is_blank c =
 pub returns-then-is_bad : goal.returns-then-is_bad
 returns-then-is_bad c =
     let source = c.args.source.now in
-    let word = c.front_of-word in
-    let room : c.loop-place.place + word.result.len ≤ length source = omega (arith, word.ensures.within, ap length (slice_from source c.loop-place.place), length-drop c.loop-place.place source) in
+    let word = c.front_at-word in
     let tokens =
     c.in_ok-push_end.ensures
-    ∙ last_turn source c.loop-place.place c.loop-place.line word.result.len c.in-Some.kind c.loop-place.tokens.items _ _
-    c.loop-place-test.true (sym c.in-Some.is ∙ word.ensures.kind) word.ensures.len word.ensures.some room (sym c.is_bad.ensures ∙ c.if-is_bad.true) c.in_ok-push.ensures.items c.loop-place.invariant.so_far in
+    ∙ last_turn source c.loop-place.place c.loop-place.line word.result.end c.in-Some.kind c.loop-place.tokens.items _ _
+    c.loop-place-test.true (sym c.in-Some.is ∙ word.ensures.kind) word.ensures.end word.ensures.some word.ensures.within (sym c.is_bad.ensures ∙ c.if-is_bad.true) c.in_ok-push.ensures.items c.loop-place.invariant.so_far in
     record { tokens = tokens; text = subst (NamesAreText source) (sym tokens) (lexed-text source) }
 
 pub returns : goal.returns
