@@ -6,6 +6,7 @@ pub mod Statements
 pub mod Files
 pub mod Readings
 pub mod Orders
+pub mod Endings
 pub mod KernelEnds
 pub mod Walks
 pub mod WritingMarks

@@ -1,7 +1,8 @@
 -- The events of a statement are read as the statement that they spell.
-use Rattle.std.proofs.Common.{◌≡◌, ℕ, suc, ◌+◌, ◌-◌, ◌<◌, ◌≤◌, length, drop, drop-cons, get_or, length-append, length-drop, arith, if◌then◌else◌, Bool, true, false, List, [], ◌∷◌, ◌++◌, Option, Some, None, sym, ◌∙◌, ap, append_assoc}
+use Rattle.std.proofs.Common.{◌≡◌, ℕ, suc, ◌+◌, ◌-◌, ◌<◌, ◌≤◌, length, drop, drop-cons, add-one, get_or, length-append, length-drop, arith, if◌then◌else◌, Bool, true, false, List, [], ◌∷◌, ◌++◌, Option, Some, None, sym, ◌∙◌, ap, append_assoc}
 use Rattle.std.proofs.lemmas.List.{drop_all}
 use Rattle.frame_ast.specs.declared.script.Life.{Life}
+use Rattle.frame_grammar.specs.declared.symbols.Action.{Action}
 use Rattle.frame_grammar.specs.declared.symbols.Action.TheVariants as action
 use Rattle.frame_grammar.specs.declared.symbols.Event.{Event}
 use Rattle.kernel_code.specs.Raw.{on}
@@ -174,6 +175,17 @@ order_read {events} (when {x = x} {s = s} q vs (plain {at = at} p e') e) rest =
 -- what is found where the events begin with a statement
 pub begun_read : (all : List Event) (begun : BeginsOrder all) → order_from nothing_read all ≡ Some (begun.form, begun.rest)
 begun_read all begun = ap (λ x. order_from nothing_read x) begun.all_are ∙ order_read begun.spells begun.rest
+
+-- an event that doesn't end it
+pub went_on : (all : List Event) (i : ℕ) (d : Event) (a : Action) (r next : Reading) → i < length all → order_from r (drop i all) ≡ order_from nothing_read all →
+    (get_or all i d).action ≡ a → ends a ≡ false → next ≡ step a (get_or all i d).place r → order_from next (drop (i + 1) all) ≡ order_from nothing_read all
+went_on all i d a r next within same is goes stepped =
+    let e = get_or all i d in
+    let rest = drop (suc i) all in
+    let one : order_from r (drop i all) ≡ order_from (step a e.place r) rest =
+    ap (λ x. order_from r x) (drop-cons all i d within) ∙ ap (λ b. if ends b then Some (finished b r, rest) else order_from (step b e.place r) rest) is
+    ∙ ap (λ b. if b then Some (finished a r, rest) else order_from (step a e.place r) rest) goes in
+    rw (add-one i) (ap (λ x. order_from x rest) stepped ∙ sym one ∙ same)
 
 -- the event that ends it
 pub ended_read : (all : List Event) (i : ℕ) (d : Event) (r : Reading) → i < length all → order_from r (drop i all) ≡ order_from nothing_read all → ends (get_or all i d).action ≡ true →

@@ -142,6 +142,35 @@ ends action.OpenRepeat = true
 ends action.OpenWhen = true
 ends _ = false
 
+-- whether a statement without lists that makes nothing but a handle is whole with this event
+abbrev pub ends_use : Action → Bool
+ends_use action.SetStatement = true
+ends_use action.AddToStatement = true
+ends_use action.PutStatement = true
+ends_use action.RemoveFromStatement = true
+ends_use action.ClearOutStatement = true
+ends_use action.SetCapacityStatement = true
+ends_use action.CompleteStatement = true
+ends_use action.DisposeAutoStatement = true
+ends_use action.PrintStatement = true
+ends_use action.FlushStatement = true
+ends_use action.FrameStatement = true
+ends_use action.OpenRepeat = true
+ends_use action.OpenWhen = true
+ends_use _ = false
+
+-- whether a statement without lists is whole with this event
+abbrev pub ends_worded : Action → Bool
+ends_worded action.ColumnStatement = true
+ends_worded action.ListStatement = true
+ends_worded action.ReferenceStatement = true
+ends_worded action.MapStatement = true
+ends_worded action.StreamStatement = true
+ends_worded action.SliceStatement = true
+ends_worded action.ViewStatement = true
+ends_worded action.CopyStatement = true
+ends_worded a = ends_use a
+
 abbrev pub operator_of : LastNumbers → ℕ
 operator_of n = if (signed_of n.signed).minus then n.operator_before else n.operator
 

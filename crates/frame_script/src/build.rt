@@ -1,8 +1,8 @@
 //! Puts the events of a statement together into its raw form.
 
-ghost use Rattle.std.specs.Prelude.{◌≡◌, IfOk, length};
+ghost use Rattle.std.specs.Prelude.{◌≡◌, true, IfOk, length};
 ghost use Rattle.frame_script.specs.Raw.{form_of, BeginsOrder};
-ghost use Rattle.frame_script.specs.Reading.{reading_of, nothing_read, step, ends, finished};
+ghost use Rattle.frame_script.specs.Reading.{reading_of, nothing_read, lists_after, step, ends, finished};
 
 use crate::build_words::{Words, signed_of};
 use crate::raw::{RawArg, RawNumber, RawOrder};
@@ -70,6 +70,27 @@ impl Reader {
         }
     }
 
+    /// Keeps the signed number that was read last, where it is one of an array's values.
+    #[inline]
+    fn keep_value(&mut self) -> Result<(), AllocError>
+        ensures { IfOk result
+            (λ _. reading_of self.new ≡ lists_after Action.PlainNumber 0 self.old.words (reading_of self.old)) }
+    {
+        if self.words.has_values {
+            self.values.push(signed_of(self.words.numbers.signed))?;
+        }
+        Ok(())
+    }
+
+    /// Takes the last Number as a signed one that has no `-`.
+    #[inline]
+    fn take_plain(&mut self) -> Result<(), AllocError>
+        ensures { IfOk result (λ _. reading_of self.new ≡ step Action.PlainNumber 0 (reading_of self.old)) }
+    {
+        self.words.take_plain();
+        self.keep_value()
+    }
+
     /// Takes the next event of a statement, and not its last.
     fn take(&mut self, event: Event) -> Result<(), AllocError>
         ensures { IfOk result (λ _. reading_of self.new ≡ step event.action event.place (reading_of self.old)) }
@@ -81,11 +102,7 @@ impl Reader {
                     self.names.push(event.place)?;
                 }
             }
-            Action::MinusNumber | Action::PlainNumber => {
-                if self.words.has_values {
-                    self.values.push(signed_of(self.words.numbers.signed))?;
-                }
-            }
+            Action::MinusNumber | Action::PlainNumber => self.keep_value()?,
             Action::NameArgument => self.args.push(RawArg::Name(self.words.names.last))?,
             Action::NumberArgument => {
                 let number = signed_of(self.words.numbers.signed);
@@ -99,6 +116,7 @@ impl Reader {
 
     /// The statement that is whole with this event.
     fn finish(self, action: Action) -> RawOrder
+        requires { ends action ≡ true }
         ensures { form_of result ≡ finished action (reading_of self) }
     {
         let words = self.words;
@@ -158,13 +176,18 @@ pub fn raw_order(alloc: Global, events: &[Event]) -> Result<ReadOrder, AllocErro
 {
     let mut reader = Reader::new(alloc);
     for (index, event) in events.iter().enumerate() {
-        if ends(event.action) {
-            return Ok(ReadOrder {
-                order: reader.finish(event.action),
-                read: index + 1,
-            });
+        match event.action {
+            // Nearly all events of a long statement are those of an array's values, so these come first.
+            Action::Number => reader.words.take_number(event.place),
+            Action::PlainNumber => reader.take_plain()?,
+            action if ends(action) => {
+                return Ok(ReadOrder {
+                    order: reader.finish(action),
+                    read: index + 1,
+                });
+            }
+            _ => reader.take(*event)?,
         }
-        reader.take(*event)?;
     }
     unreachable!()
 }

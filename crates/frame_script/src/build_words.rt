@@ -1,8 +1,8 @@
 //! What has been read of a statement but for its lists.
 
-ghost use Rattle.std.specs.Prelude.{◌≡◌};
+ghost use Rattle.std.specs.Prelude.{◌≡◌, true};
 ghost use Rattle.frame_script.specs.Raw.{form_of};
-ghost use Rattle.frame_script.specs.Reading.{words_after, signed_of, no_words, with_signed, worded, used};
+ghost use Rattle.frame_script.specs.Reading.{words_after, signed_of, no_words, with_number, with_signed, ends_worded, ends_use, worded, used};
 
 use crate::raw::{RawNumber, RawOrder, RawSizes};
 use frame_ast::script::Life;
@@ -106,6 +106,24 @@ impl Words {
         self.numbers.signed = number;
     }
 
+    /// Takes a Number or a Text.
+    #[inline]
+    pub fn take_number(&mut self, place: u32)
+        ensures { self.new ≡ with_number place self.old }
+    {
+        self.numbers.before_last = self.numbers.last;
+        self.numbers.last = place;
+    }
+
+    /// Takes the last Number as a signed one that has no `-`.
+    #[inline]
+    pub fn take_plain(&mut self)
+        ensures { self.new ≡ words_after Action.PlainNumber 0 self.old }
+    {
+        let at = self.numbers.last;
+        self.take_signed(Some(RawNumber { minus: false, at }));
+    }
+
     /// Takes the next event of a statement.
     pub fn take(&mut self, event: Event)
         ensures { self.new ≡ words_after event.action event.place self.old }
@@ -117,10 +135,7 @@ impl Words {
                 self.names.before_last = self.names.last;
                 self.names.last = place;
             }
-            Action::Number | Action::Text => {
-                self.numbers.before_last = number;
-                self.numbers.last = place;
-            }
+            Action::Number | Action::Text => self.take_number(place),
             Action::Operator => {
                 self.numbers.operator_before = self.numbers.operator;
                 self.numbers.operator = place;
@@ -129,10 +144,7 @@ impl Words {
                 minus: true,
                 at: number,
             })),
-            Action::PlainNumber => self.take_signed(Some(RawNumber {
-                minus: false,
-                at: number,
-            })),
+            Action::PlainNumber => self.take_plain(),
             Action::NoNumber => self.take_signed(None),
             Action::LifeTemp => self.life = Life::Temp,
             Action::LifeTempJob => self.life = Life::TempJob,
@@ -159,6 +171,7 @@ impl Words {
 
     /// The statement without lists that is whole with this event.
     pub fn finish(self, action: Action) -> RawOrder
+        requires { ends_worded action ≡ true }
         ensures { form_of result ≡ worded action self }
     {
         let name = self.names.last;
@@ -214,6 +227,7 @@ impl Words {
 
     /// The same of a statement that makes nothing but a handle.
     fn finish_use(self, action: Action) -> RawOrder
+        requires { ends_use action ≡ true }
         ensures { form_of result ≡ used action self }
     {
         let name = self.names.last;
@@ -248,6 +262,7 @@ impl Words {
                 handle: name,
             },
             Action::PrintStatement => RawOrder::Print { name },
+            Action::FlushStatement => RawOrder::Flush,
             Action::FrameStatement => RawOrder::Frame,
             Action::OpenRepeat => RawOrder::Repeat { count: number },
             Action::OpenWhen => RawOrder::When {
@@ -260,8 +275,7 @@ impl Words {
                 },
                 value,
             },
-            // `FlushStatement`: no other event ends a statement.
-            _ => RawOrder::Flush,
+            _ => unreachable!(),
         }
     }
 }

@@ -163,7 +163,7 @@ pub fn all_signed(
     ensures { Gives (first_some (map (signed_fault source.entry) numbers.now))
         (λ values. values.items ≡ map (signed_at source.entry) numbers.now) result }
 {
-    let mut values = Vec::new(alloc);
+    let mut values = Vec::with_capacity(alloc, numbers.len())?;
     for number in numbers {
         let value = signed(source, *number)?;
         values.push(value)?;

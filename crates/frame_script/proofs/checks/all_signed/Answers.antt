@@ -22,10 +22,13 @@ loop-number-preserved c =
           (signed_kept c.args.source (get_or c.args.numbers.now c.loop-number.number-index none) c.in_ok-value.value c.in_ok-value.ensures.0 c.in_ok-value.ensures.1);
     }
 
+pub returns-in_err-values : goal.returns-in_err-values
+returns-in_err-values c = exits_without_memory _ _ c.from_residual.result c.from_residual.ensures.1
+
 pub returns-in_err-value : goal.returns-in_err-value
 returns-in_err-value c =
     let f : RawNumber → Option StaticFault = signed_fault c.args.source in
-    exits _ _ c.from_residual.result _ c.from_residual.ensures.1
+    exits _ _ c.from_residual-in_err-value.result _ c.from_residual-in_err-value.ensures.1
     (stopped_here f c.args.numbers.now c.loop-number.number-index none _ _ (omega arith) c.loop-number.invariant.passed c.in_err-value.ensures)
 
 pub returns-in_err-push : goal.returns-in_err-push
