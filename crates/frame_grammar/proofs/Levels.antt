@@ -1,5 +1,5 @@
 -- An expression goes through all its levels, whatever token is ahead.
-use Rattle.std.proofs.Common.{ℕ, ◌<◌, ◌∷◌, List, ◌++◌, refl, arith}
+use Rattle.std.proofs.Common.{ℕ, ◌<◌, ◌∷◌, [], List, ◌++◌, refl, arith}
 use Rattle.frame_grammar.specs.declared.TokenKind.{TokenKind}
 use Rattle.frame_grammar.specs.declared.symbols.Nonterminal.TheVariants as nonterminal
 use Rattle.frame_grammar.specs.declared.symbols.Production.TheVariants as production
@@ -9,9 +9,14 @@ use Rattle.frame_grammar.specs.declared.symbols.Event.{Event}
 use Rattle.frame_grammar.specs.Grammar.{body_of}
 use Rattle.frame_grammar.specs.Table.{choices_of, default_of}
 use Rattle.frame_grammar.specs.Sets.{is_nullable_of, rank_of}
-use Rattle.frame_grammar.specs.Levels.{expression_levels}
 use Rattle.frame_grammar.specs.Parser.{weight, Goes}
 use Rattle.frame_grammar.proofs.Steps.{leads_start, goes_on_by}
+
+-- what an expression goes on by before any token: its first operand, and at each level what may follow there
+abbrev pub expression_levels : List Symbol
+expression_levels =
+    symbol.Nonterminal nonterminal.Unary ∷ symbol.Nonterminal nonterminal.MoreTerm ∷ symbol.Nonterminal nonterminal.MoreSum ∷ symbol.Nonterminal nonterminal.Compared
+    ∷ symbol.Nonterminal nonterminal.MoreAnd ∷ symbol.Nonterminal nonterminal.MoreOr ∷ []
 
 levels_smaller : (ss : List Symbol) → weight (expression_levels ++ ss) < weight (symbol.Nonterminal nonterminal.Expression ∷ ss)
 unfolding rank_of is_nullable_of

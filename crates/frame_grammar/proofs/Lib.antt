@@ -6,3 +6,5 @@ pub mod Ends
 pub mod Steps
 pub mod Levels
 pub mod Takings
+mod StatementTakings
+pub mod Notes

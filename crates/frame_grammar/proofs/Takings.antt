@@ -24,7 +24,7 @@ use Rattle.frame_grammar.proofs.Run.{shift}
 use Rattle.frame_grammar.proofs.Ends.{closes-terminal}
 
 -- the token ahead is on top of the stack
-takes : (ahead : TokenKind) (place : ℕ) (done0 done : List Event) (ss0 ss : List Symbol) → Leads ahead place done0 ss0 done (symbol.Terminal ahead ∷ ss) → Takes ahead place done0 ss0 done ss
+pub takes : (ahead : TokenKind) (place : ℕ) (done0 done : List Event) (ss0 ss : List Symbol) → Leads ahead place done0 ss0 done (symbol.Terminal ahead ∷ ss) → Takes ahead place done0 ss0 done ss
 takes ahead place done0 done ss0 ss leads = (
   λ start read at. shift start ahead place done read ss (leads.reached start read at),
   λ e. closes-terminal ahead ss (leads.closed e),
@@ -67,7 +67,7 @@ told_going k place done done1 done1' ss ss1 ss1' same_events same_stack step =
     (subst (λ x. Goes k place done ss done1' x) (sym same_stack) step)
 
 -- The nonterminal goes on by a production that derives nothing.
-leaves : (ahead : TokenKind) (place : ℕ) (done : List Event) (ss : List Symbol) (n : Nonterminal) (p : Production) → predicted n ahead ≡ Some p → body_of p ≡ [] →
+pub leaves : (ahead : TokenKind) (place : ℕ) (done : List Event) (ss : List Symbol) (n : Nonterminal) (p : Production) → predicted n ahead ≡ Some p → body_of p ≡ [] →
     Goes ahead place done (symbol.Nonterminal n ∷ ss) done ss
 leaves ahead place done ss n p e empty =
     let ss0 = symbol.Nonterminal n ∷ ss in

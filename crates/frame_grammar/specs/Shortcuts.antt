@@ -1,7 +1,7 @@
--- The operators of each level of an expression.
+-- Kinds of tokens that steps of the parser tell from each other.
 use Rattle.std.specs.Prelude.{Bool, true, false}
 use Rattle.frame_grammar.specs.declared.TokenKind.{TokenKind}
-use Rattle.frame_grammar.specs.declared.TokenKind.TheVariants.{Star, Slash, Percent, Plus, Minus, Equal, NotEqual, Less, LessEqual, Greater, GreaterEqual}
+use Rattle.frame_grammar.specs.declared.TokenKind.TheVariants.{Star, Slash, Percent, Plus, Minus, Equal, NotEqual, Less, LessEqual, Greater, GreaterEqual, Temp, TempJob, Persistent}
 
 -- * / %
 abbrev pub multiplies : TokenKind → Bool
@@ -25,3 +25,10 @@ compares LessEqual = true
 compares Greater = true
 compares GreaterEqual = true
 compares _ = false
+
+-- temp tempjob persistent
+abbrev pub tells_life : TokenKind → Bool
+tells_life Temp = true
+tells_life TempJob = true
+tells_life Persistent = true
+tells_life _ = false

@@ -4,8 +4,11 @@
 
 mod bodies;
 mod choices;
+mod note;
 mod parser;
 mod shortcuts;
+mod stack;
+mod statements;
 mod symbols;
 mod table;
 #[cfg(test)]
@@ -13,6 +16,7 @@ mod tests;
 
 ghost use Rattle.std.specs.Prelude.{◌≡◌};
 
+pub use note::Note;
 pub use parser::{ParseError, Sentence, parse};
 pub use symbols::{Action, Event, Nonterminal, Production, Symbol};
 

@@ -1,14 +1,16 @@
 //! A predictive parser with a stack of its own.
 
 ghost use Rattle.std.specs.Prelude.{◌≡◌, ℕ, ◌<◌, ◌^◌, List, ◌++◌, [], ◌∷◌, length, map, reverse, IfOk, MatchBool};
-ghost use Rattle.frame_grammar.specs.Grammar.{body_of, written};
 ghost use Rattle.frame_grammar.specs.Sentences.{IsStart, IsEnded, IsOnlySentence, IsFault};
 ghost use Rattle.frame_grammar.specs.Predict.{found, predicted};
+ghost use Rattle.frame_grammar.specs.Notes.{events_of};
 ghost use Rattle.frame_grammar.specs.Parser.{Takes, Stops};
 
+use crate::note::Note;
 use crate::shortcuts::{Step, known_step, take_next_value};
-use crate::symbols::{Event, Nonterminal, Production, Symbol};
-use crate::table::{body, choices, default_production};
+use crate::stack::push_body;
+use crate::symbols::{Nonterminal, Production, Symbol};
+use crate::table::{choices, default_production};
 use crate::{HasKind, TokenKind};
 use std::alloc::{AllocError, AllocFailed, Global};
 
@@ -16,7 +18,7 @@ use std::alloc::{AllocError, AllocFailed, Global};
 #[derive(Debug, Drop)]
 pub struct Sentence {
     /// The actions of its derivation, in their order.
-    pub events: Vec<Event>,
+    pub events: Vec<Note>,
     /// How many tokens it has.
     pub read: u32,
 }
@@ -71,37 +73,19 @@ fn predict(nonterminal: Nonterminal, ahead: TokenKind) -> Option<Production>
     default_production(nonterminal)
 }
 
-fn push_symbol(stack: &mut Vec<Symbol>, has_lines: bool, symbol: Symbol) -> Result<(), AllocError>
-    ensures { IfOk result (λ _. stack.new.items ≡ stack.old.items ++ reverse (written has_lines (symbol ∷ []))) }
-{
-    if has_lines && matches!(symbol, Symbol::Terminal(_)) {
-        stack.push(Symbol::Nonterminal(Nonterminal::Lines))?;
-    }
-    stack.push(symbol)?;
-    Ok(())
-}
-
-fn push_body(stack: &mut Vec<Symbol>, production: Production) -> Result<(), AllocError>
-    ensures { IfOk result (λ _. stack.new.items ≡ stack.old.items ++ reverse (body_of production)) }
-{
-    let body = body(production);
-    for symbol in body.symbols.iter().rev() {
-        push_symbol(stack, body.has_lines, *symbol)?;
-    }
-    Ok(())
-}
-
 /// Goes on by productions until the token ahead is on top of the stack, and takes it. Says whether
 /// it could.
 fn advance(
     stack: &mut Vec<Symbol>,
-    events: &mut Vec<Event>,
+    events: &mut Vec<Note>,
     ahead: TokenKind,
     place: u32,
 ) -> Result<bool, AllocError>
+    requires { place < 2 ^ 25 }
     ensures { IfOk result (λ taken. MatchBool taken
-        (Takes ahead place events.old.items (reverse stack.old.items) events.new.items (reverse stack.new.items))
-        (Stops ahead place events.old.items (reverse stack.old.items))) }
+        (Takes ahead place (events_of events.old.items) (reverse stack.old.items) (events_of events.new.items)
+        (reverse stack.new.items))
+        (Stops ahead place (events_of events.old.items) (reverse stack.old.items))) }
 {
     while let Some(symbol) = stack.pop() {
         match symbol {
@@ -110,7 +94,7 @@ fn advance(
                 if take_next_value(stack, events, action, ahead, place)? {
                     return Ok(true);
                 }
-                events.push(Event { action, place })?;
+                events.push(Note::of(action, place))?;
             }
             Symbol::Nonterminal(nonterminal) => {
                 match known_step(stack, events, nonterminal, ahead, place)? {
@@ -139,10 +123,10 @@ pub fn parse<T: HasKind>(
     tokens: &[T],
 ) -> Result<Sentence, ParseError>
     requires start { IsStart start }
-    requires few { length tokens.now < 2 ^ 32 }
+    requires few { length tokens.now < 2 ^ 25 }
     requires ended { IsEnded (map T.kind_of tokens.now) }
     ensures sentence { IfOk result
-        (λ found. IsOnlySentence start (map T.kind_of tokens.now) found.read found.events.items) }
+        (λ found. IsOnlySentence start (map T.kind_of tokens.now) found.read (events_of found.events.items)) }
     ensures fault { (place : ℕ) → result ≡ Err (ParseError.Syntax place) →
         IsFault start (map T.kind_of tokens.now) place }
 {

@@ -5,17 +5,22 @@
 //! their productions, and to push and pop all symbols between, costs twice as much. What a step puts on the stack
 //! stands here from the bottom up.
 
-ghost use Rattle.std.specs.Prelude.{◌≡◌, ℕ, ◌-◌, List, ◌∷◌, ◌++◌, [], length, reverse, slice_get, true, Some, IfOk, MatchBool};
+ghost use Rattle.std.specs.Prelude.{◌≡◌, ℕ, ◌-◌, ◌<◌, ◌^◌, List, ◌∷◌, ◌++◌, [], length};
+ghost use Rattle.std.specs.Prelude.{reverse, slice_get, true, Some, IfOk, MatchBool};
 ghost use Rattle.frame_grammar.specs.declared.TokenKind.{TokenKind};
 ghost use Rattle.frame_grammar.specs.declared.symbols.Nonterminal.TheVariants as nonterminal;
 ghost use Rattle.frame_grammar.specs.declared.symbols.Symbol.TheVariants as symbol;
 ghost use Rattle.frame_grammar.specs.declared.symbols.Event.{Event};
+ghost use Rattle.frame_grammar.specs.Notes.{events_of};
 ghost use Rattle.frame_grammar.specs.Parser.{Takes, IsStep};
 ghost use Rattle.frame_grammar.specs.Shortcuts.{multiplies, adds, compares};
 
 use crate::TokenKind as K;
+use crate::note::Note;
+use crate::stack::{note, note_both, put};
+use crate::statements::statement_step;
 use crate::symbols::Symbol::{self, Nonterminal, Terminal};
-use crate::symbols::{Action as A, Event, Nonterminal as N};
+use crate::symbols::{Action as A, Nonterminal as N};
 use std::alloc::AllocError;
 
 /// What was done with the nonterminal that was on top of the stack.
@@ -52,48 +57,6 @@ fn compares(kind: K) -> bool
     )
 }
 
-// What is put on the stack and noted
-
-// Adds these to a list. Room for all is made once, and where it stands in line no loop is left of it.
-#[inline(always)]
-fn put<T: Copy>(list: &mut Vec<T>, items: &[T]) -> Result<(), AllocError>
-    ensures { IfOk result (λ _. list.new.items ≡ list.old.items ++ items.now) }
-{
-    if list.capacity() - list.len() < items.len() {
-        list.reserve(items.len())?;
-    }
-    for item in items {
-        list.push_reserved(*item);
-    }
-    Ok(())
-}
-
-// Out of line: where it stands in line, the compiler makes what it writes ready at each token, for every action.
-#[inline(never)]
-fn note(events: &mut Vec<Event>, action: A, place: u32) -> Result<(), AllocError>
-    ensures { IfOk result (λ _. events.new.items ≡ events.old.items ++ record { action = action; place = place } ∷ []) }
-{
-    put(events, &[Event { action, place }])
-}
-
-#[inline(always)]
-fn note_both(events: &mut Vec<Event>, first: A, second: A, place: u32) -> Result<(), AllocError>
-    ensures { IfOk result (λ _. events.new.items ≡
-        events.old.items ++ record { action = first; place = place } ∷ record { action = second; place = place } ∷ []) }
-{
-    let notes = [
-        Event {
-            action: first,
-            place,
-        },
-        Event {
-            action: second,
-            place,
-        },
-    ];
-    put(events, &notes)
-}
-
 // Steps of each nonterminal
 
 fn lines(stack: &mut Vec<Symbol>, ahead: K) -> Result<Step, AllocError>
@@ -110,12 +73,13 @@ fn lines(stack: &mut Vec<Symbol>, ahead: K) -> Result<Step, AllocError>
 
 fn statements(
     stack: &mut Vec<Symbol>,
-    events: &mut Vec<Event>,
+    events: &mut Vec<Note>,
     ahead: K,
     place: u32,
 ) -> Result<Step, AllocError>
-    ensures { IfOk result (λ step. IsStep step ahead place nonterminal.Statements events.old.items
-        (reverse stack.old.items) events.new.items (reverse stack.new.items)) }
+    requires { place < 2 ^ 25 }
+    ensures { IfOk result (λ step. IsStep step ahead place nonterminal.Statements (events_of events.old.items)
+        (reverse stack.old.items) (events_of events.new.items) (reverse stack.new.items)) }
 {
     match ahead {
         K::Name => {
@@ -170,12 +134,13 @@ fn expression(stack: &mut Vec<Symbol>) -> Result<Step, AllocError>
 
 fn operand(
     stack: &mut Vec<Symbol>,
-    events: &mut Vec<Event>,
+    events: &mut Vec<Note>,
     ahead: K,
     place: u32,
 ) -> Result<Step, AllocError>
-    ensures { IfOk result (λ step. IsStep step ahead place nonterminal.Unary events.old.items
-        (reverse stack.old.items) events.new.items (reverse stack.new.items)) }
+    requires { place < 2 ^ 25 }
+    ensures { IfOk result (λ step. IsStep step ahead place nonterminal.Unary (events_of events.old.items)
+        (reverse stack.old.items) (events_of events.new.items) (reverse stack.new.items)) }
 {
     match ahead {
         K::Name => {
@@ -218,12 +183,13 @@ fn operand(
 // What may stand after the name of an operand.
 fn place_of_name(
     stack: &mut Vec<Symbol>,
-    events: &mut Vec<Event>,
+    events: &mut Vec<Note>,
     ahead: K,
     place: u32,
 ) -> Result<Step, AllocError>
-    ensures { IfOk result (λ step. IsStep step ahead place nonterminal.Place events.old.items
-        (reverse stack.old.items) events.new.items (reverse stack.new.items)) }
+    requires { place < 2 ^ 25 }
+    ensures { IfOk result (λ step. IsStep step ahead place nonterminal.Place (events_of events.old.items)
+        (reverse stack.old.items) (events_of events.new.items) (reverse stack.new.items)) }
 {
     if ahead == K::OpenBracket {
         put(
@@ -245,12 +211,13 @@ fn place_of_name(
 
 fn more_factors(
     stack: &mut Vec<Symbol>,
-    events: &mut Vec<Event>,
+    events: &mut Vec<Note>,
     ahead: K,
     place: u32,
 ) -> Result<Step, AllocError>
-    ensures { IfOk result (λ step. IsStep step ahead place nonterminal.MoreTerm events.old.items
-        (reverse stack.old.items) events.new.items (reverse stack.new.items)) }
+    requires { place < 2 ^ 25 }
+    ensures { IfOk result (λ step. IsStep step ahead place nonterminal.MoreTerm (events_of events.old.items)
+        (reverse stack.old.items) (events_of events.new.items) (reverse stack.new.items)) }
 {
     if multiplies(ahead) {
         note(events, A::Operator, place)?;
@@ -271,12 +238,13 @@ fn more_factors(
 
 fn more_terms(
     stack: &mut Vec<Symbol>,
-    events: &mut Vec<Event>,
+    events: &mut Vec<Note>,
     ahead: K,
     place: u32,
 ) -> Result<Step, AllocError>
-    ensures { IfOk result (λ step. IsStep step ahead place nonterminal.MoreSum events.old.items
-        (reverse stack.old.items) events.new.items (reverse stack.new.items)) }
+    requires { place < 2 ^ 25 }
+    ensures { IfOk result (λ step. IsStep step ahead place nonterminal.MoreSum (events_of events.old.items)
+        (reverse stack.old.items) (events_of events.new.items) (reverse stack.new.items)) }
 {
     if adds(ahead) {
         note(events, A::Operator, place)?;
@@ -332,12 +300,13 @@ fn more_or(ahead: K) -> Step
 
 fn more_values(
     stack: &mut Vec<Symbol>,
-    events: &mut Vec<Event>,
+    events: &mut Vec<Note>,
     ahead: K,
     place: u32,
 ) -> Result<Step, AllocError>
-    ensures { IfOk result (λ step. IsStep step ahead place nonterminal.MoreValues events.old.items
-        (reverse stack.old.items) events.new.items (reverse stack.new.items)) }
+    requires { place < 2 ^ 25 }
+    ensures { IfOk result (λ step. IsStep step ahead place nonterminal.MoreValues (events_of events.old.items)
+        (reverse stack.old.items) (events_of events.new.items) (reverse stack.new.items)) }
 {
     match ahead {
         K::Number => {
@@ -368,13 +337,14 @@ fn more_values(
 /// Goes on with a nonterminal that was on top of the stack, where what it does before the token ahead is known.
 pub fn known_step(
     stack: &mut Vec<Symbol>,
-    events: &mut Vec<Event>,
+    events: &mut Vec<Note>,
     nonterminal: N,
     ahead: K,
     place: u32,
 ) -> Result<Step, AllocError>
-    ensures { IfOk result (λ step. IsStep step ahead place nonterminal events.old.items (reverse stack.old.items)
-        events.new.items (reverse stack.new.items)) }
+    requires { place < 2 ^ 25 }
+    ensures { IfOk result (λ step. IsStep step ahead place nonterminal (events_of events.old.items)
+        (reverse stack.old.items) (events_of events.new.items) (reverse stack.new.items)) }
 {
     match nonterminal {
         N::Lines => lines(stack, ahead),
@@ -389,7 +359,7 @@ pub fn known_step(
         N::MoreAnd => Ok(more_and(ahead)),
         N::MoreOr => Ok(more_or(ahead)),
         N::MoreValues => more_values(stack, events, ahead, place),
-        _ => Ok(Step::Unknown),
+        _ => statement_step(stack, events, nonterminal, ahead, place),
     }
 }
 
@@ -408,15 +378,16 @@ fn has_values_on_top(stack: &[Symbol]) -> bool
 /// Else nothing changes. Says whether it did.
 pub fn take_next_value(
     stack: &mut Vec<Symbol>,
-    events: &mut Vec<Event>,
+    events: &mut Vec<Note>,
     action: A,
     ahead: K,
     place: u32,
 ) -> Result<bool, AllocError>
+    requires { place < 2 ^ 25 }
     ensures { IfOk result (λ taken. MatchBool taken
-        (Takes ahead place events.old.items (symbol.Action action ∷ reverse stack.old.items) events.new.items
-        (reverse stack.new.items))
-        ((events.new.items ≡ events.old.items) × (stack.new.items ≡ stack.old.items))) }
+        (Takes ahead place (events_of events.old.items) (symbol.Action action ∷ reverse stack.old.items)
+        (events_of events.new.items) (reverse stack.new.items))
+        ((events_of events.new.items ≡ events_of events.old.items) × (stack.new.items ≡ stack.old.items))) }
 {
     match (action, ahead) {
         (A::PlainNumber, K::Number) if has_values_on_top(stack) => {

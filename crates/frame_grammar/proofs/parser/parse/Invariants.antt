@@ -1,6 +1,7 @@
 use Rattle.std.proofs.Common.{reverse, map}
+use Rattle.frame_grammar.specs.Notes.{events_of}
 use Rattle.frame_grammar.proofs.Steps.{Between}
 use Rattle.frame_grammar.proofs.parser.parse.Given as goal
 
 abbrev pub invariant-loop-place : goal.invariant-loop-place
-invariant-loop-place g l = Between l.fn.start (map g.T.HasKind.kind_of l.tokens) l.place l.events.items (reverse l.stack.items)
+invariant-loop-place g l = Between l.fn.start (map g.T.HasKind.kind_of l.tokens) l.place (events_of l.events.items) (reverse l.stack.items)

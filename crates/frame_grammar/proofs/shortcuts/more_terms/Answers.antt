@@ -1,13 +1,14 @@
 use Rattle.std.proofs.Common.{sym, ◌∙◌, reverse, refl}
+use Rattle.frame_grammar.specs.Notes.{events_of}
 use Rattle.frame_grammar.proofs.Takings.{behind, told, term, no_term}
 use Rattle.frame_grammar.proofs.shortcuts.more_terms.Goals as goal
 
 pub returns-in_ok-put : goal.returns-in_ok-put
 returns-in_ok-put c =
-    told c.args.ahead c.args.ahead c.args.place c.args.events.now.items _ _ _ _ _ refl c.in_ok-note.ensures
+    told c.args.ahead c.args.ahead c.args.place (events_of c.args.events.now.items) _ _ _ _ _ refl c.in_ok-note.ensures
     (behind c.args.stack.now.items _ _ c.in_ok-put.ensures)
-    (term c.args.ahead c.args.place c.args.events.now.items (reverse c.args.stack.now.items) (sym c.adds.ensures ∙ c.if-adds.true))
+    (term c.args.ahead c.args.place (events_of c.args.events.now.items) (reverse c.args.stack.now.items) (sym c.adds.ensures ∙ c.if-adds.true))
 
 pub returns-else-adds : goal.returns-else-adds
 returns-else-adds c =
-    no_term c.args.ahead c.args.place c.args.events.now.items (reverse c.args.stack.now.items) (sym c.adds.ensures ∙ c.if-adds.false)
+    no_term c.args.ahead c.args.place (events_of c.args.events.now.items) (reverse c.args.stack.now.items) (sym c.adds.ensures ∙ c.if-adds.false)

@@ -1,4 +1,5 @@
 use Rattle.std.proofs.Common.{◌≡◌, ◌-◌, ◌∷◌, [], Some, length, slice_get, reverse, take, sym, ◌∙◌, ap, subst}
+use Rattle.frame_grammar.specs.Notes.{events_of}
 use Rattle.frame_grammar.specs.declared.symbols.Nonterminal.TheVariants as nonterminal
 use Rattle.frame_grammar.specs.declared.symbols.Action.TheVariants as action
 use Rattle.frame_grammar.specs.declared.symbols.Symbol.TheVariants as symbol
@@ -16,7 +17,7 @@ returns-in_ok-put-in-PlainNumber-Number c =
     let before = ap (λ a. symbol.Action a ∷ reverse items) here.is-0 ∙ ap (λ ss. symbol.Action action.PlainNumber ∷ ss) under in
     let after = behind items c.put.new.list.items (symbol.Action action.PlainNumber ∷ []) c.in_ok-put-in-PlainNumber-Number.ensures
     ∙ ap (λ ss. symbol.Action action.PlainNumber ∷ ss) under in
-    subst (λ ss. Takes c.args.ahead c.args.place c.args.events.now.items ss c.note_both.new.events.items (reverse c.put.new.list.items)) (sym before)
-    (told c.args.ahead _ c.args.place c.args.events.now.items _ _ _ _ _ here.is-1
-    (both c.args.events.now.items _ _ _ c.in_ok-note_both-in-PlainNumber-Number.ensures) after
-    (next_value c.args.place c.args.events.now.items rest))
+    subst (λ ss. Takes c.args.ahead c.args.place (events_of c.args.events.now.items) ss (events_of c.note_both.new.events.items) (reverse c.put.new.list.items)) (sym before)
+    (told c.args.ahead _ c.args.place (events_of c.args.events.now.items) _ _ _ _ _ here.is-1
+    (both (events_of c.args.events.now.items) _ _ _ c.in_ok-note_both-in-PlainNumber-Number.ensures) after
+    (next_value c.args.place (events_of c.args.events.now.items) rest))

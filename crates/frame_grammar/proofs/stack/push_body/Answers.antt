@@ -1,5 +1,5 @@
 use Rattle.frame_grammar.proofs.Steps.{pushed}
-use Rattle.frame_grammar.proofs.parser.push_body.Goals as goal
+use Rattle.frame_grammar.proofs.stack.push_body.Goals as goal
 
 pub loop-symbol-preserved : goal.loop-symbol-preserved
 loop-symbol-preserved c =

@@ -1,6 +1,6 @@
 use Rattle.std.proofs.Common.{◌≡◌, ◌++◌, reverse}
 use Rattle.frame_grammar.specs.Grammar.{body_of, written}
-use Rattle.frame_grammar.proofs.parser.push_body.Given as goal
+use Rattle.frame_grammar.proofs.stack.push_body.Given as goal
 
 abbrev pub invariant-loop-symbol : goal.invariant-loop-symbol
 invariant-loop-symbol l =
