@@ -77,11 +77,11 @@ fn kernel_of(alloc: Global, text: &str) -> Option<Kernel>
     if source.len() > 1000 {
         return None;
     }
-    let tokens = lex(alloc, source).ok()?;
-    if tokens.is_empty() {
+    let marks = lex(alloc, source).ok()?;
+    if marks.is_empty() {
         return None;
     }
-    match kernel_at(alloc, source, &tokens, 0) {
+    match kernel_at(alloc, source, &marks, 0) {
         Ok((kernel, _)) => Some(kernel),
         Err(_) => None,
     }

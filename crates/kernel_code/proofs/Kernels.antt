@@ -11,6 +11,7 @@ use Rattle.kernel_code.specs.declared.raw.RawParam.{RawParam}
 use Rattle.kernel_code.specs.declared.raw.RawKernel.{RawKernel}
 use Rattle.kernel_code.specs.declared.part.Part.{Part}
 use Rattle.kernel_code.specs.declared.part.Part.TheVariants as part
+use Rattle.kernel_code.specs.Marks.{raw_tokens}
 use Rattle.kernel_code.specs.Raw.{RawBlock, RawExpr, Leaf, One, Two, Infix, Nothing, Simple, Nested, Branched, block_size, block_nodes, expr_nodes, parts_nodes, on, access_action, SpellsKind, SpellsParams, SpellsBlock, SpellsRaw, opening, IsWithin, IsKernel, ExprBelow, PartsBelow, BlockBelow, ParamsBelow}
 use Rattle.kernel_code.specs.Raw as raw
 use Rattle.kernel_code.specs.Reading.{Reading, part_of, with_part, begun, fresh, is_parallel, named, numbered, top, changed, changed_in, replaced_if, step, run, nothing_read}
@@ -238,7 +239,7 @@ spells_raw events n k s raw d all parallel called params nodes =
       nodes = nodes ∙ all.nodes;
     }
 
-pub within_raw : (events : List Event) (n : ℕ) (k : IsKernel events n) (s : Reading) (raw : RawKernel) (d : Event) → HasAll events n k s → n ≡ length raw.tokens.now →
+pub within_raw : (events : List Event) (n : ℕ) (k : IsKernel events n) (s : Reading) (raw : RawKernel) (d : Event) → HasAll events n k s → n ≡ length (raw_tokens raw) →
     raw.name ≡ (get_or events 1 d).place → raw.params.items ≡ s.params → raw.nodes.items ≡ s.nodes → IsWithin raw
 within_raw events n k s raw d all size called params nodes =
     let name_same : k.name ≡ raw.name = sym (called ∙ ap (λ es. (get_or es 1 d).place) k.spelled) in

@@ -11,6 +11,8 @@ pub mod Cuts
 pub mod Steps
 pub mod Blanks
 pub mod TokenLemmas
+pub mod Marks
+pub mod Lexing
 pub mod Sentences
 pub mod BadTokens
 pub mod Readings
@@ -25,6 +27,7 @@ pub mod Expressions
 pub mod Statements
 pub mod Derivations
 pub mod Parsing
+pub mod Noted
 pub mod Depths
 pub mod Streams
 pub mod NoFaults

@@ -1,5 +1,5 @@
 -- The names of a file are text, and so are those of its kernels.
-use Rattle.std.proofs.Common.{◌≡◌, ℕ, zero, suc, ◌<◌, ◌&&◌, nat_le, true, List, [], ◌∷◌, ◌++◌, drop, Option, Some, None, option_map, slice_get, refl, sym, ◌∙◌, ap, subst, ⊎_elim, arith}
+use Rattle.std.proofs.Common.{◌≡◌, ℕ, zero, suc, ◌+◌, ◌<◌, ◌^◌, ◌&&◌, nat_le, true, List, [], ◌∷◌, ◌++◌, length, drop, Option, Some, None, option_map, slice_get, refl, sym, ◌∙◌, ap, subst, ⊎_elim, arith}
 use Rattle.std.specs.Prelude.{IsUtf8, IsAscii}
 use Rattle.std.specs.List.{list_all}
 use Rattle.std.specs.Char.{is_ascii_alphabetic}
@@ -18,6 +18,7 @@ use Rattle.kernel_code.specs.Words.{begins_name, continues_name, is_name}
 use Rattle.kernel_code.specs.Tokens.{tokens_of, text_of}
 use Rattle.kernel_code.specs.StaticFaults.{token_text}
 use Rattle.kernel_code.specs.Parsing.{kinds}
+use Rattle.kernel_code.specs.Marks.{raw_tokens}
 use Rattle.kernel_code.specs.Raw.{on, SpellsParams, SpellsRaw, IsWithin, opening}
 use Rattle.kernel_code.specs.Raw as raw
 use Rattle.kernel_code.specs.Legible.{NamesAreText, NamesStand, IsLegible, IsParsed}
@@ -105,11 +106,11 @@ text_told source tokens events place are stand t =
     text_is source tokens place (slice_get tokens place) are refl (sym (slice_get-map (λ (token : Token). token.kind) tokens place) ∙ stand t.0 (on action.Name place) t.1 refl)
 
 -- The names of a kernel that the events spell are text.
-pub legible : (source : List ℕ) (tokens : List Token) (events : List Event) (raw : RawKernel) → raw.source.now ≡ source → raw.tokens.now ≡ tokens → SpellsRaw events raw →
+pub legible : (source : List ℕ) (tokens : List Token) (events : List Event) (raw : RawKernel) → raw.source.now ≡ source → raw_tokens raw ≡ tokens → SpellsRaw events raw →
     NamesAreText source tokens → NamesStand (kinds tokens) events → IsLegible raw
 legible source tokens events raw source_is tokens_are s are stand =
-    let text : (place : ℕ) → Tells events place → IsUtf8 (token_text raw.source.now (slice_get raw.tokens.now place)) =
-    λ place t. subst (λ xs. IsUtf8 (token_text xs (slice_get raw.tokens.now place))) (sym source_is)
+    let text : (place : ℕ) → Tells events place → IsUtf8 (token_text raw.source.now (slice_get (raw_tokens raw) place)) =
+    λ place t. subst (λ xs. IsUtf8 (token_text xs (slice_get (raw_tokens raw) place))) (sym source_is)
     (subst (λ ts. IsUtf8 (token_text source (slice_get ts place))) (sym tokens_are) (text_told source tokens events place are stand t)) in
     let front = on (opening raw.parallel) s.at ∷ on action.Name raw.name ∷ s.params in
     record {
@@ -121,9 +122,10 @@ legible source tokens events raw source_is tokens_are s are stand =
           (tells_behind (on (opening raw.parallel) s.at ∷ on action.Name raw.name ∷ []) s.params p.name (params_told s.with_params k p is)))));
     }
 
-pub parsed : (source : List ℕ) (tokens : List Token) (events : List Event) (raw : RawKernel) → raw.source.now ≡ source → raw.tokens.now ≡ tokens → SpellsRaw events raw → IsWithin raw →
-    NamesAreText source tokens → NamesStand (kinds tokens) events → IsParsed raw
-parsed source tokens events raw source_is tokens_are spells within are stand = record {
+pub parsed : (source : List ℕ) (tokens : List Token) (events : List Event) (raw : RawKernel) → raw.source.now ≡ source → raw_tokens raw ≡ tokens → SpellsRaw events raw → IsWithin raw →
+    NamesAreText source tokens → NamesStand (kinds tokens) events → raw.line + length raw.marks.now < 2 ^ 32 → IsParsed raw
+parsed source tokens events raw source_is tokens_are spells within are stand few = record {
   is_raw = record { events = events; spells = spells; within = within };
   legible = legible source tokens events raw source_is tokens_are spells are stand;
+  few = few;
 }

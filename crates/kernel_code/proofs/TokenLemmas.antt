@@ -132,12 +132,40 @@ front_kind_of (suc n) bytes kind longest_is is =
     let front = front_of_word bytes n longest_is in
     inr (ap (λ m. kind_of (take m bytes)) front.1 ∙ sym front.0 ∙ is)
 
-front_kind-End : (bytes : List ℕ) (kind : TokenKind) → front_kind bytes ≡ Some kind → kind ≡ End → ⊥
+pub front_kind-End : (bytes : List ℕ) (kind : TokenKind) → front_kind bytes ≡ Some kind → kind ≡ End → ⊥
 front_kind-End bytes kind is end =
     ⊎_elim
     (λ bad. let clash : Bad ≡ End = sym bad ∙ end in cc)
     (λ word. kind_of-End _ (word ∙ ap Some end))
     (front_kind_of (longest bytes) bytes kind refl is)
+
+-- the end of a line has one spelling
+kind_of-Line : (word : List ℕ) → kind_of word ≡ Some Line → word ≡ 10 ∷ []
+unfolding spelling_of
+kind_of-Line word is =
+    elim (form_of word Line is) [
+      | named name same ↦ reserved (spelled reserved_words word) same refl
+      | numbered number same ↦ cc
+      | texted text same ↦ cc
+      | symbolic found ↦ sym (spelled-spelling (Line ∷ symbols) word Line found)
+    ]
+  where
+    reserved : (found : Option TokenKind) → unwrap_or found Name ≡ Line → spelled reserved_words word ≡ found → word ≡ 10 ∷ []
+    reserved None same found = cc
+    reserved (Some kind) same found = sym (spelled-spelling reserved_words word Line (found ∙ ap Some same))
+
+first_of : (n : ℕ) (bytes : List ℕ) (byte : ℕ) → take n bytes ≡ byte ∷ [] → get_or bytes 0 0 ≡ byte
+first_of zero bytes byte is = cc
+first_of (suc n) [] byte is = cc
+first_of (suc n) (first ∷ bytes) byte is = ap (λ xs. get_or xs 0 0) is
+
+-- it begins with a line feed
+pub front_kind-Line : (bytes : List ℕ) → front_kind bytes ≡ Some Line → get_or bytes 0 0 ≡ 10
+front_kind-Line bytes is =
+    ⊎_elim
+    (λ bad. let clash : Line ≡ Bad = bad in cc)
+    (λ word. first_of (front_len bytes) bytes 10 (kind_of-Line _ word))
+    (front_kind_of (longest bytes) bytes Line refl is)
 
 -- What holds of each token of a file: where it stands, in which line, and how it is spelled.
 pub record IsTokenOf (source : List ℕ) (token : Token) : Type 0 where

@@ -1,5 +1,5 @@
 -- Names that are text.
-use Rattle.std.specs.Prelude.{◌≡◌, ℕ, List, slice_get, Some, IsUtf8}
+use Rattle.std.specs.Prelude.{◌≡◌, ◌<◌, ◌^◌, ◌+◌, ℕ, List, length, slice_get, Some, IsUtf8}
 use Rattle.frame_grammar.specs.declared.TokenKind.{TokenKind}
 use Rattle.frame_grammar.specs.declared.TokenKind.TheVariants.{Name}
 use Rattle.frame_grammar.specs.declared.symbols.Action.TheVariants as action
@@ -27,7 +27,8 @@ pub record IsLegible (raw : RawKernel) : Type 0 where
   pub name : IsUtf8 (text_at raw raw.name)
   pub params : (k : ℕ) (p : RawParam) → slice_get raw.params.items k ≡ Some p → IsUtf8 (text_at raw p.name)
 
--- what reading a kernel of a file gives: its raw form, whose names are text
+-- what reading a kernel of a file gives: its raw form, whose names are text and whose lines can be counted
 pub record IsParsed (raw : RawKernel) : Type 0 where
   pub is_raw : IsRaw raw
   pub legible : IsLegible raw
+  pub few : raw.line + length raw.marks.now < 2 ^ 32

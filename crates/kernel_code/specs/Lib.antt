@@ -2,6 +2,7 @@ pub mod Spellings
 pub mod Words
 pub mod Tokens
 pub mod Fronts
+pub mod Marks
 pub mod Raw
 pub mod StaticFaults
 pub mod Trees

@@ -11,6 +11,7 @@ use Rattle.kernel_code.specs.declared.token.Token.{Token}
 use Rattle.kernel_code.specs.declared.fault.KernelFault.{KernelFault}
 use Rattle.kernel_code.specs.declared.fault.KernelFault.TheVariants as fault
 use Rattle.kernel_code.specs.declared.raw.RawKernel.{RawKernel}
+use Rattle.kernel_code.specs.Marks.{raw_tokens}
 use Rattle.kernel_code.specs.Raw.{SpellsRaw, IsWithin}
 
 -- the kinds of tokens
@@ -25,7 +26,7 @@ pub record StandsAt (source : List ℕ) (tokens : List Token) (at next : ℕ) (r
   pub spells : SpellsRaw events raw
   pub within : IsWithin raw
   pub source_is : raw.source.now ≡ source
-  pub tokens_are : raw.tokens.now ≡ drop at tokens
+  pub tokens_are : raw_tokens raw ≡ drop at tokens
   pub next_is : next ≡ at + read
 
 -- No kernel stands there, and a token of this line is the first that continues none.

@@ -11,6 +11,7 @@ use Rattle.kernel_code.specs.declared.raw.RawForm.TheVariants as form
 use Rattle.kernel_code.specs.declared.raw.RawNode.{RawNode}
 use Rattle.kernel_code.specs.declared.raw.RawParam.{RawParam}
 use Rattle.kernel_code.specs.declared.raw.RawKernel.{RawKernel}
+use Rattle.kernel_code.specs.Marks.{raw_tokens}
 
 -- TREES. Numbers are places of tokens.
 
@@ -301,12 +302,12 @@ pub record SpellsRaw (events : List Event) (raw : RawKernel) : Type 0 where
 
 -- every place that a raw kernel tells is one of its tokens
 pub record IsWithin (raw : RawKernel) : Type 0 where
-  pub name : raw.name < length raw.tokens.now
+  pub name : raw.name < length (raw_tokens raw)
   pub params : (k : ℕ) (p : RawParam) → slice_get raw.params.items k ≡ Some p →
-      (p.name < length raw.tokens.now) × (p.word < length raw.tokens.now)
-      × IfSome p.width (λ n. n < length raw.tokens.now)
+      (p.name < length (raw_tokens raw)) × (p.word < length (raw_tokens raw))
+      × IfSome p.width (λ n. n < length (raw_tokens raw))
   pub nodes : (k : ℕ) (n : RawNode) → slice_get raw.nodes.items k ≡ Some n →
-      (n.at < length raw.tokens.now) × (n.name < length raw.tokens.now)
+      (n.at < length (raw_tokens raw)) × (n.name < length (raw_tokens raw))
 
 -- what reading a text gives: the raw form of a kernel, whose places are all among its tokens
 pub record IsRaw (raw : RawKernel) : Type 0 where

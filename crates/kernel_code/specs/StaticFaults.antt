@@ -30,6 +30,7 @@ use Rattle.kernel_code.specs.declared.check.names.Named.{Named}
 use Rattle.kernel_code.specs.declared.check.names.Named.TheVariants.{Parameter, Variable, LoopVariable}
 use Rattle.kernel_code.specs.declared.check.names.Local.{Local}
 use Rattle.kernel_code.specs.declared.check.StaticFault.{StaticFault}
+use Rattle.kernel_code.specs.Marks.{raw_tokens}
 use Rattle.kernel_code.specs.Tokens.{text_of}
 
 -- TEXTS
@@ -40,7 +41,7 @@ token_text source (Some token) = text_of source token
 
 -- the bytes of the token at a place
 abbrev pub text_at : RawKernel → ℕ → List ℕ
-text_at raw at = token_text raw.source.now (slice_get raw.tokens.now at)
+text_at raw at = token_text raw.source.now (slice_get (raw_tokens raw) at)
 
 abbrev pub token_line : Option Token → ℕ
 token_line None = 0
@@ -48,7 +49,7 @@ token_line (Some token) = token.line
 
 -- the line of the token at a place
 abbrev pub line_at : RawKernel → ℕ → ℕ
-line_at raw at = token_line (slice_get raw.tokens.now at)
+line_at raw at = token_line (slice_get (raw_tokens raw) at)
 
 -- the value of decimal digits
 abbrev pub value_of : List ℕ → ℕ

@@ -20,6 +20,7 @@ use Rattle.kernel_code.specs.declared.raw.RawForm.TheVariants as form
 use Rattle.kernel_code.specs.declared.raw.RawParam.{RawParam}
 use Rattle.kernel_code.specs.declared.raw.RawKernel.{RawKernel}
 use Rattle.kernel_code.specs.declared.check.names.Named.TheVariants.{Parameter, Variable, LoopVariable}
+use Rattle.kernel_code.specs.Marks.{raw_tokens}
 use Rattle.kernel_code.specs.Raw.{RawExpr, Leaf, One, Two, Infix, RawBlock, Nothing, Simple, Nested, Branched, expr_size, block_size, SpellsRaw}
 use Rattle.kernel_code.specs.StaticFaults.{text_at, value_at, locals_before, locals_of, meaning_of}
 
@@ -31,7 +32,7 @@ kind_of_token (Some t) = t.kind
 
 -- the kind of the token at a place
 abbrev pub kind_at : RawKernel → ℕ → TokenKind
-kind_at raw at = kind_of_token (slice_get raw.tokens.now at)
+kind_at raw at = kind_of_token (slice_get (raw_tokens raw) at)
 
 -- a unary operator is `-` or `!`
 abbrev pub is_minus : TokenKind → Bool

@@ -1,5 +1,5 @@
 //! Checks a kernel: what its names are, whether they fit where they stand, and its limits.
-ghost use Rattle.std.specs.Prelude.{◌≡◌, ℕ, None, Some, IfOk, IfErr, OnOk};
+ghost use Rattle.std.specs.Prelude.{◌≡◌, ◌<◌, ◌+◌, ◌^◌, ℕ, length, None, Some, IfOk, IfErr, OnOk};
 ghost use Rattle.std.specs.Option.{option_or};
 ghost use Rattle.frame_ast.specs.Checked.{IsChecked};
 ghost use Rattle.kernel_code.specs.StaticFaults.{text_at, fault_at, kernel_name_fault, params_fault, first_fault, TellsFault};
@@ -45,6 +45,7 @@ fn head_fault(raw: &RawKernel<'_>, earlier: &[Kernel]) -> Option<StaticFault>
 
 // The refusal for a fault.
 fn refusal(raw: &RawKernel<'_>, fault: StaticFault) -> KernelFault
+    requires { raw.now.line + length raw.now.marks.now < 2 ^ 32 }
     ensures { TellsFault raw.now (Some fault) result }
 {
     KernelFault::Refused {

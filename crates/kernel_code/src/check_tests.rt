@@ -11,11 +11,11 @@ fn checked(alloc: Global, source: &[u8], earlier: &[Kernel]) -> Result<Result<Ke
     requires { length source.now ≤ 16777216 }
 {
     let mut told = String::new(alloc);
-    let tokens = lex(alloc, source)?;
-    if tokens.is_empty() {
+    let marks = lex(alloc, source)?;
+    if marks.is_empty() {
         return Ok(Err(told));
     }
-    let fault = match parse_kernel(alloc, source, &tokens, 0) {
+    let fault = match parse_kernel(alloc, source, &marks, 0) {
         Ok((raw, _)) => match check_kernel(alloc, &raw, earlier) {
             Ok(kernel) => return Ok(Ok(kernel)),
             Err(fault) => fault,

@@ -1,19 +1,22 @@
 //! Kernels as the grammar reads them.
 
-ghost use Rattle.std.specs.Prelude.{◌≡◌, ◌<◌, ◌≤◌, ◌^◌, ℕ, length, IfOk};
+ghost use Rattle.std.specs.Prelude.{◌≡◌, ◌<◌, ◌≤◌, ◌+◌, ◌^◌, ℕ, List, length, IfOk};
 ghost use Rattle.frame_ast.specs.declared.kernel.FaultKind.{FaultKind};
 ghost use Rattle.frame_ast.specs.declared.kernel.FaultKind.TheVariants.{Syntax};
+ghost use Rattle.frame_grammar.specs.Notes.{events_of};
 ghost use Rattle.job_base.specs.declared.limits.TheConstants.{MOST_SCRIPT_BYTES};
 ghost use Rattle.kernel_code.specs.Raw.{SpellsRaw, IsKernel};
 ghost use Rattle.kernel_code.specs.Reading.{is_parallel};
+ghost use Rattle.kernel_code.specs.Marks.{tokens_in};
 ghost use Rattle.kernel_code.specs.Tokens.{tokens_of, up_to_bad};
 ghost use Rattle.kernel_code.specs.Parsing.{kinds, StandsAt, StopsAt, refusal_of};
 ghost use Rattle.kernel_code.specs.Legible.{NamesAreText, NamesStand, IsParsed};
 
+use crate::mark::line_at;
 use crate::reader::Reader;
-use crate::{KernelFault, RawKernel, Token};
+use crate::{KernelFault, Mark, RawKernel};
 use frame_ast::kernel::FaultKind;
-use frame_grammar::{Action, Event, Nonterminal, ParseError, parse};
+use frame_grammar::{Action, Nonterminal, Note, ParseError, parse};
 use job_base::NoMemory;
 use std::alloc::Global;
 
@@ -24,47 +27,50 @@ fn is_parallel(action: Action) -> bool
     matches!(action, Action::OpenParallel)
 }
 
-/// The raw form of the kernel that these events of the grammar are of. They give its parts by the
-/// places of these tokens.
+/// The raw form of the kernel that these notes of the grammar are of. They give its parts by the
+/// places of these tokens, of which the first lies on this line.
 pub fn raw_kernel<'a>(
     alloc: Global,
     source: &'a [u8],
-    tokens: &'a [Token],
-    events: &[Event],
+    marks: &'a [Mark],
+    line: u32,
+    notes: &[Note],
 ) -> Result<RawKernel<'a>, NoMemory>
-    requires few { length tokens.now < 2 ^ 32 }
-    requires kernel { IsKernel events.now (length tokens.now) }
-    requires text { NamesAreText source.now tokens.now }
-    requires named { NamesStand (kinds tokens.now) events.now }
-    ensures spelled { IfOk result (λ raw. SpellsRaw events.now raw) }
+    requires few { line + length marks.now < 2 ^ 32 }
+    requires kernel { IsKernel (events_of notes.now) (length (tokens_in source.now line marks.now)) }
+    requires text { NamesAreText source.now (tokens_in source.now line marks.now) }
+    requires named { NamesStand (kinds (tokens_in source.now line marks.now)) (events_of notes.now) }
+    ensures spelled { IfOk result (λ raw. SpellsRaw (events_of notes.now) raw) }
     ensures parsed { IfOk result (λ raw. IsParsed raw) }
     ensures source { IfOk result (λ raw. raw.source.now ≡ source.now) }
-    ensures tokens { IfOk result (λ raw. raw.tokens.now ≡ tokens.now) }
+    ensures marks { IfOk result (λ raw. raw.marks.now ≡ marks.now) }
+    ensures line { IfOk result (λ raw. raw.line ≡ line) }
 {
     let mut reader = Reader::new(alloc);
-    let parts = &events[2..];
-    for event in parts {
-        reader.take(*event)?;
+    let parts = &notes[2..];
+    for note in parts {
+        reader.take(note.event())?;
     }
     Ok(RawKernel {
         source,
-        tokens,
-        parallel: is_parallel(events[0].action),
-        name: events[1].place,
+        marks,
+        line,
+        parallel: is_parallel(notes[0].event().action),
+        name: notes[1].event().place,
         params: reader.params,
         nodes: reader.nodes,
     })
 }
 
-/// How what the parser finds among these tokens is reported.
-fn refusal(error: ParseError, ahead: &[Token]) -> KernelFault
-    requires { (place : ℕ) → error ≡ ParseError.Syntax place → place < length ahead.now }
-    ensures { result ≡ refusal_of error ahead.now }
+/// How what the parser finds among these tokens is reported, of which the first lies on this line.
+fn refusal(error: ParseError, ahead: &[Mark], line: u32) -> KernelFault
+    requires { line + length ahead.now < 2 ^ 32 }
+    ensures { (source : List ℕ) → result ≡ refusal_of error (tokens_in source line ahead.now) }
 {
     match error {
         ParseError::Memory => KernelFault::NoMemory,
         ParseError::Syntax(place) => KernelFault::Refused {
-            line: ahead[place as usize].line,
+            line: line_at(ahead, line, place),
             kind: FaultKind::Syntax,
         },
     }
@@ -79,22 +85,23 @@ fn refusal(error: ParseError, ahead: &[Token]) -> KernelFault
 pub fn parse_kernel<'a>(
     alloc: Global,
     source: &'a [u8],
-    tokens: &'a [Token],
+    marks: &'a [Mark],
     at: u32,
 ) -> Result<(RawKernel<'a>, u32), KernelFault>
     requires few { length source.now ≤ MOST_SCRIPT_BYTES }
-    requires lexed { tokens.now ≡ up_to_bad (tokens_of source.now) }
-    requires within { at < length tokens.now }
-    ensures kernel { IfOk result (λ found. StandsAt source.now tokens.now at found.1 found.0) }
+    requires lexed { tokens_in source.now 1 marks.now ≡ up_to_bad (tokens_of source.now) }
+    requires within { at < length marks.now }
+    ensures kernel { IfOk result (λ found. StandsAt source.now (tokens_in source.now 1 marks.now) at found.1 found.0) }
     ensures parsed { IfOk result (λ found. IsParsed found.0) }
     ensures fault { (line : ℕ) (kind : FaultKind) → result ≡ Err (KernelFault.Refused line kind) → (kind ≡ Syntax)
-        × StopsAt tokens.now at line }
+        × StopsAt (tokens_in source.now 1 marks.now) at line }
 {
-    let ahead = &tokens[at as usize..];
+    let ahead = &marks[at as usize..];
+    let line = line_at(marks, 1, at);
     let sentence = match parse(alloc, Nonterminal::Kernel, ahead) {
         Ok(sentence) => sentence,
-        Err(error) => return Err(refusal(error, ahead)),
+        Err(error) => return Err(refusal(error, ahead, line)),
     };
-    let raw = raw_kernel(alloc, source, ahead, &sentence.events)?;
+    let raw = raw_kernel(alloc, source, ahead, line, &sentence.events)?;
     Ok((raw, at + sentence.read))
 }

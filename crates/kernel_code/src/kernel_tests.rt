@@ -34,12 +34,12 @@ fn told(alloc: Global, raw: &RawKernel) -> Result<String, Fail> {
 fn parsed(alloc: Global, source: &[u8]) -> Result<String, Fail>
     requires { length source.now ≤ 16777216 }
 {
-    let tokens = lex(alloc, source)?;
+    let marks = lex(alloc, source)?;
     let mut text = String::new(alloc);
-    if tokens.is_empty() {
+    if marks.is_empty() {
         return Ok(text);
     }
-    match parse_kernel(alloc, source, &tokens, 0) {
+    match parse_kernel(alloc, source, &marks, 0) {
         Ok((raw, next)) => {
             let told = told(alloc, &raw)?;
             write!(text, "{told} | {next}")?;
@@ -54,11 +54,11 @@ fn parsed(alloc: Global, source: &[u8]) -> Result<String, Fail>
 fn count(alloc: Global, source: &[u8]) -> Result<Option<usize>, Fail>
     requires { length source.now ≤ 16777216 }
 {
-    let tokens = lex(alloc, source)?;
-    if tokens.is_empty() {
+    let marks = lex(alloc, source)?;
+    if marks.is_empty() {
         return Ok(None);
     }
-    match parse_kernel(alloc, source, &tokens, 0) {
+    match parse_kernel(alloc, source, &marks, 0) {
         Ok((raw, _)) => Ok(Some(raw.nodes.len())),
         Err(_) => Ok(None),
     }
@@ -238,12 +238,12 @@ fn deep_text_is_read(rt: HostRuntime) -> Result<(), Fail> {
 fn counts(alloc: Global, source: &[u8], lines: usize) -> Result<String, Fail>
     requires { length source.now ≤ 16777216 }
 {
-    let tokens = lex(alloc, source)?;
+    let marks = lex(alloc, source)?;
     let mut text = String::new(alloc);
     let mut at: u32 = 0;
     for _ in 0..lines {
-        if (at as usize) < tokens.len()
-            && let Ok((raw, next)) = parse_kernel(alloc, source, &tokens, at)
+        if (at as usize) < marks.len()
+            && let Ok((raw, next)) = parse_kernel(alloc, source, &marks, at)
         {
             let (params, nodes) = (raw.params.len(), raw.nodes.len());
             write!(text, "{params} {nodes}, ")?;

@@ -1,10 +1,11 @@
-ghost use Rattle.std.specs.Prelude.{◌≡◌, ◌<◌, ◌≤◌, ◌^◌, ◌++◌, ◌∷◌, [], length, IfOk};
+ghost use Rattle.std.specs.Prelude.{◌≡◌, ◌<◌, ◌≤◌, ◌+◌, ◌^◌, ◌++◌, ◌∷◌, [], ℕ, List, All, length, IfOk};
 ghost use Rattle.std.specs.List.{starts_with};
 ghost use Rattle.job_base.specs.declared.limits.TheConstants.{MOST_SCRIPT_BYTES};
-ghost use Rattle.kernel_code.specs.Tokens.{tokens_of, up_to_bad, is_bad, end_at, mark_len, line_after};
+ghost use Rattle.kernel_code.specs.Tokens.{tokens_of, up_to_bad, is_bad, end_at, mark_len};
+ghost use Rattle.kernel_code.specs.Marks.{IsOfKind, tokens_in, lines_in};
 ghost use Rattle.kernel_code.specs.Legible.{NamesAreText};
 
-use crate::token::Token;
+use crate::mark::Mark;
 use crate::word::{front_at, is_blank};
 use frame_grammar::TokenKind;
 use job_base::NoMemory;
@@ -23,13 +24,6 @@ fn mark_len(source: &[u8]) -> usize
     }
 }
 
-fn line_after(byte: u8, line: u32) -> u32
-    requires { line < u32.MAX }
-    ensures { result ≡ line_after byte line }
-{
-    if byte == b'\n' { line + 1 } else { line }
-}
-
 /// Whether a token of this kind is a byte that begins none.
 fn is_bad(kind: TokenKind) -> bool
     ensures { result ≡ is_bad kind }
@@ -38,16 +32,13 @@ fn is_bad(kind: TokenKind) -> bool
 }
 
 /// Adds the `End` after the last token.
-fn push_end(tokens: &mut Vec<Token>, place: usize, line: u32) -> Result<(), NoMemory>
-    requires { place < 2 ^ 32 }
-    ensures { IfOk result (λ _. tokens.new.items ≡ tokens.old.items ++ end_at place line ∷ []) }
+fn push_end(marks: &mut Vec<Mark>, place: usize) -> Result<(), NoMemory>
+    requires { place < 2 ^ 25 }
+    ensures tokens { (source : List ℕ) → IfOk result (λ _. tokens_in source 1 marks.new.items
+        ≡ tokens_in source 1 marks.old.items ++ end_at place (1 + lines_in marks.old.items) ∷ []) }
+    ensures exact { IfOk result (λ _. All IsOfKind marks.old.items → All IsOfKind marks.new.items) }
 {
-    tokens.push(Token {
-        kind: TokenKind::End,
-        start: place as u32,
-        end: place as u32,
-        line,
-    })?;
+    marks.push(Mark::of(TokenKind::End, place as u32))?;
     Ok(())
 }
 
@@ -62,14 +53,14 @@ fn push_end(tokens: &mut Vec<Token>, place: usize, line: u32) -> Result<(), NoMe
 /// goes on with it, and a file of such bytes alone would be as many tokens.
 // In line it would share its caller's registers, of which its loop wants all.
 #[inline(never)]
-pub fn lex(alloc: Global, source: &[u8]) -> Result<Vec<Token>, NoMemory>
+pub fn lex(alloc: Global, source: &[u8]) -> Result<Vec<Mark>, NoMemory>
     requires { length source.now ≤ MOST_SCRIPT_BYTES }
-    ensures tokens { IfOk result (λ tokens. tokens.items ≡ up_to_bad (tokens_of source.now)) }
-    ensures text { IfOk result (λ tokens. NamesAreText source.now tokens.items) }
+    ensures tokens { IfOk result (λ marks. tokens_in source.now 1 marks.items ≡ up_to_bad (tokens_of source.now)) }
+    ensures text { IfOk result (λ marks. NamesAreText source.now (tokens_in source.now 1 marks.items)) }
+    ensures exact { IfOk result (λ marks. All IsOfKind marks.items) }
 {
-    let mut tokens = Vec::new(alloc);
+    let mut marks = Vec::new(alloc);
     let mut place = mark_len(source);
-    let mut line = 1;
     while place < source.len() {
         if is_blank(source[place]) {
             place += 1;
@@ -77,20 +68,14 @@ pub fn lex(alloc: Global, source: &[u8]) -> Result<Vec<Token>, NoMemory>
         }
         let word = front_at(source, place);
         if let Some(kind) = word.kind {
-            tokens.push(Token {
-                kind,
-                start: place as u32,
-                end: word.end as u32,
-                line,
-            })?;
+            marks.push(Mark::of(kind, place as u32))?;
             if is_bad(kind) {
-                push_end(&mut tokens, word.end, line)?;
-                return Ok(tokens);
+                push_end(&mut marks, word.end)?;
+                return Ok(marks);
             }
         }
-        line = line_after(source[place], line);
         place = word.end;
     }
-    push_end(&mut tokens, place, line)?;
-    Ok(tokens)
+    push_end(&mut marks, place)?;
+    Ok(marks)
 }

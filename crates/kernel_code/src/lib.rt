@@ -14,6 +14,7 @@ mod kernel;
 #[cfg(test)]
 mod kernel_tests;
 mod lexer;
+mod mark;
 mod part;
 mod raw;
 mod reader;
@@ -30,5 +31,6 @@ pub use frame_ast::kernel::{Body, FaultKind, Kernel, Param, ParamKind};
 pub use frame_grammar::TokenKind;
 pub use kernel::{parse_kernel, raw_kernel};
 pub use lexer::lex;
+pub use mark::{Mark, line_at, lines_in};
 pub use raw::{RawForm, RawKernel, RawNode, RawParam};
 pub use token::Token;

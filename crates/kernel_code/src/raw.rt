@@ -1,6 +1,6 @@
 //! The raw form of a kernel: what its tokens say before any name is looked up.
 
-use crate::Token;
+use crate::Mark;
 use frame_ast::kernel::ParamKind;
 use job_base::Access;
 
@@ -106,7 +106,9 @@ pub struct RawKernel<'a> {
     /// The bytes of the file.
     pub source: &'a [u8],
     /// The tokens among which its parts are given by place.
-    pub tokens: &'a [Token],
+    pub marks: &'a [Mark],
+    /// The line of the first of them, counted from 1.
+    pub line: u32,
     pub parallel: bool,
     /// Its name.
     pub name: u32,

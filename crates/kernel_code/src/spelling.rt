@@ -144,6 +144,10 @@ pub fn word_kind(word: &[u8]) -> K
     requires { 0 < length word.now }
     ensures { result ≡ unwrap_or (spelled reserved_words word.now) Name }
 {
+    // No reserved word has one byte, and names of one letter are most.
+    if word.len() == 1 {
+        return K::Name;
+    }
     spelled(reserved_with(word[0]), word).unwrap_or(K::Name)
 }
 

@@ -1,4 +1,4 @@
-use crate::{Token, lex};
+use crate::{lex, line_at};
 use std::alloc::Global;
 use std::fmt::Write;
 use std::test::Fail;
@@ -6,16 +6,18 @@ use std::test::Fail;
 /// The tokens of a small file as a text, each with its kind, its span and its line.
 fn tokens_in(alloc: Global, source: &[u8]) -> Result<String, Fail> {
     let mut text = String::new(alloc);
-    if source.len() <= 1000 {
-        for token in lex(alloc, source)? {
-            let Token {
-                kind,
-                start,
-                end,
-                line,
-            } = token;
-            write!(text, "{kind:?} {start}-{end} {line}, ")?;
-        }
+    if source.len() > 1000 {
+        return Ok(text);
+    }
+    let marks = lex(alloc, source)?;
+    if marks.len() > 2000 {
+        return Ok(text);
+    }
+    for (at, mark) in marks.iter().enumerate() {
+        let (kind, start) = (mark.kind(), mark.start() as usize);
+        let end = start + mark.text(source).len();
+        let line = line_at(&marks, 1, at as u32);
+        write!(text, "{kind:?} {start}-{end} {line}, ")?;
     }
     Ok(text)
 }
@@ -24,8 +26,8 @@ fn tokens_in(alloc: Global, source: &[u8]) -> Result<String, Fail> {
 fn kinds_in(alloc: Global, source: &[u8]) -> Result<String, Fail> {
     let mut text = String::new(alloc);
     if source.len() <= 1000 {
-        for token in lex(alloc, source)? {
-            let kind = token.kind;
+        for mark in lex(alloc, source)? {
+            let kind = mark.kind();
             write!(text, "{kind:?} ")?;
         }
     }

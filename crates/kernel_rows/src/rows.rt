@@ -115,18 +115,18 @@ pub fn run_text(
     if source.len() > MOST_SCRIPT_BYTES as usize {
         return Ok(());
     }
-    let tokens = lex(alloc, source)?;
+    let marks = lex(alloc, source)?;
     let mut scratch = Scratch::new(alloc)?;
     let mut at = 0u32;
     for _ in 0..8 {
-        if at as usize >= tokens.len().saturating_sub(1) {
+        if at as usize >= marks.len().saturating_sub(1) {
             break;
         }
-        if matches!(tokens[at as usize].kind, TokenKind::Line) {
+        if matches!(marks[at as usize].kind(), TokenKind::Line) {
             at = at.saturating_add(1);
             continue;
         }
-        let (kernel, next) = kernel_at(alloc, source, &tokens, at)?;
+        let (kernel, next) = kernel_at(alloc, source, &marks, at)?;
         let taken = &binds[..kernel.params.len().min(binds.len())];
         if fits(&kernel, taken, CELLS) {
             run_all(&kernel, taken, indexes, mem, &mut scratch, told)?;

@@ -72,8 +72,8 @@ fn number_at(raw: &RawKernel<'_>, at: u32) -> i64
 fn kind_at(raw: &RawKernel<'_>, at: u32) -> TokenKind
     ensures { result ≡ kind_at raw.now at }
 {
-    match raw.tokens.get(at as usize) {
-        Some(token) => token.kind,
+    match raw.marks.get(at as usize) {
+        Some(mark) => mark.kind(),
         None => TokenKind::End,
     }
 }

@@ -3,7 +3,7 @@ ghost use Rattle.std.specs.Prelude.{◌≡◌, ◌≤◌, ◌<◌, ◌^◌, ℕ,
 ghost use Rattle.job_base.specs.declared.limits.TheConstants.{MOST_LOCALS, MOST_PARAMS};
 ghost use Rattle.kernel_code.specs.StaticFaults.{parameter, in_scope, as_local, local_among, meaning_among};
 
-use crate::check::texts::{is_same, text_at};
+use crate::check::texts::is_spelled;
 use crate::raw::RawKernel;
 
 /// What a name stands for, by its number among the parameters or the locals.
@@ -41,7 +41,7 @@ pub fn parameter(raw: &RawKernel<'_>, name: &[u8]) -> Option<usize>
 {
     raw.params
         .iter()
-        .position(|p| is_same(text_at(raw, p.name), name))
+        .position(|p| is_spelled(raw, p.name, name))
 }
 
 fn in_scope(node: usize, local: Local) -> bool
@@ -67,7 +67,7 @@ fn local_among(raw: &RawKernel<'_>, locals: &[Local], node: usize, name: &[u8]) 
     ensures { result ≡ local_among raw.now node name.now 0 locals.now }
 {
     for (k, local) in locals.iter().enumerate() {
-        if in_scope(node, *local) && is_same(text_at(raw, local.name), name) {
+        if in_scope(node, *local) && is_spelled(raw, local.name, name) {
             return Some(as_local(*local, k as u32));
         }
     }

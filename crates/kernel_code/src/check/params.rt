@@ -7,7 +7,7 @@ ghost use Rattle.std.specs.String.{string_bytes};
 
 use crate::check::StaticFault;
 use crate::check::demands::{fault_if, lowest};
-use crate::check::texts::{text_at, value_at};
+use crate::check::texts::{is_spelled, text_at, value_at};
 use crate::raw::{RawKernel, RawParam};
 use frame_ast::kernel::{FaultKind, Kernel, ParamKind};
 use job_base::Access;
@@ -41,7 +41,7 @@ fn is_kernel(earlier: &[Kernel], name: &[u8]) -> bool
 fn is_param(raw: &RawKernel<'_>, params: &[RawParam], name: &[u8]) -> bool
     ensures { result ≡ list_any (λ p. bytes_eq (text_at raw.now p.name) name.now) params.now }
 {
-    params.iter().any(|p| text_at(raw, p.name) == name)
+    params.iter().any(|p| is_spelled(raw, p.name, name))
 }
 
 /// The fault of a kernel's own name.

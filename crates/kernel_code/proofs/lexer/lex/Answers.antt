@@ -1,71 +1,58 @@
-use Rattle.std.proofs.Common.{◌≡◌, ℕ, false, List, Option, ◌++◌, append-nil, drop, get_or, sym, ap, subst, ◌∙◌, arith, Some}
+use Rattle.std.proofs.Common.{◌+◌, ◌++◌, drop, sym, ap, subst, ◌∙◌, All, arith}
 use Rattle.std.proofs.Math.ListN.{drop_of_length-le}
-use Rattle.frame_grammar.specs.declared.TokenKind.{TokenKind}
-use Rattle.kernel_code.specs.declared.token.Token.{Token}
-use Rattle.kernel_code.specs.Tokens.{tokens_from, token_at, up_to_bad, is_bad}
-use Rattle.kernel_code.proofs.Steps.{turn, last_turn, tokens_from-end, tokens_of-start, mark_len-le, line_after-le}
-use Rattle.kernel_code.proofs.Blanks.{blank_passed}
+use Rattle.std.proofs.lemmas.List.Elements.{All-nil, All-push}
+use Rattle.kernel_code.specs.Tokens.{tokens_from, up_to_bad}
+use Rattle.kernel_code.specs.Marks.{IsOfKind, tokens_in, lines_in}
 use Rattle.kernel_code.specs.Legible.{NamesAreText}
+use Rattle.kernel_code.proofs.Steps.{tokens_from-end, tokens_of-start, mark_len-le}
+use Rattle.kernel_code.proofs.Blanks.{blank_passed}
 use Rattle.kernel_code.proofs.Lexed.{lexed-text}
+use Rattle.kernel_code.proofs.Lexing.{mark_turn, nothing_turn, last_mark}
 use Rattle.kernel_code.proofs.lexer.lex.Goals as goal
-use Rattle.kernel_code.proofs.lexer.lex.Goals.{in-Some+in_ok-push+else-is_bad, in_default}
-
--- a word that is no Bad token joins the tokens
-record FoundHere (before : List Token) (found : Option TokenKind) (start end line : ℕ) (after : List Token) : Type 0 where
-  added : after ≡ before ++ token_at found start end line
-  fine : (kind : TokenKind) → found ≡ Some kind → is_bad kind ≡ false
-
-Some_same : {j k : TokenKind} → Some j ≡ Some k → j ≡ k
-Some_same e = cc
 
 pub loop-place-init : goal.loop-place-init
 loop-place-init c =
-    let within = mark_len-le c.args.source.now in
+    let source = c.args.source.now in
+    let within = mark_len-le source in
     record {
       in_range = omega (arith, c.mark_len-place.ensures, within);
-      lines = omega arith;
+      exact = subst (All IsOfKind) (sym c.new-marks.ensures.items) (All-nil IsOfKind);
       so_far =
-          ap (λ ts. ts ++ up_to_bad (tokens_from 0 c.mark_len-place.result 1 (drop c.mark_len-place.result c.args.source.now))) c.new-tokens.ensures.items
-          ∙ ap (λ n. up_to_bad (tokens_from 0 n 1 (drop n c.args.source.now))) c.mark_len-place.ensures
-          ∙ ap up_to_bad (tokens_of-start c.args.source.now within);
+          ap (λ ms. tokens_in source 1 ms ++ up_to_bad (tokens_from 0 c.mark_len-place.result (1 + lines_in ms) (drop c.mark_len-place.result source))) c.new-marks.ensures.items
+          ∙ ap (λ n. up_to_bad (tokens_from 0 n 1 (drop n source))) c.mark_len-place.ensures
+          ∙ ap up_to_bad (tokens_of-start source within);
+    }
+
+pub loop-place-preserved-else-is_bad : goal.loop-place-preserved-else-is_bad
+loop-place-preserved-else-is_bad c =
+    let word = c.front_at-word in
+    record {
+      in_range = word.ensures.within;
+      exact = subst (All IsOfKind) (sym c.in_ok-push.ensures.items) (All-push IsOfKind c.loop-place.marks.items c.of.result c.loop-place.invariant.exact c.of.ensures.exact);
+      so_far = mark_turn c.args.source.now c.loop-place.place word.result.end word.result.kind c.in-Some.kind c.loop-place.marks.items _ c.of.result _
+          c.loop-place-test.true word.ensures.kind word.ensures.end word.ensures.some word.ensures.within
+          c.in-Some.is (sym c.is_bad.ensures ∙ c.if-is_bad.false) c.of.ensures.kind c.of.ensures.start c.in_ok-push.ensures.items
+          c.loop-place.invariant.so_far;
     }
 
 pub loop-place-preserved : goal.loop-place-preserved
 loop-place-preserved c =
-    let source = c.args.source.now in
     let word = c.front_at-word in
-    let kind_told : FoundHere c.loop-place.tokens.items word.result.kind c.loop-place.place word.result.end c.loop-place.line c.match-word.tokens.items =
-    elim c.match-word.branch [
-      | in-Some+in_ok-push+else-is_bad w ↦ record {
-        added =
-            ap (λ v. v.items) w.tokens-is ∙ w.in_ok-push.ensures.items
-            ∙ ap (λ kind. c.loop-place.tokens.items ++ token_at kind c.loop-place.place word.result.end c.loop-place.line) (sym w.in-Some.is);
-        fine = λ kind is. let same : w.in-Some.kind ≡ kind = Some_same (sym w.in-Some.is ∙ is) in ap is_bad (sym same) ∙ sym w.is_bad.ensures ∙ w.if-is_bad.false;
-      }
-      | in_default w ↦ record {
-        added =
-            ap (λ v. v.items) w.tokens-is ∙ sym (append-nil _)
-            ∙ ap (λ kind. c.loop-place.tokens.items ++ token_at kind c.loop-place.place word.result.end c.loop-place.line) (sym w.in_default.is);
-        fine = λ kind is. let clash = sym w.in_default.is ∙ is in cc;
-      }
-    ] in
     record {
       in_range = word.ensures.within;
-      lines = omega (arith, c.line_after-line.ensures, line_after-le (get_or source c.loop-place.place 0) c.loop-place.line);
-      so_far =
-          ap (λ line. c.match-word.tokens.items ++ up_to_bad (tokens_from 0 word.result.end line (drop word.result.end source))) c.line_after-line.ensures
-          ∙ turn source c.loop-place.place c.loop-place.line word.result.end word.result.kind c.loop-place.tokens.items c.match-word.tokens.items _
-          c.loop-place-test.true word.ensures.kind word.ensures.end word.ensures.some word.ensures.within kind_told.fine kind_told.added c.loop-place.invariant.so_far;
+      exact = c.loop-place.invariant.exact;
+      so_far = nothing_turn c.args.source.now c.loop-place.place word.result.end word.result.kind c.loop-place.marks.items _
+          c.loop-place-test.true word.ensures.kind word.ensures.end word.ensures.some word.ensures.within c.in_default.is c.loop-place.invariant.so_far;
     }
 
 pub loop-place-preserved-then-is_blank : goal.loop-place-preserved-then-is_blank
 loop-place-preserved-then-is_blank c =
     record {
       in_range = omega (arith, c.loop-place-test.true);
-      lines = omega (arith, c.loop-place.invariant.lines);
+      exact = c.loop-place.invariant.exact;
       so_far =
-          blank_passed c.args.source.now c.loop-place.place c.loop-place.line c.loop-place.tokens.items _ c.loop-place-test.true
-          (sym c.is_blank.ensures ∙ c.if-is_blank.true) c.loop-place.invariant.so_far;
+          blank_passed c.args.source.now c.loop-place.place (1 + lines_in c.loop-place.marks.items) (tokens_in c.args.source.now 1 c.loop-place.marks.items) _
+          c.loop-place-test.true (sym c.is_blank.ensures ∙ c.if-is_blank.true) c.loop-place.invariant.so_far;
     }
 
 pub returns-then-is_bad : goal.returns-then-is_bad
@@ -73,18 +60,28 @@ returns-then-is_bad c =
     let source = c.args.source.now in
     let word = c.front_at-word in
     let tokens =
-    c.in_ok-push_end.ensures
-    ∙ last_turn source c.loop-place.place c.loop-place.line word.result.end c.in-Some.kind c.loop-place.tokens.items _ _
-    c.loop-place-test.true (sym c.in-Some.is ∙ word.ensures.kind) word.ensures.end word.ensures.some word.ensures.within (sym c.is_bad.ensures ∙ c.if-is_bad.true) c.in_ok-push.ensures.items c.loop-place.invariant.so_far in
-    record { tokens = tokens; text = subst (NamesAreText source) (sym tokens) (lexed-text source) }
+    last_mark source c.loop-place.place word.result.end c.in-Some.kind c.loop-place.marks.items _ _ c.of.result _
+    c.loop-place-test.true (sym c.in-Some.is ∙ word.ensures.kind) word.ensures.end word.ensures.some word.ensures.within (sym c.is_bad.ensures ∙ c.if-is_bad.true)
+    c.of.ensures.kind c.of.ensures.start c.in_ok-push.ensures.items (c.in_ok-push_end.ensures.tokens source) c.loop-place.invariant.so_far in
+    let pushed = subst (All IsOfKind) (sym c.in_ok-push.ensures.items) (All-push IsOfKind c.loop-place.marks.items c.of.result c.loop-place.invariant.exact c.of.ensures.exact) in
+    record {
+      tokens = tokens;
+      text = subst (NamesAreText source) (sym tokens) (lexed-text source);
+      exact = c.in_ok-push_end.ensures.exact pushed;
+    }
 
 pub returns : goal.returns
 returns c =
     let source = c.args.source.now in
-    let at_end = drop_of_length-le c.args.source.now {i = c.loop-place.place} c.loop-place-test.false in
+    let line = 1 + lines_in c.loop-place.marks.items in
+    let at_end = drop_of_length-le source {i = c.loop-place.place} c.loop-place-test.false in
     let tokens =
-    c.in_ok-push_end-2.ensures
-    ∙ ap (λ ts. c.loop-place.tokens.items ++ ts)
-    (sym (tokens_from-end c.loop-place.place c.loop-place.line) ∙ ap (λ bytes. up_to_bad (tokens_from 0 c.loop-place.place c.loop-place.line bytes)) (sym at_end))
+    c.in_ok-push_end-2.ensures.tokens source
+    ∙ ap (λ ts. tokens_in source 1 c.loop-place.marks.items ++ ts)
+    (sym (tokens_from-end c.loop-place.place line) ∙ ap (λ bytes. up_to_bad (tokens_from 0 c.loop-place.place line bytes)) (sym at_end))
     ∙ c.loop-place.invariant.so_far in
-    record { tokens = tokens; text = subst (NamesAreText source) (sym tokens) (lexed-text source) }
+    record {
+      tokens = tokens;
+      text = subst (NamesAreText source) (sym tokens) (lexed-text source);
+      exact = c.in_ok-push_end-2.ensures.exact c.loop-place.invariant.exact;
+    }
