@@ -16,6 +16,7 @@ use Rattle.frame_script.specs.declared.source.Source.{Source}
 use Rattle.frame_script.specs.declared.walk.Walk.{Walk}
 use Rattle.frame_script.specs.Raw.{OrderForm, RawItems, Nothing, Kernel, Single, Block, KernelForm, Repeat, When, closing, ItemsStand}
 use Rattle.frame_script.specs.Names.{Name}
+use Rattle.frame_script.specs.Sources.{file_tokens}
 use Rattle.frame_script.specs.Faults.{Scope, order_faults}
 use Rattle.frame_script.specs.Spelling.{Says}
 use Rattle.frame_script.specs.Files.{IsStatement, at_start, after_order, after_kernel, in_block, is_when, literals_of, literals_in, nothing, kernel, behind_kernel}
@@ -45,7 +46,7 @@ faulty_of s fault left {d = d} {a} e f h = subst (λ x. LeftFaulty s fault d x l
 
 -- BEFORE THE FIRST ITEM
 
-pub at_first : (s : Source) (whole : RawItems) (w : Walk) → ItemsStand (kinds s.tokens.now) whole → w.names ≡ [] → w.kernels ≡ [] → w.literals.items ≡ [] → w.written ≡ nothing_written → w.tested ≡ false → w.around.items ≡ [] →
+pub at_first : (s : Source) (whole : RawItems) (w : Walk) → ItemsStand (kinds (file_tokens s)) whole → w.names ≡ [] → w.kernels ≡ [] → w.literals.items ≡ [] → w.written ≡ nothing_written → w.tested ≡ false → w.around.items ≡ [] →
     IsAt s whole w (whole ∷ [])
 at_first s whole w stand names kernels literals written tested around =
     let scope : scope_of w ≡ at_start = same_scope names kernels (ap length around) tested in
@@ -78,7 +79,7 @@ stated s at form old new names kernels none t keeps more = record {
       (subst (λ ns. Says s ns old.kernels (length old.literals.items) 0 form t.statement.act) t.names t.is.says);
 }
 
-pub past_a_single : (s : Source) (whole more : RawItems) (rest : List RawItems) (at : ℕ) (form : OrderForm) (old new : Walk) → NamesAreText s.bytes.now s.tokens.now → closing form ≡ None →
+pub past_a_single : (s : Source) (whole more : RawItems) (rest : List RawItems) (at : ℕ) (form : OrderForm) (old new : Walk) → NamesAreText s.bytes.now (file_tokens s) → closing form ≡ None →
     first_some (order_faults s (scope_of old) at form) ≡ None → TakesSingle s at form old new → IsAt s whole old (Single at form more ∷ rest) → IsAt s whole new (more ∷ rest)
 past_a_single s whole more rest at form old new texts no_block none t is =
     let scope : scope_of new ≡ after_order s (scope_of old) form = same_scope t.names t.kernels (ap (λ v. length v.items) t.around) t.tested in

@@ -14,7 +14,7 @@ use Rattle.frame_script.specs.declared.source.Source.{Source}
 use Rattle.frame_script.specs.Raw.{OrderForm, NewArray, NewColumn, NewList, NewReference, NewMap, NewStream, Slice, View, Copy, Set, Add, Put, Remove, Clear, SetCapacity, Schedule, Combine, Complete, Dispose, DisposeAuto, Print, Flush, Frame, Repeat, When}
 use Rattle.std.specs.List.{slice_get}
 use Rattle.frame_script.specs.Signs.{sign_in}
-use Rattle.frame_script.specs.Sources.{text_at, number_at, signed_at}
+use Rattle.frame_script.specs.Sources.{file_tokens, text_at, number_at, signed_at}
 use Rattle.frame_script.specs.Names.{Name, kind_in}
 use Rattle.frame_script.specs.Faults.{Scope, order_faults, use_fault, misfit, kernel_in, takes, scheduled_faults, args_faults, sizes_faults, waive_fault, handles_faults, kernel_fault, made, made_alike}
 use Rattle.frame_script.specs.Spelling.{Says, names_after, names_with, place_of, literal_of, kernel_place, params_of, params_named, param_place, cut_of, defer_of, complete_of}
@@ -164,4 +164,4 @@ says_kept s c names kernels Frame at literals count o none keeps more says = say
 says_kept s c names kernels (Repeat n) at literals count o none keeps more says = says
 says_kept s c names kernels (When name test value) at literals count o none keeps more says =
     let p = parted _ _ none in
-    one (λ x. order.When x (sign_in (slice_get s.tokens.now test)) (signed_at s value) count) (same_used s c.names names None _ name keeps (parted _ _ p.1).0) says
+    one (λ x. order.When x (sign_in (slice_get (file_tokens s) test)) (signed_at s value) count) (same_used s c.names names None _ name keeps (parted _ _ p.1).0) says

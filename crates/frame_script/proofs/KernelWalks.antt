@@ -10,6 +10,8 @@ use Rattle.frame_ast.specs.declared.kernel.Kernel.{Kernel}
 use Rattle.frame_grammar.specs.declared.symbols.Event.{Event}
 use Rattle.kernel_code.specs.declared.raw.RawKernel.{RawKernel}
 use Rattle.kernel_code.specs.declared.check.StaticFault.{StaticFault}
+use Rattle.kernel_code.specs.Raw.{SpellsRaw}
+use Rattle.kernel_code.specs.Marks.{tokens_in, raw_tokens}
 use Rattle.kernel_code.specs.declared.fault.KernelFault.TheVariants.{Refused}
 use Rattle.std.specs.Option.{option_or}
 use Rattle.frame_ast.specs.Lists.{some_if}
@@ -19,7 +21,7 @@ use Rattle.frame_script.specs.declared.fault.LoadFault.{LoadFault}
 use Rattle.frame_script.specs.declared.fault.LoadFault.TheVariants as load
 use Rattle.frame_script.specs.declared.source.Source.{Source}
 use Rattle.frame_script.specs.KernelIndex.{kernel_at}
-use Rattle.frame_script.specs.Sources.{text_at as said_at}
+use Rattle.frame_script.specs.Sources.{file_tokens, text_at as said_at}
 use Rattle.frame_script.specs.Files.{IsRawOf}
 use Rattle.frame_script.specs.Walking.{RefusesKernel}
 use Rattle.frame_script.proofs.NameLemmas.{bytes_eq-swap}
@@ -51,9 +53,20 @@ name_free raw kernels text none is =
     let other : any ≡ false = some_if-none any DuplicateName ((lowest-none (some_if any DuplicateName) rest clear).0) in
     subst (λ t. kernel_at kernels t ≡ None) (sym is) (position_from-zero (λ k. bytes_eq name (string_bytes k.name)) kernels ∙ called_from name kernels 0 other)
 
+-- the raw form of a kernel of a file
+pub raw_of : (s : Source) (events : List Event) (raw : RawKernel) → raw.source.now ≡ s.bytes.now → raw.marks.now ≡ s.marks.now → raw.line ≡ 1 → SpellsRaw events raw → IsRawOf s events raw
+raw_of s events raw source marks line spells = record { source = source; marks = marks; line = line; spells = spells }
+
+-- its tokens are those of the file
+same_tokens : (s : Source) (events : List Event) (raw : RawKernel) → IsRawOf s events raw → raw_tokens raw ≡ file_tokens s
+same_tokens s events raw is =
+    ap (λ bytes. tokens_in bytes raw.line raw.marks.now) is.source
+    ∙ ap (λ n. tokens_in s.bytes.now n raw.marks.now) is.line
+    ∙ ap (tokens_in s.bytes.now 1) is.marks
+
 -- a token of a kernel is one of the file
 pub same_text : (s : Source) (events : List Event) (raw : RawKernel) (at : ℕ) → IsRawOf s events raw → said_at s at ≡ text_at raw at
-same_text s events raw at is = sym (ap (λ bytes. token_text bytes (slice_get raw.tokens.now at)) is.source ∙ ap (λ ts. token_text s.bytes.now (slice_get ts at)) is.tokens)
+same_text s events raw at is = sym (ap (λ bytes. token_text bytes (slice_get (raw_tokens raw) at)) is.source ∙ ap (λ ts. token_text s.bytes.now (slice_get ts at)) (same_tokens s events raw is))
 
 refused_for : (s : Source) (events : List Event) (raw : RawKernel) (known : List Kernel) (line : ℕ) (kind : FaultKind) → IsRawOf s events raw →
     (o : Option StaticFault) → first_fault raw known ≡ o → TellsFault raw o (Refused line kind) → RefusesKernel s events known line kind
@@ -63,7 +76,7 @@ refused_for s events raw known line kind is (Some fault) found tells = record {
   fault = fault;
   is_raw = is;
   has_fault = found;
-  on_line = tells.0 ∙ ap (λ ts. token_line (slice_get ts fault.at)) is.tokens;
+  on_line = tells.0 ∙ ap (λ ts. token_line (slice_get ts fault.at)) (same_tokens s events raw is);
   of_kind = tells.1;
 }
 

@@ -1,3 +1,5 @@
+pub mod Noted
+pub mod FileTokens
 pub mod Trees
 pub mod Chains
 pub mod Meanings

@@ -1,5 +1,5 @@
 -- What reading a file gives: the script that its bytes spell, or why they are refused.
-use Rattle.std.proofs.Common.{◌≡◌, ℕ, ◌+◌, ◌<◌, Bool, true, List, [], ◌∷◌, length, reverse, Some, None, Result, Ok, Err, IfOk, refl, sym, ◌∙◌, ap, subst, arith, get_or, unwrap_or}
+use Rattle.std.proofs.Common.{◌≡◌, ℕ, ◌+◌, ◌<◌, Bool, true, List, All, [], ◌∷◌, length, map, reverse, Some, None, Result, Ok, Err, IfOk, refl, sym, ◌∙◌, ap, subst, arith, get_or, unwrap_or}
 use Rattle.std.specs.Prelude.{All}
 use Rattle.std.specs.List.{slice_get}
 use Rattle.std.proofs.lemmas.List.{append-nil, length-map}
@@ -13,20 +13,28 @@ use Rattle.frame_ast.specs.Accepted.{IsAccepted}
 use Rattle.frame_ast.specs.Checked.{IsChecked}
 use Rattle.frame_grammar.specs.declared.symbols.Nonterminal.TheVariants.{File}
 use Rattle.frame_grammar.specs.declared.symbols.Event.{Event}
+use Rattle.frame_grammar.specs.declared.note.Note.{Note}
+use Rattle.frame_grammar.specs.Notes.{events_of}
 use Rattle.frame_grammar.specs.Sentences.{IsOnlySentence, IsFault}
 use Rattle.kernel_code.specs.declared.token.Token.{Token}
-use Rattle.kernel_code.specs.Tokens.{tokens_of, up_to_bad}
+use Rattle.kernel_code.specs.declared.mark.Mark.{Mark}
+use Rattle.kernel_code.specs.Marks.{IsOfKind, kind_of, tokens_in}
+use Rattle.kernel_code.specs.StaticFaults.{token_line}
+use Rattle.kernel_code.specs.Tokens.{end_at, tokens_of, up_to_bad}
 use Rattle.kernel_code.specs.Parsing.{kinds}
 use Rattle.kernel_code.proofs.Lexed.{lexed_file_is_whole, lexed_fault_stands, lexed_fault_token}
+use Rattle.kernel_code.proofs.Marks.{kinds-tokens_in}
 use Rattle.frame_script.specs.declared.source.Source.{Source}
 use Rattle.frame_script.specs.declared.walk.Walk.{Walk}
 use Rattle.frame_script.specs.Raw.{RawItems, Nothing, SpellsItems}
+use Rattle.frame_script.specs.Sources.{file_tokens}
 use Rattle.frame_script.specs.Files.{IsFaultless, IsScriptOf, StandFor, at_start, too_long, nothing}
 use Rattle.frame_script.specs.Writing.{Completes}
 use Rattle.frame_script.specs.Loading.{HasItems, Spells, IsRefused, syntax, static, too_many}
 use Rattle.frame_script.specs.Walking.{scope_of, lists_in, LeftFaultless, IsAt, IsThrough, RefusesItems, Gathers}
 use Rattle.frame_script.proofs.Writing.{ends_within, ends_over}
 use Rattle.frame_script.proofs.Accepting.{accepted}
+use Rattle.frame_script.proofs.FileTokens.{kinds_in_file}
 
 -- THE WHOLE IS READ
 
@@ -70,26 +78,31 @@ script_accepted s events w script t g =
 -- the bytes of a file, its tokens and the events that they derive
 pub record IsRead (bytes : List ℕ) (s : Source) (events : List Event) : Type 0 where
   pub bytes_are : s.bytes.now ≡ bytes
-  pub tokens_are : s.tokens.now ≡ tokens_of bytes
+  pub tokens_are : file_tokens s ≡ tokens_of bytes
+  pub exact : All IsOfKind s.marks.now
   pub read : ℕ
   pub sentence : IsOnlySentence File (kinds (tokens_of bytes)) read events
 
 -- what the parser answers of the tokens that the lexer answers: they are all, since they are a file
-pub read_of : (bytes : List ℕ) (s : Source) (lexed tokens : List Token) (read : ℕ) (events found : List Event) → s.bytes.now ≡ bytes → s.tokens.now ≡ lexed → tokens ≡ lexed → lexed ≡ up_to_bad (tokens_of bytes) →
-    events ≡ found → IsOnlySentence File (kinds tokens) read found → IsRead bytes s events
-read_of bytes s lexed tokens read events found bytes_are tokens_are same lexed_is derived sentence =
-    let there : IsOnlySentence File (kinds lexed) read events =
-    subst (λ ts. IsOnlySentence File (kinds ts) read events) same (subst (IsOnlySentence File (kinds tokens) read) (sym derived) sentence) in
-    let all : lexed ≡ tokens_of bytes = lexed_is ∙ lexed_file_is_whole bytes read events (subst (λ ts. IsOnlySentence File (kinds ts) read events) lexed_is there) in
+pub read_of : (bytes : List ℕ) (s : Source) (marks : List Mark) (read : ℕ) (notes found : List Note) → s.bytes.now ≡ bytes → marks ≡ s.marks.now → tokens_in bytes 1 marks ≡ up_to_bad (tokens_of bytes) →
+    All IsOfKind marks → notes ≡ found → IsOnlySentence File (map kind_of marks) read (events_of found) → IsRead bytes s (events_of notes)
+read_of bytes s marks read notes found bytes_are marks_are lexed_is exact derived sentence =
+    let events = events_of notes in
+    let tokens_are : file_tokens s ≡ up_to_bad (tokens_of bytes) =
+    ap (λ b. tokens_in b 1 s.marks.now) bytes_are ∙ ap (tokens_in bytes 1) (sym marks_are) ∙ lexed_is in
+    let there : IsOnlySentence File (kinds (file_tokens s)) read events =
+    subst (λ ks. IsOnlySentence File ks read events) (kinds_in_file s marks marks_are) (subst (λ ns. IsOnlySentence File (map kind_of marks) read (events_of ns)) (sym derived) sentence) in
+    let all : file_tokens s ≡ tokens_of bytes = tokens_are ∙ lexed_file_is_whole bytes read events (subst (λ ts. IsOnlySentence File (kinds ts) read events) tokens_are there) in
     record {
       bytes_are = bytes_are;
-      tokens_are = tokens_are ∙ all;
+      tokens_are = all;
+      exact = subst (All IsOfKind) marks_are exact;
       read = read;
       sentence = subst (λ ts. IsOnlySentence File (kinds ts) read events) all there;
     }
 
 has_items : (bytes : List ℕ) (s : Source) (events : List Event) (items : RawItems) → IsRead bytes s events → SpellsItems true events items → HasItems bytes s items
-has_items bytes s events items r spells = record { bytes_are = r.bytes_are; tokens_are = r.tokens_are; read = r.read; events = events; sentence = r.sentence; spells = spells }
+has_items bytes s events items r spells = record { bytes_are = r.bytes_are; tokens_are = r.tokens_are; exact = r.exact; read = r.read; events = events; sentence = r.sentence; spells = spells }
 
 pub spelled : (bytes : List ℕ) (s : Source) (events : List Event) (w : Walk) (script : Script) → IsRead bytes s events → IsThrough s events w → Gathers w script → Spells bytes script
 spelled bytes s events w script r t g = record {
@@ -100,18 +113,23 @@ spelled bytes s events w script r t g = record {
   script_is = script_read s events w script t g;
 }
 
-pub no_syntax : (bytes : List ℕ) (tokens : List Token) (place : ℕ) (token : Token) → tokens ≡ up_to_bad (tokens_of bytes) → IsFault File (kinds tokens) place → token ≡ get_or tokens place token →
-    IsRefused bytes token.line Syntax
-no_syntax bytes tokens place token lexed fault is =
-    let there = subst (λ ts. IsFault File (kinds ts) place) lexed fault in
+pub no_syntax : (bytes : List ℕ) (marks : List Mark) (place line : ℕ) → tokens_in bytes 1 marks ≡ up_to_bad (tokens_of bytes) → IsFault File (map kind_of marks) place → line ≡ token_line (slice_get (tokens_in bytes 1 marks) place) →
+    IsRefused bytes line Syntax
+no_syntax bytes marks place line lexed fault is =
+    let there = subst (λ ks. IsFault File ks place) (sym (kinds-tokens_in bytes 1 marks) ∙ ap kinds lexed) fault in
     let stands = lexed_fault_stands bytes File place there in
-    let here : token ≡ get_or (tokens_of bytes) place token = is ∙ ap (λ ts. get_or ts place token) lexed ∙ lexed_fault_token bytes File place token there in
+    let d : Token = end_at 0 0 in
+    let first = up_to_bad (tokens_of bytes) in
+    let within : place < length first = subst (λ n. place < n) (length-map first (λ t. t.kind)) there.within in
     syntax refl (record {
       place = place;
-      token = token;
+      token = get_or (tokens_of bytes) place d;
       fault = stands;
-      stands = slice_get-get_or (tokens_of bytes) place token (subst (λ n. place < n) (length-map (tokens_of bytes) (λ t. t.kind)) stands.within) ∙ ap (λ t. Some t) (sym here);
-      on_line = refl;
+      stands = slice_get-get_or (tokens_of bytes) place d (subst (λ n. place < n) (length-map (tokens_of bytes) (λ t. t.kind)) stands.within);
+      on_line =
+          is ∙ ap (λ ts. token_line (slice_get ts place)) lexed
+          ∙ ap token_line (slice_get-get_or first place d within)
+          ∙ ap (λ (t : Token). t.line) (lexed_fault_token bytes File place d there);
     })
 
 pub refused_statically : (bytes : List ℕ) (s : Source) (events : List Event) (line : ℕ) (kind : FaultKind) → IsRead bytes s events → RefusesItems s events line kind → IsRefused bytes line kind

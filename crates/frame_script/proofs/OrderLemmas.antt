@@ -1,11 +1,15 @@
 -- The check of a statement, by its form.
-use Rattle.std.proofs.Common.{◌≡◌, ℕ, Result, sym, subst}
+use Rattle.std.proofs.Common.{◌≡◌, ℕ, Result, sym, ◌∙◌, ap, subst}
 use Rattle.frame_ast.specs.declared.script.Order.{Order}
 use Rattle.frame_script.specs.declared.fault.OrderFault.{OrderFault}
 use Rattle.frame_script.specs.declared.source.Source.{Source}
 use Rattle.frame_script.specs.Raw.{OrderForm}
 use Rattle.frame_script.specs.Faults.{Scope}
 use Rattle.frame_script.specs.Checks.{Checked}
+
+-- what is made of two parts that are what they are to be
+pub of_parts : {A B C : Type 0} (f : A → B → C) (a x : A) (b y : B) → a ≡ x → b ≡ y → f a b ≡ f x y
+of_parts f a x b y first second = ap (λ z. f z b) first ∙ ap (f x) second
 
 pub by_form : (s : Source) (c : Scope) (literals at : ℕ) (form same : OrderForm) (r : Result Order OrderFault) → form ≡ same →
     Checked s c literals at same r → Checked s c literals at form r

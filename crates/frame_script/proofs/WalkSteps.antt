@@ -1,10 +1,13 @@
 -- A walk over the events of a file takes one item after another.
-use Rattle.std.proofs.Common.{◌≡◌, ℕ, ◌<◌, ◌⊎◌, inl, inr, Bool, false, List, [], ◌∷◌, length, drop, Some, None, Result, Err, IsErrAnd, refl, sym, subst}
+use Rattle.std.proofs.Common.{◌≡◌, ℕ, ◌-◌, ◌<◌, ◌⊎◌, inl, inr, Bool, false, List, [], ◌∷◌, length, take, drop, Some, None, Result, Err, IsErrAnd, refl, sym, subst}
+use Rattle.std.proofs.lemmas.List.{length-map}
 use Rattle.frame_ast.specs.declared.kernel.FaultKind.{FaultKind}
 use Rattle.frame_ast.specs.declared.kernel.Kernel.{Kernel as CheckedKernel}
 use Rattle.frame_grammar.specs.declared.symbols.Action.{Action}
 use Rattle.frame_grammar.specs.declared.symbols.Event.{Event}
 use Rattle.kernel_code.specs.declared.check.StaticFault.{StaticFault}
+use Rattle.kernel_code.specs.Raw.{IsKernel}
+use Rattle.kernel_code.specs.Parsing.{kinds}
 use Rattle.kernel_code.specs.Legible.{NamesAreText}
 use Rattle.frame_ast.specs.Lists.{first_some}
 use Rattle.frame_script.specs.declared.fault.OrderFault.{OrderFault}
@@ -14,6 +17,7 @@ use Rattle.frame_script.specs.declared.source.Source.{Source}
 use Rattle.frame_script.specs.declared.walk.Walk.{Walk}
 use Rattle.frame_script.specs.Raw.{OrderForm, Repeat, When, RawItems, Nothing, Kernel, Single, Block, KernelForm, closing, form_of, SpellsItems, kernel}
 use Rattle.frame_script.specs.Items.{SpellsOpen, outside, inside, LeadsKernel, LeadsSingle, LeadsBlock, LeadsOut}
+use Rattle.frame_script.specs.Sources.{file_tokens}
 use Rattle.frame_script.specs.Faults.{order_faults}
 use Rattle.frame_script.specs.Checks.{Refuses}
 use Rattle.frame_script.specs.Files.{HasFault, at_start, in_kernel, in_single, in_head}
@@ -39,6 +43,13 @@ kernel_outside {es = es} {form} {more} (inside {items = items} end q head is res
 alone : (s : Source) (events : List Event) (at next : ℕ) (w : Walk) (g : IsWalking s events at w) (k : LeadsKernel events at next g.left) → IsAt s g.whole w (Kernel k.events k.form k.more ∷ [])
 alone s events at next w g k =
     subst (λ r. IsAt s g.whole w (Kernel k.events k.form k.more ∷ r)) (kernel_outside g.opens k.items_are) (subst (IsAt s g.whole w) k.items_are g.is)
+
+-- the places of a kernel are among the tokens
+pub kernel_stands : (s : Source) (events : List Event) (at next : ℕ) (w : Walk) (g : IsWalking s events at w) (k : LeadsKernel events at next g.left) →
+    IsKernel (take (next - at) (drop at events)) (length (file_tokens s))
+kernel_stands s events at next w g k =
+    subst (IsKernel (take (next - at) (drop at events))) (length-map (file_tokens s) (λ t. t.kind))
+    (subst (λ es. IsKernel es (length (kinds (file_tokens s)))) (sym k.events_are) (alone s events at next w g k).stand.0.0)
 
 pub went_past_kernel : (s : Source) (events : List Event) (at next : ℕ) (w new : Walk) (kernels : List CheckedKernel) (g : IsWalking s events at w) (k : LeadsKernel events at next g.left) →
     AddsKernel s k.events w.kernels kernels → new ≡ record w { kernels = kernels } → IsWalking s events next new
@@ -74,7 +85,7 @@ taken_block s whole inner more rest at (Repeat n) end old new closes none t is =
 taken_block s whole inner more rest at (When name test value) end old new closes none t is = into_a_when s whole inner more rest at name test value old new none t is
 taken_block s whole inner more rest at _ end old new closes none t is = absurd cc
 
-pub went_past_order : (s : Source) (events : List Event) (at place : ℕ) (order : RawOrder) (next : ℕ) (w new : Walk) → NamesAreText s.bytes.now s.tokens.now → (g : IsWalking s events at w) →
+pub went_past_order : (s : Source) (events : List Event) (at place : ℕ) (order : RawOrder) (next : ℕ) (w new : Walk) → NamesAreText s.bytes.now (file_tokens s) → (g : IsWalking s events at w) →
     LeadsSingle events place order next g.left ⊎ LeadsBlock events place order next g.left →
     first_some (order_faults s (scope_of w) place (form_of order)) ≡ None → Takes s place (form_of order) w new → IsWalking s events next new
 went_past_order s events at place order next w new texts g (inl one) none t = record {

@@ -45,7 +45,8 @@ after_block c inner = record c { names = inner.names }
 -- the raw form of a kernel that these events of the file spell
 pub record IsRawOf (s : Source) (events : List Event) (raw : RawKernel) : Type 0 where
   pub source : raw.source.now ≡ s.bytes.now
-  pub tokens : raw.tokens.now ≡ s.tokens.now
+  pub marks : raw.marks.now ≡ s.marks.now
+  pub line : raw.line ≡ 1
   pub spells : SpellsRaw events raw
 
 -- no item has a fault, and behind them this is known

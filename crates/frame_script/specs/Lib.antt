@@ -1,6 +1,7 @@
 pub mod Raw
 pub mod Signs
 pub mod Sources
+pub mod Lines
 pub mod Names
 pub mod Index
 pub mod KernelIndex

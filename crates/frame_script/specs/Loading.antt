@@ -1,5 +1,5 @@
 -- Which script the bytes of a file spell, or for what they are refused.
-use Rattle.std.specs.Prelude.{◌≡◌, ℕ, true, List, slice_get, Some, None}
+use Rattle.std.specs.Prelude.{◌≡◌, ℕ, true, List, All, slice_get, Some, None}
 use Rattle.frame_ast.specs.declared.kernel.FaultKind.{FaultKind}
 use Rattle.frame_ast.specs.declared.kernel.FaultKind.TheVariants.{Syntax, TooLong}
 use Rattle.frame_ast.specs.declared.script.Script.{Script}
@@ -9,17 +9,19 @@ use Rattle.frame_grammar.specs.Sentences.{IsOnlySentence, IsFault}
 use Rattle.kernel_code.specs.declared.token.Token.{Token}
 use Rattle.kernel_code.specs.declared.check.StaticFault.{StaticFault}
 use Rattle.kernel_code.specs.Tokens.{tokens_of}
+use Rattle.kernel_code.specs.Marks.{IsOfKind}
 use Rattle.kernel_code.specs.Parsing.{kinds}
 use Rattle.frame_script.specs.declared.source.Source.{Source}
 use Rattle.frame_script.specs.Raw.{RawItems, SpellsItems}
-use Rattle.frame_script.specs.Sources.{line_at}
+use Rattle.frame_script.specs.Sources.{file_tokens, line_at}
 use Rattle.frame_script.specs.Faults.{Scope}
 use Rattle.frame_script.specs.Files.{at_start, IsFaultless, HasFault, too_long, IsScriptOf}
 
--- The bytes of a file and its tokens, which derive a file of these items.
+-- The bytes of a file and its tokens, each by its one mark, which derive a file of these items.
 pub record HasItems (bytes : List ℕ) (s : Source) (items : RawItems) : Type 0 where
   pub bytes_are : s.bytes.now ≡ bytes
-  pub tokens_are : s.tokens.now ≡ tokens_of bytes
+  pub tokens_are : file_tokens s ≡ tokens_of bytes
+  pub exact : All IsOfKind s.marks.now
   pub read : ℕ
   pub events : List Event
   pub sentence : IsOnlySentence File (kinds (tokens_of bytes)) read events

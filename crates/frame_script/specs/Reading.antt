@@ -23,7 +23,15 @@ abbrev pub no_names : LastNames
 no_names = record { before_last = 0; last = 0; opener = 0; handle = 0; kernel = 0 }
 
 abbrev pub no_numbers : LastNumbers
-no_numbers = record { before_last = 0; last = 0; operator_before = 0; operator = 0; signed_before = None; signed = None }
+no_numbers =
+    record {
+      before_last = 0;
+      last = 0;
+      operator_before = 0;
+      operator = 0;
+      signed_before = None;
+      signed = None;
+    }
 
 abbrev pub no_words : Words
 no_words =
@@ -112,36 +120,6 @@ lists_after _ q w r = record r { words = w }
 abbrev pub step : Action → ℕ → Reading → Reading
 step a q r = lists_after a q (words_after a q r.words) r
 
--- whether a statement, or what stands before its brace, is whole with this event
-abbrev pub ends : Action → Bool
-ends action.ArrayStatement = true
-ends action.ColumnStatement = true
-ends action.ListStatement = true
-ends action.ReferenceStatement = true
-ends action.MapStatement = true
-ends action.StreamStatement = true
-ends action.SliceStatement = true
-ends action.ViewStatement = true
-ends action.CopyStatement = true
-ends action.SetStatement = true
-ends action.AddToStatement = true
-ends action.PutStatement = true
-ends action.RemoveFromStatement = true
-ends action.ClearOutStatement = true
-ends action.SetCapacityStatement = true
-ends action.ScheduleStatement = true
-ends action.CombineStatement = true
-ends action.CompleteStatement = true
-ends action.DisposeStatement = true
-ends action.DisposeAfterStatement = true
-ends action.DisposeAutoStatement = true
-ends action.PrintStatement = true
-ends action.FlushStatement = true
-ends action.FrameStatement = true
-ends action.OpenRepeat = true
-ends action.OpenWhen = true
-ends _ = false
-
 -- whether a statement without lists that makes nothing but a handle is whole with this event
 abbrev pub ends_use : Action → Bool
 ends_use action.SetStatement = true
@@ -170,6 +148,15 @@ ends_worded action.SliceStatement = true
 ends_worded action.ViewStatement = true
 ends_worded action.CopyStatement = true
 ends_worded a = ends_use a
+
+-- whether a statement, or what stands before its brace, is whole with this event
+abbrev pub ends : Action → Bool
+ends action.ArrayStatement = true
+ends action.ScheduleStatement = true
+ends action.CombineStatement = true
+ends action.DisposeStatement = true
+ends action.DisposeAfterStatement = true
+ends a = ends_worded a
 
 abbrev pub operator_of : LastNumbers → ℕ
 operator_of n = if (signed_of n.signed).minus then n.operator_before else n.operator

@@ -1,14 +1,20 @@
--- What the token at a place of a file says. A place behind the last token has no text.
+-- The tokens of a file, and what the one at a place says. A place behind the last token has no text.
 use Rattle.std.specs.Prelude.{ℕ, ◌-◌, ◌^◌, Bool, true, false, nat_lt, nat_le, ℤ, pos, neg_ℤ, List, length, slice_get, slice_range}
+use Rattle.kernel_code.specs.declared.token.Token.{Token}
+use Rattle.kernel_code.specs.Marks.{tokens_in}
 use Rattle.kernel_code.specs.StaticFaults.{token_text, token_line, value_of}
 use Rattle.frame_script.specs.declared.raw.RawNumber.{RawNumber}
 use Rattle.frame_script.specs.declared.source.Source.{Source}
 
+-- the tokens of a file, of which the first lies on the first line
+abbrev pub file_tokens : Source → List Token
+file_tokens s = tokens_in s.bytes.now 1 s.marks.now
+
 abbrev pub text_at : Source → ℕ → List ℕ
-text_at s at = token_text s.bytes.now (slice_get s.tokens.now at)
+text_at s at = token_text s.bytes.now (slice_get (file_tokens s) at)
 
 abbrev pub line_at : Source → ℕ → ℕ
-line_at s at = token_line (slice_get s.tokens.now at)
+line_at s at = token_line (slice_get (file_tokens s) at)
 
 -- a Text without its quotes
 abbrev pub without_quotes : List ℕ → List ℕ

@@ -19,7 +19,7 @@ use Rattle.frame_script.specs.declared.source.Source.{Source}
 use Rattle.frame_ast.specs.declared.name_kind.NameKind.{NameKind}
 use Rattle.frame_script.specs.Raw.{OrderForm, NewArray, NewColumn, NewList, NewReference, NewMap, NewStream, Slice, View, Copy, Set, Add, Put, Remove, Clear, SetCapacity, Schedule, Combine, Complete, Dispose, DisposeAuto, Print, Flush, Frame, Repeat, When}
 use Rattle.frame_script.specs.Signs.{sign_in}
-use Rattle.frame_script.specs.Sources.{text_at, column_at, number_at, signed_at}
+use Rattle.frame_script.specs.Sources.{file_tokens, text_at, column_at, number_at, signed_at}
 use Rattle.frame_script.specs.Names.{Name as Known, place_in, with_name}
 use Rattle.frame_script.specs.Faults.{made_by, kernel_in}
 
@@ -119,7 +119,7 @@ Says s names kernels literals count Flush o = o ≡ order.Flush
 Says s names kernels literals count Frame o = o ≡ order.Frame
 Says s names kernels literals count (Repeat n) o = ⊥
 Says s names kernels literals count (When name test value) o =
-    o ≡ order.When (place_of s names name) (sign_in (slice_get s.tokens.now test)) (signed_at s value) count
+    o ≡ order.When (place_of s names name) (sign_in (slice_get (file_tokens s) test)) (signed_at s value) count
 
 -- the names known after a statement
 

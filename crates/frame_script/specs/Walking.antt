@@ -20,7 +20,7 @@ use Rattle.frame_script.specs.declared.walk.Walk.{Walk}
 use Rattle.frame_script.specs.declared.written.OpenBlock.TheVariants as block
 use Rattle.frame_script.specs.Raw.{OrderForm, RawItems, Nothing, Repeat, When, SpellsItems, ItemsStand}
 use Rattle.frame_script.specs.Items.{SpellsOpen}
-use Rattle.frame_script.specs.Sources.{line_at, number_at}
+use Rattle.frame_script.specs.Sources.{file_tokens, line_at, number_at}
 use Rattle.frame_script.specs.Names.{Name, place_in}
 use Rattle.frame_script.specs.Faults.{Scope, kernel_in}
 use Rattle.frame_script.specs.Spelling.{kernel_place, names_after}
@@ -106,7 +106,7 @@ LeftStand kinds (items ∷ rest) = ItemsStand kinds items × LeftStand kinds res
 -- whatever names and kernels are known in the end, the statements so far are those of the whole.
 pub record IsAt (s : Source) (whole : RawItems) (w : Walk) (left : List RawItems) : Type 0 where
   pub deep : length left ≡ 1 + length w.around.items
-  pub stand : LeftStand (kinds s.tokens.now) left
+  pub stand : LeftStand (kinds (file_tokens s)) left
   pub faultless : (end : Scope) → LeftFaultless s (scope_of w) (reverse w.around.items) left end →
       IsFaultless s at_start whole end
   pub faulty : (fault : StaticFault) → LeftFaulty s fault (scope_of w) (reverse w.around.items) left →

@@ -1,12 +1,13 @@
 //! Puts the events of a statement together into its raw form.
 
 ghost use Rattle.std.specs.Prelude.{◌≡◌, true, IfOk, length};
+ghost use Rattle.frame_grammar.specs.Notes.{events_of};
 ghost use Rattle.frame_script.specs.Raw.{form_of, BeginsOrder};
 ghost use Rattle.frame_script.specs.Reading.{reading_of, nothing_read, lists_after, step, ends, finished};
 
 use crate::build_words::{Words, signed_of};
 use crate::raw::{RawArg, RawNumber, RawOrder};
-use frame_grammar::{Action, Event};
+use frame_grammar::{Action, Event, Note};
 use std::alloc::{AllocError, Global};
 
 // TO ADD A STATEMENT: 7, the event that ends it, here and in specs/Reading.
@@ -169,13 +170,16 @@ pub struct ReadOrder {
 }
 
 /// The statement that the events begin with, from the event after its `StartStatement` on.
-pub fn raw_order(alloc: Global, events: &[Event]) -> Result<ReadOrder, AllocError>
-    requires { BeginsOrder events.now }
-    ensures form { IfOk result (λ found. (begun : BeginsOrder events.now) → form_of found.order ≡ begun.form) }
-    ensures read { IfOk result (λ found. (begun : BeginsOrder events.now) → found.read ≡ length begun.events) }
+pub fn raw_order(alloc: Global, notes: &[Note]) -> Result<ReadOrder, AllocError>
+    requires { BeginsOrder (events_of notes.now) }
+    ensures form { IfOk result
+        (λ found. (begun : BeginsOrder (events_of notes.now)) → form_of found.order ≡ begun.form) }
+    ensures read { IfOk result
+        (λ found. (begun : BeginsOrder (events_of notes.now)) → found.read ≡ length begun.events) }
 {
     let mut reader = Reader::new(alloc);
-    for (index, event) in events.iter().enumerate() {
+    for (index, note) in notes.iter().enumerate() {
+        let event = note.event();
         match event.action {
             // Nearly all events of a long statement are those of an array's values, so these come first.
             Action::Number => reader.words.take_number(event.place),
@@ -186,7 +190,7 @@ pub fn raw_order(alloc: Global, events: &[Event]) -> Result<ReadOrder, AllocErro
                     read: index + 1,
                 });
             }
-            _ => reader.take(*event)?,
+            _ => reader.take(event)?,
         }
     }
     unreachable!()

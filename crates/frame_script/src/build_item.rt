@@ -1,13 +1,14 @@
 //! Goes over the events of a file, item by item.
 
 ghost use Rattle.std.specs.Prelude.{◌≡◌, ◌≤◌, List, length, drop, IfOk};
+ghost use Rattle.frame_grammar.specs.Notes.{events_of};
 ghost use Rattle.frame_script.specs.Raw.{RawItems};
 ghost use Rattle.frame_script.specs.Items.{SpellsOpen, IsOpen, Leads};
 
 use crate::build::raw_order;
 use crate::build_kernel::kernel_len;
 use crate::raw::RawOrder;
-use frame_grammar::{Action, Event};
+use frame_grammar::{Action, Note};
 use std::alloc::{AllocError, Global};
 
 /// What begins or ends at an event, with the event after it.
@@ -32,26 +33,26 @@ pub enum RawItem {
 }
 
 /// How many events there are.
-fn count(events: &[Event]) -> usize
-    ensures { result ≡ length events.now }
+fn count(notes: &[Note]) -> usize
+    ensures { result ≡ length (events_of notes.now) }
 {
-    events.len()
+    notes.len()
 }
 
 /// The item that the events of a file have at this one.
-pub fn raw_item(alloc: Global, events: &[Event], at: usize) -> Result<RawItem, AllocError>
-    requires within { at ≤ length events.now }
-    requires spelled { IsOpen (drop at events.now) }
-    ensures { IfOk result (λ item. (items : List RawItems) → SpellsOpen (drop at events.now) items →
-        Leads events.now at item items) }
+pub fn raw_item(alloc: Global, notes: &[Note], at: usize) -> Result<RawItem, AllocError>
+    requires within { at ≤ length (events_of notes.now) }
+    requires spelled { IsOpen (drop at (events_of notes.now)) }
+    ensures { IfOk result (λ item. (items : List RawItems) → SpellsOpen (drop at (events_of notes.now)) items →
+        Leads (events_of notes.now) at item items) }
 {
-    if at == count(events) {
+    if at == count(notes) {
         return Ok(RawItem::None);
     }
-    let event = events[at];
+    let event = notes[at].event();
     match event.action {
         Action::StartStatement => {
-            let found = raw_order(alloc, &events[at + 1..])?;
+            let found = raw_order(alloc, &notes[at + 1..])?;
             Ok(RawItem::Order {
                 first: event.place,
                 order: found.order,
@@ -59,7 +60,7 @@ pub fn raw_item(alloc: Global, events: &[Event], at: usize) -> Result<RawItem, A
             })
         }
         Action::OpenJob | Action::OpenParallel => Ok(RawItem::Kernel {
-            next: at + kernel_len(&events[at..]),
+            next: at + kernel_len(&notes[at..]),
         }),
         _ => Ok(RawItem::End { next: at + 1 }),
     }

@@ -1,10 +1,11 @@
 //! Finds the end of a kernel among events.
 
 ghost use Rattle.std.specs.Prelude.{◌≡◌, length};
+ghost use Rattle.frame_grammar.specs.Notes.{events_of};
 ghost use Rattle.frame_script.specs.Raw.{BeginsKernel};
 ghost use Rattle.frame_script.specs.Reading.{closes};
 
-use frame_grammar::{Action, Event};
+use frame_grammar::{Action, Note};
 
 fn closes(action: Action) -> bool
     ensures { result ≡ closes action }
@@ -13,12 +14,12 @@ fn closes(action: Action) -> bool
 }
 
 /// How many events the kernel has that the events begin with.
-pub fn kernel_len(events: &[Event]) -> usize
-    requires { BeginsKernel events.now }
-    ensures { (begun : BeginsKernel events.now) → result ≡ length begun.events }
+pub fn kernel_len(notes: &[Note]) -> usize
+    requires { BeginsKernel (events_of notes.now) }
+    ensures { (begun : BeginsKernel (events_of notes.now)) → result ≡ length begun.events }
 {
-    for (index, event) in events.iter().enumerate() {
-        if closes(event.action) {
+    for (index, note) in notes.iter().enumerate() {
+        if closes(note.event().action) {
             return index + 1;
         }
     }

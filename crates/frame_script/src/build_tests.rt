@@ -1,21 +1,22 @@
+ghost use Rattle.frame_grammar.specs.Notes.{events_of};
 ghost use Rattle.frame_script.specs.Items.{IsOpen};
 
 use crate::build_file::file_events;
 use crate::build_item::{RawItem, raw_item};
-use frame_grammar::Event;
+use frame_grammar::Note;
 use kernel_code::lex;
 use std::alloc::Global;
 use std::fmt::Write;
 use std::test::Fail;
 
 /// What the events begin and end, each with the event behind it.
-fn items_of(alloc: Global, events: &[Event]) -> Result<String, Fail>
-    requires { IsOpen events.now }
+fn items_of(alloc: Global, notes: &[Note]) -> Result<String, Fail>
+    requires { IsOpen (events_of notes.now) }
 {
     let mut text = String::new(alloc);
     let mut at = 0;
-    for _ in 0..events.len() {
-        match raw_item(alloc, events, at)? {
+    for _ in 0..notes.len() {
+        match raw_item(alloc, notes, at)? {
             RawItem::None => return Ok(text),
             RawItem::Kernel { next } => {
                 write!(text, "kernel {next}, ")?;
@@ -37,8 +38,8 @@ fn items_of(alloc: Global, events: &[Event]) -> Result<String, Fail>
 /// The items of a small file.
 fn items_in(alloc: Global, source: &[u8]) -> Result<String, Fail> {
     if source.len() <= 1000 {
-        let tokens = lex(alloc, source)?;
-        if let Ok(found) = file_events(alloc, &tokens) {
+        let marks = lex(alloc, source)?;
+        if let Ok(found) = file_events(alloc, &marks) {
             return items_of(alloc, &found.events);
         }
     }

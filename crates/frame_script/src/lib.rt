@@ -14,6 +14,7 @@ mod fault;
 #[cfg(test)]
 mod fault_tests;
 mod kernels;
+mod line_cursor;
 mod load;
 #[cfg(test)]
 mod load_tests;
@@ -34,6 +35,7 @@ pub(crate) use fault::OrderFault;
 pub use frame_ast::script::{Arg, Order, Script, Sign, Statement};
 pub(crate) use kernels::Kernels;
 pub use kernels::Size;
+pub(crate) use line_cursor::LineCursor;
 pub use load::parse_script;
 pub use measure::size_of;
 pub(crate) use names::Names;

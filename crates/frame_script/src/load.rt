@@ -14,7 +14,7 @@ use crate::{LoadFault, Source};
 use frame_ast::kernel::FaultKind;
 use frame_ast::script::Script;
 use frame_grammar::ParseError;
-use kernel_code::lex;
+use kernel_code::{lex, line_at};
 use std::alloc::Global;
 
 /// The script that was written out, or its first statement too many.
@@ -51,12 +51,12 @@ pub fn parse_script(alloc: Global, source: &[u8]) -> Result<Script, LoadFault>
     ensures refused { (line : ℕ) (kind : FaultKind) → result ≡ Err (LoadFault.Refused line kind) →
         IsRefused source.now line kind }
 {
-    let tokens = lex(alloc, source)?;
-    let found = match file_events(alloc, &tokens) {
+    let marks = lex(alloc, source)?;
+    let found = match file_events(alloc, &marks) {
         Ok(found) => found,
         Err(ParseError::Syntax(place)) => {
             return Err(LoadFault::Refused {
-                line: tokens[place as usize].line,
+                line: line_at(&marks, 1, place),
                 kind: FaultKind::Syntax,
             });
         }
@@ -64,7 +64,7 @@ pub fn parse_script(alloc: Global, source: &[u8]) -> Result<Script, LoadFault>
     };
     let file = Source {
         bytes: source,
-        tokens: &tokens,
+        marks: &marks,
     };
     let walk = walk_file(alloc, file, &found.events)?;
     script_of(alloc, walk)

@@ -1,49 +1,40 @@
 //! The bytes of a file and its tokens, and what the token at a place says.
 
-ghost use Rattle.std.specs.Prelude.{◌≡◌, ◌-◌, ◌^◌, ◌≤◌, min, length, slice_get};
+ghost use Rattle.std.specs.Prelude.{◌≡◌, ◌-◌, ◌<◌, ◌^◌, min, length, slice_get};
 ghost use Rattle.frame_script.specs.Signs.{sign_of, sign_in};
-ghost use Rattle.kernel_code.specs.Tokens.{text_of};
 
 use frame_ast::script::Sign;
-use kernel_code::{Token, TokenKind, value_of};
+use kernel_code::{Mark, TokenKind, line_at, value_of};
 
 /// A file: its bytes, and its tokens.
 #[derive(Clone, Copy, Debug)]
 pub struct Source<'a> {
     pub bytes: &'a [u8],
-    pub tokens: &'a [Token],
-}
-
-// The bytes of a token, as far as they lie within the file.
-fn bytes_of<'a>(bytes: &'a [u8], token: &Token) -> &'a [u8]
-    ensures { result.now ≡ text_of bytes.now token.now }
-{
-    let end = bytes.len().min(token.end as usize);
-    let start = end.min(token.start as usize);
-    &bytes[start..end]
+    pub marks: &'a [Mark],
 }
 
 impl<'a> Source<'a> {
-    ghost use Rattle.frame_script.specs.Sources.{text_at, line_at, number_at, column_at};
+    ghost use Rattle.frame_script.specs.Sources.{file_tokens, text_at, line_at, number_at, column_at};
 
     /// The bytes of the token at a place, none where no token stands there.
     pub fn text(self, at: u32) -> &'a [u8]
         ensures { result.now ≡ text_at self.entry at }
     {
-        match self.tokens.get(at as usize) {
+        match self.marks.get(at as usize) {
             None => &[],
-            Some(token) => bytes_of(self.bytes, token),
+            Some(mark) => mark.text(self.bytes),
         }
     }
 
     /// The line of the token at a place, counted from 1; 0 where no token stands there.
+    ///
+    /// It is counted from the first token on. Whoever wants the lines of many tokens has a
+    /// `LineCursor`.
     pub fn line(self, at: u32) -> u32
+        requires few { length self.marks.now < 2 ^ 32 - 1 }
         ensures { result ≡ line_at self.entry at }
     {
-        match self.tokens.get(at as usize) {
-            None => 0,
-            Some(token) => token.line,
-        }
+        line_at(self.marks, 1, at)
     }
 
     /// The value of the Number at a place, or the greatest u64 where it is greater.
@@ -67,11 +58,11 @@ impl<'a> Source<'a> {
 
     /// The comparison at a place.
     pub fn sign(self, at: u32) -> Sign
-        ensures { result ≡ sign_in (slice_get self.entry.tokens.now at) }
+        ensures { result ≡ sign_in (slice_get (file_tokens self.entry) at) }
     {
-        match self.tokens.get(at as usize) {
+        match self.marks.get(at as usize) {
             None => Sign::Eq,
-            Some(token) => sign_of(token.kind),
+            Some(mark) => sign_of(mark.kind()),
         }
     }
 }

@@ -1,11 +1,14 @@
 //! Goes over the items of a file, and writes out the script that they parse to.
 
-ghost use Rattle.std.specs.Prelude.{◌≡◌, ◌<◌, ◌≤◌, ◌^◌, ◌++◌, ℕ, [], None, Some, false, length, IfOk, MatchOption};
+ghost use Rattle.std.specs.Prelude.{◌≡◌, ◌-◌, ◌<◌, ◌≤◌, ◌^◌, ◌++◌, ℕ, [], None, Some, false, length, IfOk, MatchOption};
 ghost use Rattle.frame_ast.specs.declared.kernel.FaultKind.{FaultKind};
+ghost use Rattle.frame_grammar.specs.Notes.{events_of};
 ghost use Rattle.kernel_code.specs.Parsing.{kinds};
 ghost use Rattle.kernel_code.specs.Legible.{NamesAreText, NamesStand};
 ghost use Rattle.frame_ast.specs.Lists.{first_some};
 ghost use Rattle.frame_script.specs.Raw.{form_of, closing, Repeat, When, IsFile};
+ghost use Rattle.frame_script.specs.Sources.{file_tokens, line_at};
+ghost use Rattle.frame_script.specs.Lines.{IsOn};
 ghost use Rattle.frame_script.specs.Faults.{order_faults};
 ghost use Rattle.frame_script.specs.Checks.{Gives};
 ghost use Rattle.frame_script.specs.Writing.{nothing_written};
@@ -17,9 +20,9 @@ use crate::raw::{RawNumber, RawOrder};
 use crate::walk_kernel::add_kernel;
 use crate::walk_order::{make_name, order_said};
 use crate::written::Written;
-use crate::{Kernels, LoadFault, Names, OrderFault, Source};
+use crate::{Kernels, LineCursor, LoadFault, Names, OrderFault, Source};
 use frame_ast::script::Statement;
-use frame_grammar::Event;
+use frame_grammar::Note;
 use job_base::NoMemory;
 use std::alloc::Global;
 
@@ -59,6 +62,7 @@ fn keep_list(literals: &mut Vec<Vec<i64>>, list: Option<Vec<i64>>) -> Result<(),
 // The refusal of a file for a fault of a statement.
 #[inline(never)]
 fn told(source: Source<'_>, fault: OrderFault) -> LoadFault
+    requires few { length source.marks.now < 2 ^ 32 - 1 }
     ensures { (line : ℕ) (kind : FaultKind) → result ≡ LoadFault.Refused line kind →
         Tells source.entry fault line kind }
 {
@@ -97,19 +101,18 @@ impl<'a> Walk<'a> {
         alloc: Global,
         source: Source<'a>,
         at: u32,
+        line: u32,
         raw: &RawOrder,
     ) -> Result<(), OrderFault>
-        requires { closing (form_of raw.now) ≡ None }
+        requires line { line ≡ line_at source at }
+        requires single { closing (form_of raw.now) ≡ None }
         ensures { Gives (first_some (order_faults source.entry (scope_of self.old) at (form_of raw.now)))
             (λ _. TakesSingle source.entry at (form_of raw.now) self.old self.new) result }
     {
         let literals = count_of(self.literals.len())?;
         let (act, list) = order_said(alloc, source, &self.names, &self.kernels, literals, raw)?;
         make_name(source, &mut self.names, raw)?;
-        self.written.add(Statement {
-            line: source.line(at),
-            act,
-        })?;
+        self.written.add(Statement { line, act })?;
         keep_list(&mut self.literals, list)?;
         Ok(())
     }
@@ -133,10 +136,12 @@ impl<'a> Walk<'a> {
         &mut self,
         source: Source<'a>,
         at: u32,
+        line: u32,
         name: u32,
         sign: u32,
         value: RawNumber,
     ) -> Result<(), OrderFault>
+        requires line { line ≡ line_at source at }
         ensures { Gives (first_some (order_faults source.entry (scope_of self.old) at (When name sign value)))
             (λ _. TakesWhen source.entry at (When name sign value) self.old self.new) result }
     {
@@ -151,10 +156,7 @@ impl<'a> Walk<'a> {
             sign,
             value,
         )?;
-        self.written.open_when(Statement {
-            line: source.line(at),
-            act,
-        })?;
+        self.written.open_when(Statement { line, act })?;
         self.around.push(self.tested)?;
         self.tested = true;
         Ok(())
@@ -175,23 +177,26 @@ impl<'a> Walk<'a> {
         Ok(())
     }
 
-    // A statement; of `repeat` and `when`, what stands before the brace.
+    // A statement, whose first token lies on this line; of `repeat` and `when`, what stands before the
+    // brace.
     fn order(
         &mut self,
         alloc: Global,
         source: Source<'a>,
         at: u32,
+        line: u32,
         raw: &RawOrder,
     ) -> Result<(), OrderFault>
+        requires line { line ≡ line_at source at }
         ensures { Gives (first_some (order_faults source.entry (scope_of self.old) at (form_of raw.now)))
             (λ _. Takes source.entry at (form_of raw.now) self.old self.new) result }
     {
         match raw {
             RawOrder::Repeat { count } => self.open_repeat(source, at, *count),
             RawOrder::When { name, sign, value } => {
-                self.open_when(source, at, *name, *sign, *value)
+                self.open_when(source, at, line, *name, *sign, *value)
             }
-            _ => self.single(alloc, source, at, raw),
+            _ => self.single(alloc, source, at, line, raw),
         }
     }
 
@@ -200,27 +205,32 @@ impl<'a> Walk<'a> {
         &mut self,
         alloc: Global,
         source: Source<'a>,
-        events: &[Event],
+        notes: &[Note],
         at: usize,
+        lines: &mut LineCursor,
     ) -> Result<Option<usize>, LoadFault>
-        requires few { length source.tokens.now < 2 ^ 32 }
-        requires text { NamesAreText source.bytes.now source.tokens.now }
-        requires named { NamesStand (kinds source.tokens.now) events.now }
-        requires within { at ≤ length events.now }
-        requires walking { IsWalking source events.now at self.old }
-        ensures walked { IfOk result (λ found. MatchOption found (IsThrough source.entry events.now self.new)
-            (λ next. (at < next) × (next ≤ length events.now) × IsWalking source.entry events.now next self.new)) }
+        requires few { length source.marks.now < 2 ^ 32 - 1 }
+        requires text { NamesAreText source.bytes.now (file_tokens source) }
+        requires named { NamesStand (kinds (file_tokens source)) (events_of notes.now) }
+        requires within { at ≤ length (events_of notes.now) }
+        requires walking { IsWalking source (events_of notes.now) at self.old }
+        requires on { IsOn source lines.old }
+        ensures walked { IfOk result (λ found. MatchOption found (IsThrough source.entry (events_of notes.now) self.new)
+            (λ next. (at < next) × (next ≤ length (events_of notes.now))
+            × IsWalking source.entry (events_of notes.now) next self.new)) }
+        ensures on { IfOk result (λ _. IsOn source.entry lines.new) }
         ensures refused { (line : ℕ) (kind : FaultKind) → result ≡ Err (LoadFault.Refused line kind) →
-            RefusesItems source.entry events.now line kind }
+            RefusesItems source.entry (events_of notes.now) line kind }
     {
-        match raw_item(alloc, events, at)? {
+        match raw_item(alloc, notes, at)? {
             RawItem::None => Ok(None),
             RawItem::Kernel { next } => {
-                add_kernel(alloc, source, &mut self.kernels, &events[at..next])?;
+                add_kernel(alloc, source, &mut self.kernels, &notes[at..next])?;
                 Ok(Some(next))
             }
             RawItem::Order { first, order, next } => {
-                match self.order(alloc, source, first, &order) {
+                let line = lines.go_to(source, first);
+                match self.order(alloc, source, first, line, &order) {
                     Ok(()) => Ok(Some(next)),
                     Err(fault) => Err(told(source, fault)),
                 }
@@ -237,19 +247,20 @@ impl<'a> Walk<'a> {
 pub fn walk_file<'a>(
     alloc: Global,
     source: Source<'a>,
-    events: &[Event],
+    notes: &[Note],
 ) -> Result<Walk<'a>, LoadFault>
-    requires few { length source.tokens.now < 2 ^ 32 }
-    requires text { NamesAreText source.bytes.now source.tokens.now }
-    requires named { NamesStand (kinds source.tokens.now) events.now }
-    requires file { IsFile (kinds source.tokens.now) events.now }
-    ensures through { IfOk result (λ walk. IsThrough source.entry events.now walk) }
+    requires few { length source.marks.now < 2 ^ 32 - 1 }
+    requires text { NamesAreText source.bytes.now (file_tokens source) }
+    requires named { NamesStand (kinds (file_tokens source)) (events_of notes.now) }
+    requires file { IsFile (kinds (file_tokens source)) (events_of notes.now) }
+    ensures through { IfOk result (λ walk. IsThrough source.entry (events_of notes.now) walk) }
     ensures refused { (line : ℕ) (kind : FaultKind) → result ≡ Err (LoadFault.Refused line kind) →
-        RefusesItems source.entry events.now line kind }
+        RefusesItems source.entry (events_of notes.now) line kind }
 {
     let mut walk = Walk::new(alloc);
+    let mut lines = LineCursor::new();
     let mut at = 0;
-    while let Some(next) = walk.step(alloc, source, events, at)? {
+    while let Some(next) = walk.step(alloc, source, notes, at, &mut lines)? {
         at = next;
     }
     Ok(walk)

@@ -20,7 +20,7 @@ use Rattle.text_laws.proofs.Items.{bare}
 
 module _ (s t : Source) (same : SameFile s t) where
   raw_there : (events : List Event) (raw : RawKernel) → IsRawOf s events raw → IsRawOf t events raw
-  raw_there events raw is = record { source = is.source ∙ same.bytes; tokens = is.tokens ∙ same.tokens; spells = is.spells }
+  raw_there events raw is = record { source = is.source ∙ same.bytes; marks = is.marks ∙ same.marks; line = is.line; spells = is.spells }
 
   fault_there : {X : Option StaticFault} (c : Scope) (at : ℕ) (form : OrderForm) → first_some (order_faults s c at form) ≡ X → first_some (order_faults t c at form) ≡ X
   fault_there c at form e = ap first_some (sym (same_faults s t same c at form)) ∙ e

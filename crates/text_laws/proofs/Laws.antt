@@ -6,6 +6,8 @@ use Rattle.frame_grammar.specs.declared.symbols.Nonterminal.TheVariants.{File}
 use Rattle.kernel_code.specs.declared.token.Token.{Token}
 use Rattle.kernel_code.specs.declared.check.StaticFault.{StaticFault}
 use Rattle.kernel_code.specs.Tokens.{tokens_of}
+use Rattle.kernel_code.specs.Marks.{tokens_in}
+use Rattle.kernel_code.proofs.Marks.{marks_once}
 use Rattle.kernel_code.specs.Parsing.{kinds}
 use Rattle.frame_script.specs.declared.source.Source.{Source}
 use Rattle.frame_script.specs.Sources.{line_at}
@@ -27,7 +29,10 @@ use Rattle.text_laws.proofs.Syntax.{place_once}
 -- TWO READINGS OF A FILE
 
 same_file : (bytes : List ℕ) (s t : Source) (a b : RawItems) → HasItems bytes s a → HasItems bytes t b → SameFile s t
-same_file bytes s t a b h k = record { bytes = h.bytes_are ∙ sym k.bytes_are; tokens = h.tokens_are ∙ sym k.tokens_are }
+same_file bytes s t a b h k =
+    let first = ap (λ b. tokens_in b 1 s.marks.now) (sym h.bytes_are) ∙ h.tokens_are in
+    let second = ap (λ b. tokens_in b 1 t.marks.now) (sym k.bytes_are) ∙ k.tokens_are in
+    record { bytes = h.bytes_are ∙ sym k.bytes_are; marks = marks_once bytes 1 s.marks.now t.marks.now h.exact k.exact (first ∙ sym second) }
 
 same_items : (bytes : List ℕ) (s t : Source) (a b : RawItems) → HasItems bytes s a → HasItems bytes t b → bare a ≡ bare b
 same_items bytes s t a b h k =
@@ -46,7 +51,7 @@ module _ (bytes : List ℕ) (s t : Source) (a b : RawItems) (h : HasItems bytes 
   file = same_file bytes s t a b h k
 
   itself : SameFile t t
-  itself = record { bytes = refl; tokens = refl }
+  itself = record { bytes = refl; marks = refl }
 
   items : bare a ≡ bare b
   items = same_items bytes s t a b h k

@@ -144,9 +144,10 @@ pub same_parts : (s : Source) (events : List Event) (r t : RawKernel) → IsRawO
 same_parts s events r t a b =
     let once = raw_once events r t a.spells b.spells in
     let source = a.source ∙ sym b.source in
-    let tokens = a.tokens ∙ sym b.tokens in
+    let marks = a.marks ∙ sym b.marks in
+    let line = a.line ∙ sym b.line in
     let nodes = a.spells.nodes ∙ once.nodes ∙ sym b.spells.nodes in
-    λ i. record { source = source i; tokens = tokens i; parallel = once.parallel i; name = once.name i; params = once.params i; nodes = nodes i }
+    λ i. record { source = source i; marks = marks i; line = line i; parallel = once.parallel i; name = once.name i; params = once.params i; nodes = nodes i }
 
 -- the events spell the second one with the tree of the first
 abbrev pub respelled : (events : List Event) (r t : RawKernel) → SpellsRaw events r → SpellsRaw events t → SpellsRaw events t

@@ -1,7 +1,7 @@
 -- What is read of a raw kernel: its parts, wherever they lie in memory.
 use Rattle.std.proofs.Common.{ℕ, ◌≡◌, ◌<◌, ◌^◌, refl, sym, ◌∙◌, subst, List, map, Bool, length, arith, Vec, Global}
 use Rattle.frame_ast.specs.declared.kernel.Kernel.{Kernel}
-use Rattle.kernel_code.specs.declared.token.Token.{Token}
+use Rattle.kernel_code.specs.declared.mark.Mark.{Mark}
 use Rattle.kernel_code.specs.declared.raw.RawKernel.{RawKernel}
 use Rattle.kernel_code.specs.declared.raw.RawParam.{RawParam}
 use Rattle.kernel_code.specs.declared.raw.RawNode.{RawNode}
@@ -10,14 +10,15 @@ use Rattle.kernel_code.specs.Trees.{kind_at, raw_param_text}
 
 pub record Parts : Type 0 where
   pub source : List ℕ
-  pub tokens : List Token
+  pub marks : List Mark
+  pub line : ℕ
   pub parallel : Bool
   pub name : ℕ
   pub params : List RawParam
   pub nodes : List RawNode
 
 abbrev pub parts_of : RawKernel → Parts
-parts_of r = record { source = r.source.now; tokens = r.tokens.now; parallel = r.parallel; name = r.name; params = r.params.items; nodes = r.nodes.items }
+parts_of r = record { source = r.source.now; marks = r.marks.now; line = r.line; parallel = r.parallel; name = r.name; params = r.params.items; nodes = r.nodes.items }
 
 -- a vector can have so many items
 abbrev pub Fits : {A : Type 0} → List A → Type 0
@@ -29,7 +30,8 @@ with_items v xs few = record v { items = xs; len = length xs; cap = length xs; o
 abbrev pub placed : RawKernel → (p : Parts) → Fits p.params → Fits p.nodes → RawKernel
 placed r p few few_nodes = record r {
   source = record r.source { now = p.source };
-  tokens = record r.tokens { now = p.tokens };
+  marks = record r.marks { now = p.marks };
+  line = p.line;
   parallel = p.parallel;
   name = p.name;
   params = with_items r.params p.params few;

@@ -1,8 +1,8 @@
--- What is read of a file, wherever its bytes and its tokens lie in memory.
+-- What is read of a file, wherever its bytes and its marks lie in memory.
 use Rattle.std.proofs.Common.{ℕ, ◌≡◌, refl, sym, ◌∙◌, subst, ap, List}
 use Rattle.frame_ast.specs.declared.kernel.Kernel.{Kernel}
 use Rattle.frame_ast.specs.declared.script.Order.{Order}
-use Rattle.kernel_code.specs.declared.token.Token.{Token}
+use Rattle.kernel_code.specs.declared.mark.Mark.{Mark}
 use Rattle.frame_script.specs.declared.source.Source.{Source}
 use Rattle.frame_script.specs.Sources.{line_at, number_at}
 use Rattle.frame_script.specs.Raw.{OrderForm}
@@ -13,23 +13,23 @@ use Rattle.frame_script.specs.Files.{after_order, literals_of}
 
 pub record SameFile (s t : Source) : Type 0 where
   pub bytes : s.bytes.now ≡ t.bytes.now
-  pub tokens : s.tokens.now ≡ t.tokens.now
+  pub marks : s.marks.now ≡ t.marks.now
 
-abbrev pub placed : Source → List ℕ → List Token → Source
-placed s bytes tokens = record s { bytes = record s.bytes { now = bytes }; tokens = record s.tokens { now = tokens } }
+abbrev pub placed : Source → List ℕ → List Mark → Source
+placed s bytes marks = record s { bytes = record s.bytes { now = bytes }; marks = record s.marks { now = marks } }
 
--- what depends on the bytes and the tokens alone
+-- what depends on the bytes and the marks alone
 abbrev pub ByText : {X : Type 0} → (Source → X) → Type 0
-ByText f = (s t : Source) → f (placed s t.bytes.now t.tokens.now) ≡ f t
+ByText f = (s t : Source) → f (placed s t.bytes.now t.marks.now) ≡ f t
 
 pub by_text : {X : Type 0} (f : Source → X) → ByText f → (s t : Source) → SameFile s t → f s ≡ f t
 by_text f by s t same =
-    sym (by s s) ∙ ap (λ bytes. f (placed s bytes s.tokens.now)) same.bytes ∙ ap (λ tokens. f (placed s t.bytes.now tokens)) same.tokens ∙ by s t
+    sym (by s s) ∙ ap (λ bytes. f (placed s bytes s.marks.now)) same.bytes ∙ ap (λ marks. f (placed s t.bytes.now marks)) same.marks ∙ by s t
 
 -- and what is said of them
-pub by_text_said : (f : Source → Type 0) → ((s t : Source) → f (placed s t.bytes.now t.tokens.now) → f t) → ((s t : Source) → f t → f (placed s t.bytes.now t.tokens.now)) → (s t : Source) → SameFile s t → f s → f t
+pub by_text_said : (f : Source → Type 0) → ((s t : Source) → f (placed s t.bytes.now t.marks.now) → f t) → ((s t : Source) → f t → f (placed s t.bytes.now t.marks.now)) → (s t : Source) → SameFile s t → f s → f t
 by_text_said f out in_ s t same x =
-    out s t (subst (λ tokens. f (placed s t.bytes.now tokens)) same.tokens (subst (λ bytes. f (placed s bytes s.tokens.now)) same.bytes (in_ s s x)))
+    out s t (subst (λ marks. f (placed s t.bytes.now marks)) same.marks (subst (λ bytes. f (placed s bytes s.marks.now)) same.bytes (in_ s s x)))
 
 module _ (s t : Source) (same : SameFile s t) where
   pub same_line : (at : ℕ) → line_at s at ≡ line_at t at

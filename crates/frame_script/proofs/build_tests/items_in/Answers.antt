@@ -1,20 +1,23 @@
-use Rattle.std.proofs.Common.{◌≡◌, [], ◌∷◌, length, sym, ◌∙◌, ap, subst, arith}
-use Rattle.frame_grammar.specs.Sentences.{IsEnded}
+use Rattle.std.proofs.Common.{◌≡◌, [], ◌∷◌, sym, ◌∙◌, ap, subst, arith}
+use Rattle.frame_grammar.specs.Notes.{events_of}
+use Rattle.kernel_code.specs.Marks.{tokens_in}
 use Rattle.kernel_code.specs.Tokens.{tokens_of, up_to_bad}
-use Rattle.kernel_code.specs.Parsing.{kinds}
-use Rattle.kernel_code.proofs.Lexed.{lexed-few, lexed-ended}
 use Rattle.frame_script.specs.Items.{IsOpen, outside}
+use Rattle.frame_script.proofs.FileTokens.{few_marks, marks_ended}
 use Rattle.frame_script.proofs.build_tests.items_in.Goals as goal
 
 pub file_events-requires-clause-few : goal.file_events-requires-clause-few
 file_events-requires-clause-few c =
-    let size : length c.deref.result.now ≡ length (up_to_bad (tokens_of c.args.source.now)) = ap length (c.deref.ensures.value ∙ c.in_ok-tokens.ensures.tokens) in
-    omega (arith, lexed-few c.args.source.now)
+    let bytes = c.args.source.now in
+    let lexed : tokens_in bytes 1 c.deref.result.now ≡ up_to_bad (tokens_of bytes) = ap (tokens_in bytes 1) c.deref.ensures.value ∙ c.in_ok-marks.ensures.tokens in
+    omega (arith, few_marks bytes c.deref.result.now lexed)
 
 pub file_events-requires-clause-ended : goal.file_events-requires-clause-ended
-file_events-requires-clause-ended c = subst (λ ts. IsEnded (kinds ts)) (sym (c.deref.ensures.value ∙ c.in_ok-tokens.ensures.tokens)) (lexed-ended c.args.source.now)
+file_events-requires-clause-ended c =
+    let bytes = c.args.source.now in
+    marks_ended bytes c.deref.result.now (ap (tokens_in bytes 1) c.deref.ensures.value ∙ c.in_ok-marks.ensures.tokens)
 
 pub items_of-requires : goal.items_of-requires
 items_of-requires c =
     let file = c.in-Ok.ensures.items in
-    subst IsOpen (sym c.deref-in-Ok.ensures.value) (record { items = file.items ∷ []; spells = outside file.spells })
+    subst IsOpen (sym (ap events_of c.deref-in-Ok.ensures.value)) (record { items = file.items ∷ []; spells = outside file.spells })

@@ -1,4 +1,5 @@
 use Rattle.std.proofs.Common.{sym, subst}
+use Rattle.frame_grammar.specs.Notes.{events_of}
 use Rattle.frame_script.specs.Items.{Leads}
 use Rattle.frame_script.proofs.Walks.{GoesOn, after_kernel, after_order, after_end}
 use Rattle.frame_script.proofs.build_tests.items_of.Goals as goal
@@ -6,7 +7,7 @@ use Rattle.frame_script.proofs.build_tests.items_of.Goals.{in-Kernel+in_ok-write
 
 pub loop-preserved : goal.loop-preserved
 loop-preserved c =
-    let all = c.args.events.now in
+    let all = events_of c.args.notes.now in
     let at = c.loop.at in
     let items = c.loop.invariant.spelled.items in
     let leads = c.in_ok-raw_item.ensures items c.loop.invariant.spelled.spells in

@@ -1,64 +1,95 @@
-use Rattle.std.proofs.Common.{◌≡◌, Err, refl, sym, ◌∙◌, ap, subst, length, arith, get_or}
-use Rattle.frame_grammar.specs.declared.symbols.Nonterminal.TheVariants.{File}
-use Rattle.frame_grammar.specs.Sentences.{IsEnded, IsFault}
+use Rattle.std.proofs.Common.{◌≡◌, Err, List, All, map, slice_get, refl, sym, ◌∙◌, ap, subst, arith}
+use Rattle.frame_grammar.specs.declared.TokenKind.{TokenKind}
+use Rattle.frame_grammar.specs.declared.symbols.Event.{Event}
+use Rattle.frame_grammar.specs.declared.note.Note.{Note}
+use Rattle.frame_grammar.specs.Notes.{events_of}
+use Rattle.kernel_code.specs.declared.mark.Mark.{Mark}
+use Rattle.kernel_code.specs.Marks.{IsOfKind, kind_of, tokens_in}
 use Rattle.kernel_code.specs.Tokens.{tokens_of, up_to_bad}
 use Rattle.kernel_code.specs.Parsing.{kinds}
-use Rattle.kernel_code.proofs.Lexed.{lexed-few, lexed-ended}
+use Rattle.kernel_code.specs.StaticFaults.{token_line}
+use Rattle.kernel_code.specs.Legible.{NamesAreText, NamesStand}
 use Rattle.frame_script.specs.declared.fault.LoadFault.TheVariants as load
 use Rattle.frame_script.specs.declared.source.Source.{Source}
+use Rattle.frame_script.specs.Raw.{IsFile}
+use Rattle.frame_script.specs.Sources.{file_tokens}
 use Rattle.frame_script.specs.Loading.{IsRefused}
+use Rattle.frame_script.proofs.FileTokens.{few_marks, marks_ended, kinds_in_file}
 use Rattle.frame_script.proofs.KernelWalks.{of_refusal}
 use Rattle.frame_script.proofs.WalkSteps.{exit_is}
 use Rattle.frame_script.proofs.Loads.{IsRead, read_of, spelled, script_accepted, no_syntax, refused_statically, refused_as_long, if_ok}
 use Rattle.frame_script.proofs.load.parse_script.Goals as goal
 
+-- what is said of the marks and notes that the parser was given and answers holds of those of the file
+of_file : (P : List TokenKind → List Event → Type 0) (s : Source) (marks : List Mark) (notes found : List Note) → marks ≡ s.marks.now → notes ≡ found → P (map kind_of marks) (events_of found) → P (kinds (file_tokens s)) (events_of notes)
+of_file P s marks notes found marks_are notes_are p =
+    subst (λ ns. P (kinds (file_tokens s)) (events_of ns)) (sym notes_are) (subst (λ ks. P ks (events_of found)) (kinds_in_file s marks marks_are) p)
+
 pub file_events-requires-clause-few : goal.file_events-requires-clause-few
 file_events-requires-clause-few c =
-    let size : length c.deref.result.now ≡ length (up_to_bad (tokens_of c.args.source.now)) = ap length (c.deref.ensures.value ∙ c.in_ok-tokens.ensures.tokens) in
-    omega (arith, lexed-few c.args.source.now, c.requires)
+    let bytes = c.args.source.now in
+    let lexed : tokens_in bytes 1 c.deref.result.now ≡ up_to_bad (tokens_of bytes) = ap (tokens_in bytes 1) c.deref.ensures.value ∙ c.in_ok-marks.ensures.tokens in
+    omega (arith, few_marks bytes c.deref.result.now lexed, c.requires)
 
 pub file_events-requires-clause-ended : goal.file_events-requires-clause-ended
-file_events-requires-clause-ended c = subst (λ ts. IsEnded (kinds ts)) (sym (c.deref.ensures.value ∙ c.in_ok-tokens.ensures.tokens)) (lexed-ended c.args.source.now)
+file_events-requires-clause-ended c =
+    let bytes = c.args.source.now in
+    marks_ended bytes c.deref.result.now (ap (tokens_in bytes 1) c.deref.ensures.value ∙ c.in_ok-marks.ensures.tokens)
+
+pub line_at-requires : goal.line_at-requires
+line_at-requires c =
+    let bytes = c.args.source.now in
+    let given = c.deref-in-Err-Syntax.result.now in
+    let lexed : tokens_in bytes 1 given ≡ up_to_bad (tokens_of bytes) = ap (tokens_in bytes 1) c.deref-in-Err-Syntax.ensures.value ∙ c.in_ok-marks.ensures.tokens in
+    omega (arith, few_marks bytes given lexed, c.requires)
 
 pub returns-in-Err-Syntax-clause-refused : goal.returns-in-Err-Syntax-clause-refused
 returns-in-Err-Syntax-clause-refused c line kind is =
     let bytes = c.args.source.now in
     let fault = c.in-Err-Syntax.ensures.fault c.in-Err-Syntax.place (ap (λ e. Err e) c.in-Err-Syntax.field-0-is) in
-    let place = c.in-Err-Syntax.place in
-    let items = c.in_ok-tokens.tokens.items in
+    let marks = c.deref.result.now in
     of_refusal (IsRefused bytes) _ line _ kind is
-    (no_syntax bytes items place c.index.result.now c.in_ok-tokens.ensures.tokens (subst (λ ts. IsFault File (kinds ts) place) c.deref.ensures.value fault)
-    (c.index.ensures ∙ ap (λ i. get_or items i c.index.result.now) c.in-Err-Syntax.place-is))
+    (no_syntax bytes marks c.in-Err-Syntax.place _ (ap (tokens_in bytes 1) c.deref.ensures.value ∙ c.in_ok-marks.ensures.tokens) fault
+    (subst (λ ms. c.line_at.result ≡ token_line (slice_get (tokens_in bytes 1 ms) c.in-Err-Syntax.place)) (c.deref-in-Err-Syntax.ensures.value ∙ sym c.deref.ensures.value)
+    (c.line_at.ensures bytes ∙ ap (λ i. token_line (slice_get (tokens_in bytes 1 c.deref-in-Err-Syntax.result.now) i)) c.in-Err-Syntax.place-is)))
 
-pub walk_file-requires-clause-few : goal.walk_file-requires-clause-few
-walk_file-requires-clause-few c =
-    let size : length c.deref-2.result.now ≡ length (up_to_bad (tokens_of c.args.source.now)) = ap length (c.deref-2.ensures.value ∙ c.in_ok-tokens.ensures.tokens) in
-    omega (arith, lexed-few c.args.source.now, c.requires)
+pub walk_file-requires : goal.walk_file-requires
+walk_file-requires c =
+    let bytes = c.args.source.now in
+    let s : Source = record { bytes = c.args.source; marks = c.deref-2.result } in
+    let same = c.deref.ensures.value ∙ sym c.deref-2.ensures.value in
+    let lexed : tokens_in bytes 1 s.marks.now ≡ up_to_bad (tokens_of bytes) = ap (tokens_in bytes 1) c.deref-2.ensures.value ∙ c.in_ok-marks.ensures.tokens in
+    record {
+      few = omega (arith, few_marks bytes s.marks.now lexed, c.requires);
+      text = subst (λ ms. NamesAreText bytes (tokens_in bytes 1 ms)) (sym c.deref-2.ensures.value) c.in_ok-marks.ensures.text;
+      named = of_file NamesStand s c.deref.result.now c.deref-3.result.now c.in-Ok.found.events.items same c.deref-3.ensures.value c.in-Ok.ensures.named;
+      file = of_file IsFile s c.deref.result.now c.deref-3.result.now c.in-Ok.found.events.items same c.deref-3.ensures.value c.in-Ok.ensures.items;
+    }
 
 pub returns-in_err-walk-clause-refused : goal.returns-in_err-walk-clause-refused
 returns-in_err-walk-clause-refused c line kind is =
     let bytes = c.args.source.now in
-    let s : Source = record { bytes = c.args.source; tokens = c.deref-2.result } in
-    let read : IsRead bytes s c.deref-3.result.now = read_of bytes s c.in_ok-tokens.tokens.items c.deref.result.now c.in-Ok.found.read c.deref-3.result.now c.in-Ok.found.events.items refl c.deref-2.ensures.value c.deref.ensures.value c.in_ok-tokens.ensures.tokens c.deref-3.ensures.value c.in-Ok.ensures.sentence in
+    let s : Source = record { bytes = c.args.source; marks = c.deref-2.result } in
+    let read : IsRead bytes s (events_of c.deref-3.result.now) = read_of bytes s c.deref.result.now c.in-Ok.found.read c.deref-3.result.now c.in-Ok.found.events.items refl (c.deref.ensures.value ∙ sym c.deref-2.ensures.value) (ap (tokens_in bytes 1) c.deref.ensures.value ∙ c.in_ok-marks.ensures.tokens) (subst (All IsOfKind) (sym c.deref.ensures.value) c.in_ok-marks.ensures.exact) c.deref-3.ensures.value c.in-Ok.ensures.sentence in
     let told = exit_is c.from_residual-in_err-walk.result _ (load.Refused line kind) c.from_residual-in_err-walk.ensures.1 is in
-    refused_statically bytes s c.deref-3.result.now line kind read (c.in_err-walk.ensures.refused line kind (ap (λ e. Err e) told))
+    refused_statically bytes s (events_of c.deref-3.result.now) line kind read (c.in_err-walk.ensures.refused line kind (ap (λ e. Err e) told))
 
 pub returns-clause-script : goal.returns-clause-script
 returns-clause-script c =
     let bytes = c.args.source.now in
-    let s : Source = record { bytes = c.args.source; tokens = c.deref-2.result } in
-    let read : IsRead bytes s c.deref-3.result.now = read_of bytes s c.in_ok-tokens.tokens.items c.deref.result.now c.in-Ok.found.read c.deref-3.result.now c.in-Ok.found.events.items refl c.deref-2.ensures.value c.deref.ensures.value c.in_ok-tokens.ensures.tokens c.deref-3.ensures.value c.in-Ok.ensures.sentence in
-    if_ok c.script_of.result (λ script g. spelled bytes s c.deref-3.result.now c.in_ok-walk.walk script read c.in_ok-walk.ensures.through g) c.script_of.ensures.script
+    let s : Source = record { bytes = c.args.source; marks = c.deref-2.result } in
+    let read : IsRead bytes s (events_of c.deref-3.result.now) = read_of bytes s c.deref.result.now c.in-Ok.found.read c.deref-3.result.now c.in-Ok.found.events.items refl (c.deref.ensures.value ∙ sym c.deref-2.ensures.value) (ap (tokens_in bytes 1) c.deref.ensures.value ∙ c.in_ok-marks.ensures.tokens) (subst (All IsOfKind) (sym c.deref.ensures.value) c.in_ok-marks.ensures.exact) c.deref-3.ensures.value c.in-Ok.ensures.sentence in
+    if_ok c.script_of.result (λ script g. spelled bytes s (events_of c.deref-3.result.now) c.in_ok-walk.walk script read c.in_ok-walk.ensures.through g) c.script_of.ensures.script
 
 pub returns-clause-accepted : goal.returns-clause-accepted
 returns-clause-accepted c =
-    let s : Source = record { bytes = c.args.source; tokens = c.deref-2.result } in
-    if_ok c.script_of.result (λ script g. script_accepted s c.deref-3.result.now c.in_ok-walk.walk script c.in_ok-walk.ensures.through g) c.script_of.ensures.script
+    let s : Source = record { bytes = c.args.source; marks = c.deref-2.result } in
+    if_ok c.script_of.result (λ script g. script_accepted s (events_of c.deref-3.result.now) c.in_ok-walk.walk script c.in_ok-walk.ensures.through g) c.script_of.ensures.script
 
 pub returns-clause-refused : goal.returns-clause-refused
 returns-clause-refused c line kind is =
     let bytes = c.args.source.now in
-    let s : Source = record { bytes = c.args.source; tokens = c.deref-2.result } in
-    let read : IsRead bytes s c.deref-3.result.now = read_of bytes s c.in_ok-tokens.tokens.items c.deref.result.now c.in-Ok.found.read c.deref-3.result.now c.in-Ok.found.events.items refl c.deref-2.ensures.value c.deref.ensures.value c.in_ok-tokens.ensures.tokens c.deref-3.ensures.value c.in-Ok.ensures.sentence in
+    let s : Source = record { bytes = c.args.source; marks = c.deref-2.result } in
+    let read : IsRead bytes s (events_of c.deref-3.result.now) = read_of bytes s c.deref.result.now c.in-Ok.found.read c.deref-3.result.now c.in-Ok.found.events.items refl (c.deref.ensures.value ∙ sym c.deref-2.ensures.value) (ap (tokens_in bytes 1) c.deref.ensures.value ∙ c.in_ok-marks.ensures.tokens) (subst (All IsOfKind) (sym c.deref.ensures.value) c.in_ok-marks.ensures.exact) c.deref-3.ensures.value c.in-Ok.ensures.sentence in
     let e = c.script_of.ensures.excess line kind is in
-    refused_as_long bytes s c.deref-3.result.now c.in_ok-walk.walk line kind read c.in_ok-walk.ensures.through e.0 e.1
+    refused_as_long bytes s (events_of c.deref-3.result.now) c.in_ok-walk.walk line kind read c.in_ok-walk.ensures.through e.0 e.1

@@ -16,4 +16,5 @@ loop-walk-init c =
         opens = outside file.spells;
         is = at_first c.args.source file.items c.new-walk.result file.stand w.names w.kernels w.literals w.written w.tested w.around;
       };
+      on = c.new-lines.ensures.on c.args.source;
     }

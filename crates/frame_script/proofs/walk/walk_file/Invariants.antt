@@ -1,9 +1,15 @@
 use Rattle.std.proofs.Common.{◌≤◌, ◌-◌, length}
+use Rattle.frame_grammar.specs.Notes.{events_of}
+use Rattle.frame_script.specs.Lines.{IsOn}
 use Rattle.frame_script.specs.Walking.{IsWalking}
 use Rattle.frame_script.proofs.walk.walk_file.Given as goal
 
 abbrev pub invariant-loop-walk : goal.invariant-loop-walk
-invariant-loop-walk l = record { within : l.at ≤ length l.events; walking : IsWalking l.source l.events l.at l.walk }
+invariant-loop-walk l = record {
+  within : l.at ≤ length (events_of l.notes);
+  walking : IsWalking l.source (events_of l.notes) l.at l.walk;
+  on : IsOn l.source l.lines;
+}
 
 abbrev pub decreases-loop-walk : goal.decreases-loop-walk
-decreases-loop-walk l = length l.events - l.at
+decreases-loop-walk l = length (events_of l.notes) - l.at

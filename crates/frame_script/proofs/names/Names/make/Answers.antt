@@ -1,9 +1,8 @@
-use Rattle.std.proofs.Common.{arith, rules, ◌≡◌, ◌∙◌, ◌<◌, ◌-◌, ◌^◌, ◌++◌, ◌∷◌, [], true, false, Some, None, is_some, sym, ap, subst, length, map}
+use Rattle.std.proofs.Common.{arith, rules, ◌≡◌, ◌∙◌, ◌<◌, ◌-◌, ◌^◌, true, false, Some, None, is_some, sym, ap, subst, length, map}
 use Rattle.std.specs.Str.{bytes_eq}
 use Rattle.std.specs.Ordering.{nat_cmp}
 use Rattle.std.specs.BTreeMap.{UpdatesBy}
 use Rattle.std.proofs.lemmas.List.{length-map}
-use Rattle.frame_script.specs.declared.names.Entry.{Entry}
 use Rattle.frame_script.specs.Names.{place_in}
 use Rattle.frame_script.specs.Index.{known_of, hash_of, first_of, other_of}
 use Rattle.frame_script.proofs.NameLemmas.{on_ok, none_from}

@@ -1,4 +1,4 @@
-use Rattle.std.proofs.Common.{rules, ◌≡◌, ◌∙◌, Bool, true, false, Some, sym}
+use Rattle.std.proofs.Common.{rules, ◌≡◌, ◌∙◌, true, false, Some, sym}
 use Rattle.std.specs.Str.{bytes_eq}
 use Rattle.frame_script.specs.Index.{hash_of, first_of, other_of}
 use Rattle.frame_script.proofs.IndexLemmas.{found_first, found_other}

@@ -14,16 +14,16 @@ returns c =
     let said = c.in_ok-act.ensures in
     let names = c.in_ok-make_name.ensures in
     let literals : c.in_ok-literals.literals ≡ length old.literals.items = c.in_ok-literals.ensures ∙ (c.len.ensures ∙ old.literals.ok.0) in (
-      sym (ap first_some (plain_faults s (scope_of old) c.args.at form c.requires)) ∙ said.0,
+      sym (ap first_some (plain_faults s (scope_of old) c.args.at form c.requires.single)) ∙ said.0,
       record {
         names = names;
         kernels = refl;
         around = refl;
         tested = refl;
         literals = c.in_ok-keep_list.ensures ∙ ap (λ x. lists_in old.literals ++ x) said.1.1;
-        statement = record { line = c.line.result; act = c.in_ok-act.act };
+        statement = record { line = c.args.line; act = c.in_ok-act.act };
         is = record {
-          line = c.line.ensures;
+          line = c.requires.line;
           says = subst (λ n. Says s c.make_name.new.names old.kernels n 0 form c.in_ok-act.act) literals (subst (λ ns. Says s ns old.kernels c.in_ok-literals.literals 0 form c.in_ok-act.act) (sym names) said.1.0);
         };
         written = c.in_ok-add.ensures;

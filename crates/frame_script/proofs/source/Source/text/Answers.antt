@@ -1,0 +1,12 @@
+use Rattle.frame_script.proofs.FileTokens.{text_said, no_text}
+use Rattle.frame_script.proofs.source.Source.text.Goals as goal
+
+pub returns-in-None : goal.returns-in-None
+returns-in-None c =
+    let found = c.in-None.ensures in
+    no_text c.args.self c.args.at found.lookup.3
+
+pub returns-in-Some : goal.returns-in-Some
+returns-in-Some c =
+    let found = c.in-Some.ensures in
+    text_said c.args.self c.args.at c.in-Some.mark.now c.text.result.now found.lookup.3.0 found.lookup.1 c.text.ensures
