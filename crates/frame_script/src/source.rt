@@ -4,7 +4,7 @@ ghost use Rattle.std.specs.Prelude.{◌≡◌, ◌-◌, ◌<◌, ◌^◌, min, l
 ghost use Rattle.frame_script.specs.Signs.{sign_of, sign_in};
 
 use frame_ast::script::Sign;
-use kernel_code::{Mark, TokenKind, line_at, value_of};
+use kernel_code::{Mark, TokenKind, line_at};
 
 /// A file: its bytes, and its tokens.
 #[derive(Clone, Copy, Debug)]
@@ -41,7 +41,10 @@ impl<'a> Source<'a> {
     pub fn number(self, at: u32) -> u64
         ensures { result ≡ min (number_at self.entry at) (2 ^ 64 - 1) }
     {
-        value_of(self.text(at))
+        match self.marks.get(at as usize) {
+            None => 0,
+            Some(mark) => mark.value(self.bytes),
+        }
     }
 
     /// The Text at a place, without its quotes.

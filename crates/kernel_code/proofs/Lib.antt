@@ -50,3 +50,4 @@ pub mod ParamLimits
 pub mod Limits
 pub mod Checking
 pub mod Decimals
+pub mod Values

@@ -5,6 +5,7 @@ pub mod Fronts
 pub mod Marks
 pub mod Raw
 pub mod StaticFaults
+pub mod Numbers
 pub mod Trees
 pub mod Reading
 pub mod Parsing

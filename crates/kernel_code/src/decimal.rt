@@ -1,7 +1,8 @@
 //! The values of Numbers.
 
-ghost use Rattle.std.specs.Prelude.{◌≡◌, ◌≤◌, min, length};
+ghost use Rattle.std.specs.Prelude.{◌≡◌, ◌≤◌, min, length, IfSome};
 ghost use Rattle.kernel_code.specs.StaticFaults.{value_of};
+ghost use Rattle.kernel_code.specs.Numbers.{front_value};
 ghost use Rattle.kernel_code.specs.declared.decimal.TheConstants.{PLAIN_DIGITS};
 
 /// So many digits make no more than 64 bits, whatever bytes they are.
@@ -40,4 +41,27 @@ pub fn value_of(digits: &[u8]) -> u64
     } else {
         saturated_value(digits)
     }
+}
+
+/// The value of the digits that the bytes begin with, or none where there is no digit or where there are too many.
+///
+/// Where they end is found as they are read.
+pub fn front_value(bytes: &[u8]) -> Option<u64>
+    ensures value { result ≡ front_value PLAIN_DIGITS bytes.now }
+    ensures fits { IfSome result (λ value. value ≤ 18446744073709551615) }
+{
+    let limit = bytes.len().min(PLAIN_DIGITS);
+    let mut value: u64 = 0;
+    let mut end = 0;
+    while end < limit && bytes[end].is_ascii_digit() {
+        value = value * 10 + u64::from(bytes[end] - b'0');
+        end += 1;
+    }
+    if end == 0 {
+        return None;
+    }
+    if end < bytes.len() && bytes[end].is_ascii_digit() {
+        return None;
+    }
+    Some(value)
 }

@@ -3,13 +3,14 @@
 //! The tokens of a whole file stand in memory, so each takes as little as it can: a file has fewer than 2^25 bytes, and
 //! there are fewer than 2^7 kinds. Where a token ends is read again in the file, and its line is counted.
 
-ghost use Rattle.std.specs.Prelude.{◌≡◌, ◌<◌, ◌^◌, ◌+◌, ℕ, List, length, slice_get};
+ghost use Rattle.std.specs.Prelude.{◌≡◌, ◌<◌, ◌^◌, ◌+◌, ℕ, List, length, min, slice_get};
 ghost use Rattle.std.specs.Str.{bytes_eq};
 ghost use Rattle.kernel_code.specs.declared.mark.TheConstants.{KINDS};
 ghost use Rattle.kernel_code.specs.Marks.{kind_numbered, kind_of, start_of, IsOfKind, is_line, token_in, tokens_in, lines_in};
-ghost use Rattle.kernel_code.specs.StaticFaults.{token_line};
+ghost use Rattle.kernel_code.specs.StaticFaults.{token_line, value_of};
 ghost use Rattle.kernel_code.specs.Tokens.{text_of};
 
+use crate::decimal::{front_value, value_of};
 use crate::word::front_end;
 use frame_grammar::{HasKind, TokenKind};
 
@@ -219,6 +220,22 @@ impl Mark {
             return false;
         }
         is_same(self.text(source), name)
+    }
+
+    /// The value of its digits, or 2 ^ 64 - 1 where it is greater.
+    // Numbers are short, and then their digits are read once.
+    pub fn value(self, source: &[u8]) -> u64
+        ensures { (line : ℕ) →
+            result ≡ min 18446744073709551615 (value_of (text_of source.now (token_in source.now line self))) }
+    {
+        let start = self.start() as usize;
+        if start < source.len()
+            && matches!(self.kind(), TokenKind::Number)
+            && let Some(value) = front_value(&source[start..])
+        {
+            return value;
+        }
+        value_of(self.text(source))
     }
 }
 

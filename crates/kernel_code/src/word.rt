@@ -157,8 +157,8 @@ fn symbol_at(source: &[u8], place: usize) -> Front
 }
 
 /// What stands at a place of a file: the longest word, or a byte that begins none.
-// The lexer's loop takes half of its time from it, and the compiler puts it in line there only if it is told to, since
-// `other_end` calls it too.
+// `other_end` calls it too, and a function that two call the compiler puts in line in the lexer's loop only if it is
+// told to.
 #[inline(always)]
 pub fn front_at(source: &[u8], place: usize) -> Front
     requires { place < length source.now }

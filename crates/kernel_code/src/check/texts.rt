@@ -3,7 +3,6 @@ ghost use Rattle.std.specs.Prelude.{◌≡◌, ◌<◌, ◌+◌, ◌^◌, min, l
 ghost use Rattle.std.specs.Str.{bytes_eq};
 ghost use Rattle.kernel_code.specs.StaticFaults.{text_at, line_at, value_at};
 
-use crate::decimal::value_of;
 use crate::mark;
 use crate::raw::RawKernel;
 
@@ -39,5 +38,8 @@ pub fn line_at(raw: &RawKernel<'_>, at: u32) -> u32
 pub fn value_at(raw: &RawKernel<'_>, at: u32) -> u64
     ensures { result ≡ min 18446744073709551615 (value_at raw.now at) }
 {
-    value_of(text_at(raw, at))
+    match raw.marks.get(at as usize) {
+        Some(mark) => mark.value(raw.source),
+        None => 0,
+    }
 }

@@ -1,0 +1,18 @@
+use Rattle.std.proofs.Common.{◌+◌, min, take, sym, ◌∙◌, ap}
+use Rattle.std.proofs.lemmas.Bool.{ltb-true, ltb-false}
+use Rattle.kernel_code.specs.Marks.{lines_in}
+use Rattle.kernel_code.specs.StaticFaults.{token_text, value_of}
+use Rattle.kernel_code.proofs.Marks.{token_there, no_token}
+use Rattle.kernel_code.proofs.check.texts.value_at.Goals as goal
+
+pub returns-in-Some : goal.returns-in-Some
+returns-in-Some c =
+    let raw = c.args.raw.now in
+    let there = c.in-Some.ensures.lookup in
+    c.value.ensures (raw.line + lines_in (take c.args.at raw.marks.now))
+    ∙ sym (ap (λ found. min 18446744073709551615 (value_of (token_text raw.source.now found))) (token_there raw.source.now raw.line raw.marks.now c.args.at c.in-Some.mark.now (ltb-true _ _ (sym there.0)) there.1))
+
+pub returns-in-None : goal.returns-in-None
+returns-in-None c =
+    let raw = c.args.raw.now in
+    sym (ap (λ found. min 18446744073709551615 (value_of (token_text raw.source.now found))) (no_token raw.source.now raw.line raw.marks.now c.args.at (ltb-false _ _ (sym c.in-None.ensures.lookup.0))))
