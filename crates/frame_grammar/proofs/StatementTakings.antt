@@ -1,6 +1,5 @@
 -- What the parser's steps for statements of a script do is what the table says.
-use Rattle.std.proofs.Common.{◌≡◌, ℕ, ◌<◌, true, false, ◌∷◌, [], List, ◌++◌, length, drop, reverse, Option, Some, None, option_to_list, is_some, refl, sym, ◌∙◌, ap, subst, arith}
-use Rattle.std.proofs.lemmas.List.{length-reverse}
+use Rattle.std.proofs.Common.{◌≡◌, ℕ, ◌<◌, false, ◌∷◌, [], List, ◌++◌, drop, Some, refl, sym, subst, arith}
 use denote.Enum.Bare.{sameb}
 use Rattle.frame_grammar.specs.contracts.TokenKind.{the_type as the_kind}
 use Rattle.frame_grammar.specs.declared.TokenKind.{TokenKind}
@@ -17,16 +16,8 @@ use Rattle.frame_grammar.specs.Table.{choices_of, default_of}
 use Rattle.frame_grammar.specs.Predict.{predicted, same_kind}
 use Rattle.frame_grammar.specs.Parser.{Takes, Goes, weight}
 use Rattle.frame_grammar.specs.Shortcuts.{tells_life}
-use Rattle.frame_grammar.proofs.Steps.{Leads, leads_start, goes_on_by, acts, smaller, top}
+use Rattle.frame_grammar.proofs.Steps.{Leads, leads_start, goes_on_by, acts, smaller}
 use Rattle.frame_grammar.proofs.Takings.{takes, leaves}
-
--- what is left of the stack when its top is gone
-pub popped : (items left : List Symbol) (n : ℕ) (o : Option Symbol) (s : Symbol) (rest : List Symbol) → items ≡ left ++ option_to_list o → length items ≡ n → (0 < n → is_some o ≡ true) →
-    reverse items ≡ s ∷ rest → reverse left ≡ rest
-popped items left n (Some t) s rest e size some is = let on_top = sym (top items left (Some t) t e refl) ∙ is in ap (drop 1) on_top
-popped items left n None s rest e size some is =
-    let filled : 0 < n = omega (arith, ap length is, length-reverse items, size) in
-    let there = some filled in cc
 
 same_some : {p q : Production} → Some p ≡ Some q → p ≡ q
 same_some e = cc

@@ -1,24 +1,23 @@
 -- What the steps of the parser do to its stack and its events.
-use Rattle.std.proofs.Common.{suc, ◌≡◌, ⊎_elim, ℕ, ◌+◌, ◌-◌, ◌<◌, ◌≤◌, ◌==◌, Bool, true, false, List, [], ◌∷◌, ◌++◌, length, drop, take, get_or, reverse, Option, Some, None, option_to_list, refl, sym, ◌∙◌, ap, subst, arith, add-one, drop-cons, cond, append_assoc, take-add, length-take, length-drop, take_all, MatchBool}
-use Rattle.std.proofs.lemmas.List.{take_more, reverse-append, reverse-reverse, append-nil}
-use Rattle.std.proofs.lemmas.Bool.{cases_lt, eqb-true, eqb-false}
-use Rattle.std.specs.Option.{is_some}
+use Rattle.std.proofs.Common.{suc, ◌≡◌, ⊎_elim, ℕ, ◌+◌, ◌-◌, ◌<◌, ◌≤◌, Bool, true, false, List, [], ◌∷◌, ◌++◌, length, drop, take, get_or, Some, None, refl, sym, ◌∙◌, ap, subst, arith, add-one, drop-cons, cond, append_assoc, take-add, length-take, length-drop, take_all, MatchBool}
+use Rattle.std.proofs.lemmas.List.{take_more, append-nil}
+use Rattle.std.proofs.lemmas.Bool.{cases_lt}
+use Rattle.std.specs.Prelude.{not}
 use denote.Enum.Bare.{sameb, same_true, same_false}
 use Rattle.frame_grammar.specs.contracts.TokenKind.{the_type}
 use Rattle.frame_grammar.specs.declared.TokenKind.{TokenKind}
 use Rattle.frame_grammar.specs.declared.TokenKind.TheVariants.{End}
 use Rattle.frame_grammar.specs.declared.symbols.Nonterminal.{Nonterminal}
-use Rattle.frame_grammar.specs.declared.symbols.Nonterminal.TheVariants.{Lines}
 use Rattle.frame_grammar.specs.declared.symbols.Action.{Action}
 use Rattle.frame_grammar.specs.declared.symbols.Symbol.{Symbol}
 use Rattle.frame_grammar.specs.declared.symbols.Symbol.TheVariants as symbol
 use Rattle.frame_grammar.specs.declared.symbols.Event.{Event}
 use Rattle.frame_grammar.specs.declared.symbols.Production.{Production}
-use Rattle.frame_grammar.specs.Grammar.{written, body_of}
+use Rattle.frame_grammar.specs.Grammar.{body_of}
 use Rattle.frame_grammar.specs.Sets.{is_nullable_of, rank_of}
 use Rattle.frame_grammar.specs.Sentences.{IsStart, IsSentence, IsViable, IsFault, IsOnlySentence, IsEnded}
 use Rattle.frame_grammar.specs.Predict.{found, predicted, same_kind}
-use Rattle.frame_grammar.specs.Parser.{weight, weight_after, closes, IsReached, IsReachedAt, Takes, Stops}
+use Rattle.frame_grammar.specs.Parser.{Between, weight, weight_after, closes, IsReached, IsReachedAt, Takes, Stops}
 use Rattle.frame_grammar.proofs.Theory.{weight-append, nullable, nullable-from}
 use Rattle.frame_grammar.proofs.Checks.{spelled, ends_nullable, lower, own}
 use Rattle.frame_grammar.proofs.Run.{expand, act, shift, viable, finished, only_here, refuses, stuck_empty, stuck_terminal, stuck_nonterminal, reached_start, reached_at}
@@ -34,21 +33,18 @@ pub found-later : (xs : List (TokenKind × Production)) (i : ℕ) (d : TokenKind
 unfolding same_kind
 found-later xs i d k h e = rw (add-one, drop-cons xs i d h) (ap (λ b. cond b (Some (get_or xs i d).1) (found (drop (suc i) xs) k)) e)
 
+not_false : (b : Bool) → not b ≡ false → b ≡ true
+not_false true e = refl
+not_false false e = cc
+
 pub kinds_same : (j k : TokenKind) → sameb the_type j k ≡ true → j ≡ k
 kinds_same j k e = same_true the_type tt j k e
 
+pub kinds_same_not : (j k : TokenKind) → not (sameb the_type j k) ≡ false → j ≡ k
+kinds_same_not j k e = kinds_same j k (not_false (sameb the_type j k) e)
+
 pub kinds_differ : (j k : TokenKind) → sameb the_type j k ≡ false → j ≡ k → ⊥
 kinds_differ j k e h = same_false the_type j k e h
-
--- the last item is on top of the stack
-pub top : (items rest : List Symbol) (o : Option Symbol) (s : Symbol) → items ≡ rest ++ option_to_list o → o ≡ Some s → reverse items ≡ s ∷ reverse rest
-top items rest o s e h = ap reverse (e ∙ ap (λ x. rest ++ option_to_list x) h) ∙ reverse-append rest (s ∷ [])
-
-pub no_top : (items : List Symbol) (n : ℕ) (o : Option Symbol) → length items ≡ n → (0 < n → is_some o ≡ true) →
-    ((s : Symbol) → o ≡ Some s → ⊥) → items ≡ []
-no_top [] n o e some none = refl
-no_top (x ∷ items) n (Some s) e some none = absurd (none s refl)
-no_top (x ∷ items) n None e some none = let lt : 0 < n = omega arith in let f = some lt in cc
 
 -- Where the stack ss0 was reached, the stack ss is; and where ss0 closes, ss does.
 pub record Leads (ahead : TokenKind) (place : ℕ) (done0 : List Event) (ss0 : List Symbol) (done : List Event) (ss : List Symbol) : Type 0 where
@@ -107,32 +103,6 @@ smaller ahead n p ss e =
 -- an action too
 pub less_by_action : (a : Action) (ss : List Symbol) → weight ss < weight (symbol.Action a ∷ ss)
 less_by_action a ss = omega arith
-
-pub body_on_top : (items rest : List Symbol) (p : Production) → items ≡ rest ++ reverse (body_of p) → reverse items ≡ body_of p ++ reverse rest
-body_on_top items rest p e = ap reverse e ∙ reverse-append rest (reverse (body_of p)) ∙ ap (λ x. x ++ reverse rest) (reverse-reverse (body_of p))
-
-written-append : (has_lines : Bool) (xs ys : List Symbol) → written has_lines (xs ++ ys) ≡ written has_lines xs ++ written has_lines ys
-written-append false xs ys = refl
-written-append true [] ys = refl
-written-append true (symbol.Terminal k ∷ xs) ys = ap (λ ss. symbol.Terminal k ∷ symbol.Nonterminal Lines ∷ ss) (written-append true xs ys)
-written-append true (symbol.Action a ∷ xs) ys = ap (λ ss. symbol.Action a ∷ ss) (written-append true xs ys)
-written-append true (symbol.Nonterminal n ∷ xs) ys = ap (λ ss. symbol.Nonterminal n ∷ ss) (written-append true xs ys)
-
--- One more symbol from the end of a body.
-pub pushed : (has_lines : Bool) (items items' rest rest' all : List Symbol) (s : Symbol) → rest ≡ rest' ++ s ∷ [] →
-    items' ≡ items ++ reverse (written has_lines (s ∷ [])) → items ++ reverse (written has_lines rest) ≡ all →
-    items' ++ reverse (written has_lines rest') ≡ all
-pushed has_lines items items' rest rest' all s e h w =
-    let split = ap (λ xs. items ++ reverse xs) (ap (written has_lines) e ∙ written-append has_lines rest' (s ∷ [])) in
-    let turned = ap (λ xs. items ++ xs) (reverse-append (written has_lines rest') (written has_lines (s ∷ []))) in
-    ap (λ xs. xs ++ reverse (written has_lines rest')) h ∙ append_assoc items (reverse (written has_lines (s ∷ []))) (reverse (written has_lines rest'))
-    ∙ sym turned ∙ sym split ∙ w
-
--- What holds between two tokens: the stack is reached, it closes, and no front of the tokens so far was a sentence.
-pub record Between (start : Nonterminal) (tokens : List TokenKind) (place : ℕ) (done : List Event) (ss : List Symbol) : Type 0 where
-  pub reached : IsReached start place done (take place tokens) ss
-  pub closed : closes ss ≡ true
-  pub none : (m : ℕ) (es : List Event) → m ≤ place → IsSentence start es (take m tokens) → ⊥
 
 -- a closed stack wants another token
 no_sentence : (start : Nonterminal) (place : ℕ) (done : List Event) (read : List TokenKind) (ss : List Symbol) → IsReached start place done read ss → closes ss ≡ true →
@@ -226,12 +196,3 @@ never_left start tokens place done ss is_start ended past at =
     let joined : take place tokens ++ s.tokens ≡ ended.0 ++ (End ∷ s.tokens) = ap (λ x. x ++ s.tokens) (whole ∙ ended.1) ∙ append_assoc ended.0 (End ∷ []) s.tokens in
     let none = end_is_last start (done ++ s.events) ended.0 s.tokens is_start (subst (IsSentence start (done ++ s.events)) joined sentence) in
     derives_some s.derives at.closed none
-
-pub empty_stack : (items : List Symbol) (n : ℕ) → n ≡ length items → (n == 0) ≡ true → reverse items ≡ []
-empty_stack [] n len e = refl
-empty_stack (x ∷ items) n len e = absurd (omega (arith, eqb-true n 0 e))
-
-pub full_stack : (items : List Symbol) (n : ℕ) → n ≡ length items → (n == 0) ≡ false → reverse items ≡ [] → ⊥
-full_stack items n len e none =
-    let empty : items ≡ [] = sym (reverse-reverse items) ∙ ap reverse none in
-    eqb-false n 0 e (len ∙ ap length empty)

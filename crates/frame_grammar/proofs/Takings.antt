@@ -1,7 +1,5 @@
 -- What the parser's shortcuts do is what the table says.
-use Rattle.std.proofs.Common.{◌≡◌, ℕ, ◌+◌, ◌-◌, ◌<◌, true, false, ◌∷◌, [], List, ◌++◌, length, take, take_all, slice_get, reverse, Some, refl, sym, ◌∙◌, ap, subst, append_assoc, arith}
-use Rattle.std.proofs.lemmas.List.{reverse-append, take_more}
-use Rattle.std.proofs.lemmas.Option.{slice_get_within, get_or_from_slice_get}
+use Rattle.std.proofs.Common.{◌≡◌, ℕ, ◌<◌, Bool, true, false, ◌∷◌, [], List, ◌++◌, Some, refl, sym, ◌∙◌, subst, append_assoc, arith}
 use denote.Enum.Bare.{sameb}
 use Rattle.frame_grammar.specs.contracts.TokenKind.{the_type as the_kind}
 use Rattle.frame_grammar.specs.declared.TokenKind.{TokenKind}
@@ -17,7 +15,7 @@ use Rattle.frame_grammar.specs.declared.symbols.Event.{Event}
 use Rattle.frame_grammar.specs.Grammar.{body_of}
 use Rattle.frame_grammar.specs.Table.{choices_of, default_of}
 use Rattle.frame_grammar.specs.Predict.{predicted, same_kind}
-use Rattle.frame_grammar.specs.Parser.{Takes, Goes, weight}
+use Rattle.frame_grammar.specs.Parser.{Takes, Goes, IsPart, weight}
 use Rattle.frame_grammar.specs.Shortcuts.{multiplies, adds, compares}
 use Rattle.frame_grammar.proofs.Steps.{Leads, leads_start, goes_on_by, acts, smaller}
 use Rattle.frame_grammar.proofs.Run.{shift}
@@ -44,9 +42,16 @@ leads_go ahead place done0 done done' ss0 ss ss' leads step = record {
   closed = λ e. step.1 (leads.closed e);
 }
 
--- what was put on the stack is on top of it, turned round
-pub behind : (items items' put : List Symbol) → items' ≡ items ++ put → reverse items' ≡ reverse put ++ reverse items
-behind items items' put e = ap reverse e ∙ reverse-append items put
+-- what was led to is a part of an expression, which takes the token or goes on
+pub part_takes : (taken : Bool) (ahead : TokenKind) (place : ℕ) (done0 done done' : List Event) (ss0 part ss ss' : List Symbol) → taken ≡ true →
+    IsPart taken ahead place part done ss done' ss' → Leads ahead place done0 ss0 done (part ++ ss) → Takes ahead place done0 ss0 done' ss'
+part_takes true ahead place done0 done done' ss0 part ss ss' e step leads = leads_take ahead place done0 done done' ss0 (part ++ ss) ss' leads step
+part_takes false ahead place done0 done done' ss0 part ss ss' e step leads = cc
+
+pub part_goes : (taken : Bool) (ahead : TokenKind) (place : ℕ) (done0 done done' : List Event) (ss0 part ss ss' : List Symbol) → taken ≡ false →
+    IsPart taken ahead place part done ss done' ss' → Leads ahead place done0 ss0 done (part ++ ss) → Leads ahead place done0 ss0 done' ss'
+part_goes true ahead place done0 done done' ss0 part ss ss' e step leads = cc
+part_goes false ahead place done0 done done' ss0 part ss ss' e step leads = leads_go ahead place done0 done done' ss0 (part ++ ss) ss' leads step
 
 -- two events, one after the other
 pub both : (done done' : List Event) (a b : Event) → done' ≡ done ++ a ∷ b ∷ [] → done' ≡ (done ++ a ∷ []) ++ b ∷ []
@@ -308,12 +313,3 @@ next_value place done ss =
     let whole = done ++ record { action = action.PlainNumber; place = place } ∷ [] in
     leads_take kind.Number place done whole (whole ++ record { action = action.Number; place = place } ∷ []) ss0 more ss0
     (acts kind.Number place done done ss0 more action.PlainNumber (leads_start kind.Number place done ss0)) (value place whole ss)
-
--- the last item is on top of the stack
-pub last_on_top : (items : List Symbol) (s : Symbol) → slice_get items (length items - 1) ≡ Some s → reverse items ≡ s ∷ reverse (take (length items - 1) items)
-last_on_top items s e =
-    let within = slice_get_within items (length items - 1) s e in
-    let value = get_or_from_slice_get items (length items - 1) s s e in
-    let whole : items ≡ take (length items - 1) items ++ s ∷ [] =
-    sym (take_all (length items - 1 + 1) items (omega (arith, within))) ∙ take_more items (length items - 1) s within ∙ ap (λ x. take (length items - 1) items ++ x ∷ []) value in
-    behind (take (length items - 1) items) items (s ∷ []) whole

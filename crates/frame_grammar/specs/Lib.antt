@@ -6,3 +6,5 @@ pub mod Sets
 pub mod Predict
 pub mod Parser
 pub mod Shortcuts
+pub mod Waiting
+pub mod Lines

@@ -1,5 +1,5 @@
 -- What holds of the parser's stack.
-use Rattle.std.specs.Prelude.{◌≡◌, ℕ, suc, ◌+◌, Bool, true, false, List, [], ◌∷◌, ◌++◌, ◌<◌, Option, Some, None, ◌⊎◌}
+use Rattle.std.specs.Prelude.{◌≡◌, ◌≤◌, take, ℕ, suc, ◌+◌, Bool, true, false, List, [], ◌∷◌, ◌++◌, ◌<◌, Option, Some, None, ◌⊎◌}
 use Rattle.frame_grammar.specs.declared.TokenKind.{TokenKind}
 use Rattle.frame_grammar.specs.declared.symbols.Nonterminal.{Nonterminal}
 use Rattle.frame_grammar.specs.declared.symbols.Symbol.{Symbol}
@@ -96,6 +96,19 @@ abbrev pub IsStep : Step → TokenKind → ℕ → Nonterminal → List Event �
 IsStep Took ahead place n done ss done' ss' = Takes ahead place done (symbol.Nonterminal n ∷ ss) done' ss'
 IsStep WentOn ahead place n done ss done' ss' = Goes ahead place done (symbol.Nonterminal n ∷ ss) done' ss'
 IsStep Unknown ahead place n done ss done' ss' = (done' ≡ done) × (ss' ≡ ss)
+
+-- what was done with these symbols, which were on top of the stack: the token ahead was taken, or not yet
+abbrev pub IsPart : Bool → TokenKind → ℕ → (part : List Symbol) → List Event → List Symbol → List Event →
+    List Symbol → Type 0
+IsPart true ahead place part done ss done' ss' = Takes ahead place done (part ++ ss) done' ss'
+IsPart false ahead place part done ss done' ss' = Goes ahead place done (part ++ ss) done' ss'
+
+-- What holds between two tokens: the stack is reached, it closes, and no front of the tokens so far was a sentence.
+pub record Between (start : Nonterminal) (tokens : List TokenKind) (place : ℕ) (done : List Event)
+    (ss : List Symbol) : Type 0 where
+  pub reached : IsReached start place done (take place tokens) ss
+  pub closed : closes ss ≡ true
+  pub none : (m : ℕ) (es : List Event) → m ≤ place → IsSentence start es (take m tokens) → ⊥
 
 -- No sentence has the token ahead there.
 abbrev pub Stops : TokenKind → ℕ → List Event → List Symbol → Type 0

@@ -1,7 +1,7 @@
 -- Kinds of tokens that steps of the parser tell from each other.
-use Rattle.std.specs.Prelude.{Bool, true, false}
+use Rattle.std.specs.Prelude.{Bool, true, false, ◌||◌}
 use Rattle.frame_grammar.specs.declared.TokenKind.{TokenKind}
-use Rattle.frame_grammar.specs.declared.TokenKind.TheVariants.{Star, Slash, Percent, Plus, Minus, Equal, NotEqual, Less, LessEqual, Greater, GreaterEqual, Temp, TempJob, Persistent}
+use Rattle.frame_grammar.specs.declared.TokenKind.TheVariants.{Star, Slash, Percent, Plus, Minus, Equal, NotEqual, Less, LessEqual, Greater, GreaterEqual, AndAnd, OrOr, Temp, TempJob, Persistent}
 
 -- * / %
 abbrev pub multiplies : TokenKind → Bool
@@ -25,6 +25,16 @@ compares LessEqual = true
 compares Greater = true
 compares GreaterEqual = true
 compares _ = false
+
+-- && ||
+abbrev pub is_and_or : TokenKind → Bool
+is_and_or AndAnd = true
+is_and_or OrOr = true
+is_and_or _ = false
+
+-- operators of the levels above a sum
+abbrev pub joins : TokenKind → Bool
+joins k = compares k || is_and_or k
 
 -- temp tempjob persistent
 abbrev pub tells_life : TokenKind → Bool

@@ -4,6 +4,8 @@
 
 mod bodies;
 mod choices;
+mod levels;
+mod lines;
 mod note;
 mod parser;
 mod shortcuts;
@@ -13,6 +15,7 @@ mod symbols;
 mod table;
 #[cfg(test)]
 mod tests;
+mod waiting;
 
 ghost use Rattle.std.specs.Prelude.{◌≡◌};
 
@@ -170,7 +173,8 @@ pub enum TokenKind {
     /// `index`
     Index,
 
-    // TO ADD A STATEMENT: 1, its reserved word, here and on both lists of kernel_code/src/spelling.rt.
+    // TO ADD A STATEMENT: 1, its reserved word, here, on both lists of kernel_code/src/spelling.rt and in `KINDS` of
+    // kernel_code/src/mark.rt.
     // Reserved words of scripts
     /// `column`
     Column,

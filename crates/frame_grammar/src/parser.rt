@@ -1,16 +1,22 @@
 //! A predictive parser with a stack of its own.
 
-ghost use Rattle.std.specs.Prelude.{◌≡◌, ℕ, ◌<◌, ◌^◌, List, ◌++◌, [], ◌∷◌, length, map, reverse, IfOk, MatchBool};
+ghost use Rattle.std.specs.Prelude.{true, Some, slice_get, ◌≡◌, ◌-◌, ℕ, ◌<◌, ◌^◌, List, ◌++◌, [], ◌∷◌, length, map, IfOk, MatchBool};
+ghost use Rattle.frame_grammar.specs.declared.symbols.Nonterminal.TheVariants.{Items};
+ghost use Rattle.frame_grammar.specs.declared.waiting.Waiting.TheVariants as waiting;
 ghost use Rattle.frame_grammar.specs.Sentences.{IsStart, IsEnded, IsOnlySentence, IsFault};
 ghost use Rattle.frame_grammar.specs.Predict.{found, predicted};
 ghost use Rattle.frame_grammar.specs.Notes.{events_of};
+ghost use Rattle.frame_grammar.specs.Waiting.{standing};
 ghost use Rattle.frame_grammar.specs.Parser.{Takes, Stops};
 
+use crate::levels::{after_factor, after_term};
+use crate::lines::take_lines;
 use crate::note::Note;
 use crate::shortcuts::{Step, known_step, take_next_value};
 use crate::stack::push_body;
-use crate::symbols::{Nonterminal, Production, Symbol};
+use crate::symbols::{Nonterminal, Production};
 use crate::table::{choices, default_production};
+use crate::waiting::Waiting;
 use crate::{HasKind, TokenKind};
 use std::alloc::{AllocError, AllocFailed, Global};
 
@@ -76,27 +82,27 @@ fn predict(nonterminal: Nonterminal, ahead: TokenKind) -> Option<Production>
 /// Goes on by productions until the token ahead is on top of the stack, and takes it. Says whether
 /// it could.
 fn advance(
-    stack: &mut Vec<Symbol>,
+    stack: &mut Vec<Waiting>,
     events: &mut Vec<Note>,
     ahead: TokenKind,
     place: u32,
 ) -> Result<bool, AllocError>
     requires { place < 2 ^ 25 }
     ensures { IfOk result (λ taken. MatchBool taken
-        (Takes ahead place (events_of events.old.items) (reverse stack.old.items) (events_of events.new.items)
-        (reverse stack.new.items))
-        (Stops ahead place (events_of events.old.items) (reverse stack.old.items))) }
+        (Takes ahead place (events_of events.old.items) (standing stack.old.items) (events_of events.new.items)
+        (standing stack.new.items))
+        (Stops ahead place (events_of events.old.items) (standing stack.old.items))) }
 {
-    while let Some(symbol) = stack.pop() {
-        match symbol {
-            Symbol::Terminal(kind) => return Ok(kind == ahead),
-            Symbol::Action(action) => {
+    while let Some(next) = stack.pop() {
+        match next {
+            Waiting::Terminal(kind) => return Ok(kind == ahead),
+            Waiting::Action(action) => {
                 if take_next_value(stack, events, action, ahead, place)? {
                     return Ok(true);
                 }
                 events.push(Note::of(action, place))?;
             }
-            Symbol::Nonterminal(nonterminal) => {
+            Waiting::Nonterminal(nonterminal) => {
                 match known_step(stack, events, nonterminal, ahead, place)? {
                     Step::Took => return Ok(true),
                     Step::WentOn => {}
@@ -108,9 +114,33 @@ fn advance(
                     },
                 }
             }
+            Waiting::AfterFactor => {
+                if after_factor(stack, events, ahead, place)? {
+                    return Ok(true);
+                }
+            }
+            Waiting::AfterTerm => {
+                if after_term(stack, events, ahead, place)? {
+                    return Ok(true);
+                }
+            }
         }
     }
     Ok(false)
+}
+
+// Whether items of a file are next, and stand in no block. Within kernels the stack is never so low.
+#[inline(always)]
+fn is_at_items(stack: &[Waiting]) -> bool
+    ensures { result ≡ true → slice_get stack.now (length stack.now - 1) ≡ Some (waiting.Nonterminal Items) }
+{
+    if stack.len() > 2 {
+        return false;
+    }
+    match stack.last().copied() {
+        Some(Waiting::Nonterminal(Nonterminal::Items)) => true,
+        _ => false,
+    }
 }
 
 /// The sentence of the start symbol that the tokens begin with.
@@ -131,18 +161,22 @@ pub fn parse<T: HasKind>(
         IsFault start (map T.kind_of tokens.now) place }
 {
     let mut stack = Vec::new(alloc);
-    stack.push(Symbol::Nonterminal(start))?;
+    stack.push(Waiting::Nonterminal(start))?;
     let mut events = Vec::new(alloc);
-    for (place, token) in tokens.iter().enumerate() {
-        let place = place as u32;
-        if !advance(&mut stack, &mut events, token.kind(), place)? {
-            return Err(ParseError::Syntax(place));
+    let mut place = 0;
+    while place < tokens.len() {
+        if !advance(&mut stack, &mut events, tokens[place].kind(), place as u32)? {
+            return Err(ParseError::Syntax(place as u32));
         }
+        place += 1;
         if stack.is_empty() {
             return Ok(Sentence {
                 events,
-                read: place + 1,
+                read: place as u32,
             });
+        }
+        if is_at_items(&stack) {
+            place = take_lines(&mut events, tokens, place)?;
         }
     }
     unreachable!()

@@ -6,21 +6,23 @@
 //! stands here from the bottom up.
 
 ghost use Rattle.std.specs.Prelude.{◌≡◌, ℕ, ◌-◌, ◌<◌, ◌^◌, List, ◌∷◌, ◌++◌, [], length};
-ghost use Rattle.std.specs.Prelude.{reverse, slice_get, true, Some, IfOk, MatchBool};
+ghost use Rattle.std.specs.Prelude.{slice_get, true, Some, IfOk, MatchBool};
 ghost use Rattle.frame_grammar.specs.declared.TokenKind.{TokenKind};
 ghost use Rattle.frame_grammar.specs.declared.symbols.Nonterminal.TheVariants as nonterminal;
 ghost use Rattle.frame_grammar.specs.declared.symbols.Symbol.TheVariants as symbol;
 ghost use Rattle.frame_grammar.specs.declared.symbols.Event.{Event};
+ghost use Rattle.frame_grammar.specs.declared.waiting.Waiting.TheVariants as waiting;
 ghost use Rattle.frame_grammar.specs.Notes.{events_of};
+ghost use Rattle.frame_grammar.specs.Waiting.{standing};
 ghost use Rattle.frame_grammar.specs.Parser.{Takes, IsStep};
-ghost use Rattle.frame_grammar.specs.Shortcuts.{multiplies, adds, compares};
 
 use crate::TokenKind as K;
+use crate::levels::{compared, expression, more_and, more_factors, more_or, more_terms, term};
 use crate::note::Note;
 use crate::stack::{note, note_both, put};
 use crate::statements::statement_step;
-use crate::symbols::Symbol::{self, Nonterminal, Terminal};
 use crate::symbols::{Action as A, Nonterminal as N};
+use crate::waiting::Waiting::{self, Nonterminal, Terminal};
 use std::alloc::AllocError;
 
 /// What was done with the nonterminal that was on top of the stack.
@@ -34,34 +36,11 @@ pub enum Step {
     Unknown,
 }
 
-// The operators of each level of an expression
-
-fn multiplies(kind: K) -> bool
-    ensures { result ≡ multiplies kind }
-{
-    matches!(kind, K::Star | K::Slash | K::Percent)
-}
-
-fn adds(kind: K) -> bool
-    ensures { result ≡ adds kind }
-{
-    matches!(kind, K::Plus | K::Minus)
-}
-
-fn compares(kind: K) -> bool
-    ensures { result ≡ compares kind }
-{
-    matches!(
-        kind,
-        K::Equal | K::NotEqual | K::Less | K::LessEqual | K::Greater | K::GreaterEqual
-    )
-}
-
 // Steps of each nonterminal
 
-fn lines(stack: &mut Vec<Symbol>, ahead: K) -> Result<Step, AllocError>
+fn lines(stack: &mut Vec<Waiting>, ahead: K) -> Result<Step, AllocError>
     ensures { IfOk result (λ step. (place : ℕ) (done : List Event) →
-        IsStep step ahead place nonterminal.Lines done (reverse stack.old.items) done (reverse stack.new.items)) }
+        IsStep step ahead place nonterminal.Lines done (standing stack.old.items) done (standing stack.new.items)) }
 {
     if ahead == K::Line {
         put(stack, &[Nonterminal(N::Lines)])?;
@@ -72,14 +51,14 @@ fn lines(stack: &mut Vec<Symbol>, ahead: K) -> Result<Step, AllocError>
 }
 
 fn statements(
-    stack: &mut Vec<Symbol>,
+    stack: &mut Vec<Waiting>,
     events: &mut Vec<Note>,
     ahead: K,
     place: u32,
 ) -> Result<Step, AllocError>
     requires { place < 2 ^ 25 }
     ensures { IfOk result (λ step. IsStep step ahead place nonterminal.Statements (events_of events.old.items)
-        (reverse stack.old.items) (events_of events.new.items) (reverse stack.new.items)) }
+        (standing stack.old.items) (events_of events.new.items) (standing stack.new.items)) }
 {
     match ahead {
         K::Name => {
@@ -100,9 +79,9 @@ fn statements(
     }
 }
 
-fn target(stack: &mut Vec<Symbol>, ahead: K) -> Result<Step, AllocError>
+fn target(stack: &mut Vec<Waiting>, ahead: K) -> Result<Step, AllocError>
     ensures { IfOk result (λ step. (place : ℕ) (done : List Event) →
-        IsStep step ahead place nonterminal.Target done (reverse stack.old.items) done (reverse stack.new.items)) }
+        IsStep step ahead place nonterminal.Target done (standing stack.old.items) done (standing stack.new.items)) }
 {
     match ahead {
         K::Assign => {
@@ -113,34 +92,15 @@ fn target(stack: &mut Vec<Symbol>, ahead: K) -> Result<Step, AllocError>
     }
 }
 
-// Goes through all levels, since no token decides between them.
-fn expression(stack: &mut Vec<Symbol>) -> Result<Step, AllocError>
-    ensures { IfOk result (λ step. (ahead : TokenKind) (place : ℕ) (done : List Event) →
-        IsStep step ahead place nonterminal.Expression done (reverse stack.old.items) done (reverse stack.new.items)) }
-{
-    put(
-        stack,
-        &[
-            Nonterminal(N::MoreOr),
-            Nonterminal(N::MoreAnd),
-            Nonterminal(N::Compared),
-            Nonterminal(N::MoreSum),
-            Nonterminal(N::MoreTerm),
-            Nonterminal(N::Unary),
-        ],
-    )?;
-    Ok(Step::WentOn)
-}
-
 fn operand(
-    stack: &mut Vec<Symbol>,
+    stack: &mut Vec<Waiting>,
     events: &mut Vec<Note>,
     ahead: K,
     place: u32,
 ) -> Result<Step, AllocError>
     requires { place < 2 ^ 25 }
     ensures { IfOk result (λ step. IsStep step ahead place nonterminal.Unary (events_of events.old.items)
-        (reverse stack.old.items) (events_of events.new.items) (reverse stack.new.items)) }
+        (standing stack.old.items) (events_of events.new.items) (standing stack.new.items)) }
 {
     match ahead {
         K::Name => {
@@ -152,7 +112,7 @@ fn operand(
             note(events, A::Number, place)?;
             put(
                 stack,
-                &[Symbol::Action(A::NumberAtom), Nonterminal(N::Lines)],
+                &[Waiting::Action(A::NumberAtom), Nonterminal(N::Lines)],
             )?;
             Ok(Step::Took)
         }
@@ -160,7 +120,7 @@ fn operand(
             note(events, A::StartAtom, place)?;
             put(
                 stack,
-                &[Symbol::Action(A::IndexAtom), Nonterminal(N::Lines)],
+                &[Waiting::Action(A::IndexAtom), Nonterminal(N::Lines)],
             )?;
             Ok(Step::Took)
         }
@@ -182,20 +142,20 @@ fn operand(
 
 // What may stand after the name of an operand.
 fn place_of_name(
-    stack: &mut Vec<Symbol>,
+    stack: &mut Vec<Waiting>,
     events: &mut Vec<Note>,
     ahead: K,
     place: u32,
 ) -> Result<Step, AllocError>
     requires { place < 2 ^ 25 }
     ensures { IfOk result (λ step. IsStep step ahead place nonterminal.Place (events_of events.old.items)
-        (reverse stack.old.items) (events_of events.new.items) (reverse stack.new.items)) }
+        (standing stack.old.items) (events_of events.new.items) (standing stack.new.items)) }
 {
     if ahead == K::OpenBracket {
         put(
             stack,
             &[
-                Symbol::Action(A::PlaceAtom),
+                Waiting::Action(A::PlaceAtom),
                 Nonterminal(N::Lines),
                 Terminal(K::CloseBracket),
                 Nonterminal(N::Expression),
@@ -209,111 +169,22 @@ fn place_of_name(
     }
 }
 
-fn more_factors(
-    stack: &mut Vec<Symbol>,
-    events: &mut Vec<Note>,
-    ahead: K,
-    place: u32,
-) -> Result<Step, AllocError>
-    requires { place < 2 ^ 25 }
-    ensures { IfOk result (λ step. IsStep step ahead place nonterminal.MoreTerm (events_of events.old.items)
-        (reverse stack.old.items) (events_of events.new.items) (reverse stack.new.items)) }
-{
-    if multiplies(ahead) {
-        note(events, A::Operator, place)?;
-        put(
-            stack,
-            &[
-                Nonterminal(N::MoreTerm),
-                Symbol::Action(A::Binary),
-                Nonterminal(N::Unary),
-                Nonterminal(N::Lines),
-            ],
-        )?;
-        Ok(Step::Took)
-    } else {
-        Ok(Step::WentOn)
-    }
-}
-
-fn more_terms(
-    stack: &mut Vec<Symbol>,
-    events: &mut Vec<Note>,
-    ahead: K,
-    place: u32,
-) -> Result<Step, AllocError>
-    requires { place < 2 ^ 25 }
-    ensures { IfOk result (λ step. IsStep step ahead place nonterminal.MoreSum (events_of events.old.items)
-        (reverse stack.old.items) (events_of events.new.items) (reverse stack.new.items)) }
-{
-    if adds(ahead) {
-        note(events, A::Operator, place)?;
-        put(
-            stack,
-            &[
-                Nonterminal(N::MoreSum),
-                Symbol::Action(A::Binary),
-                Nonterminal(N::Term),
-                Nonterminal(N::Lines),
-            ],
-        )?;
-        Ok(Step::Took)
-    } else {
-        Ok(Step::WentOn)
-    }
-}
-
-// The levels above sums are seldom more than a sum.
-
-fn compared(ahead: K) -> Step
-    ensures { (place : ℕ) (done : List Event) (ss : List Symbol) →
-        IsStep result ahead place nonterminal.Compared done ss done ss }
-{
-    if compares(ahead) {
-        Step::Unknown
-    } else {
-        Step::WentOn
-    }
-}
-
-fn more_and(ahead: K) -> Step
-    ensures { (place : ℕ) (done : List Event) (ss : List Symbol) →
-        IsStep result ahead place nonterminal.MoreAnd done ss done ss }
-{
-    if ahead == K::AndAnd {
-        Step::Unknown
-    } else {
-        Step::WentOn
-    }
-}
-
-fn more_or(ahead: K) -> Step
-    ensures { (place : ℕ) (done : List Event) (ss : List Symbol) →
-        IsStep result ahead place nonterminal.MoreOr done ss done ss }
-{
-    if ahead == K::OrOr {
-        Step::Unknown
-    } else {
-        Step::WentOn
-    }
-}
-
 fn more_values(
-    stack: &mut Vec<Symbol>,
+    stack: &mut Vec<Waiting>,
     events: &mut Vec<Note>,
     ahead: K,
     place: u32,
 ) -> Result<Step, AllocError>
     requires { place < 2 ^ 25 }
     ensures { IfOk result (λ step. IsStep step ahead place nonterminal.MoreValues (events_of events.old.items)
-        (reverse stack.old.items) (events_of events.new.items) (reverse stack.new.items)) }
+        (standing stack.old.items) (events_of events.new.items) (standing stack.new.items)) }
 {
     match ahead {
         K::Number => {
             note(events, A::Number, place)?;
             put(
                 stack,
-                &[Nonterminal(N::MoreValues), Symbol::Action(A::PlainNumber)],
+                &[Nonterminal(N::MoreValues), Waiting::Action(A::PlainNumber)],
             )?;
             Ok(Step::Took)
         }
@@ -323,9 +194,9 @@ fn more_values(
                 stack,
                 &[
                     Nonterminal(N::MoreValues),
-                    Symbol::Action(A::MinusNumber),
+                    Waiting::Action(A::MinusNumber),
                     Terminal(K::Number),
-                    Symbol::Action(A::Number),
+                    Waiting::Action(A::Number),
                 ],
             )?;
             Ok(Step::Took)
@@ -336,7 +207,7 @@ fn more_values(
 
 /// Goes on with a nonterminal that was on top of the stack, where what it does before the token ahead is known.
 pub fn known_step(
-    stack: &mut Vec<Symbol>,
+    stack: &mut Vec<Waiting>,
     events: &mut Vec<Note>,
     nonterminal: N,
     ahead: K,
@@ -344,13 +215,14 @@ pub fn known_step(
 ) -> Result<Step, AllocError>
     requires { place < 2 ^ 25 }
     ensures { IfOk result (λ step. IsStep step ahead place nonterminal (events_of events.old.items)
-        (reverse stack.old.items) (events_of events.new.items) (reverse stack.new.items)) }
+        (standing stack.old.items) (events_of events.new.items) (standing stack.new.items)) }
 {
     match nonterminal {
         N::Lines => lines(stack, ahead),
         N::Statements => statements(stack, events, ahead, place),
         N::Target => target(stack, ahead),
         N::Expression => expression(stack),
+        N::Term => term(stack),
         N::Unary => operand(stack, events, ahead, place),
         N::Place => place_of_name(stack, events, ahead, place),
         N::MoreTerm => more_factors(stack, events, ahead, place),
@@ -364,9 +236,9 @@ pub fn known_step(
 }
 
 // Whether values of an array are what is on top of the stack.
-fn has_values_on_top(stack: &[Symbol]) -> bool
+fn has_values_on_top(stack: &[Waiting]) -> bool
     ensures { result ≡ true →
-        slice_get stack.now (length stack.now - 1) ≡ Some (symbol.Nonterminal nonterminal.MoreValues) }
+        slice_get stack.now (length stack.now - 1) ≡ Some (waiting.Nonterminal nonterminal.MoreValues) }
 {
     match stack.last().copied() {
         Some(Nonterminal(N::MoreValues)) => true,
@@ -377,7 +249,7 @@ fn has_values_on_top(stack: &[Symbol]) -> bool
 /// Takes the next value of an array, where the value before it is whole with the action that was on top of the stack.
 /// Else nothing changes. Says whether it did.
 pub fn take_next_value(
-    stack: &mut Vec<Symbol>,
+    stack: &mut Vec<Waiting>,
     events: &mut Vec<Note>,
     action: A,
     ahead: K,
@@ -385,14 +257,14 @@ pub fn take_next_value(
 ) -> Result<bool, AllocError>
     requires { place < 2 ^ 25 }
     ensures { IfOk result (λ taken. MatchBool taken
-        (Takes ahead place (events_of events.old.items) (symbol.Action action ∷ reverse stack.old.items)
-        (events_of events.new.items) (reverse stack.new.items))
+        (Takes ahead place (events_of events.old.items) (symbol.Action action ∷ standing stack.old.items)
+        (events_of events.new.items) (standing stack.new.items))
         ((events_of events.new.items ≡ events_of events.old.items) × (stack.new.items ≡ stack.old.items))) }
 {
     match (action, ahead) {
         (A::PlainNumber, K::Number) if has_values_on_top(stack) => {
             note_both(events, A::PlainNumber, A::Number, place)?;
-            put(stack, &[Symbol::Action(A::PlainNumber)])?;
+            put(stack, &[Waiting::Action(A::PlainNumber)])?;
             Ok(true)
         }
         _ => Ok(false),

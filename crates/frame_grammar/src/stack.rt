@@ -1,39 +1,65 @@
 //! What steps of the parser put on its stack, and what they note.
 
-ghost use Rattle.std.specs.Prelude.{◌≡◌, ◌<◌, ◌^◌, List, ◌∷◌, ◌++◌, [], reverse, IfOk};
+ghost use Rattle.std.specs.Prelude.{true, false, ◌≡◌, ◌<◌, ◌^◌, List, ◌∷◌, ◌++◌, [], map, reverse, IfOk};
 ghost use Rattle.frame_grammar.specs.declared.symbols.Symbol.{Symbol};
 ghost use Rattle.frame_grammar.specs.Grammar.{body_of, written};
 ghost use Rattle.frame_grammar.specs.Notes.{events_of};
+ghost use Rattle.frame_grammar.specs.Waiting.{alone, standing};
 
 use crate::note::Note;
 use crate::symbols::{Action, Nonterminal, Production, Symbol};
 use crate::table::body;
+use crate::waiting::{Waiting, alone};
 use std::alloc::AllocError;
 
-fn push_symbol(stack: &mut Vec<Symbol>, has_lines: bool, symbol: Symbol) -> Result<(), AllocError>
-    ensures { IfOk result (λ _. stack.new.items ≡ stack.old.items ++ reverse (written has_lines (symbol ∷ []))) }
+// A symbol of a kernel: line ends may follow each terminal, and wait behind it.
+fn push_symbol(stack: &mut Vec<Waiting>, symbol: Symbol) -> Result<(), AllocError>
+    ensures { IfOk result (λ _. stack.new.items ≡ stack.old.items ++ map alone (reverse (written true (symbol ∷ [])))) }
 {
-    if has_lines && matches!(symbol, Symbol::Terminal(_)) {
-        stack.push(Symbol::Nonterminal(Nonterminal::Lines))?;
+    if matches!(symbol, Symbol::Terminal(_)) {
+        stack.push(Waiting::Nonterminal(Nonterminal::Lines))?;
     }
-    stack.push(symbol)?;
+    stack.push(alone(symbol))?;
     Ok(())
 }
 
-pub fn push_body(stack: &mut Vec<Symbol>, production: Production) -> Result<(), AllocError>
-    ensures { IfOk result (λ _. stack.new.items ≡ stack.old.items ++ reverse (body_of production)) }
+fn push_in_kernel(stack: &mut Vec<Waiting>, symbols: &[Symbol]) -> Result<(), AllocError>
+    ensures { IfOk result (λ _. stack.new.items ≡ stack.old.items ++ map alone (reverse (written true symbols.now))) }
 {
-    let body = body(production);
-    for symbol in body.symbols.iter().rev() {
-        push_symbol(stack, body.has_lines, *symbol)?;
+    for symbol in symbols.iter().rev() {
+        push_symbol(stack, *symbol)?;
     }
     Ok(())
+}
+
+// Room for all is made once.
+fn push_in_script(stack: &mut Vec<Waiting>, symbols: &[Symbol]) -> Result<(), AllocError>
+    ensures { IfOk result (λ _. stack.new.items ≡ stack.old.items ++ map alone (reverse (written false symbols.now))) }
+{
+    if stack.capacity() - stack.len() < symbols.len() {
+        stack.reserve(symbols.len())?;
+    }
+    for symbol in symbols.iter().rev() {
+        stack.push_reserved(alone(*symbol));
+    }
+    Ok(())
+}
+
+pub fn push_body(stack: &mut Vec<Waiting>, production: Production) -> Result<(), AllocError>
+    ensures { IfOk result (λ _. stack.new.items ≡ stack.old.items ++ map alone (reverse (body_of production))) }
+{
+    let body = body(production);
+    if body.has_lines {
+        push_in_kernel(stack, body.symbols)
+    } else {
+        push_in_script(stack, body.symbols)
+    }
 }
 
 /// Puts on the stack what a production makes its head of, but for the first symbol.
-pub fn push_rest(stack: &mut Vec<Symbol>, production: Production) -> Result<(), AllocError>
+pub fn push_rest(stack: &mut Vec<Waiting>, production: Production) -> Result<(), AllocError>
     ensures { IfOk result (λ _. (first : Symbol) (rest : List Symbol) → body_of production ≡ first ∷ rest →
-        reverse stack.new.items ≡ rest ++ reverse stack.old.items) }
+        standing stack.new.items ≡ rest ++ standing stack.old.items) }
 {
     push_body(stack, production)?;
     stack.pop();
@@ -54,6 +80,16 @@ pub fn put<T: Copy>(list: &mut Vec<T>, items: &[T]) -> Result<(), AllocError>
     Ok(())
 }
 
+// Out of line, since there is seldom no room, and a call would keep registers for it each time.
+#[inline(never)]
+fn note_growing(events: &mut Vec<Note>, action: Action, place: u32) -> Result<(), AllocError>
+    requires { place < 2 ^ 25 }
+    ensures { IfOk result (λ _. events_of events.new.items ≡
+        events_of events.old.items ++ record { action = action; place = place } ∷ []) }
+{
+    put(events, &[Note::of(action, place)])
+}
+
 // Out of line: where it stands in line, the compiler makes what it writes ready at each token, for every action.
 #[inline(never)]
 pub fn note(events: &mut Vec<Note>, action: Action, place: u32) -> Result<(), AllocError>
@@ -61,7 +97,11 @@ pub fn note(events: &mut Vec<Note>, action: Action, place: u32) -> Result<(), Al
     ensures { IfOk result (λ _. events_of events.new.items ≡
         events_of events.old.items ++ record { action = action; place = place } ∷ []) }
 {
-    put(events, &[Note::of(action, place)])
+    if events.len() == events.capacity() {
+        return note_growing(events, action, place);
+    }
+    events.push_reserved(Note::of(action, place));
+    Ok(())
 }
 
 #[inline(always)]

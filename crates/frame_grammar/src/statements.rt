@@ -2,11 +2,12 @@
 //!
 //! Most lines of long scripts are short statements, whose first token is looked for among more than twenty.
 
-ghost use Rattle.std.specs.Prelude.{◌≡◌, ◌<◌, ◌^◌, ℕ, List, reverse, Some, IfOk, IfSome};
+ghost use Rattle.std.specs.Prelude.{◌≡◌, ◌<◌, ◌^◌, ℕ, List, Some, IfOk, IfSome};
 ghost use Rattle.frame_grammar.specs.declared.symbols.Nonterminal.TheVariants as nonterminal;
 ghost use Rattle.frame_grammar.specs.declared.symbols.Symbol.{Symbol};
 ghost use Rattle.frame_grammar.specs.declared.symbols.Event.{Event};
 ghost use Rattle.frame_grammar.specs.Notes.{events_of};
+ghost use Rattle.frame_grammar.specs.Waiting.{standing};
 ghost use Rattle.frame_grammar.specs.Parser.{IsStep};
 ghost use Rattle.frame_grammar.specs.Predict.{predicted};
 ghost use Rattle.frame_grammar.specs.Shortcuts.{tells_life};
@@ -15,8 +16,8 @@ use crate::TokenKind as K;
 use crate::note::Note;
 use crate::shortcuts::Step;
 use crate::stack::{note, push_rest, put};
-use crate::symbols::Symbol::{self, Nonterminal, Terminal};
 use crate::symbols::{Action as A, Nonterminal as N, Production as P};
+use crate::waiting::Waiting::{self, Nonterminal, Terminal};
 use std::alloc::AllocError;
 
 // TO ADD A STATEMENT: 4, its first token, here and in `choices`.
@@ -55,9 +56,9 @@ fn statement_with(ahead: K) -> Option<P>
     }
 }
 
-fn statement(stack: &mut Vec<Symbol>, ahead: K) -> Result<Step, AllocError>
+fn statement(stack: &mut Vec<Waiting>, ahead: K) -> Result<Step, AllocError>
     ensures { IfOk result (λ step. (place : ℕ) (done : List Event) →
-        IsStep step ahead place nonterminal.Statement done (reverse stack.old.items) done (reverse stack.new.items)) }
+        IsStep step ahead place nonterminal.Statement done (standing stack.old.items) done (standing stack.new.items)) }
 {
     match statement_with(ahead) {
         Some(production) => {
@@ -69,14 +70,14 @@ fn statement(stack: &mut Vec<Symbol>, ahead: K) -> Result<Step, AllocError>
 }
 
 fn items(
-    stack: &mut Vec<Symbol>,
+    stack: &mut Vec<Waiting>,
     events: &mut Vec<Note>,
     ahead: K,
     place: u32,
 ) -> Result<Step, AllocError>
     requires { place < 2 ^ 25 }
     ensures { IfOk result (λ step. IsStep step ahead place nonterminal.Items (events_of events.old.items)
-        (reverse stack.old.items) (events_of events.new.items) (reverse stack.new.items)) }
+        (standing stack.old.items) (events_of events.new.items) (standing stack.new.items)) }
 {
     match statement_with(ahead) {
         Some(production) => {
@@ -89,9 +90,9 @@ fn items(
     }
 }
 
-fn after_item(stack: &mut Vec<Symbol>, ahead: K) -> Result<Step, AllocError>
+fn after_item(stack: &mut Vec<Waiting>, ahead: K) -> Result<Step, AllocError>
     ensures { IfOk result (λ step. (place : ℕ) (done : List Event) →
-        IsStep step ahead place nonterminal.AfterItem done (reverse stack.old.items) done (reverse stack.new.items)) }
+        IsStep step ahead place nonterminal.AfterItem done (standing stack.old.items) done (standing stack.new.items)) }
 {
     if ahead == K::Line {
         put(stack, &[Nonterminal(N::Items)])?;
@@ -102,19 +103,19 @@ fn after_item(stack: &mut Vec<Symbol>, ahead: K) -> Result<Step, AllocError>
 }
 
 fn signed(
-    stack: &mut Vec<Symbol>,
+    stack: &mut Vec<Waiting>,
     events: &mut Vec<Note>,
     ahead: K,
     place: u32,
 ) -> Result<Step, AllocError>
     requires { place < 2 ^ 25 }
     ensures { IfOk result (λ step. IsStep step ahead place nonterminal.Signed (events_of events.old.items)
-        (reverse stack.old.items) (events_of events.new.items) (reverse stack.new.items)) }
+        (standing stack.old.items) (events_of events.new.items) (standing stack.new.items)) }
 {
     match ahead {
         K::Number => {
             note(events, A::Number, place)?;
-            put(stack, &[Symbol::Action(A::PlainNumber)])?;
+            put(stack, &[Waiting::Action(A::PlainNumber)])?;
             Ok(Step::Took)
         }
         K::Minus => {
@@ -122,9 +123,9 @@ fn signed(
             put(
                 stack,
                 &[
-                    Symbol::Action(A::MinusNumber),
+                    Waiting::Action(A::MinusNumber),
                     Terminal(K::Number),
-                    Symbol::Action(A::Number),
+                    Waiting::Action(A::Number),
                 ],
             )?;
             Ok(Step::Took)
@@ -134,19 +135,19 @@ fn signed(
 }
 
 fn maybe_signed(
-    stack: &mut Vec<Symbol>,
+    stack: &mut Vec<Waiting>,
     events: &mut Vec<Note>,
     ahead: K,
     place: u32,
 ) -> Result<Step, AllocError>
     requires { place < 2 ^ 25 }
     ensures { IfOk result (λ step. IsStep step ahead place nonterminal.MaybeSigned (events_of events.old.items)
-        (reverse stack.old.items) (events_of events.new.items) (reverse stack.new.items)) }
+        (standing stack.old.items) (events_of events.new.items) (standing stack.new.items)) }
 {
     match ahead {
         K::Number => {
             note(events, A::Number, place)?;
-            put(stack, &[Symbol::Action(A::PlainNumber)])?;
+            put(stack, &[Waiting::Action(A::PlainNumber)])?;
             Ok(Step::Took)
         }
         _ => Ok(Step::Unknown),
@@ -190,7 +191,7 @@ fn array_values(events: &mut Vec<Note>, ahead: K, place: u32) -> Result<Step, Al
 /// token ahead is known.
 #[inline(always)]
 pub fn statement_step(
-    stack: &mut Vec<Symbol>,
+    stack: &mut Vec<Waiting>,
     events: &mut Vec<Note>,
     nonterminal: N,
     ahead: K,
@@ -198,7 +199,7 @@ pub fn statement_step(
 ) -> Result<Step, AllocError>
     requires { place < 2 ^ 25 }
     ensures { IfOk result (λ step. IsStep step ahead place nonterminal (events_of events.old.items)
-        (reverse stack.old.items) (events_of events.new.items) (reverse stack.new.items)) }
+        (standing stack.old.items) (events_of events.new.items) (standing stack.new.items)) }
 {
     match nonterminal {
         N::Items => items(stack, events, ahead, place),

@@ -1,16 +1,18 @@
-use Rattle.std.proofs.Common.{sym, ◌∙◌, reverse, refl}
+use Rattle.std.proofs.Common.{sym, ◌∙◌, refl}
+use Rattle.frame_grammar.specs.Waiting.{standing}
 use Rattle.frame_grammar.specs.Notes.{events_of}
 use Rattle.frame_grammar.proofs.Steps.{kinds_same}
-use Rattle.frame_grammar.proofs.Takings.{behind, told, told_going, bracket, no_bracket}
+use Rattle.frame_grammar.proofs.Takings.{told, told_going, bracket, no_bracket}
+use Rattle.frame_grammar.proofs.Stacks.{behind}
 use Rattle.frame_grammar.proofs.shortcuts.place_of_name.Goals as goal
 
 pub returns-in_ok-put : goal.returns-in_ok-put
 returns-in_ok-put c =
     told c.args.ahead _ c.args.place (events_of c.args.events.now.items) _ _ _ _ _ (kinds_same c.args.ahead _ (sym c.eq.ensures ∙ c.if-eq.true)) refl
     (behind c.args.stack.now.items _ _ c.in_ok-put.ensures)
-    (bracket c.args.place (events_of c.args.events.now.items) (reverse c.args.stack.now.items))
+    (bracket c.args.place (events_of c.args.events.now.items) (standing c.args.stack.now.items))
 
 pub returns-in_ok-note : goal.returns-in_ok-note
 returns-in_ok-note c =
     told_going c.args.ahead c.args.place (events_of c.args.events.now.items) _ _ _ _ _ c.in_ok-note.ensures refl
-    (no_bracket c.args.ahead c.args.place (events_of c.args.events.now.items) (reverse c.args.stack.now.items) (sym c.eq.ensures ∙ c.if-eq.false))
+    (no_bracket c.args.ahead c.args.place (events_of c.args.events.now.items) (standing c.args.stack.now.items) (sym c.eq.ensures ∙ c.if-eq.false))

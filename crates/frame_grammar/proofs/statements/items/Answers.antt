@@ -1,10 +1,12 @@
-use Rattle.std.proofs.Common.{reverse, drop, ◌++◌, ◌∷◌, [], ◌∙◌, ap, subst, sym}
+use Rattle.std.proofs.Common.{drop, ◌++◌, ◌∷◌, [], ◌∙◌, ap, subst, sym}
+use Rattle.frame_grammar.specs.Waiting.{standing}
 use Rattle.frame_grammar.specs.declared.symbols.Nonterminal.TheVariants as nonterminal
 use Rattle.frame_grammar.specs.declared.symbols.Symbol.TheVariants as symbol
+use Rattle.frame_grammar.specs.declared.waiting.Waiting.TheVariants as waiting
 use Rattle.frame_grammar.specs.Parser.{Takes}
 use Rattle.frame_grammar.specs.Grammar.{body_of}
 use Rattle.frame_grammar.specs.Notes.{events_of}
-use Rattle.frame_grammar.proofs.Takings.{behind}
+use Rattle.frame_grammar.proofs.Stacks.{behind}
 use Rattle.frame_grammar.proofs.StatementTakings.{statement_begins, item_taken}
 use Rattle.frame_grammar.proofs.statements.items.Goals as goal
 
@@ -14,6 +16,6 @@ returns-in_ok-push_rest-in-Some c =
     let old = c.args.stack.now.items in
     let done = events_of c.args.events.now.items in
     let rest = c.in_ok-push_rest-in-Some.ensures _ (drop 1 (body_of p)) (statement_begins c.args.ahead p c.in-Some.ensures)
-    ∙ ap (λ ss. drop 1 (body_of p) ++ ss) (behind old _ (symbol.Nonterminal nonterminal.AfterItem ∷ []) c.in_ok-put-in-Some.ensures) in
-    subst (λ es. Takes c.args.ahead c.args.place done (symbol.Nonterminal nonterminal.Items ∷ reverse old) es (reverse c.push_rest.new.stack.items)) (sym c.in_ok-note-in-Some.ensures)
-    (item_taken c.args.ahead p c.args.place done (reverse old) (reverse c.push_rest.new.stack.items) c.in-Some.ensures rest)
+    ∙ ap (λ ss. drop 1 (body_of p) ++ ss) (behind old _ (waiting.Nonterminal nonterminal.AfterItem ∷ []) c.in_ok-put-in-Some.ensures) in
+    subst (λ es. Takes c.args.ahead c.args.place done (symbol.Nonterminal nonterminal.Items ∷ standing old) es (standing c.push_rest.new.stack.items)) (sym c.in_ok-note-in-Some.ensures)
+    (item_taken c.args.ahead p c.args.place done (standing old) (standing c.push_rest.new.stack.items) c.in-Some.ensures rest)

@@ -1,0 +1,18 @@
+use Rattle.std.proofs.Common.{sym, ◌++◌, ◌∙◌, refl}
+use Rattle.frame_grammar.specs.Notes.{events_of}
+use Rattle.frame_grammar.specs.Waiting.{standing, after_term}
+use Rattle.frame_grammar.proofs.Takings.{told, factor}
+use Rattle.frame_grammar.proofs.Stacks.{behind}
+use Rattle.frame_grammar.proofs.Expressions.{part_of_factor}
+use Rattle.frame_grammar.proofs.levels.after_factor.Goals as goal
+
+pub returns-in_ok-put : goal.returns-in_ok-put
+returns-in_ok-put c =
+    told c.args.ahead c.args.ahead c.args.place (events_of c.args.events.now.items) _ _ _ _ _ refl c.in_ok-note.ensures
+    (behind c.args.stack.now.items _ _ c.in_ok-put.ensures)
+    (factor c.args.ahead c.args.place (events_of c.args.events.now.items) (after_term ++ standing c.args.stack.now.items) (sym c.multiplies.ensures ∙ c.if-multiplies.true))
+
+pub returns-else-multiplies : goal.returns-else-multiplies
+returns-else-multiplies c =
+    part_of_factor c.after_term.result _ c.args.place (events_of c.args.events.now.items) (standing c.args.stack.now.items) _ _
+    (sym c.multiplies.ensures ∙ c.if-multiplies.false) c.after_term.ensures

@@ -1,0 +1,24 @@
+use Rattle.std.proofs.Common.{sym, ◌∙◌, refl}
+use Rattle.frame_grammar.specs.Notes.{events_of}
+use Rattle.frame_grammar.specs.Waiting.{standing}
+use Rattle.frame_grammar.proofs.Takings.{told, told_going, term, no_term}
+use Rattle.frame_grammar.proofs.Stacks.{behind}
+use Rattle.frame_grammar.proofs.Expressions.{above_sum, nothing_follows}
+use Rattle.frame_grammar.proofs.levels.after_term.Goals as goal
+
+pub returns-in_ok-put : goal.returns-in_ok-put
+returns-in_ok-put c =
+    told c.args.ahead c.args.ahead c.args.place (events_of c.args.events.now.items) _ _ _ _ _ refl c.in_ok-note.ensures
+    (behind c.args.stack.now.items _ _ c.in_ok-put.ensures)
+    (term c.args.ahead c.args.place (events_of c.args.events.now.items) (above_sum (standing c.args.stack.now.items)) (sym c.adds.ensures ∙ c.if-adds.true))
+
+pub returns-in_ok-put-2 : goal.returns-in_ok-put-2
+returns-in_ok-put-2 c =
+    told_going c.args.ahead c.args.place (events_of c.args.events.now.items) _ _ _ _ _ refl
+    (behind c.args.stack.now.items _ _ c.in_ok-put-2.ensures)
+    (no_term c.args.ahead c.args.place (events_of c.args.events.now.items) (above_sum (standing c.args.stack.now.items)) (sym c.adds.ensures ∙ c.if-adds.false))
+
+pub returns-else-joins : goal.returns-else-joins
+returns-else-joins c =
+    nothing_follows c.args.ahead c.args.place (events_of c.args.events.now.items) (standing c.args.stack.now.items)
+    (sym c.adds.ensures ∙ c.if-adds.false) (sym c.joins.ensures ∙ c.if-joins.false)

@@ -1,0 +1,16 @@
+use Rattle.std.proofs.Common.{sym, ◌∙◌, refl}
+use Rattle.frame_grammar.specs.Waiting.{standing}
+use Rattle.frame_grammar.specs.Notes.{events_of}
+use Rattle.frame_grammar.proofs.Takings.{told, term, no_term}
+use Rattle.frame_grammar.proofs.Stacks.{behind}
+use Rattle.frame_grammar.proofs.levels.more_terms.Goals as goal
+
+pub returns-in_ok-put : goal.returns-in_ok-put
+returns-in_ok-put c =
+    told c.args.ahead c.args.ahead c.args.place (events_of c.args.events.now.items) _ _ _ _ _ refl c.in_ok-note.ensures
+    (behind c.args.stack.now.items _ _ c.in_ok-put.ensures)
+    (term c.args.ahead c.args.place (events_of c.args.events.now.items) (standing c.args.stack.now.items) (sym c.adds.ensures ∙ c.if-adds.true))
+
+pub returns-else-adds : goal.returns-else-adds
+returns-else-adds c =
+    no_term c.args.ahead c.args.place (events_of c.args.events.now.items) (standing c.args.stack.now.items) (sym c.adds.ensures ∙ c.if-adds.false)

@@ -1,0 +1,35 @@
+-- What waits on the parser's stack.
+use Rattle.std.specs.Prelude.{List, [], ◌∷◌, ◌++◌, reverse}
+use Rattle.frame_grammar.specs.declared.symbols.Nonterminal.TheVariants.{MoreTerm, MoreSum, Compared, MoreAnd, MoreOr}
+use Rattle.frame_grammar.specs.declared.symbols.Symbol.{Symbol}
+use Rattle.frame_grammar.specs.declared.symbols.Symbol.TheVariants as symbol
+use Rattle.frame_grammar.specs.declared.waiting.Waiting.{Waiting}
+use Rattle.frame_grammar.specs.declared.waiting.Waiting.TheVariants as waiting
+
+-- what may follow a term, at each level of an expression
+abbrev pub after_term : List Symbol
+after_term =
+    symbol.Nonterminal MoreSum ∷ symbol.Nonterminal Compared ∷ symbol.Nonterminal MoreAnd ∷ symbol.Nonterminal MoreOr
+    ∷ []
+
+-- the symbols that it stands for, the first one first
+abbrev pub symbols_of : Waiting → List Symbol
+symbols_of (waiting.Terminal k) = symbol.Terminal k ∷ []
+symbols_of (waiting.Nonterminal n) = symbol.Nonterminal n ∷ []
+symbols_of (waiting.Action a) = symbol.Action a ∷ []
+symbols_of waiting.AfterFactor = symbol.Nonterminal MoreTerm ∷ after_term
+symbols_of waiting.AfterTerm = after_term
+
+-- a symbol that waits by itself
+abbrev pub alone : Symbol → Waiting
+alone (symbol.Terminal k) = waiting.Terminal k
+alone (symbol.Nonterminal n) = waiting.Nonterminal n
+alone (symbol.Action a) = waiting.Action a
+
+abbrev pub all_symbols : List Waiting → List Symbol
+all_symbols [] = []
+all_symbols (w ∷ ws) = symbols_of w ++ all_symbols ws
+
+-- the symbols on a stack from the top down; the last of what waits is on top
+abbrev pub standing : List Waiting → List Symbol
+standing stack = all_symbols (reverse stack)

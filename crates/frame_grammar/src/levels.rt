@@ -1,0 +1,236 @@
+//! Steps of the parser in expressions: a part at each level, and what may follow it there.
+
+ghost use Rattle.std.specs.Prelude.{◌≡◌, ℕ, ◌<◌, ◌^◌, List, ◌∷◌, ◌++◌, [], IfOk};
+ghost use Rattle.frame_grammar.specs.declared.TokenKind.{TokenKind};
+ghost use Rattle.frame_grammar.specs.declared.symbols.Nonterminal.TheVariants as nonterminal;
+ghost use Rattle.frame_grammar.specs.declared.symbols.Symbol.{Symbol};
+ghost use Rattle.frame_grammar.specs.declared.symbols.Event.{Event};
+ghost use Rattle.frame_grammar.specs.declared.waiting.Waiting.TheVariants as waiting;
+ghost use Rattle.frame_grammar.specs.Notes.{events_of};
+ghost use Rattle.frame_grammar.specs.Parser.{IsStep, IsPart};
+ghost use Rattle.frame_grammar.specs.Shortcuts.{multiplies, adds, compares, is_and_or, joins};
+ghost use Rattle.frame_grammar.specs.Waiting.{standing, symbols_of};
+
+use crate::TokenKind as K;
+use crate::note::Note;
+use crate::shortcuts::Step;
+use crate::stack::{note, put};
+use crate::symbols::{Action as A, Nonterminal as N};
+use crate::waiting::Waiting::{self, Nonterminal};
+use std::alloc::AllocError;
+
+// The operators of each level
+
+fn multiplies(kind: K) -> bool
+    ensures { result ≡ multiplies kind }
+{
+    matches!(kind, K::Star | K::Slash | K::Percent)
+}
+
+fn adds(kind: K) -> bool
+    ensures { result ≡ adds kind }
+{
+    matches!(kind, K::Plus | K::Minus)
+}
+
+fn compares(kind: K) -> bool
+    ensures { result ≡ compares kind }
+{
+    matches!(
+        kind,
+        K::Equal | K::NotEqual | K::Less | K::LessEqual | K::Greater | K::GreaterEqual
+    )
+}
+
+fn is_and_or(kind: K) -> bool
+    ensures { result ≡ is_and_or kind }
+{
+    matches!(kind, K::AndAnd | K::OrOr)
+}
+
+// Operators of the levels above a sum.
+fn joins(kind: K) -> bool
+    ensures { result ≡ joins kind }
+{
+    compares(kind) || is_and_or(kind)
+}
+
+// Steps of each nonterminal
+
+// Goes through all levels, since no token decides between them.
+pub fn expression(stack: &mut Vec<Waiting>) -> Result<Step, AllocError>
+    ensures { IfOk result (λ step. (ahead : TokenKind) (place : ℕ) (done : List Event) →
+        IsStep step ahead place nonterminal.Expression done (standing stack.old.items) done (standing stack.new.items)) }
+{
+    put(stack, &[Waiting::AfterFactor, Nonterminal(N::Unary)])?;
+    Ok(Step::WentOn)
+}
+
+// A term begins with a factor, whatever token is ahead.
+pub fn term(stack: &mut Vec<Waiting>) -> Result<Step, AllocError>
+    ensures { IfOk result (λ step. (ahead : TokenKind) (place : ℕ) (done : List Event) →
+        IsStep step ahead place nonterminal.Term done (standing stack.old.items) done (standing stack.new.items)) }
+{
+    put(stack, &[Nonterminal(N::MoreTerm), Nonterminal(N::Unary)])?;
+    Ok(Step::WentOn)
+}
+
+pub fn more_factors(
+    stack: &mut Vec<Waiting>,
+    events: &mut Vec<Note>,
+    ahead: K,
+    place: u32,
+) -> Result<Step, AllocError>
+    requires { place < 2 ^ 25 }
+    ensures { IfOk result (λ step. IsStep step ahead place nonterminal.MoreTerm (events_of events.old.items)
+        (standing stack.old.items) (events_of events.new.items) (standing stack.new.items)) }
+{
+    if multiplies(ahead) {
+        note(events, A::Operator, place)?;
+        put(
+            stack,
+            &[
+                Nonterminal(N::MoreTerm),
+                Waiting::Action(A::Binary),
+                Nonterminal(N::Unary),
+                Nonterminal(N::Lines),
+            ],
+        )?;
+        Ok(Step::Took)
+    } else {
+        Ok(Step::WentOn)
+    }
+}
+
+pub fn more_terms(
+    stack: &mut Vec<Waiting>,
+    events: &mut Vec<Note>,
+    ahead: K,
+    place: u32,
+) -> Result<Step, AllocError>
+    requires { place < 2 ^ 25 }
+    ensures { IfOk result (λ step. IsStep step ahead place nonterminal.MoreSum (events_of events.old.items)
+        (standing stack.old.items) (events_of events.new.items) (standing stack.new.items)) }
+{
+    if adds(ahead) {
+        note(events, A::Operator, place)?;
+        put(
+            stack,
+            &[
+                Nonterminal(N::MoreSum),
+                Waiting::Action(A::Binary),
+                Nonterminal(N::Term),
+                Nonterminal(N::Lines),
+            ],
+        )?;
+        Ok(Step::Took)
+    } else {
+        Ok(Step::WentOn)
+    }
+}
+
+// The levels above sums are seldom more than a sum.
+
+pub fn compared(ahead: K) -> Step
+    ensures { (place : ℕ) (done : List Event) (ss : List Symbol) →
+        IsStep result ahead place nonterminal.Compared done ss done ss }
+{
+    if compares(ahead) {
+        Step::Unknown
+    } else {
+        Step::WentOn
+    }
+}
+
+pub fn more_and(ahead: K) -> Step
+    ensures { (place : ℕ) (done : List Event) (ss : List Symbol) →
+        IsStep result ahead place nonterminal.MoreAnd done ss done ss }
+{
+    if ahead == K::AndAnd {
+        Step::Unknown
+    } else {
+        Step::WentOn
+    }
+}
+
+pub fn more_or(ahead: K) -> Step
+    ensures { (place : ℕ) (done : List Event) (ss : List Symbol) →
+        IsStep result ahead place nonterminal.MoreOr done ss done ss }
+{
+    if ahead == K::OrOr {
+        Step::Unknown
+    } else {
+        Step::WentOn
+    }
+}
+
+/// Goes on with what may follow a term: by an operator of its sum, which is taken, by an operator of a level above, or
+/// by none. Says whether it took the token ahead.
+#[inline(always)]
+pub fn after_term(
+    stack: &mut Vec<Waiting>,
+    events: &mut Vec<Note>,
+    ahead: K,
+    place: u32,
+) -> Result<bool, AllocError>
+    requires { place < 2 ^ 25 }
+    ensures { IfOk result (λ taken. IsPart taken ahead place (symbols_of waiting.AfterTerm) (events_of events.old.items)
+        (standing stack.old.items) (events_of events.new.items) (standing stack.new.items)) }
+{
+    if adds(ahead) {
+        note(events, A::Operator, place)?;
+        put(
+            stack,
+            &[
+                Waiting::AfterTerm,
+                Waiting::Action(A::Binary),
+                Nonterminal(N::Term),
+                Nonterminal(N::Lines),
+            ],
+        )?;
+        Ok(true)
+    } else if joins(ahead) {
+        put(
+            stack,
+            &[
+                Nonterminal(N::MoreOr),
+                Nonterminal(N::MoreAnd),
+                Nonterminal(N::Compared),
+            ],
+        )?;
+        Ok(false)
+    } else {
+        Ok(false)
+    }
+}
+
+/// Goes on with what may follow a factor: by an operator of its term, which is taken, or as after a term. Says whether
+/// it took the token ahead.
+#[inline(always)]
+pub fn after_factor(
+    stack: &mut Vec<Waiting>,
+    events: &mut Vec<Note>,
+    ahead: K,
+    place: u32,
+) -> Result<bool, AllocError>
+    requires { place < 2 ^ 25 }
+    ensures { IfOk result (λ taken. IsPart taken ahead place (symbols_of waiting.AfterFactor)
+        (events_of events.old.items) (standing stack.old.items) (events_of events.new.items)
+        (standing stack.new.items)) }
+{
+    if multiplies(ahead) {
+        note(events, A::Operator, place)?;
+        put(
+            stack,
+            &[
+                Waiting::AfterFactor,
+                Waiting::Action(A::Binary),
+                Nonterminal(N::Unary),
+                Nonterminal(N::Lines),
+            ],
+        )?;
+        Ok(true)
+    } else {
+        after_term(stack, events, ahead, place)
+    }
+}
