@@ -158,17 +158,17 @@ stands-block nodes owner i (Branched a e first second more) h =
     )
 
 -- the tree that events spell stands from the first node on
-pub body-here : (events : List Event) (raw : RawKernel) (s : SpellsRaw events raw) → IsBlockHere raw None 0 s.body
-body-here events raw s = record {
+pub body-here : (events : List Event) (raw : RawKernel) (s : SpellsRaw events raw) → raw.nodes.items ≡ block_nodes None 0 s.body → IsBlockHere raw None 0 s.body
+body-here events raw s all = record {
   formed = formed-block s.with_statements;
-  stands = stands-block raw.nodes.items None 0 s.body (subst (λ ns. At raw.nodes.items 0 ns) s.nodes (At-self raw.nodes.items));
+  stands = stands-block raw.nodes.items None 0 s.body (subst (λ ns. At raw.nodes.items 0 ns) all (At-self raw.nodes.items));
   after = λ node t b.
-      let size : length raw.nodes.items ≡ block_size s.body = ap length s.nodes ∙ length-block None 0 s.body in
+      let size : length raw.nodes.items ≡ block_size s.body = ap length all ∙ length-block None 0 s.body in
       let lt = slice_get_within raw.nodes.items _ node t in absurd (omega arith);
 }
 
-pub body-size : (events : List Event) (raw : RawKernel) (s : SpellsRaw events raw) → length raw.nodes.items ≡ 0 + block_size s.body
-body-size events raw s = let size : length raw.nodes.items ≡ block_size s.body = ap length s.nodes ∙ length-block None 0 s.body in omega arith
+pub body-size : (events : List Event) (raw : RawKernel) (s : SpellsRaw events raw) → raw.nodes.items ≡ block_nodes None 0 s.body → length raw.nodes.items ≡ 0 + block_size s.body
+body-size events raw s all = let size : length raw.nodes.items ≡ block_size s.body = ap length all ∙ length-block None 0 s.body in omega arith
 
 -- PARAMETERS
 

@@ -1,5 +1,6 @@
 -- How many nodes a kernel has that a raw kernel is.
-use Rattle.std.proofs.Common.{ℕ, zero, suc, ◌≡◌, ◌≤◌, ◌<◌, ◌+◌, Bool, true, false, List, [], ◌∷◌, Some, None, slice_get, length, refl, ap, ◌∙◌, arith}
+use Rattle.std.proofs.Common.{ℕ, zero, suc, ◌≡◌, ◌≤◌, ◌<◌, ◌+◌, Bool, true, false, List, [], ◌∷◌, Some, None, slice_get, length, take_all, refl, ap, ◌∙◌, arith}
+use Rattle.std.proofs.lemmas.List.{length-take}
 use Rattle.std.specs.Prelude.{◌||◌, nat_le}
 use Rattle.std.proofs.lemmas.Bool.Decides.{nat_tests}
 use Rattle.frame_ast.specs.declared.kernel.Expr.{Expr}
@@ -9,7 +10,9 @@ use Rattle.frame_ast.specs.declared.kernel.Stmt.TheFolds.{fold-Stmt, fold_out-St
 use Rattle.frame_ast.specs.Checked.{expr_nodes, measured, body_nodes}
 use Rattle.kernel_code.specs.declared.raw.RawNode.{RawNode}
 use Rattle.kernel_code.specs.declared.raw.RawKernel.{RawKernel}
-use Rattle.kernel_code.specs.Raw.{RawExpr, RawBlock, expr_size, block_size}
+use Rattle.kernel_code.specs.Raw.{RawExpr, RawBlock, expr_size, block_size, block_nodes, SpellsRaw}
+use Rattle.kernel_code.specs.declared.raw.TheConstants.{MOST_KEPT}
+use Rattle.frame_grammar.specs.declared.symbols.Event.{Event}
 use Rattle.kernel_code.specs.StaticFaults.{nodes_fault}
 use Rattle.kernel_code.specs.Trees.{ExprOf, number, index, variable, loop_variable, value, size, element, has, count, item, negative, opposite, both, either, between, BlockOf, nothing, var, set_local, set_value, set_place, set_try_add, set_remove, add_item, add_pair, remove, clear, write, begun, tested, counted, looped, branched}
 use Rattle.kernel_code.proofs.NoFaults.{some_if-none, node_fault-none}
@@ -82,3 +85,9 @@ few-nodes raw h = few (length raw.nodes.items) (λ i w. node-number raw i h w)
     few : (n : ℕ) → ((i : ℕ) → i < n → i < 4096) → n ≤ 4096
     few zero f = omega arith
     few (suc n) f = let lt = f n (omega arith) in omega arith
+
+-- Where there is no fault, all nodes are kept.
+pub all-kept : (events : List Event) (raw : RawKernel) (s : SpellsRaw events raw) → nodes_fault raw 0 raw.nodes.items ≡ None → raw.nodes.items ≡ block_nodes None 0 s.body
+all-kept events raw s h =
+    let all = block_nodes None 0 s.body in
+    s.nodes ∙ take_all MOST_KEPT all (omega (arith, few-nodes raw h, ap length s.nodes, length-take MOST_KEPT all))

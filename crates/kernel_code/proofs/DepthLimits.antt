@@ -1,6 +1,6 @@
 -- The depth of a kernel that a raw kernel without faults is.
 use Rattle.std.proofs.Common.{ℕ, ◌≡◌, ◌≤◌, ◌<◌, ◌+◌, false, max, inl, inr, List, None, length, refl, sym, ap, subst, ◌∙◌, arith}
-use Rattle.std.specs.Prelude.{nat_lt}
+use Rattle.std.specs.Prelude.{nat_lt, slice_get, unwrap_or, take}
 use Rattle.std.proofs.lemmas.Bool.{or_parts}
 use Rattle.std.proofs.lemmas.Bool.Decides.{nat_tests}
 use Rattle.frame_grammar.specs.declared.symbols.Event.{Event}
@@ -10,13 +10,17 @@ use Rattle.frame_ast.specs.declared.kernel.Stmt.TheOpen.{Stmt-F}
 use Rattle.frame_ast.specs.declared.kernel.Stmt.TheFolds.{fold-Stmt, fold_out-Stmt, map-Stmt}
 use Rattle.frame_ast.specs.Checked.{expr_depth, measured, body_depth}
 use Rattle.kernel_code.specs.declared.raw.RawKernel.{RawKernel}
+use Rattle.kernel_code.specs.declared.raw.TheConstants.{MOST_KEPT}
 use Rattle.kernel_code.specs.Raw.{RawExpr, RawBlock, block_size, SpellsRaw}
-use Rattle.kernel_code.specs.StaticFaults.{depth_of, nodes_fault}
+use Rattle.kernel_code.specs.Depths.{depth_of, depths_of}
+use Rattle.kernel_code.specs.StaticFaults.{nodes_fault, depth_at}
 use Rattle.kernel_code.specs.Trees.{ExprOf, number, index, variable, loop_variable, value, size, element, has, count, item, negative, opposite, both, either, between, BlockOf, nothing, var, set_local, set_value, set_place, set_try_add, set_remove, add_item, add_pair, remove, clear, write, begun, tested, counted, looped, branched}
 use Rattle.kernel_code.proofs.NoFaults.{some_if-none, node_fault-none}
 use Rattle.kernel_code.proofs.BuiltExpressions.{none_at}
 use Rattle.kernel_code.proofs.BuiltKernels.{body-size}
-use Rattle.kernel_code.proofs.Counting.{has-at}
+use Rattle.kernel_code.proofs.Counting.{has-at, node-number, all-kept}
+use Rattle.kernel_code.proofs.Keeping.{get-take}
+use Rattle.kernel_code.proofs.RunningDepths.{depths-at}
 use Rattle.kernel_code.proofs.Levels.{expr_levels, block_levels, Reaches, block_deep}
 
 -- DEPTHS ARE LEVELS
@@ -69,25 +73,36 @@ block-depth (branched {s = s} x o one two rest) = let a = stmt-depth s _ o in le
 at_most : (n m : ℕ) → nat_lt n m ≡ false → m ≤ n
 at_most n m h = grind (arith, nat_tests)
 
-node-depth : (raw : RawKernel) (i : ℕ) → nodes_fault raw 0 raw.nodes.items ≡ None → i < length raw.nodes.items → depth_of raw.nodes.items i ≤ 64
-node-depth raw i h w =
+-- the depth that is kept of a node is its depth
+depth-kept : (raw : RawKernel) (events : List Event) (s : SpellsRaw events raw) (i : ℕ) → nodes_fault raw 0 raw.nodes.items ≡ None → i < length raw.nodes.items → depth_at raw i ≡ depth_of raw.nodes.items i
+depth-kept raw events s i h w =
+    let same : 0 + i ≡ i = omega arith in
+    let all = all-kept events raw s h in
+    let depths : raw.depths.items ≡ take MOST_KEPT (depths_of raw.nodes.items) = s.depths ∙ ap (λ ns. take MOST_KEPT (depths_of ns)) (sym all) in
+    ap (λ ds. unwrap_or (slice_get ds i) 0) depths
+    ∙ ap (λ d. unwrap_or d 0) (get-take MOST_KEPT (depths_of raw.nodes.items) i (omega (arith, node-number raw i h w)) ∙ depths-at raw.nodes.items 0 raw.nodes.items i w)
+    ∙ ap (depth_of raw.nodes.items) same
+
+node-depth : (raw : RawKernel) (events : List Event) (s : SpellsRaw events raw) (i : ℕ) → nodes_fault raw 0 raw.nodes.items ≡ None → i < length raw.nodes.items → depth_of raw.nodes.items i ≤ 64
+node-depth raw events s i h w =
     let same : 0 + i ≡ i = omega arith in
     let q = has-at raw.nodes.items i w in
     let f = node_fault-none raw (0 + i) q.0 (none_at raw 0 i raw.nodes.items q.0 h q.1) in
-    let le = at_most 64 (depth_of raw.nodes.items (0 + i)) (or_parts _ _ (some_if-none _ _ f.size)).1 in
-    subst (λ k. depth_of raw.nodes.items k ≤ 64) same le
+    let le = at_most 64 (depth_at raw (0 + i)) (or_parts _ _ (some_if-none _ _ f.size)).1 in
+    subst (λ d. d ≤ 64) (ap (depth_at raw) same ∙ depth-kept raw events s i h w) le
 
-few-levels : (raw : RawKernel) (d n : ℕ) → nodes_fault raw 0 raw.nodes.items ≡ None → length raw.nodes.items ≡ 0 + n → Reaches 0 n d raw.nodes.items → d ≤ 64
-few-levels raw d n h whole (inl none) = omega arith
-few-levels raw d n h whole (inr r) =
+few-levels : (raw : RawKernel) (events : List Event) (s : SpellsRaw events raw) (d n : ℕ) → nodes_fault raw 0 raw.nodes.items ≡ None → length raw.nodes.items ≡ 0 + n → Reaches 0 n d raw.nodes.items → d ≤ 64
+few-levels raw events s d n h whole (inl none) = omega arith
+few-levels raw events s d n h whole (inr r) =
     let within = r.within in
     let deep = r.deep in
-    let le = node-depth raw r.at h (omega arith) in omega arith
+    let le = node-depth raw events s r.at h (omega arith) in omega arith
 
 -- No node of a kernel without faults is deeper than 64.
 pub depth : (raw : RawKernel) (events : List Event) (s : SpellsRaw events raw) (statements : List Stmt) → nodes_fault raw 0 raw.nodes.items ≡ None → BlockOf raw 0 s.body statements →
     body_depth statements ≤ 64
 depth raw events s statements h b =
-    let reaches = subst (λ ns. Reaches 0 (block_size s.body) (block_levels s.body) ns) (sym s.nodes) (block_deep None 0 s.body) in
-    let le = few-levels raw (block_levels s.body) (block_size s.body) h (body-size events raw s) reaches in
+    let all = all-kept events raw s h in
+    let reaches = subst (λ ns. Reaches 0 (block_size s.body) (block_levels s.body) ns) (sym all) (block_deep None 0 s.body) in
+    let le = few-levels raw events s (block_levels s.body) (block_size s.body) h (body-size events raw s all) reaches in
     let same = block-depth b in omega arith

@@ -1,8 +1,11 @@
--- The definition of a file's tokens, tried on small files.
+-- The definitions of a file's tokens and of depths, tried on small files.
 use Rattle.std.proofs.Common.{◌≡◌, ℕ, [], ◌∷◌, ◌++◌, refl, codes}
 use Rattle.frame_grammar.specs.declared.TokenKind.{TokenKind}
 use Rattle.frame_grammar.specs.declared.TokenKind.TheVariants.{Name, Number, Text, Line, End, Bad, DotDot, Less, LessEqual, Temp, OpenBrace, Assign}
 use Rattle.kernel_code.specs.declared.token.Token.{Token}
+use Rattle.kernel_code.specs.declared.raw.RawForm.TheVariants as form
+use Rattle.kernel_code.specs.Raw.{Leaf, One, Infix, expr_nodes}
+use Rattle.kernel_code.specs.Depths.{depths_of}
 use Rattle.kernel_code.specs.Spellings.{spelling_of, symbols, reserved_words}
 use Rattle.kernel_code.specs.Words.{is_name, is_number, is_text, closes_text, is_blank, is_comment, kind_of}
 use Rattle.kernel_code.specs.Tokens.{longest_up_to, front_len, front_kind, tokens_from, tokens_of}
@@ -29,3 +32,11 @@ a_mark = refl
 texts : tokens_of (codes "=" ++ 34 ∷ codes "a b" ++ 34 ∷ 34 ∷ 34 ∷ 255 ∷ codes "{") ≡ at Assign 0 1 1 ∷ at Text 1 6 1 ∷ at Bad 6 7 1 ∷ at Bad 7 8 1 ∷ at Bad 8 9 1 ∷ at OpenBrace 9 10 1 ∷ at End 10 10 1 ∷ []
 unfolding spelling_of symbols reserved_words is_name is_number is_text closes_text is_blank is_comment kind_of longest_up_to front_len front_kind tokens_from tokens_of
 texts = refl
+
+-- `1 + -2 * 3`: the first `1` is under `+` alone, the `2` under all three operators
+depths : depths_of (expr_nodes (Infix 1 (Leaf form.Number 0 0) (Infix 4 (One form.Unary 2 2 (Leaf form.Number 3 3)) (Leaf form.Number 5 5)))) ≡ 2 ∷ 1 ∷ 3 ∷ 4 ∷ 2 ∷ 3 ∷ []
+depths = refl
+
+-- `1 + 2 + 3`: a chain groups to the left
+chain : depths_of (expr_nodes (Infix 3 (Infix 1 (Leaf form.Number 0 0) (Leaf form.Number 2 2)) (Leaf form.Number 4 4))) ≡ 3 ∷ 2 ∷ 3 ∷ 1 ∷ 2 ∷ []
+chain = refl

@@ -11,6 +11,7 @@ use Rattle.kernel_code.specs.Raw.{SpellsKind, SpellsParams, SpellsRaw}
 use Rattle.kernel_code.specs.Raw as raw
 use Rattle.kernel_code.specs.StaticFaults.{first_fault}
 use Rattle.kernel_code.specs.Trees.{IsKernelOf}
+use Rattle.kernel_code.proofs.Counting.{all-kept}
 use Rattle.kernel_code.proofs.BuiltKernels.{body-here, body-size}
 use Rattle.kernel_code.proofs.Limits.{faultless}
 use Rattle.kernel_code.proofs.FittingStreams.{none-open}
@@ -43,6 +44,7 @@ fits events raw k earlier s h is =
       count = is.locals;
       ints = ints-read s.with_params;
     } in
-    let here = body-here events raw s in
-    let size = body-size events raw s in
+    let all = all-kept events raw s (faultless raw earlier h).1 in
+    let here = body-here events raw s all in
+    let size = body-size events raw s all in
     block-fits raw k.parallel k.params.items k.locals sound (is.body events s) None (length raw.nodes.items) [] here.stands (omega arith) (none-open raw (length raw.nodes.items))

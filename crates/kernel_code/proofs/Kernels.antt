@@ -1,7 +1,7 @@
 -- What the reader has after the events of a kernel.
-use Rattle.std.proofs.Common.{◌≡◌, ℕ, zero, suc, ◌-◌, ◌+◌, ◌<◌, ◌≤◌, ◌^◌, Bool, true, false, List, [], ◌∷◌, ◌++◌, length, drop, get_or, Option, Some, None, slice_get, take, take_all, IfSome, append_assoc, append-nil, add-one, drop-cons, refl, sym, ◌∙◌, ap, subst, arith}
+use Rattle.std.proofs.Common.{◌≡◌, ℕ, zero, suc, ◌-◌, ◌<◌, ◌≤◌, ◌^◌, Bool, true, false, List, [], ◌∷◌, ◌++◌, length, drop, get_or, Option, Some, None, slice_get, take, take_all, IfSome, append_assoc, append-nil, refl, sym, ◌∙◌, ap, subst, arith}
 use Rattle.std.proofs.lemmas.List.{length-append}
-use Rattle.std.proofs.Math.ListN.{length-set, drop_of_length-le}
+use Rattle.std.proofs.Math.ListN.{length-set}
 use Rattle.job_base.specs.declared.Access.{Access}
 use Rattle.job_base.specs.declared.Access.TheVariants.{Read, Write as WriteOnly, Both}
 use Rattle.frame_grammar.specs.declared.symbols.Action.TheVariants as action
@@ -9,11 +9,13 @@ use Rattle.frame_grammar.specs.declared.symbols.Event.{Event}
 use Rattle.kernel_code.specs.declared.raw.RawNode.{RawNode}
 use Rattle.kernel_code.specs.declared.raw.RawParam.{RawParam}
 use Rattle.kernel_code.specs.declared.raw.RawKernel.{RawKernel}
+use Rattle.kernel_code.specs.declared.raw.TheConstants.{MOST_KEPT}
 use Rattle.kernel_code.specs.declared.part.Part.{Part}
 use Rattle.kernel_code.specs.declared.part.Part.TheVariants as part
 use Rattle.kernel_code.specs.Marks.{raw_tokens}
 use Rattle.kernel_code.specs.Raw.{RawBlock, RawExpr, Leaf, One, Two, Infix, Nothing, Simple, Nested, Branched, block_size, block_nodes, expr_nodes, parts_nodes, on, access_action, SpellsKind, SpellsParams, SpellsBlock, SpellsRaw, opening, IsWithin, IsKernel, ExprBelow, PartsBelow, BlockBelow, ParamsBelow}
 use Rattle.kernel_code.specs.Raw as raw
+use Rattle.kernel_code.specs.Depths.{depths_of}
 use Rattle.kernel_code.specs.Reading.{Reading, part_of, with_part, begun, fresh, is_parallel, named, numbered, top, changed, changed_in, replaced_if, step, run, nothing_read}
 use Rattle.kernel_code.proofs.Readings.{mk, run-append}
 use Rattle.kernel_code.proofs.Blocks.{reads_block, length-block}
@@ -94,13 +96,16 @@ reads_kernel k =
     }
 
 -- nodes are never taken away
-set_keeps : (p : Part) (q at : ℕ) (o : Option RawNode) (s : Reading) → length s.nodes ≤ length (replaced_if p q at o s).nodes
-set_keeps p q at None s = omega arith
-set_keeps p q at (Some n) s = omega (arith, length-set s.nodes at (changed p q (length s.nodes - 1 - at) n))
+set_keeps : (p : Part) (q count at : ℕ) (o : Option RawNode) (s : Reading) → length s.nodes ≤ length (replaced_if p q count at o s).nodes
+set_keeps p q count at None s = omega arith
+set_keeps p q count at (Some n) s = omega (arith, length-set s.nodes at (changed p q (count - 1 - at) n))
 
-change_keeps : (p : Part) (q : ℕ) (o : Option ℕ) (s : Reading) → length s.nodes ≤ length (changed_in p q o s).nodes
-change_keeps p q None s = omega arith
-change_keeps p q (Some at) s = set_keeps p q at (slice_get s.nodes at) s
+changed_keeps : (p : Part) (q count : ℕ) (o : Option ℕ) (s : Reading) → length s.nodes ≤ length (changed_in p q count o s).nodes
+changed_keeps p q count None s = omega arith
+changed_keeps p q count (Some at) s = set_keeps p q count at (slice_get s.nodes at) s
+
+change_keeps : (p : Part) (q : ℕ) (o : Option ℕ) (s : Reading) → length s.nodes ≤ length (changed_in p q (length s.nodes) o s).nodes
+change_keeps p q o s = changed_keeps p q (length s.nodes) o s
 
 begun_adds : (at : ℕ) (owner : Option ℕ) (before : ℕ) (s : Reading) → length s.nodes ≤ length (begun at owner before s).nodes
 begun_adds at owner before s = omega (arith, length-append s.nodes ((begun at owner before (record s { nodes = [] })).nodes))
@@ -136,11 +141,6 @@ part_keeps part.Branches q s = change_keeps part.Branches q (top s.opened) s
 pub run_keeps : (s : Reading) (es : List Event) → length s.nodes ≤ length (run s es).nodes
 run_keeps s [] = omega arith
 run_keeps s (e ∷ es) = omega (arith, part_keeps (part_of e.action) e.place s, run_keeps (step s e) es)
-
--- the next event
-pub run_next : (s : Reading) (es : List Event) (i : ℕ) (e : Event) → i < length es → e ≡ get_or es i e → run s (drop i es) ≡ run (step s e) (drop (i + 1) es)
-run_next s es i e within is =
-    ap (run s) (drop-cons es i e within) ∙ ap (λ x. run (step s x) (drop (suc i) es)) (sym is) ∙ ap (λ k. run (step s e) (drop k es)) (sym (add-one i))
 
 -- PLACES
 
@@ -212,18 +212,18 @@ behind_name events = take (length events - 2) (drop 2 events)
 pub record HasAll (events : List Event) (n : ℕ) (k : IsKernel events n) (s : Reading) : Type 0 where
   pub nodes : s.nodes ≡ block_nodes None 0 k.body
   pub params : s.params ≡ k.params
+  pub closed : s.opened ≡ []
 
-pub has_all : (events : List Event) (n : ℕ) (k : IsKernel events n) (s : Reading) (i : ℕ) →
-    run s (drop i (behind_name events)) ≡ run nothing_read (behind_name events) → length (behind_name events) ≤ i → HasAll events n k s
-has_all events n k s i leads past =
+pub has_all : (events : List Event) (n : ℕ) (k : IsKernel events n) (s : Reading) → s ≡ run nothing_read (behind_name events) → HasAll events n k s
+has_all events n k s is =
     let read = reads_kernel k in
-    let all : s ≡ mk k.params read.param (block_nodes None 0 k.body) [] read.last =
-    sym (ap (run s) (drop_of_length-le (behind_name events) {i = i} past)) ∙ leads ∙ ap (run nothing_read) (parts_are k) ∙ read.is in
-    record { nodes = ap (λ t. t.nodes) all; params = ap (λ t. t.params) all }
+    let all : s ≡ mk k.params read.param (block_nodes None 0 k.body) [] read.last = is ∙ ap (run nothing_read) (parts_are k) ∙ read.is in
+    record { nodes = ap (λ t. t.nodes) all; params = ap (λ t. t.params) all; closed = ap (λ t. t.opened) all }
 
 pub spells_raw : (events : List Event) (n : ℕ) (k : IsKernel events n) (s : Reading) (raw : RawKernel) (d : Event) → HasAll events n k s →
-    raw.parallel ≡ is_parallel (get_or events 0 d).action → raw.name ≡ (get_or events 1 d).place → raw.params.items ≡ s.params → raw.nodes.items ≡ s.nodes → SpellsRaw events raw
-spells_raw events n k s raw d all parallel called params nodes =
+    raw.parallel ≡ is_parallel (get_or events 0 d).action → raw.name ≡ (get_or events 1 d).place → raw.params.items ≡ s.params → raw.nodes.items ≡ take MOST_KEPT s.nodes →
+    raw.depths.items ≡ take MOST_KEPT (depths_of s.nodes) → SpellsRaw events raw
+spells_raw events n k s raw d all parallel called params nodes depths =
     let parallel_same : k.parallel ≡ raw.parallel = sym (parallel ∙ ap (λ es. is_parallel (get_or es 0 d).action) k.spelled ∙ parallel_is k.parallel) in
     let name_same : k.name ≡ raw.name = sym (called ∙ ap (λ es. (get_or es 1 d).place) k.spelled) in
     record {
@@ -236,16 +236,23 @@ spells_raw events n k s raw d all parallel called params nodes =
       spelled = k.spelled ∙ ap (λ b. on (opening b) k.at ∷ on action.Name k.name ∷ parts_of k) parallel_same ∙ ap (λ x. on (opening raw.parallel) k.at ∷ on action.Name x ∷ parts_of k) name_same;
       with_params = subst (λ ps. SpellsParams k.param_events ps) (sym (params ∙ all.params)) k.with_params;
       with_statements = k.with_statements;
-      nodes = nodes ∙ all.nodes;
+      nodes = nodes ∙ ap (take MOST_KEPT) all.nodes;
+      depths = depths ∙ ap (λ ns. take MOST_KEPT (depths_of ns)) all.nodes;
     }
 
+slice_get_taken : (m : ℕ) (xs : List RawNode) (i : ℕ) (x : RawNode) → slice_get (take m xs) i ≡ Some x → slice_get xs i ≡ Some x
+slice_get_taken zero xs i x e = cc
+slice_get_taken (suc m) [] i x e = e
+slice_get_taken (suc m) (y ∷ ys) zero x e = e
+slice_get_taken (suc m) (y ∷ ys) (suc i) x e = slice_get_taken m ys i x e
+
 pub within_raw : (events : List Event) (n : ℕ) (k : IsKernel events n) (s : Reading) (raw : RawKernel) (d : Event) → HasAll events n k s → n ≡ length (raw_tokens raw) →
-    raw.name ≡ (get_or events 1 d).place → raw.params.items ≡ s.params → raw.nodes.items ≡ s.nodes → IsWithin raw
+    raw.name ≡ (get_or events 1 d).place → raw.params.items ≡ s.params → raw.nodes.items ≡ take MOST_KEPT s.nodes → IsWithin raw
 within_raw events n k s raw d all size called params nodes =
     let name_same : k.name ≡ raw.name = sym (called ∙ ap (λ es. (get_or es 1 d).place) k.spelled) in
     record {
       name = subst (λ m. raw.name < m) size (subst (λ x. x < n) name_same k.name_below);
       params = λ i p e. subst (λ m. ParamIsBelow m p) size (param_at n k.params k.params_below i p (ap (λ ps. slice_get ps i) (sym (params ∙ all.params)) ∙ e));
       nodes = λ i x e. subst (λ m. (x.at < m) × (x.name < m)) size
-          (below_at n (block_nodes None 0 k.body) (block_below n None 0 k.body k.body_below) i x (ap (λ xs. slice_get xs i) (sym (nodes ∙ all.nodes)) ∙ e));
+          (below_at n (block_nodes None 0 k.body) (block_below n None 0 k.body k.body_below) i x (slice_get_taken MOST_KEPT (block_nodes None 0 k.body) i x (ap (λ xs. slice_get xs i) (sym (nodes ∙ ap (take MOST_KEPT) all.nodes)) ∙ e)));
     }

@@ -7,7 +7,7 @@ use Rattle.std.proofs.lemmas.Bool.Decides.{nat_tests}
 use Rattle.kernel_code.specs.declared.raw.RawForm.TheVariants as form
 use Rattle.kernel_code.specs.declared.raw.RawNode.{RawNode}
 use Rattle.kernel_code.specs.Raw.{RawExpr, Leaf, One, Two, Infix, RawBlock, Nothing, Simple, Nested, Branched, expr_size, parts_size, block_size, expr_node, statement_node, expr_nodes, parts_nodes, block_nodes}
-use Rattle.kernel_code.specs.StaticFaults.{one_if, spans, spanning}
+use Rattle.kernel_code.specs.Depths.{one_if, spans, spanning}
 use Rattle.kernel_code.proofs.BuiltKernels.{length-expr, length-parts, length-block}
 
 -- LEVELS

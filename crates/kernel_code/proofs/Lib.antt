@@ -28,7 +28,11 @@ pub mod Statements
 pub mod Derivations
 pub mod Parsing
 pub mod Noted
-pub mod Depths
+pub mod Keeping
+pub mod KeepingChanges
+pub mod KeepingSteps
+pub mod KeptFaults
+pub mod RunningDepths
 pub mod Streams
 pub mod NoFaults
 pub mod Leaves

@@ -16,7 +16,7 @@ use Rattle.kernel_code.specs.Trees.{param_text, raw_param_text, IsKernelOf}
 use Rattle.kernel_code.proofs.NoFaults.{option_or-none}
 use Rattle.kernel_code.proofs.BuiltExpressions.{none_at}
 use Rattle.kernel_code.proofs.BuiltKernels.{body-size, few-params}
-use Rattle.kernel_code.proofs.Counting.{block-count, few-nodes, has-at}
+use Rattle.kernel_code.proofs.Counting.{block-count, few-nodes, has-at, all-kept}
 use Rattle.kernel_code.proofs.Passing.{locals_from-push, room}
 use Rattle.kernel_code.proofs.DepthLimits as depths
 use Rattle.kernel_code.proofs.ParamLimits as parameters
@@ -78,7 +78,7 @@ pub nodes : (events : List Event) (raw : RawKernel) (k : Kernel) (earlier : List
 nodes events raw k earlier s h is =
     let count = block-count (is.body events s) in
     let few = few-nodes raw (faultless raw earlier h).1 in
-    le-leb (body_nodes k.body.statements.items) 4096 (omega (arith, body-size events raw s))
+    le-leb (body_nodes k.body.statements.items) 4096 (omega (arith, body-size events raw s (all-kept events raw s (faultless raw earlier h).1)))
 
 pub depth : (events : List Event) (raw : RawKernel) (k : Kernel) (earlier : List Kernel) → SpellsRaw events raw → first_fault raw earlier ≡ None → IsKernelOf raw k →
     IsTrue (nat_le (body_depth k.body.statements.items) 64)

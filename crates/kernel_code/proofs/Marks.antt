@@ -1,5 +1,5 @@
 -- Tokens in 32 bits: the numbers of kinds, and the tokens that marks are in a file.
-use Rattle.std.proofs.Common.{◌≡◌, ℕ, zero, suc, ◌+◌, ◌<◌, ◌≤◌, ◌==◌, true, false, List, [], ◌∷◌, ◌++◌, length, map, take, drop, slice_get, get_or, Some, None, option_map, All, ◌%◌, refl, sym, ◌∙◌, ap, arith}
+use Rattle.std.proofs.Common.{◌≡◌, ℕ, zero, suc, ◌+◌, ◌<◌, ◌≤◌, ◌==◌, true, List, [], ◌∷◌, ◌++◌, length, map, take, drop, slice_get, get_or, Some, None, option_map, All, ◌%◌, refl, sym, ◌∙◌, ap, arith}
 use Rattle.std.proofs.Math.Nat.{div-add-mod}
 use Rattle.std.proofs.lemmas.Bool.{agree_below_at, eqb-true}
 use Rattle.std.proofs.lemmas.List.Elements.{All-head, All-tail}
@@ -144,10 +144,6 @@ pub line_behind-plus : (k : TokenKind) (line more : ℕ) → line_behind k (line
 line_behind-plus kind.Line line more = omega arith
 line_behind-plus _ line more = refl
 
-pub line_behind-ge : (k : TokenKind) (line : ℕ) → line ≤ line_behind k line
-line_behind-ge kind.Line line = omega arith
-line_behind-ge _ line = omega arith
-
 pub line_behind-le : (k : TokenKind) (line : ℕ) → line_behind k line ≤ line + 1
 line_behind-le kind.Line line = omega arith
 line_behind-le _ line = omega arith
@@ -163,10 +159,6 @@ lines_in-drop marks i d within = ap lines_in (drop_more marks i d within)
 pub line_ends : (k : TokenKind) (line : ℕ) → is_line k ≡ true → line_behind k line ≡ line + 1
 line_ends kind.Line line ends = refl
 line_ends _ line ends = cc
-
-pub line_stays : (k : TokenKind) (line : ℕ) → is_line k ≡ false → line_behind k line ≡ line
-line_stays kind.Line line stays = cc
-line_stays _ line stays = refl
 
 -- the line behind a token and others
 pub lines_behind : (line : ℕ) (mark : Mark) (marks : List Mark) → line_behind (kind_of mark) line + lines_in marks ≡ line + lines_in (mark ∷ marks)

@@ -37,7 +37,7 @@ pub change_seam : (pt : Part) (q : ℕ) (ps : List RawParam) (p : RawParam) (xs 
     change pt q (mk ps p (xs ++ n ∷ ys) (length xs ∷ os) l)
     ≡ mk ps p (xs ++ changed pt q (length ys) n ∷ ys) (if is_last pt then os else length xs ∷ os) (last_after pt (length xs) (changed pt q (length ys) n).before l)
 change_seam pt q ps p xs n ys os l =
-    ap (λ o. replaced_if pt q (length xs) o (mk ps p (xs ++ n ∷ ys) (length xs ∷ os) l)) (slice_get-seam xs n ys)
+    ap (λ o. replaced_if pt q (length (xs ++ n ∷ ys)) (length xs) o (mk ps p (xs ++ n ∷ ys) (length xs ∷ os) l)) (slice_get-seam xs n ys)
     ∙ ap (λ k. mk ps p (set (xs ++ n ∷ ys) (length xs) (changed pt q k n)) (if is_last pt then os else length xs ∷ os) (last_after pt (length xs) (changed pt q k n).before l)) (behind-seam xs n ys)
     ∙ ap (λ zs. mk ps p zs (if is_last pt then os else length xs ∷ os) (last_after pt (length xs) (changed pt q (length ys) n).before l)) (set-append_seam xs n ys (changed pt q (length ys) n))
 
@@ -120,7 +120,7 @@ reads_two f at x q a es gs e g is h i ps p xs o os l =
 
 reads_unary : (at q : ℕ) (es : List Event) (e : RawExpr) → Reads es e → Reads (on action.Operator at ∷ es ++ on action.Unary q ∷ []) (One form.Unary at at e)
 reads_unary at q es e h ps p xs o os l =
-    one_part es e h ps p xs (blank at at None (length xs - l)) (o ∷ os) l (on action.Unary q ∷ [])
+    one_part es e h ps p xs (blank at at None (length xs - l)) (o ∷ os) (length xs) (on action.Unary q ∷ [])
     ∙ ended form.Unary q ps p xs at at (length xs - l) (expr_size e) (expr_nodes e) (o ∷ os) _ (length-expr e)
 
 reads_between : (at q : ℕ) (es gs : List Event) (e g : RawExpr) → Reads es e → Reads gs g →
@@ -133,8 +133,8 @@ reads_between at q es gs e g h i ps p xs o os l =
     ∙ ap (λ s. run s (on action.Binary q ∷ [])) (
     run-append (mk ps p xs (o ∷ os) l) es (on action.Operator at ∷ gs)
     ∙ ap (λ s. run s (on action.Operator at ∷ gs)) (h ps p xs o os l)
-    ∙ ap (λ k. run (mk ps p (zs ++ blank at at None k ∷ []) (length zs ∷ o ∷ os) (length xs)) gs) size
-    ∙ i ps p (zs ++ blank at at None (expr_size e) ∷ []) (length zs) (o ∷ os) (length xs)
+    ∙ ap (λ k. run (mk ps p (zs ++ blank at at None k ∷ []) (length zs ∷ o ∷ os) (length zs)) gs) size
+    ∙ i ps p (zs ++ blank at at None (expr_size e) ∷ []) (length zs) (o ∷ os) (length zs)
     ∙ ap (λ ys. mk ps p ys (length zs ∷ o ∷ os) (length (zs ++ blank at at None (expr_size e) ∷ []))) (append_assoc zs (blank at at None (expr_size e) ∷ []) (expr_nodes g)))
     ∙ change_seam part.Joins q ps p zs (blank at at None (expr_size e)) (expr_nodes g) (o ∷ os) (length (zs ++ blank at at None (expr_size e) ∷ []))
     ∙ ap (λ k. mk ps p (zs ++ expr_node form.Binary at at (expr_size e) k ∷ expr_nodes g) (o ∷ os) (length zs - expr_size e)) (length-expr g)

@@ -3,11 +3,13 @@ pub mod Words
 pub mod Tokens
 pub mod Fronts
 pub mod Marks
+pub mod Depths
 pub mod Raw
 pub mod StaticFaults
 pub mod Numbers
 pub mod Trees
 pub mod Reading
+pub mod Keeping
 pub mod Parsing
 pub mod Edges
 pub mod Known

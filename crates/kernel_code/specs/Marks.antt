@@ -1,5 +1,5 @@
 -- Tokens in 32 bits, and what they are in a file.
-use Rattle.std.specs.Prelude.{ℕ, ◌+◌, ◌/◌, ◌%◌, ◌<◌, Bool, true, false, List, [], ◌∷◌, length, drop, slice_get, Option, Some, None}
+use Rattle.std.specs.Prelude.{ℕ, ◌+◌, ◌/◌, ◌%◌, ◌<◌, Bool, true, false, List, [], ◌∷◌, length, drop, slice_get, unwrap_or}
 use Rattle.frame_grammar.specs.declared.TokenKind.{TokenKind}
 use Rattle.frame_grammar.specs.declared.TokenKind.TheVariants.{Name, Line, End}
 use Rattle.kernel_code.specs.declared.token.Token.{Token}
@@ -8,13 +8,9 @@ use Rattle.kernel_code.specs.declared.mark.TheConstants.{KINDS}
 use Rattle.kernel_code.specs.declared.raw.RawKernel.{RawKernel}
 use Rattle.kernel_code.specs.Tokens.{front_len}
 
-abbrev pub kind_or_first : Option TokenKind → TokenKind
-kind_or_first None = Name
-kind_or_first (Some kind) = kind
-
 -- the kind of a number, which is its place among all kinds
 unfoldable pub kind_numbered : ℕ → TokenKind
-kind_numbered number = kind_or_first (slice_get KINDS number)
+kind_numbered number = unwrap_or (slice_get KINDS number) Name
 
 -- the kind of a token
 abbrev pub kind_of : Mark → TokenKind

@@ -1,5 +1,5 @@
 -- The raw form of a kernel as a tree, the nodes that it has, and the events that spell it.
-use Rattle.std.specs.Prelude.{◌≡◌, ◌<◌, ◌≤◌, ℕ, ◌+◌, Bool, true, false, List, [], ◌∷◌, ◌++◌, length, Option, None, Some, slice_get, IfSome}
+use Rattle.std.specs.Prelude.{◌≡◌, ◌<◌, ◌≤◌, ℕ, ◌+◌, Bool, true, false, List, [], ◌∷◌, ◌++◌, length, take, Option, None, Some, slice_get, IfSome}
 use Rattle.job_base.specs.declared.Access.{Access}
 use Rattle.job_base.specs.declared.Access.TheVariants.{Read, Write as WriteOnly, Both}
 use Rattle.frame_grammar.specs.declared.symbols.Action.{Action}
@@ -11,7 +11,9 @@ use Rattle.kernel_code.specs.declared.raw.RawForm.TheVariants as form
 use Rattle.kernel_code.specs.declared.raw.RawNode.{RawNode}
 use Rattle.kernel_code.specs.declared.raw.RawParam.{RawParam}
 use Rattle.kernel_code.specs.declared.raw.RawKernel.{RawKernel}
+use Rattle.kernel_code.specs.declared.raw.TheConstants.{MOST_KEPT}
 use Rattle.kernel_code.specs.Marks.{raw_tokens}
+use Rattle.kernel_code.specs.Depths.{depths_of}
 
 -- TREES. Numbers are places of tokens.
 
@@ -298,7 +300,10 @@ pub record SpellsRaw (events : List Event) (raw : RawKernel) : Type 0 where
       ∷ params ++ on action.OpenBody body_at ∷ statements ++ on action.CloseKernel end_at ∷ []
   pub with_params : SpellsParams params raw.params.items
   pub with_statements : SpellsBlock statements body
-  pub nodes : raw.nodes.items ≡ block_nodes None 0 body
+  -- Later nodes say nothing of their own, since node MOST_NODES is a fault. They count among those that stand behind an
+  -- earlier one, and in its depth.
+  pub nodes : raw.nodes.items ≡ take MOST_KEPT (block_nodes None 0 body)
+  pub depths : raw.depths.items ≡ take MOST_KEPT (depths_of (block_nodes None 0 body))
 
 -- every place that a raw kernel tells is one of its tokens
 pub record IsWithin (raw : RawKernel) : Type 0 where

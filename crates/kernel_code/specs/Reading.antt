@@ -62,7 +62,7 @@ part_of action.IfElseStatement = part.Branches
 part_of _ = part.Nothing
 
 -- What has been read: the parameters and the one that is being read, the nodes, those of them that are open, the
--- innermost first, and the first node of the expression that was whole last.
+-- innermost first, and the first node of the expression that was whole last, or of an operator that has begun since.
 pub record Reading : Type 0 where
   pub params : List RawParam
   pub param : RawParam
@@ -158,17 +158,18 @@ replaced p at n s = record {
   last = last_after p at n.before s.last;
 }
 
-abbrev pub replaced_if : Part → (q at : ℕ) → Option RawNode → Reading → Reading
-replaced_if p q at None s = s
-replaced_if p q at (Some n) s = replaced p at (changed p q (length s.nodes - 1 - at) n) s
+abbrev pub replaced_if : Part → (q count at : ℕ) → Option RawNode → Reading → Reading
+replaced_if p q count at None s = s
+replaced_if p q count at (Some n) s = replaced p at (changed p q (count - 1 - at) n) s
 
-abbrev pub changed_in : Part → ℕ → Option ℕ → Reading → Reading
-changed_in p q None s = s
-changed_in p q (Some at) s = replaced_if p q at (slice_get s.nodes at) s
+-- this open node, where so many nodes have begun
+abbrev pub changed_in : Part → (q count : ℕ) → Option ℕ → Reading → Reading
+changed_in p q count None s = s
+changed_in p q count (Some at) s = replaced_if p q count at (slice_get s.nodes at) s
 
 -- the innermost open node, when this has been read
 abbrev pub change : Part → ℕ → Reading → Reading
-change p q s = changed_in p q (top s.opened) s
+change p q s = changed_in p q (length s.nodes) (top s.opened) s
 
 -- the parameter that is being read, when this has been
 abbrev pub described : Part → ℕ → Reading → Reading
@@ -192,7 +193,7 @@ with_part part.Width q s = described part.Width q s
 with_part part.Parameter q s = record s { params = s.params ++ s.param ∷ [] }
 with_part part.Statement q s = begun q (top s.opened) 0 s
 with_part part.Atom q s = begun q None 0 s
-with_part part.Operator q s = begun q None (length s.nodes - s.last) s
+with_part part.Operator q s = record (begun q None (length s.nodes - s.last) s) { last = length s.nodes }
 with_part part.Number q s = numbered s.opened q s
 with_part part.Name q s = named s.opened q s
 with_part (part.Ends f) q s = change (part.Ends f) q s

@@ -100,11 +100,11 @@ symbols =
 
 unfoldable pub reserved_words : List TokenKind
 reserved_words =
-    Job ∷ Parallel ∷ Ro ∷ Wo ∷ Rw ∷ Int ∷ Array ∷ ListWord ∷ Ref ∷ Map ∷ Stream ∷ By ∷ Var ∷ If ∷
-    Else ∷ For ∷ In ∷ While ∷ Begin ∷ Write ∷ Add ∷ Remove ∷ Clear ∷ TryAdd ∷ Len ∷ Has ∷ Count ∷
-    At ∷ Index ∷ Column ∷ Reference ∷ Slice ∷ View ∷ Copy ∷ Set ∷ Put ∷ SetCapacity ∷ Schedule ∷
-    Waive ∷ After ∷ Combine ∷ Complete ∷ Dispose ∷ As ∷ Print ∷ Flush ∷ Repeat ∷ Frame ∷ Temp ∷
-    TempJob ∷ Persistent ∷ Defer ∷ Auto ∷ When ∷ []
+    Index ∷ Set ∷ Schedule ∷ Print ∷ Put ∷ Complete ∷ Combine ∷ Job ∷ Parallel ∷ Ro ∷ Wo ∷ Rw ∷
+    Int ∷ Array ∷ ListWord ∷ Ref ∷ Map ∷ Stream ∷ By ∷ Var ∷ If ∷ Else ∷ For ∷ In ∷ While ∷
+    Begin ∷ Write ∷ Add ∷ Remove ∷ Clear ∷ TryAdd ∷ Len ∷ Has ∷ Count ∷ At ∷ Column ∷
+    Reference ∷ Slice ∷ View ∷ Copy ∷ SetCapacity ∷ Waive ∷ After ∷ Dispose ∷ As ∷ Flush ∷
+    Repeat ∷ Frame ∷ Temp ∷ TempJob ∷ Persistent ∷ Defer ∷ Auto ∷ When ∷ []
 
 -- whether this is the first byte of the kind's spelling
 abbrev pub is_first_of : ℕ → TokenKind → Bool

@@ -3,7 +3,7 @@
 --
 -- Nodes, locals and parameters are numbered from 0. A name that several things have is the parameter, else the first
 -- local.
-use Rattle.std.specs.Prelude.{◌≡◌, ℕ, ◌+◌, ◌-◌, ◌*◌, ◌==◌, nat_lt, nat_le, Bool, true, false, ◌&&◌, ◌||◌, not, is_some, if◌then◌else◌, List, [], ◌∷◌, ◌++◌, length, take, fold, position, slice_get, Option, None, Some, option_map}
+use Rattle.std.specs.Prelude.{◌≡◌, ℕ, ◌+◌, ◌-◌, ◌*◌, ◌==◌, nat_lt, nat_le, Bool, true, false, ◌&&◌, ◌||◌, not, is_some, unwrap_or, if◌then◌else◌, List, [], ◌∷◌, ◌++◌, length, take, fold, position, slice_get, Option, None, Some, option_map}
 use Rattle.std.specs.Option.{option_or}
 use Rattle.std.specs.List.{list_any}
 use Rattle.std.specs.Str.{bytes_eq}
@@ -61,21 +61,9 @@ value_at raw at = value_of (text_at raw at)
 
 -- DEPTH
 
--- whether node j, with so many nodes under it before and behind it, is node i or contains it
-abbrev pub spans : ℕ → ℕ → RawNode → Bool
-spans i j node = nat_le (j - node.before) i && nat_le i (j + node.after)
-
-abbrev pub one_if : Bool → ℕ
-one_if b = if b then 1 else 0
-
--- how many of these nodes, from node j on, are node i or contain it
-abbrev pub spanning : ℕ → ℕ → List RawNode → ℕ
-spanning i j [] = 0
-spanning i j (node ∷ more) = one_if (spans i j node) + spanning i (j + 1) more
-
--- the depth of node i: one more than the number of nodes that contain it
-abbrev pub depth_of : List RawNode → ℕ → ℕ
-depth_of nodes i = spanning i 0 nodes
+-- how deep node i stands among all nodes of the kernel, also among those that are not kept
+abbrev pub depth_at : RawKernel → ℕ → ℕ
+depth_at raw i = unwrap_or (slice_get raw.depths.items i) 0
 
 -- SCOPES
 
@@ -307,7 +295,7 @@ token_fault raw i at _ = None
 
 -- node i is one too many, or too deep
 abbrev pub size_fault : RawKernel → ℕ → Option FaultKind
-size_fault raw i = some_if (nat_le MOST_NODES i || nat_lt MOST_DEPTH (depth_of raw.nodes.items i)) Limit
+size_fault raw i = some_if (nat_le MOST_NODES i || nat_lt MOST_DEPTH (depth_at raw i)) Limit
 
 abbrev pub used_fault : RawKernel → ℕ → RawForm → List ℕ → Option FaultKind
 used_fault raw i f text = lowest (use_fault raw i f (meaning_of raw i text)) (length_fault text)

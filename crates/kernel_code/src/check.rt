@@ -7,7 +7,6 @@ ghost use Rattle.kernel_code.specs.Trees.{IsKernelOf};
 ghost use Rattle.kernel_code.specs.Legible.{IsParsed};
 
 mod demands;
-mod depths;
 mod expressions;
 mod kernels;
 mod names;

@@ -183,10 +183,11 @@ fn each_token_has_its_fault(rt: HostRuntime) -> Result<(), Fail> {
 #[test]
 fn limits_are_met_at_one_more(rt: HostRuntime) -> Result<(), Fail> {
     let alloc = rt.alloc();
-    let rows: [(&str, &str, u32, bool, &str, &str); 11] = [
+    let rows: [(&str, &str, u32, bool, &str, &str); 13] = [
         ("job a() { var x = ", "-", 61, false, "1; }", "0 and 1"),
         ("job a() { var x = ", "-", 62, false, "1; }", "0 and 1"),
         ("job a() { var x = ", "-", 63, false, "1; }", "1: Limit"),
+        ("job a() { var x =", "\n-", 5000, false, "1; }", "65: Limit"),
         ("job a() { var x = 1", " + 1", 62, false, "; }", "0 and 1"),
         ("job a() { var x = 1", " + 1", 63, false, "; }", "1: Limit"),
         ("job a() { ", "if 1 { } ", 2048, false, "}", "0 and 0"),
@@ -198,6 +199,7 @@ fn limits_are_met_at_one_more(rt: HostRuntime) -> Result<(), Fail> {
             "\nwhile 1 { } }",
             "2: Limit",
         ),
+        ("job a() {", "\nif 1 { }", 5000, false, " }", "2050: Limit"),
         ("job a() { ", "var v", 64, true, "}", "0 and 64"),
         (
             "job a() { ",
@@ -219,6 +221,38 @@ fn limits_are_met_at_one_more(rt: HostRuntime) -> Result<(), Fail> {
                 expected,
                 "{head}{part} {count}"
             );
+        }
+    }
+    Ok(())
+}
+
+/// A sum of 2048 numbers, in parentheses, no number of which stands under more than 11 operators.
+fn wide_sum(alloc: Global) -> Result<String, Fail> {
+    let mut sum = String::new(alloc);
+    sum.push_str("1")?;
+    for _ in 0..11 {
+        let mut twice = String::new(alloc);
+        write!(twice, "({sum}+{sum})")?;
+        sum = twice;
+    }
+    Ok(sum)
+}
+
+// The `+` between the two sums is one node too many. Operators behind it can make the first number too deep.
+#[test]
+fn operators_behind_too_many_nodes_count_in_the_depth_of_the_first(
+    rt: HostRuntime,
+) -> Result<(), Fail> {
+    let alloc = rt.alloc();
+    let sum = wide_sum(alloc)?;
+    for (count, expected) in [(50, "3: Limit"), (51, "2: Limit")] {
+        let mut head = String::new(alloc);
+        head.push_str("job a() { var x =\n")?;
+        write!(head, "{sum}\n+ {sum}")?;
+        let text = repeated(alloc, &head, " + 1", count, false, "; }")?;
+        let source = text.as_bytes();
+        if source.len() < 100_000 {
+            assert_eq!(rt; outcome(alloc, source)?.as_str(), expected, "{count}");
         }
     }
     Ok(())

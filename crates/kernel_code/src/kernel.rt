@@ -12,7 +12,9 @@ ghost use Rattle.kernel_code.specs.Tokens.{tokens_of, up_to_bad};
 ghost use Rattle.kernel_code.specs.Parsing.{kinds, StandsAt, StopsAt, refusal_of};
 ghost use Rattle.kernel_code.specs.Legible.{NamesAreText, NamesStand, IsParsed};
 
+use crate::depths::depths_of;
 use crate::mark::line_at;
+use crate::raw::MOST_KEPT;
 use crate::reader::Reader;
 use crate::{KernelFault, Mark, RawKernel};
 use frame_ast::kernel::FaultKind;
@@ -46,11 +48,15 @@ pub fn raw_kernel<'a>(
     ensures marks { IfOk result (λ raw. raw.marks.now ≡ marks.now) }
     ensures line { IfOk result (λ raw. raw.line ≡ line) }
 {
-    let mut reader = Reader::new(alloc);
     let parts = &notes[2..];
+    // Each node has two events of its own.
+    let room = (parts.len() / 2).min(MOST_KEPT as usize);
+    let mut reader = Reader::new(alloc, room)?;
     for note in parts {
         reader.take(note.event())?;
     }
+    let nodes = reader.nodes;
+    let depths = depths_of(alloc, &nodes, reader.joined)?;
     Ok(RawKernel {
         source,
         marks,
@@ -58,7 +64,8 @@ pub fn raw_kernel<'a>(
         parallel: is_parallel(notes[0].event().action),
         name: notes[1].event().place,
         params: reader.params,
-        nodes: reader.nodes,
+        nodes,
+        depths,
     })
 }
 

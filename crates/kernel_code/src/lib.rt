@@ -9,10 +9,12 @@ mod check;
 #[cfg(test)]
 mod check_tests;
 mod decimal;
+mod depths;
 mod fault;
 mod kernel;
 #[cfg(test)]
 mod kernel_tests;
+mod late;
 mod lexer;
 mod mark;
 mod part;
@@ -25,7 +27,6 @@ mod token;
 mod word;
 
 pub use check::{StaticFault, check_kernel};
-pub use decimal::value_of;
 pub use fault::KernelFault;
 pub use frame_ast::kernel::{Body, FaultKind, Kernel, Param, ParamKind};
 pub use frame_grammar::TokenKind;

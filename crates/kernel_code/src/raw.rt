@@ -3,6 +3,11 @@
 use crate::Mark;
 use frame_ast::kernel::ParamKind;
 use job_base::Access;
+use job_base::limits::MOST_NODES;
+
+/// The most nodes that a raw kernel keeps. A kernel may have one fewer, so the last of them is a
+/// fault, and no later one is ever looked at.
+pub const MOST_KEPT: u32 = MOST_NODES + 1;
 
 /// What a node of a kernel is: an atom other than a parenthesis, an operator, or a statement.
 #[derive(Clone, Copy, Debug, PartialEq, Eq)]
@@ -113,6 +118,8 @@ pub struct RawKernel<'a> {
     /// Its name.
     pub name: u32,
     pub params: Vec<RawParam>,
-    /// The nodes of its statements, in the order of their tokens.
+    /// The first nodes of its statements, in the order of their tokens, and no more than MOST_KEPT.
     pub nodes: Vec<RawNode>,
+    /// How deep each of them stands among all nodes of the kernel, counted from 1.
+    pub depths: Vec<u32>,
 }

@@ -96,7 +96,7 @@ fn spelling(kind: K) -> &'static [u8]
     }
 }
 
-/// The reserved words that begin with this byte.
+/// The reserved words that begin with this byte, those that stand most often first.
 #[tactic(auto, unfolding(crate::specs::Spellings::spelling_of, crate::specs::Spellings::reserved_words))]
 fn reserved_with(first: u8) -> &'static [K]
     ensures { result.now ≡ filter (is_first_of first) reserved_words }
@@ -105,24 +105,24 @@ fn reserved_with(first: u8) -> &'static [K]
         b'a' => &[K::Array, K::Add, K::At, K::After, K::As, K::Auto],
         b'b' => &[K::By, K::Begin],
         b'c' => &[
+            K::Complete,
+            K::Combine,
             K::Clear,
             K::Count,
             K::Column,
             K::Copy,
-            K::Combine,
-            K::Complete,
         ],
         b'd' => &[K::Dispose, K::Defer],
         b'e' => &[K::Else],
         b'f' => &[K::For, K::Flush, K::Frame],
         b'h' => &[K::Has],
-        b'i' => &[K::Int, K::If, K::In, K::Index],
+        b'i' => &[K::Index, K::Int, K::If, K::In],
         b'j' => &[K::Job],
         b'l' => &[K::List, K::Len],
         b'm' => &[K::Map],
-        b'p' => &[K::Parallel, K::Put, K::Print, K::Persistent],
+        b'p' => &[K::Print, K::Put, K::Parallel, K::Persistent],
         b'r' => &[K::Ro, K::Rw, K::Ref, K::Remove, K::Reference, K::Repeat],
-        b's' => &[K::Stream, K::Slice, K::Set, K::SetCapacity, K::Schedule],
+        b's' => &[K::Set, K::Schedule, K::Stream, K::Slice, K::SetCapacity],
         b't' => &[K::TryAdd, K::Temp, K::TempJob],
         b'v' => &[K::Var, K::View],
         b'w' => &[K::Wo, K::While, K::Write, K::Waive, K::When],

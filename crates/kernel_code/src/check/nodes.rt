@@ -1,6 +1,6 @@
 // The faults of a node.
 ghost use Rattle.std.specs.Prelude.{◌≡◌, ◌≤◌, ◌<◌, ◌||◌, nat_le, nat_lt, ℕ, Some, length, slice_get};
-ghost use Rattle.kernel_code.specs.StaticFaults.{text_at, use_fault, answer_fault, declared_fault, token_fault, size_fault, name_fault, first_of_two, node_fault, locals_before, depth_of, meaning_of, block_fault, param_fault_of, is_begun};
+ghost use Rattle.kernel_code.specs.StaticFaults.{text_at, use_fault, answer_fault, declared_fault, token_fault, size_fault, name_fault, first_of_two, node_fault, locals_before, depth_at, meaning_of, block_fault, param_fault_of, is_begun};
 ghost use Rattle.job_base.specs.declared.limits.TheConstants.{MOST_NODES, MOST_DEPTH};
 ghost use Rattle.kernel_code.specs.Known.{AreBegun, answer_named, name_named, meaning_if, has_name, has_answer};
 
@@ -245,7 +245,7 @@ pub fn node_fault(
     requires blocks { AreBegun raw.now number blocks.now }
     requires answer { meaning.answer ≡ answer_named raw.now number node }
     requires name { meaning.name ≡ name_named raw.now number node }
-    requires over { is_over ≡ (nat_le MOST_NODES number || nat_lt MOST_DEPTH (depth_of raw.now.nodes.items number)) }
+    requires over { is_over ≡ (nat_le MOST_NODES number || nat_lt MOST_DEPTH (depth_at raw.now number)) }
     ensures { result ≡ node_fault raw.now number node }
 {
     let token = lowest(

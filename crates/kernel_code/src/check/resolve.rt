@@ -1,10 +1,9 @@
 // What the names of all nodes stand for, up to the first fault.
 ghost use Rattle.std.specs.Prelude.{◌≡◌, ◌≤◌, ◌<◌, ◌++◌, ◌||◌, ℕ, None, Some, length, slice_get, vec_len, IfOk, OnOk, MatchResult};
-ghost use Rattle.kernel_code.specs.StaticFaults.{declares, is_loop, is_begin, end_in, block_end, local_of, local_if, locals_before, locals_of, nodes_fault, node_fault};
+ghost use Rattle.kernel_code.specs.StaticFaults.{depth_at, declares, is_loop, is_begin, end_in, block_end, local_of, local_if, locals_before, locals_of, nodes_fault, node_fault};
 ghost use Rattle.kernel_code.specs.Known.{stands_in, is_block, IsKnown, name_named, name_stored, answer_named, meanings_from};
 
 use crate::check::StaticFault;
-use crate::check::depths::depths_of;
 use crate::check::names::{Local, Meaning, Named, as_local, parameter};
 use crate::check::nodes::{answer_named, name_named, node_fault};
 use crate::check::streams::{StreamBlock, close_blocks};
@@ -134,7 +133,16 @@ fn note_block(
     Ok(())
 }
 
+// How deep a node stands.
+fn depth_at(raw: &RawKernel<'_>, number: usize) -> u32
+    ensures { result ≡ depth_at raw.now number }
+{
+    raw.depths.get(number).copied().unwrap_or(0)
+}
+
 /// What the names of all nodes stand for, or the first fault.
+// Once for a kernel; out of line its loop has all registers.
+#[inline(never)]
 pub fn resolve(
     alloc: Global,
     raw: &RawKernel<'_>,
@@ -146,17 +154,15 @@ pub fn resolve(
         × (m.locals ≡ length (locals_of raw.now.nodes.items)))
         (λ fault. nodes_fault raw.now 0 raw.now.nodes.items ≡ Some fault)) }
 {
-    let depths = depths_of(alloc, &raw.nodes)?;
     let mut locals = Vec::new(alloc);
     let mut blocks = Vec::new(alloc);
-    // A kernel of more nodes is refused, so that there is room for all.
-    let mut of_nodes = Vec::with_capacity(alloc, depths.len())?;
+    let mut of_nodes = Vec::with_capacity(alloc, raw.nodes.len())?;
     for number in 0..raw.nodes.len() {
         let node = raw.nodes[number];
         close_blocks(&mut blocks, number);
         let answer = answer_named(raw, &locals, number, node);
         let name = name_named(raw, &locals, number, node);
-        let is_over = number >= MOST_NODES as usize || depths[number] > MOST_DEPTH as usize;
+        let is_over = number >= MOST_NODES as usize || depth_at(raw, number) > MOST_DEPTH;
         let meaning = Meaning { answer, name };
         if let Some(fault) = node_fault(raw, &locals, &blocks, number, node, meaning, is_over) {
             return Ok(Err(fault));

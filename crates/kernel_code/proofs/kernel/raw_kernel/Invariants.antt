@@ -1,11 +1,10 @@
-use Rattle.std.proofs.Common.{◌≡◌, ◌<◌, ◌^◌, length, drop}
+use Rattle.std.proofs.Common.{take}
 use Rattle.frame_grammar.specs.Notes.{events_of}
-use Rattle.kernel_code.specs.Reading.{reading_of, nothing_read, run}
+use Rattle.kernel_code.specs.Reading.{nothing_read, run}
+use Rattle.kernel_code.specs.Keeping.{kept_of}
+use Rattle.kernel_code.proofs.Keeping.{Keeps}
 use Rattle.kernel_code.proofs.kernel.raw_kernel.Given as goal
 
--- from here the reader comes to what it comes to from the start, and never has more nodes
+-- the reader keeps what it is to keep of the events so far
 abbrev pub invariant-loop-note : goal.invariant-loop-note
-invariant-loop-note l = record {
-  leads : run (reading_of l.reader) (drop l.note-index (events_of l.parts)) ≡ run nothing_read (events_of l.parts);
-  few : length (run nothing_read (events_of l.parts)).nodes < 2 ^ 32;
-}
+invariant-loop-note l = Keeps (kept_of l.reader) (run nothing_read (take l.note-index (events_of l.parts)))

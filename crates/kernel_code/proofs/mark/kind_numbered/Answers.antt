@@ -2,7 +2,9 @@ use Rattle.std.proofs.Common.{◌≡◌, ◌≤◌, false, nat_lt, length, slice
 use Rattle.std.specs.Option.{is_some}
 use Rattle.std.proofs.lemmas.Bool.{ltb-false}
 use Rattle.std.proofs.lemmas.Option.{slice_get_past}
-use Rattle.kernel_code.specs.Marks.{kind_numbered, kind_or_first}
+use Rattle.std.specs.Prelude.{unwrap_or}
+use Rattle.frame_grammar.specs.declared.TokenKind.TheVariants.{Name}
+use Rattle.kernel_code.specs.Marks.{kind_numbered}
 use Rattle.kernel_code.proofs.mark.kind_numbered.Goals as goal
 
 pub returns-in-None : goal.returns-in-None
@@ -11,4 +13,4 @@ returns-in-None c =
     let beyond : false ≡ nat_lt c.args.number (length c.kinds.result.now) = sym (ap is_some c.in-None.is) ∙ c.get.ensures.lookup.0 in
     let past : length c.kinds.result.now ≤ c.args.number = ltb-false _ _ (sym beyond) in
     let none = ap (λ xs. slice_get xs c.args.number) (sym c.kinds.ensures) ∙ slice_get_past c.kinds.result.now c.args.number past in
-    sym (ap kind_or_first none)
+    sym (ap (λ kind. unwrap_or kind Name) none)

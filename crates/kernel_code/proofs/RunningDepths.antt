@@ -1,11 +1,12 @@
 -- Depths as running sums.
-use Rattle.std.proofs.Common.{ℕ, zero, suc, ◌≡◌, ◌<◌, ◌≤◌, ◌+◌, ◌-◌, Bool, true, false, eqb, leb, List, [], ◌∷◌, length, get_or, drop, refl, ap, ◌∙◌, arith, add-one, drop-cons}
-use Rattle.std.proofs.lemmas.List.{drop_all, get_or_read}
+use Rattle.std.proofs.Common.{ℕ, zero, suc, take, sym, Some, slice_get, get_or-take, ◌≡◌, ◌<◌, ◌≤◌, ◌+◌, ◌-◌, ◌^◌, Bool, true, false, eqb, leb, List, [], ◌∷◌, length, get_or, drop, refl, ap, ◌∙◌, arith, add-one, drop-cons}
+use Rattle.std.proofs.lemmas.List.{drop_all, get_or_read, length-take, ext_get_or}
 use Rattle.std.proofs.lemmas.Bool.Decides.{nat_tests}
 use Rattle.std.specs.Prelude.{◌==◌, ◌&&◌}
 use Rattle.kernel_code.specs.declared.raw.RawNode.{RawNode}
-use Rattle.kernel_code.specs.StaticFaults.{one_if, spans, spanning, depth_of}
-use Rattle.kernel_code.specs.Edges.{opened, closed}
+use Rattle.kernel_code.specs.declared.raw.TheConstants.{MOST_KEPT}
+use Rattle.kernel_code.specs.Depths.{one_if, spans, spanning, depth_of, depths_from, depths_of}
+use Rattle.kernel_code.specs.Edges.{opened, closed, AreKeptOf}
 
 pub one_if-le : (b : Bool) → one_if b ≤ 1
 one_if-le true = omega arith
@@ -120,3 +121,56 @@ next-depth nodes closes opens i count depth close begin h cl ol cs os c o p =
 
 pub prior-suc : (nodes : List RawNode) (i : ℕ) → depth_of nodes i ≡ prior nodes (i + 1)
 prior-suc nodes i = rw (add-one i) refl
+
+-- KEPT NODES
+
+closed-past : (k j : ℕ) (nodes : List RawNode) → k ≤ j → closed k j nodes ≡ 0
+closed-past k j [] h = refl
+closed-past k j (node ∷ more) h =
+    let z : one_if (eqb (j + node.after + 1) k) ≡ 0 = grind (arith, nat_tests) in omega (arith, z, closed-past k (j + 1) more (omega arith))
+
+-- no late node ends before a kept one
+closed-take : (k j m : ℕ) (nodes : List RawNode) → k ≤ j + m → closed k j (take m nodes) ≡ closed k j nodes
+closed-take k j zero nodes h = sym (closed-past k j nodes (omega arith))
+closed-take k j (suc m) [] h = refl
+closed-take k j (suc m) (node ∷ more) h = ap (λ n. one_if (eqb (j + node.after + 1) k) + n) (closed-take k (j + 1) m more (omega arith))
+
+pub kept-few : (all nodes : List RawNode) (joined : List ℕ) → AreKeptOf all nodes joined → length nodes ≤ MOST_KEPT
+kept-few all nodes joined are = omega (arith, ap length are.first, length-take MOST_KEPT all)
+
+-- where a kept node begins with so many, no more begin than there are nodes
+pub begin-few : (all nodes : List RawNode) (joined : List ℕ) → AreKeptOf all nodes joined → (k : ℕ) → k < length nodes → get_or joined k 0 + opened k 0 nodes < 2 ^ 32
+begin-few all nodes joined are k h = omega (arith, are.begin k (omega (arith, h, kept-few all nodes joined are)), opened-le k 0 all, are.few)
+
+pub closed-kept : (all nodes : List RawNode) (joined : List ℕ) → AreKeptOf all nodes joined → (k : ℕ) → k < length nodes → closed k 0 nodes ≡ closed k 0 all
+closed-kept all nodes joined are k h =
+    ap (closed k 0) are.first ∙ closed-take k 0 MOST_KEPT all (omega (arith, h, ap length are.first, length-take MOST_KEPT all))
+
+pub length-depths : (all : List RawNode) (i : ℕ) (nodes : List RawNode) → length (depths_from all i nodes) ≡ length nodes
+length-depths all i [] = refl
+length-depths all i (node ∷ more) = omega (arith, length-depths all (i + 1) more)
+
+depths-get : (all : List RawNode) (j : ℕ) (nodes : List RawNode) (i : ℕ) → i < length nodes → get_or (depths_from all j nodes) i 0 ≡ depth_of all (j + i)
+depths-get all j [] i h = absurd (omega arith)
+depths-get all j (node ∷ more) zero h = let same : j ≡ j + zero = omega arith in ap (depth_of all) same
+depths-get all j (node ∷ more) (suc i) h = let same : j + 1 + i ≡ j + suc i = omega arith in depths-get all (j + 1) more i (omega arith) ∙ ap (depth_of all) same
+
+pub depths-at : (all : List RawNode) (j : ℕ) (nodes : List RawNode) (i : ℕ) → i < length nodes → slice_get (depths_from all j nodes) i ≡ Some (depth_of all (j + i))
+depths-at all j [] i h = absurd (omega arith)
+depths-at all j (node ∷ more) zero h = let same : j ≡ j + zero = omega arith in ap (λ k. Some (depth_of all k)) same
+depths-at all j (node ∷ more) (suc i) h = let same : j + 1 + i ≡ j + suc i = omega arith in depths-at all (j + 1) more i (omega arith) ∙ ap (λ k. Some (depth_of all k)) same
+
+-- the depths of the kept nodes, one after another
+pub depths-kept : (all nodes : List RawNode) (joined v : List ℕ) → AreKeptOf all nodes joined → length v ≡ length nodes → ((k : ℕ) → k < length nodes → get_or v k 0 ≡ depth_of all k) →
+    v ≡ take MOST_KEPT (depths_of all)
+depths-kept all nodes joined v are size at =
+    let whole = length-depths all 0 all in
+    let taken = length-take MOST_KEPT (depths_of all) in
+    let kept = length-take MOST_KEPT all in
+    let few = ap length are.first in
+    ext_get_or 0 v (take MOST_KEPT (depths_of all)) (omega (arith, size, whole, taken, kept, few))
+    (λ k lt.
+    let short : k < length nodes = omega (arith, lt, size) in
+    let same : 0 + k ≡ k = omega arith in
+    at k short ∙ sym (ap (depth_of all) same) ∙ sym (depths-get all 0 all k (omega (arith, short, few, kept)))
+    ∙ sym (get_or-take MOST_KEPT (depths_of all) k 0 (omega (arith, short, few, kept))))
