@@ -6,6 +6,7 @@ pub mod Meanings
 pub mod Clauses
 pub mod Statements
 pub mod Files
+pub mod ValueLemmas
 pub mod Readings
 pub mod Orders
 pub mod Endings

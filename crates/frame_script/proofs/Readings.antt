@@ -1,5 +1,5 @@
 -- What the events of a statement's clauses leave read.
-use Rattle.std.proofs.Common.{◌≡◌, ℕ, true, false, List, [], ◌∷◌, ◌++◌, Option, Some, None, refl, sym, ◌∙◌, ap, append_assoc, if◌then◌else◌}
+use Rattle.std.proofs.Common.{◌≡◌, ℕ, true, false, List, [], ◌∷◌, ◌++◌, Option, Some, None, refl, sym, ◌∙◌, ap, append_assoc}
 use Rattle.std.proofs.lemmas.List.{append-nil}
 use Rattle.frame_ast.specs.declared.script.Life.{Life}
 use Rattle.frame_ast.specs.declared.script.Life.TheVariants.{Persistent}
@@ -15,11 +15,11 @@ use Rattle.frame_script.specs.declared.raw.RawSizes.TheVariants as sizes
 use Rattle.frame_script.specs.declared.build_words.LastNames.{LastNames}
 use Rattle.frame_script.specs.declared.build_words.LastNumbers.{LastNumbers}
 use Rattle.frame_script.specs.declared.build_words.Words.{Words}
-use Rattle.frame_script.specs.Raw.{SpellsLife, unsaid, temp, tempjob, persistent, SpellsSigned, minus, plain, SpellsMaybe, none, some, SpellsNumbers, also, names_events, SpellsArg, named, signed, SpellsArgs, SpellsSizes, counted, deferred, SpellsWaived, SpellsAfter}
+use Rattle.frame_script.specs.Raw.{SpellsLife, unsaid, temp, tempjob, persistent, SpellsSigned, minus, plain, SpellsMaybe, none, some, also, names_events, SpellsArg, named, signed, SpellsArgs, SpellsSizes, counted, deferred, SpellsWaived, SpellsAfter}
 use Rattle.frame_script.specs.Reading.{signed_of, Reading, order_from}
 
-abbrev pub reading : Words → List RawNumber → List RawArg → List ℕ → List ℕ → Reading
-reading w vs as' ns ws = record { words = w; values = vs; args = as'; names = ns; waive = ws }
+abbrev pub reading : Words → List RawArg → List ℕ → List ℕ → Reading
+reading w as' ns ws = record { words = w; args = as'; names = ns; waive = ws }
 
 -- the same events
 pub of_events : (r : Reading) (es es' rest : List Event) → es ≡ es' → order_from r (es ++ rest) ≡ order_from r (es' ++ rest)
@@ -27,22 +27,22 @@ of_events r es es' rest e = ap (λ x. order_from r (x ++ rest)) e
 
 -- LIVES
 
-pub life_read : (w : Words) (vs : List RawNumber) (as' : List RawArg) (ns ws : List ℕ) (rest : List Event) (p : ℕ) {a : Action} {life : Life} → SpellsLife a life →
-    order_from (reading (record w { life = Persistent }) vs as' ns ws) (on a p ∷ rest) ≡ order_from (reading (record w { life = life }) vs as' ns ws) rest
-life_read w vs as' ns ws rest p unsaid = refl
-life_read w vs as' ns ws rest p temp = refl
-life_read w vs as' ns ws rest p tempjob = refl
-life_read w vs as' ns ws rest p persistent = refl
+pub life_read : (w : Words) (as' : List RawArg) (ns ws : List ℕ) (rest : List Event) (p : ℕ) {a : Action} {life : Life} → SpellsLife a life →
+    order_from (reading (record w { life = Persistent }) as' ns ws) (on a p ∷ rest) ≡ order_from (reading (record w { life = life }) as' ns ws) rest
+life_read w as' ns ws rest p unsaid = refl
+life_read w as' ns ws rest p temp = refl
+life_read w as' ns ws rest p tempjob = refl
+life_read w as' ns ws rest p persistent = refl
 
 -- SIGNED NUMBERS
 
 -- after a signed number
-abbrev pub with_number_read : LastNumbers → RawNumber → Reading → Reading
-with_number_read g n r = record r { words = record r.words { numbers = g }; values = if r.words.has_values then r.values ++ n ∷ [] else r.values }
+abbrev pub with_number_read : LastNumbers → Reading → Reading
+with_number_read g r = record r { words = record r.words { numbers = g } }
 
 pub record SignedRead (r : Reading) (n : RawNumber) (events rest : List Event) : Type 0 where
   pub numbers : LastNumbers
-  pub read : order_from r (events ++ rest) ≡ order_from (with_number_read numbers n r) rest
+  pub read : order_from r (events ++ rest) ≡ order_from (with_number_read numbers r) rest
   pub is : numbers.signed ≡ Some n
   pub before_last : numbers.signed_before ≡ r.words.numbers.signed
 
@@ -74,72 +74,47 @@ signed_read r rest {events} (plain {at = at} q e) = record {
   before_last = refl;
 }
 
--- a signed number, or none, outside an array's values
-pub record MaybeRead (w : Words) (vs : List RawNumber) (as' : List RawArg) (ns ws : List ℕ) (m : Option RawNumber) (events rest : List Event) : Type 0 where
+-- a signed number, or none
+pub record MaybeRead (w : Words) (as' : List RawArg) (ns ws : List ℕ) (m : Option RawNumber) (events rest : List Event) : Type 0 where
   pub numbers : LastNumbers
-  pub read : order_from (reading (record w { has_values = false }) vs as' ns ws) (events ++ rest) ≡ order_from (reading (record w { has_values = false; numbers = numbers }) vs as' ns ws) rest
+  pub read : order_from (reading w as' ns ws) (events ++ rest) ≡ order_from (reading (record w { numbers = numbers }) as' ns ws) rest
   pub is : numbers.signed ≡ m
   pub before_last : numbers.signed_before ≡ w.numbers.signed
 
-pub maybe_read : (w : Words) (vs : List RawNumber) (as' : List RawArg) (ns ws : List ℕ) (rest : List Event) {events : List Event} {m : Option RawNumber} → SpellsMaybe events m →
-    MaybeRead w vs as' ns ws m events rest
-maybe_read w vs as' ns ws rest {events} (none q e) = record {
+pub maybe_read : (w : Words) (as' : List RawArg) (ns ws : List ℕ) (rest : List Event) {events : List Event} {m : Option RawNumber} → SpellsMaybe events m →
+    MaybeRead w as' ns ws m events rest
+maybe_read w as' ns ws rest {events} (none q e) = record {
   numbers = record w.numbers { signed_before = w.numbers.signed; signed = None };
-  read = of_events (reading (record w { has_values = false }) vs as' ns ws) events (on action.NoNumber q ∷ []) rest e;
+  read = of_events (reading w as' ns ws) events (on action.NoNumber q ∷ []) rest e;
   is = refl;
   before_last = refl;
 }
-maybe_read w vs as' ns ws rest (some s) =
-    let r = signed_read (reading (record w { has_values = false }) vs as' ns ws) rest s in
+maybe_read w as' ns ws rest (some s) =
+    let r = signed_read (reading w as' ns ws) rest s in
     record { numbers = r.numbers; read = r.read; is = r.is; before_last = r.before_last }
-
--- the values of an array
-pub record NumbersRead (w : Words) (vs : List RawNumber) (as' : List RawArg) (ns ws : List ℕ) (numbers : List RawNumber) (events rest : List Event) : Type 0 where
-  pub last : LastNumbers
-  pub read : order_from (reading (record w { has_values = true }) vs as' ns ws) (events ++ rest) ≡ order_from (reading (record w { has_values = true; numbers = last }) (vs ++ numbers) as' ns ws) rest
-
-pub numbers_read : {events : List Event} {numbers : List RawNumber} → SpellsNumbers events numbers → (w : Words) (vs : List RawNumber) (as' : List RawArg) (ns ws : List ℕ) (rest : List Event) →
-    NumbersRead w vs as' ns ws numbers events rest
-numbers_read {events} (none e) w vs as' ns ws rest = record {
-  last = w.numbers;
-  read = of_events (reading (record w { has_values = true }) vs as' ns ws) events [] rest e
-      ∙ ap (λ x. order_from (reading (record w { has_values = true }) x as' ns ws) rest) (sym (append-nil vs));
-}
-numbers_read {events} (also es es' {n} {ns = more} s m e) w vs as' ns ws rest =
-    let r = reading (record w { has_values = true }) vs as' ns ws in
-    let one = signed_read r (es' ++ rest) s in
-    let others = numbers_read m (record w { numbers = one.numbers }) (vs ++ n ∷ []) as' ns ws rest in
-    record {
-      last = others.last;
-      read = of_events r events (es ++ es') rest e
-          ∙ ap (λ x. order_from r x) (append_assoc es es' rest)
-          ∙ one.read
-          ∙ others.read
-          ∙ ap (λ x. order_from (reading (record w { has_values = true; numbers = others.last }) x as' ns ws) rest) (append_assoc vs (n ∷ []) more);
-    }
 
 -- NAMES
 
-pub record NamesRead (w : Words) (vs : List RawNumber) (as' : List RawArg) (ns ws : List ℕ) (names : List ℕ) (rest : List Event) : Type 0 where
+pub record NamesRead (w : Words) (as' : List RawArg) (ns ws : List ℕ) (names : List ℕ) (rest : List Event) : Type 0 where
   pub last : LastNames
-  pub read : order_from (reading (record w { is_listing = true }) vs as' ns ws) (names_events names ++ rest) ≡ order_from (reading (record w { is_listing = true; names = last }) vs as' (ns ++ names) ws) rest
+  pub read : order_from (reading (record w { is_listing = true }) as' ns ws) (names_events names ++ rest) ≡ order_from (reading (record w { is_listing = true; names = last }) as' (ns ++ names) ws) rest
   pub opener : last.opener ≡ w.names.opener
   pub handle : last.handle ≡ w.names.handle
   pub kernel : last.kernel ≡ w.names.kernel
 
-pub names_read : (names : List ℕ) (w : Words) (vs : List RawNumber) (as' : List RawArg) (ns ws : List ℕ) (rest : List Event) → NamesRead w vs as' ns ws names rest
-names_read [] w vs as' ns ws rest = record {
+pub names_read : (names : List ℕ) (w : Words) (as' : List RawArg) (ns ws : List ℕ) (rest : List Event) → NamesRead w as' ns ws names rest
+names_read [] w as' ns ws rest = record {
   last = w.names;
-  read = ap (λ x. order_from (reading (record w { is_listing = true }) vs as' x ws) rest) (sym (append-nil ns));
+  read = ap (λ x. order_from (reading (record w { is_listing = true }) as' x ws) rest) (sym (append-nil ns));
   opener = refl;
   handle = refl;
   kernel = refl;
 }
-names_read (x ∷ names) w vs as' ns ws rest =
-    let more = names_read names (record w { names = record w.names { before_last = w.names.last; last = x } }) vs as' (ns ++ x ∷ []) ws rest in
+names_read (x ∷ names) w as' ns ws rest =
+    let more = names_read names (record w { names = record w.names { before_last = w.names.last; last = x } }) as' (ns ++ x ∷ []) ws rest in
     record {
       last = more.last;
-      read = more.read ∙ ap (λ y. order_from (reading (record w { is_listing = true; names = more.last }) vs as' y ws) rest) (append_assoc ns (x ∷ []) names);
+      read = more.read ∙ ap (λ y. order_from (reading (record w { is_listing = true; names = more.last }) as' y ws) rest) (append_assoc ns (x ∷ []) names);
       opener = more.opener;
       handle = more.handle;
       kernel = more.kernel;
@@ -147,27 +122,27 @@ names_read (x ∷ names) w vs as' ns ws rest =
 
 -- CLAUSES OF A SCHEDULE
 
--- outside lists of names and an array's values
+-- outside lists of names
 abbrev pub plainly : Words → Words
-plainly w = record w { is_listing = false; has_values = false }
+plainly w = record w { is_listing = false }
 
-pub record ArgsRead (w : Words) (vs : List RawNumber) (as' : List RawArg) (ns ws : List ℕ) (args : List RawArg) (events rest : List Event) : Type 0 where
+pub record ArgsRead (w : Words) (as' : List RawArg) (ns ws : List ℕ) (args : List RawArg) (events rest : List Event) : Type 0 where
   pub names : LastNames
   pub numbers : LastNumbers
-  pub read : order_from (reading (plainly w) vs as' ns ws) (events ++ rest) ≡ order_from (reading (record (plainly w) { names = names; numbers = numbers }) vs (as' ++ args) ns ws) rest
+  pub read : order_from (reading (plainly w) as' ns ws) (events ++ rest) ≡ order_from (reading (record (plainly w) { names = names; numbers = numbers }) (as' ++ args) ns ws) rest
   pub handle : names.handle ≡ w.names.handle
   pub kernel : names.kernel ≡ w.names.kernel
 
-arg_read : {events : List Event} {a : RawArg} → SpellsArg events a → (w : Words) (vs : List RawNumber) (as' : List RawArg) (ns ws : List ℕ) (rest : List Event) → ArgsRead w vs as' ns ws (a ∷ []) events rest
-arg_read {events} (named {x = x} q e) w vs as' ns ws rest = record {
+arg_read : {events : List Event} {a : RawArg} → SpellsArg events a → (w : Words) (as' : List RawArg) (ns ws : List ℕ) (rest : List Event) → ArgsRead w as' ns ws (a ∷ []) events rest
+arg_read {events} (named {x = x} q e) w as' ns ws rest = record {
   names = record w.names { before_last = w.names.last; last = x };
   numbers = w.numbers;
-  read = of_events (reading (plainly w) vs as' ns ws) events (on action.Name x ∷ on action.NameArgument q ∷ []) rest e;
+  read = of_events (reading (plainly w) as' ns ws) events (on action.Name x ∷ on action.NameArgument q ∷ []) rest e;
   handle = refl;
   kernel = refl;
 }
-arg_read {events} (signed q es {n} s e) w vs as' ns ws rest =
-    let r = reading (plainly w) vs as' ns ws in
+arg_read {events} (signed q es {n} s e) w as' ns ws rest =
+    let r = reading (plainly w) as' ns ws in
     let one = signed_read r (on action.NumberArgument q ∷ rest) s in
     record {
       names = w.names;
@@ -175,24 +150,24 @@ arg_read {events} (signed q es {n} s e) w vs as' ns ws rest =
       read = of_events r events (es ++ on action.NumberArgument q ∷ []) rest e
           ∙ ap (λ x. order_from r x) (append_assoc es (on action.NumberArgument q ∷ []) rest)
           ∙ one.read
-          ∙ ap (λ x. order_from (reading (record (plainly w) { numbers = one.numbers }) vs (as' ++ arg.Number (signed_of x) ∷ []) ns ws) rest) one.is;
+          ∙ ap (λ x. order_from (reading (record (plainly w) { numbers = one.numbers }) (as' ++ arg.Number (signed_of x) ∷ []) ns ws) rest) one.is;
       handle = refl;
       kernel = refl;
     }
 
-pub args_read : {events : List Event} {args : List RawArg} → SpellsArgs events args → (w : Words) (vs : List RawNumber) (as' : List RawArg) (ns ws : List ℕ) (rest : List Event) → ArgsRead w vs as' ns ws args events rest
-args_read {events} (none e) w vs as' ns ws rest = record {
+pub args_read : {events : List Event} {args : List RawArg} → SpellsArgs events args → (w : Words) (as' : List RawArg) (ns ws : List ℕ) (rest : List Event) → ArgsRead w as' ns ws args events rest
+args_read {events} (none e) w as' ns ws rest = record {
   names = w.names;
   numbers = w.numbers;
-  read = of_events (reading (plainly w) vs as' ns ws) events [] rest e
-      ∙ ap (λ x. order_from (reading (plainly w) vs x ns ws) rest) (sym (append-nil as'));
+  read = of_events (reading (plainly w) as' ns ws) events [] rest e
+      ∙ ap (λ x. order_from (reading (plainly w) x ns ws) rest) (sym (append-nil as'));
   handle = refl;
   kernel = refl;
 }
-args_read {events} (also es es' {a} {as' = args} s m e) w vs as' ns ws rest =
-    let r = reading (plainly w) vs as' ns ws in
-    let one = arg_read s w vs as' ns ws (es' ++ rest) in
-    let others = args_read m (record w { names = one.names; numbers = one.numbers }) vs (as' ++ a ∷ []) ns ws rest in
+args_read {events} (also es es' {a} {as' = args} s m e) w as' ns ws rest =
+    let r = reading (plainly w) as' ns ws in
+    let one = arg_read s w as' ns ws (es' ++ rest) in
+    let others = args_read m (record w { names = one.names; numbers = one.numbers }) (as' ++ a ∷ []) ns ws rest in
     record {
       names = others.names;
       numbers = others.numbers;
@@ -200,59 +175,59 @@ args_read {events} (also es es' {a} {as' = args} s m e) w vs as' ns ws rest =
           ∙ ap (λ x. order_from r x) (append_assoc es es' rest)
           ∙ one.read
           ∙ others.read
-          ∙ ap (λ x. order_from (reading (record (plainly w) { names = others.names; numbers = others.numbers }) vs x ns ws) rest) (append_assoc as' (a ∷ []) args);
+          ∙ ap (λ x. order_from (reading (record (plainly w) { names = others.names; numbers = others.numbers }) x ns ws) rest) (append_assoc as' (a ∷ []) args);
       handle = others.handle ∙ one.handle;
       kernel = others.kernel ∙ one.kernel;
     }
 
-pub record SizesRead (w : Words) (vs : List RawNumber) (as' : List RawArg) (ns ws : List ℕ) (cut : RawSizes) (events rest : List Event) : Type 0 where
+pub record SizesRead (w : Words) (as' : List RawArg) (ns ws : List ℕ) (cut : RawSizes) (events rest : List Event) : Type 0 where
   pub names : LastNames
   pub numbers : LastNumbers
-  pub read : order_from (reading (record (plainly w) { sizes = sizes.None }) vs as' ns ws) (events ++ rest)
-      ≡ order_from (reading (record (plainly w) { sizes = cut; names = names; numbers = numbers }) vs as' ns ws) rest
+  pub read : order_from (reading (record (plainly w) { sizes = sizes.None }) as' ns ws) (events ++ rest)
+      ≡ order_from (reading (record (plainly w) { sizes = cut; names = names; numbers = numbers }) as' ns ws) rest
   pub handle : names.handle ≡ w.names.handle
   pub kernel : names.kernel ≡ w.names.kernel
 
-pub sizes_read : {events : List Event} {cut : RawSizes} → SpellsSizes events cut → (w : Words) (vs : List RawNumber) (as' : List RawArg) (ns ws : List ℕ) (rest : List Event) → SizesRead w vs as' ns ws cut events rest
-sizes_read {events} (none q e) w vs as' ns ws rest = record {
+pub sizes_read : {events : List Event} {cut : RawSizes} → SpellsSizes events cut → (w : Words) (as' : List RawArg) (ns ws : List ℕ) (rest : List Event) → SizesRead w as' ns ws cut events rest
+sizes_read {events} (none q e) w as' ns ws rest = record {
   names = w.names;
   numbers = w.numbers;
-  read = of_events (reading (record (plainly w) { sizes = sizes.None }) vs as' ns ws) events (on action.SizesNone q ∷ []) rest e;
+  read = of_events (reading (record (plainly w) { sizes = sizes.None }) as' ns ws) events (on action.SizesNone q ∷ []) rest e;
   handle = refl;
   kernel = refl;
 }
-sizes_read {events} (counted {len = len} {batch = batch} q e) w vs as' ns ws rest = record {
+sizes_read {events} (counted {len = len} {batch = batch} q e) w as' ns ws rest = record {
   names = w.names;
   numbers = record w.numbers { before_last = len; last = batch };
-  read = of_events (reading (record (plainly w) { sizes = sizes.None }) vs as' ns ws) events (on action.Number len ∷ on action.Number batch ∷ on action.SizesLength q ∷ []) rest e;
+  read = of_events (reading (record (plainly w) { sizes = sizes.None }) as' ns ws) events (on action.Number len ∷ on action.Number batch ∷ on action.SizesLength q ∷ []) rest e;
   handle = refl;
   kernel = refl;
 }
-sizes_read {events} (deferred {list = l} {batch = batch} q e) w vs as' ns ws rest = record {
+sizes_read {events} (deferred {list = l} {batch = batch} q e) w as' ns ws rest = record {
   names = record w.names { before_last = w.names.last; last = l };
   numbers = record w.numbers { before_last = w.numbers.last; last = batch };
-  read = of_events (reading (record (plainly w) { sizes = sizes.None }) vs as' ns ws) events (on action.Name l ∷ on action.Number batch ∷ on action.SizesDefer q ∷ []) rest e;
+  read = of_events (reading (record (plainly w) { sizes = sizes.None }) as' ns ws) events (on action.Name l ∷ on action.Number batch ∷ on action.SizesDefer q ∷ []) rest e;
   handle = refl;
   kernel = refl;
 }
 
-pub record WaivedRead (w : Words) (vs : List RawNumber) (as' : List RawArg) (xs : List ℕ) (events rest : List Event) : Type 0 where
+pub record WaivedRead (w : Words) (as' : List RawArg) (xs : List ℕ) (events rest : List Event) : Type 0 where
   pub names : LastNames
-  pub read : order_from (reading (plainly w) vs as' [] []) (events ++ rest) ≡ order_from (reading (record (plainly w) { names = names }) vs as' [] xs) rest
+  pub read : order_from (reading (plainly w) as' [] []) (events ++ rest) ≡ order_from (reading (record (plainly w) { names = names }) as' [] xs) rest
   pub handle : names.handle ≡ w.names.handle
   pub kernel : names.kernel ≡ w.names.kernel
 
-pub waived_read : {events : List Event} {xs : List ℕ} → SpellsWaived events xs → (w : Words) (vs : List RawNumber) (as' : List RawArg) (rest : List Event) → WaivedRead w vs as' xs events rest
-waived_read {events} (none q e) w vs as' rest = record {
+pub waived_read : {events : List Event} {xs : List ℕ} → SpellsWaived events xs → (w : Words) (as' : List RawArg) (rest : List Event) → WaivedRead w as' xs events rest
+waived_read {events} (none q e) w as' rest = record {
   names = w.names;
-  read = of_events (reading (plainly w) vs as' [] []) events (on action.WaivedNone q ∷ []) rest e;
+  read = of_events (reading (plainly w) as' [] []) events (on action.WaivedNone q ∷ []) rest e;
   handle = refl;
   kernel = refl;
 }
-waived_read {events} (some o q {x} {xs} e) w vs as' rest =
-    let r = reading (plainly w) vs as' [] [] in
+waived_read {events} (some o q {x} {xs} e) w as' rest =
+    let r = reading (plainly w) as' [] [] in
     let w' = record (plainly w) { names = record w.names { opener = w.names.last } } in
-    let all = names_read (x ∷ xs) w' vs as' [] [] (on action.Waived q ∷ rest) in
+    let all = names_read (x ∷ xs) w' as' [] [] (on action.Waived q ∷ rest) in
     record {
       names = all.last;
       read = of_events r events (on action.OpenNames o ∷ names_events (x ∷ xs) ++ on action.Waived q ∷ []) rest e
@@ -262,23 +237,23 @@ waived_read {events} (some o q {x} {xs} e) w vs as' rest =
       kernel = all.kernel;
     }
 
-pub record AfterRead (w : Words) (vs : List RawNumber) (as' : List RawArg) (ws xs : List ℕ) (events rest : List Event) : Type 0 where
+pub record AfterRead (w : Words) (as' : List RawArg) (ws xs : List ℕ) (events rest : List Event) : Type 0 where
   pub names : LastNames
-  pub read : order_from (reading (plainly w) vs as' [] ws) (events ++ rest) ≡ order_from (reading (record (plainly w) { names = names }) vs as' xs ws) rest
+  pub read : order_from (reading (plainly w) as' [] ws) (events ++ rest) ≡ order_from (reading (record (plainly w) { names = names }) as' xs ws) rest
   pub handle : names.handle ≡ w.names.handle
   pub kernel : names.kernel ≡ w.names.kernel
 
-pub after_read : {events : List Event} {xs : List ℕ} → SpellsAfter events xs → (w : Words) (vs : List RawNumber) (as' : List RawArg) (ws : List ℕ) (rest : List Event) → AfterRead w vs as' ws xs events rest
-after_read {events} (none q e) w vs as' ws rest = record {
+pub after_read : {events : List Event} {xs : List ℕ} → SpellsAfter events xs → (w : Words) (as' : List RawArg) (ws : List ℕ) (rest : List Event) → AfterRead w as' ws xs events rest
+after_read {events} (none q e) w as' ws rest = record {
   names = w.names;
-  read = of_events (reading (plainly w) vs as' [] ws) events (on action.AfterNone q ∷ []) rest e;
+  read = of_events (reading (plainly w) as' [] ws) events (on action.AfterNone q ∷ []) rest e;
   handle = refl;
   kernel = refl;
 }
-after_read {events} (some o q {x} {xs} e) w vs as' ws rest =
-    let r = reading (plainly w) vs as' [] ws in
+after_read {events} (some o q {x} {xs} e) w as' ws rest =
+    let r = reading (plainly w) as' [] ws in
     let w' = record (plainly w) { names = record w.names { opener = w.names.last } } in
-    let all = names_read (x ∷ xs) w' vs as' [] ws (on action.After q ∷ rest) in
+    let all = names_read (x ∷ xs) w' as' [] ws (on action.After q ∷ rest) in
     record {
       names = all.last;
       read = of_events r events (on action.OpenNames o ∷ names_events (x ∷ xs) ++ on action.After q ∷ []) rest e

@@ -1,5 +1,8 @@
 -- What a statement says that has no list of values and no block.
-use Rattle.std.proofs.Common.{◌≡◌, ℕ, List, [], Some, None, IsTrue, refl}
+use Rattle.std.proofs.Common.{◌≡◌, ℕ, ℤ, List, [], ◌++◌, Option, Some, None, Result, Ok, Err, IsTrue, refl, sym, ◌∙◌, ap}
+use Rattle.std.proofs.lemmas.List.{append-nil}
+use Rattle.kernel_code.specs.declared.check.StaticFault.{StaticFault}
+use Rattle.frame_script.specs.declared.fault.OrderFault.{OrderFault}
 use Rattle.frame_ast.specs.declared.kernel.Kernel.{Kernel}
 use Rattle.frame_ast.specs.declared.script.Order.{Order}
 use Rattle.frame_script.specs.declared.source.Source.{Source}
@@ -10,7 +13,7 @@ use Rattle.frame_script.specs.Faults.{Scope, order_faults}
 use Rattle.frame_script.specs.Names.{Name}
 use Rattle.frame_script.specs.Spelling.{Says}
 use Rattle.frame_script.specs.Files.{literals_of}
-use Rattle.frame_script.specs.Checks.{is_plain, among}
+use Rattle.frame_script.specs.Checks.{Gives, is_plain, among}
 
 -- it says the same behind other lists of values
 pub said_behind : (s : Source) (names : List Name) (kernels : List Kernel) (literals : ℕ) (x : RawOrder) (o : Order) → IsTrue (is_plain x) →
@@ -27,6 +30,14 @@ no_list s (raw.Array name len life None) plain = refl
 no_list s (raw.Repeat count) plain = absurd cc
 no_list s (raw.When name sign value) plain = absurd cc
 no_list s _ plain = refl
+
+-- what is checked alone is said behind any lists, and adds none
+pub said_alone : (s : Source) (names : List Name) (kernels : List Kernel) (literals : ℕ) (x : RawOrder) (lists : List (List ℤ)) (fault : Option StaticFault) (r : Result Order OrderFault) →
+    IsTrue (is_plain x) → Gives fault (Says s names kernels 0 0 (form_of x)) r →
+    Gives fault (λ o. Says s names kernels literals 0 (form_of x) o × (lists ≡ lists ++ literals_of s (form_of x))) r
+said_alone s names kernels literals x lists fault (Ok o) plain h =
+    (h.0, (said_behind s names kernels literals x o plain h.1, sym (append-nil lists) ∙ ap (λ y. lists ++ y) (no_list s x plain)))
+said_alone s names kernels literals x lists fault (Err e) plain h = h
 
 -- it has the same faults at whatever token it begins and in whatever block it stands
 pub plain_faults : (s : Source) (c : Scope) (at : ℕ) (x : OrderForm) → closing x ≡ None → order_faults s (among c.names c.kernels) 0 x ≡ order_faults s c at x

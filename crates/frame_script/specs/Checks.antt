@@ -1,5 +1,6 @@
 -- What the check of a part of a statement answers: its first fault, or what it says.
 use Rattle.std.specs.Prelude.{◌≡◌, ℕ, map, Bool, true, false, List, [], Option, Some, None, Result, MatchResult}
+use Rattle.frame_grammar.specs.Notes.{events_of}
 use Rattle.kernel_code.specs.declared.check.StaticFault.{StaticFault}
 use Rattle.frame_ast.specs.declared.name_kind.NameKind.{NameKind}
 use Rattle.frame_ast.specs.Lists.{first_some}
@@ -12,7 +13,8 @@ use Rattle.frame_script.specs.declared.raw.RawOrder.TheVariants as raw
 use Rattle.frame_script.specs.declared.raw.RawSizes.{RawSizes}
 use Rattle.frame_ast.specs.declared.kernel.Kernel.{Kernel}
 use Rattle.frame_ast.specs.declared.script.Order.{Order}
-use Rattle.frame_script.specs.Raw.{OrderForm}
+use Rattle.frame_script.specs.declared.order_checks.makes.Valued.{Valued}
+use Rattle.frame_script.specs.Raw.{OrderForm, NewArray, values_of}
 use Rattle.frame_script.specs.Faults.{Scope, order_faults}
 use Rattle.frame_script.specs.Spelling.{place_of, names_with, names_after, arg_of, defer_of, Says}
 use Rattle.frame_script.specs.declared.fault.OrderFault.{OrderFault}
@@ -58,6 +60,10 @@ IsDefer s names sizes d = (m : Option (ℕ × NameKind)) → d ≡ defer_of s (n
 -- names and kernels alone
 abbrev pub among : List Name → List Kernel → Scope
 among names kernels = record { names = names; kernels = kernels; blocks = 0; tested = false }
+
+-- the form of an array with values
+abbrev pub valued_form : Valued → OrderForm
+valued_form v = NewArray v.name v.len v.life (Some (values_of (events_of v.values.now)))
 
 -- a statement without a block and without a list of values
 abbrev pub is_plain : RawOrder → Bool

@@ -7,6 +7,7 @@ use Rattle.frame_grammar.specs.declared.TokenKind.TheVariants as token
 use Rattle.frame_grammar.specs.declared.symbols.Action.{Action}
 use Rattle.frame_grammar.specs.declared.symbols.Action.TheVariants as action
 use Rattle.frame_grammar.specs.declared.symbols.Event.{Event}
+use Rattle.frame_grammar.specs.Notes.{events_of}
 use Rattle.kernel_code.specs.declared.raw.RawParam.{RawParam}
 use Rattle.kernel_code.specs.Raw.{on, opening, RawBlock, SpellsParams, SpellsBlock, IsKernel}
 use Rattle.frame_script.specs.declared.raw.RawNumber.{RawNumber}
@@ -47,10 +48,31 @@ pub data OrderForm : Type 0 where
   Repeat : (count : ℕ) → OrderForm
   When : (name sign : ℕ) → RawNumber → OrderForm
 
+-- the place of the last Number after an event, where that of the last one before it is `at`
+abbrev pub number_after : Action → (place at : ℕ) → ℕ
+number_after action.Number place at = place
+number_after _ place at = at
+
+-- the signed number that an event makes of the last Number
+abbrev pub signed_by : Action → (at : ℕ) → List RawNumber
+signed_by action.MinusNumber at = record { minus = true; at = at } ∷ []
+signed_by action.PlainNumber at = record { minus = false; at = at } ∷ []
+signed_by _ at = []
+
+-- the signed numbers of events, where the last Number before them stands at this place
+abbrev pub signed_from : (at : ℕ) → List Event → List RawNumber
+signed_from at [] = []
+signed_from at (e ∷ es) = signed_by e.action at ++ signed_from (number_after e.action e.place at) es
+
+-- The values that events say: those of `-2 3`, which are an Operator at 5, a Number at 6, a MinusNumber, a Number at 7
+-- and a PlainNumber, are the Number at 6 with a `-`, and the Number at 7 without.
+abbrev pub values_of : List Event → List RawNumber
+values_of = signed_from 0
+
 -- the form of a raw statement
 abbrev pub form_of : RawOrder → OrderForm
 form_of (raw.Array name len life None) = NewArray name len life None
-form_of (raw.Array name len life (Some values)) = NewArray name len life (Some values.items)
+form_of (raw.Array name len life (Some notes)) = NewArray name len life (Some (values_of (events_of notes.now)))
 form_of (raw.Column name column life) = NewColumn name column life
 form_of (raw.List name cap life) = NewList name cap life
 form_of (raw.Reference name life value) = NewReference name life value

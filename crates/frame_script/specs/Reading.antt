@@ -1,5 +1,5 @@
 -- How the events of a statement, one after another, make its raw form.
-use Rattle.std.specs.Prelude.{ℕ, ◌+◌, Bool, true, false, List, [], ◌∷◌, ◌++◌, Option, None, Some, if◌then◌else◌}
+use Rattle.std.specs.Prelude.{ℕ, ◌+◌, Bool, true, false, List, [], ◌∷◌, ◌++◌, Option, None, Some, take, drop, if◌then◌else◌}
 use Rattle.frame_ast.specs.declared.script.Life.TheVariants.{Temp, TempJob, Persistent}
 use Rattle.frame_grammar.specs.declared.symbols.Action.{Action}
 use Rattle.frame_grammar.specs.declared.symbols.Action.TheVariants as action
@@ -12,7 +12,7 @@ use Rattle.frame_script.specs.declared.build_words.LastNames.{LastNames}
 use Rattle.frame_script.specs.declared.build_words.LastNumbers.{LastNumbers}
 use Rattle.frame_script.specs.declared.build_words.Words.{Words}
 use Rattle.frame_script.specs.declared.build.Reader.{Reader}
-use Rattle.frame_script.specs.Raw.{OrderForm, NewArray, NewColumn, NewList, NewReference, NewMap, NewStream, Slice, View, Copy, Set, Add, Put, Remove, Clear, SetCapacity, Schedule, Combine, Complete, Dispose, DisposeAuto, Print, Flush, Frame, Repeat, When}
+use Rattle.frame_script.specs.Raw.{OrderForm, NewArray, NewColumn, NewList, NewReference, NewMap, NewStream, Slice, View, Copy, Set, Add, Put, Remove, Clear, SetCapacity, Schedule, Combine, Complete, Dispose, DisposeAuto, Print, Flush, Frame, Repeat, When, values_of}
 
 -- the signed number, where there is one
 abbrev pub signed_of : Option RawNumber → RawNumber
@@ -38,12 +38,10 @@ no_words =
     record {
       names = no_names;
       numbers = no_numbers;
-      len = 0;
       life = Persistent;
       auto = false;
       sizes = sizes.None;
       is_listing = false;
-      has_values = false;
     }
 
 abbrev pub with_name : ℕ → Words → Words
@@ -70,8 +68,6 @@ words_after action.NoNumber q w = with_signed None w
 words_after action.LifeTemp q w = record w { life = Temp }
 words_after action.LifeTempJob q w = record w { life = TempJob }
 words_after action.Auto q w = record w { auto = true }
-words_after action.NoValues q w = record w { len = w.numbers.last }
-words_after action.OpenValues q w = record w { len = w.numbers.last; has_values = true }
 words_after action.OpenArguments q w =
     record w { names = record w.names { handle = w.names.before_last; kernel = w.names.last } }
 words_after action.SizesLength q w = record w { sizes = sizes.Length w.numbers.before_last w.numbers.last }
@@ -81,11 +77,10 @@ words_after action.Waived q w = record w { is_listing = false }
 words_after action.After q w = record w { is_listing = false }
 words_after _ q w = w
 
--- What has been read: its words, an array's values, a schedule's arguments, the list of names that is being read or was
--- last, and the names after `waive`.
+-- What has been read: its words, a schedule's arguments, the list of names that is being read or was last, and the
+-- names after `waive`.
 pub record Reading : Type 0 where
   pub words : Words
-  pub values : List RawNumber
   pub args : List RawArg
   pub names : List ℕ
   pub waive : List ℕ
@@ -94,22 +89,17 @@ abbrev pub reading_of : Reader → Reading
 reading_of r =
     record {
       words = r.words;
-      values = r.values.items;
       args = r.args.items;
       names = r.names.items;
       waive = r.waive.items;
     }
 
 abbrev pub nothing_read : Reading
-nothing_read = record { words = no_words; values = []; args = []; names = []; waive = [] }
+nothing_read = record { words = no_words; args = []; names = []; waive = [] }
 
 -- what has been read, when this event comes at this place and leaves these words
 abbrev pub lists_after : Action → ℕ → Words → Reading → Reading
 lists_after action.Name q w r = record r { words = w; names = if w.is_listing then r.names ++ q ∷ [] else r.names }
-lists_after action.MinusNumber q w r =
-    record r { words = w; values = if w.has_values then r.values ++ signed_of w.numbers.signed ∷ [] else r.values }
-lists_after action.PlainNumber q w r =
-    record r { words = w; values = if w.has_values then r.values ++ signed_of w.numbers.signed ∷ [] else r.values }
 lists_after action.NameArgument q w r = record r { words = w; args = r.args ++ arg.Name w.names.last ∷ [] }
 lists_after action.NumberArgument q w r =
     record r { words = w; args = r.args ++ arg.Number (signed_of w.numbers.signed) ∷ [] }
@@ -191,8 +181,7 @@ worded a w = used a w
 
 -- the statement that is whole with this event
 abbrev pub finished : Action → Reading → OrderForm
-finished action.ArrayStatement r =
-    NewArray r.words.names.last r.words.len r.words.life (if r.words.has_values then Some r.values else None)
+finished action.ArrayStatement r = NewArray r.words.names.last r.words.numbers.last r.words.life None
 finished action.ScheduleStatement r =
     Schedule r.words.auto r.words.names.handle r.words.names.kernel r.args r.words.sizes r.waive r.names
 finished action.CombineStatement r = Combine r.words.names.opener r.names
@@ -200,11 +189,41 @@ finished action.DisposeStatement r = Dispose r.words.names.last r.names None
 finished action.DisposeAfterStatement r = Dispose r.words.names.opener r.names (Some r.words.names.last)
 finished a r = worded a r.words
 
+-- whether a signed number is whole with this event
+abbrev pub ends_number : Action → Bool
+ends_number action.MinusNumber = true
+ends_number action.PlainNumber = true
+ends_number _ = false
+
+-- whether the values of an array stand behind this event
+abbrev pub opens_values : Action → Bool
+opens_values action.OpenValues = true
+opens_values _ = false
+
+-- whether the event closes the values of an array
+abbrev pub closes_values : Action → Bool
+closes_values action.CloseValues = true
+closes_values _ = false
+
+-- how many events stand before the first that closes the values of an array
+abbrev pub values_len : List Event → ℕ
+values_len [] = 0
+values_len (e ∷ es) = if closes_values e.action then 0 else values_len es + 1
+
+-- the array with the values that these events say, where those behind them begin with the one that closes its values
+-- and the one that ends it; and the events behind it
+abbrev pub array_with : Words → List Event → List Event → Option (OrderForm × List Event)
+array_with w values (close ∷ end ∷ rest) =
+    Some (NewArray w.names.last w.numbers.last w.life (Some (values_of values)), rest)
+array_with w values _ = None
+
 -- the statement that the events spell from here on, and the events behind it
 abbrev pub order_from : Reading → List Event → Option (OrderForm × List Event)
 order_from r [] = None
 order_from r (e ∷ es) =
-    if ends e.action then Some (finished e.action r, es) else order_from (step e.action e.place r) es
+    if opens_values e.action then array_with r.words (take (values_len es) es) (drop (values_len es) es)
+    else if ends e.action then Some (finished e.action r, es)
+    else order_from (step e.action e.place r) es
 
 -- whether the event closes a kernel
 abbrev pub closes : Action → Bool

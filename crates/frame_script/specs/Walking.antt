@@ -1,5 +1,5 @@
 -- A walk over the items of a file: what is known behind some of them, and what is left.
-use Rattle.std.specs.Prelude.{◌≡◌, ℕ, ◌+◌, ◌≤◌, ◌⊎◌, Bool, true, ℤ, Vec, List, [], ◌∷◌, ◌++◌, length, map, reverse, drop, Option, Some, None, All, IsUtf8, string_bytes}
+use Rattle.std.specs.Prelude.{◌≡◌, ℕ, ◌+◌, ◌≤◌, ◌⊎◌, Bool, true, ℤ, Vec, List, [], ◌∷◌, ◌++◌, length, map, reverse, drop, Some, None, All, IsUtf8, string_bytes}
 use Rattle.std.specs.declared.alloc.Global.{Global}
 use Rattle.frame_ast.specs.declared.kernel.FaultKind.{FaultKind}
 use Rattle.frame_ast.specs.declared.kernel.Kernel.{Kernel as CheckedKernel}
@@ -26,11 +26,6 @@ use Rattle.frame_script.specs.Faults.{Scope, kernel_in}
 use Rattle.frame_script.specs.Spelling.{kernel_place, names_after}
 use Rattle.frame_script.specs.Files.{IsRawOf, IsFaultless, HasFault, IsStatement, at_start, literals_of, literals_in}
 use Rattle.frame_script.specs.Writing.{put, opened, Closes, Completes}
-
--- the list of values of a statement, where it has one
-abbrev pub lists_of : Option (Vec ℤ Global) → List (List ℤ)
-lists_of None = []
-lists_of (Some values) = values.items ∷ []
 
 -- these events spell a kernel without a fault, which is known now behind the others
 pub record AddsKernel (s : Source) (events : List Event) (old new : List CheckedKernel) : Type 0 where

@@ -1,12 +1,13 @@
 //! Puts the events of a statement together into its raw form.
 
-ghost use Rattle.std.specs.Prelude.{◌≡◌, true, IfOk, length};
+ghost use Rattle.std.specs.Prelude.{◌≡◌, ◌≤◌, ◌+◌, true, Some, IfOk, length, take, drop};
 ghost use Rattle.frame_grammar.specs.Notes.{events_of};
-ghost use Rattle.frame_script.specs.Raw.{form_of, BeginsOrder};
-ghost use Rattle.frame_script.specs.Reading.{reading_of, nothing_read, lists_after, step, ends, finished};
+ghost use Rattle.frame_script.specs.Raw.{form_of, values_of, NewArray, BeginsOrder};
+ghost use Rattle.frame_script.specs.Reading.{reading_of, nothing_read, values_len, step, ends, finished};
 
 use crate::build_words::{Words, signed_of};
-use crate::raw::{RawArg, RawNumber, RawOrder};
+use crate::raw::{RawArg, RawOrder};
+use crate::values::values_len;
 use frame_grammar::{Action, Event, Note};
 use std::alloc::{AllocError, Global};
 
@@ -51,7 +52,6 @@ fn ends(action: Action) -> bool
 #[derive(Drop)]
 struct Reader {
     words: Words,
-    values: Vec<RawNumber>,
     args: Vec<RawArg>,
     /// The list of names that is being read, or was last.
     names: Vec<u32>,
@@ -64,32 +64,10 @@ impl Reader {
     {
         Reader {
             words: Words::new(),
-            values: Vec::new(alloc),
             args: Vec::new(alloc),
             names: Vec::new(alloc),
             waive: Vec::new(alloc),
         }
-    }
-
-    /// Keeps the signed number that was read last, where it is one of an array's values.
-    #[inline]
-    fn keep_value(&mut self) -> Result<(), AllocError>
-        ensures { IfOk result
-            (λ _. reading_of self.new ≡ lists_after Action.PlainNumber 0 self.old.words (reading_of self.old)) }
-    {
-        if self.words.has_values {
-            self.values.push(signed_of(self.words.numbers.signed))?;
-        }
-        Ok(())
-    }
-
-    /// Takes the last Number as a signed one that has no `-`.
-    #[inline]
-    fn take_plain(&mut self) -> Result<(), AllocError>
-        ensures { IfOk result (λ _. reading_of self.new ≡ step Action.PlainNumber 0 (reading_of self.old)) }
-    {
-        self.words.take_plain();
-        self.keep_value()
     }
 
     /// Takes the next event of a statement, and not its last.
@@ -103,7 +81,6 @@ impl Reader {
                     self.names.push(event.place)?;
                 }
             }
-            Action::MinusNumber | Action::PlainNumber => self.keep_value()?,
             Action::NameArgument => self.args.push(RawArg::Name(self.words.names.last))?,
             Action::NumberArgument => {
                 let number = signed_of(self.words.numbers.signed);
@@ -116,34 +93,29 @@ impl Reader {
     }
 
     /// The statement that is whole with this event.
-    fn finish(self, action: Action) -> RawOrder
+    fn finish<'a>(self, action: Action) -> RawOrder<'a>
         requires { ends action ≡ true }
         ensures { form_of result ≡ finished action (reading_of self) }
     {
-        let words = self.words;
-        let name = words.names.last;
+        let name = self.words.names.last;
         match action {
             Action::ArrayStatement => RawOrder::Array {
                 name,
-                len: words.len,
-                life: words.life,
-                values: if words.has_values {
-                    Some(self.values)
-                } else {
-                    None
-                },
+                len: self.words.numbers.last,
+                life: self.words.life,
+                values: None,
             },
             Action::ScheduleStatement => RawOrder::Schedule {
-                auto: words.auto,
-                handle: words.names.handle,
-                kernel: words.names.kernel,
+                auto: self.words.auto,
+                handle: self.words.names.handle,
+                kernel: self.words.names.kernel,
                 args: self.args,
-                sizes: words.sizes,
+                sizes: self.words.sizes,
                 waive: self.waive,
                 after: self.names,
             },
             Action::CombineStatement => RawOrder::Combine {
-                name: words.names.opener,
+                name: self.words.names.opener,
                 of: self.names,
             },
             Action::DisposeStatement => RawOrder::Dispose {
@@ -152,11 +124,11 @@ impl Reader {
                 handle: None,
             },
             Action::DisposeAfterStatement => RawOrder::Dispose {
-                name: words.names.opener,
+                name: self.words.names.opener,
                 after: self.names,
                 handle: Some(name),
             },
-            _ => words.finish(action),
+            _ => self.words.finish(action),
         }
     }
 }
@@ -164,13 +136,33 @@ impl Reader {
 /// A statement, and how many events it has. Of `repeat` and `when` that is what stands before the
 /// brace.
 #[derive(Drop)]
-pub struct ReadOrder {
-    pub order: RawOrder,
+pub struct ReadOrder<'a> {
+    pub order: RawOrder<'a>,
     pub read: usize,
 }
 
+/// The array with these words whose values begin at a note. Two events stand behind its values: the one that closes
+/// them, and the one that ends the statement.
+fn array_with<'a>(words: &Words, notes: &'a [Note], from: usize) -> ReadOrder<'a>
+    requires { from ≤ length notes.now }
+    ensures form { form_of result.order ≡ NewArray words.now.names.last words.now.numbers.last words.now.life
+        (Some (values_of (take (values_len (drop from (events_of notes.now))) (drop from (events_of notes.now))))) }
+    ensures read { result.read ≡ from + values_len (drop from (events_of notes.now)) + 2 }
+{
+    let end = from + values_len(&notes[from..]);
+    ReadOrder {
+        order: RawOrder::Array {
+            name: words.names.last,
+            len: words.numbers.last,
+            life: words.life,
+            values: Some(&notes[from..end]),
+        },
+        read: end + 2,
+    }
+}
+
 /// The statement that the events begin with, from the event after its `StartStatement` on.
-pub fn raw_order(alloc: Global, notes: &[Note]) -> Result<ReadOrder, AllocError>
+pub fn raw_order<'a>(alloc: Global, notes: &'a [Note]) -> Result<ReadOrder<'a>, AllocError>
     requires { BeginsOrder (events_of notes.now) }
     ensures form { IfOk result
         (λ found. (begun : BeginsOrder (events_of notes.now)) → form_of found.order ≡ begun.form) }
@@ -181,9 +173,7 @@ pub fn raw_order(alloc: Global, notes: &[Note]) -> Result<ReadOrder, AllocError>
     for (index, note) in notes.iter().enumerate() {
         let event = note.event();
         match event.action {
-            // Nearly all events of a long statement are those of an array's values, so these come first.
-            Action::Number => reader.words.take_number(event.place),
-            Action::PlainNumber => reader.take_plain()?,
+            Action::OpenValues => return Ok(array_with(&reader.words, notes, index + 1)),
             action if ends(action) => {
                 return Ok(ReadOrder {
                     order: reader.finish(action),

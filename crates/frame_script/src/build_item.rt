@@ -13,7 +13,7 @@ use std::alloc::{AllocError, Global};
 
 /// What begins or ends at an event, with the event after it.
 #[derive(Drop)]
-pub enum RawItem {
+pub enum RawItem<'a> {
     /// No event is left.
     None,
     Kernel {
@@ -23,7 +23,7 @@ pub enum RawItem {
     /// the brace.
     Order {
         first: u32,
-        order: RawOrder,
+        order: RawOrder<'a>,
         next: usize,
     },
     /// The innermost open block ends.
@@ -40,7 +40,7 @@ fn count(notes: &[Note]) -> usize
 }
 
 /// The item that the events of a file have at this one.
-pub fn raw_item(alloc: Global, notes: &[Note], at: usize) -> Result<RawItem, AllocError>
+pub fn raw_item<'a>(alloc: Global, notes: &'a [Note], at: usize) -> Result<RawItem<'a>, AllocError>
     requires within { at ≤ length (events_of notes.now) }
     requires spelled { IsOpen (drop at (events_of notes.now)) }
     ensures { IfOk result (λ item. (items : List RawItems) → SpellsOpen (drop at (events_of notes.now)) items →

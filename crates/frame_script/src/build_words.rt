@@ -2,7 +2,7 @@
 
 ghost use Rattle.std.specs.Prelude.{◌≡◌, true};
 ghost use Rattle.frame_script.specs.Raw.{form_of};
-ghost use Rattle.frame_script.specs.Reading.{words_after, signed_of, no_words, with_number, with_signed, ends_worded, ends_use, worded, used};
+ghost use Rattle.frame_script.specs.Reading.{words_after, signed_of, no_words, with_signed, ends_worded, ends_use, worded, used};
 
 use crate::raw::{RawNumber, RawOrder, RawSizes};
 use frame_ast::script::Life;
@@ -48,15 +48,11 @@ pub struct LastNumbers {
 pub struct Words {
     pub names: LastNames,
     pub numbers: LastNumbers,
-    /// The last Number before the values of an array, or before where they are left out.
-    pub len: u32,
     pub life: Life,
     pub auto: bool,
     pub sizes: RawSizes,
     /// Whether a list of names is being read.
     pub is_listing: bool,
-    /// Whether an array's values have begun.
-    pub has_values: bool,
 }
 
 /// The signed number, where there is one.
@@ -90,12 +86,10 @@ impl Words {
                 signed_before: None,
                 signed: None,
             },
-            len: 0,
             life: Life::Persistent,
             auto: false,
             sizes: RawSizes::None,
             is_listing: false,
-            has_values: false,
         }
     }
 
@@ -104,24 +98,6 @@ impl Words {
     {
         self.numbers.signed_before = self.numbers.signed;
         self.numbers.signed = number;
-    }
-
-    /// Takes a Number or a Text.
-    #[inline]
-    pub fn take_number(&mut self, place: u32)
-        ensures { self.new ≡ with_number place self.old }
-    {
-        self.numbers.before_last = self.numbers.last;
-        self.numbers.last = place;
-    }
-
-    /// Takes the last Number as a signed one that has no `-`.
-    #[inline]
-    pub fn take_plain(&mut self)
-        ensures { self.new ≡ words_after Action.PlainNumber 0 self.old }
-    {
-        let at = self.numbers.last;
-        self.take_signed(Some(RawNumber { minus: false, at }));
     }
 
     /// Takes the next event of a statement.
@@ -135,7 +111,10 @@ impl Words {
                 self.names.before_last = self.names.last;
                 self.names.last = place;
             }
-            Action::Number | Action::Text => self.take_number(place),
+            Action::Number | Action::Text => {
+                self.numbers.before_last = number;
+                self.numbers.last = place;
+            }
             Action::Operator => {
                 self.numbers.operator_before = self.numbers.operator;
                 self.numbers.operator = place;
@@ -144,16 +123,14 @@ impl Words {
                 minus: true,
                 at: number,
             })),
-            Action::PlainNumber => self.take_plain(),
+            Action::PlainNumber => self.take_signed(Some(RawNumber {
+                minus: false,
+                at: number,
+            })),
             Action::NoNumber => self.take_signed(None),
             Action::LifeTemp => self.life = Life::Temp,
             Action::LifeTempJob => self.life = Life::TempJob,
             Action::Auto => self.auto = true,
-            Action::NoValues => self.len = number,
-            Action::OpenValues => {
-                self.len = number;
-                self.has_values = true;
-            }
             Action::OpenArguments => {
                 self.names.handle = self.names.before_last;
                 self.names.kernel = self.names.last;
@@ -170,9 +147,9 @@ impl Words {
     }
 
     /// The statement without lists that is whole with this event.
-    pub fn finish(self, action: Action) -> RawOrder
+    pub fn finish<'a>(&self, action: Action) -> RawOrder<'a>
         requires { ends_worded action ≡ true }
-        ensures { form_of result ≡ worded action self }
+        ensures { form_of result ≡ worded action self.now }
     {
         let name = self.names.last;
         let number = self.numbers.last;
@@ -226,9 +203,9 @@ impl Words {
     // list.
 
     /// The same of a statement that makes nothing but a handle.
-    fn finish_use(self, action: Action) -> RawOrder
+    fn finish_use<'a>(&self, action: Action) -> RawOrder<'a>
         requires { ends_use action ≡ true }
-        ensures { form_of result ≡ used action self }
+        ensures { form_of result ≡ used action self.now }
     {
         let name = self.names.last;
         let number = self.numbers.last;

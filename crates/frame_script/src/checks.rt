@@ -1,11 +1,13 @@
 //! The checks of single tokens: numbers, names that are used, and names that are made.
 
-ghost use Rattle.std.specs.Prelude.{◌≡◌, ℕ, map, ◌<◌, ◌-◌, ◌^◌, ⊤, Some, None, length, IfOk, IfErr, MatchResult, min};
+ghost use Rattle.std.specs.Prelude.{◌≡◌, ℕ, map, ◌<◌, ◌-◌, ◌^◌, ⊤, Some, None, nat_le, length, IfOk, IfErr, MatchResult, min};
 ghost use Rattle.std.specs.Option.{option_map};
 ghost use Rattle.frame_ast.specs.Lists.{first_some};
 ghost use Rattle.frame_script.specs.Sources.{text_at, number_at, signed_at, column_at};
 ghost use Rattle.frame_ast.specs.Accepted.{is_among};
-ghost use Rattle.frame_script.specs.Faults.{limit_fault, signed_fault, handles_faults, column_fault, use_fault, remake_fault, make_fault, long_fault, value_fault};
+ghost use Rattle.frame_script.specs.Faults.{limit_fault, signed_fault, handles_faults, column_fault, unless, use_fault, make_fault, long_fault, value_fault};
+ghost use Rattle.frame_ast.specs.declared.kernel.FaultKind.TheVariants.{Limit};
+ghost use Rattle.job_base.specs.declared.limits.TheConstants.{MOST_NAME_BYTES};
 ghost use Rattle.frame_script.specs.Spelling.{place_of, names_with};
 ghost use Rattle.frame_script.specs.Checks.{Gives, IsPlace, ArePlaces};
 
@@ -58,14 +60,21 @@ pub fn is_among(kind: NameKind, kinds: &[NameKind]) -> bool
     kinds.iter().any(|known| kind == *known)
 }
 
+// The text of a name that isn't too long.
+fn short_text(text: &[u8], at: u32) -> Result<(), OrderFault>
+    ensures { Gives (unless (nat_le (length text.now) MOST_NAME_BYTES) Limit at) (λ _. ⊤) result }
+{
+    if text.len() > MOST_NAME_BYTES as usize {
+        return refused(FaultKind::Limit, at);
+    }
+    Ok(())
+}
+
 /// A name that isn't too long.
 pub fn short(source: Source<'_>, at: u32) -> Result<(), OrderFault>
     ensures { Gives (long_fault source.entry at) (λ _. ⊤) result }
 {
-    if source.text(at).len() > MOST_NAME_BYTES as usize {
-        return refused(FaultKind::Limit, at);
-    }
-    Ok(())
+    short_text(source.text(at), at)
 }
 
 /// The place of a name that is known, and of one of these kinds.
@@ -86,25 +95,6 @@ pub fn used(
     Ok(place)
 }
 
-// The place of a name that is made, where what is known of it agrees.
-fn place_made(
-    source: Source<'_>,
-    names: &Names<'_>,
-    kind: NameKind,
-    at: u32,
-) -> Result<u32, OrderFault>
-    ensures { Gives (remake_fault source.entry names.now kind at)
-        (λ place. place ≡ place_of source.entry (names_with source.entry names.now (Some (at, kind))) at) result }
-{
-    let Some((place, known)) = names.get(source.text(at)) else {
-        return Ok(names.len());
-    };
-    if !is_among(known, &[kind]) {
-        return refused(FaultKind::KindMismatch, at);
-    }
-    Ok(place)
-}
-
 /// The place of a name that is made, for the first time or again in the same kind.
 pub fn made(
     source: Source<'_>,
@@ -115,8 +105,15 @@ pub fn made(
     ensures { Gives (make_fault source.entry names.now kind at)
         (λ place. place ≡ place_of source.entry (names_with source.entry names.now (Some (at, kind))) at) result }
 {
-    let place = place_made(source, names, kind, at)?;
-    short(source, at)?;
+    let text = source.text(at);
+    let Some((place, known)) = names.get(text) else {
+        short_text(text, at)?;
+        return Ok(names.len());
+    };
+    if !is_among(known, &[kind]) {
+        return refused(FaultKind::KindMismatch, at);
+    }
+    short_text(text, at)?;
     Ok(place)
 }
 
@@ -152,23 +149,6 @@ pub fn handles(
         places.push(place)?;
     }
     Ok(places)
-}
-
-/// Signed numbers of 64 bits.
-pub fn all_signed(
-    alloc: Global,
-    source: Source<'_>,
-    numbers: &[RawNumber],
-) -> Result<Vec<i64>, OrderFault>
-    ensures { Gives (first_some (map (signed_fault source.entry) numbers.now))
-        (λ values. values.items ≡ map (signed_at source.entry) numbers.now) result }
-{
-    let mut values = Vec::with_capacity(alloc, numbers.len())?;
-    for number in numbers {
-        let value = signed(source, *number)?;
-        values.push(value)?;
-    }
-    Ok(values)
 }
 
 /// The Text of a column, without its quotes, where it isn't too long.

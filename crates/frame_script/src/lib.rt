@@ -23,6 +23,7 @@ mod names;
 mod order_checks;
 mod raw;
 mod source;
+mod values;
 mod walk;
 mod walk_kernel;
 mod walk_order;

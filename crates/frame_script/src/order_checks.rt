@@ -32,7 +32,7 @@ pub fn check_order(
     source: Source<'_>,
     names: &Names<'_>,
     kernels: &Kernels<'_>,
-    raw: &RawOrder,
+    raw: &RawOrder<'_>,
 ) -> Result<Order, OrderFault>
     requires plain { IsTrue (is_plain raw.now) }
     ensures { Checked source.entry (among names.now kernels.now) 0 0 (form_of raw.now) result }

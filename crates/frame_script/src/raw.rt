@@ -3,6 +3,7 @@
 //! Tokens are given by their places among those of the file.
 
 use frame_ast::script::Life;
+use frame_grammar::Note;
 
 /// A signed number: whether `-` stands before it, and its Number.
 #[derive(Clone, Copy, Debug, PartialEq, Eq)]
@@ -32,12 +33,14 @@ pub enum RawSizes {
 
 /// A statement of a script; of `repeat` and `when`, what stands before the brace.
 #[derive(Drop)]
-pub enum RawOrder {
+pub enum RawOrder<'a> {
     Array {
         name: u32,
         len: u32,
         life: Life,
-        values: Option<Vec<RawNumber>>,
+        /// The notes of its values, as the grammar has them, in order. An array can have a million of them, so they
+        /// stay where they are.
+        values: Option<&'a [Note]>,
     },
     Column {
         name: u32,

@@ -1,6 +1,6 @@
 //! Goes over the items of a file, and writes out the script that they parse to.
 
-ghost use Rattle.std.specs.Prelude.{◌≡◌, ◌-◌, ◌<◌, ◌≤◌, ◌^◌, ◌++◌, ℕ, [], None, Some, false, length, IfOk, MatchOption};
+ghost use Rattle.std.specs.Prelude.{◌≡◌, ◌-◌, ◌<◌, ◌≤◌, ◌^◌, ℕ, [], None, Some, false, length, IfOk, MatchOption};
 ghost use Rattle.frame_ast.specs.declared.kernel.FaultKind.{FaultKind};
 ghost use Rattle.frame_grammar.specs.Notes.{events_of};
 ghost use Rattle.kernel_code.specs.Parsing.{kinds};
@@ -12,13 +12,13 @@ ghost use Rattle.frame_script.specs.Lines.{IsOn};
 ghost use Rattle.frame_script.specs.Faults.{order_faults};
 ghost use Rattle.frame_script.specs.Checks.{Gives};
 ghost use Rattle.frame_script.specs.Writing.{nothing_written};
-ghost use Rattle.frame_script.specs.Walking.{lists_of, lists_in, scope_of, Tells, TakesSingle, TakesRepeat, TakesWhen, Takes, Leaves, IsWalking, IsThrough, RefusesItems};
+ghost use Rattle.frame_script.specs.Walking.{scope_of, Tells, TakesSingle, TakesRepeat, TakesWhen, Takes, Leaves, IsWalking, IsThrough, RefusesItems};
 
 use crate::build_item::{RawItem, raw_item};
 use crate::order_checks::{check_repeat, check_when};
 use crate::raw::{RawNumber, RawOrder};
 use crate::walk_kernel::add_kernel;
-use crate::walk_order::{make_name, order_said};
+use crate::walk_order::{count_of, make_name, order_said};
 use crate::written::Written;
 use crate::{Kernels, LineCursor, LoadFault, Names, OrderFault, Source};
 use frame_ast::script::Statement;
@@ -37,26 +37,6 @@ pub struct Walk<'a> {
     pub tested: bool,
     /// The same around each open block, the outermost first.
     pub around: Vec<bool>,
-}
-
-// A count, as a script holds it.
-fn count_of(len: usize) -> Result<u32, NoMemory>
-    ensures { IfOk result (λ count. count ≡ len) }
-{
-    if len > u32::MAX as usize {
-        return Err(NoMemory);
-    }
-    Ok(len as u32)
-}
-
-// Keeps the list of values of a statement, where it has one.
-fn keep_list(literals: &mut Vec<Vec<i64>>, list: Option<Vec<i64>>) -> Result<(), NoMemory>
-    ensures { IfOk result (λ _. lists_in literals.new ≡ lists_in literals.old ++ lists_of list) }
-{
-    if let Some(list) = list {
-        literals.push(list)?;
-    }
-    Ok(())
 }
 
 // The refusal of a file for a fault of a statement.
@@ -102,18 +82,23 @@ impl<'a> Walk<'a> {
         source: Source<'a>,
         at: u32,
         line: u32,
-        raw: &RawOrder,
+        raw: &RawOrder<'_>,
     ) -> Result<(), OrderFault>
         requires line { line ≡ line_at source at }
         requires single { closing (form_of raw.now) ≡ None }
         ensures { Gives (first_some (order_faults source.entry (scope_of self.old) at (form_of raw.now)))
             (λ _. TakesSingle source.entry at (form_of raw.now) self.old self.new) result }
     {
-        let literals = count_of(self.literals.len())?;
-        let (act, list) = order_said(alloc, source, &self.names, &self.kernels, literals, raw)?;
+        let act = order_said(
+            alloc,
+            source,
+            &self.names,
+            &self.kernels,
+            &mut self.literals,
+            raw,
+        )?;
         make_name(source, &mut self.names, raw)?;
         self.written.add(Statement { line, act })?;
-        keep_list(&mut self.literals, list)?;
         Ok(())
     }
 
@@ -185,7 +170,7 @@ impl<'a> Walk<'a> {
         source: Source<'a>,
         at: u32,
         line: u32,
-        raw: &RawOrder,
+        raw: &RawOrder<'_>,
     ) -> Result<(), OrderFault>
         requires line { line ≡ line_at source at }
         ensures { Gives (first_some (order_faults source.entry (scope_of self.old) at (form_of raw.now)))

@@ -1,13 +1,13 @@
 //! One statement of a file: what it says, and the name that it makes.
 
-ghost use Rattle.std.specs.Prelude.{◌≡◌, None, Some, MatchOption, IsTrue, IfOk};
+ghost use Rattle.std.specs.Prelude.{◌≡◌, ◌++◌, length, None, Some, MatchOption, IsTrue, IfOk};
 ghost use Rattle.frame_ast.specs.Lists.{first_some};
-ghost use Rattle.frame_script.specs.Raw.{form_of, closing, NewArray};
+ghost use Rattle.frame_script.specs.Raw.{form_of, closing};
 ghost use Rattle.frame_script.specs.Faults.{order_faults, made_by};
 ghost use Rattle.frame_script.specs.Spelling.{Says, names_after};
 ghost use Rattle.frame_script.specs.Files.{literals_of};
-ghost use Rattle.frame_script.specs.Checks.{Gives, among, is_plain};
-ghost use Rattle.frame_script.specs.Walking.{lists_of};
+ghost use Rattle.frame_script.specs.Checks.{Gives, among, is_plain, valued_form};
+ghost use Rattle.frame_script.specs.Walking.{lists_in};
 
 use crate::order_checks::{Valued, check_order, valued_array};
 use crate::raw::RawOrder;
@@ -20,7 +20,7 @@ use std::alloc::Global;
 // TO ADD A STATEMENT: 10, the name that it makes, where it makes one.
 
 /// The name that a statement makes, and what it then stands for.
-fn made_name(source: Source<'_>, names: &Names<'_>, raw: &RawOrder) -> Option<(u32, NameKind)>
+fn made_name(source: Source<'_>, names: &Names<'_>, raw: &RawOrder<'_>) -> Option<(u32, NameKind)>
     ensures { result ≡ made_by source.entry names.now (form_of raw.now) }
 {
     match raw {
@@ -51,7 +51,7 @@ fn made_name(source: Source<'_>, names: &Names<'_>, raw: &RawOrder) -> Option<(u
 pub fn make_name<'a>(
     source: Source<'a>,
     names: &mut Names<'a>,
-    raw: &RawOrder,
+    raw: &RawOrder<'_>,
 ) -> Result<(), NoMemory>
     ensures { IfOk result (λ _. names.new ≡ names_after source.entry names.old (form_of raw.now)) }
 {
@@ -65,9 +65,9 @@ pub fn make_name<'a>(
 }
 
 // An array with values.
-fn valued(raw: &RawOrder) -> Option<Valued<'_>>
+fn valued<'a>(raw: &RawOrder<'a>) -> Option<Valued<'a>>
     ensures { MatchOption result (closing (form_of raw.now) ≡ None → IsTrue (is_plain raw.now))
-        (λ text. form_of raw.now ≡ NewArray text.name text.len text.life (Some text.values.now)) }
+        (λ text. form_of raw.now ≡ valued_form text) }
 {
     match raw {
         RawOrder::Array {
@@ -79,35 +79,44 @@ fn valued(raw: &RawOrder) -> Option<Valued<'_>>
             name: *name,
             len: *len,
             life: *life,
-            values: values.as_slice(),
+            values: *values,
         }),
         _ => None,
     }
 }
 
-/// What a statement without a block says, after so many lists of values; and its own list, where
-/// it has one.
+/// A count, as a script holds it.
+pub fn count_of(len: usize) -> Result<u32, NoMemory>
+    ensures { IfOk result (λ count. count ≡ len) }
+{
+    if len > u32::MAX as usize {
+        return Err(NoMemory);
+    }
+    Ok(len as u32)
+}
+
+/// What a statement without a block says. Where it has values, they become one more of the lists.
 pub fn order_said(
     alloc: Global,
     source: Source<'_>,
     names: &Names<'_>,
     kernels: &Kernels<'_>,
-    literals: u32,
-    raw: &RawOrder,
-) -> Result<(Order, Option<Vec<i64>>), OrderFault>
+    literals: &mut Vec<Vec<i64>>,
+    raw: &RawOrder<'_>,
+) -> Result<Order, OrderFault>
     requires { closing (form_of raw.now) ≡ None }
     ensures { Gives (first_some (order_faults source.entry (among names.now kernels.now) 0 (form_of raw.now)))
-        (λ r. Says source.entry (names_after source.entry names.now (form_of raw.now)) kernels.now literals 0
-        (form_of raw.now) r.0 × (lists_of r.1 ≡ literals_of source.entry (form_of raw.now))) result }
+        (λ act. Says source.entry (names_after source.entry names.now (form_of raw.now)) kernels.now
+        (length literals.old.items) 0 (form_of raw.now) act
+        × (lists_in literals.new ≡ lists_in literals.old ++ literals_of source.entry (form_of raw.now))) result }
 {
     match valued(raw) {
+        None => check_order(alloc, source, names, kernels, raw),
         Some(text) => {
-            let (order, list) = valued_array(alloc, source, names, literals, text)?;
-            Ok((order, Some(list)))
-        }
-        None => {
-            let order = check_order(alloc, source, names, kernels, raw)?;
-            Ok((order, None))
+            let count = count_of(literals.len())?;
+            let (order, list) = valued_array(alloc, source, names, count, text)?;
+            literals.push(list)?;
+            Ok(order)
         }
     }
 }

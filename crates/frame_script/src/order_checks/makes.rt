@@ -2,29 +2,32 @@
 
 ghost use Rattle.std.specs.Prelude.{◌≡◌, ⊤, Some, None, [], map};
 ghost use Rattle.frame_ast.specs.Lists.{first_some};
-ghost use Rattle.frame_script.specs.Raw.{NewArray, NewColumn, NewList, NewReference, NewMap, NewStream, Slice, View, Copy, Combine};
+ghost use Rattle.frame_grammar.specs.Notes.{events_of};
+ghost use Rattle.frame_script.specs.Raw.{values_of, NewArray, NewColumn, NewList, NewReference, NewMap, NewStream, Slice, View, Copy, Combine};
 ghost use Rattle.frame_ast.specs.declared.name_kind.NameKind.TheVariants.{Array};
 ghost use Rattle.frame_script.specs.Faults.{order_faults, count_fault};
 ghost use Rattle.frame_script.specs.Sources.{signed_at};
 ghost use Rattle.frame_script.specs.Spelling.{Says, names_with};
-ghost use Rattle.frame_script.specs.Checks.{Checked, Gives, bare};
+ghost use Rattle.frame_script.specs.Checks.{Checked, Gives, bare, valued_form};
 
 use crate::checks::{
-    all_signed, handles, is_among, limited, made, maybe_signed, refused, short, short_column, used,
+    handles, is_among, limited, made, maybe_signed, refused, short, short_column, used,
 };
 use crate::raw::RawNumber;
+use crate::values::{count_values, signed_values};
 use crate::{Names, OrderFault, Source};
 use frame_ast::kernel::FaultKind;
 use frame_ast::name_kind::{CONTAINERS, NameKind, SLICEABLE};
 use frame_ast::script::{Life, Order};
+use frame_grammar::Note;
 use job_base::limits::{MOST_ELEMENTS, MOST_PAIRS, MOST_STREAM_INDEXES, MOST_STREAM_ITEMS};
 use std::alloc::Global;
 
 // An array that is given values has as many as its length says.
-fn counted(source: Source<'_>, at: u32, values: &[RawNumber]) -> Result<(), OrderFault>
-    ensures { Gives (count_fault source.entry at (Some values.now)) (λ _. ⊤) result }
+fn counted(source: Source<'_>, at: u32, values: &[Note]) -> Result<(), OrderFault>
+    ensures { Gives (count_fault source.entry at (Some (values_of (events_of values.now)))) (λ _. ⊤) result }
 {
-    if source.number(at) == values.len() as u64 {
+    if source.number(at) == count_values(values) as u64 {
         Ok(())
     } else {
         refused(FaultKind::KindMismatch, at)
@@ -57,7 +60,8 @@ pub struct Valued<'a> {
     pub name: u32,
     pub len: u32,
     pub life: Life,
-    pub values: &'a [RawNumber],
+    /// The notes of its values.
+    pub values: &'a [Note],
 }
 
 /// An array with values, after so many lists of values; and its own list.
@@ -69,16 +73,15 @@ pub fn valued_array(
     literals: u32,
     text: Valued<'_>,
 ) -> Result<(Order, Vec<i64>), OrderFault>
-    ensures { Gives (first_some (order_faults source.entry (bare names.now) 0
-        (NewArray text.entry.name text.entry.len text.entry.life (Some text.entry.values.now))))
+    ensures { Gives (first_some (order_faults source.entry (bare names.now) 0 (valued_form text.entry)))
         (λ r. Says source.entry (names_with source.entry names.now (Some (text.entry.name, Array))) [] literals 0
-        (NewArray text.entry.name text.entry.len text.entry.life (Some text.entry.values.now)) r.0
-        × (r.1.items ≡ map (signed_at source.entry) text.entry.values.now)) result }
+        (valued_form text.entry) r.0
+        × (r.1.items ≡ map (signed_at source.entry) (values_of (events_of text.entry.values.now)))) result }
 {
     let name = made(source, names, NameKind::Array, text.name)?;
     counted(source, text.len, text.values)?;
     let len = limited(source, 0, MOST_ELEMENTS, text.len)?;
-    let values = all_signed(alloc, source, text.values)?;
+    let values = signed_values(alloc, source, text.values, len)?;
     let order = Order::Array {
         name,
         len,

@@ -1,13 +1,18 @@
+use Rattle.frame_ast.specs.Lists.{first_some}
 use Rattle.frame_script.specs.Raw.{form_of}
+use Rattle.frame_script.specs.Faults.{order_faults}
 use Rattle.frame_script.specs.Spelling.{names_after}
-use Rattle.frame_script.proofs.SaidLemmas.{said_behind, no_list}
+use Rattle.frame_script.specs.Checks.{among}
+use Rattle.frame_script.specs.Walking.{lists_in}
+use Rattle.std.proofs.Common.{length}
+use Rattle.frame_script.proofs.SaidLemmas.{said_alone}
 use Rattle.frame_script.proofs.walk_order.order_said.Goals as goal
 
-pub returns-in_ok-order-in-None : goal.returns-in_ok-order-in-None
-returns-in_ok-order-in-None c =
+pub returns-in-None : goal.returns-in-None
+returns-in-None c =
     let s = c.args.source in
     let raw = c.args.raw.now in
-    let plain = c.in-None.ensures c.requires in (
-      c.in_ok-order-in-None.ensures.0,
-      (said_behind s (names_after s c.args.names.now (form_of raw)) c.args.kernels.now c.args.literals raw c.in_ok-order-in-None.order plain c.in_ok-order-in-None.ensures.1, no_list s raw plain),
-    )
+    let names = c.args.names.now in
+    let kernels = c.args.kernels.now in
+    said_alone s (names_after s names (form_of raw)) kernels (length c.args.literals.now.items) raw (lists_in c.args.literals.now) (first_some (order_faults s (among names kernels) 0 (form_of raw))) c.check_order.result
+    (c.in-None.ensures c.requires) c.check_order.ensures

@@ -1,8 +1,8 @@
-use Rattle.std.proofs.Common.{◌≡◌, refl, sym, ◌∙◌, ap, subst, length, ◌++◌}
+use Rattle.std.proofs.Common.{refl, sym, ◌∙◌, ap, subst, length}
 use Rattle.frame_ast.specs.Lists.{first_some}
 use Rattle.frame_script.specs.Raw.{form_of}
 use Rattle.frame_script.specs.Spelling.{Says}
-use Rattle.frame_script.specs.Walking.{scope_of, lists_in}
+use Rattle.frame_script.specs.Walking.{scope_of}
 use Rattle.frame_script.proofs.SaidLemmas.{plain_faults}
 use Rattle.frame_script.proofs.walk.Walk.single.Goals as goal
 
@@ -12,19 +12,18 @@ returns c =
     let form = form_of c.args.raw.now in
     let old = c.args.self.now in
     let said = c.in_ok-act.ensures in
-    let names = c.in_ok-make_name.ensures in
-    let literals : c.in_ok-literals.literals ≡ length old.literals.items = c.in_ok-literals.ensures ∙ (c.len.ensures ∙ old.literals.ok.0) in (
+    let names = c.in_ok-make_name.ensures in (
       sym (ap first_some (plain_faults s (scope_of old) c.args.at form c.requires.single)) ∙ said.0,
       record {
         names = names;
         kernels = refl;
         around = refl;
         tested = refl;
-        literals = c.in_ok-keep_list.ensures ∙ ap (λ x. lists_in old.literals ++ x) said.1.1;
+        literals = said.1.1;
         statement = record { line = c.args.line; act = c.in_ok-act.act };
         is = record {
           line = c.requires.line;
-          says = subst (λ n. Says s c.make_name.new.names old.kernels n 0 form c.in_ok-act.act) literals (subst (λ ns. Says s ns old.kernels c.in_ok-literals.literals 0 form c.in_ok-act.act) (sym names) said.1.0);
+          says = subst (λ ns. Says s ns old.kernels (length old.literals.items) 0 form c.in_ok-act.act) (sym names) said.1.0;
         };
         written = c.in_ok-add.ensures;
       },
