@@ -1,10 +1,12 @@
 -- Events spell one raw kernel, but for where its parts lie in memory.
-use Rattle.std.proofs.Common.{◌≡◌, ℕ, ◌+◌, ◌<◌, Bool, true, false, List, [], ◌∷◌, ◌++◌, Option, Some, None, IfSome, refl, sym, ◌∙◌, ap, subst, arith}
+use Rattle.std.proofs.Common.{◌≡◌, ℕ, ◌+◌, ◌<◌, Bool, true, false, List, [], ◌∷◌, ◌++◌, Option, Some, None, IfSome, take, refl, sym, ◌∙◌, ap, subst, arith}
 use Rattle.frame_grammar.specs.declared.symbols.Action.{Action}
 use Rattle.frame_grammar.specs.declared.symbols.Action.TheVariants as action
 use Rattle.frame_grammar.specs.declared.symbols.Event.{Event}
 use Rattle.kernel_code.specs.declared.raw.RawParam.{RawParam}
 use Rattle.kernel_code.specs.declared.raw.RawKernel.{RawKernel}
+use Rattle.kernel_code.specs.declared.raw.TheConstants.{MOST_KEPT}
+use Rattle.kernel_code.specs.Depths.{depths_of}
 use Rattle.kernel_code.specs.Raw.{RawExpr, Leaf, One, Two, Infix, RawBlock, Nothing, Simple, Nested, Branched, ExprBelow, PartsBelow, BlockBelow, ParamsBelow, on, opening, SpellsParams, SpellsRaw, IsKernel, block_size, block_nodes}
 use Rattle.kernel_code.specs.Reading.{Reading, run, nothing_read, is_parallel}
 use Rattle.kernel_code.proofs.Meanings.{expr_up, parts_up, block_up, width_up, params_up}
@@ -146,8 +148,9 @@ same_parts s events r t a b =
     let source = a.source ∙ sym b.source in
     let marks = a.marks ∙ sym b.marks in
     let line = a.line ∙ sym b.line in
-    let nodes = a.spells.nodes ∙ once.nodes ∙ sym b.spells.nodes in
-    λ i. record { source = source i; marks = marks i; line = line i; parallel = once.parallel i; name = once.name i; params = once.params i; nodes = nodes i }
+    let nodes = a.spells.nodes ∙ ap (take MOST_KEPT) once.nodes ∙ sym b.spells.nodes in
+    let depths = a.spells.depths ∙ ap (λ ns. take MOST_KEPT (depths_of ns)) once.nodes ∙ sym b.spells.depths in
+    λ i. record { source = source i; marks = marks i; line = line i; parallel = once.parallel i; name = once.name i; params = once.params i; nodes = nodes i; depths = depths i }
 
 -- the events spell the second one with the tree of the first
 abbrev pub respelled : (events : List Event) (r t : RawKernel) → SpellsRaw events r → SpellsRaw events t → SpellsRaw events t
@@ -163,5 +166,6 @@ respelled events r t s u =
       spelled = s.spelled ∙ (λ i. on (opening (once.parallel i)) s.at ∷ on action.Name (once.name i) ∷ behind s);
       with_params = subst (λ ps. SpellsParams s.params ps) once.params s.with_params;
       with_statements = s.with_statements;
-      nodes = u.nodes ∙ sym once.nodes;
+      nodes = u.nodes ∙ ap (take MOST_KEPT) (sym once.nodes);
+      depths = u.depths ∙ ap (λ ns. take MOST_KEPT (depths_of ns)) (sym once.nodes);
     }
