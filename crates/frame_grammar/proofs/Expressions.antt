@@ -1,5 +1,5 @@
 -- An expression goes through all its levels, whatever token is ahead; what may follow at each of them mostly doesn't.
-use Rattle.std.proofs.Common.{◌≡◌, ℕ, ◌<◌, Bool, true, false, Result, Ok, Err, IfOk, ◌∷◌, [], List, ◌++◌, refl, arith}
+use Rattle.std.proofs.Common.{◌≡◌, ℕ, ◌<◌, Some, Bool, true, false, Result, Ok, Err, IfOk, ◌∷◌, [], List, ◌++◌, refl, arith}
 use Rattle.std.proofs.lemmas.Bool.{or_parts}
 use denote.Enum.Bare.{sameb}
 use Rattle.frame_grammar.specs.contracts.TokenKind.{the_type as the_kind}
@@ -7,6 +7,7 @@ use Rattle.frame_grammar.specs.declared.TokenKind.{TokenKind}
 use Rattle.frame_grammar.specs.declared.TokenKind.TheVariants as kind
 use Rattle.frame_grammar.specs.declared.symbols.Nonterminal.TheVariants as nonterminal
 use Rattle.frame_grammar.specs.declared.symbols.Production.TheVariants as production
+use Rattle.frame_grammar.specs.declared.symbols.Action.TheVariants as action
 use Rattle.frame_grammar.specs.declared.symbols.Symbol.{Symbol}
 use Rattle.frame_grammar.specs.declared.symbols.Symbol.TheVariants as symbol
 use Rattle.frame_grammar.specs.declared.symbols.Event.{Event}
@@ -15,10 +16,11 @@ use Rattle.frame_grammar.specs.Grammar.{body_of}
 use Rattle.frame_grammar.specs.Table.{choices_of, default_of}
 use Rattle.frame_grammar.specs.Sets.{is_nullable_of, rank_of}
 use Rattle.frame_grammar.specs.Parser.{weight, Goes, IsPart}
-use Rattle.frame_grammar.specs.Shortcuts.{multiplies, adds, compares, is_and_or, joins}
+use Rattle.frame_grammar.specs.Predict.{predicted, same_kind}
+use Rattle.frame_grammar.specs.Shortcuts.{begins_effect, multiplies, adds, compares, is_and_or, joins}
 use Rattle.frame_grammar.specs.Waiting.{after_term, symbols_of}
-use Rattle.frame_grammar.proofs.Takings.{no_factor, no_term, no_comparison, no_and, no_or}
-use Rattle.frame_grammar.proofs.Steps.{leads_start, goes_on_by}
+use Rattle.frame_grammar.proofs.Takings.{leads_go, no_factor, no_term, no_comparison, no_and, no_or}
+use Rattle.frame_grammar.proofs.Steps.{leads_start, goes_on_by, smaller}
 
 -- what an expression goes on by before any token: its first operand, and at each level what may follow there
 abbrev pub expression_levels : List Symbol
@@ -109,3 +111,23 @@ nothing_follows k place done ss sum above =
     goes_go k place done (after_term ++ ss) behind_sum ss (no_term k place done behind_sum sum)
     (goes_go k place done behind_sum behind_compared ss (no_comparison k place done behind_compared apart.0)
     (goes_go k place done behind_compared behind_and ss (no_and k place done behind_and (not_and k apart.1)) (no_or k place done ss (not_or k apart.1))))
+
+-- What is assigned to a name is an expression before any token that begins no effect.
+value_default : (k : TokenKind) → begins_effect k ≡ false → predicted nonterminal.Value k ≡ Some production.ValueExpression
+unfolding choices_of default_of same_kind
+value_default kind.TryAdd e = cc
+value_default kind.Remove e = cc
+value_default _ e = refl
+
+pub assigned_expression : (k : TokenKind) (place : ℕ) (done : List Event) (ss : List Symbol) → begins_effect k ≡ false →
+    Goes k place done (symbol.Nonterminal nonterminal.Value ∷ ss) done (expression_levels ++ symbol.Action action.SetName ∷ ss)
+unfolding body_of
+assigned_expression k place done ss e =
+    let ss0 = symbol.Nonterminal nonterminal.Value ∷ ss in
+    let named = symbol.Action action.SetName ∷ ss in
+    let predicts = value_default k e in
+    let step = levels k place done named in
+    let led = leads_go k place done done done ss0 (symbol.Nonterminal nonterminal.Expression ∷ named) (expression_levels ++ named)
+    (goes_on_by k place done done ss0 ss nonterminal.Value production.ValueExpression (leads_start k place done ss0) predicts) step in
+    let less : weight (symbol.Nonterminal nonterminal.Expression ∷ named) < weight ss0 = smaller k nonterminal.Value production.ValueExpression ss predicts in
+    (led.reached, led.closed, omega (arith, step.2, less))

@@ -11,3 +11,4 @@ mod StatementTakings
 pub mod Notes
 pub mod LineTakings
 pub mod KnownLines
+mod ValueTakings

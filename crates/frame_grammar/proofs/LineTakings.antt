@@ -1,5 +1,5 @@
 -- Lines that are taken at once are taken as the table takes them.
-use Rattle.std.proofs.Common.{zero, suc, ◌≡◌, ℕ, ◌+◌, ◌-◌, ◌<◌, ◌≤◌, ⊎_elim, Result, Ok, Err, IfOk, Bool, true, false, List, [], ◌∷◌, ◌++◌, All, length, map, get_or, slice_get, nat_lt, Option, Some, None, refl, sym, ◌∙◌, ap, subst, cond, append_assoc, arith}
+use Rattle.std.proofs.Common.{zero, suc, ◌≡◌, ℕ, ◌+◌, ◌<◌, ◌≤◌, ⊎_elim, Result, Ok, Err, IfOk, Bool, true, false, List, [], ◌∷◌, ◌++◌, All, length, map, get_or, slice_get, nat_lt, Option, Some, None, refl, sym, ◌∙◌, ap, subst, cond, append_assoc, arith}
 use Rattle.std.proofs.lemmas.List.{append-nil}
 use Rattle.std.proofs.lemmas.List.Elements.{All-cons, All-nil}
 use Rattle.std.proofs.lemmas.Bool.{and_parts, ltb-true, cases_lt}
@@ -70,6 +70,10 @@ takes_with (suc n) k place (symbol.Action a ∷ ss) left e done0 done ss0 leads 
     (subst (λ es. Takes k place done0 ss0 es found.0.stack) (append_assoc done (event ∷ []) found.0.events) step.0, step.1)
 takes_with (suc n) k place (symbol.Nonterminal m ∷ ss) left e done0 done ss0 leads =
     production_taken n k place m ss left done0 done ss0 (predicted m k) refl e leads (λ more e' led. takes_with n k place more left e' done0 done ss0 led)
+
+-- one token, from the first symbol on
+pub taken_at_once : (k : TokenKind) (place : ℕ) (ss : List Symbol) (left : Left) → taken_with 12 k place ss ≡ Some left → (done : List Event) → Takes k place done ss (done ++ left.events) left.stack
+taken_at_once k place ss left e done = (takes_with 12 k place ss left e done done ss (leads_start k place done ss)).0
 
 then_some : (o : Option Left) (more : List Symbol → Option Left) (left : Left) → then_with o more ≡ Some left →
     (l m : Left) × (o ≡ Some l) × (more l.stack ≡ Some m) × (record { events = l.events ++ m.events; stack = m.stack } ≡ left)
@@ -165,7 +169,3 @@ pub kind_there : {X : Type 0} (kind_of : X → TokenKind) (xs : List X) (x : X) 
     k ≡ get_or kinds i d → slice_get (map kind_of xs) p ≡ slice_get kinds i
 kind_there kind_of xs x p kinds i k d low small token kind wanted =
     slice_get-map kind_of xs p ∙ ap (option_map kind_of) (slice_get_read xs (length xs) p x refl low token) ∙ ap Some (sym kind ∙ wanted) ∙ sym (slice_get-get_or kinds i d small)
-
--- the end comes nearer
-pub nearer : (n place next : ℕ) → place < n → place + 1 ≤ next → n - next < n - place
-nearer n place next low on = omega (arith, low, on)

@@ -103,6 +103,8 @@ some_symbol : (w : Waiting) (ss : List Symbol) → symbols_of w ++ ss ≡ [] →
 some_symbol (waiting.Terminal k) ss e = cc
 some_symbol (waiting.Nonterminal n) ss e = cc
 some_symbol (waiting.Action a) ss e = cc
+some_symbol (waiting.LinedNonterminal n) ss e = cc
+some_symbol (waiting.LinedAction a) ss e = cc
 some_symbol waiting.AfterFactor ss e = cc
 some_symbol waiting.AfterTerm ss e = cc
 

@@ -1,5 +1,6 @@
 -- What the parser's shortcuts do is what the table says.
-use Rattle.std.proofs.Common.{◌≡◌, ℕ, ◌<◌, Bool, true, false, ◌∷◌, [], List, ◌++◌, Some, refl, sym, ◌∙◌, subst, append_assoc, arith}
+use Rattle.std.proofs.Common.{◌≡◌, ℕ, ◌<◌, ◌≤◌, ◌&&◌, ◌⊎◌, ⊎_elim, Bool, true, false, ◌∷◌, [], List, ◌++◌, Some, refl, sym, ◌∙◌, ap, subst, append_assoc, arith}
+use Rattle.std.proofs.lemmas.Bool.{and_parts}
 use denote.Enum.Bare.{sameb}
 use Rattle.frame_grammar.specs.contracts.TokenKind.{the_type as the_kind}
 use Rattle.frame_grammar.specs.declared.TokenKind.{TokenKind}
@@ -17,6 +18,9 @@ use Rattle.frame_grammar.specs.Table.{choices_of, default_of}
 use Rattle.frame_grammar.specs.Predict.{predicted, same_kind}
 use Rattle.frame_grammar.specs.Parser.{Takes, Goes, IsPart, weight}
 use Rattle.frame_grammar.specs.Shortcuts.{multiplies, adds, compares}
+use Rattle.frame_grammar.specs.Waiting.{symbols_of, is_lined, ends_line, takes_line}
+use Rattle.frame_grammar.specs.declared.waiting.Waiting.{Waiting}
+use Rattle.frame_grammar.specs.declared.waiting.Waiting.TheVariants as waiting
 use Rattle.frame_grammar.proofs.Steps.{Leads, leads_start, goes_on_by, acts, smaller}
 use Rattle.frame_grammar.proofs.Run.{shift}
 use Rattle.frame_grammar.proofs.Ends.{closes-terminal}
@@ -98,6 +102,56 @@ pub no_line_end : (k : TokenKind) (place : ℕ) (done : List Event) (ss : List S
 unfolding body_of
 no_line_end k place done ss e = leaves k place done ss nonterminal.Lines production.LinesEnd (lines_end k e) refl
 
+ends_line-is : (k : TokenKind) → ends_line k ≡ true → k ≡ kind.Line
+ends_line-is kind.Line e = refl
+ends_line-is _ e = cc
+
+ends_line-not : (k : TokenKind) → ends_line k ≡ false → sameb the_kind k kind.Line ≡ false
+ends_line-not kind.Line e = cc
+ends_line-not _ e = refl
+
+first_false : (b : Bool) → b && true ≡ false → b ≡ false
+first_false true e = cc
+first_false false e = refl
+
+-- a line end before what waits behind line ends is taken
+pub line_taken_before : (w : Waiting) (k : TokenKind) (place : ℕ) (done : List Event) (ss : List Symbol) → takes_line w k ≡ true → Takes k place done (symbols_of w ++ ss) done (symbols_of w ++ ss)
+line_taken_before (waiting.LinedNonterminal n) k place done ss e =
+    subst (λ x. Takes x place done (symbols_of (waiting.LinedNonterminal n) ++ ss) done (symbols_of (waiting.LinedNonterminal n) ++ ss)) (sym (ends_line-is k (and_parts (ends_line k) true e).0))
+    (line_end place done (symbol.Nonterminal n ∷ ss))
+line_taken_before (waiting.LinedAction a) k place done ss e =
+    subst (λ x. Takes x place done (symbols_of (waiting.LinedAction a) ++ ss) done (symbols_of (waiting.LinedAction a) ++ ss)) (sym (ends_line-is k (and_parts (ends_line k) true e).0))
+    (line_end place done (symbol.Action a ∷ ss))
+line_taken_before (waiting.Terminal j) k place done ss e = let no = (and_parts (ends_line k) false e).1 in cc
+line_taken_before (waiting.Nonterminal n) k place done ss e = let no = (and_parts (ends_line k) false e).1 in cc
+line_taken_before (waiting.Action a) k place done ss e = let no = (and_parts (ends_line k) false e).1 in cc
+line_taken_before waiting.AfterFactor k place done ss e = let no = (and_parts (ends_line k) false e).1 in cc
+line_taken_before waiting.AfterTerm k place done ss e = let no = (and_parts (ends_line k) false e).1 in cc
+
+-- what was led to, without line ends before it
+pub record LeadsNearer (k : TokenKind) (place : ℕ) (done0 : List Event) (ss0 : List Symbol) (done : List Event) (ss ss' : List Symbol) : Type 0 where
+  pub leads : Leads k place done0 ss0 done ss'
+  pub nearer : weight ss' ≤ weight ss
+
+-- any other token goes past the line ends
+pub past_lines : (w one lined : Waiting) (s : Symbol) (k : TokenKind) (place : ℕ) (done0 done : List Event) (ss0 ss : List Symbol) → symbols_of one ≡ s ∷ [] → symbols_of lined ≡ symbol.Nonterminal nonterminal.Lines ∷ s ∷ [] →
+    is_lined lined ≡ true → (w ≡ one) ⊎ (w ≡ lined) → takes_line w k ≡ false → Leads k place done0 ss0 done (symbols_of w ++ ss) → LeadsNearer k place done0 ss0 done (symbols_of w ++ ss) (s ∷ ss)
+past_lines w one lined s k place done0 done ss0 ss one_is lined_is has_lines which not_line leads =
+    ⊎_elim
+    (λ e.
+    let whole : symbols_of w ++ ss ≡ s ∷ ss = ap (λ x. symbols_of x ++ ss) e ∙ ap (λ xs. xs ++ ss) one_is in
+    record { leads = subst (Leads k place done0 ss0 done) whole leads; nearer = subst (λ xs. weight (s ∷ ss) ≤ weight xs) (sym whole) (omega arith) })
+    (λ e.
+    let whole : symbols_of w ++ ss ≡ symbol.Nonterminal nonterminal.Lines ∷ s ∷ ss = ap (λ x. symbols_of x ++ ss) e ∙ ap (λ xs. xs ++ ss) lined_is in
+    let test : ends_line k && true ≡ false = ap (λ b. ends_line k && b) (sym (ap is_lined e ∙ has_lines)) ∙ not_line in
+    let other = first_false (ends_line k) test in
+    let step = no_line_end k place done (s ∷ ss) (ends_line-not k other) in
+    record {
+      leads = leads_go k place done0 done done ss0 (symbol.Nonterminal nonterminal.Lines ∷ s ∷ ss) (s ∷ ss) (subst (Leads k place done0 ss0 done) whole leads) step;
+      nearer = subst (λ xs. weight (s ∷ ss) ≤ weight xs) (sym whole) (let less = step.2 in omega (arith, less));
+    })
+    which
+
 -- Statements of kernels
 
 pub assignment : (place : ℕ) (done : List Event) (ss : List Symbol) → Takes kind.Name place done (symbol.Nonterminal nonterminal.Statements ∷ ss)
@@ -121,6 +175,17 @@ assigned place done ss =
     let ss0 = symbol.Nonterminal nonterminal.Target ∷ ss in
     takes kind.Assign place done done ss0 (symbol.Nonterminal nonterminal.Lines ∷ symbol.Nonterminal nonterminal.Value ∷ ss)
     (goes_on_by kind.Assign place done done ss0 ss nonterminal.Target production.TargetName (leads_start kind.Assign place done ss0) refl)
+
+pub placed : (place : ℕ) (done : List Event) (ss : List Symbol) → Takes kind.OpenBracket place done (symbol.Nonterminal nonterminal.Target ∷ ss) done
+    (symbol.Nonterminal nonterminal.Lines ∷ symbol.Nonterminal nonterminal.Expression ∷ symbol.Terminal kind.CloseBracket ∷ symbol.Nonterminal nonterminal.Lines
+    ∷ symbol.Terminal kind.Assign ∷ symbol.Nonterminal nonterminal.Lines ∷ symbol.Nonterminal nonterminal.Expression ∷ symbol.Action action.SetPlace ∷ ss)
+unfolding body_of choices_of default_of same_kind
+placed place done ss =
+    let ss0 = symbol.Nonterminal nonterminal.Target ∷ ss in
+    let value = symbol.Terminal kind.Assign ∷ symbol.Nonterminal nonterminal.Lines ∷ symbol.Nonterminal nonterminal.Expression ∷ symbol.Action action.SetPlace ∷ ss in
+    let rest = symbol.Nonterminal nonterminal.Lines ∷ symbol.Nonterminal nonterminal.Expression ∷ symbol.Terminal kind.CloseBracket ∷ symbol.Nonterminal nonterminal.Lines ∷ value in
+    takes kind.OpenBracket place done done ss0 rest
+    (goes_on_by kind.OpenBracket place done done ss0 ss nonterminal.Target production.TargetPlace (leads_start kind.OpenBracket place done ss0) refl)
 
 -- Operands
 
@@ -302,14 +367,3 @@ negative place done ss =
     let body = goes_on_by kind.Minus place done done ss0 ss0 nonterminal.Signed production.SignedMinus signed refl in
     let noted = acts kind.Minus place done done ss0 (symbol.Terminal kind.Minus ∷ rest) action.Operator body in
     takes kind.Minus place done (done ++ record { action = action.Operator; place = place } ∷ []) ss0 rest noted
-
--- a value after a value
-pub next_value : (place : ℕ) (done : List Event) (ss : List Symbol) → Takes kind.Number place done (symbol.Action action.PlainNumber ∷ symbol.Nonterminal nonterminal.MoreValues ∷ ss)
-    ((done ++ record { action = action.PlainNumber; place = place } ∷ []) ++ record { action = action.Number; place = place } ∷ [])
-    (symbol.Action action.PlainNumber ∷ symbol.Nonterminal nonterminal.MoreValues ∷ ss)
-next_value place done ss =
-    let more = symbol.Nonterminal nonterminal.MoreValues ∷ ss in
-    let ss0 = symbol.Action action.PlainNumber ∷ more in
-    let whole = done ++ record { action = action.PlainNumber; place = place } ∷ [] in
-    leads_take kind.Number place done whole (whole ++ record { action = action.Number; place = place } ∷ []) ss0 more ss0
-    (acts kind.Number place done done ss0 more action.PlainNumber (leads_start kind.Number place done ss0)) (value place whole ss)

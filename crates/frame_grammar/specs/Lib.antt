@@ -8,3 +8,4 @@ pub mod Parser
 pub mod Shortcuts
 pub mod Waiting
 pub mod Lines
+pub mod Values

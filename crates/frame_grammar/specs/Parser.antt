@@ -1,5 +1,5 @@
 -- What holds of the parser's stack.
-use Rattle.std.specs.Prelude.{◌≡◌, ◌≤◌, take, ℕ, suc, ◌+◌, Bool, true, false, List, [], ◌∷◌, ◌++◌, ◌<◌, Option, Some, None, ◌⊎◌}
+use Rattle.std.specs.Prelude.{◌≡◌, ◌≤◌, take, ℕ, suc, ◌+◌, Bool, true, false, List, [], ◌∷◌, ◌++◌, ◌<◌, length, Option, Some, None, ◌⊎◌}
 use Rattle.frame_grammar.specs.declared.TokenKind.{TokenKind}
 use Rattle.frame_grammar.specs.declared.symbols.Nonterminal.{Nonterminal}
 use Rattle.frame_grammar.specs.declared.symbols.Symbol.{Symbol}
@@ -9,7 +9,7 @@ use Rattle.frame_grammar.specs.declared.shortcuts.Step.{Step}
 use Rattle.frame_grammar.specs.declared.shortcuts.Step.TheVariants.{Took, WentOn, Unknown}
 use Rattle.frame_grammar.specs.Grammar.{Derives}
 use Rattle.frame_grammar.specs.Sets.{firsts_of, is_nullable_of, barred_of, is_closed_of, rank_of}
-use Rattle.frame_grammar.specs.Sentences.{IsSentence}
+use Rattle.frame_grammar.specs.Sentences.{IsSentence, IsOnlySentence, IsFault}
 use Rattle.frame_grammar.specs.Predict.{same_kind}
 
 -- whether the token is among these
@@ -91,17 +91,17 @@ Goes ahead place done ss done' ss' =
     × (closes ss ≡ true → closes ss' ≡ true)
     × (weight ss' < weight ss)
 
--- what was done with a nonterminal that was on top of the stack
-abbrev pub IsStep : Step → TokenKind → ℕ → Nonterminal → List Event → List Symbol → List Event → List Symbol → Type 0
-IsStep Took ahead place n done ss done' ss' = Takes ahead place done (symbol.Nonterminal n ∷ ss) done' ss'
-IsStep WentOn ahead place n done ss done' ss' = Goes ahead place done (symbol.Nonterminal n ∷ ss) done' ss'
-IsStep Unknown ahead place n done ss done' ss' = (done' ≡ done) × (ss' ≡ ss)
-
 -- what was done with these symbols, which were on top of the stack: the token ahead was taken, or not yet
 abbrev pub IsPart : Bool → TokenKind → ℕ → (part : List Symbol) → List Event → List Symbol → List Event →
     List Symbol → Type 0
 IsPart true ahead place part done ss done' ss' = Takes ahead place done (part ++ ss) done' ss'
 IsPart false ahead place part done ss done' ss' = Goes ahead place done (part ++ ss) done' ss'
+
+-- what was done with a nonterminal that was on top of the stack
+abbrev pub IsStep : Step → TokenKind → ℕ → Nonterminal → List Event → List Symbol → List Event → List Symbol → Type 0
+IsStep Took ahead place n done ss done' ss' = IsPart true ahead place (symbol.Nonterminal n ∷ []) done ss done' ss'
+IsStep WentOn ahead place n done ss done' ss' = IsPart false ahead place (symbol.Nonterminal n ∷ []) done ss done' ss'
+IsStep Unknown ahead place n done ss done' ss' = (done' ≡ done) × (ss' ≡ ss)
 
 -- What holds between two tokens: the stack is reached, it closes, and no front of the tokens so far was a sentence.
 pub record Between (start : Nonterminal) (tokens : List TokenKind) (place : ℕ) (done : List Event)
@@ -114,3 +114,17 @@ pub record Between (start : Nonterminal) (tokens : List TokenKind) (place : ℕ)
 abbrev pub Stops : TokenKind → ℕ → List Event → List Symbol → Type 0
 Stops ahead place done ss = (start : Nonterminal) (read : List TokenKind) → IsReachedAt start ahead place done read ss →
     (es : List Event) (ks : List TokenKind) → first_of ks ≡ Some ahead → IsSentence start es (read ++ ks) → ⊥
+
+-- No sentence has the token at a place there.
+abbrev pub StopsFrom : List TokenKind → ℕ → List Event → List Symbol → Type 0
+StopsFrom tokens place done ss = (start : Nonterminal) → Between start tokens place done ss → IsFault start tokens place
+
+-- The tokens from one place to another were taken: they end a sentence, or more is to come.
+pub record TakesFrom (tokens : List TokenKind) (place next : ℕ) (done : List Event) (ss : List Symbol)
+    (done' : List Event) (ss' : List Symbol) : Type 0 where
+  pub on : place < next
+  pub within : next ≤ length tokens
+  pub ended : (start : Nonterminal) → Between start tokens place done ss → ss' ≡ [] →
+      IsOnlySentence start tokens next done'
+  pub more : (start : Nonterminal) → Between start tokens place done ss → (ss' ≡ [] → ⊥) →
+      Between start tokens next done' ss'

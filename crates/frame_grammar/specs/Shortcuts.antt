@@ -1,7 +1,7 @@
 -- Kinds of tokens that steps of the parser tell from each other.
 use Rattle.std.specs.Prelude.{Bool, true, false, ◌||◌}
 use Rattle.frame_grammar.specs.declared.TokenKind.{TokenKind}
-use Rattle.frame_grammar.specs.declared.TokenKind.TheVariants.{Star, Slash, Percent, Plus, Minus, Equal, NotEqual, Less, LessEqual, Greater, GreaterEqual, AndAnd, OrOr, Temp, TempJob, Persistent}
+use Rattle.frame_grammar.specs.declared.TokenKind.TheVariants.{Star, Slash, Percent, Plus, Minus, Equal, NotEqual, Less, LessEqual, Greater, GreaterEqual, AndAnd, OrOr, TryAdd, Remove, Temp, TempJob, Persistent}
 
 -- * / %
 abbrev pub multiplies : TokenKind → Bool
@@ -35,6 +35,12 @@ is_and_or _ = false
 -- operators of the levels above a sum
 abbrev pub joins : TokenKind → Bool
 joins k = compares k || is_and_or k
+
+-- try_add remove
+abbrev pub begins_effect : TokenKind → Bool
+begins_effect TryAdd = true
+begins_effect Remove = true
+begins_effect _ = false
 
 -- temp tempjob persistent
 abbrev pub tells_life : TokenKind → Bool

@@ -1,6 +1,8 @@
 -- What waits on the parser's stack.
-use Rattle.std.specs.Prelude.{List, [], ◌∷◌, ◌++◌, reverse}
-use Rattle.frame_grammar.specs.declared.symbols.Nonterminal.TheVariants.{MoreTerm, MoreSum, Compared, MoreAnd, MoreOr}
+use Rattle.std.specs.Prelude.{Bool, true, false, ◌&&◌, List, [], ◌∷◌, ◌++◌, reverse}
+use Rattle.frame_grammar.specs.declared.TokenKind.{TokenKind}
+use Rattle.frame_grammar.specs.declared.TokenKind.TheVariants.{Line}
+use Rattle.frame_grammar.specs.declared.symbols.Nonterminal.TheVariants.{Lines, MoreTerm, MoreSum, Compared, MoreAnd, MoreOr}
 use Rattle.frame_grammar.specs.declared.symbols.Symbol.{Symbol}
 use Rattle.frame_grammar.specs.declared.symbols.Symbol.TheVariants as symbol
 use Rattle.frame_grammar.specs.declared.waiting.Waiting.{Waiting}
@@ -17,8 +19,24 @@ abbrev pub symbols_of : Waiting → List Symbol
 symbols_of (waiting.Terminal k) = symbol.Terminal k ∷ []
 symbols_of (waiting.Nonterminal n) = symbol.Nonterminal n ∷ []
 symbols_of (waiting.Action a) = symbol.Action a ∷ []
+symbols_of (waiting.LinedNonterminal n) = symbol.Nonterminal Lines ∷ symbol.Nonterminal n ∷ []
+symbols_of (waiting.LinedAction a) = symbol.Nonterminal Lines ∷ symbol.Action a ∷ []
 symbols_of waiting.AfterFactor = symbol.Nonterminal MoreTerm ∷ after_term
 symbols_of waiting.AfterTerm = after_term
+
+-- line ends may stand before it
+abbrev pub is_lined : Waiting → Bool
+is_lined (waiting.LinedNonterminal n) = true
+is_lined (waiting.LinedAction a) = true
+is_lined _ = false
+
+abbrev pub ends_line : TokenKind → Bool
+ends_line Line = true
+ends_line _ = false
+
+-- the token ahead is a line end that stands before it
+abbrev pub takes_line : Waiting → TokenKind → Bool
+takes_line w k = ends_line k && is_lined w
 
 -- a symbol that waits by itself
 abbrev pub alone : Symbol → Waiting

@@ -2,6 +2,7 @@
 
 ghost use Rattle.std.specs.Prelude.{◌≡◌, ℕ, ◌<◌, ◌^◌, List, ◌∷◌, ◌++◌, [], IfOk};
 ghost use Rattle.frame_grammar.specs.declared.TokenKind.{TokenKind};
+ghost use Rattle.frame_grammar.specs.declared.symbols.Action.TheVariants as action;
 ghost use Rattle.frame_grammar.specs.declared.symbols.Nonterminal.TheVariants as nonterminal;
 ghost use Rattle.frame_grammar.specs.declared.symbols.Symbol.{Symbol};
 ghost use Rattle.frame_grammar.specs.declared.symbols.Event.{Event};
@@ -16,7 +17,7 @@ use crate::note::Note;
 use crate::shortcuts::Step;
 use crate::stack::{note, put};
 use crate::symbols::{Action as A, Nonterminal as N};
-use crate::waiting::Waiting::{self, Nonterminal};
+use crate::waiting::Waiting::{self, LinedNonterminal, Nonterminal};
 use std::alloc::AllocError;
 
 // The operators of each level
@@ -55,6 +56,28 @@ fn joins(kind: K) -> bool
     compares(kind) || is_and_or(kind)
 }
 
+// Takes an operator: its right side waits, and behind that what may follow the whole.
+#[inline(always)]
+fn take_operator(
+    stack: &mut Vec<Waiting>,
+    events: &mut Vec<Note>,
+    more: Waiting,
+    side: N,
+    place: u32,
+) -> Result<(), AllocError>
+    requires { place < 2 ^ 25 }
+    ensures events { IfOk result (λ _. events_of events.new.items ≡ events_of events.old.items
+        ++ record { action = action.Operator; place = place } ∷ []) }
+    ensures stack { IfOk result (λ _. stack.new.items ≡ stack.old.items
+        ++ more ∷ waiting.Action action.Binary ∷ waiting.LinedNonterminal side ∷ []) }
+{
+    note(events, A::Operator, place)?;
+    put(
+        stack,
+        &[more, Waiting::Action(A::Binary), LinedNonterminal(side)],
+    )
+}
+
 // Steps of each nonterminal
 
 // Goes through all levels, since no token decides between them.
@@ -86,16 +109,7 @@ pub fn more_factors(
         (standing stack.old.items) (events_of events.new.items) (standing stack.new.items)) }
 {
     if multiplies(ahead) {
-        note(events, A::Operator, place)?;
-        put(
-            stack,
-            &[
-                Nonterminal(N::MoreTerm),
-                Waiting::Action(A::Binary),
-                Nonterminal(N::Unary),
-                Nonterminal(N::Lines),
-            ],
-        )?;
+        take_operator(stack, events, Nonterminal(N::MoreTerm), N::Unary, place)?;
         Ok(Step::Took)
     } else {
         Ok(Step::WentOn)
@@ -113,16 +127,7 @@ pub fn more_terms(
         (standing stack.old.items) (events_of events.new.items) (standing stack.new.items)) }
 {
     if adds(ahead) {
-        note(events, A::Operator, place)?;
-        put(
-            stack,
-            &[
-                Nonterminal(N::MoreSum),
-                Waiting::Action(A::Binary),
-                Nonterminal(N::Term),
-                Nonterminal(N::Lines),
-            ],
-        )?;
+        take_operator(stack, events, Nonterminal(N::MoreSum), N::Term, place)?;
         Ok(Step::Took)
     } else {
         Ok(Step::WentOn)
@@ -178,16 +183,7 @@ pub fn after_term(
         (standing stack.old.items) (events_of events.new.items) (standing stack.new.items)) }
 {
     if adds(ahead) {
-        note(events, A::Operator, place)?;
-        put(
-            stack,
-            &[
-                Waiting::AfterTerm,
-                Waiting::Action(A::Binary),
-                Nonterminal(N::Term),
-                Nonterminal(N::Lines),
-            ],
-        )?;
+        take_operator(stack, events, Waiting::AfterTerm, N::Term, place)?;
         Ok(true)
     } else if joins(ahead) {
         put(
@@ -219,16 +215,7 @@ pub fn after_factor(
         (standing stack.new.items)) }
 {
     if multiplies(ahead) {
-        note(events, A::Operator, place)?;
-        put(
-            stack,
-            &[
-                Waiting::AfterFactor,
-                Waiting::Action(A::Binary),
-                Nonterminal(N::Unary),
-                Nonterminal(N::Lines),
-            ],
-        )?;
+        take_operator(stack, events, Waiting::AfterFactor, N::Unary, place)?;
         Ok(true)
     } else {
         after_term(stack, events, ahead, place)

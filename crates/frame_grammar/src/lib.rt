@@ -15,6 +15,8 @@ mod symbols;
 mod table;
 #[cfg(test)]
 mod tests;
+mod token_at;
+mod values;
 mod waiting;
 
 ghost use Rattle.std.specs.Prelude.{◌≡◌};
@@ -22,6 +24,7 @@ ghost use Rattle.std.specs.Prelude.{◌≡◌};
 pub use note::Note;
 pub use parser::{ParseError, Sentence, parse};
 pub use symbols::{Action, Event, Nonterminal, Production, Symbol};
+pub use token_at::TokenAt;
 
 /// A token, of which the parser asks its kind alone.
 pub trait HasKind {

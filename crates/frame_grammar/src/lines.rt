@@ -310,9 +310,10 @@ fn are_at<T: HasKind>(kinds: &[K], tokens: &[T], place: usize) -> bool
     if tokens.len() - place < kinds.len() {
         return false;
     }
-    for index in 0..kinds.len() {
-        let kind = kinds[index];
-        if tokens[place + index].kind() != kind {
+    // A list of the same length, so that its places need no test.
+    let ahead = &tokens[place..place + kinds.len()];
+    for (index, kind) in kinds.iter().enumerate() {
+        if ahead[index].kind() != *kind {
             return false;
         }
     }

@@ -7,6 +7,7 @@ ghost use Rattle.std.specs.Prelude.{◌≡◌, ◌<◌, ◌^◌};
 ghost use Rattle.frame_grammar.specs.declared.note.TheConstants.{ACTIONS};
 ghost use Rattle.frame_grammar.specs.Notes.{action_of, event_of};
 
+use crate::TokenAt;
 use crate::symbols::{Action, Event};
 
 /// How many actions a note could tell from each other.
@@ -174,7 +175,7 @@ impl Note {
     {
         Event {
             action: action_of(self.word % MOST_ACTIONS),
-            place: self.word / MOST_ACTIONS,
+            place: TokenAt::of(self.word / MOST_ACTIONS),
         }
     }
 }

@@ -1,23 +1,25 @@
 //! A predictive parser with a stack of its own.
 
-ghost use Rattle.std.specs.Prelude.{true, Some, slice_get, ◌≡◌, ◌-◌, ℕ, ◌<◌, ◌^◌, List, ◌++◌, [], ◌∷◌, length, map, IfOk, MatchBool};
+ghost use Rattle.std.specs.Prelude.{true, Some, slice_get, ◌≡◌, ◌-◌, ℕ, ◌<◌, ◌^◌, List, ◌++◌, [], ◌∷◌, length, map, IfOk, MatchOption};
 ghost use Rattle.frame_grammar.specs.declared.symbols.Nonterminal.TheVariants.{Items};
 ghost use Rattle.frame_grammar.specs.declared.waiting.Waiting.TheVariants as waiting;
 ghost use Rattle.frame_grammar.specs.Sentences.{IsStart, IsEnded, IsOnlySentence, IsFault};
 ghost use Rattle.frame_grammar.specs.Predict.{found, predicted};
 ghost use Rattle.frame_grammar.specs.Notes.{events_of};
 ghost use Rattle.frame_grammar.specs.Waiting.{standing};
-ghost use Rattle.frame_grammar.specs.Parser.{Takes, Stops};
+ghost use Rattle.frame_grammar.specs.Parser.{StopsFrom, TakesFrom};
+ghost use Rattle.frame_grammar.specs.Values.{IsTaken};
 
 use crate::levels::{after_factor, after_term};
 use crate::lines::take_lines;
 use crate::note::Note;
-use crate::shortcuts::{Step, known_step, take_next_value};
+use crate::shortcuts::{Step, known_step};
 use crate::stack::push_body;
 use crate::symbols::{Nonterminal, Production};
 use crate::table::{choices, default_production};
-use crate::waiting::Waiting;
-use crate::{HasKind, TokenKind};
+use crate::values::{Value, take_next_value, take_values};
+use crate::waiting::{Waiting, takes_line};
+use crate::{HasKind, TokenAt, TokenKind};
 use std::alloc::{AllocError, AllocFailed, Global};
 
 /// A sentence that tokens begin with.
@@ -35,7 +37,7 @@ pub enum ParseError {
     /// There is no memory.
     Memory,
     /// The token at this place is the first that no sentence has there.
-    Syntax(u32),
+    Syntax(TokenAt),
 }
 
 impl From<AllocError> for ParseError {
@@ -79,35 +81,51 @@ fn predict(nonterminal: Nonterminal, ahead: TokenKind) -> Option<Production>
     default_production(nonterminal)
 }
 
-/// Goes on by productions until the token ahead is on top of the stack, and takes it. Says whether
-/// it could.
+/// What was done with the token ahead.
+#[derive(Clone, Copy, Debug, PartialEq, Eq)]
+enum Taken {
+    /// Nothing: no sentence has it there.
+    None,
+    Token,
+    /// It is of a value of an array, which is read so far. Its rest isn't on the stack.
+    Value(Value),
+}
+
+/// Goes on by productions until the token ahead is on top of the stack, and takes it. Says whether it could.
 fn advance(
     stack: &mut Vec<Waiting>,
     events: &mut Vec<Note>,
     ahead: TokenKind,
     place: u32,
-) -> Result<bool, AllocError>
+) -> Result<Taken, AllocError>
     requires { place < 2 ^ 25 }
-    ensures { IfOk result (λ taken. MatchBool taken
-        (Takes ahead place (events_of events.old.items) (standing stack.old.items) (events_of events.new.items)
-        (standing stack.new.items))
-        (Stops ahead place (events_of events.old.items) (standing stack.old.items))) }
+    ensures { IfOk result (λ taken. IsTaken taken ahead place (events_of events.old.items) (standing stack.old.items)
+        (events_of events.new.items) (standing stack.new.items)) }
 {
     while let Some(next) = stack.pop() {
+        if takes_line(next, ahead) {
+            stack.push(next)?;
+            return Ok(Taken::Token);
+        }
         match next {
-            Waiting::Terminal(kind) => return Ok(kind == ahead),
-            Waiting::Action(action) => {
-                if take_next_value(stack, events, action, ahead, place)? {
-                    return Ok(true);
+            Waiting::Terminal(kind) => {
+                if kind == ahead {
+                    return Ok(Taken::Token);
+                }
+                return Ok(Taken::None);
+            }
+            Waiting::Action(action) | Waiting::LinedAction(action) => {
+                if let Some(value) = take_next_value(stack, events, action, ahead, place)? {
+                    return Ok(Taken::Value(value));
                 }
                 events.push(Note::of(action, place))?;
             }
-            Waiting::Nonterminal(nonterminal) => {
+            Waiting::Nonterminal(nonterminal) | Waiting::LinedNonterminal(nonterminal) => {
                 match known_step(stack, events, nonterminal, ahead, place)? {
-                    Step::Took => return Ok(true),
+                    Step::Took => return Ok(Taken::Token),
                     Step::WentOn => {}
                     Step::Unknown => match predict(nonterminal, ahead) {
-                        None => return Ok(false),
+                        None => return Ok(Taken::None),
                         Some(production) => {
                             push_body(stack, production)?;
                         }
@@ -116,17 +134,42 @@ fn advance(
             }
             Waiting::AfterFactor => {
                 if after_factor(stack, events, ahead, place)? {
-                    return Ok(true);
+                    return Ok(Taken::Token);
                 }
             }
             Waiting::AfterTerm => {
                 if after_term(stack, events, ahead, place)? {
-                    return Ok(true);
+                    return Ok(Taken::Token);
                 }
             }
         }
     }
-    Ok(false)
+    Ok(Taken::None)
+}
+
+/// Takes the token at a place, and if it is of a value of an array, the values after it too. Answers the place of the
+/// next token, or none where no sentence has the token there.
+fn take_from<T: HasKind>(
+    stack: &mut Vec<Waiting>,
+    events: &mut Vec<Note>,
+    tokens: &[T],
+    place: usize,
+) -> Result<Option<usize>, AllocError>
+    requires within { place < length tokens.now }
+    requires few { length tokens.now < 2 ^ 25 }
+    ensures { IfOk result (λ next. MatchOption next
+        (StopsFrom (map T.kind_of tokens.now) place (events_of events.old.items) (standing stack.old.items))
+        (λ next. TakesFrom (map T.kind_of tokens.now) place next (events_of events.old.items)
+        (standing stack.old.items) (events_of events.new.items) (standing stack.new.items))) }
+{
+    match advance(stack, events, tokens[place].kind(), place as u32)? {
+        Taken::None => Ok(None),
+        Taken::Token => Ok(Some(place + 1)),
+        Taken::Value(value) => {
+            let next = take_values(stack, events, tokens, place + 1, value)?;
+            Ok(Some(next))
+        }
+    }
 }
 
 // Whether items of a file are next, and stand in no block. Within kernels the stack is never so low.
@@ -165,10 +208,10 @@ pub fn parse<T: HasKind>(
     let mut events = Vec::new(alloc);
     let mut place = 0;
     while place < tokens.len() {
-        if !advance(&mut stack, &mut events, tokens[place].kind(), place as u32)? {
-            return Err(ParseError::Syntax(place as u32));
-        }
-        place += 1;
+        let Some(next) = take_from(&mut stack, &mut events, tokens, place)? else {
+            return Err(ParseError::Syntax(TokenAt::of(place as u32)));
+        };
+        place = next;
         if stack.is_empty() {
             return Ok(Sentence {
                 events,

@@ -14,6 +14,7 @@ ghost use Rattle.frame_grammar.specs.declared.symbols.Event.{Event};
 ghost use Rattle.frame_grammar.specs.declared.waiting.Waiting.TheVariants as waiting;
 ghost use Rattle.frame_grammar.specs.Notes.{events_of};
 ghost use Rattle.frame_grammar.specs.Waiting.{standing};
+ghost use Rattle.frame_grammar.specs.Shortcuts.{begins_effect};
 ghost use Rattle.frame_grammar.specs.Parser.{Takes, IsStep};
 
 use crate::TokenKind as K;
@@ -22,7 +23,7 @@ use crate::note::Note;
 use crate::stack::{note, note_both, put};
 use crate::statements::statement_step;
 use crate::symbols::{Action as A, Nonterminal as N};
-use crate::waiting::Waiting::{self, Nonterminal, Terminal};
+use crate::waiting::Waiting::{self, LinedAction, LinedNonterminal, Nonterminal, Terminal};
 use std::alloc::AllocError;
 
 /// What was done with the nonterminal that was on top of the stack.
@@ -66,11 +67,9 @@ fn statements(
             put(
                 stack,
                 &[
-                    Nonterminal(N::Statements),
-                    Nonterminal(N::Lines),
+                    LinedNonterminal(N::Statements),
                     Terminal(K::Semicolon),
-                    Nonterminal(N::Target),
-                    Nonterminal(N::Lines),
+                    LinedNonterminal(N::Target),
                 ],
             )?;
             Ok(Step::Took)
@@ -85,11 +84,50 @@ fn target(stack: &mut Vec<Waiting>, ahead: K) -> Result<Step, AllocError>
 {
     match ahead {
         K::Assign => {
-            put(stack, &[Nonterminal(N::Value), Nonterminal(N::Lines)])?;
+            put(stack, &[LinedNonterminal(N::Value)])?;
+            Ok(Step::Took)
+        }
+        K::OpenBracket => {
+            put(
+                stack,
+                &[
+                    Waiting::Action(A::SetPlace),
+                    LinedNonterminal(N::Expression),
+                    Terminal(K::Assign),
+                    Nonterminal(N::Lines),
+                    Terminal(K::CloseBracket),
+                    LinedNonterminal(N::Expression),
+                ],
+            )?;
             Ok(Step::Took)
         }
         _ => Ok(Step::Unknown),
     }
+}
+
+fn begins_effect(kind: K) -> bool
+    ensures { result ≡ begins_effect kind }
+{
+    matches!(kind, K::TryAdd | K::Remove)
+}
+
+// What is assigned to a name: an expression, or what an effect answers.
+fn value(stack: &mut Vec<Waiting>, ahead: K) -> Result<Step, AllocError>
+    ensures { IfOk result (λ step. (place : ℕ) (done : List Event) →
+        IsStep step ahead place nonterminal.Value done (standing stack.old.items) done (standing stack.new.items)) }
+{
+    if begins_effect(ahead) {
+        return Ok(Step::Unknown);
+    }
+    put(
+        stack,
+        &[
+            Waiting::Action(A::SetName),
+            Waiting::AfterFactor,
+            Nonterminal(N::Unary),
+        ],
+    )?;
+    Ok(Step::WentOn)
 }
 
 fn operand(
@@ -105,23 +143,17 @@ fn operand(
     match ahead {
         K::Name => {
             note_both(events, A::StartAtom, A::Name, place)?;
-            put(stack, &[Nonterminal(N::Place), Nonterminal(N::Lines)])?;
+            put(stack, &[LinedNonterminal(N::Place)])?;
             Ok(Step::Took)
         }
         K::Number => {
             note(events, A::Number, place)?;
-            put(
-                stack,
-                &[Waiting::Action(A::NumberAtom), Nonterminal(N::Lines)],
-            )?;
+            put(stack, &[LinedAction(A::NumberAtom)])?;
             Ok(Step::Took)
         }
         K::Index => {
             note(events, A::StartAtom, place)?;
-            put(
-                stack,
-                &[Waiting::Action(A::IndexAtom), Nonterminal(N::Lines)],
-            )?;
+            put(stack, &[LinedAction(A::IndexAtom)])?;
             Ok(Step::Took)
         }
         K::OpenParen => {
@@ -130,8 +162,7 @@ fn operand(
                 &[
                     Nonterminal(N::Lines),
                     Terminal(K::CloseParen),
-                    Nonterminal(N::Expression),
-                    Nonterminal(N::Lines),
+                    LinedNonterminal(N::Expression),
                 ],
             )?;
             Ok(Step::Took)
@@ -155,11 +186,9 @@ fn place_of_name(
         put(
             stack,
             &[
-                Waiting::Action(A::PlaceAtom),
-                Nonterminal(N::Lines),
+                LinedAction(A::PlaceAtom),
                 Terminal(K::CloseBracket),
-                Nonterminal(N::Expression),
-                Nonterminal(N::Lines),
+                LinedNonterminal(N::Expression),
             ],
         )?;
         Ok(Step::Took)
@@ -222,6 +251,7 @@ pub fn known_step(
         N::Statements => statements(stack, events, ahead, place),
         N::Target => target(stack, ahead),
         N::Expression => expression(stack),
+        N::Value => value(stack, ahead),
         N::Term => term(stack),
         N::Unary => operand(stack, events, ahead, place),
         N::Place => place_of_name(stack, events, ahead, place),
@@ -232,41 +262,5 @@ pub fn known_step(
         N::MoreOr => Ok(more_or(ahead)),
         N::MoreValues => more_values(stack, events, ahead, place),
         _ => statement_step(stack, events, nonterminal, ahead, place),
-    }
-}
-
-// Whether values of an array are what is on top of the stack.
-fn has_values_on_top(stack: &[Waiting]) -> bool
-    ensures { result ≡ true →
-        slice_get stack.now (length stack.now - 1) ≡ Some (waiting.Nonterminal nonterminal.MoreValues) }
-{
-    match stack.last().copied() {
-        Some(Nonterminal(N::MoreValues)) => true,
-        _ => false,
-    }
-}
-
-/// Takes the next value of an array, where the value before it is whole with the action that was on top of the stack.
-/// Else nothing changes. Says whether it did.
-pub fn take_next_value(
-    stack: &mut Vec<Waiting>,
-    events: &mut Vec<Note>,
-    action: A,
-    ahead: K,
-    place: u32,
-) -> Result<bool, AllocError>
-    requires { place < 2 ^ 25 }
-    ensures { IfOk result (λ taken. MatchBool taken
-        (Takes ahead place (events_of events.old.items) (symbol.Action action ∷ standing stack.old.items)
-        (events_of events.new.items) (standing stack.new.items))
-        ((events_of events.new.items ≡ events_of events.old.items) × (stack.new.items ≡ stack.old.items))) }
-{
-    match (action, ahead) {
-        (A::PlainNumber, K::Number) if has_values_on_top(stack) => {
-            note_both(events, A::PlainNumber, A::Number, place)?;
-            put(stack, &[Waiting::Action(A::PlainNumber)])?;
-            Ok(true)
-        }
-        _ => Ok(false),
     }
 }

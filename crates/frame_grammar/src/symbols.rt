@@ -1,6 +1,6 @@
 //! What the grammar is made of.
 
-use crate::TokenKind;
+use crate::{TokenAt, TokenKind};
 
 /// A nonterminal: what its productions derive. `File` and `Kernel` are the start symbols.
 #[derive(Clone, Copy, Debug, PartialEq, Eq)]
@@ -184,11 +184,11 @@ pub enum Symbol {
     Action(Action),
 }
 
-/// An action, and how many tokens stood before it.
+/// An action, and the token before which it was done.
 #[derive(Clone, Copy, Debug, PartialEq, Eq)]
 pub struct Event {
     pub action: Action,
-    pub place: u32,
+    pub place: TokenAt,
 }
 
 // TO ADD A STATEMENT: 2, its production, and above the actions that its text notes, of which the last ends it.

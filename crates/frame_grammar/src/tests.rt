@@ -6,6 +6,14 @@ use crate::{Nonterminal, ParseError, parse};
 use std::alloc::Global;
 use std::test::Fail;
 
+/// Where a fault is.
+fn place_of(error: ParseError) -> u32 {
+    match error {
+        ParseError::Syntax(at) => at.place(),
+        ParseError::Memory => u32::MAX,
+    }
+}
+
 /// How many tokens the sentence has that these kinds and an end begin with, or where its fault is.
 fn read(alloc: Global, start: Nonterminal, kinds: &[TokenKind]) -> Result<Result<u32, u32>, Fail>
     requires start { IsStart start }
@@ -15,8 +23,7 @@ fn read(alloc: Global, start: Nonterminal, kinds: &[TokenKind]) -> Result<Result
     tokens.push(End)?;
     match parse(alloc, start, tokens.as_slice()) {
         Ok(sentence) => Ok(Ok(sentence.read)),
-        Err(ParseError::Syntax(place)) => Ok(Err(place)),
-        Err(ParseError::Memory) => Ok(Err(u32::MAX)),
+        Err(error) => Ok(Err(place_of(error))),
     }
 }
 

@@ -6,10 +6,10 @@ use Rattle.frame_grammar.proofs.Stacks.{behind}
 use Rattle.frame_grammar.proofs.Expressions.{part_of_factor}
 use Rattle.frame_grammar.proofs.levels.after_factor.Goals as goal
 
-pub returns-in_ok-put : goal.returns-in_ok-put
-returns-in_ok-put c =
-    told c.args.ahead c.args.ahead c.args.place (events_of c.args.events.now.items) _ _ _ _ _ refl c.in_ok-note.ensures
-    (behind c.args.stack.now.items _ _ c.in_ok-put.ensures)
+pub returns-in_ok-take_operator : goal.returns-in_ok-take_operator
+returns-in_ok-take_operator c =
+    told c.args.ahead c.args.ahead c.args.place (events_of c.args.events.now.items) _ _ _ _ _ refl c.in_ok-take_operator.ensures.events
+    (behind c.args.stack.now.items _ _ c.in_ok-take_operator.ensures.stack)
     (factor c.args.ahead c.args.place (events_of c.args.events.now.items) (after_term ++ standing c.args.stack.now.items) (sym c.multiplies.ensures ∙ c.if-multiplies.true))
 
 pub returns-else-multiplies : goal.returns-else-multiplies

@@ -6,16 +6,16 @@ use Rattle.frame_grammar.proofs.Stacks.{behind}
 use Rattle.frame_grammar.proofs.Expressions.{above_sum, nothing_follows}
 use Rattle.frame_grammar.proofs.levels.after_term.Goals as goal
 
-pub returns-in_ok-put : goal.returns-in_ok-put
-returns-in_ok-put c =
-    told c.args.ahead c.args.ahead c.args.place (events_of c.args.events.now.items) _ _ _ _ _ refl c.in_ok-note.ensures
-    (behind c.args.stack.now.items _ _ c.in_ok-put.ensures)
+pub returns-in_ok-take_operator : goal.returns-in_ok-take_operator
+returns-in_ok-take_operator c =
+    told c.args.ahead c.args.ahead c.args.place (events_of c.args.events.now.items) _ _ _ _ _ refl c.in_ok-take_operator.ensures.events
+    (behind c.args.stack.now.items _ _ c.in_ok-take_operator.ensures.stack)
     (term c.args.ahead c.args.place (events_of c.args.events.now.items) (above_sum (standing c.args.stack.now.items)) (sym c.adds.ensures ∙ c.if-adds.true))
 
-pub returns-in_ok-put-2 : goal.returns-in_ok-put-2
-returns-in_ok-put-2 c =
+pub returns-in_ok-put : goal.returns-in_ok-put
+returns-in_ok-put c =
     told_going c.args.ahead c.args.place (events_of c.args.events.now.items) _ _ _ _ _ refl
-    (behind c.args.stack.now.items _ _ c.in_ok-put-2.ensures)
+    (behind c.args.stack.now.items _ _ c.in_ok-put.ensures)
     (no_term c.args.ahead c.args.place (events_of c.args.events.now.items) (above_sum (standing c.args.stack.now.items)) (sym c.adds.ensures ∙ c.if-adds.false))
 
 pub returns-else-joins : goal.returns-else-joins

@@ -5,10 +5,10 @@ use Rattle.frame_grammar.proofs.Takings.{told, term, no_term}
 use Rattle.frame_grammar.proofs.Stacks.{behind}
 use Rattle.frame_grammar.proofs.levels.more_terms.Goals as goal
 
-pub returns-in_ok-put : goal.returns-in_ok-put
-returns-in_ok-put c =
-    told c.args.ahead c.args.ahead c.args.place (events_of c.args.events.now.items) _ _ _ _ _ refl c.in_ok-note.ensures
-    (behind c.args.stack.now.items _ _ c.in_ok-put.ensures)
+pub returns-in_ok-take_operator : goal.returns-in_ok-take_operator
+returns-in_ok-take_operator c =
+    told c.args.ahead c.args.ahead c.args.place (events_of c.args.events.now.items) _ _ _ _ _ refl c.in_ok-take_operator.ensures.events
+    (behind c.args.stack.now.items _ _ c.in_ok-take_operator.ensures.stack)
     (term c.args.ahead c.args.place (events_of c.args.events.now.items) (standing c.args.stack.now.items) (sym c.adds.ensures ∙ c.if-adds.true))
 
 pub returns-else-adds : goal.returns-else-adds
