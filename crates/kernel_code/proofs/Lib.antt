@@ -51,6 +51,7 @@ pub mod Fitting
 pub mod Levels
 pub mod DepthLimits
 pub mod ParamLimits
+pub mod ParamNames
 pub mod Limits
 pub mod Checking
 pub mod Decimals

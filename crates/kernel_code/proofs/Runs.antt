@@ -1,5 +1,6 @@
 -- How far a run of bytes goes, and the longest word where the words are such runs.
-use Rattle.std.proofs.Common.{◌≡◌, ℕ, zero, suc, ◌<◌, ◌≤◌, Bool, true, false, List, [], ◌∷◌, length, take, get_or, ◌∙◌, refl, ap, ⊎_elim, arith}
+use Rattle.std.proofs.Common.{◌≡◌, ℕ, zero, suc, ◌+◌, ◌<◌, ◌≤◌, Bool, true, false, List, [], ◌∷◌, length, take, drop, get_or, ◌∙◌, refl, sym, ap, ⊎_elim, arith, length-drop, get_or-drop}
+use Rattle.std.proofs.lemmas.List.Sums.{prefix_len-drop_yes}
 use Rattle.std.specs.List.{list_all, prefix_len}
 use Rattle.std.proofs.lemmas.Bool.{cases_Bool, cond-true, cond-false, and_left, and_right, and_from}
 use Rattle.kernel_code.specs.Words.{is_word}
@@ -60,3 +61,11 @@ longest_run p first others words =
     (omega (arith, prefix_len-le p others))
     (λ _. words (take (prefix_len p others) others) ∙ run_passes p others)
     (longer_fails p first others words)
+
+-- a run of which the bytes from a place on are at hand goes on by one that passes
+pub run_on : (p : ℕ → Bool) (xs rest : List ℕ) (end k m total : ℕ) → rest ≡ drop end xs → m ≡ end + k → k < length rest → p (get_or rest k 0) ≡ true →
+    m + prefix_len p (drop m xs) ≡ total → m + 1 + prefix_len p (drop (m + 1) xs) ≡ total
+run_on p xs rest end k m total is at within pass run =
+    let read : p (get_or xs m 0) ≡ true = ap (λ n. p (get_or xs n 0)) at ∙ ap p (sym (get_or-drop end xs k 0)) ∙ ap (λ ys. p (get_or ys k 0)) (sym is) ∙ pass in
+    let inside : m < length xs = omega (arith, at, within, ap length is, length-drop end xs) in
+    omega (arith, run, prefix_len-drop_yes p xs m 0 inside read)

@@ -1,6 +1,7 @@
 -- What is known of the names of a kernel before a node.
-use Rattle.std.specs.Prelude.{◌≡◌, ℕ, ◌≤◌, nat_le, nat_lt, ◌==◌, ◌&&◌, Bool, true, false, if◌then◌else◌, List, [], ◌∷◌, ◌+◌, length, take, Option, Some, None}
+use Rattle.std.specs.Prelude.{◌≡◌, ℕ, ◌≤◌, nat_le, nat_lt, ◌==◌, ◌&&◌, Bool, true, false, if◌then◌else◌, List, [], ◌∷◌, ◌+◌, length, map, take, Option, Some, None}
 use Rattle.std.specs.List.{list_any}
+use Rattle.std.specs.Borrow.{Bor}
 use Rattle.job_base.specs.declared.limits.TheConstants.{MOST_LOCALS}
 use Rattle.kernel_code.specs.declared.raw.RawForm.{RawForm}
 use Rattle.kernel_code.specs.declared.raw.RawForm.TheVariants as form
@@ -24,6 +25,10 @@ stands_in x i blocks = list_any (is_in x i) blocks
 -- i
 pub record AreBegun (raw : RawKernel) (i : ℕ) (blocks : List StreamBlock) : Type 0 where
   pub tell : (x j : ℕ) → i ≤ j → begun_among raw x j 0 (take i raw.nodes.items) ≡ stands_in x j blocks
+
+-- these are the names of the parameters
+abbrev pub AreNames : RawKernel → List (Bor (List ℕ)) → Type 0
+AreNames raw names = map (λ n. n.now) names ≡ map (λ p. text_at raw p.name) raw.params.items
 
 -- forms with a name
 abbrev pub has_name : RawForm → Bool

@@ -24,12 +24,13 @@ use crate::check::texts::{line_at, text_at};
 use crate::fault::KernelFault;
 use crate::raw::RawKernel;
 use frame_ast::kernel::{FaultKind, Kernel};
+use frame_grammar::TokenAt;
 use std::alloc::Global;
 
 /// A static fault, at the token of that place among those of the kernel.
 #[derive(Clone, Copy, Debug, PartialEq, Eq)]
 pub struct StaticFault {
-    pub at: u32,
+    pub at: TokenAt,
     pub kind: FaultKind,
 }
 

@@ -1,6 +1,6 @@
 ghost use Rattle.std.specs.Prelude.{◌≤◌, length};
 
-use crate::{KernelFault, check_kernel, lex, parse_kernel};
+use crate::{KernelFault, TokenAt, check_kernel, lex, parse_kernel};
 use frame_ast::kernel::Kernel;
 use std::alloc::Global;
 use std::fmt::Write;
@@ -15,7 +15,7 @@ fn checked(alloc: Global, source: &[u8], earlier: &[Kernel]) -> Result<Result<Ke
     if marks.is_empty() {
         return Ok(Err(told));
     }
-    let fault = match parse_kernel(alloc, source, &marks, 0) {
+    let fault = match parse_kernel(alloc, source, &marks, TokenAt::of(0)) {
         Ok((raw, _)) => match check_kernel(alloc, &raw, earlier) {
             Ok(kernel) => return Ok(Ok(kernel)),
             Err(fault) => fault,

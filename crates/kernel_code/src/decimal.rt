@@ -52,15 +52,16 @@ pub fn front_value(bytes: &[u8]) -> Option<u64>
 {
     let limit = bytes.len().min(PLAIN_DIGITS);
     let mut value: u64 = 0;
-    let mut end = 0;
-    while end < limit && bytes[end].is_ascii_digit() {
-        value = value * 10 + u64::from(bytes[end] - b'0');
-        end += 1;
+    for (len, byte) in bytes[..limit].iter().enumerate() {
+        if !byte.is_ascii_digit() {
+            return if len == 0 { None } else { Some(value) };
+        }
+        value = value * 10 + u64::from(*byte - b'0');
     }
-    if end == 0 {
+    if limit == 0 {
         return None;
     }
-    if end < bytes.len() && bytes[end].is_ascii_digit() {
+    if limit < bytes.len() && bytes[limit].is_ascii_digit() {
         return None;
     }
     Some(value)

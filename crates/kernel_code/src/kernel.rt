@@ -18,7 +18,7 @@ use crate::raw::MOST_KEPT;
 use crate::reader::Reader;
 use crate::{KernelFault, Mark, RawKernel};
 use frame_ast::kernel::FaultKind;
-use frame_grammar::{Action, Nonterminal, Note, ParseError, parse};
+use frame_grammar::{Action, Nonterminal, Note, ParseError, TokenAt, parse};
 use job_base::NoMemory;
 use std::alloc::Global;
 
@@ -93,8 +93,8 @@ pub fn parse_kernel<'a>(
     alloc: Global,
     source: &'a [u8],
     marks: &'a [Mark],
-    at: u32,
-) -> Result<(RawKernel<'a>, u32), KernelFault>
+    at: TokenAt,
+) -> Result<(RawKernel<'a>, TokenAt), KernelFault>
     requires few { length source.now ≤ MOST_SCRIPT_BYTES }
     requires lexed { tokens_in source.now 1 marks.now ≡ up_to_bad (tokens_of source.now) }
     requires within { at < length marks.now }
@@ -103,12 +103,12 @@ pub fn parse_kernel<'a>(
     ensures fault { (line : ℕ) (kind : FaultKind) → result ≡ Err (KernelFault.Refused line kind) → (kind ≡ Syntax)
         × StopsAt (tokens_in source.now 1 marks.now) at line }
 {
-    let ahead = &marks[at as usize..];
+    let ahead = &marks[at.index()..];
     let line = line_at(marks, 1, at);
     let sentence = match parse(alloc, Nonterminal::Kernel, ahead) {
         Ok(sentence) => sentence,
         Err(error) => return Err(refusal(error, ahead, line)),
     };
     let raw = raw_kernel(alloc, source, ahead, line, &sentence.events)?;
-    Ok((raw, at + sentence.read))
+    Ok((raw, TokenAt::of(at.place() + sentence.read)))
 }

@@ -1,23 +1,31 @@
 ghost use Rattle.std.specs.Prelude.{◌≤◌, length};
 
-use crate::{KernelFault, RawKernel, lex, parse_kernel};
+use crate::{KernelFault, RawKernel, TokenAt, lex, parse_kernel};
 use std::alloc::Global;
 use std::fmt::Write;
 use std::test::Fail;
+
+/// The place of a token, or 0 for none.
+fn place_or_0(at: Option<TokenAt>) -> u32 {
+    match at {
+        Some(at) => at.place(),
+        None => 0,
+    }
+}
 
 /// A raw kernel as a text: what it is, its parameters, and its nodes, each with the numbers of the
 /// nodes before and behind it, of its expressions and of its first block, and with its owner.
 fn told(alloc: Global, raw: &RawKernel) -> Result<String, Fail> {
     let mut text = String::new(alloc);
-    let (parallel, name) = (raw.parallel, raw.name);
+    let (parallel, name) = (raw.parallel, raw.name.place());
     write!(text, "{parallel} {name}")?;
     for param in &raw.params {
-        let (name, kind, access) = (param.name, param.kind, param.access);
-        let (word, width) = (param.word, param.width.unwrap_or(0));
+        let (name, kind, access) = (param.name.place(), param.kind, param.access);
+        let (word, width) = (param.word.place(), place_or_0(param.width));
         write!(text, ", {name} {kind:?} {access:?} {word} {width}")?;
     }
     for node in &raw.nodes {
-        let (form, at, name, before) = (node.form, node.at, node.name, node.before);
+        let (form, at, name, before) = (node.form, node.at.place(), node.name.place(), node.before);
         let (after, heads, inside) = (node.after, node.heads, node.inside);
         write!(
             text,
@@ -39,9 +47,10 @@ fn parsed(alloc: Global, source: &[u8]) -> Result<String, Fail>
     if marks.is_empty() {
         return Ok(text);
     }
-    match parse_kernel(alloc, source, &marks, 0) {
+    match parse_kernel(alloc, source, &marks, TokenAt::of(0)) {
         Ok((raw, next)) => {
             let told = told(alloc, &raw)?;
+            let next = next.place();
             write!(text, "{told} | {next}")?;
         }
         Err(KernelFault::Refused { line, kind }) => write!(text, "{line}: {kind:?}")?,
@@ -58,7 +67,7 @@ fn count(alloc: Global, source: &[u8]) -> Result<Option<usize>, Fail>
     if marks.is_empty() {
         return Ok(None);
     }
-    match parse_kernel(alloc, source, &marks, 0) {
+    match parse_kernel(alloc, source, &marks, TokenAt::of(0)) {
         Ok((raw, _)) => Ok(Some(raw.nodes.len())),
         Err(_) => Ok(None),
     }
@@ -239,11 +248,11 @@ fn counts(alloc: Global, source: &[u8], lines: usize) -> Result<String, Fail>
     let mut at: u32 = 0;
     for _ in 0..lines {
         if (at as usize) < marks.len()
-            && let Ok((raw, next)) = parse_kernel(alloc, source, &marks, at)
+            && let Ok((raw, next)) = parse_kernel(alloc, source, &marks, TokenAt::of(at))
         {
             let (params, nodes) = (raw.params.len(), raw.nodes.len());
             write!(text, "{params} {nodes}, ")?;
-            at = next.saturating_add(1);
+            at = next.place().saturating_add(1);
         }
     }
     Ok(text)

@@ -29,7 +29,7 @@ mod word;
 pub use check::{StaticFault, check_kernel};
 pub use fault::KernelFault;
 pub use frame_ast::kernel::{Body, FaultKind, Kernel, Param, ParamKind};
-pub use frame_grammar::TokenKind;
+pub use frame_grammar::{TokenAt, TokenKind};
 pub use kernel::{parse_kernel, raw_kernel};
 pub use lexer::lex;
 pub use mark::{Mark, line_at, lines_in};

@@ -12,7 +12,7 @@ ghost use Rattle.kernel_code.specs.Tokens.{text_of};
 
 use crate::decimal::{front_value, value_of};
 use crate::word::front_end;
-use frame_grammar::{HasKind, TokenKind};
+use frame_grammar::{HasKind, TokenAt, TokenKind};
 
 /// How many kinds a mark could tell from each other.
 const MOST_KINDS: u32 = 128;
@@ -141,9 +141,10 @@ fn kind_numbered(number: u32) -> TokenKind
     }
 }
 
-// Whether two texts are the same. Names that differ mostly differ in their lengths or their last bytes, so those are
-// looked at first.
-fn is_same(a: &[u8], b: &[u8]) -> bool
+/// Whether two texts are the same.
+// Names that differ mostly differ in their lengths or their last bytes, so those are looked at first; and many have one
+// byte.
+pub fn is_same(a: &[u8], b: &[u8]) -> bool
     ensures { result ≡ bytes_eq a.now b.now }
 {
     let len = a.len();
@@ -156,7 +157,7 @@ fn is_same(a: &[u8], b: &[u8]) -> bool
     if a[len - 1] != b[len - 1] {
         return false;
     }
-    a == b
+    len == 1 || a == b
 }
 
 impl Mark {
@@ -263,11 +264,11 @@ pub fn lines_in(marks: &[Mark]) -> u32
 }
 
 /// The line of the token at a place among these, of which the first lies on this line. Where none stands there it is 0.
-pub fn line_at(marks: &[Mark], line: u32, at: u32) -> u32
+pub fn line_at(marks: &[Mark], line: u32, at: TokenAt) -> u32
     requires { line + length marks.now < 2 ^ 32 }
     ensures { (source : List ℕ) → result ≡ token_line (slice_get (tokens_in source line marks.now) at) }
 {
-    let place = at as usize;
+    let place = at.index();
     if place >= marks.len() {
         return 0;
     }

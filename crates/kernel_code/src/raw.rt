@@ -2,6 +2,7 @@
 
 use crate::Mark;
 use frame_ast::kernel::ParamKind;
+use frame_grammar::TokenAt;
 use job_base::Access;
 use job_base::limits::MOST_NODES;
 
@@ -76,9 +77,9 @@ pub struct RawNode {
     pub form: RawForm,
     /// Its token: the operator, or the first token of a statement or an atom. In `y = try_add(..)`
     /// and `y = remove(..)` that is y.
-    pub at: u32,
+    pub at: TokenAt,
     /// Its name x; its own token where it has none.
-    pub name: u32,
+    pub name: TokenAt,
     /// The node of the statement in whose block it stands. None for a statement of the kernel's own
     /// block and for all but statements.
     pub owner: Option<u32>,
@@ -95,14 +96,14 @@ pub struct RawNode {
 /// A parameter. Tokens are given by their places among those of the kernel.
 #[derive(Clone, Copy, Debug, PartialEq, Eq)]
 pub struct RawParam {
-    pub name: u32,
+    pub name: TokenAt,
     pub kind: ParamKind,
     /// That of an `int` is `Read`.
     pub access: Access,
     /// The word `stream` or the word `by`; its name where it has neither.
-    pub word: u32,
+    pub word: TokenAt,
     /// The Number after `by`.
-    pub width: Option<u32>,
+    pub width: Option<TokenAt>,
 }
 
 /// A kernel as its tokens say it.
@@ -116,7 +117,7 @@ pub struct RawKernel<'a> {
     pub line: u32,
     pub parallel: bool,
     /// Its name.
-    pub name: u32,
+    pub name: TokenAt,
     pub params: Vec<RawParam>,
     /// The first nodes of its statements, in the order of their tokens, and no more than MOST_KEPT.
     pub nodes: Vec<RawNode>,

@@ -38,12 +38,12 @@ use crate::part::{Part, part_of};
 use crate::raw::MOST_KEPT;
 use crate::{RawForm, RawNode, RawParam};
 use frame_ast::kernel::ParamKind;
-use frame_grammar::Event;
+use frame_grammar::{Event, TokenAt};
 use job_base::Access;
 use std::alloc::{AllocError, Global};
 
 /// A parameter of this name of which nothing else has been read.
-fn fresh(name: u32) -> RawParam
+fn fresh(name: TokenAt) -> RawParam
     ensures { result ≡ fresh name }
 {
     RawParam {
@@ -56,7 +56,7 @@ fn fresh(name: u32) -> RawParam
 }
 
 /// The parameter, when this part of it has been read at this place.
-fn param_with(part: Part, place: u32, param: RawParam) -> RawParam
+fn param_with(part: Part, place: TokenAt, param: RawParam) -> RawParam
     ensures { result ≡ param_with part place param }
 {
     match part {
@@ -81,7 +81,7 @@ fn param_with(part: Part, place: u32, param: RawParam) -> RawParam
 }
 
 /// Changes the open node by this part of it, which has been read at this place, where so many nodes stand after it.
-fn change_node(part: Part, place: u32, behind: u32, node: &mut RawNode)
+fn change_node(part: Part, place: TokenAt, behind: u32, node: &mut RawNode)
     ensures { node.new ≡ changed part place behind node.old }
 {
     match part {
@@ -181,7 +181,7 @@ impl Reader {
     {
         Ok(Reader {
             params: Vec::new(alloc),
-            param: fresh(0),
+            param: fresh(TokenAt::of(0)),
             nodes: Vec::with_capacity(alloc, room)?,
             opened: Vec::new(alloc),
             last: 0,
@@ -193,7 +193,7 @@ impl Reader {
     }
 
     /// Begins a node that is kept.
-    fn begin_kept(&mut self, at: u32, owner: Option<u32>, before: u32) -> Result<(), AllocError>
+    fn begin_kept(&mut self, at: TokenAt, owner: Option<u32>, before: u32) -> Result<(), AllocError>
         requires few { self.old.count < 2 ^ 32 }
         requires nodes { length self.old.nodes.items < 2 ^ 32 }
         ensures { IfOk result (λ _. kept_of self.new ≡ begun_kept at owner before (kept_of self.old)) }
@@ -229,7 +229,7 @@ impl Reader {
     /// Begins a node at this token.
     // In line: four kinds of nodes begin so, and a call costs as much as what it does.
     #[inline(always)]
-    fn begin(&mut self, at: u32, owner: Option<u32>, before: u32) -> Result<(), AllocError>
+    fn begin(&mut self, at: TokenAt, owner: Option<u32>, before: u32) -> Result<(), AllocError>
         requires few { self.old.count < 2 ^ 32 }
         requires nodes { length self.old.nodes.items < 2 ^ 32 }
         requires late { self.old.late + 1 < 2 ^ 32 }
@@ -244,7 +244,7 @@ impl Reader {
 
     /// Begins an operator. It takes over the first node of what was whole last, which is its left
     /// side if it stands between two.
-    fn begin_operator(&mut self, at: u32) -> Result<(), AllocError>
+    fn begin_operator(&mut self, at: TokenAt) -> Result<(), AllocError>
         requires few { self.old.count < 2 ^ 32 }
         requires nodes { length self.old.nodes.items < 2 ^ 32 }
         requires late { self.old.late + 1 < 2 ^ 32 }
@@ -274,7 +274,8 @@ impl Reader {
     }
 
     /// Changes the innermost open node that is kept by what was read of it.
-    fn change_kept(&mut self, part: Part, place: u32)
+    #[inline(always)]
+    fn change_kept(&mut self, part: Part, place: TokenAt)
         requires few { self.old.count < 2 ^ 32 }
         ensures { kept_of self.new ≡ showing
             (changed_in part place self.old.count (top (reading_of self.old).opened) (reading_of self.old))
@@ -283,11 +284,10 @@ impl Reader {
         let Some(at) = self.innermost() else {
             return;
         };
-        if (at as usize) < self.nodes.len() {
+        if let Some(node) = self.nodes.get_mut(at as usize) {
             let behind = self.count.saturating_sub(1).saturating_sub(at as usize) as u32;
-            change_node(part, place, behind, &mut self.nodes[at as usize]);
-            let before = self.nodes[at as usize].before;
-            self.last = last_after(part, at, before, self.last);
+            change_node(part, place, behind, node);
+            self.last = last_after(part, at, node.before, self.last);
             self.leave(part);
         }
     }
@@ -308,7 +308,9 @@ impl Reader {
     }
 
     /// Changes the innermost open node by what was read of it.
-    fn change(&mut self, part: Part, place: u32)
+    // In line, as `change_kept` is, so that a part that is known where it is called is looked at once.
+    #[inline(always)]
+    fn change(&mut self, part: Part, place: TokenAt)
         requires few { self.old.count < 2 ^ 32 }
         requires joined { (k : ℕ) → slice_index self.old.joined.items k < 2 ^ 64 - 1 }
         ensures { kept_of self.new ≡ kept_change part place (kept_of self.old) }
@@ -327,7 +329,7 @@ impl Reader {
         self.innermost().is_none() && self.late == 0
     }
 
-    fn name(&mut self, place: u32)
+    fn name(&mut self, place: TokenAt)
         requires few { self.old.count < 2 ^ 32 }
         requires joined { (k : ℕ) → slice_index self.old.joined.items k < 2 ^ 64 - 1 }
         ensures { kept_of self.new ≡ kept_part part.Name place (kept_of self.old) }
@@ -339,7 +341,7 @@ impl Reader {
         }
     }
 
-    fn number(&mut self, place: u32) -> Result<(), AllocError>
+    fn number(&mut self, place: TokenAt) -> Result<(), AllocError>
         requires few { self.old.count < 2 ^ 32 }
         requires nodes { length self.old.nodes.items < 2 ^ 32 }
         requires late { self.old.late + 1 < 2 ^ 32 }
@@ -377,13 +379,14 @@ impl Reader {
             Part::Operator => self.begin_operator(place)?,
             Part::Number => self.number(place)?,
             Part::Name => self.name(place),
-            Part::Ends(_)
-            | Part::Joins
-            | Part::Closes(_)
-            | Part::Heads
-            | Part::Block
-            | Part::Nests(_)
-            | Part::Branches => self.change(part, place),
+            // Each by itself, so that `change` knows the part.
+            Part::Ends(form) => self.change(Part::Ends(form), place),
+            Part::Joins => self.change(Part::Joins, place),
+            Part::Closes(form) => self.change(Part::Closes(form), place),
+            Part::Heads => self.change(Part::Heads, place),
+            Part::Block => self.change(Part::Block, place),
+            Part::Nests(form) => self.change(Part::Nests(form), place),
+            Part::Branches => self.change(Part::Branches, place),
         }
         Ok(())
     }

@@ -1,4 +1,4 @@
-use crate::{lex, line_at};
+use crate::{TokenAt, lex, line_at};
 use std::alloc::Global;
 use std::fmt::Write;
 use std::test::Fail;
@@ -16,7 +16,7 @@ fn tokens_in(alloc: Global, source: &[u8]) -> Result<String, Fail> {
     for (at, mark) in marks.iter().enumerate() {
         let (kind, start) = (mark.kind(), mark.start() as usize);
         let end = start + mark.text(source).len();
-        let line = line_at(&marks, 1, at as u32);
+        let line = line_at(&marks, 1, TokenAt::of(at as u32));
         write!(text, "{kind:?} {start}-{end} {line}, ")?;
     }
     Ok(text)

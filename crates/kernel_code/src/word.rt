@@ -65,7 +65,28 @@ fn digits_end(source: &[u8], from: usize) -> usize
     ensures within { result ≤ length source.now }
 {
     let mut end = from;
-    while end < source.len() && source[end].is_ascii_digit() {
+    let mut rest = &source[from..];
+    // Four at a turn, with one look at where the file ends.
+    while rest.len() >= 4 {
+        if !rest[0].is_ascii_digit() {
+            return end;
+        }
+        if !rest[1].is_ascii_digit() {
+            return end + 1;
+        }
+        if !rest[2].is_ascii_digit() {
+            return end + 2;
+        }
+        if !rest[3].is_ascii_digit() {
+            return end + 3;
+        }
+        end += 4;
+        rest = &rest[4..];
+    }
+    for byte in rest {
+        if !byte.is_ascii_digit() {
+            return end;
+        }
         end += 1;
     }
     end

@@ -8,7 +8,7 @@ ghost use Rattle.kernel_code.specs.Tokens.{tokens_of, up_to_bad};
 ghost use Rattle.kernel_rows.specs.Texts.{IsKernelAt, IsRefusedAt};
 
 use frame_ast::kernel::Kernel;
-use kernel_code::{KernelFault, Mark, check_kernel, parse_kernel};
+use kernel_code::{KernelFault, Mark, TokenAt, check_kernel, parse_kernel};
 use std::alloc::Global;
 
 /// The kernel that begins at a token of a file with no earlier kernels, and the place of the token after it.
@@ -26,7 +26,7 @@ pub fn kernel_at(
     ensures refused { (line : ℕ) (kind : FaultKind) → result ≡ Err (KernelFault.Refused line kind)
         → IsRefusedAt source.now (tokens_in source.now 1 marks.now) at line kind }
 {
-    let (raw, next) = parse_kernel(alloc, source, marks, at)?;
+    let (raw, next) = parse_kernel(alloc, source, marks, TokenAt::of(at))?;
     let kernel = check_kernel(alloc, &raw, &[])?;
-    Ok((kernel, next))
+    Ok((kernel, next.place()))
 }

@@ -18,7 +18,7 @@ use crate::check::nodes::MOST_NUMBER;
 use crate::check::texts::value_at;
 use crate::raw::{RawForm, RawKernel, RawNode};
 use frame_ast::kernel::{Expr, Operator};
-use frame_grammar::TokenKind;
+use frame_grammar::{TokenAt, TokenKind};
 use job_base::NoMemory;
 use std::alloc::Global;
 
@@ -63,16 +63,16 @@ pub fn meaning_at(meanings: &[Meaning], number: usize) -> Meaning
 }
 
 // The value of a Number. Where there is no fault it is an i64.
-fn number_at(raw: &RawKernel<'_>, at: u32) -> i64
+fn number_at(raw: &RawKernel<'_>, at: TokenAt) -> i64
     ensures { result ≡ pos (min 9223372036854775807 (value_at raw.now at)) }
 {
     value_at(raw, at).min(MOST_NUMBER) as i64
 }
 
-fn kind_at(raw: &RawKernel<'_>, at: u32) -> TokenKind
+fn kind_at(raw: &RawKernel<'_>, at: TokenAt) -> TokenKind
     ensures { result ≡ kind_at raw.now at }
 {
-    match raw.marks.get(at as usize) {
+    match raw.marks.get(at.index()) {
         Some(mark) => mark.kind(),
         None => TokenKind::End,
     }

@@ -11,12 +11,13 @@ use crate::check::statements::block;
 use crate::check::texts::{text_at, value_at};
 use crate::raw::RawKernel;
 use frame_ast::kernel::{Body, Kernel, Param};
+use frame_grammar::TokenAt;
 use job_base::NoMemory;
 use std::alloc::Global;
 use std::str;
 
 // The name at a place.
-fn name_at(alloc: Global, raw: &RawKernel<'_>, at: u32) -> Result<String, NoMemory>
+fn name_at(alloc: Global, raw: &RawKernel<'_>, at: TokenAt) -> Result<String, NoMemory>
     requires { IsUtf8 (text_at raw.now at) }
     ensures { IfOk result (λ name. string_bytes name ≡ text_at raw.now at) }
 {
@@ -27,7 +28,7 @@ fn name_at(alloc: Global, raw: &RawKernel<'_>, at: u32) -> Result<String, NoMemo
 }
 
 // The Number after `by`, or 1 where none is written.
-fn width_of(raw: &RawKernel<'_>, width: Option<u32>) -> u32
+fn width_of(raw: &RawKernel<'_>, width: Option<TokenAt>) -> u32
     requires { width_at raw.now width ≤ MOST_WIDTH }
     ensures { result ≡ width_at raw.now width }
 {

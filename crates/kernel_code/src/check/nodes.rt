@@ -1,8 +1,8 @@
-// The faults of a node.
-ghost use Rattle.std.specs.Prelude.{◌≡◌, ◌≤◌, ◌<◌, ◌||◌, nat_le, nat_lt, ℕ, Some, length, slice_get};
+// What the names of a node are, and its faults.
+ghost use Rattle.std.specs.Prelude.{◌≡◌, ◌≤◌, ◌<◌, ◌||◌, nat_le, nat_lt, ℕ, None, Some, length, slice_get, false, IsTrue, MatchResult};
 ghost use Rattle.kernel_code.specs.StaticFaults.{text_at, use_fault, answer_fault, declared_fault, token_fault, size_fault, name_fault, first_of_two, node_fault, locals_before, depth_at, meaning_of, block_fault, param_fault_of, is_begun};
 ghost use Rattle.job_base.specs.declared.limits.TheConstants.{MOST_NODES, MOST_DEPTH};
-ghost use Rattle.kernel_code.specs.Known.{AreBegun, answer_named, name_named, meaning_if, has_name, has_answer};
+ghost use Rattle.kernel_code.specs.Known.{AreBegun, AreNames, answer_named, name_named, meaning_if, has_name, has_answer};
 
 use crate::check::StaticFault;
 use crate::check::demands::{
@@ -14,26 +14,29 @@ use crate::check::streams::{StreamBlock, stands_in};
 use crate::check::texts::{text_at, value_at};
 use crate::raw::{RawForm, RawKernel, RawNode};
 use frame_ast::kernel::FaultKind;
+use frame_grammar::TokenAt;
 use job_base::limits::{MOST_LOCALS, MOST_PARAMS};
 
 /// The greatest number of a kernel's text.
 pub const MOST_NUMBER: u64 = 9_223_372_036_854_775_807;
 
 // What a node's token is, where it is a name before an effect.
-pub fn answer_named(
+fn answer_named(
     raw: &RawKernel<'_>,
+    names: &[&[u8]],
     locals: &[Local],
     number: usize,
-    node: RawNode,
+    node: &RawNode,
 ) -> Option<Named>
+    requires names { AreNames raw.now names.now }
     requires params { length raw.now.params.items ≤ MOST_PARAMS }
     requires few { length locals.now ≤ MOST_LOCALS }
     requires locals { locals.now ≡ locals_before raw.now.nodes.items number }
-    ensures { result ≡ answer_named raw.now number node }
+    ensures { result ≡ answer_named raw.now number node.now }
 {
     match node.form {
         RawForm::SetTryAdd | RawForm::SetRemove => {
-            meaning_of(raw, locals, number, text_at(raw, node.at))
+            meaning_of(raw, names, locals, number, text_at(raw, node.at))
         }
         _ => None,
     }
@@ -52,25 +55,6 @@ fn has_name(form: RawForm) -> bool
             | RawForm::IfElse
             | RawForm::While
     )
-}
-
-// What a node's name is, where it has one.
-pub fn name_named(
-    raw: &RawKernel<'_>,
-    locals: &[Local],
-    number: usize,
-    node: RawNode,
-) -> Option<Named>
-    requires params { length raw.now.params.items ≤ MOST_PARAMS }
-    requires few { length locals.now ≤ MOST_LOCALS }
-    requires locals { locals.now ≡ locals_before raw.now.nodes.items number }
-    ensures { result ≡ name_named raw.now number node }
-{
-    if has_name(node.form) {
-        meaning_of(raw, locals, number, text_at(raw, node.name))
-    } else {
-        None
-    }
 }
 
 // The fault of a stream that is the name of a form, for the blocks in which the form stands.
@@ -170,11 +154,11 @@ fn declared_fault(
 fn token_fault(
     raw: &RawKernel<'_>,
     number: usize,
-    node: RawNode,
+    node: &RawNode,
     answer: Option<Named>,
 ) -> Option<FaultKind>
-    requires { answer ≡ answer_named raw.now number node }
-    ensures { result ≡ token_fault raw.now number node.at node.form }
+    requires { answer ≡ answer_named raw.now number node.now }
+    ensures { result ≡ token_fault raw.now number node.now.at node.now.form }
 {
     match node.form {
         RawForm::Number => fault_if(FaultKind::Limit, value_at(raw, node.at) > MOST_NUMBER),
@@ -187,24 +171,23 @@ fn token_fault(
     }
 }
 
-// What a node's name says.
+// What a node's name says, where it has one.
 fn name_fault(
     raw: &RawKernel<'_>,
     locals: &[Local],
     blocks: &[StreamBlock],
     number: usize,
-    node: RawNode,
+    node: &RawNode,
+    name: &[u8],
     named: Option<Named>,
 ) -> Option<FaultKind>
+    requires some { IsTrue (has_name node.now.form) }
     requires locals { locals.now ≡ locals_before raw.now.nodes.items number }
     requires blocks { AreBegun raw.now number blocks.now }
-    requires named { named ≡ name_named raw.now number node }
-    ensures { result ≡ name_fault raw.now number node.name node.form }
+    requires name { name.now ≡ text_at raw.now node.now.name }
+    requires named { named ≡ meaning_of raw.now number name.now }
+    ensures { result ≡ name_fault raw.now number node.now.name node.now.form }
 {
-    if !has_name(node.form) {
-        return None;
-    }
-    let name = text_at(raw, node.name);
     match node.form {
         RawForm::Var | RawForm::For => declared_fault(raw, locals, number, name, named),
         _ => lowest(
@@ -216,9 +199,9 @@ fn name_fault(
 
 // The first fault of two tokens, the first of which stands before the second or is the same.
 fn first_of_two(
-    first: u32,
+    first: TokenAt,
     a: Option<FaultKind>,
-    second: u32,
+    second: TokenAt,
     b: Option<FaultKind>,
 ) -> Option<StaticFault>
     ensures { result ≡ first_of_two first a second b }
@@ -230,28 +213,97 @@ fn first_of_two(
     }
 }
 
-/// The first fault of a node, of which it is known what its names are and whether it is one too
-/// many or too deep.
-pub fn node_fault(
+// The fault of a node without a name, of which it is known whether it is one too many or too deep.
+fn nameless_fault(
+    raw: &RawKernel<'_>,
+    number: usize,
+    node: &RawNode,
+    is_over: bool,
+) -> Option<StaticFault>
+    requires none { has_name node.now.form ≡ false }
+    requires over { is_over ≡ (nat_le MOST_NODES number || nat_lt MOST_DEPTH (depth_at raw.now number)) }
+    ensures { result ≡ node_fault raw.now number node.now }
+{
+    let token = token_fault(raw, number, node, None);
+    fault_at(node.at, lowest(token, fault_if(FaultKind::Limit, is_over)))
+}
+
+// The first fault of a node with a name, of which it is known what its names are and whether it is one too many or too
+// deep.
+fn named_fault(
     raw: &RawKernel<'_>,
     locals: &[Local],
     blocks: &[StreamBlock],
     number: usize,
-    node: RawNode,
+    node: &RawNode,
+    name: &[u8],
     meaning: Meaning,
     is_over: bool,
 ) -> Option<StaticFault>
+    requires some { IsTrue (has_name node.now.form) }
     requires locals { locals.now ≡ locals_before raw.now.nodes.items number }
     requires blocks { AreBegun raw.now number blocks.now }
-    requires answer { meaning.answer ≡ answer_named raw.now number node }
-    requires name { meaning.name ≡ name_named raw.now number node }
+    requires text { name.now ≡ text_at raw.now node.now.name }
+    requires answer { meaning.answer ≡ answer_named raw.now number node.now }
+    requires name { meaning.name ≡ meaning_of raw.now number name.now }
     requires over { is_over ≡ (nat_le MOST_NODES number || nat_lt MOST_DEPTH (depth_at raw.now number)) }
-    ensures { result ≡ node_fault raw.now number node }
+    ensures { result ≡ node_fault raw.now number node.now }
 {
     let token = lowest(
         token_fault(raw, number, node, meaning.answer),
         fault_if(FaultKind::Limit, is_over),
     );
-    let name = name_fault(raw, locals, blocks, number, node, meaning.name);
-    first_of_two(node.at, token, node.name, name)
+    let called = name_fault(raw, locals, blocks, number, node, name, meaning.name);
+    first_of_two(node.at, token, node.name, called)
+}
+
+// A meaning, unless there is a fault.
+fn unless(fault: Option<StaticFault>, meaning: Meaning) -> Result<Meaning, StaticFault>
+    ensures { MatchResult result (λ m. (fault ≡ None) × (m ≡ meaning)) (λ found. fault ≡ Some found) }
+{
+    match fault {
+        Some(fault) => Err(fault),
+        None => Ok(meaning),
+    }
+}
+
+/// What the names of a node are, or its first fault. It is known whether the node is one too many or too deep.
+// Most nodes have no name, and a name's text is read once.
+pub fn look_up(
+    raw: &RawKernel<'_>,
+    names: &[&[u8]],
+    locals: &[Local],
+    blocks: &[StreamBlock],
+    number: usize,
+    node: &RawNode,
+    is_over: bool,
+) -> Result<Meaning, StaticFault>
+    requires names { AreNames raw.now names.now }
+    requires params { length raw.now.params.items ≤ MOST_PARAMS }
+    requires few { length locals.now ≤ MOST_LOCALS }
+    requires locals { locals.now ≡ locals_before raw.now.nodes.items number }
+    requires blocks { AreBegun raw.now number blocks.now }
+    requires over { is_over ≡ (nat_le MOST_NODES number || nat_lt MOST_DEPTH (depth_at raw.now number)) }
+    ensures { MatchResult result
+        (λ m. (node_fault raw.now number node.now ≡ None)
+        × (m.answer ≡ answer_named raw.now number node.now)
+        × (m.name ≡ name_named raw.now number node.now))
+        (λ fault. node_fault raw.now number node.now ≡ Some fault) }
+{
+    if !has_name(node.form) {
+        let nothing = Meaning {
+            answer: None,
+            name: None,
+        };
+        return unless(nameless_fault(raw, number, node, is_over), nothing);
+    }
+    let name = text_at(raw, node.name);
+    let meaning = Meaning {
+        answer: answer_named(raw, names, locals, number, node),
+        name: meaning_of(raw, names, locals, number, name),
+    };
+    unless(
+        named_fault(raw, locals, blocks, number, node, name, meaning, is_over),
+        meaning,
+    )
 }

@@ -10,11 +10,12 @@ use crate::check::demands::{fault_if, lowest};
 use crate::check::texts::{is_spelled, text_at, value_at};
 use crate::raw::{RawKernel, RawParam};
 use frame_ast::kernel::{FaultKind, Kernel, ParamKind};
+use frame_grammar::TokenAt;
 use job_base::Access;
 use job_base::limits::{MOST_KERNELS, MOST_NAME_BYTES, MOST_PARAMS, MOST_WIDTH};
 
 /// A fault of the token at a place.
-pub fn fault_at(at: u32, kind: Option<FaultKind>) -> Option<StaticFault>
+pub fn fault_at(at: TokenAt, kind: Option<FaultKind>) -> Option<StaticFault>
     ensures { result ≡ fault_at at kind }
 {
     match kind {
@@ -90,7 +91,7 @@ fn width_word_fault(parallel: bool, access: Access) -> Option<FaultKind>
     }
 }
 
-fn width_fault(raw: &RawKernel<'_>, at: u32) -> Option<FaultKind>
+fn width_fault(raw: &RawKernel<'_>, at: TokenAt) -> Option<FaultKind>
     ensures { result ≡ width_fault (value_at raw.now at) }
 {
     let width = value_at(raw, at);

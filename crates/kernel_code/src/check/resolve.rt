@@ -1,13 +1,12 @@
 // What the names of all nodes stand for, up to the first fault.
 ghost use Rattle.std.specs.Prelude.{◌≡◌, ◌≤◌, ◌<◌, ◌++◌, ◌||◌, ℕ, None, Some, length, slice_get, vec_len, IfOk, OnOk, MatchResult};
-ghost use Rattle.kernel_code.specs.StaticFaults.{depth_at, declares, is_loop, is_begin, end_in, block_end, local_of, local_if, locals_before, locals_of, nodes_fault, node_fault};
-ghost use Rattle.kernel_code.specs.Known.{stands_in, is_block, IsKnown, name_named, name_stored, answer_named, meanings_from};
+ghost use Rattle.kernel_code.specs.StaticFaults.{depth_at, declares, is_loop, is_begin, end_in, block_end, local_of, local_if, locals_before, locals_of, nodes_fault};
+ghost use Rattle.kernel_code.specs.Known.{AreNames, stands_in, is_block, IsKnown, name_named, name_stored, meanings_from};
 
 use crate::check::StaticFault;
-use crate::check::names::{Local, Meaning, Named, as_local, parameter};
-use crate::check::nodes::{answer_named, name_named, node_fault};
+use crate::check::names::{Local, Meaning, Named, as_local, names_of, parameter_at};
+use crate::check::nodes::look_up;
 use crate::check::streams::{StreamBlock, close_blocks};
-use crate::check::texts::text_at;
 use crate::raw::{RawForm, RawKernel, RawNode};
 use job_base::NoMemory;
 use job_base::limits::{MOST_DEPTH, MOST_LOCALS, MOST_NODES, MOST_PARAMS};
@@ -59,9 +58,9 @@ fn block_end(nodes: &[RawNode], number: usize, owner: Option<u32>) -> usize
 }
 
 // The local that a node declares.
-fn local_of(nodes: &[RawNode], number: usize, node: RawNode) -> Local
+fn local_of(nodes: &[RawNode], number: usize, node: &RawNode) -> Local
     requires { number < length nodes.now }
-    ensures { result ≡ local_of nodes.now number node }
+    ensures { result ≡ local_of nodes.now number node.now }
 {
     if is_loop(node.form) {
         let start = number + 1 + node.heads as usize;
@@ -86,22 +85,22 @@ fn note_local(
     raw: &RawKernel<'_>,
     locals: &mut Vec<Local>,
     number: usize,
-    node: RawNode,
+    node: &RawNode,
     named: Option<Named>,
 ) -> Result<Option<Named>, NoMemory>
     requires within { number < length raw.now.nodes.items }
     requires few { length locals.old.items ≤ MOST_LOCALS }
     requires locals { locals.old.items ≡ locals_before raw.now.nodes.items number }
-    requires named { named ≡ name_named raw.now number node }
+    requires named { named ≡ name_named raw.now number node.now }
     ensures locals { OnOk result (locals.new.items ≡ locals.old.items
-        ++ local_if (declares node.form) (local_of raw.now.nodes.items number node)) }
-    ensures named { IfOk result (λ name. name ≡ name_stored raw.now number node) }
+        ++ local_if (declares node.now.form) (local_of raw.now.nodes.items number node.now)) }
+    ensures named { IfOk result (λ name. name ≡ name_stored raw.now number node.now) }
 {
     if !declares(node.form) {
         return Ok(named);
     }
     let local = local_of(&raw.nodes, number, node);
-    let name = as_local(local, locals.len() as u32);
+    let name = as_local(local.is_loop, locals.len() as u32);
     locals.push(local)?;
     Ok(Some(name))
 }
@@ -109,19 +108,21 @@ fn note_local(
 // Keeps the block of a node, if it is the `begin` of a parameter.
 fn note_block(
     raw: &RawKernel<'_>,
+    names: &[&[u8]],
     blocks: &mut Vec<StreamBlock>,
     number: usize,
-    node: RawNode,
+    node: &RawNode,
 ) -> Result<(), NoMemory>
     requires within { number < length raw.now.nodes.items }
+    requires names { AreNames raw.now names.now }
     requires few { length raw.now.params.items ≤ MOST_PARAMS }
     ensures { OnOk result ((x j : ℕ) →
-        stands_in x j blocks.new.items ≡ (stands_in x j blocks.old.items || is_block raw.now x j number node)) }
+        stands_in x j blocks.new.items ≡ (stands_in x j blocks.old.items || is_block raw.now x j number node.now)) }
 {
     if !is_begin(node.form) {
         return Ok(());
     }
-    let Some(x) = parameter(raw, text_at(raw, node.name)) else {
+    let Some(x) = parameter_at(raw, names, node.name) else {
         return Ok(());
     };
     let start = number + 1 + node.heads as usize;
@@ -154,21 +155,21 @@ pub fn resolve(
         × (m.locals ≡ length (locals_of raw.now.nodes.items)))
         (λ fault. nodes_fault raw.now 0 raw.now.nodes.items ≡ Some fault)) }
 {
+    let names = names_of(alloc, raw)?;
     let mut locals = Vec::new(alloc);
     let mut blocks = Vec::new(alloc);
     let mut of_nodes = Vec::with_capacity(alloc, raw.nodes.len())?;
     for number in 0..raw.nodes.len() {
-        let node = raw.nodes[number];
+        let node = &raw.nodes[number];
         close_blocks(&mut blocks, number);
-        let answer = answer_named(raw, &locals, number, node);
-        let name = name_named(raw, &locals, number, node);
         let is_over = number >= MOST_NODES as usize || depth_at(raw, number) > MOST_DEPTH;
-        let meaning = Meaning { answer, name };
-        if let Some(fault) = node_fault(raw, &locals, &blocks, number, node, meaning, is_over) {
-            return Ok(Err(fault));
-        }
-        let name = note_local(raw, &mut locals, number, node, name)?;
-        note_block(raw, &mut blocks, number, node)?;
+        let meaning = match look_up(raw, &names, &locals, &blocks, number, node, is_over) {
+            Ok(meaning) => meaning,
+            Err(fault) => return Ok(Err(fault)),
+        };
+        let answer = meaning.answer;
+        let name = note_local(raw, &mut locals, number, node, meaning.name)?;
+        note_block(raw, &names, &mut blocks, number, node)?;
         of_nodes.push(Meaning { answer, name })?;
     }
     let locals = locals.len() as u32;

@@ -5,29 +5,30 @@ ghost use Rattle.kernel_code.specs.StaticFaults.{text_at, line_at, value_at};
 
 use crate::mark;
 use crate::raw::RawKernel;
+use frame_grammar::TokenAt;
 
 /// The bytes of the token at a place.
-pub fn text_at<'a>(raw: &RawKernel<'a>, at: u32) -> &'a [u8]
+pub fn text_at<'a>(raw: &RawKernel<'a>, at: TokenAt) -> &'a [u8]
     ensures { result.now ≡ text_at raw.now at }
 {
-    match raw.marks.get(at as usize) {
+    match raw.marks.get(at.index()) {
         Some(mark) => mark.text(raw.source),
         None => &[],
     }
 }
 
 /// Whether the token at a place is spelled so.
-pub fn is_spelled(raw: &RawKernel<'_>, at: u32, name: &[u8]) -> bool
+pub fn is_spelled(raw: &RawKernel<'_>, at: TokenAt, name: &[u8]) -> bool
     ensures { result ≡ bytes_eq (text_at raw.now at) name.now }
 {
-    match raw.marks.get(at as usize) {
+    match raw.marks.get(at.index()) {
         Some(mark) => mark.is_spelled(raw.source, name),
         None => name.is_empty(),
     }
 }
 
 /// The line of the token at a place, counted from 1.
-pub fn line_at(raw: &RawKernel<'_>, at: u32) -> u32
+pub fn line_at(raw: &RawKernel<'_>, at: TokenAt) -> u32
     requires { raw.now.line + length raw.now.marks.now < 2 ^ 32 }
     ensures { result ≡ line_at raw.now at }
 {
@@ -35,10 +36,10 @@ pub fn line_at(raw: &RawKernel<'_>, at: u32) -> u32
 }
 
 /// The value of the Number at a place, or 2 ^ 64 - 1 where it is greater.
-pub fn value_at(raw: &RawKernel<'_>, at: u32) -> u64
+pub fn value_at(raw: &RawKernel<'_>, at: TokenAt) -> u64
     ensures { result ≡ min 18446744073709551615 (value_at raw.now at) }
 {
-    match raw.marks.get(at as usize) {
+    match raw.marks.get(at.index()) {
         Some(mark) => mark.value(raw.source),
         None => 0,
     }
