@@ -6,31 +6,32 @@ use Rattle.frame_script.specs.Reading.{ends, ends_worded, ends_use, opens_values
 
 -- past the statements with lists
 pub worded_left : (a : Action) → ends a ≡ true →
-    (a ≡ action.ArrayStatement → ⊥) → (a ≡ action.ScheduleStatement → ⊥) → (a ≡ action.CombineStatement → ⊥) →
+    (a ≡ action.ScheduleStatement → ⊥) → (a ≡ action.CombineStatement → ⊥) →
     (a ≡ action.DisposeStatement → ⊥) → (a ≡ action.DisposeAfterStatement → ⊥) →
     ends_worded a ≡ true
-worded_left action.ArrayStatement e taken _ _ _ _ = absurd (taken refl)
-worded_left action.ScheduleStatement e _ taken _ _ _ = absurd (taken refl)
-worded_left action.CombineStatement e _ _ taken _ _ = absurd (taken refl)
-worded_left action.DisposeStatement e _ _ _ taken _ = absurd (taken refl)
-worded_left action.DisposeAfterStatement e _ _ _ _ taken = absurd (taken refl)
-worded_left _ e _ _ _ _ _ = cc
+worded_left action.ScheduleStatement e taken _ _ _ = absurd (taken refl)
+worded_left action.CombineStatement e _ taken _ _ = absurd (taken refl)
+worded_left action.DisposeStatement e _ _ taken _ = absurd (taken refl)
+worded_left action.DisposeAfterStatement e _ _ _ taken = absurd (taken refl)
+worded_left _ e _ _ _ _ = cc
 
 -- past the statements that make a name
 pub use_left : (a : Action) → ends_worded a ≡ true →
+    (a ≡ action.ArrayStatement → ⊥) →
     (a ≡ action.ColumnStatement → ⊥) → (a ≡ action.ListStatement → ⊥) → (a ≡ action.ReferenceStatement → ⊥) →
     (a ≡ action.MapStatement → ⊥) → (a ≡ action.StreamStatement → ⊥) → (a ≡ action.SliceStatement → ⊥) →
     (a ≡ action.ViewStatement → ⊥) → (a ≡ action.CopyStatement → ⊥) →
     ends_use a ≡ true
-use_left action.ColumnStatement e taken _ _ _ _ _ _ _ = absurd (taken refl)
-use_left action.ListStatement e _ taken _ _ _ _ _ _ = absurd (taken refl)
-use_left action.ReferenceStatement e _ _ taken _ _ _ _ _ = absurd (taken refl)
-use_left action.MapStatement e _ _ _ taken _ _ _ _ = absurd (taken refl)
-use_left action.StreamStatement e _ _ _ _ taken _ _ _ = absurd (taken refl)
-use_left action.SliceStatement e _ _ _ _ _ taken _ _ = absurd (taken refl)
-use_left action.ViewStatement e _ _ _ _ _ _ taken _ = absurd (taken refl)
-use_left action.CopyStatement e _ _ _ _ _ _ _ taken = absurd (taken refl)
-use_left _ e _ _ _ _ _ _ _ _ = cc
+use_left action.ArrayStatement e taken _ _ _ _ _ _ _ _ = absurd (taken refl)
+use_left action.ColumnStatement e _ taken _ _ _ _ _ _ _ = absurd (taken refl)
+use_left action.ListStatement e _ _ taken _ _ _ _ _ _ = absurd (taken refl)
+use_left action.ReferenceStatement e _ _ _ taken _ _ _ _ _ = absurd (taken refl)
+use_left action.MapStatement e _ _ _ _ taken _ _ _ _ = absurd (taken refl)
+use_left action.StreamStatement e _ _ _ _ _ taken _ _ _ = absurd (taken refl)
+use_left action.SliceStatement e _ _ _ _ _ _ taken _ _ = absurd (taken refl)
+use_left action.ViewStatement e _ _ _ _ _ _ _ taken _ = absurd (taken refl)
+use_left action.CopyStatement e _ _ _ _ _ _ _ _ taken = absurd (taken refl)
+use_left _ e _ _ _ _ _ _ _ _ _ = cc
 
 -- past all statements
 pub none_left : (a : Action) → ends_use a ≡ true →

@@ -54,17 +54,17 @@ args_front s names sizes params args i p a hp ha =
 
 pub args_passed : (s : Source) (names : List Name) (sizes : RawSizes) (params : List Param) (args : List RawArg) (i : ℕ) (p : Param) (a : RawArg) (all : Option StaticFault) →
     i < length params → i < length args → all ≡ first_some (args_faults s names sizes (drop i params) (drop i args)) →
-    p ≡ get_or params i p → arg_fault s names sizes p.kind (get_or args i a) ≡ None → all ≡ first_some (args_faults s names sizes (drop (i + 1) params) (drop (i + 1) args))
-args_passed s names sizes params args i p a all hp ha is same none =
+    p ≡ get_or params i p → a ≡ get_or args i a → arg_fault s names sizes p.kind a ≡ None → all ≡ first_some (args_faults s names sizes (drop (i + 1) params) (drop (i + 1) args))
+args_passed s names sizes params args i p a all hp ha is same here none =
     is ∙ (ap first_some (args_front s names sizes params args i p a hp ha)
-    ∙ first_next _ _ (ap (λ q. arg_fault s names sizes q.kind (get_or args i a)) (sym same) ∙ none))
+    ∙ first_next _ _ (ap (λ q. arg_fault s names sizes q.kind (get_or args i a)) (sym same) ∙ ap (arg_fault s names sizes p.kind) (sym here) ∙ none))
 
 pub args_stopped : (s : Source) (names : List Name) (sizes : RawSizes) (params : List Param) (args : List RawArg) (i : ℕ) (p : Param) (a : RawArg) (all : Option StaticFault) (e : OrderFault) →
     i < length params → i < length args → all ≡ first_some (args_faults s names sizes (drop i params) (drop i args)) →
-    p ≡ get_or params i p → Refuses (arg_fault s names sizes p.kind (get_or args i a)) e → Refuses all e
-args_stopped s names sizes params args i p a all e hp ha is same r =
+    p ≡ get_or params i p → a ≡ get_or args i a → Refuses (arg_fault s names sizes p.kind a) e → Refuses all e
+args_stopped s names sizes params args i p a all e hp ha is same here r =
     subst (λ o. Refuses o e) (sym (is ∙ ap first_some (args_front s names sizes params args i p a hp ha)))
-    (refuses_here _ _ e (subst (λ q. Refuses (arg_fault s names sizes q.kind (get_or args i a)) e) same r))
+    (refuses_here _ _ e (subst (λ q. Refuses (arg_fault s names sizes q.kind (get_or args i a)) e) same (subst (λ x. Refuses (arg_fault s names sizes p.kind x) e) here r)))
 
 pub args_ended : (s : Source) (names : List Name) (sizes : RawSizes) (params : List Param) (args : List RawArg) (i : ℕ) (all : Option StaticFault) →
     length params ≤ i → all ≡ first_some (args_faults s names sizes (drop i params) (drop i args)) → all ≡ None

@@ -10,6 +10,7 @@ pub mod ValueLemmas
 pub mod Readings
 pub mod Orders
 pub mod Endings
+pub mod PlainWords
 pub mod KernelEnds
 pub mod Walks
 pub mod WritingMarks
@@ -24,6 +25,7 @@ pub mod WritingRepeatCounts
 pub mod NameLemmas
 pub mod IndexLemmas
 pub mod PlaceLemmas
+pub mod MadePlaces
 pub mod FaultLemmas
 pub mod NumberLemmas
 pub mod ListLemmas

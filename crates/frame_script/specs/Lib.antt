@@ -17,3 +17,4 @@ pub mod Reading
 pub mod Items
 pub mod Loading
 pub mod Walking
+pub mod Made

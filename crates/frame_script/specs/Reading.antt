@@ -56,18 +56,40 @@ with_operator q w = record w { numbers = record w.numbers { operator_before = w.
 abbrev pub with_signed : Option RawNumber → Words → Words
 with_signed n w = record w { numbers = record w.numbers { signed_before = w.numbers.signed; signed = n } }
 
+-- whether the event says a word of a statement outside its lists, or that one is left out
+abbrev pub is_word : Action → Bool
+is_word action.Name = true
+is_word action.Number = true
+is_word action.Text = true
+is_word action.Operator = true
+is_word action.MinusNumber = true
+is_word action.PlainNumber = true
+is_word action.NoNumber = true
+is_word action.LifeNone = true
+is_word action.LifeTemp = true
+is_word action.LifeTempJob = true
+is_word action.LifePersistent = true
+is_word action.NoValues = true
+is_word action.Auto = true
+is_word action.NotAuto = true
+is_word _ = false
+
+-- what has been read, when this event comes at this place and says such a word
+abbrev pub words_plainly_after : Action → ℕ → Words → Words
+words_plainly_after action.Name q w = with_name q w
+words_plainly_after action.Number q w = with_number q w
+words_plainly_after action.Text q w = with_number q w
+words_plainly_after action.Operator q w = with_operator q w
+words_plainly_after action.MinusNumber q w = with_signed (Some (record { minus = true; at = w.numbers.last })) w
+words_plainly_after action.PlainNumber q w = with_signed (Some (record { minus = false; at = w.numbers.last })) w
+words_plainly_after action.NoNumber q w = with_signed None w
+words_plainly_after action.LifeTemp q w = record w { life = Temp }
+words_plainly_after action.LifeTempJob q w = record w { life = TempJob }
+words_plainly_after action.Auto q w = record w { auto = true }
+words_plainly_after _ q w = w
+
 -- what has been read, when this event comes at this place
 abbrev pub words_after : Action → ℕ → Words → Words
-words_after action.Name q w = with_name q w
-words_after action.Number q w = with_number q w
-words_after action.Text q w = with_number q w
-words_after action.Operator q w = with_operator q w
-words_after action.MinusNumber q w = with_signed (Some (record { minus = true; at = w.numbers.last })) w
-words_after action.PlainNumber q w = with_signed (Some (record { minus = false; at = w.numbers.last })) w
-words_after action.NoNumber q w = with_signed None w
-words_after action.LifeTemp q w = record w { life = Temp }
-words_after action.LifeTempJob q w = record w { life = TempJob }
-words_after action.Auto q w = record w { auto = true }
 words_after action.OpenArguments q w =
     record w { names = record w.names { handle = w.names.before_last; kernel = w.names.last } }
 words_after action.SizesLength q w = record w { sizes = sizes.Length w.numbers.before_last w.numbers.last }
@@ -75,7 +97,7 @@ words_after action.SizesDefer q w = record w { sizes = sizes.Defer w.names.last 
 words_after action.OpenNames q w = record w { names = record w.names { opener = w.names.last }; is_listing = true }
 words_after action.Waived q w = record w { is_listing = false }
 words_after action.After q w = record w { is_listing = false }
-words_after _ q w = w
+words_after a q w = words_plainly_after a q w
 
 -- What has been read: its words, a schedule's arguments, the list of names that is being read or was last, and the
 -- names after `waive`.
@@ -94,8 +116,12 @@ reading_of r =
       waive = r.waive.items;
     }
 
+-- these words, and no lists
+abbrev pub only_words : Words → Reading
+only_words w = record { words = w; args = []; names = []; waive = [] }
+
 abbrev pub nothing_read : Reading
-nothing_read = record { words = no_words; args = []; names = []; waive = [] }
+nothing_read = only_words no_words
 
 -- what has been read, when this event comes at this place and leaves these words
 abbrev pub lists_after : Action → ℕ → Words → Reading → Reading
@@ -129,6 +155,7 @@ ends_use _ = false
 
 -- whether a statement without lists is whole with this event
 abbrev pub ends_worded : Action → Bool
+ends_worded action.ArrayStatement = true
 ends_worded action.ColumnStatement = true
 ends_worded action.ListStatement = true
 ends_worded action.ReferenceStatement = true
@@ -141,7 +168,6 @@ ends_worded a = ends_use a
 
 -- whether a statement, or what stands before its brace, is whole with this event
 abbrev pub ends : Action → Bool
-ends action.ArrayStatement = true
 ends action.ScheduleStatement = true
 ends action.CombineStatement = true
 ends action.DisposeStatement = true
@@ -169,6 +195,7 @@ used _ w = Flush
 
 -- a statement without lists
 abbrev pub worded : Action → Words → OrderForm
+worded action.ArrayStatement w = NewArray w.names.last w.numbers.last w.life None
 worded action.ColumnStatement w = NewColumn w.names.last w.numbers.last w.life
 worded action.ListStatement w = NewList w.names.last w.numbers.last w.life
 worded action.ReferenceStatement w = NewReference w.names.last w.life w.numbers.signed
@@ -181,7 +208,6 @@ worded a w = used a w
 
 -- the statement that is whole with this event
 abbrev pub finished : Action → Reading → OrderForm
-finished action.ArrayStatement r = NewArray r.words.names.last r.words.numbers.last r.words.life None
 finished action.ScheduleStatement r =
     Schedule r.words.auto r.words.names.handle r.words.names.kernel r.args r.words.sizes r.waive r.names
 finished action.CombineStatement r = Combine r.words.names.opener r.names

@@ -3,49 +3,25 @@
 ghost use Rattle.std.specs.Prelude.{◌≡◌, ◌≤◌, ◌+◌, true, Some, IfOk, length, take, drop};
 ghost use Rattle.frame_grammar.specs.Notes.{events_of};
 ghost use Rattle.frame_script.specs.Raw.{form_of, values_of, NewArray, BeginsOrder};
-ghost use Rattle.frame_script.specs.Reading.{reading_of, nothing_read, values_len, step, ends, finished};
+ghost use Rattle.frame_script.specs.Reading.{reading_of, only_words, nothing_read, order_from, values_len, step, ends, finished};
 
-use crate::build_words::{Words, signed_of};
+use crate::build_words::{Words, ends_worded, signed_of};
 use crate::raw::{RawArg, RawOrder};
 use crate::values::values_len;
-use frame_grammar::{Action, Event, Note};
+use frame_grammar::{Action, Event, Note, TokenAt};
 use std::alloc::{AllocError, Global};
-
-// TO ADD A STATEMENT: 7, the event that ends it, here and in specs/Reading.
 
 /// Whether a statement, or what stands before its brace, is whole with this event.
 fn ends(action: Action) -> bool
     ensures { result ≡ ends action }
 {
-    matches!(
-        action,
-        Action::ArrayStatement
-            | Action::ColumnStatement
-            | Action::ListStatement
-            | Action::ReferenceStatement
-            | Action::MapStatement
-            | Action::StreamStatement
-            | Action::SliceStatement
-            | Action::ViewStatement
-            | Action::CopyStatement
-            | Action::SetStatement
-            | Action::AddToStatement
-            | Action::PutStatement
-            | Action::RemoveFromStatement
-            | Action::ClearOutStatement
-            | Action::SetCapacityStatement
-            | Action::ScheduleStatement
-            | Action::CombineStatement
-            | Action::CompleteStatement
-            | Action::DisposeStatement
-            | Action::DisposeAfterStatement
-            | Action::DisposeAutoStatement
-            | Action::PrintStatement
-            | Action::FlushStatement
-            | Action::FrameStatement
-            | Action::OpenRepeat
-            | Action::OpenWhen
-    )
+    match action {
+        Action::ScheduleStatement
+        | Action::CombineStatement
+        | Action::DisposeStatement
+        | Action::DisposeAfterStatement => true,
+        _ => ends_worded(action),
+    }
 }
 
 /// What has been read of a statement. Its lists allocate nothing while they are empty.
@@ -54,16 +30,17 @@ struct Reader {
     words: Words,
     args: Vec<RawArg>,
     /// The list of names that is being read, or was last.
-    names: Vec<u32>,
-    waive: Vec<u32>,
+    names: Vec<TokenAt>,
+    waive: Vec<TokenAt>,
 }
 
 impl Reader {
-    fn new(alloc: Global) -> Self
-        ensures { reading_of result ≡ nothing_read }
+    // Of a statement whose lists begin behind these words.
+    fn new(alloc: Global, words: Words) -> Self
+        ensures { reading_of result ≡ only_words words }
     {
         Reader {
-            words: Words::new(),
+            words,
             args: Vec::new(alloc),
             names: Vec::new(alloc),
             waive: Vec::new(alloc),
@@ -74,11 +51,12 @@ impl Reader {
     fn take(&mut self, event: Event) -> Result<(), AllocError>
         ensures { IfOk result (λ _. reading_of self.new ≡ step event.action event.place (reading_of self.old)) }
     {
-        self.words.take(event);
-        match event.action {
+        let Event { action, place } = event;
+        self.words.take(action, place);
+        match action {
             Action::Name => {
                 if self.words.is_listing {
-                    self.names.push(event.place)?;
+                    self.names.push(place)?;
                 }
             }
             Action::NameArgument => self.args.push(RawArg::Name(self.words.names.last))?,
@@ -97,38 +75,39 @@ impl Reader {
         requires { ends action ≡ true }
         ensures { form_of result ≡ finished action (reading_of self) }
     {
-        let name = self.words.names.last;
+        let Reader {
+            words,
+            args,
+            names,
+            waive,
+        } = self;
+        let words = &words;
+        let name = words.names.last;
         match action {
-            Action::ArrayStatement => RawOrder::Array {
-                name,
-                len: self.words.numbers.last,
-                life: self.words.life,
-                values: None,
-            },
             Action::ScheduleStatement => RawOrder::Schedule {
-                auto: self.words.auto,
-                handle: self.words.names.handle,
-                kernel: self.words.names.kernel,
-                args: self.args,
-                sizes: self.words.sizes,
-                waive: self.waive,
-                after: self.names,
+                auto: words.auto,
+                handle: words.names.handle,
+                kernel: words.names.kernel,
+                args,
+                sizes: words.sizes,
+                waive,
+                after: names,
             },
             Action::CombineStatement => RawOrder::Combine {
-                name: self.words.names.opener,
-                of: self.names,
+                name: words.names.opener,
+                of: names,
             },
             Action::DisposeStatement => RawOrder::Dispose {
                 name,
-                after: self.names,
+                after: names,
                 handle: None,
             },
             Action::DisposeAfterStatement => RawOrder::Dispose {
-                name: self.words.names.opener,
-                after: self.names,
+                name: words.names.opener,
+                after: names,
                 handle: Some(name),
             },
-            _ => self.words.finish(action),
+            _ => words.finish(action),
         }
     }
 }
@@ -161,17 +140,24 @@ fn array_with<'a>(words: &Words, notes: &'a [Note], from: usize) -> ReadOrder<'a
     }
 }
 
-/// The statement that the events begin with, from the event after its `StartStatement` on.
-pub fn raw_order<'a>(alloc: Global, notes: &'a [Note]) -> Result<ReadOrder<'a>, AllocError>
-    requires { BeginsOrder (events_of notes.now) }
+// The statement that the events begin with, where these words are read of those before a place.
+fn listed_order<'a>(
+    alloc: Global,
+    words: Words,
+    notes: &'a [Note],
+    from: usize,
+) -> Result<ReadOrder<'a>, AllocError>
+    requires begun { BeginsOrder (events_of notes.now) }
+    requires words { order_from (only_words words) (drop from (events_of notes.now))
+        ≡ order_from nothing_read (events_of notes.now) }
     ensures form { IfOk result
         (λ found. (begun : BeginsOrder (events_of notes.now)) → form_of found.order ≡ begun.form) }
     ensures read { IfOk result
         (λ found. (begun : BeginsOrder (events_of notes.now)) → found.read ≡ length begun.events) }
 {
-    let mut reader = Reader::new(alloc);
-    for (index, note) in notes.iter().enumerate() {
-        let event = note.event();
+    let mut reader = Reader::new(alloc, words);
+    for index in from..notes.len() {
+        let event = notes[index].event();
         match event.action {
             Action::OpenValues => return Ok(array_with(&reader.words, notes, index + 1)),
             action if ends(action) => {
@@ -181,6 +167,31 @@ pub fn raw_order<'a>(alloc: Global, notes: &'a [Note]) -> Result<ReadOrder<'a>, 
                 });
             }
             _ => reader.take(event)?,
+        }
+    }
+    unreachable!()
+}
+
+/// The statement that the events begin with, from the event after its `StartStatement` on.
+// Most statements have no lists. Those are read by their words alone, and no list is made and dropped for them.
+pub fn raw_order<'a>(alloc: Global, notes: &'a [Note]) -> Result<ReadOrder<'a>, AllocError>
+    requires { BeginsOrder (events_of notes.now) }
+    ensures form { IfOk result
+        (λ found. (begun : BeginsOrder (events_of notes.now)) → form_of found.order ≡ begun.form) }
+    ensures read { IfOk result
+        (λ found. (begun : BeginsOrder (events_of notes.now)) → found.read ≡ length begun.events) }
+{
+    let mut words = Words::new();
+    for (index, note) in notes.iter().enumerate() {
+        let event = note.event();
+        if !words.take_word(event.action, event.place) {
+            if ends_worded(event.action) {
+                return Ok(ReadOrder {
+                    order: words.finish(event.action),
+                    read: index + 1,
+                });
+            }
+            return listed_order(alloc, words, notes, index);
         }
     }
     unreachable!()

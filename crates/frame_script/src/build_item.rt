@@ -8,7 +8,7 @@ ghost use Rattle.frame_script.specs.Items.{SpellsOpen, IsOpen, Leads};
 use crate::build::raw_order;
 use crate::build_kernel::kernel_len;
 use crate::raw::RawOrder;
-use frame_grammar::{Action, Note};
+use frame_grammar::{Action, Note, TokenAt};
 use std::alloc::{AllocError, Global};
 
 /// What begins or ends at an event, with the event after it.
@@ -22,7 +22,7 @@ pub enum RawItem<'a> {
     /// A statement with the place of its first token; of `repeat` and `when`, what stands before
     /// the brace.
     Order {
-        first: u32,
+        first: TokenAt,
         order: RawOrder<'a>,
         next: usize,
     },

@@ -23,6 +23,7 @@ fn items_of(alloc: Global, notes: &[Note]) -> Result<String, Fail>
                 at = next;
             }
             RawItem::Order { first, next, .. } => {
+                let first = first.place();
                 write!(text, "order {first} {next}, ")?;
                 at = next;
             }

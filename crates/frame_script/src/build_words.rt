@@ -2,11 +2,11 @@
 
 ghost use Rattle.std.specs.Prelude.{◌≡◌, true};
 ghost use Rattle.frame_script.specs.Raw.{form_of};
-ghost use Rattle.frame_script.specs.Reading.{words_after, signed_of, no_words, with_signed, ends_worded, ends_use, worded, used};
+ghost use Rattle.frame_script.specs.Reading.{is_word, words_plainly_after, words_after, signed_of, no_words, with_signed, ends_worded, ends_use, worded, used};
 
 use crate::raw::{RawNumber, RawOrder, RawSizes};
 use frame_ast::script::Life;
-use frame_grammar::{Action, Event};
+use frame_grammar::{Action, TokenAt};
 
 /// The names that were read last, by the places of their tokens.
 ///
@@ -16,27 +16,27 @@ use frame_grammar::{Action, Event};
 #[derive(Clone, Copy, Debug, PartialEq, Eq)]
 pub struct LastNames {
     /// The v of `slice v a 0 2`.
-    pub before_last: u32,
+    pub before_last: TokenAt,
     /// The a of `slice v a 0 2`, the x of `print x`.
-    pub last: u32,
+    pub last: TokenAt,
     /// The last before a list of names: the h of `combine h j k`.
-    pub opener: u32,
+    pub opener: TokenAt,
     /// The last two before arguments: the h and the k of `schedule h k(x, 3)`.
-    pub handle: u32,
-    pub kernel: u32,
+    pub handle: TokenAt,
+    pub kernel: TokenAt,
 }
 
 /// The Numbers, the operators and the signed numbers that were read last. Tokens are told by their places.
 #[derive(Clone, Copy, Debug, PartialEq, Eq)]
 pub struct LastNumbers {
     /// The 0 of `slice v a 0 2`.
-    pub before_last: u32,
+    pub before_last: TokenAt,
     /// The 2 of `slice v a 0 2`; a Text in `column`.
-    pub last: u32,
+    pub last: TokenAt,
     /// A comparison, where a `-` is read behind it: the `<` of `when x < -3 {`.
-    pub operator_before: u32,
+    pub operator_before: TokenAt,
     /// The `-` of a signed number, or a comparison with a number that has none: the `<` of `when x < 3 {`.
-    pub operator: u32,
+    pub operator: TokenAt,
     /// The 1 of `set x 1 = -5`. None where a statement leaves it out.
     pub signed_before: Option<RawNumber>,
     /// The -5 of `set x 1 = -5`.
@@ -55,13 +55,46 @@ pub struct Words {
     pub is_listing: bool,
 }
 
+// TO ADD A STATEMENT: 7, the event that ends it, here or, where it has a list, in build.rt, and in specs/Reading.
+
+/// Whether a statement without lists, or what stands before its brace, is whole with this event.
+pub fn ends_worded(action: Action) -> bool
+    ensures { result ≡ ends_worded action }
+{
+    matches!(
+        action,
+        Action::ArrayStatement
+            | Action::ColumnStatement
+            | Action::ListStatement
+            | Action::ReferenceStatement
+            | Action::MapStatement
+            | Action::StreamStatement
+            | Action::SliceStatement
+            | Action::ViewStatement
+            | Action::CopyStatement
+            | Action::SetStatement
+            | Action::AddToStatement
+            | Action::PutStatement
+            | Action::RemoveFromStatement
+            | Action::ClearOutStatement
+            | Action::SetCapacityStatement
+            | Action::CompleteStatement
+            | Action::DisposeAutoStatement
+            | Action::PrintStatement
+            | Action::FlushStatement
+            | Action::FrameStatement
+            | Action::OpenRepeat
+            | Action::OpenWhen
+    )
+}
+
 /// The signed number, where there is one.
 pub fn signed_of(number: Option<RawNumber>) -> RawNumber
     ensures { result ≡ signed_of number }
 {
     number.unwrap_or(RawNumber {
         minus: false,
-        at: 0,
+        at: TokenAt::of(0),
     })
 }
 
@@ -72,17 +105,17 @@ impl Words {
     {
         Words {
             names: LastNames {
-                before_last: 0,
-                last: 0,
-                opener: 0,
-                handle: 0,
-                kernel: 0,
+                before_last: TokenAt::of(0),
+                last: TokenAt::of(0),
+                opener: TokenAt::of(0),
+                handle: TokenAt::of(0),
+                kernel: TokenAt::of(0),
             },
             numbers: LastNumbers {
-                before_last: 0,
-                last: 0,
-                operator_before: 0,
-                operator: 0,
+                before_last: TokenAt::of(0),
+                last: TokenAt::of(0),
+                operator_before: TokenAt::of(0),
+                operator: TokenAt::of(0),
                 signed_before: None,
                 signed: None,
             },
@@ -100,13 +133,14 @@ impl Words {
         self.numbers.signed = number;
     }
 
-    /// Takes the next event of a statement.
-    pub fn take(&mut self, event: Event)
-        ensures { self.new ≡ words_after event.action event.place self.old }
+    /// Takes the next event of a statement where it says a word outside its lists. Answers whether it does.
+    #[inline(always)]
+    pub fn take_word(&mut self, action: Action, place: TokenAt) -> bool
+        ensures plain { result ≡ is_word action }
+        ensures words { self.new ≡ words_plainly_after action place self.old }
     {
-        let place = event.place;
         let number = self.numbers.last;
-        match event.action {
+        match action {
             Action::Name => {
                 self.names.before_last = self.names.last;
                 self.names.last = place;
@@ -131,12 +165,30 @@ impl Words {
             Action::LifeTemp => self.life = Life::Temp,
             Action::LifeTempJob => self.life = Life::TempJob,
             Action::Auto => self.auto = true,
+            Action::LifeNone | Action::LifePersistent | Action::NoValues | Action::NotAuto => {}
+            _ => return false,
+        }
+        true
+    }
+
+    /// Takes the next event of a statement.
+    pub fn take(&mut self, action: Action, place: TokenAt)
+        ensures { self.new ≡ words_after action place self.old }
+    {
+        if self.take_word(action, place) {
+            return;
+        }
+        match action {
             Action::OpenArguments => {
                 self.names.handle = self.names.before_last;
                 self.names.kernel = self.names.last;
             }
-            Action::SizesLength => self.sizes = RawSizes::Length(self.numbers.before_last, number),
-            Action::SizesDefer => self.sizes = RawSizes::Defer(self.names.last, number),
+            Action::SizesLength => {
+                self.sizes = RawSizes::Length(self.numbers.before_last, self.numbers.last);
+            }
+            Action::SizesDefer => {
+                self.sizes = RawSizes::Defer(self.names.last, self.numbers.last);
+            }
             Action::OpenNames => {
                 self.names.opener = self.names.last;
                 self.is_listing = true;
@@ -155,6 +207,12 @@ impl Words {
         let number = self.numbers.last;
         let life = self.life;
         match action {
+            Action::ArrayStatement => RawOrder::Array {
+                name,
+                len: number,
+                life,
+                values: None,
+            },
             Action::ColumnStatement => RawOrder::Column {
                 name,
                 column: number,

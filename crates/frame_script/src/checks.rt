@@ -16,18 +16,18 @@ use crate::{Names, OrderFault, Source};
 use frame_ast::kernel::FaultKind;
 use frame_ast::name_kind::NameKind;
 use job_base::limits::{MOST_COLUMN_BYTES, MOST_NAME_BYTES};
-use kernel_code::StaticFault;
+use kernel_code::{StaticFault, TokenAt};
 use std::alloc::Global;
 
 /// The refusal by this fault.
-pub fn refused<T>(kind: FaultKind, at: u32) -> Result<T, OrderFault>
+pub fn refused<T>(kind: FaultKind, at: TokenAt) -> Result<T, OrderFault>
     ensures { result ≡ Err (OrderFault.Refused (record { at = at; kind = kind })) }
 {
     Err(OrderFault::Refused(StaticFault { at, kind }))
 }
 
 /// A Number within limits.
-pub fn limited(source: Source<'_>, least: u32, most: u32, at: u32) -> Result<u32, OrderFault>
+pub fn limited(source: Source<'_>, least: u32, most: u32, at: TokenAt) -> Result<u32, OrderFault>
     ensures { Gives (limit_fault source.entry least most at) (λ n. n ≡ number_at source.entry at) result }
 {
     let number = source.number(at);
@@ -61,7 +61,7 @@ pub fn is_among(kind: NameKind, kinds: &[NameKind]) -> bool
 }
 
 // The text of a name that isn't too long.
-fn short_text(text: &[u8], at: u32) -> Result<(), OrderFault>
+fn short_text(text: &[u8], at: TokenAt) -> Result<(), OrderFault>
     ensures { Gives (unless (nat_le (length text.now) MOST_NAME_BYTES) Limit at) (λ _. ⊤) result }
 {
     if text.len() > MOST_NAME_BYTES as usize {
@@ -71,7 +71,7 @@ fn short_text(text: &[u8], at: u32) -> Result<(), OrderFault>
 }
 
 /// A name that isn't too long.
-pub fn short(source: Source<'_>, at: u32) -> Result<(), OrderFault>
+pub fn short(source: Source<'_>, at: TokenAt) -> Result<(), OrderFault>
     ensures { Gives (long_fault source.entry at) (λ _. ⊤) result }
 {
     short_text(source.text(at), at)
@@ -82,7 +82,7 @@ pub fn used(
     source: Source<'_>,
     names: &Names<'_>,
     kinds: &[NameKind],
-    at: u32,
+    at: TokenAt,
 ) -> Result<u32, OrderFault>
     ensures { Gives (use_fault source.entry names.now kinds.now at) (IsPlace source.entry names.now at) result }
 {
@@ -100,7 +100,7 @@ pub fn made(
     source: Source<'_>,
     names: &Names<'_>,
     kind: NameKind,
-    at: u32,
+    at: TokenAt,
 ) -> Result<u32, OrderFault>
     ensures { Gives (make_fault source.entry names.now kind at)
         (λ place. place ≡ place_of source.entry (names_with source.entry names.now (Some (at, kind))) at) result }
@@ -138,7 +138,7 @@ pub fn handles(
     alloc: Global,
     source: Source<'_>,
     names: &Names<'_>,
-    handles: &[u32],
+    handles: &[TokenAt],
 ) -> Result<Vec<u32>, OrderFault>
     ensures { Gives (first_some (handles_faults source.entry names.now handles.now))
         (λ places. ArePlaces source.entry names.now handles.now places.items) result }
@@ -152,7 +152,7 @@ pub fn handles(
 }
 
 /// The Text of a column, without its quotes, where it isn't too long.
-pub fn short_column<'a>(source: Source<'a>, at: u32) -> Result<&'a [u8], OrderFault>
+pub fn short_column<'a>(source: Source<'a>, at: TokenAt) -> Result<&'a [u8], OrderFault>
     ensures { Gives (column_fault source.entry at) (λ text. text.now ≡ column_at source.entry at) result }
 {
     let text = source.column(at);

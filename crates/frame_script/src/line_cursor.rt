@@ -5,7 +5,7 @@ ghost use Rattle.frame_script.specs.Sources.{line_at};
 ghost use Rattle.frame_script.specs.declared.source.Source.{Source};
 
 use crate::Source;
-use kernel_code::lines_in;
+use kernel_code::{TokenAt, lines_in};
 
 /// A place among the tokens of a file, and the line there.
 ///
@@ -42,13 +42,13 @@ impl LineCursor {
     }
 
     /// Goes to the token at a place. Answers its line, counted from 1; 0 where no token stands there.
-    pub fn go_to(&mut self, source: Source<'_>, at: u32) -> u32
+    pub fn go_to(&mut self, source: Source<'_>, at: TokenAt) -> u32
         requires few { length source.marks.now < 2 ^ 32 - 1 }
         requires on { IsOn source self.old }
         ensures line { result ≡ line_at source.entry at }
         ensures on { IsOn source.entry self.new }
     {
-        let place = at as usize;
+        let place = at.index();
         if place >= source.marks.len() {
             return 0;
         }

@@ -1,10 +1,12 @@
 //! Reads a file as a script.
 
-ghost use Rattle.std.specs.Prelude.{◌≡◌, ◌≤◌, ℕ, Some, All, length, IfOk, IsUtf8};
+ghost use Rattle.std.specs.Prelude.{◌≡◌, ◌≤◌, ◌<◌, ◌+◌, ◌^◌, ℕ, List, Some, All, length, slice_get, IfOk, IsUtf8};
 ghost use Rattle.job_base.specs.declared.limits.TheConstants.{MOST_SCRIPT_BYTES};
 ghost use Rattle.frame_ast.specs.declared.kernel.FaultKind.{FaultKind};
-ghost use Rattle.frame_ast.specs.declared.kernel.FaultKind.TheVariants.{TooLong};
+ghost use Rattle.frame_ast.specs.declared.kernel.FaultKind.TheVariants.{Syntax, TooLong};
 ghost use Rattle.frame_ast.specs.Accepted.{IsAccepted};
+ghost use Rattle.kernel_code.specs.Marks.{tokens_in};
+ghost use Rattle.kernel_code.specs.StaticFaults.{token_line};
 ghost use Rattle.frame_script.specs.Loading.{Spells, IsRefused};
 ghost use Rattle.frame_script.specs.Walking.{Gathers};
 
@@ -14,7 +16,7 @@ use crate::{LoadFault, Source};
 use frame_ast::kernel::FaultKind;
 use frame_ast::script::Script;
 use frame_grammar::ParseError;
-use kernel_code::{lex, line_at};
+use kernel_code::{Mark, lex, line_at};
 use std::alloc::Global;
 
 /// The script that was written out, or its first statement too many.
@@ -39,6 +41,23 @@ fn script_of(alloc: Global, walk: Walk<'_>) -> Result<Script, LoadFault>
     }
 }
 
+// Why a file of these tokens is refused that the parser gives none for.
+fn refusal(error: ParseError, marks: &[Mark]) -> LoadFault
+    requires { 1 + length marks.now < 2 ^ 32 }
+    ensures syntax { (line : ℕ) (kind : FaultKind) → result ≡ LoadFault.Refused line kind → kind ≡ Syntax }
+    ensures place { (line : ℕ) (kind : FaultKind) → result ≡ LoadFault.Refused line kind →
+        (place : ℕ) × (error ≡ ParseError.Syntax place)
+        × ((source : List ℕ) → line ≡ token_line (slice_get (tokens_in source 1 marks.now) place)) }
+{
+    match error {
+        ParseError::Syntax(place) => LoadFault::Refused {
+            line: line_at(marks, 1, place),
+            kind: FaultKind::Syntax,
+        },
+        ParseError::Memory => LoadFault::NoMemory,
+    }
+}
+
 /// The script that the bytes of a file parse to.
 ///
 /// A file is refused for its first fault: of syntax, else the first static fault in the order of the
@@ -54,13 +73,7 @@ pub fn parse_script(alloc: Global, source: &[u8]) -> Result<Script, LoadFault>
     let marks = lex(alloc, source)?;
     let found = match file_events(alloc, &marks) {
         Ok(found) => found,
-        Err(ParseError::Syntax(place)) => {
-            return Err(LoadFault::Refused {
-                line: line_at(&marks, 1, place),
-                kind: FaultKind::Syntax,
-            });
-        }
-        Err(ParseError::Memory) => return Err(LoadFault::NoMemory),
+        Err(error) => return Err(refusal(error, &marks)),
     };
     let file = Source {
         bytes: source,

@@ -19,6 +19,7 @@ use crate::{Kernels, Names, OrderFault, Source};
 use frame_ast::kernel::FaultKind;
 use frame_ast::name_kind::NameKind;
 use frame_ast::script::Order;
+use frame_grammar::TokenAt;
 use job_base::limits::{MOST_BLOCKS, MOST_REPEATS};
 use jobs::{Schedule, check_schedule};
 pub use makes::{Valued, valued_array};
@@ -98,7 +99,7 @@ pub fn check_order(
                 waive: waive.as_slice(),
                 after: after.as_slice(),
             };
-            check_schedule(alloc, source, names, kernels, text)
+            check_schedule(alloc, source, names, kernels, &text)
         }
         RawOrder::Combine { name, of } => {
             makes::combine(alloc, source, names, *name, of.as_slice())
@@ -123,7 +124,7 @@ pub fn check_order(
 }
 
 // A block stands in at most so many others, and no `when` in another.
-fn opened(blocks: u32, allowed: bool, at: u32) -> Result<(), OrderFault>
+fn opened(blocks: u32, allowed: bool, at: TokenAt) -> Result<(), OrderFault>
     ensures { Gives (unless (nat_lt blocks MOST_BLOCKS && allowed) Limit at) (λ _. ⊤) result }
 {
     if blocks < MOST_BLOCKS && allowed {
@@ -134,7 +135,12 @@ fn opened(blocks: u32, allowed: bool, at: u32) -> Result<(), OrderFault>
 }
 
 /// The count of a `repeat` that stands in so many blocks and begins at a place.
-pub fn check_repeat(source: Source<'_>, blocks: u32, at: u32, count: u32) -> Result<u32, OrderFault>
+pub fn check_repeat(
+    source: Source<'_>,
+    blocks: u32,
+    at: TokenAt,
+    count: TokenAt,
+) -> Result<u32, OrderFault>
     ensures { Gives (first_some (order_faults source.entry
         (record { names = []; kernels = []; blocks = blocks; tested = false }) at (Repeat count)))
         (λ n. n ≡ number_at source.entry count) result }
@@ -151,9 +157,9 @@ pub fn check_when(
     names: &Names<'_>,
     blocks: u32,
     tested: bool,
-    at: u32,
-    name: u32,
-    sign: u32,
+    at: TokenAt,
+    name: TokenAt,
+    sign: TokenAt,
     value: RawNumber,
 ) -> Result<Order, OrderFault>
     ensures { Checked source.entry (record { names = names.now; kernels = []; blocks = blocks; tested = tested }) 0 at

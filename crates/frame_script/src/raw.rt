@@ -1,21 +1,21 @@
 //! The raw form of a statement: what its tokens say before any name is looked up.
 //!
-//! Tokens are given by their places among those of the file.
+//! Tokens are told by their places among those of the file.
 
 use frame_ast::script::Life;
-use frame_grammar::Note;
+use frame_grammar::{Note, TokenAt};
 
 /// A signed number: whether `-` stands before it, and its Number.
 #[derive(Clone, Copy, Debug, PartialEq, Eq)]
 pub struct RawNumber {
     pub minus: bool,
-    pub at: u32,
+    pub at: TokenAt,
 }
 
 /// An argument of a schedule.
 #[derive(Clone, Copy, Debug, PartialEq, Eq)]
 pub enum RawArg {
-    Name(u32),
+    Name(TokenAt),
     Number(RawNumber),
 }
 
@@ -24,9 +24,9 @@ pub enum RawArg {
 pub enum RawSizes {
     None,
     /// Two Numbers: the length and the batch.
-    Length(u32, u32),
+    Length(TokenAt, TokenAt),
     /// `defer`: the name of a list, and the Number of the batch.
-    Defer(u32, u32),
+    Defer(TokenAt, TokenAt),
 }
 
 // TO ADD A STATEMENT: 6, its raw form, after the one of frame_ast's `Order`.
@@ -35,118 +35,118 @@ pub enum RawSizes {
 #[derive(Drop)]
 pub enum RawOrder<'a> {
     Array {
-        name: u32,
-        len: u32,
+        name: TokenAt,
+        len: TokenAt,
         life: Life,
         /// The notes of its values, as the grammar has them, in order. An array can have a million of them, so they
         /// stay where they are.
         values: Option<&'a [Note]>,
     },
     Column {
-        name: u32,
-        column: u32,
+        name: TokenAt,
+        column: TokenAt,
         life: Life,
     },
     List {
-        name: u32,
-        cap: u32,
+        name: TokenAt,
+        cap: TokenAt,
         life: Life,
     },
     Reference {
-        name: u32,
+        name: TokenAt,
         life: Life,
         value: Option<RawNumber>,
     },
     Map {
-        name: u32,
-        cap: u32,
+        name: TokenAt,
+        cap: TokenAt,
         life: Life,
     },
     Stream {
-        name: u32,
-        count: u32,
-        room: u32,
+        name: TokenAt,
+        count: TokenAt,
+        room: TokenAt,
         life: Life,
     },
     Slice {
-        name: u32,
-        of: u32,
-        start: u32,
-        len: u32,
+        name: TokenAt,
+        of: TokenAt,
+        start: TokenAt,
+        len: TokenAt,
     },
     View {
-        name: u32,
-        of: u32,
+        name: TokenAt,
+        of: TokenAt,
     },
     Copy {
-        name: u32,
-        of: u32,
+        name: TokenAt,
+        of: TokenAt,
     },
     Set {
-        name: u32,
+        name: TokenAt,
         at: Option<RawNumber>,
         value: RawNumber,
     },
     Add {
-        name: u32,
+        name: TokenAt,
         first: RawNumber,
         second: Option<RawNumber>,
     },
     Put {
-        name: u32,
+        name: TokenAt,
         key: RawNumber,
         value: RawNumber,
     },
     Remove {
-        name: u32,
+        name: TokenAt,
         at: RawNumber,
     },
     Clear {
-        name: u32,
+        name: TokenAt,
     },
     SetCapacity {
-        name: u32,
-        cap: u32,
+        name: TokenAt,
+        cap: TokenAt,
     },
     Schedule {
         auto: bool,
-        handle: u32,
-        kernel: u32,
+        handle: TokenAt,
+        kernel: TokenAt,
         args: Vec<RawArg>,
         sizes: RawSizes,
-        waive: Vec<u32>,
-        after: Vec<u32>,
+        waive: Vec<TokenAt>,
+        after: Vec<TokenAt>,
     },
     Combine {
-        name: u32,
-        of: Vec<u32>,
+        name: TokenAt,
+        of: Vec<TokenAt>,
     },
     Complete {
         auto: bool,
-        name: u32,
+        name: TokenAt,
     },
     /// With the handle after `as` exactly where there is `after`.
     Dispose {
-        name: u32,
-        after: Vec<u32>,
-        handle: Option<u32>,
+        name: TokenAt,
+        after: Vec<TokenAt>,
+        handle: Option<TokenAt>,
     },
     DisposeAuto {
-        name: u32,
-        handle: u32,
+        name: TokenAt,
+        handle: TokenAt,
     },
     Print {
-        name: u32,
+        name: TokenAt,
     },
     Flush,
     Frame,
     Repeat {
-        count: u32,
+        count: TokenAt,
     },
     /// With the token of its comparison.
     When {
-        name: u32,
-        sign: u32,
+        name: TokenAt,
+        sign: TokenAt,
         value: RawNumber,
     },
 }

@@ -4,7 +4,7 @@ ghost use Rattle.std.specs.Prelude.{◌≡◌, ◌-◌, ◌<◌, ◌^◌, min, l
 ghost use Rattle.frame_script.specs.Signs.{sign_of, sign_in};
 
 use frame_ast::script::Sign;
-use kernel_code::{Mark, TokenKind, line_at};
+use kernel_code::{Mark, TokenAt, TokenKind, line_at};
 
 /// A file: its bytes, and its tokens.
 #[derive(Clone, Copy, Debug)]
@@ -17,10 +17,10 @@ impl<'a> Source<'a> {
     ghost use Rattle.frame_script.specs.Sources.{file_tokens, text_at, line_at, number_at, column_at};
 
     /// The bytes of the token at a place, none where no token stands there.
-    pub fn text(self, at: u32) -> &'a [u8]
+    pub fn text(self, at: TokenAt) -> &'a [u8]
         ensures { result.now ≡ text_at self.entry at }
     {
-        match self.marks.get(at as usize) {
+        match self.marks.get(at.index()) {
             None => &[],
             Some(mark) => mark.text(self.bytes),
         }
@@ -30,7 +30,7 @@ impl<'a> Source<'a> {
     ///
     /// It is counted from the first token on. Whoever wants the lines of many tokens has a
     /// `LineCursor`.
-    pub fn line(self, at: u32) -> u32
+    pub fn line(self, at: TokenAt) -> u32
         requires few { length self.marks.now < 2 ^ 32 - 1 }
         ensures { result ≡ line_at self.entry at }
     {
@@ -38,17 +38,17 @@ impl<'a> Source<'a> {
     }
 
     /// The value of the Number at a place, or the greatest u64 where it is greater.
-    pub fn number(self, at: u32) -> u64
+    pub fn number(self, at: TokenAt) -> u64
         ensures { result ≡ min (number_at self.entry at) (2 ^ 64 - 1) }
     {
-        match self.marks.get(at as usize) {
+        match self.marks.get(at.index()) {
             None => 0,
             Some(mark) => mark.value(self.bytes),
         }
     }
 
     /// The Text at a place, without its quotes.
-    pub fn column(self, at: u32) -> &'a [u8]
+    pub fn column(self, at: TokenAt) -> &'a [u8]
         ensures { result.now ≡ column_at self.entry at }
     {
         let text = self.text(at);
@@ -60,10 +60,10 @@ impl<'a> Source<'a> {
     }
 
     /// The comparison at a place.
-    pub fn sign(self, at: u32) -> Sign
+    pub fn sign(self, at: TokenAt) -> Sign
         ensures { result ≡ sign_in (slice_get (file_tokens self.entry) at) }
     {
-        match self.marks.get(at as usize) {
+        match self.marks.get(at.index()) {
             None => Sign::Eq,
             Some(mark) => sign_of(mark.kind()),
         }

@@ -12,7 +12,7 @@ ghost use Rattle.frame_script.specs.Checks.{Gives};
 use crate::checks::signed;
 use crate::raw::RawNumber;
 use crate::{OrderFault, Source};
-use frame_grammar::{Action, Note};
+use frame_grammar::{Action, Note, TokenAt};
 use std::alloc::Global;
 
 fn closes_values(action: Action) -> bool
@@ -65,7 +65,7 @@ pub fn signed_values(
         (λ values. values.items ≡ map (signed_at source.entry) (values_of (events_of notes.now))) result }
 {
     let mut values = Vec::with_capacity(alloc, count as usize)?;
-    let mut at = 0;
+    let mut at = TokenAt::of(0);
     for note in notes {
         let event = note.event();
         match event.action {

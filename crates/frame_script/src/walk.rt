@@ -21,8 +21,7 @@ use crate::walk_kernel::add_kernel;
 use crate::walk_order::{count_of, make_name, order_said};
 use crate::written::Written;
 use crate::{Kernels, LineCursor, LoadFault, Names, OrderFault, Source};
-use frame_ast::script::Statement;
-use frame_grammar::Note;
+use frame_grammar::{Note, TokenAt};
 use job_base::NoMemory;
 use std::alloc::Global;
 
@@ -80,7 +79,7 @@ impl<'a> Walk<'a> {
         &mut self,
         alloc: Global,
         source: Source<'a>,
-        at: u32,
+        at: TokenAt,
         line: u32,
         raw: &RawOrder<'_>,
     ) -> Result<(), OrderFault>
@@ -97,14 +96,19 @@ impl<'a> Walk<'a> {
             &mut self.literals,
             raw,
         )?;
-        make_name(source, &mut self.names, raw)?;
-        self.written.add(Statement { line, act })?;
+        make_name(source, &mut self.names, raw, &act)?;
+        self.written.add(line, act)?;
         Ok(())
     }
 
     // What stands before the brace of a `repeat`.
     #[inline(never)]
-    fn open_repeat(&mut self, source: Source<'a>, at: u32, count: u32) -> Result<(), OrderFault>
+    fn open_repeat(
+        &mut self,
+        source: Source<'a>,
+        at: TokenAt,
+        count: TokenAt,
+    ) -> Result<(), OrderFault>
         ensures { Gives (first_some (order_faults source.entry (scope_of self.old) at (Repeat count)))
             (λ _. TakesRepeat source.entry count self.old self.new) result }
     {
@@ -120,10 +124,10 @@ impl<'a> Walk<'a> {
     fn open_when(
         &mut self,
         source: Source<'a>,
-        at: u32,
+        at: TokenAt,
         line: u32,
-        name: u32,
-        sign: u32,
+        name: TokenAt,
+        sign: TokenAt,
         value: RawNumber,
     ) -> Result<(), OrderFault>
         requires line { line ≡ line_at source at }
@@ -141,7 +145,7 @@ impl<'a> Walk<'a> {
             sign,
             value,
         )?;
-        self.written.open_when(Statement { line, act })?;
+        self.written.open_when(line, act)?;
         self.around.push(self.tested)?;
         self.tested = true;
         Ok(())
@@ -168,7 +172,7 @@ impl<'a> Walk<'a> {
         &mut self,
         alloc: Global,
         source: Source<'a>,
-        at: u32,
+        at: TokenAt,
         line: u32,
         raw: &RawOrder<'_>,
     ) -> Result<(), OrderFault>

@@ -1,10 +1,12 @@
 //! One statement of a file: what it says, and the name that it makes.
 
-ghost use Rattle.std.specs.Prelude.{◌≡◌, ◌++◌, length, None, Some, MatchOption, IsTrue, IfOk};
+ghost use Rattle.std.specs.Prelude.{◌≡◌, ◌++◌, ℕ, length, None, Some, MatchOption, IsTrue, IfOk};
+ghost use Rattle.frame_ast.specs.declared.name_kind.NameKind.{NameKind};
 ghost use Rattle.frame_ast.specs.Lists.{first_some};
 ghost use Rattle.frame_script.specs.Raw.{form_of, closing};
 ghost use Rattle.frame_script.specs.Faults.{order_faults, made_by};
-ghost use Rattle.frame_script.specs.Spelling.{Says, names_after};
+ghost use Rattle.frame_script.specs.Spelling.{Says, names_after, place_of};
+ghost use Rattle.frame_script.specs.Made.{made_place};
 ghost use Rattle.frame_script.specs.Files.{literals_of};
 ghost use Rattle.frame_script.specs.Checks.{Gives, among, is_plain, valued_form};
 ghost use Rattle.frame_script.specs.Walking.{lists_in};
@@ -14,13 +16,18 @@ use crate::raw::RawOrder;
 use crate::{Kernels, Names, OrderFault, Source};
 use frame_ast::name_kind::NameKind;
 use frame_ast::script::Order;
+use frame_grammar::TokenAt;
 use job_base::NoMemory;
 use std::alloc::Global;
 
 // TO ADD A STATEMENT: 10, the name that it makes, where it makes one.
 
 /// The name that a statement makes, and what it then stands for.
-fn made_name(source: Source<'_>, names: &Names<'_>, raw: &RawOrder<'_>) -> Option<(u32, NameKind)>
+fn made_name(
+    source: Source<'_>,
+    names: &Names<'_>,
+    raw: &RawOrder<'_>,
+) -> Option<(TokenAt, NameKind)>
     ensures { result ≡ made_by source.entry names.now (form_of raw.now) }
 {
     match raw {
@@ -47,17 +54,49 @@ fn made_name(source: Source<'_>, names: &Names<'_>, raw: &RawOrder<'_>) -> Optio
     }
 }
 
-/// Makes the name that a statement makes, where it makes one.
+/// The place of the name that a statement makes, where it makes one.
+fn made_place(act: &Order) -> Option<u32>
+    ensures { result ≡ made_place act.now }
+{
+    match act {
+        Order::Array { name, .. } => Some(*name),
+        Order::Column { name, .. } => Some(*name),
+        Order::List { name, .. } => Some(*name),
+        Order::Reference { name, .. } => Some(*name),
+        Order::Map { name, .. } => Some(*name),
+        Order::Stream { name, .. } => Some(*name),
+        Order::Slice { name, .. } => Some(*name),
+        Order::View { name, .. } => Some(*name),
+        Order::Copy { name, .. } => Some(*name),
+        Order::Schedule { handle, .. } => Some(*handle),
+        Order::Combine { name, .. } => Some(*name),
+        Order::Dispose { handle, .. } => *handle,
+        Order::DisposeAuto { handle, .. } => Some(*handle),
+        _ => None,
+    }
+}
+
+/// Makes the name that a statement makes, where it makes one and the name isn't known yet; `act` is what the statement
+/// says.
+// Whether it is known stands in `act`, by which it isn't looked up once more.
 pub fn make_name<'a>(
     source: Source<'a>,
     names: &mut Names<'a>,
     raw: &RawOrder<'_>,
+    act: &Order,
 ) -> Result<(), NoMemory>
+    requires { (at : ℕ) (kind : NameKind) → made_by source names.old (form_of raw.now) ≡ Some (at, kind) →
+        made_place act.now ≡ Some (place_of source (names_after source names.old (form_of raw.now)) at) }
     ensures { IfOk result (λ _. names.new ≡ names_after source.entry names.old (form_of raw.now)) }
 {
     let Some((at, kind)) = made_name(source, names, raw) else {
         return Ok(());
     };
+    if let Some(place) = made_place(act)
+        && place < names.len()
+    {
+        return Ok(());
+    }
     if names.len() == u32::MAX {
         return Err(NoMemory);
     }

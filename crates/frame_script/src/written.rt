@@ -86,20 +86,20 @@ impl Written {
     }
 
     /// A statement comes next.
-    pub fn add(&mut self, statement: Statement) -> Result<(), NoMemory>
-        ensures { IfOk result (λ _. self.new ≡ put self.old statement) }
+    pub fn add(&mut self, line: u32, act: Order) -> Result<(), NoMemory>
+        ensures { IfOk result (λ _. self.new ≡ put self.old (record { line = line; act = act })) }
     {
         if self.over.is_some() {
             return Ok(());
         }
-        if !self.has_room(&statement.act) {
-            self.over = Some(statement.line);
+        if !self.has_room(&act) {
+            self.over = Some(line);
             return Ok(());
         }
-        if is_test(&statement.act) {
+        if is_test(&act) {
             self.tests += 1;
         }
-        self.statements.push(statement)?;
+        self.statements.push(Statement { line, act })?;
         Ok(())
     }
 
@@ -113,12 +113,12 @@ impl Written {
     }
 
     /// A `when` comes next, and then its block.
-    pub fn open_when(&mut self, statement: Statement) -> Result<(), NoMemory>
+    pub fn open_when(&mut self, line: u32, act: Order) -> Result<(), NoMemory>
         ensures { IfOk result (λ _. self.new ≡ opened (block.When (length self.old.statements))
-            (put self.old statement)) }
+            (put self.old (record { line = line; act = act }))) }
     {
         let at = self.statements.len() as u32;
-        self.add(statement)?;
+        self.add(line, act)?;
         self.blocks.push(OpenBlock::When { at })?;
         Ok(())
     }
@@ -131,7 +131,7 @@ impl Written {
     {
         for at in start..end {
             let statement = copy_of(alloc, &self.statements[at])?;
-            self.add(statement)?;
+            self.add(statement.line, statement.act)?;
         }
         Ok(())
     }

@@ -1,23 +1,16 @@
 use crate::written::Written;
-use frame_ast::script::{Arg, Life, Order, Sign, Statement};
+use frame_ast::script::{Arg, Life, Order, Sign};
 use std::alloc::Global;
 use std::fmt::Write;
 use std::test::Fail;
 
-fn on(line: u32, act: Order) -> Statement {
-    Statement { line, act }
-}
-
-fn a_when(line: u32) -> Statement {
-    on(
-        line,
-        Order::When {
-            name: 0,
-            sign: Sign::Eq,
-            value: 0,
-            count: 0,
-        },
-    )
+fn a_when() -> Order {
+    Order::When {
+        name: 0,
+        sign: Sign::Eq,
+        value: 0,
+        count: 0,
+    }
 }
 
 /// The line of each statement, and how many a `when` has behind it.
@@ -41,17 +34,17 @@ fn text_of(alloc: Global, written: Written) -> Result<String, Fail> {
 fn blocks_are_written_out(rt: HostRuntime) -> Result<(), Fail> {
     let alloc = rt.alloc();
     let mut written = Written::new(alloc);
-    written.add(on(1, Order::Frame))?;
+    written.add(1, Order::Frame)?;
     written.open_repeat(2)?;
-    written.open_when(a_when(3))?;
+    written.open_when(3, a_when())?;
     written.open_repeat(3)?;
-    written.add(on(5, Order::Flush))?;
+    written.add(5, Order::Flush)?;
     written.close(alloc)?;
     written.close(alloc)?;
     written.close(alloc)?;
     written.open_repeat(65_536)?;
     written.close(alloc)?;
-    written.add(on(11, Order::Frame))?;
+    written.add(11, Order::Frame)?;
     let text = text_of(alloc, written)?;
     assert_eq!(rt; text.as_str(), "1 3(3) 5 5 5 3(3) 5 5 5 11 ");
     Ok(())
@@ -61,11 +54,11 @@ fn blocks_are_written_out(rt: HostRuntime) -> Result<(), Fail> {
 fn the_first_statement_too_many_is_kept(rt: HostRuntime) -> Result<(), Fail> {
     let alloc = rt.alloc();
     let mut written = Written::new(alloc);
-    written.add(on(1, Order::Frame))?;
+    written.add(1, Order::Frame)?;
     written.open_repeat(65_536)?;
-    written.add(on(3, Order::Flush))?;
+    written.add(3, Order::Flush)?;
     written.close(alloc)?;
-    written.add(on(5, Order::Frame))?;
+    written.add(5, Order::Frame)?;
     let text = text_of(alloc, written)?;
     assert_eq!(rt; text.as_str(), "over 3");
     Ok(())
@@ -76,11 +69,11 @@ fn the_first_when_too_many_is_kept(rt: HostRuntime) -> Result<(), Fail> {
     let alloc = rt.alloc();
     let mut written = Written::new(alloc);
     written.open_repeat(1_024)?;
-    written.open_when(a_when(2))?;
+    written.open_when(2, a_when())?;
     written.close(alloc)?;
     written.close(alloc)?;
-    written.add(on(5, Order::Frame))?;
-    written.open_when(a_when(6))?;
+    written.add(5, Order::Frame)?;
+    written.open_when(6, a_when())?;
     written.close(alloc)?;
     let text = text_of(alloc, written)?;
     assert_eq!(rt; text.as_str(), "over 6");
@@ -154,7 +147,7 @@ fn copies_have_lists_of_their_own(rt: HostRuntime) -> Result<(), Fail> {
     ] {
         let mut written = Written::new(alloc);
         written.open_repeat(2)?;
-        written.add(on(1, act))?;
+        written.add(1, act)?;
         written.close(alloc)?;
         match written.finish() {
             Ok(statements) => {

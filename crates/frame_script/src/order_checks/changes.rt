@@ -13,13 +13,14 @@ use crate::raw::RawNumber;
 use crate::{Names, OrderFault, Source};
 use frame_ast::name_kind::{CLEARABLE, CONTAINERS, DISPOSABLE, HAS_ELEMENTS, NameKind, REMOVABLE};
 use frame_ast::script::Order;
+use frame_grammar::TokenAt;
 use job_base::limits::MOST_ELEMENTS;
 use std::alloc::Global;
 
 pub fn put(
     source: Source<'_>,
     names: &Names<'_>,
-    name: u32,
+    name: TokenAt,
     key: RawNumber,
     value: RawNumber,
 ) -> Result<Order, OrderFault>
@@ -34,7 +35,7 @@ pub fn put(
 pub fn remove(
     source: Source<'_>,
     names: &Names<'_>,
-    name: u32,
+    name: TokenAt,
     at: RawNumber,
 ) -> Result<Order, OrderFault>
     ensures { Checked source.entry (bare names.now) 0 0 (Remove name at) result }
@@ -44,7 +45,7 @@ pub fn remove(
     Ok(Order::Remove { name, at })
 }
 
-pub fn clear(source: Source<'_>, names: &Names<'_>, name: u32) -> Result<Order, OrderFault>
+pub fn clear(source: Source<'_>, names: &Names<'_>, name: TokenAt) -> Result<Order, OrderFault>
     ensures { Checked source.entry (bare names.now) 0 0 (Clear name) result }
 {
     let name = used(source, names, &CLEARABLE, name)?;
@@ -54,8 +55,8 @@ pub fn clear(source: Source<'_>, names: &Names<'_>, name: u32) -> Result<Order, 
 pub fn set_capacity(
     source: Source<'_>,
     names: &Names<'_>,
-    name: u32,
-    cap: u32,
+    name: TokenAt,
+    cap: TokenAt,
 ) -> Result<Order, OrderFault>
     ensures { Checked source.entry (bare names.now) 0 0 (SetCapacity name cap) result }
 {
@@ -64,7 +65,7 @@ pub fn set_capacity(
     Ok(Order::SetCapacity { name, cap })
 }
 
-pub fn print(source: Source<'_>, names: &Names<'_>, name: u32) -> Result<Order, OrderFault>
+pub fn print(source: Source<'_>, names: &Names<'_>, name: TokenAt) -> Result<Order, OrderFault>
     ensures { Checked source.entry (bare names.now) 0 0 (Print name) result }
 {
     let name = used(source, names, &CONTAINERS, name)?;
@@ -76,9 +77,9 @@ pub fn dispose(
     alloc: Global,
     source: Source<'_>,
     names: &Names<'_>,
-    name: u32,
-    after: &[u32],
-    handle: Option<u32>,
+    name: TokenAt,
+    after: &[TokenAt],
+    handle: Option<TokenAt>,
 ) -> Result<Order, OrderFault>
     ensures { Checked source.entry (bare names.now) 0 0 (Dispose name after.now handle) result }
 {
@@ -96,7 +97,7 @@ pub fn dispose(
 fn made_as(
     source: Source<'_>,
     names: &Names<'_>,
-    handle: Option<u32>,
+    handle: Option<TokenAt>,
 ) -> Result<Option<u32>, OrderFault>
     ensures { Gives (first_some (as_faults source.entry names.now handle))
         (λ place. place ≡ option_map (place_of source.entry
@@ -114,8 +115,8 @@ fn made_as(
 pub fn dispose_auto(
     source: Source<'_>,
     names: &Names<'_>,
-    name: u32,
-    handle: u32,
+    name: TokenAt,
+    handle: TokenAt,
 ) -> Result<Order, OrderFault>
     ensures { Checked source.entry (bare names.now) 0 0 (DisposeAuto name handle) result }
 {
@@ -128,10 +129,10 @@ pub fn dispose_auto(
 fn settable(
     source: Source<'_>,
     names: &Names<'_>,
-    index: Option<RawNumber>,
-    name: u32,
+    index: &Option<RawNumber>,
+    name: TokenAt,
 ) -> Result<u32, OrderFault>
-    ensures { Gives (use_fault source.entry names.now (set_kinds index) name)
+    ensures { Gives (use_fault source.entry names.now (set_kinds index.now) name)
         (IsPlace source.entry names.now name) result }
 {
     match index {
@@ -144,10 +145,10 @@ fn settable(
 fn addable(
     source: Source<'_>,
     names: &Names<'_>,
-    second: Option<RawNumber>,
-    name: u32,
+    second: &Option<RawNumber>,
+    name: TokenAt,
 ) -> Result<u32, OrderFault>
-    ensures { Gives (use_fault source.entry names.now (add_kinds second) name)
+    ensures { Gives (use_fault source.entry names.now (add_kinds second.now) name)
         (IsPlace source.entry names.now name) result }
 {
     match second {
@@ -159,13 +160,13 @@ fn addable(
 pub fn set(
     source: Source<'_>,
     names: &Names<'_>,
-    name: u32,
+    name: TokenAt,
     at: Option<RawNumber>,
     value: RawNumber,
 ) -> Result<Order, OrderFault>
     ensures { Checked source.entry (bare names.now) 0 0 (Set name at value) result }
 {
-    let name = settable(source, names, at, name)?;
+    let name = settable(source, names, &at, name)?;
     let at = maybe_signed(source, at)?;
     let value = signed(source, value)?;
     Ok(Order::Set { name, at, value })
@@ -174,13 +175,13 @@ pub fn set(
 pub fn add(
     source: Source<'_>,
     names: &Names<'_>,
-    name: u32,
+    name: TokenAt,
     first: RawNumber,
     second: Option<RawNumber>,
 ) -> Result<Order, OrderFault>
     ensures { Checked source.entry (bare names.now) 0 0 (Add name first second) result }
 {
-    let name = addable(source, names, second, name)?;
+    let name = addable(source, names, &second, name)?;
     let first = signed(source, first)?;
     let second = maybe_signed(source, second)?;
     Ok(Order::Add {
@@ -190,14 +191,18 @@ pub fn add(
     })
 }
 
-pub fn complete(source: Source<'_>, names: &Names<'_>, name: u32) -> Result<Order, OrderFault>
+pub fn complete(source: Source<'_>, names: &Names<'_>, name: TokenAt) -> Result<Order, OrderFault>
     ensures { Checked source.entry (bare names.now) 0 0 (Complete false name) result }
 {
     let name = used(source, names, &[NameKind::Handle], name)?;
     Ok(Order::Complete { name })
 }
 
-pub fn complete_auto(source: Source<'_>, names: &Names<'_>, name: u32) -> Result<Order, OrderFault>
+pub fn complete_auto(
+    source: Source<'_>,
+    names: &Names<'_>,
+    name: TokenAt,
+) -> Result<Order, OrderFault>
     ensures { Checked source.entry (bare names.now) 0 0 (Complete true name) result }
 {
     let name = used(source, names, &CONTAINERS, name)?;
@@ -209,7 +214,7 @@ pub fn complete_either(
     source: Source<'_>,
     names: &Names<'_>,
     auto: bool,
-    name: u32,
+    name: TokenAt,
 ) -> Result<Order, OrderFault>
     ensures { Checked source.entry (bare names.now) 0 0 (Complete auto name) result }
 {

@@ -21,6 +21,7 @@ use crate::{Kernels, Names, OrderFault, Source};
 use frame_ast::kernel::{FaultKind, Kernel, ParamKind};
 use frame_ast::name_kind::{ARRAY_ARGUMENTS, HAS_ELEMENTS, NameKind};
 use frame_ast::script::{Arg, Order};
+use frame_grammar::TokenAt;
 use job_base::Access;
 use job_base::limits::MOST_INDEXES;
 use std::alloc::Global;
@@ -28,7 +29,7 @@ use std::alloc::Global;
 // ARGUMENTS
 
 // Whether a name is that of the list after `defer`.
-fn is_deferred(source: Source<'_>, sizes: RawSizes, at: u32) -> bool
+fn is_deferred(source: Source<'_>, sizes: RawSizes, at: TokenAt) -> bool
     ensures { result ≡ is_deferred source.entry sizes at }
 {
     match sizes {
@@ -44,7 +45,7 @@ fn used_for(
     names: &Names<'_>,
     deferred: bool,
     kind: ParamKind,
-    at: u32,
+    at: TokenAt,
 ) -> Result<u32, OrderFault>
     ensures { Gives (use_fault source.entry names.now (kinds_for kind deferred) at)
         (IsPlace source.entry names.now at) result }
@@ -67,7 +68,7 @@ fn is_int(kind: ParamKind) -> bool
 }
 
 // A number is given for an `int` alone.
-fn taken(kind: ParamKind, at: u32) -> Result<(), OrderFault>
+fn taken(kind: ParamKind, at: TokenAt) -> Result<(), OrderFault>
     ensures { Gives (unless (is_int kind) KindMismatch at) (λ _. ⊤) result }
 {
     if is_int(kind) {
@@ -112,7 +113,11 @@ fn argument(
 
 // SIZES
 
-fn length_and_batch(source: Source<'_>, len: u32, batch: u32) -> Result<(u32, u32), OrderFault>
+fn length_and_batch(
+    source: Source<'_>,
+    len: TokenAt,
+    batch: TokenAt,
+) -> Result<(u32, u32), OrderFault>
     ensures { Gives (first_some (limit_fault source.entry 0 MOST_INDEXES len
         ∷ limit_fault source.entry 1 MOST_INDEXES batch ∷ []))
         (λ r. r ≡ (number_at source.entry len, number_at source.entry batch)) result }
@@ -144,7 +149,7 @@ fn room_fits(room: bool, sizes: RawSizes) -> bool
     }
 }
 
-fn takes(kernel: &Kernel, at: u32, args: &[RawArg], sizes: RawSizes) -> Result<(), OrderFault>
+fn takes(kernel: &Kernel, at: TokenAt, args: &[RawArg], sizes: RawSizes) -> Result<(), OrderFault>
     ensures { Gives (unless (takes kernel.now args.now sizes) KindMismatch at) (λ _. ⊤) result }
 {
     if args.len() == kernel.params.len() && sizes_fit(kernel.parallel, sizes) {
@@ -154,7 +159,7 @@ fn takes(kernel: &Kernel, at: u32, args: &[RawArg], sizes: RawSizes) -> Result<(
     }
 }
 
-fn leaves_room(room: bool, at: u32, sizes: RawSizes) -> Result<(), OrderFault>
+fn leaves_room(room: bool, at: TokenAt, sizes: RawSizes) -> Result<(), OrderFault>
     ensures { Gives (unless (room_fits room sizes) Limit at) (λ _. ⊤) result }
 {
     if room_fits(room, sizes) {
@@ -168,15 +173,16 @@ fn leaves_room(room: bool, at: u32, sizes: RawSizes) -> Result<(), OrderFault>
 fn fitting(
     kernel: &Kernel,
     room: bool,
-    at: u32,
+    at: TokenAt,
     args: &[RawArg],
-    sizes: RawSizes,
+    sizes: &RawSizes,
 ) -> Result<(), OrderFault>
     requires { room ≡ guard_fits kernel.now }
-    ensures { Gives (kernel_fault kernel.now at args.now sizes) (λ _. takes kernel.now args.now sizes ≡ true) result }
+    ensures { Gives (kernel_fault kernel.now at args.now sizes.now)
+        (λ _. takes kernel.now args.now sizes.now ≡ true) result }
 {
-    takes(kernel, at, args, sizes)?;
-    leaves_room(room, at, sizes)?;
+    takes(kernel, at, args, *sizes)?;
+    leaves_room(room, at, *sizes)?;
     Ok(())
 }
 
@@ -215,7 +221,7 @@ fn is_array(kind: ParamKind) -> bool
 
 // WAIVED NAMES
 
-fn waivable(parallel: bool, kind: ParamKind, access: Access, at: u32) -> Result<(), OrderFault>
+fn waivable(parallel: bool, kind: ParamKind, access: Access, at: TokenAt) -> Result<(), OrderFault>
     ensures { Gives (unless (parallel && (is_array kind && writes_to access)) KindMismatch at) (λ _. ⊤) result }
 {
     if parallel && (is_array(kind) && writes_to(access)) {
@@ -226,7 +232,7 @@ fn waivable(parallel: bool, kind: ParamKind, access: Access, at: u32) -> Result<
 }
 
 // The place of a parameter that may be waived: an array of a parallel kernel that is written.
-fn waived(source: Source<'_>, kernel: &Kernel, at: u32) -> Result<u32, OrderFault>
+fn waived(source: Source<'_>, kernel: &Kernel, at: TokenAt) -> Result<u32, OrderFault>
     requires { length kernel.now.params.items ≤ MOST_PARAMS }
     ensures { Gives (waive_fault source.entry kernel.now at)
         (λ n. n ≡ param_place kernel.now.params.items (text_at source.entry at)) result }
@@ -243,7 +249,7 @@ fn all_waived(
     alloc: Global,
     source: Source<'_>,
     kernel: &Kernel,
-    names: &[u32],
+    names: &[TokenAt],
 ) -> Result<Vec<u32>, OrderFault>
     requires { length kernel.now.params.items ≤ MOST_PARAMS }
     ensures { Gives (first_some (map (waive_fault source.entry kernel.now) names.now))
@@ -266,17 +272,17 @@ fn arguments(
     source: Source<'_>,
     names: &Names<'_>,
     kernel: &Kernel,
-    sizes: RawSizes,
+    sizes: &RawSizes,
     args: &[RawArg],
 ) -> Result<Vec<Arg>, OrderFault>
     requires { length args.now ≡ length kernel.now.params.items }
-    ensures { Gives (first_some (args_faults source.entry names.now sizes kernel.now.params.items args.now))
+    ensures { Gives (first_some (args_faults source.entry names.now sizes.now kernel.now.params.items args.now))
         (λ given. AreArgs source.entry names.now args.now given.items) result }
 {
     let mut given = Vec::new(alloc);
     for (place, arg) in args.iter().enumerate() {
         let kind = kernel.params[place].kind;
-        let one = argument(source, names, sizes, kind, *arg)?;
+        let one = argument(source, names, *sizes, kind, *arg)?;
         given.push(one)?;
     }
     Ok(given)
@@ -285,8 +291,8 @@ fn arguments(
 fn list_and_batch(
     source: Source<'_>,
     names: &Names<'_>,
-    list: u32,
-    batch: u32,
+    list: TokenAt,
+    batch: TokenAt,
 ) -> Result<(u32, u32), OrderFault>
     ensures { Gives (first_some (sizes_faults source.entry names.now (Sizes.Defer list batch)))
         (λ r. IsDefer source.entry names.now (Sizes.Defer list batch) (Some r)) result }
@@ -324,12 +330,12 @@ fn sizes_of(
 #[derive(Clone, Copy)]
 pub struct Schedule<'a> {
     pub auto: bool,
-    pub handle: u32,
-    pub kernel: u32,
+    pub handle: TokenAt,
+    pub kernel: TokenAt,
     pub args: &'a [RawArg],
     pub sizes: RawSizes,
-    pub waive: &'a [u32],
-    pub after: &'a [u32],
+    pub waive: &'a [TokenAt],
+    pub after: &'a [TokenAt],
 }
 
 /// What stands after a schedule's kernel.
@@ -349,17 +355,17 @@ fn read_behind(
     names: &Names<'_>,
     kernel: &Kernel,
     room: bool,
-    text: Schedule<'_>,
+    text: &Schedule<'_>,
 ) -> Result<Behind, OrderFault>
     requires few { length kernel.now.params.items ≤ MOST_PARAMS }
     requires room { room ≡ guard_fits kernel.now }
-    ensures { Gives (first_some (scheduled_faults source.entry names.now (Some kernel.now) text.entry.kernel
-        text.entry.args.now text.entry.sizes text.entry.waive.now text.entry.after.now))
-        (IsBehind source.entry names.now kernel.now text.entry.args.now text.entry.sizes text.entry.waive.now
-        text.entry.after.now) result }
+    ensures { Gives (first_some (scheduled_faults source.entry names.now (Some kernel.now) text.now.kernel
+        text.now.args.now text.now.sizes text.now.waive.now text.now.after.now))
+        (IsBehind source.entry names.now kernel.now text.now.args.now text.now.sizes text.now.waive.now
+        text.now.after.now) result }
 {
-    fitting(kernel, room, text.kernel, text.args, text.sizes)?;
-    let args = arguments(alloc, source, names, kernel, text.sizes, text.args)?;
+    fitting(kernel, room, text.kernel, text.args, &text.sizes)?;
+    let args = arguments(alloc, source, names, kernel, &text.sizes, text.args)?;
     let (cut, defer) = sizes_of(source, names, text.sizes)?;
     let waive = all_waived(alloc, source, kernel, text.waive)?;
     let after = handles(alloc, source, names, text.after)?;
@@ -378,11 +384,11 @@ pub fn check_schedule(
     source: Source<'_>,
     names: &Names<'_>,
     kernels: &Kernels<'_>,
-    text: Schedule<'_>,
+    text: &Schedule<'_>,
 ) -> Result<Order, OrderFault>
     ensures { Checked source.entry (among names.now kernels.now) 0 0
-        (Form.Schedule text.entry.auto text.entry.handle text.entry.kernel text.entry.args.now text.entry.sizes
-        text.entry.waive.now text.entry.after.now) result }
+        (Form.Schedule text.now.auto text.now.handle text.now.kernel text.now.args.now text.now.sizes
+        text.now.waive.now text.now.after.now) result }
 {
     let handle = made(source, names, NameKind::Handle, text.handle)?;
     let Some(place) = kernels.find(source.text(text.kernel)) else {

@@ -19,12 +19,12 @@ use crate::{Names, OrderFault, Source};
 use frame_ast::kernel::FaultKind;
 use frame_ast::name_kind::{CONTAINERS, NameKind, SLICEABLE};
 use frame_ast::script::{Life, Order};
-use frame_grammar::Note;
+use frame_grammar::{Note, TokenAt};
 use job_base::limits::{MOST_ELEMENTS, MOST_PAIRS, MOST_STREAM_INDEXES, MOST_STREAM_ITEMS};
 use std::alloc::Global;
 
 // An array that is given values has as many as its length says.
-fn counted(source: Source<'_>, at: u32, values: &[Note]) -> Result<(), OrderFault>
+fn counted(source: Source<'_>, at: TokenAt, values: &[Note]) -> Result<(), OrderFault>
     ensures { Gives (count_fault source.entry at (Some (values_of (events_of values.now)))) (λ _. ⊤) result }
 {
     if source.number(at) == count_values(values) as u64 {
@@ -38,8 +38,8 @@ fn counted(source: Source<'_>, at: u32, values: &[Note]) -> Result<(), OrderFaul
 pub fn array(
     source: Source<'_>,
     names: &Names<'_>,
-    name: u32,
-    len: u32,
+    name: TokenAt,
+    len: TokenAt,
     life: Life,
 ) -> Result<Order, OrderFault>
     ensures { Checked source.entry (bare names.now) 0 0 (NewArray name len life None) result }
@@ -57,8 +57,8 @@ pub fn array(
 /// An array with values, which become one more list of them.
 #[derive(Clone, Copy)]
 pub struct Valued<'a> {
-    pub name: u32,
-    pub len: u32,
+    pub name: TokenAt,
+    pub len: TokenAt,
     pub life: Life,
     /// The notes of its values.
     pub values: &'a [Note],
@@ -94,8 +94,8 @@ pub fn valued_array(
 pub fn list(
     source: Source<'_>,
     names: &Names<'_>,
-    name: u32,
-    cap: u32,
+    name: TokenAt,
+    cap: TokenAt,
     life: Life,
 ) -> Result<Order, OrderFault>
     ensures { Checked source.entry (bare names.now) 0 0 (NewList name cap life) result }
@@ -108,7 +108,7 @@ pub fn list(
 pub fn reference(
     source: Source<'_>,
     names: &Names<'_>,
-    name: u32,
+    name: TokenAt,
     life: Life,
     value: Option<RawNumber>,
 ) -> Result<Order, OrderFault>
@@ -122,8 +122,8 @@ pub fn reference(
 pub fn map(
     source: Source<'_>,
     names: &Names<'_>,
-    name: u32,
-    cap: u32,
+    name: TokenAt,
+    cap: TokenAt,
     life: Life,
 ) -> Result<Order, OrderFault>
     ensures { Checked source.entry (bare names.now) 0 0 (NewMap name cap life) result }
@@ -136,9 +136,9 @@ pub fn map(
 pub fn stream(
     source: Source<'_>,
     names: &Names<'_>,
-    name: u32,
-    count: u32,
-    room: u32,
+    name: TokenAt,
+    count: TokenAt,
+    room: TokenAt,
     life: Life,
 ) -> Result<Order, OrderFault>
     ensures { Checked source.entry (bare names.now) 0 0 (NewStream name count room life) result }
@@ -157,10 +157,10 @@ pub fn stream(
 pub fn slice(
     source: Source<'_>,
     names: &Names<'_>,
-    name: u32,
-    of: u32,
-    start: u32,
-    len: u32,
+    name: TokenAt,
+    of: TokenAt,
+    start: TokenAt,
+    len: TokenAt,
 ) -> Result<Order, OrderFault>
     ensures { Checked source.entry (bare names.now) 0 0 (Slice name of start len) result }
 {
@@ -176,7 +176,12 @@ pub fn slice(
     })
 }
 
-pub fn view(source: Source<'_>, names: &Names<'_>, name: u32, of: u32) -> Result<Order, OrderFault>
+pub fn view(
+    source: Source<'_>,
+    names: &Names<'_>,
+    name: TokenAt,
+    of: TokenAt,
+) -> Result<Order, OrderFault>
     ensures { Checked source.entry (bare names.now) 0 0 (View name of) result }
 {
     let name = made(source, names, NameKind::View, name)?;
@@ -189,8 +194,8 @@ pub fn column(
     alloc: Global,
     source: Source<'_>,
     names: &Names<'_>,
-    name: u32,
-    column: u32,
+    name: TokenAt,
+    column: TokenAt,
     life: Life,
 ) -> Result<Order, OrderFault>
     ensures { Checked source.entry (bare names.now) 0 0 (NewColumn name column life) result }
@@ -201,7 +206,12 @@ pub fn column(
     Ok(Order::Column { name, column, life })
 }
 
-pub fn copy(source: Source<'_>, names: &Names<'_>, name: u32, of: u32) -> Result<Order, OrderFault>
+pub fn copy(
+    source: Source<'_>,
+    names: &Names<'_>,
+    name: TokenAt,
+    of: TokenAt,
+) -> Result<Order, OrderFault>
     ensures { Checked source.entry (bare names.now) 0 0 (Copy name of) result }
 {
     let Some((place, kind)) = names.get(source.text(of)) else {
@@ -221,8 +231,8 @@ pub fn combine(
     alloc: Global,
     source: Source<'_>,
     names: &Names<'_>,
-    name: u32,
-    of: &[u32],
+    name: TokenAt,
+    of: &[TokenAt],
 ) -> Result<Order, OrderFault>
     ensures { Checked source.entry (bare names.now) 0 0 (Combine name of.now) result }
 {

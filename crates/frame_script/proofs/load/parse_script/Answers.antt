@@ -15,7 +15,6 @@ use Rattle.frame_script.specs.Raw.{IsFile}
 use Rattle.frame_script.specs.Sources.{file_tokens}
 use Rattle.frame_script.specs.Loading.{IsRefused}
 use Rattle.frame_script.proofs.FileTokens.{few_marks, marks_ended, kinds_in_file}
-use Rattle.frame_script.proofs.KernelWalks.{of_refusal}
 use Rattle.frame_script.proofs.WalkSteps.{exit_is}
 use Rattle.frame_script.proofs.Loads.{IsRead, read_of, spelled, script_accepted, no_syntax, refused_statically, refused_as_long, if_ok}
 use Rattle.frame_script.proofs.load.parse_script.Goals as goal
@@ -36,22 +35,23 @@ file_events-requires-clause-ended c =
     let bytes = c.args.source.now in
     marks_ended bytes c.deref.result.now (ap (tokens_in bytes 1) c.deref.ensures.value ∙ c.in_ok-marks.ensures.tokens)
 
-pub line_at-requires : goal.line_at-requires
-line_at-requires c =
+pub refusal-requires : goal.refusal-requires
+refusal-requires c =
     let bytes = c.args.source.now in
-    let given = c.deref-in-Err-Syntax.result.now in
-    let lexed : tokens_in bytes 1 given ≡ up_to_bad (tokens_of bytes) = ap (tokens_in bytes 1) c.deref-in-Err-Syntax.ensures.value ∙ c.in_ok-marks.ensures.tokens in
+    let given = c.deref-in-Err.result.now in
+    let lexed : tokens_in bytes 1 given ≡ up_to_bad (tokens_of bytes) = ap (tokens_in bytes 1) c.deref-in-Err.ensures.value ∙ c.in_ok-marks.ensures.tokens in
     omega (arith, few_marks bytes given lexed, c.requires)
 
-pub returns-in-Err-Syntax-clause-refused : goal.returns-in-Err-Syntax-clause-refused
-returns-in-Err-Syntax-clause-refused c line kind is =
+pub returns-in-Err-clause-refused : goal.returns-in-Err-clause-refused
+returns-in-Err-clause-refused c line kind is =
     let bytes = c.args.source.now in
-    let fault = c.in-Err-Syntax.ensures.fault c.in-Err-Syntax.place (ap (λ e. Err e) c.in-Err-Syntax.field-0-is) in
+    let told : c.refusal.result ≡ load.Refused line kind = cc in
+    let stop = c.refusal.ensures.place line kind told in
+    let fault = c.in-Err.ensures.fault stop.0 (ap (λ e. Err e) stop.1) in
     let marks = c.deref.result.now in
-    of_refusal (IsRefused bytes) _ line _ kind is
-    (no_syntax bytes marks c.in-Err-Syntax.place _ (ap (tokens_in bytes 1) c.deref.ensures.value ∙ c.in_ok-marks.ensures.tokens) fault
-    (subst (λ ms. c.line_at.result ≡ token_line (slice_get (tokens_in bytes 1 ms) c.in-Err-Syntax.place)) (c.deref-in-Err-Syntax.ensures.value ∙ sym c.deref.ensures.value)
-    (c.line_at.ensures bytes ∙ ap (λ i. token_line (slice_get (tokens_in bytes 1 c.deref-in-Err-Syntax.result.now) i)) c.in-Err-Syntax.place-is)))
+    subst (IsRefused bytes line) (sym (c.refusal.ensures.syntax line kind told))
+    (no_syntax bytes marks stop.0 line (ap (tokens_in bytes 1) c.deref.ensures.value ∙ c.in_ok-marks.ensures.tokens) fault
+    (subst (λ ms. line ≡ token_line (slice_get (tokens_in bytes 1 ms) stop.0)) (c.deref-in-Err.ensures.value ∙ sym c.deref.ensures.value) (stop.2 bytes)))
 
 pub walk_file-requires : goal.walk_file-requires
 walk_file-requires c =

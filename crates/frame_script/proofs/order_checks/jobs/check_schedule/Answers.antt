@@ -13,35 +13,35 @@ returns-in_err-handle c = exits _ _ c.from_residual.result _ c.from_residual.ens
 
 pub returns-in_default : goal.returns-in_default
 returns-in_default c =
-    let text = text_at c.args.source c.args.text.kernel in
+    let text = text_at c.args.source c.args.text.now.kernel in
     let none : None ≡ kernel_at c.args.kernels.now text = search rules in
     refused_by _ _ c.refused.result _ c.refused.ensures
-    (schedule_unknown c.args.source c.args.names.now (kernel_in c.args.kernels.now text) c.args.text.kernel c.args.text.args.now c.args.text.sizes c.args.text.waive.now c.args.text.after.now _
+    (schedule_unknown c.args.source c.args.names.now (kernel_in c.args.kernels.now text) c.args.text.now.kernel c.args.text.now.args.now c.args.text.now.sizes c.args.text.now.waive.now c.args.text.now.after.now _
     c.in_ok-handle.ensures.0 (kernel_missing c.args.kernels.now text none))
 
 pub returns-in_err-rest : goal.returns-in_err-rest
 returns-in_err-rest c =
-    let text = text_at c.args.source c.args.text.kernel in
+    let text = text_at c.args.source c.args.text.now.kernel in
     let found : Some c.in-Some.place ≡ kernel_at c.args.kernels.now text = search rules in
     exits _ _ c.from_residual-in_err-rest.result _ c.from_residual-in_err-rest.ensures.1
-    (schedule_refused c.args.source c.args.names.now (kernel_in c.args.kernels.now text) c.kernel-kernel.result.now c.args.text.kernel c.args.text.args.now c.args.text.sizes c.args.text.waive.now c.args.text.after.now _ _
+    (schedule_refused c.args.source c.args.names.now (kernel_in c.args.kernels.now text) c.kernel-kernel.result.now c.args.text.now.kernel c.args.text.now.args.now c.args.text.now.sizes c.args.text.now.waive.now c.args.text.now.after.now _ _
     c.in_ok-handle.ensures.0 (kernel_found c.args.kernels.now text c.in-Some.place c.kernel-kernel.result.now found c.kernel-kernel.ensures.kernel) c.in_err-rest.ensures)
 
 pub returns : goal.returns
 returns c =
-    let text = text_at c.args.source c.args.text.kernel in
+    let text = text_at c.args.source c.args.text.now.kernel in
     let found : Some c.in-Some.place ≡ kernel_at c.args.kernels.now text = search rules in
     let is : Some c.kernel-kernel.result.now ≡ kernel_in c.args.kernels.now text = kernel_found c.args.kernels.now text c.in-Some.place c.kernel-kernel.result.now found c.kernel-kernel.ensures.kernel in
     let says = c.in_ok-rest.ensures.1 in (
-      schedule_good c.args.source c.args.names.now (kernel_in c.args.kernels.now text) c.kernel-kernel.result.now c.args.text.kernel c.args.text.args.now c.args.text.sizes c.args.text.waive.now c.args.text.after.now _
+      schedule_good c.args.source c.args.names.now (kernel_in c.args.kernels.now text) c.kernel-kernel.result.now c.args.text.now.kernel c.args.text.now.args.now c.args.text.now.sizes c.args.text.now.waive.now c.args.text.now.after.now _
           c.in_ok-handle.ensures.0 is c.in_ok-rest.ensures.0,
       (
         c.in_ok-rest.rest.args,
         c.in_ok-rest.rest.waive,
         c.in_ok-rest.rest.after,
-        says.args_are (Some (c.args.text.handle, Handle)),
-        says.waive_are ∙ ap (λ o. map (λ at. param_place (params_of o) (text_at c.args.source at)) c.args.text.waive.now) is,
-        says.after_are (Some (c.args.text.handle, Handle)),
-        cc (c.in_ok-handle.ensures.1, ap (λ o. unwrap_or o 0) found, says.cut_is, says.defer_is (Some (c.args.text.handle, Handle))),
+        says.args_are (Some (c.args.text.now.handle, Handle)),
+        says.waive_are ∙ ap (λ o. map (λ at. param_place (params_of o) (text_at c.args.source at)) c.args.text.now.waive.now) is,
+        says.after_are (Some (c.args.text.now.handle, Handle)),
+        cc (c.in_ok-handle.ensures.1, ap (λ o. unwrap_or o 0) found, says.cut_is, says.defer_is (Some (c.args.text.now.handle, Handle))),
       ),
     )

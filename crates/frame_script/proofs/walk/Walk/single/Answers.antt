@@ -4,7 +4,13 @@ use Rattle.frame_script.specs.Raw.{form_of}
 use Rattle.frame_script.specs.Spelling.{Says}
 use Rattle.frame_script.specs.Walking.{scope_of}
 use Rattle.frame_script.proofs.SaidLemmas.{plain_faults}
+use Rattle.frame_script.proofs.MadePlaces.{says_made}
 use Rattle.frame_script.proofs.walk.Walk.single.Goals as goal
+
+pub make_name-requires : goal.make_name-requires
+make_name-requires c at kind made =
+    says_made c.args.source c.args.self.now.names _ c.args.self.now.kernels _ 0 (form_of c.args.raw.now) c.in_ok-act.act at kind made
+    c.in_ok-act.ensures.1.0
 
 pub returns : goal.returns
 returns c =
