@@ -1,5 +1,5 @@
 -- An expression goes through all its levels, whatever token is ahead; what may follow at each of them mostly doesn't.
-use Rattle.std.proofs.Common.{◌≡◌, ℕ, ◌<◌, Some, Bool, true, false, Result, Ok, Err, IfOk, ◌∷◌, [], List, ◌++◌, refl, arith}
+use Rattle.std.proofs.Common.{◌≡◌, ℕ, ◌<◌, Option, Some, None, true, false, Result, Ok, Err, IfOk, ◌∷◌, [], List, ◌++◌, refl, arith}
 use Rattle.std.proofs.lemmas.Bool.{or_parts}
 use denote.Enum.Bare.{sameb}
 use Rattle.frame_grammar.specs.contracts.TokenKind.{the_type as the_kind}
@@ -12,6 +12,7 @@ use Rattle.frame_grammar.specs.declared.symbols.Symbol.{Symbol}
 use Rattle.frame_grammar.specs.declared.symbols.Symbol.TheVariants as symbol
 use Rattle.frame_grammar.specs.declared.symbols.Event.{Event}
 use Rattle.frame_grammar.specs.declared.waiting.Waiting.TheVariants as waiting
+use Rattle.frame_grammar.specs.declared.operands.Coming.{Coming}
 use Rattle.frame_grammar.specs.Grammar.{body_of}
 use Rattle.frame_grammar.specs.Table.{choices_of, default_of}
 use Rattle.frame_grammar.specs.Sets.{is_nullable_of, rank_of}
@@ -73,13 +74,13 @@ goes_go ahead place done ss ss' ss'' first then = (
 abbrev pub above_sum : List Symbol → List Symbol
 above_sum ss = symbol.Nonterminal nonterminal.Compared ∷ symbol.Nonterminal nonterminal.MoreAnd ∷ symbol.Nonterminal nonterminal.MoreOr ∷ ss
 
-factor_part : (taken : Bool) (ahead : TokenKind) (place : ℕ) (done : List Event) (ss : List Symbol) (done' : List Event) (ss' : List Symbol) → multiplies ahead ≡ false →
-    IsPart taken ahead place after_term done ss done' ss' → IsPart taken ahead place (symbols_of waiting.AfterFactor) done ss done' ss'
-factor_part true ahead place done ss done' ss' none part = (
+factor_part : (part_taken : Option Coming) (ahead : TokenKind) (place : ℕ) (done : List Event) (ss : List Symbol) (done' : List Event) (ss' : List Symbol) → multiplies ahead ≡ false →
+    IsPart part_taken ahead place after_term done ss done' ss' → IsPart part_taken ahead place (symbols_of waiting.AfterFactor) done ss done' ss'
+factor_part (Some c) ahead place done ss done' ss' none part = (
   λ start read at. part.0 start read ((no_factor ahead place done (after_term ++ ss) none).0 start read at),
   λ e. part.1 ((no_factor ahead place done (after_term ++ ss) none).1 e),
 )
-factor_part false ahead place done ss done' ss' none part =
+factor_part None ahead place done ss done' ss' none part =
     let gone = no_factor ahead place done (after_term ++ ss) none in (
       λ start read at. part.0 start read (gone.0 start read at),
       λ e. part.1 (gone.1 e),
@@ -87,10 +88,10 @@ factor_part false ahead place done ss done' ss' none part =
     )
 
 -- a factor that no operator of its term follows goes on as its term does
-pub part_of_factor : {E : Type 0} (result : Result Bool E) (ahead : TokenKind) (place : ℕ) (done : List Event) (ss : List Symbol) (done' : List Event) (ss' : List Symbol) →
-    multiplies ahead ≡ false → IfOk result (λ taken. IsPart taken ahead place after_term done ss done' ss') →
-    IfOk result (λ taken. IsPart taken ahead place (symbols_of waiting.AfterFactor) done ss done' ss')
-part_of_factor (Ok taken) ahead place done ss done' ss' none part = factor_part taken ahead place done ss done' ss' none part
+pub part_of_factor : {E : Type 0} (result : Result (Option Coming) E) (ahead : TokenKind) (place : ℕ) (done : List Event) (ss : List Symbol) (done' : List Event) (ss' : List Symbol) →
+    multiplies ahead ≡ false → IfOk result (λ part_taken. IsPart part_taken ahead place after_term done ss done' ss') →
+    IfOk result (λ part_taken. IsPart part_taken ahead place (symbols_of waiting.AfterFactor) done ss done' ss')
+part_of_factor (Ok part_taken) ahead place done ss done' ss' none part = factor_part part_taken ahead place done ss done' ss' none part
 part_of_factor (Err e) ahead place done ss done' ss' none part = part
 
 not_and : (k : TokenKind) → is_and_or k ≡ false → sameb the_kind k kind.AndAnd ≡ false

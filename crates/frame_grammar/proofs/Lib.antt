@@ -12,3 +12,4 @@ pub mod Notes
 pub mod LineTakings
 pub mod KnownLines
 mod ValueTakings
+mod OperandTakings

@@ -80,7 +80,7 @@ then_some : (o : Option Left) (more : List Symbol → Option Left) (left : Left)
 then_some None more left e = cc
 then_some (Some l) more left e = let found = behind_some l.events (more l.stack) left e in (l, found.0, refl, found.1, found.2)
 
-all_between : (start : Nonterminal) (tokens kinds : List TokenKind) (after place : ℕ) (done : List Event) (ss : List Symbol) (left : Left) → all_taken kinds after place ss ≡ Some left →
+pub all_between : (start : Nonterminal) (tokens kinds : List TokenKind) (after place : ℕ) (done : List Event) (ss : List Symbol) (left : Left) → all_taken kinds after place ss ≡ Some left →
     AreAt kinds tokens (place + after) → Between start tokens (place + after) done ss → Between start tokens (place + after + length kinds) (done ++ left.events) left.stack
 all_between start tokens [] after place done ss left e there at =
     let same : place + after ≡ place + after + 0 = omega arith in

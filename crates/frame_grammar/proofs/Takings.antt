@@ -1,5 +1,5 @@
 -- What the parser's shortcuts do is what the table says.
-use Rattle.std.proofs.Common.{◌≡◌, ℕ, ◌<◌, ◌≤◌, ◌&&◌, ◌⊎◌, ⊎_elim, Bool, true, false, ◌∷◌, [], List, ◌++◌, Some, refl, sym, ◌∙◌, ap, subst, append_assoc, arith}
+use Rattle.std.proofs.Common.{◌≡◌, ℕ, ◌<◌, ◌≤◌, ◌&&◌, ◌⊎◌, ⊎_elim, Bool, true, false, ◌∷◌, [], List, ◌++◌, Option, Some, None, refl, sym, ◌∙◌, ap, subst, append_assoc, arith}
 use Rattle.std.proofs.lemmas.Bool.{and_parts}
 use denote.Enum.Bare.{sameb}
 use Rattle.frame_grammar.specs.contracts.TokenKind.{the_type as the_kind}
@@ -13,6 +13,8 @@ use Rattle.frame_grammar.specs.declared.symbols.Action.TheVariants as action
 use Rattle.frame_grammar.specs.declared.symbols.Symbol.{Symbol}
 use Rattle.frame_grammar.specs.declared.symbols.Symbol.TheVariants as symbol
 use Rattle.frame_grammar.specs.declared.symbols.Event.{Event}
+use Rattle.frame_grammar.specs.declared.operands.Coming.{Coming}
+use Rattle.frame_grammar.specs.Operands.{to_come}
 use Rattle.frame_grammar.specs.Grammar.{body_of}
 use Rattle.frame_grammar.specs.Table.{choices_of, default_of}
 use Rattle.frame_grammar.specs.Predict.{predicted, same_kind}
@@ -47,15 +49,15 @@ leads_go ahead place done0 done done' ss0 ss ss' leads step = record {
 }
 
 -- what was led to is a part of an expression, which takes the token or goes on
-pub part_takes : (taken : Bool) (ahead : TokenKind) (place : ℕ) (done0 done done' : List Event) (ss0 part ss ss' : List Symbol) → taken ≡ true →
-    IsPart taken ahead place part done ss done' ss' → Leads ahead place done0 ss0 done (part ++ ss) → Takes ahead place done0 ss0 done' ss'
-part_takes true ahead place done0 done done' ss0 part ss ss' e step leads = leads_take ahead place done0 done done' ss0 (part ++ ss) ss' leads step
-part_takes false ahead place done0 done done' ss0 part ss ss' e step leads = cc
+pub part_takes : (part_taken : Option Coming) (c : Coming) (ahead : TokenKind) (place : ℕ) (done0 done done' : List Event) (ss0 part ss ss' : List Symbol) → part_taken ≡ Some c →
+    IsPart part_taken ahead place part done ss done' ss' → Leads ahead place done0 ss0 done (part ++ ss) → Takes ahead place done0 ss0 done' (to_come c ++ ss')
+part_takes part_taken c ahead place done0 done done' ss0 part ss ss' e step leads =
+    leads_take ahead place done0 done done' ss0 (part ++ ss) (to_come c ++ ss') leads (subst (λ o. IsPart o ahead place part done ss done' ss') e step)
 
-pub part_goes : (taken : Bool) (ahead : TokenKind) (place : ℕ) (done0 done done' : List Event) (ss0 part ss ss' : List Symbol) → taken ≡ false →
-    IsPart taken ahead place part done ss done' ss' → Leads ahead place done0 ss0 done (part ++ ss) → Leads ahead place done0 ss0 done' ss'
-part_goes true ahead place done0 done done' ss0 part ss ss' e step leads = cc
-part_goes false ahead place done0 done done' ss0 part ss ss' e step leads = leads_go ahead place done0 done done' ss0 (part ++ ss) ss' leads step
+pub part_goes : (part_taken : Option Coming) (ahead : TokenKind) (place : ℕ) (done0 done done' : List Event) (ss0 part ss ss' : List Symbol) → ((c : Coming) → part_taken ≡ Some c → ⊥) →
+    IsPart part_taken ahead place part done ss done' ss' → Leads ahead place done0 ss0 done (part ++ ss) → Leads ahead place done0 ss0 done' ss'
+part_goes (Some c) ahead place done0 done done' ss0 part ss ss' none step leads = absurd (none c refl)
+part_goes None ahead place done0 done done' ss0 part ss ss' none step leads = leads_go ahead place done0 done done' ss0 (part ++ ss) ss' leads step
 
 -- two events, one after the other
 pub both : (done done' : List Event) (a b : Event) → done' ≡ done ++ a ∷ b ∷ [] → done' ≡ (done ++ a ∷ []) ++ b ∷ []

@@ -9,3 +9,4 @@ pub mod Shortcuts
 pub mod Waiting
 pub mod Lines
 pub mod Values
+pub mod Operands

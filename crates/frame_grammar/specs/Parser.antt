@@ -5,12 +5,14 @@ use Rattle.frame_grammar.specs.declared.symbols.Nonterminal.{Nonterminal}
 use Rattle.frame_grammar.specs.declared.symbols.Symbol.{Symbol}
 use Rattle.frame_grammar.specs.declared.symbols.Symbol.TheVariants as symbol
 use Rattle.frame_grammar.specs.declared.symbols.Event.{Event}
+use Rattle.frame_grammar.specs.declared.operands.Coming.{Coming}
 use Rattle.frame_grammar.specs.declared.shortcuts.Step.{Step}
-use Rattle.frame_grammar.specs.declared.shortcuts.Step.TheVariants.{Took, WentOn, Unknown}
+use Rattle.frame_grammar.specs.declared.shortcuts.Step.TheVariants.{Took, TookBefore, WentOn, Unknown}
 use Rattle.frame_grammar.specs.Grammar.{Derives}
 use Rattle.frame_grammar.specs.Sets.{firsts_of, is_nullable_of, barred_of, is_closed_of, rank_of}
 use Rattle.frame_grammar.specs.Sentences.{IsSentence, IsOnlySentence, IsFault}
 use Rattle.frame_grammar.specs.Predict.{same_kind}
+use Rattle.frame_grammar.specs.Operands.{to_come}
 
 -- whether the token is among these
 abbrev pub has_kind : List TokenKind → TokenKind → Bool
@@ -91,16 +93,20 @@ Goes ahead place done ss done' ss' =
     × (closes ss ≡ true → closes ss' ≡ true)
     × (weight ss' < weight ss)
 
--- what was done with these symbols, which were on top of the stack: the token ahead was taken, or not yet
-abbrev pub IsPart : Bool → TokenKind → ℕ → (part : List Symbol) → List Event → List Symbol → List Event →
+-- what was done with these symbols, which were on top of the stack: the token ahead was taken, before what is to come
+-- then, or no token yet
+abbrev pub IsPart : Option Coming → TokenKind → ℕ → (part : List Symbol) → List Event → List Symbol → List Event →
     List Symbol → Type 0
-IsPart true ahead place part done ss done' ss' = Takes ahead place done (part ++ ss) done' ss'
-IsPart false ahead place part done ss done' ss' = Goes ahead place done (part ++ ss) done' ss'
+IsPart (Some coming) ahead place part done ss done' ss' =
+    Takes ahead place done (part ++ ss) done' (to_come coming ++ ss')
+IsPart None ahead place part done ss done' ss' = Goes ahead place done (part ++ ss) done' ss'
 
 -- what was done with a nonterminal that was on top of the stack
 abbrev pub IsStep : Step → TokenKind → ℕ → Nonterminal → List Event → List Symbol → List Event → List Symbol → Type 0
-IsStep Took ahead place n done ss done' ss' = IsPart true ahead place (symbol.Nonterminal n ∷ []) done ss done' ss'
-IsStep WentOn ahead place n done ss done' ss' = IsPart false ahead place (symbol.Nonterminal n ∷ []) done ss done' ss'
+IsStep Took ahead place n done ss done' ss' = Takes ahead place done (symbol.Nonterminal n ∷ ss) done' ss'
+IsStep (TookBefore coming) ahead place n done ss done' ss' =
+    IsPart (Some coming) ahead place (symbol.Nonterminal n ∷ []) done ss done' ss'
+IsStep WentOn ahead place n done ss done' ss' = IsPart None ahead place (symbol.Nonterminal n ∷ []) done ss done' ss'
 IsStep Unknown ahead place n done ss done' ss' = (done' ≡ done) × (ss' ≡ ss)
 
 -- What holds between two tokens: the stack is reached, it closes, and no front of the tokens so far was a sentence.
@@ -128,3 +134,10 @@ pub record TakesFrom (tokens : List TokenKind) (place next : ℕ) (done : List E
       IsOnlySentence start tokens next done'
   pub more : (start : Nonterminal) → Between start tokens place done ss → (ss' ≡ [] → ⊥) →
       Between start tokens next done' ss'
+
+-- The tokens from one place to another were taken, if any: more is to come.
+pub record TakesOn (tokens : List TokenKind) (place next : ℕ) (done : List Event) (ss : List Symbol)
+    (done' : List Event) (ss' : List Symbol) : Type 0 where
+  pub on : place ≤ next
+  pub within : next ≤ length tokens
+  pub between : (start : Nonterminal) → Between start tokens place done ss → Between start tokens next done' ss'

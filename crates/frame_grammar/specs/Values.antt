@@ -13,6 +13,7 @@ use Rattle.frame_grammar.specs.declared.symbols.Symbol.{Symbol}
 use Rattle.frame_grammar.specs.declared.symbols.Symbol.TheVariants as symbol
 use Rattle.frame_grammar.specs.declared.values.Value.{Value}
 use Rattle.frame_grammar.specs.declared.values.Value.TheVariants.{Sign, Plain, Negative}
+use Rattle.frame_grammar.specs.Operands.{to_come}
 use Rattle.frame_grammar.specs.Parser.{Between, Takes, Stops}
 
 -- the value that is whole with an action
@@ -43,6 +44,7 @@ pub record TakesValues (tokens : List TokenKind) (place place' : ℕ) (value val
 abbrev pub IsTaken : Taken → TokenKind → ℕ → List Event → List Symbol → List Event → List Symbol → Type 0
 IsTaken taken.None ahead place done ss done' ss' = Stops ahead place done ss
 IsTaken taken.Token ahead place done ss done' ss' = Takes ahead place done ss done' ss'
+IsTaken (taken.Before coming) ahead place done ss done' ss' = Takes ahead place done ss done' (to_come coming ++ ss')
 IsTaken (taken.Value value) ahead place done ss done' ss' =
     (rest : List Symbol) × (ss' ≡ symbol.Nonterminal MoreValues ∷ rest)
     × Takes ahead place done ss done' (in_values value rest)

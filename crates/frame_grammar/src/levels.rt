@@ -14,10 +14,11 @@ ghost use Rattle.frame_grammar.specs.Waiting.{standing, symbols_of};
 
 use crate::TokenKind as K;
 use crate::note::Note;
+use crate::operands::{Coming, Side};
 use crate::shortcuts::Step;
 use crate::stack::{note, put};
 use crate::symbols::{Action as A, Nonterminal as N};
-use crate::waiting::Waiting::{self, LinedNonterminal, Nonterminal};
+use crate::waiting::Waiting::{self, Nonterminal};
 use std::alloc::AllocError;
 
 // The operators of each level
@@ -56,26 +57,22 @@ fn joins(kind: K) -> bool
     compares(kind) || is_and_or(kind)
 }
 
-// Takes an operator: its right side waits, and behind that what may follow the whole.
+// Takes an operator. Behind its right side, which is to come, waits what may follow the whole.
 #[inline(always)]
 fn take_operator(
     stack: &mut Vec<Waiting>,
     events: &mut Vec<Note>,
     more: Waiting,
-    side: N,
     place: u32,
 ) -> Result<(), AllocError>
     requires { place < 2 ^ 25 }
     ensures events { IfOk result (λ _. events_of events.new.items ≡ events_of events.old.items
         ++ record { action = action.Operator; place = place } ∷ []) }
     ensures stack { IfOk result (λ _. stack.new.items ≡ stack.old.items
-        ++ more ∷ waiting.Action action.Binary ∷ waiting.LinedNonterminal side ∷ []) }
+        ++ more ∷ waiting.Action action.Binary ∷ []) }
 {
     note(events, A::Operator, place)?;
-    put(
-        stack,
-        &[more, Waiting::Action(A::Binary), LinedNonterminal(side)],
-    )
+    put(stack, &[more, Waiting::Action(A::Binary)])
 }
 
 // Steps of each nonterminal
@@ -109,8 +106,8 @@ pub fn more_factors(
         (standing stack.old.items) (events_of events.new.items) (standing stack.new.items)) }
 {
     if multiplies(ahead) {
-        take_operator(stack, events, Nonterminal(N::MoreTerm), N::Unary, place)?;
-        Ok(Step::Took)
+        take_operator(stack, events, Nonterminal(N::MoreTerm), place)?;
+        Ok(Step::TookBefore(Coming::Side(Side::Factor)))
     } else {
         Ok(Step::WentOn)
     }
@@ -127,8 +124,8 @@ pub fn more_terms(
         (standing stack.old.items) (events_of events.new.items) (standing stack.new.items)) }
 {
     if adds(ahead) {
-        take_operator(stack, events, Nonterminal(N::MoreSum), N::Term, place)?;
-        Ok(Step::Took)
+        take_operator(stack, events, Nonterminal(N::MoreSum), place)?;
+        Ok(Step::TookBefore(Coming::Side(Side::Term)))
     } else {
         Ok(Step::WentOn)
     }
@@ -170,21 +167,21 @@ pub fn more_or(ahead: K) -> Step
 }
 
 /// Goes on with what may follow a term: by an operator of its sum, which is taken, by an operator of a level above, or
-/// by none. Says whether it took the token ahead.
+/// by none. Answers what is to come, where it took the token ahead.
 #[inline(always)]
 pub fn after_term(
     stack: &mut Vec<Waiting>,
     events: &mut Vec<Note>,
     ahead: K,
     place: u32,
-) -> Result<bool, AllocError>
+) -> Result<Option<Coming>, AllocError>
     requires { place < 2 ^ 25 }
-    ensures { IfOk result (λ taken. IsPart taken ahead place (symbols_of waiting.AfterTerm) (events_of events.old.items)
+    ensures { IfOk result (λ coming. IsPart coming ahead place (symbols_of waiting.AfterTerm) (events_of events.old.items)
         (standing stack.old.items) (events_of events.new.items) (standing stack.new.items)) }
 {
     if adds(ahead) {
-        take_operator(stack, events, Waiting::AfterTerm, N::Term, place)?;
-        Ok(true)
+        take_operator(stack, events, Waiting::AfterTerm, place)?;
+        Ok(Some(Coming::Side(Side::Term)))
     } else if joins(ahead) {
         put(
             stack,
@@ -194,29 +191,29 @@ pub fn after_term(
                 Nonterminal(N::Compared),
             ],
         )?;
-        Ok(false)
+        Ok(None)
     } else {
-        Ok(false)
+        Ok(None)
     }
 }
 
-/// Goes on with what may follow a factor: by an operator of its term, which is taken, or as after a term. Says whether
-/// it took the token ahead.
+/// Goes on with what may follow a factor: by an operator of its term, which is taken, or as after a term. Answers
+/// what is to come, where it took the token ahead.
 #[inline(always)]
 pub fn after_factor(
     stack: &mut Vec<Waiting>,
     events: &mut Vec<Note>,
     ahead: K,
     place: u32,
-) -> Result<bool, AllocError>
+) -> Result<Option<Coming>, AllocError>
     requires { place < 2 ^ 25 }
-    ensures { IfOk result (λ taken. IsPart taken ahead place (symbols_of waiting.AfterFactor)
+    ensures { IfOk result (λ coming. IsPart coming ahead place (symbols_of waiting.AfterFactor)
         (events_of events.old.items) (standing stack.old.items) (events_of events.new.items)
         (standing stack.new.items)) }
 {
     if multiplies(ahead) {
-        take_operator(stack, events, Waiting::AfterFactor, N::Unary, place)?;
-        Ok(true)
+        take_operator(stack, events, Waiting::AfterFactor, place)?;
+        Ok(Some(Coming::Side(Side::Factor)))
     } else {
         after_term(stack, events, ahead, place)
     }

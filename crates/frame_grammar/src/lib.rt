@@ -7,6 +7,7 @@ mod choices;
 mod levels;
 mod lines;
 mod note;
+mod operands;
 mod parser;
 mod shortcuts;
 mod stack;

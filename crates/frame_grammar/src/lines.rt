@@ -302,7 +302,8 @@ fn longer_line_with(first: K) -> Option<Line>
 }
 
 /// Whether the tokens from a place on are of these kinds.
-fn are_at<T: HasKind>(kinds: &[K], tokens: &[T], place: usize) -> bool
+#[inline(always)]
+pub fn are_at<T: HasKind>(kinds: &[K], tokens: &[T], place: usize) -> bool
     requires { place ≤ length tokens.now }
     ensures there { result ≡ true → AreAt kinds.now (map T.kind_of tokens.now) place }
     ensures room { result ≡ true → place + length kinds.now ≤ length tokens.now }
@@ -320,8 +321,9 @@ fn are_at<T: HasKind>(kinds: &[K], tokens: &[T], place: usize) -> bool
     true
 }
 
-/// Notes what is noted of a line that begins at a place.
-fn note_line(events: &mut Vec<Note>, notes: &[(A, u32)], place: u32) -> Result<(), AllocError>
+/// Notes these actions, each so many tokens behind a place.
+#[inline(always)]
+pub fn note_at(events: &mut Vec<Note>, notes: &[(A, u32)], place: u32) -> Result<(), AllocError>
     requires { All (λ note. place + note.1 < 2 ^ 25) notes.now }
     ensures { IfOk result (λ _. events_of events.new.items ≡ events_of events.old.items ++ events_at place notes.now) }
 {
@@ -350,7 +352,7 @@ fn take_if_here<T: HasKind>(
 {
     match line {
         Some(line) if are_at(line.kinds, tokens, place) => {
-            note_line(events, line.notes, place as u32)?;
+            note_at(events, line.notes, place as u32)?;
             Ok(line.kinds.len())
         }
         _ => Ok(0),

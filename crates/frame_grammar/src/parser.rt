@@ -13,6 +13,7 @@ ghost use Rattle.frame_grammar.specs.Values.{IsTaken};
 use crate::levels::{after_factor, after_term};
 use crate::lines::take_lines;
 use crate::note::Note;
+use crate::operands::{Coming, take_coming};
 use crate::shortcuts::{Step, known_step};
 use crate::stack::push_body;
 use crate::symbols::{Nonterminal, Production};
@@ -87,6 +88,8 @@ enum Taken {
     /// Nothing: no sentence has it there.
     None,
     Token,
+    /// The same, and this is to come behind it. It isn't on the stack.
+    Before(Coming),
     /// It is of a value of an array, which is read so far. Its rest isn't on the stack.
     Value(Value),
 }
@@ -123,6 +126,7 @@ fn advance(
             Waiting::Nonterminal(nonterminal) | Waiting::LinedNonterminal(nonterminal) => {
                 match known_step(stack, events, nonterminal, ahead, place)? {
                     Step::Took => return Ok(Taken::Token),
+                    Step::TookBefore(coming) => return Ok(Taken::Before(coming)),
                     Step::WentOn => {}
                     Step::Unknown => match predict(nonterminal, ahead) {
                         None => return Ok(Taken::None),
@@ -133,13 +137,13 @@ fn advance(
                 }
             }
             Waiting::AfterFactor => {
-                if after_factor(stack, events, ahead, place)? {
-                    return Ok(Taken::Token);
+                if let Some(coming) = after_factor(stack, events, ahead, place)? {
+                    return Ok(Taken::Before(coming));
                 }
             }
             Waiting::AfterTerm => {
-                if after_term(stack, events, ahead, place)? {
-                    return Ok(Taken::Token);
+                if let Some(coming) = after_term(stack, events, ahead, place)? {
+                    return Ok(Taken::Before(coming));
                 }
             }
         }
@@ -147,8 +151,8 @@ fn advance(
     Ok(Taken::None)
 }
 
-/// Takes the token at a place, and if it is of a value of an array, the values after it too. Answers the place of the
-/// next token, or none where no sentence has the token there.
+/// Takes the token at a place, and those after it that are taken at once: what is to come behind it, or the values of
+/// an array after its first. Answers the place of the next token, or none where no sentence has the token there.
 fn take_from<T: HasKind>(
     stack: &mut Vec<Waiting>,
     events: &mut Vec<Note>,
@@ -165,6 +169,10 @@ fn take_from<T: HasKind>(
     match advance(stack, events, tokens[place].kind(), place as u32)? {
         Taken::None => Ok(None),
         Taken::Token => Ok(Some(place + 1)),
+        Taken::Before(coming) => {
+            let next = take_coming(stack, events, tokens, place + 1, coming)?;
+            Ok(Some(next))
+        }
         Taken::Value(value) => {
             let next = take_values(stack, events, tokens, place + 1, value)?;
             Ok(Some(next))

@@ -24,6 +24,7 @@ use crate::stack::{note, note_both, put};
 use crate::statements::statement_step;
 use crate::symbols::{Action as A, Nonterminal as N};
 use crate::waiting::Waiting::{self, LinedAction, LinedNonterminal, Nonterminal, Terminal};
+use crate::operands::{Coming, Side};
 use std::alloc::AllocError;
 
 /// What was done with the nonterminal that was on top of the stack.
@@ -31,6 +32,8 @@ use std::alloc::AllocError;
 pub enum Step {
     /// It begins with the token ahead, which is taken.
     Took,
+    /// The same, and this is to come behind the token. It isn't on the stack.
+    TookBefore(Coming),
     /// It went on by productions and actions, and took no token.
     WentOn,
     /// Nothing: the table has to tell.
@@ -66,13 +69,9 @@ fn statements(
             note_both(events, A::StartStatement, A::Name, place)?;
             put(
                 stack,
-                &[
-                    LinedNonterminal(N::Statements),
-                    Terminal(K::Semicolon),
-                    LinedNonterminal(N::Target),
-                ],
+                &[LinedNonterminal(N::Statements), Terminal(K::Semicolon)],
             )?;
-            Ok(Step::Took)
+            Ok(Step::TookBefore(Coming::Target))
         }
         _ => Ok(Step::Unknown),
     }
@@ -83,10 +82,7 @@ fn target(stack: &mut Vec<Waiting>, ahead: K) -> Result<Step, AllocError>
         IsStep step ahead place nonterminal.Target done (standing stack.old.items) done (standing stack.new.items)) }
 {
     match ahead {
-        K::Assign => {
-            put(stack, &[LinedNonterminal(N::Value)])?;
-            Ok(Step::Took)
-        }
+        K::Assign => Ok(Step::TookBefore(Coming::Side(Side::Value))),
         K::OpenBracket => {
             put(
                 stack,
@@ -96,10 +92,9 @@ fn target(stack: &mut Vec<Waiting>, ahead: K) -> Result<Step, AllocError>
                     Terminal(K::Assign),
                     Nonterminal(N::Lines),
                     Terminal(K::CloseBracket),
-                    LinedNonterminal(N::Expression),
                 ],
             )?;
-            Ok(Step::Took)
+            Ok(Step::TookBefore(Coming::Side(Side::Expression)))
         }
         _ => Ok(Step::Unknown),
     }
@@ -143,8 +138,7 @@ fn operand(
     match ahead {
         K::Name => {
             note_both(events, A::StartAtom, A::Name, place)?;
-            put(stack, &[LinedNonterminal(N::Place)])?;
-            Ok(Step::Took)
+            Ok(Step::TookBefore(Coming::Place))
         }
         K::Number => {
             note(events, A::Number, place)?;
@@ -157,15 +151,8 @@ fn operand(
             Ok(Step::Took)
         }
         K::OpenParen => {
-            put(
-                stack,
-                &[
-                    Nonterminal(N::Lines),
-                    Terminal(K::CloseParen),
-                    LinedNonterminal(N::Expression),
-                ],
-            )?;
-            Ok(Step::Took)
+            put(stack, &[Nonterminal(N::Lines), Terminal(K::CloseParen)])?;
+            Ok(Step::TookBefore(Coming::Side(Side::Expression)))
         }
         _ => Ok(Step::Unknown),
     }
@@ -185,13 +172,9 @@ fn place_of_name(
     if ahead == K::OpenBracket {
         put(
             stack,
-            &[
-                LinedAction(A::PlaceAtom),
-                Terminal(K::CloseBracket),
-                LinedNonterminal(N::Expression),
-            ],
+            &[LinedAction(A::PlaceAtom), Terminal(K::CloseBracket)],
         )?;
-        Ok(Step::Took)
+        Ok(Step::TookBefore(Coming::Side(Side::Expression)))
     } else {
         note(events, A::NameAtom, place)?;
         Ok(Step::WentOn)

@@ -1,4 +1,7 @@
-use Rattle.std.proofs.Common.{sym, ◌++◌, ◌∙◌, refl}
+use Rattle.std.proofs.Common.{sym, ◌++◌, ◌∙◌, refl, ap}
+use Rattle.frame_grammar.specs.Operands.{to_come}
+use Rattle.frame_grammar.specs.declared.operands.Coming.TheVariants as coming
+use Rattle.frame_grammar.specs.declared.operands.Side.TheVariants as side
 use Rattle.frame_grammar.specs.Notes.{events_of}
 use Rattle.frame_grammar.specs.Waiting.{standing, after_term}
 use Rattle.frame_grammar.proofs.Takings.{told, factor}
@@ -9,7 +12,7 @@ use Rattle.frame_grammar.proofs.levels.after_factor.Goals as goal
 pub returns-in_ok-take_operator : goal.returns-in_ok-take_operator
 returns-in_ok-take_operator c =
     told c.args.ahead c.args.ahead c.args.place (events_of c.args.events.now.items) _ _ _ _ _ refl c.in_ok-take_operator.ensures.events
-    (behind c.args.stack.now.items _ _ c.in_ok-take_operator.ensures.stack)
+    (ap (λ ss. to_come (coming.Side side.Factor) ++ ss) (behind c.args.stack.now.items _ _ c.in_ok-take_operator.ensures.stack))
     (factor c.args.ahead c.args.place (events_of c.args.events.now.items) (after_term ++ standing c.args.stack.now.items) (sym c.multiplies.ensures ∙ c.if-multiplies.true))
 
 pub returns-else-multiplies : goal.returns-else-multiplies

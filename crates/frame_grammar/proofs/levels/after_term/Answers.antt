@@ -1,4 +1,7 @@
-use Rattle.std.proofs.Common.{sym, ◌∙◌, refl}
+use Rattle.std.proofs.Common.{sym, ◌∙◌, refl, ◌++◌, ap}
+use Rattle.frame_grammar.specs.Operands.{to_come}
+use Rattle.frame_grammar.specs.declared.operands.Coming.TheVariants as coming
+use Rattle.frame_grammar.specs.declared.operands.Side.TheVariants as side
 use Rattle.frame_grammar.specs.Notes.{events_of}
 use Rattle.frame_grammar.specs.Waiting.{standing}
 use Rattle.frame_grammar.proofs.Takings.{told, told_going, term, no_term}
@@ -9,7 +12,7 @@ use Rattle.frame_grammar.proofs.levels.after_term.Goals as goal
 pub returns-in_ok-take_operator : goal.returns-in_ok-take_operator
 returns-in_ok-take_operator c =
     told c.args.ahead c.args.ahead c.args.place (events_of c.args.events.now.items) _ _ _ _ _ refl c.in_ok-take_operator.ensures.events
-    (behind c.args.stack.now.items _ _ c.in_ok-take_operator.ensures.stack)
+    (ap (λ ss. to_come (coming.Side side.Term) ++ ss) (behind c.args.stack.now.items _ _ c.in_ok-take_operator.ensures.stack))
     (term c.args.ahead c.args.place (events_of c.args.events.now.items) (above_sum (standing c.args.stack.now.items)) (sym c.adds.ensures ∙ c.if-adds.true))
 
 pub returns-in_ok-put : goal.returns-in_ok-put

@@ -4,6 +4,7 @@ use Rattle.std.proofs.lemmas.Bool.{MatchBool-at_true, MatchBool-at_false}
 use Rattle.std.proofs.lemmas.Option.{MatchOption-at_none, MatchOption-at_some}
 use Rattle.frame_grammar.specs.Waiting.{standing, symbols_of}
 use Rattle.frame_grammar.specs.Notes.{event_of, events_of}
+use Rattle.frame_grammar.specs.Operands.{to_come}
 use Rattle.frame_grammar.specs.Grammar.{body_of}
 use Rattle.frame_grammar.specs.Parser.{IsStep, Takes}
 use Rattle.frame_grammar.specs.Values.{in_values}
@@ -43,9 +44,9 @@ returns-in-Terminal c =
     (λ e. kinds_same c.in-Terminal.kind c.args.ahead (sym c.eq.ensures ∙ e))
     (λ e. kinds_differ c.in-Terminal.kind c.args.ahead (sym c.eq.ensures ∙ e)))
 
-pub returns-in-Some-2 : goal.returns-in-Some-2
-returns-in-Some-2 c =
-    let step = MatchOption-at_some _ _ c.in-Some-2.value c.in-Some-2.is c.in_ok-value-in-Action.ensures in
+pub returns-in-Some-4 : goal.returns-in-Some-4
+returns-in-Some-4 c =
+    let step = MatchOption-at_some _ _ c.in-Some-4.value c.in-Some-4.is c.in_ok-value-in-Action.ensures in
     let first = top c.loop-next.stack.items c.pop.new.self.items c.pop.result c.in-Some.next c.pop.ensures.items c.in-Some.is in
     let here = subst (λ ss. Leads c.args.ahead c.args.place (events_of c.args.events.now.items) (standing c.args.stack.now.items) (events_of c.loop-next.events.items) ss) first c.loop-next.invariant in
     let past = past_lines c.in-Some.next (waiting.Action c.in-Action.action) (waiting.LinedAction c.in-Action.action) (symbol.Action c.in-Action.action) c.args.ahead c.args.place (events_of c.args.events.now.items) (events_of c.loop-next.events.items) (standing c.args.stack.now.items)
@@ -54,13 +55,13 @@ returns-in-Some-2 c =
       step.0,
       ap standing (sym same) ∙ step.1,
       leads_take c.args.ahead c.args.place (events_of c.args.events.now.items) (events_of c.loop-next.events.items) (events_of c.take_next_value.new.events.items) (standing c.args.stack.now.items)
-          (symbol.Action c.in-Action.action ∷ standing c.pop.new.self.items) (in_values c.in-Some-2.value step.0) past.leads
-          (subst (λ ws. Takes c.args.ahead c.args.place (events_of c.loop-next.events.items) (symbol.Action c.in-Action.action ∷ standing ws) (events_of c.take_next_value.new.events.items) (in_values c.in-Some-2.value step.0)) same step.2),
+          (symbol.Action c.in-Action.action ∷ standing c.pop.new.self.items) (in_values c.in-Some-4.value step.0) past.leads
+          (subst (λ ws. Takes c.args.ahead c.args.place (events_of c.loop-next.events.items) (symbol.Action c.in-Action.action ∷ standing ws) (events_of c.take_next_value.new.events.items) (in_values c.in-Some-4.value step.0)) same step.2),
     )
 
 pub loop-next-preserved : goal.loop-next-preserved
 loop-next-preserved c =
-    let kept = MatchOption-at_none _ _ c.in_default-2.is c.in_ok-value-in-Action.ensures in
+    let kept = MatchOption-at_none _ _ c.in_default-4.is c.in_ok-value-in-Action.ensures in
     let first = top c.loop-next.stack.items c.pop.new.self.items c.pop.result c.in-Some.next c.pop.ensures.items c.in-Some.is in
     let here = subst (λ ss. Leads c.args.ahead c.args.place (events_of c.args.events.now.items) (standing c.args.stack.now.items) (events_of c.loop-next.events.items) ss) first c.loop-next.invariant in
     let past = past_lines c.in-Some.next (waiting.Action c.in-Action.action) (waiting.LinedAction c.in-Action.action) (symbol.Action c.in-Action.action) c.args.ahead c.args.place (events_of c.args.events.now.items) (events_of c.loop-next.events.items) (standing c.args.stack.now.items)
@@ -90,6 +91,17 @@ returns-in-Took c =
     (standing c.pop.new.self.items) refl refl refl c.in-Nonterminal.is (sym c.takes_line.ensures ∙ c.if-takes_line.false) here in
     leads_take c.args.ahead c.args.place (events_of c.args.events.now.items) (events_of c.loop-next.events.items) (events_of c.known_step.new.events.items) (standing c.args.stack.now.items)
     (symbol.Nonterminal c.in-Nonterminal.nonterminal ∷ standing c.pop.new.self.items) (standing c.known_step.new.stack.items) past.leads step
+
+pub returns-in-TookBefore : goal.returns-in-TookBefore
+returns-in-TookBefore c =
+    let step = subst (λ s. IsStep s c.args.ahead c.args.place c.in-Nonterminal.nonterminal (events_of c.loop-next.events.items) (standing c.pop.new.self.items) (events_of c.known_step.new.events.items) (standing c.known_step.new.stack.items))
+    c.in-TookBefore.is c.in_ok-known_step-in-Nonterminal.ensures in
+    let first = top c.loop-next.stack.items c.pop.new.self.items c.pop.result c.in-Some.next c.pop.ensures.items c.in-Some.is in
+    let here = subst (λ ss. Leads c.args.ahead c.args.place (events_of c.args.events.now.items) (standing c.args.stack.now.items) (events_of c.loop-next.events.items) ss) first c.loop-next.invariant in
+    let past = past_lines c.in-Some.next (waiting.Nonterminal c.in-Nonterminal.nonterminal) (waiting.LinedNonterminal c.in-Nonterminal.nonterminal) (symbol.Nonterminal c.in-Nonterminal.nonterminal) c.args.ahead c.args.place (events_of c.args.events.now.items) (events_of c.loop-next.events.items) (standing c.args.stack.now.items)
+    (standing c.pop.new.self.items) refl refl refl c.in-Nonterminal.is (sym c.takes_line.ensures ∙ c.if-takes_line.false) here in
+    leads_take c.args.ahead c.args.place (events_of c.args.events.now.items) (events_of c.loop-next.events.items) (events_of c.known_step.new.events.items) (standing c.args.stack.now.items)
+    (symbol.Nonterminal c.in-Nonterminal.nonterminal ∷ standing c.pop.new.self.items) (to_come c.in-TookBefore.coming ++ standing c.known_step.new.stack.items) past.leads step
 
 pub loop-next-preserved-in-WentOn : goal.loop-next-preserved-in-WentOn
 loop-next-preserved-in-WentOn c =
@@ -149,33 +161,33 @@ loop-next-smaller-in_ok-push_body-in-Some-predict c =
     let less = smaller c.args.ahead c.in-Nonterminal.nonterminal c.in-Some-predict.production (standing c.pop.new.self.items) (sym c.predict.ensures ∙ c.in-Some-predict.is) in
     rw (on_top, first) (omega (arith, less, past.nearer))
 
-pub returns-then-branch : goal.returns-then-branch
-returns-then-branch c =
+pub returns-in-Some-2 : goal.returns-in-Some-2
+returns-in-Some-2 c =
     let first = top_is c.loop-next.stack.items c.pop.new.self.items c.pop.result c.in-Some.next _ c.pop.ensures.items c.in-Some.is c.in-AfterFactor.is in
     let here = subst (λ ss. Leads c.args.ahead c.args.place (events_of c.args.events.now.items) (standing c.args.stack.now.items) (events_of c.loop-next.events.items) ss) first c.loop-next.invariant in
-    part_takes _ c.args.ahead c.args.place (events_of c.args.events.now.items) (events_of c.loop-next.events.items) (events_of c.after_factor.new.events.items) (standing c.args.stack.now.items)
-    (symbols_of waiting.AfterFactor) (standing c.pop.new.self.items) (standing c.after_factor.new.stack.items) c.if-branch.true c.in_ok-after_factor-in-AfterFactor.ensures here
+    part_takes _ c.in-Some-2.coming c.args.ahead c.args.place (events_of c.args.events.now.items) (events_of c.loop-next.events.items) (events_of c.after_factor.new.events.items) (standing c.args.stack.now.items)
+    (symbols_of waiting.AfterFactor) (standing c.pop.new.self.items) (standing c.after_factor.new.stack.items) c.in-Some-2.is c.in_ok-coming-in-AfterFactor.ensures here
 
 pub loop-next-preserved-in-AfterFactor-1 : goal.loop-next-preserved-in-AfterFactor-1
 loop-next-preserved-in-AfterFactor-1 c =
     let first = top_is c.loop-next.stack.items c.pop.new.self.items c.pop.result c.in-Some.next _ c.pop.ensures.items c.in-Some.is c.in-AfterFactor.is in
     let here = subst (λ ss. Leads c.args.ahead c.args.place (events_of c.args.events.now.items) (standing c.args.stack.now.items) (events_of c.loop-next.events.items) ss) first c.loop-next.invariant in
     part_goes _ c.args.ahead c.args.place (events_of c.args.events.now.items) (events_of c.loop-next.events.items) (events_of c.after_factor.new.events.items) (standing c.args.stack.now.items)
-    (symbols_of waiting.AfterFactor) (standing c.pop.new.self.items) (standing c.after_factor.new.stack.items) c.if-branch.false c.in_ok-after_factor-in-AfterFactor.ensures here
+    (symbols_of waiting.AfterFactor) (standing c.pop.new.self.items) (standing c.after_factor.new.stack.items) c.in_default-2.not-Some c.in_ok-coming-in-AfterFactor.ensures here
 
-pub returns-then-branch-2 : goal.returns-then-branch-2
-returns-then-branch-2 c =
+pub returns-in-Some-3 : goal.returns-in-Some-3
+returns-in-Some-3 c =
     let first = top_is c.loop-next.stack.items c.pop.new.self.items c.pop.result c.in-Some.next _ c.pop.ensures.items c.in-Some.is c.in-AfterTerm.is in
     let here = subst (λ ss. Leads c.args.ahead c.args.place (events_of c.args.events.now.items) (standing c.args.stack.now.items) (events_of c.loop-next.events.items) ss) first c.loop-next.invariant in
-    part_takes _ c.args.ahead c.args.place (events_of c.args.events.now.items) (events_of c.loop-next.events.items) (events_of c.after_term.new.events.items) (standing c.args.stack.now.items)
-    (symbols_of waiting.AfterTerm) (standing c.pop.new.self.items) (standing c.after_term.new.stack.items) c.if-branch-2.true c.in_ok-after_term-in-AfterTerm.ensures here
+    part_takes _ c.in-Some-3.coming c.args.ahead c.args.place (events_of c.args.events.now.items) (events_of c.loop-next.events.items) (events_of c.after_term.new.events.items) (standing c.args.stack.now.items)
+    (symbols_of waiting.AfterTerm) (standing c.pop.new.self.items) (standing c.after_term.new.stack.items) c.in-Some-3.is c.in_ok-coming-in-AfterTerm.ensures here
 
 pub loop-next-preserved-in-AfterTerm-1 : goal.loop-next-preserved-in-AfterTerm-1
 loop-next-preserved-in-AfterTerm-1 c =
     let first = top_is c.loop-next.stack.items c.pop.new.self.items c.pop.result c.in-Some.next _ c.pop.ensures.items c.in-Some.is c.in-AfterTerm.is in
     let here = subst (λ ss. Leads c.args.ahead c.args.place (events_of c.args.events.now.items) (standing c.args.stack.now.items) (events_of c.loop-next.events.items) ss) first c.loop-next.invariant in
     part_goes _ c.args.ahead c.args.place (events_of c.args.events.now.items) (events_of c.loop-next.events.items) (events_of c.after_term.new.events.items) (standing c.args.stack.now.items)
-    (symbols_of waiting.AfterTerm) (standing c.pop.new.self.items) (standing c.after_term.new.stack.items) c.if-branch-2.false c.in_ok-after_term-in-AfterTerm.ensures here
+    (symbols_of waiting.AfterTerm) (standing c.pop.new.self.items) (standing c.after_term.new.stack.items) c.in_default-3.not-Some c.in_ok-coming-in-AfterTerm.ensures here
 
 pub returns : goal.returns
 returns c =

@@ -1,14 +1,16 @@
-use Rattle.std.proofs.Common.{refl}
+use Rattle.std.proofs.Common.{◌++◌, refl, ap}
+use Rattle.frame_grammar.specs.Operands.{to_come}
+use Rattle.frame_grammar.specs.declared.operands.Coming.TheVariants as coming
+use Rattle.frame_grammar.specs.declared.operands.Side.TheVariants as side
 use Rattle.frame_grammar.specs.Waiting.{standing}
 use Rattle.frame_grammar.specs.Notes.{events_of}
 use Rattle.frame_grammar.proofs.Takings.{both, told, name, number, index, parens}
 use Rattle.frame_grammar.proofs.Stacks.{behind}
 use Rattle.frame_grammar.proofs.shortcuts.operand.Goals as goal
 
-pub returns-in_ok-put-in-Name : goal.returns-in_ok-put-in-Name
-returns-in_ok-put-in-Name c =
-    told c.args.ahead _ c.args.place (events_of c.args.events.now.items) _ _ _ _ _ c.in-Name.is (both (events_of c.args.events.now.items) _ _ _ c.in_ok-note_both-in-Name.ensures)
-    (behind c.args.stack.now.items _ _ c.in_ok-put-in-Name.ensures)
+pub returns-in_ok-note_both-in-Name : goal.returns-in_ok-note_both-in-Name
+returns-in_ok-note_both-in-Name c =
+    told c.args.ahead _ c.args.place (events_of c.args.events.now.items) _ _ _ _ _ c.in-Name.is (both (events_of c.args.events.now.items) _ _ _ c.in_ok-note_both-in-Name.ensures) refl
     (name c.args.place (events_of c.args.events.now.items) (standing c.args.stack.now.items))
 
 pub returns-in_ok-put-in-Number : goal.returns-in_ok-put-in-Number
@@ -26,5 +28,5 @@ returns-in_ok-put-in-Index c =
 pub returns-in_ok-put-in-OpenParen : goal.returns-in_ok-put-in-OpenParen
 returns-in_ok-put-in-OpenParen c =
     told c.args.ahead _ c.args.place (events_of c.args.events.now.items) _ _ _ _ _ c.in-OpenParen.is refl
-    (behind c.args.stack.now.items _ _ c.in_ok-put-in-OpenParen.ensures)
+    (ap (λ ss. to_come (coming.Side side.Expression) ++ ss) (behind c.args.stack.now.items _ _ c.in_ok-put-in-OpenParen.ensures))
     (parens c.args.place (events_of c.args.events.now.items) (standing c.args.stack.now.items))

@@ -1,4 +1,7 @@
-use Rattle.std.proofs.Common.{sym, ◌∙◌, refl}
+use Rattle.std.proofs.Common.{◌++◌, sym, ◌∙◌, refl, ap}
+use Rattle.frame_grammar.specs.Operands.{to_come}
+use Rattle.frame_grammar.specs.declared.operands.Coming.TheVariants as coming
+use Rattle.frame_grammar.specs.declared.operands.Side.TheVariants as side
 use Rattle.frame_grammar.specs.Waiting.{standing}
 use Rattle.frame_grammar.specs.Notes.{events_of}
 use Rattle.frame_grammar.proofs.Steps.{kinds_same}
@@ -9,7 +12,7 @@ use Rattle.frame_grammar.proofs.shortcuts.place_of_name.Goals as goal
 pub returns-in_ok-put : goal.returns-in_ok-put
 returns-in_ok-put c =
     told c.args.ahead _ c.args.place (events_of c.args.events.now.items) _ _ _ _ _ (kinds_same c.args.ahead _ (sym c.eq.ensures ∙ c.if-eq.true)) refl
-    (behind c.args.stack.now.items _ _ c.in_ok-put.ensures)
+    (ap (λ ss. to_come (coming.Side side.Expression) ++ ss) (behind c.args.stack.now.items _ _ c.in_ok-put.ensures))
     (bracket c.args.place (events_of c.args.events.now.items) (standing c.args.stack.now.items))
 
 pub returns-in_ok-note : goal.returns-in_ok-note

@@ -1,7 +1,7 @@
 use Rattle.std.proofs.Common.{◌≡◌, ◌≤◌, ◌+◌, ◌-◌, ◌++◌, length, take}
 use Rattle.frame_grammar.specs.Lines.{events_at}
 use Rattle.frame_grammar.specs.Notes.{events_of}
-use Rattle.frame_grammar.proofs.lines.note_line.Given as goal
+use Rattle.frame_grammar.proofs.lines.note_at.Given as goal
 
 abbrev pub invariant-loop-action : goal.invariant-loop-action
 invariant-loop-action l = record {
