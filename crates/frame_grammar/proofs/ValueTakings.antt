@@ -1,5 +1,5 @@
 -- Values of arrays are taken as the table takes them.
-use Rattle.std.proofs.Common.{◌≡◌, ℕ, ◌+◌, ◌<◌, ◌≤◌, List, [], ◌∷◌, ◌++◌, length, Option, Some, None, MatchOption, Result, Ok, Err, IfOk, refl, sym, ◌∙◌, ap, subst, get_or, arith}
+use Rattle.std.proofs.Common.{true, ◌≡◌, ℕ, ◌+◌, ◌<◌, ◌≤◌, List, [], ◌∷◌, ◌++◌, length, Option, Some, None, MatchOption, Result, Ok, Err, IfOk, refl, sym, ◌∙◌, ap, subst, get_or, arith}
 use Rattle.frame_grammar.specs.declared.TokenKind.{TokenKind}
 use Rattle.frame_grammar.specs.declared.TokenKind.TheVariants as kind
 use Rattle.frame_grammar.specs.declared.symbols.Action.{Action}
@@ -14,7 +14,9 @@ use Rattle.frame_grammar.specs.Grammar.{body_of}
 use Rattle.frame_grammar.specs.Table.{choices_of, default_of}
 use Rattle.frame_grammar.specs.Predict.{same_kind}
 use Rattle.frame_grammar.specs.Parser.{Between, Takes, Stops, StopsFrom, TakesFrom}
-use Rattle.frame_grammar.specs.Values.{rest_of, in_values, TakesValues}
+use Rattle.frame_grammar.specs.declared.waiting.Waiting.{Waiting}
+use Rattle.frame_grammar.specs.declared.waiting.Waiting.TheVariants as waiting
+use Rattle.frame_grammar.specs.Values.{rest_of, are_values, in_values, TakesValues}
 use Rattle.frame_grammar.proofs.LineTakings.{taken_at_once}
 use Rattle.frame_grammar.proofs.Steps.{between_more, finds, fault_at}
 
@@ -25,6 +27,11 @@ part_taken value value0 next k k0 place done done1 done1' same_value same_kind s
     subst (λ v. Takes k place done (in_values v ss) done1 (in_values next ss)) (sym same_value)
     (subst (λ x. Takes x place done (in_values value0 ss) done1 (in_values next ss)) (sym same_kind)
     (subst (λ es. Takes k0 place done (in_values value0 ss) es (in_values next ss)) (sym same_events) (step ss)))
+
+-- which of what waits more values are
+pub values_wait : (top : Option Waiting) → are_values top ≡ true → top ≡ Some (waiting.Nonterminal MoreValues)
+values_wait (Some (waiting.Nonterminal MoreValues)) e = refl
+values_wait _ e = cc
 
 -- the number behind a `-`
 pub signed : (place : ℕ) (done : List Event) (ss : List Symbol) →

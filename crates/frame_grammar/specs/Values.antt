@@ -1,5 +1,5 @@
 -- Values of an array, which the parser takes one after another.
-use Rattle.std.specs.Prelude.{◌≡◌, ◌≤◌, ℕ, List, [], ◌∷◌, ◌++◌, length, Option, Some, None}
+use Rattle.std.specs.Prelude.{◌≡◌, ◌≤◌, ℕ, Bool, true, false, List, [], ◌∷◌, ◌++◌, length, Option, Some, None, if◌then◌else◌}
 use Rattle.frame_grammar.specs.declared.TokenKind.{TokenKind}
 use Rattle.frame_grammar.specs.declared.TokenKind.TheVariants as kind
 use Rattle.frame_grammar.specs.declared.parser.Taken.{Taken}
@@ -12,6 +12,8 @@ use Rattle.frame_grammar.specs.declared.symbols.Nonterminal.TheVariants.{MoreVal
 use Rattle.frame_grammar.specs.declared.symbols.Symbol.{Symbol}
 use Rattle.frame_grammar.specs.declared.symbols.Symbol.TheVariants as symbol
 use Rattle.frame_grammar.specs.declared.values.Value.{Value}
+use Rattle.frame_grammar.specs.declared.waiting.Waiting.{Waiting}
+use Rattle.frame_grammar.specs.declared.waiting.Waiting.TheVariants as waiting
 use Rattle.frame_grammar.specs.declared.values.Value.TheVariants.{Sign, Plain, Negative}
 use Rattle.frame_grammar.specs.Operands.{to_come}
 use Rattle.frame_grammar.specs.Parser.{Between, Takes, Stops}
@@ -21,6 +23,25 @@ abbrev pub ended_by : Action → Option Value
 ended_by action.PlainNumber = Some Plain
 ended_by action.MinusNumber = Some Negative
 ended_by _ = None
+
+-- how far a value is read with the token behind one that is read so far, if the token is of a value
+abbrev pub next_value : Value → TokenKind → Option Value
+next_value Sign kind.Number = Some Negative
+next_value Plain kind.Number = Some Plain
+next_value Plain kind.Minus = Some Sign
+next_value Negative kind.Number = Some Plain
+next_value Negative kind.Minus = Some Sign
+next_value _ _ = None
+
+-- more values are what waits
+abbrev pub are_values : Option Waiting → Bool
+are_values (Some (waiting.Nonterminal MoreValues)) = true
+are_values _ = false
+
+-- the same behind a value that is whole with an action, where this waits
+abbrev pub value_after : Option Waiting → Option Value → TokenKind → Option Value
+value_after top None ahead = None
+value_after top (Some value) ahead = if are_values top then next_value value ahead else None
 
 -- what is still to come of a value that is read so far
 abbrev pub rest_of : Value → List Symbol

@@ -307,6 +307,7 @@ pub fn are_at<T: HasKind>(kinds: &[K], tokens: &[T], place: usize) -> bool
     requires { place ≤ length tokens.now }
     ensures there { result ≡ true → AreAt kinds.now (map T.kind_of tokens.now) place }
     ensures room { result ≡ true → place + length kinds.now ≤ length tokens.now }
+    ensures absent { result ≡ false → AreAt kinds.now (map T.kind_of tokens.now) place → ⊥ }
 {
     if tokens.len() - place < kinds.len() {
         return false;

@@ -10,7 +10,7 @@ ghost use Rattle.frame_grammar.specs.declared.symbols.Symbol.TheVariants as symb
 ghost use Rattle.frame_grammar.specs.declared.waiting.Waiting.TheVariants as waiting;
 ghost use Rattle.frame_grammar.specs.Notes.{events_of};
 ghost use Rattle.frame_grammar.specs.Parser.{Takes};
-ghost use Rattle.frame_grammar.specs.Values.{ended_by, rest_of, in_values, TakesValues};
+ghost use Rattle.frame_grammar.specs.Values.{ended_by, next_value, are_values, value_after, rest_of, in_values, TakesValues};
 ghost use Rattle.frame_grammar.specs.Waiting.{standing};
 
 use crate::note::Note;
@@ -53,7 +53,8 @@ fn take_part(
     place: u32,
 ) -> Result<Option<Value>, AllocError>
     requires { place < 2 ^ 25 }
-    ensures { IfOk result (λ next. MatchOption next (events_of events.new.items ≡ events_of events.old.items)
+    ensures next { IfOk result (λ next. next ≡ next_value value ahead) }
+    ensures taken { IfOk result (λ next. MatchOption next (events_of events.new.items ≡ events_of events.old.items)
         (λ next. (ss : List Symbol) → Takes ahead place (events_of events.old.items) (in_values value ss)
         (events_of events.new.items) (in_values next ss))) }
 {
@@ -84,7 +85,7 @@ fn take_part(
 
 // Whether values of an array are what is on top of the stack.
 fn has_values_on_top(stack: &[Waiting]) -> bool
-    ensures { result ≡ true → slice_get stack.now (length stack.now - 1) ≡ Some (waiting.Nonterminal MoreValues) }
+    ensures { result ≡ are_values (slice_get stack.now (length stack.now - 1)) }
 {
     match stack.last().copied() {
         Some(Waiting::Nonterminal(N::MoreValues)) => true,
@@ -102,7 +103,9 @@ pub fn take_next_value(
     place: u32,
 ) -> Result<Option<Value>, AllocError>
     requires { place < 2 ^ 25 }
-    ensures { IfOk result (λ next. MatchOption next (events_of events.new.items ≡ events_of events.old.items)
+    ensures next { IfOk result (λ next.
+        next ≡ value_after (slice_get stack.now (length stack.now - 1)) (ended_by action) ahead) }
+    ensures taken { IfOk result (λ next. MatchOption next (events_of events.new.items ≡ events_of events.old.items)
         (λ next. (ss : List Symbol) × (standing stack.now ≡ symbol.Nonterminal MoreValues ∷ ss)
         × Takes ahead place (events_of events.old.items) (symbol.Action action ∷ standing stack.now)
         (events_of events.new.items) (in_values next ss))) }

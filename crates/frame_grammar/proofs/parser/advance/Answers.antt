@@ -46,7 +46,7 @@ returns-in-Terminal c =
 
 pub returns-in-Some-4 : goal.returns-in-Some-4
 returns-in-Some-4 c =
-    let step = MatchOption-at_some _ _ c.in-Some-4.value c.in-Some-4.is c.in_ok-value-in-Action.ensures in
+    let step = MatchOption-at_some _ _ c.in-Some-4.value c.in-Some-4.is c.in_ok-value-in-Action.ensures.taken in
     let first = top c.loop-next.stack.items c.pop.new.self.items c.pop.result c.in-Some.next c.pop.ensures.items c.in-Some.is in
     let here = subst (λ ss. Leads c.args.ahead c.args.place (events_of c.args.events.now.items) (standing c.args.stack.now.items) (events_of c.loop-next.events.items) ss) first c.loop-next.invariant in
     let past = past_lines c.in-Some.next (waiting.Action c.in-Action.action) (waiting.LinedAction c.in-Action.action) (symbol.Action c.in-Action.action) c.args.ahead c.args.place (events_of c.args.events.now.items) (events_of c.loop-next.events.items) (standing c.args.stack.now.items)
@@ -61,7 +61,7 @@ returns-in-Some-4 c =
 
 pub loop-next-preserved : goal.loop-next-preserved
 loop-next-preserved c =
-    let kept = MatchOption-at_none _ _ c.in_default-4.is c.in_ok-value-in-Action.ensures in
+    let kept = MatchOption-at_none _ _ c.in_default-4.is c.in_ok-value-in-Action.ensures.taken in
     let first = top c.loop-next.stack.items c.pop.new.self.items c.pop.result c.in-Some.next c.pop.ensures.items c.in-Some.is in
     let here = subst (λ ss. Leads c.args.ahead c.args.place (events_of c.args.events.now.items) (standing c.args.stack.now.items) (events_of c.loop-next.events.items) ss) first c.loop-next.invariant in
     let past = past_lines c.in-Some.next (waiting.Action c.in-Action.action) (waiting.LinedAction c.in-Action.action) (symbol.Action c.in-Action.action) c.args.ahead c.args.place (events_of c.args.events.now.items) (events_of c.loop-next.events.items) (standing c.args.stack.now.items)

@@ -1,4 +1,4 @@
-use Rattle.std.proofs.Common.{◌≡◌, [], ◌∷◌, ◌-◌, IfSome, length, take, subst}
+use Rattle.std.proofs.Common.{◌≡◌, [], ◌∷◌, ◌-◌, IfSome, length, take, sym, ◌∙◌, subst}
 use Rattle.frame_grammar.specs.Notes.{events_of}
 use Rattle.frame_grammar.specs.Waiting.{standing}
 use Rattle.frame_grammar.specs.declared.symbols.Nonterminal.TheVariants.{MoreValues}
@@ -6,12 +6,12 @@ use Rattle.frame_grammar.specs.declared.symbols.Symbol.TheVariants as symbol
 use Rattle.frame_grammar.specs.Values.{rest_of}
 use Rattle.frame_grammar.specs.declared.waiting.Waiting.TheVariants as waiting
 use Rattle.frame_grammar.proofs.Stacks.{last_on_top}
-use Rattle.frame_grammar.proofs.ValueTakings.{next_taken}
+use Rattle.frame_grammar.proofs.ValueTakings.{next_taken, values_wait}
 use Rattle.frame_grammar.proofs.values.take_next_value.Goals as goal
 
-pub returns-in-Some : goal.returns-in-Some
-returns-in-Some c =
+pub returns-in-Some-clause-taken : goal.returns-in-Some-clause-taken
+returns-in-Some-clause-taken c =
     let items = c.args.stack.now in
     next_taken c.take_part.result c.in-Some.value c.args.action c.args.ahead c.args.place (events_of c.args.events.now.items) (events_of c.take_part.new.events.items) (standing items)
     (standing (take (length items - 1) items)) (subst (λ o. IfSome o (λ value. rest_of value ≡ symbol.Action c.args.action ∷ [])) c.in-Some.is c.ended_by.ensures.rest)
-    (last_on_top items (waiting.Nonterminal MoreValues) (c.has_values_on_top.ensures c.if-has_values_on_top.true)) c.take_part.ensures
+    (last_on_top items (waiting.Nonterminal MoreValues) (values_wait _ (sym c.has_values_on_top.ensures ∙ c.if-has_values_on_top.true))) c.take_part.ensures.taken

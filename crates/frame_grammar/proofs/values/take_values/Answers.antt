@@ -17,14 +17,14 @@ loop-place-preserved g c =
     let ahead = get_or-map g.T.HasKind.kind_of c.args.tokens.now c.loop-place.place c.index-tokens-place.result c.kind.result c.loop-place-test.true ∙ ap g.T.HasKind.kind_of (sym c.index-tokens-place.is) ∙ sym c.kind.ensures in
     let within : c.loop-place.place < length kinds = omega (arith, length-map c.args.tokens.now g.T.HasKind.kind_of, c.loop-place-test.true) in
     more_values kinds c.args.from c.loop-place.place c.kind.result c.kind.result c.args.first c.loop-place.value c.in-Some.next (events_of c.args.events.now.items) (events_of c.loop-place.events.items)
-    (events_of c.take_part.new.events.items) within ahead c.loop-place.invariant (MatchOption-at_some _ _ c.in-Some.next c.in-Some.is c.in_ok-next.ensures)
+    (events_of c.take_part.new.events.items) within ahead c.loop-place.invariant (MatchOption-at_some _ _ c.in-Some.next c.in-Some.is c.in_ok-next.ensures.taken)
 
 pub returns : goal.returns
 returns g c =
     let same : events_of c.loop-place-test.events.items ≡ events_of c.loop-place.events.items =
     elim c.loop-place-test.branch [
       | else-loop-place-test w ↦ ap (λ v. events_of v.items) w.events-is
-      | then-loop-place-test+in_ok-next+in-None w ↦ ap (λ v. events_of v.items) w.events-is ∙ MatchOption-at_none _ _ w.in-None.is w.in_ok-next.ensures
+      | then-loop-place-test+in_ok-next+in-None w ↦ ap (λ v. events_of v.items) w.events-is ∙ MatchOption-at_none _ _ w.in-None.is w.in_ok-next.ensures.taken
     ] in (
       c.loop-place.value,
       subst (TakesValues (map g.T.HasKind.kind_of c.args.tokens.now) c.args.from c.loop-place.place c.args.first c.loop-place.value (events_of c.args.events.now.items)) (sym same) c.loop-place.invariant,
