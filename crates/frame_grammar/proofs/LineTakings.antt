@@ -1,5 +1,5 @@
 -- Lines that are taken at once are taken as the table takes them.
-use Rattle.std.proofs.Common.{zero, suc, ◌≡◌, ℕ, ◌+◌, ◌<◌, ◌≤◌, ⊎_elim, Result, Ok, Err, IfOk, Bool, true, false, List, [], ◌∷◌, ◌++◌, All, length, map, get_or, slice_get, nat_lt, Option, Some, None, refl, sym, ◌∙◌, ap, subst, cond, append_assoc, arith}
+use Rattle.std.proofs.Common.{zero, suc, ◌≡◌, ℕ, ◌+◌, ◌-◌, ◌<◌, ◌≤◌, ⊎_elim, Result, Ok, Err, IfOk, Bool, true, false, List, [], ◌∷◌, ◌++◌, All, length, map, get_or, slice_get, nat_lt, Option, Some, None, refl, sym, ◌∙◌, ap, subst, cond, append_assoc, arith}
 use Rattle.std.proofs.lemmas.List.{append-nil}
 use Rattle.std.proofs.lemmas.List.Elements.{All-cons, All-nil}
 use Rattle.std.proofs.lemmas.Bool.{and_parts, ltb-true, cases_lt}
@@ -7,6 +7,7 @@ use Rattle.std.specs.List.{list_all}
 use Rattle.std.proofs.lemmas.Option.{slice_get_within, get_or_from_slice_get, slice_get-map, slice_get_read, slice_get-get_or}
 use Rattle.std.specs.Option.{option_map}
 use Rattle.frame_grammar.specs.declared.TokenKind.{TokenKind}
+use Rattle.frame_grammar.specs.declared.TokenKind.TheVariants.{Line}
 use Rattle.frame_grammar.specs.declared.symbols.Action.{Action}
 use Rattle.frame_grammar.specs.declared.symbols.Event.{Event}
 use Rattle.frame_grammar.specs.declared.symbols.Nonterminal.{Nonterminal}
@@ -169,3 +170,19 @@ pub kind_there : {X : Type 0} (kind_of : X → TokenKind) (xs : List X) (x : X) 
     k ≡ get_or kinds i d → slice_get (map kind_of xs) p ≡ slice_get kinds i
 kind_there kind_of xs x p kinds i k d low small token kind wanted =
     slice_get-map kind_of xs p ∙ ap (option_map kind_of) (slice_get_read xs (length xs) p x refl low token) ∙ ap Some (sym kind ∙ wanted) ∙ sym (slice_get-get_or kinds i d small)
+
+-- and the other way round
+pub kind_wanted : {X : Type 0} (kind_of : X → TokenKind) (xs : List X) (x : X) (p : ℕ) (kinds : List TokenKind) (i : ℕ) (k d : TokenKind) → p < length xs → i < length kinds → x ≡ get_or xs p x → k ≡ kind_of x →
+    slice_get (map kind_of xs) p ≡ slice_get kinds i → k ≡ get_or kinds i d
+kind_wanted kind_of xs x p kinds i k d low small token kind there =
+    let same : Some k ≡ Some (get_or kinds i d) =
+    ap Some kind ∙ sym (slice_get-map kind_of xs p ∙ ap (option_map kind_of) (slice_get_read xs (length xs) p x refl low token)) ∙ there ∙ slice_get-get_or kinds i d small in
+    cc
+
+-- fewer tokens are left
+pub too_few_there : (kinds tokens : List TokenKind) (place : ℕ) → place ≤ length tokens → length tokens - place < length kinds → AreAt kinds tokens place → ⊥
+too_few_there kinds tokens place low few there =
+    let last = length kinds - 1 in
+    let small : last < length kinds = omega (arith, few) in
+    let within = slice_get_within tokens (place + last) _ (there last small ∙ slice_get-get_or kinds last Line small) in
+    omega (arith, within, few, low)

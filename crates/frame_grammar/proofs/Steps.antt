@@ -46,6 +46,13 @@ kinds_same_not j k e = kinds_same j k (not_false (sameb the_type j k) e)
 pub kinds_differ : (j k : TokenKind) → sameb the_type j k ≡ false → j ≡ k → ⊥
 kinds_differ j k e h = same_false the_type j k e h
 
+not_true : (b : Bool) → not b ≡ true → b ≡ false
+not_true true e = cc
+not_true false e = refl
+
+pub kinds_differ_not : (j k : TokenKind) → not (sameb the_type j k) ≡ true → j ≡ k → ⊥
+kinds_differ_not j k e h = kinds_differ j k (not_true (sameb the_type j k) e) h
+
 -- Where the stack ss0 was reached, the stack ss is; and where ss0 closes, ss does.
 pub record Leads (ahead : TokenKind) (place : ℕ) (done0 : List Event) (ss0 : List Symbol) (done : List Event) (ss : List Symbol) : Type 0 where
   pub reached : (start : Nonterminal) (read : List TokenKind) → IsReachedAt start ahead place done0 read ss0 → IsReachedAt start ahead place done read ss
