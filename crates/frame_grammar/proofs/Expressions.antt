@@ -1,5 +1,5 @@
 -- An expression goes through all its levels, whatever token is ahead; what may follow at each of them mostly doesn't.
-use Rattle.std.proofs.Common.{◌≡◌, ℕ, ◌<◌, Option, Some, None, true, false, Result, Ok, Err, IfOk, ◌∷◌, [], List, ◌++◌, refl, arith}
+use Rattle.std.proofs.Common.{◌≡◌, ℕ, ◌<◌, Option, Some, None, false, Result, Ok, Err, IfOk, ◌∷◌, [], List, ◌++◌, refl, arith}
 use Rattle.std.proofs.lemmas.Bool.{or_parts}
 use denote.Enum.Bare.{sameb}
 use Rattle.frame_grammar.specs.contracts.TokenKind.{the_type as the_kind}

@@ -20,11 +20,11 @@ ghost use Rattle.frame_grammar.specs.Parser.{Takes, IsStep};
 use crate::TokenKind as K;
 use crate::levels::{compared, expression, more_and, more_factors, more_or, more_terms, term};
 use crate::note::Note;
+use crate::operands::{Coming, Side};
 use crate::stack::{note, note_both, put};
 use crate::statements::statement_step;
 use crate::symbols::{Action as A, Nonterminal as N};
 use crate::waiting::Waiting::{self, LinedAction, LinedNonterminal, Nonterminal, Terminal};
-use crate::operands::{Coming, Side};
 use std::alloc::AllocError;
 
 /// What was done with the nonterminal that was on top of the stack.

@@ -1,4 +1,4 @@
-use Rattle.std.proofs.Common.{length, map, arith}
+use Rattle.std.proofs.Common.{map, arith}
 use Rattle.std.proofs.lemmas.List.{length-map}
 use Rattle.frame_grammar.specs.Notes.{events_of}
 use Rattle.frame_grammar.specs.Waiting.{standing}

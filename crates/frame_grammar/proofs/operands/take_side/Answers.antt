@@ -1,6 +1,5 @@
 use Rattle.std.proofs.Common.{◌+◌, ◌++◌, map, Some, sym, ◌∙◌, ap}
 use Rattle.frame_grammar.specs.Notes.{events_of}
-use Rattle.frame_grammar.specs.Operands.{behind_of}
 use Rattle.frame_grammar.specs.Waiting.{standing, symbols_of}
 use Rattle.frame_grammar.specs.declared.symbols.Action.TheVariants as action
 use Rattle.frame_grammar.specs.declared.waiting.Waiting.TheVariants as waiting
