@@ -4,7 +4,7 @@
 //! each of their tokens takes some steps. Here stands what all steps together note. Any other line is taken token by
 //! token.
 
-ghost use Rattle.std.specs.Prelude.{◌≡◌, ◌<◌, ◌≤◌, ◌+◌, ◌^◌, ℕ, true, false, List, ◌++◌, All, length, map, slice_get, IfOk, IfSome};
+ghost use Rattle.std.specs.Prelude.{◌≡◌, ◌<◌, ◌≤◌, ◌+◌, ◌^◌, true, false, List, ◌++◌, All, length, map, IfOk, IfSome};
 ghost use Rattle.frame_grammar.specs.Lines.{AreAt, IsLine, events_at, TakesLines};
 ghost use Rattle.frame_grammar.specs.Notes.{events_of};
 

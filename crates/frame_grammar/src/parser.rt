@@ -1,6 +1,6 @@
 //! A predictive parser with a stack of its own.
 
-ghost use Rattle.std.specs.Prelude.{true, Some, slice_get, ◌≡◌, ◌-◌, ℕ, ◌<◌, ◌^◌, List, ◌++◌, [], ◌∷◌, length, map, IfOk, MatchOption};
+ghost use Rattle.std.specs.Prelude.{true, Some, slice_get, ◌≡◌, ◌-◌, ℕ, ◌<◌, ◌^◌, length, map, IfOk, MatchOption};
 ghost use Rattle.frame_grammar.specs.declared.symbols.Nonterminal.TheVariants.{Items};
 ghost use Rattle.frame_grammar.specs.declared.waiting.Waiting.TheVariants as waiting;
 ghost use Rattle.frame_grammar.specs.Sentences.{IsStart, IsEnded, IsOnlySentence, IsFault};

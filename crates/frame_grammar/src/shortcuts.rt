@@ -5,17 +5,14 @@
 //! their productions, and to push and pop all symbols between, costs twice as much. What a step puts on the stack
 //! stands here from the bottom up.
 
-ghost use Rattle.std.specs.Prelude.{◌≡◌, ℕ, ◌-◌, ◌<◌, ◌^◌, List, ◌∷◌, ◌++◌, [], length};
-ghost use Rattle.std.specs.Prelude.{slice_get, true, Some, IfOk, MatchBool};
+ghost use Rattle.std.specs.Prelude.{◌≡◌, ◌<◌, ◌^◌, ℕ, List, IfOk};
 ghost use Rattle.frame_grammar.specs.declared.TokenKind.{TokenKind};
 ghost use Rattle.frame_grammar.specs.declared.symbols.Nonterminal.TheVariants as nonterminal;
-ghost use Rattle.frame_grammar.specs.declared.symbols.Symbol.TheVariants as symbol;
 ghost use Rattle.frame_grammar.specs.declared.symbols.Event.{Event};
-ghost use Rattle.frame_grammar.specs.declared.waiting.Waiting.TheVariants as waiting;
 ghost use Rattle.frame_grammar.specs.Notes.{events_of};
 ghost use Rattle.frame_grammar.specs.Waiting.{standing};
 ghost use Rattle.frame_grammar.specs.Shortcuts.{begins_effect};
-ghost use Rattle.frame_grammar.specs.Parser.{Takes, IsStep};
+ghost use Rattle.frame_grammar.specs.Parser.{IsStep};
 
 use crate::TokenKind as K;
 use crate::levels::{compared, expression, more_and, more_factors, more_or, more_terms, term};

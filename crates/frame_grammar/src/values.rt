@@ -3,11 +3,10 @@
 //! Where a value is whole, the next token is a value's too, or ends them. So it is enough to know how far a value is
 //! read, and the parser's stack may rest.
 
-ghost use Rattle.std.specs.Prelude.{true, ◌≡◌, ℕ, ◌-◌, ◌<◌, ◌≤◌, ◌^◌, List, [], ◌∷◌, ◌++◌, length, map, slice_get, Some, IfOk, IfSome, MatchOption};
+ghost use Rattle.std.specs.Prelude.{true, ◌≡◌, ◌-◌, ◌<◌, ◌≤◌, ◌^◌, List, [], ◌∷◌, ◌++◌, length, map, slice_get, Some, IfOk, IfSome, MatchOption};
 ghost use Rattle.frame_grammar.specs.declared.symbols.Nonterminal.TheVariants.{MoreValues};
 ghost use Rattle.frame_grammar.specs.declared.symbols.Symbol.{Symbol};
 ghost use Rattle.frame_grammar.specs.declared.symbols.Symbol.TheVariants as symbol;
-ghost use Rattle.frame_grammar.specs.declared.waiting.Waiting.TheVariants as waiting;
 ghost use Rattle.frame_grammar.specs.Notes.{events_of};
 ghost use Rattle.frame_grammar.specs.Parser.{Takes};
 ghost use Rattle.frame_grammar.specs.Values.{ended_by, next_value, are_values, value_after, rest_of, in_values, TakesValues};
