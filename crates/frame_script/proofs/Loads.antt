@@ -16,6 +16,8 @@ use Rattle.frame_grammar.specs.declared.symbols.Event.{Event}
 use Rattle.frame_grammar.specs.declared.note.Note.{Note}
 use Rattle.frame_grammar.specs.Notes.{events_of}
 use Rattle.frame_grammar.specs.Sentences.{IsOnlySentence, IsFault}
+use Rattle.frame_grammar.specs.declared.parser.ParseError.{ParseError}
+use Rattle.frame_grammar.specs.declared.parser.ParseError.TheVariants as stop
 use Rattle.kernel_code.specs.declared.token.Token.{Token}
 use Rattle.kernel_code.specs.declared.mark.Mark.{Mark}
 use Rattle.kernel_code.specs.Marks.{IsOfKind, kind_of, tokens_in}
@@ -24,13 +26,15 @@ use Rattle.kernel_code.specs.Tokens.{end_at, tokens_of, up_to_bad}
 use Rattle.kernel_code.specs.Parsing.{kinds}
 use Rattle.kernel_code.proofs.Lexed.{lexed_file_is_whole, lexed_fault_stands, lexed_fault_token}
 use Rattle.kernel_code.proofs.Marks.{kinds-tokens_in}
+use Rattle.frame_script.specs.declared.fault.LoadFault.{LoadFault}
+use Rattle.frame_script.specs.declared.fault.LoadFault.TheVariants as load
 use Rattle.frame_script.specs.declared.source.Source.{Source}
 use Rattle.frame_script.specs.declared.walk.Walk.{Walk}
 use Rattle.frame_script.specs.Raw.{RawItems, Nothing, SpellsItems}
 use Rattle.frame_script.specs.Sources.{file_tokens}
 use Rattle.frame_script.specs.Files.{IsFaultless, IsScriptOf, StandFor, at_start, too_long, nothing}
 use Rattle.frame_script.specs.Writing.{Completes}
-use Rattle.frame_script.specs.Loading.{HasItems, Spells, IsRefused, syntax, static, too_many}
+use Rattle.frame_script.specs.Loading.{HasItems, Spells, IsRefused, syntax, static, too_many, refusal_of}
 use Rattle.frame_script.specs.Walking.{scope_of, lists_in, LeftFaultless, IsAt, IsThrough, RefusesItems, Gathers}
 use Rattle.frame_script.proofs.Writing.{ends_within, ends_over}
 use Rattle.frame_script.proofs.Accepting.{accepted}
@@ -131,6 +135,15 @@ no_syntax bytes marks place line lexed fault is =
           ∙ ap token_line (slice_get-get_or first place d within)
           ∙ ap (λ (t : Token). t.line) (lexed_fault_token bytes File place d there);
     })
+
+-- the token with which the parser stops is reported by its line
+pub stopped : (bytes : List ℕ) (marks : List Mark) (error : ParseError) (refused : LoadFault) (line : ℕ) (kind : FaultKind) → tokens_in bytes 1 marks ≡ up_to_bad (tokens_of bytes) →
+    refused ≡ refusal_of error (tokens_in bytes 1 marks) → ((place : ℕ) → error ≡ stop.Syntax place → IsFault File (map kind_of marks) place) → refused ≡ load.Refused line kind → IsRefused bytes line kind
+stopped bytes marks stop.Memory refused line kind lexed is fault reported = let clash = sym is ∙ reported in cc
+stopped bytes marks (stop.Syntax place) refused line kind lexed is fault reported =
+    let same : load.Refused (token_line (slice_get (tokens_in bytes 1 marks) place)) Syntax ≡ load.Refused line kind = sym is ∙ reported in
+    let kind_same : Syntax ≡ kind = cc in
+    subst (IsRefused bytes line) kind_same (no_syntax bytes marks place line lexed (fault place refl) cc)
 
 pub refused_statically : (bytes : List ℕ) (s : Source) (events : List Event) (line : ℕ) (kind : FaultKind) → IsRead bytes s events → RefusesItems s events line kind → IsRefused bytes line kind
 refused_statically bytes s events line kind r f = static (record {

@@ -5,12 +5,17 @@ use Rattle.frame_ast.specs.declared.kernel.FaultKind.TheVariants.{Syntax, TooLon
 use Rattle.frame_ast.specs.declared.script.Script.{Script}
 use Rattle.frame_grammar.specs.declared.symbols.Nonterminal.TheVariants.{File}
 use Rattle.frame_grammar.specs.declared.symbols.Event.{Event}
+use Rattle.frame_grammar.specs.declared.parser.ParseError.{ParseError}
+use Rattle.frame_grammar.specs.declared.parser.ParseError.TheVariants as error
 use Rattle.frame_grammar.specs.Sentences.{IsOnlySentence, IsFault}
 use Rattle.kernel_code.specs.declared.token.Token.{Token}
 use Rattle.kernel_code.specs.declared.check.StaticFault.{StaticFault}
 use Rattle.kernel_code.specs.Tokens.{tokens_of}
 use Rattle.kernel_code.specs.Marks.{IsOfKind}
 use Rattle.kernel_code.specs.Parsing.{kinds}
+use Rattle.kernel_code.specs.StaticFaults.{token_line}
+use Rattle.frame_script.specs.declared.fault.LoadFault.{LoadFault}
+use Rattle.frame_script.specs.declared.fault.LoadFault.TheVariants as fault
 use Rattle.frame_script.specs.declared.source.Source.{Source}
 use Rattle.frame_script.specs.Raw.{RawItems, SpellsItems}
 use Rattle.frame_script.specs.Sources.{file_tokens, line_at}
@@ -69,3 +74,9 @@ pub data IsRefused (bytes : List ℕ) (line : ℕ) (kind : FaultKind) : Type 0 w
   syntax : kind ≡ Syntax → HasNoSyntax bytes line → IsRefused bytes line kind
   static : HasStaticFault bytes line kind → IsRefused bytes line kind
   too_many : kind ≡ TooLong → HasTooMany bytes line → IsRefused bytes line kind
+
+-- What a file is refused for where the parser finds none among its tokens: syntax, on the line of the first token that
+-- continues none, unless the parser ran out of memory.
+abbrev pub refusal_of : ParseError → List Token → LoadFault
+refusal_of error.Memory tokens = fault.NoMemory
+refusal_of (error.Syntax place) tokens = fault.Refused (token_line (slice_get tokens place)) Syntax

@@ -1,13 +1,12 @@
 //! Reads a file as a script.
 
-ghost use Rattle.std.specs.Prelude.{◌≡◌, ◌≤◌, ◌<◌, ◌+◌, ◌^◌, ℕ, List, Some, All, length, slice_get, IfOk, IsUtf8};
+ghost use Rattle.std.specs.Prelude.{◌≡◌, ◌≤◌, ◌<◌, ◌+◌, ◌^◌, ℕ, List, Some, All, length, IfOk, IsUtf8};
 ghost use Rattle.job_base.specs.declared.limits.TheConstants.{MOST_SCRIPT_BYTES};
 ghost use Rattle.frame_ast.specs.declared.kernel.FaultKind.{FaultKind};
-ghost use Rattle.frame_ast.specs.declared.kernel.FaultKind.TheVariants.{Syntax, TooLong};
+ghost use Rattle.frame_ast.specs.declared.kernel.FaultKind.TheVariants.{TooLong};
 ghost use Rattle.frame_ast.specs.Accepted.{IsAccepted};
 ghost use Rattle.kernel_code.specs.Marks.{tokens_in};
-ghost use Rattle.kernel_code.specs.StaticFaults.{token_line};
-ghost use Rattle.frame_script.specs.Loading.{Spells, IsRefused};
+ghost use Rattle.frame_script.specs.Loading.{Spells, IsRefused, refusal_of};
 ghost use Rattle.frame_script.specs.Walking.{Gathers};
 
 use crate::build_file::file_events;
@@ -41,13 +40,10 @@ fn script_of(alloc: Global, walk: Walk<'_>) -> Result<Script, LoadFault>
     }
 }
 
-// Why a file of these tokens is refused that the parser gives none for.
+// Why the bytes of these tokens are refused, where the parser finds no file among them.
 fn refusal(error: ParseError, marks: &[Mark]) -> LoadFault
     requires { 1 + length marks.now < 2 ^ 32 }
-    ensures syntax { (line : ℕ) (kind : FaultKind) → result ≡ LoadFault.Refused line kind → kind ≡ Syntax }
-    ensures place { (line : ℕ) (kind : FaultKind) → result ≡ LoadFault.Refused line kind →
-        (place : ℕ) × (error ≡ ParseError.Syntax place)
-        × ((source : List ℕ) → line ≡ token_line (slice_get (tokens_in source 1 marks.now) place)) }
+    ensures { (source : List ℕ) → result ≡ refusal_of error (tokens_in source 1 marks.now) }
 {
     match error {
         ParseError::Syntax(place) => LoadFault::Refused {

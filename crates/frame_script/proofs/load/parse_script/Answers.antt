@@ -1,4 +1,4 @@
-use Rattle.std.proofs.Common.{◌≡◌, Err, List, All, map, slice_get, refl, sym, ◌∙◌, ap, subst, arith}
+use Rattle.std.proofs.Common.{◌≡◌, Err, List, All, map, refl, sym, ◌∙◌, ap, subst, arith}
 use Rattle.frame_grammar.specs.declared.TokenKind.{TokenKind}
 use Rattle.frame_grammar.specs.declared.symbols.Event.{Event}
 use Rattle.frame_grammar.specs.declared.note.Note.{Note}
@@ -7,16 +7,15 @@ use Rattle.kernel_code.specs.declared.mark.Mark.{Mark}
 use Rattle.kernel_code.specs.Marks.{IsOfKind, kind_of, tokens_in}
 use Rattle.kernel_code.specs.Tokens.{tokens_of, up_to_bad}
 use Rattle.kernel_code.specs.Parsing.{kinds}
-use Rattle.kernel_code.specs.StaticFaults.{token_line}
 use Rattle.kernel_code.specs.Legible.{NamesAreText, NamesStand}
 use Rattle.frame_script.specs.declared.fault.LoadFault.TheVariants as load
 use Rattle.frame_script.specs.declared.source.Source.{Source}
 use Rattle.frame_script.specs.Raw.{IsFile}
 use Rattle.frame_script.specs.Sources.{file_tokens}
-use Rattle.frame_script.specs.Loading.{IsRefused}
+use Rattle.frame_script.specs.Loading.{IsRefused, refusal_of}
 use Rattle.frame_script.proofs.FileTokens.{few_marks, marks_ended, kinds_in_file}
 use Rattle.frame_script.proofs.WalkSteps.{exit_is}
-use Rattle.frame_script.proofs.Loads.{IsRead, read_of, spelled, script_accepted, no_syntax, refused_statically, refused_as_long, if_ok}
+use Rattle.frame_script.proofs.Loads.{IsRead, read_of, spelled, script_accepted, stopped, refused_statically, refused_as_long, if_ok}
 use Rattle.frame_script.proofs.load.parse_script.Goals as goal
 
 -- what is said of the marks and notes that the parser was given and answers holds of those of the file
@@ -45,13 +44,13 @@ refusal-requires c =
 pub returns-in-Err-clause-refused : goal.returns-in-Err-clause-refused
 returns-in-Err-clause-refused c line kind is =
     let bytes = c.args.source.now in
-    let told : c.refusal.result ≡ load.Refused line kind = cc in
-    let stop = c.refusal.ensures.place line kind told in
-    let fault = c.in-Err.ensures.fault stop.0 (ap (λ e. Err e) stop.1) in
     let marks = c.deref.result.now in
-    subst (IsRefused bytes line) (sym (c.refusal.ensures.syntax line kind told))
-    (no_syntax bytes marks stop.0 line (ap (tokens_in bytes 1) c.deref.ensures.value ∙ c.in_ok-marks.ensures.tokens) fault
-    (subst (λ ms. line ≡ token_line (slice_get (tokens_in bytes 1 ms) stop.0)) (c.deref-in-Err.ensures.value ∙ sym c.deref.ensures.value) (stop.2 bytes)))
+    let same = c.deref-in-Err.ensures.value ∙ sym c.deref.ensures.value in
+    stopped bytes marks c.in-Err.error c.refusal.result line kind
+    (ap (tokens_in bytes 1) c.deref.ensures.value ∙ c.in_ok-marks.ensures.tokens)
+    (c.refusal.ensures bytes ∙ ap (λ ms. refusal_of c.in-Err.error (tokens_in bytes 1 ms)) same)
+    (λ place stopped. c.in-Err.ensures.fault place (ap Err stopped))
+    (cc)
 
 pub walk_file-requires : goal.walk_file-requires
 walk_file-requires c =
