@@ -1,6 +1,6 @@
 //! One statement of a file: what it says, and the name that it makes.
 
-ghost use Rattle.std.specs.Prelude.{◌≡◌, ◌++◌, ℕ, length, None, Some, MatchOption, IsTrue, IfOk};
+ghost use Rattle.std.specs.Prelude.{◌≡◌, ◌≤◌, ◌^◌, ◌++◌, ℕ, length, None, Some, MatchOption, MatchResult, IsTrue, IfOk};
 ghost use Rattle.frame_ast.specs.declared.name_kind.NameKind.{NameKind};
 ghost use Rattle.frame_ast.specs.Lists.{first_some};
 ghost use Rattle.frame_script.specs.Raw.{form_of, closing};
@@ -124,9 +124,9 @@ fn valued<'a>(raw: &RawOrder<'a>) -> Option<Valued<'a>>
     }
 }
 
-/// A count, as a script holds it.
+/// A count, as a script holds it. A greater one than a `u32` holds is reported as out of memory.
 pub fn count_of(len: usize) -> Result<u32, NoMemory>
-    ensures { IfOk result (λ count. count ≡ len) }
+    ensures { MatchResult result (λ count. count ≡ len) (λ _. 2 ^ 32 ≤ len) }
 {
     if len > u32::MAX as usize {
         return Err(NoMemory);
