@@ -4,7 +4,7 @@ use Rattle.kernel_code.specs.declared.check.StaticFault.{StaticFault}
 use Rattle.frame_ast.specs.Lists.{first_some}
 use Rattle.frame_script.specs.declared.fault.OrderFault.{OrderFault}
 use Rattle.frame_script.specs.declared.fault.OrderFault.TheVariants.{Refused, NoMemory}
-use Rattle.frame_script.specs.Checks.{Refuses, Gives}
+use Rattle.frame_script.specs.Checks.{Refuses, RefusesFor, Gives}
 
 pub first_end : first_some {A = StaticFault} [] ≡ None
 unfolding first_some
@@ -56,7 +56,12 @@ pub refuses_right : (as' more : List (Option StaticFault)) (e : OrderFault) → 
 refuses_right as' more (Refused f) none h = first_join as' more none ∙ h
 refuses_right as' more NoMemory none h = tt
 
-pub ruleset checking = (first_end, first_none, refuses_here, refuses_next, first_both, refuses_left, refuses_right)
+-- what refuses where no memory is asked for refuses where some is
+pub refuses : (fault : Option StaticFault) (e : OrderFault) → RefusesFor fault e → Refuses fault e
+refuses fault (Refused f) h = h
+refuses fault NoMemory h = absurd h
+
+pub ruleset checking = (first_end, first_none, refuses_here, refuses_next, first_both, refuses_left, refuses_right, refuses)
 
 -- the exit of a `?`
 pub exits : {A : Type 0} (fault : Option StaticFault) (Holds : A → Type 0) (r : Result A OrderFault) (e : OrderFault) →

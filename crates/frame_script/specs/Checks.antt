@@ -25,9 +25,19 @@ abbrev pub Refuses : Option StaticFault → OrderFault → Type 0
 Refuses fault (Refused f) = fault ≡ Some f
 Refuses fault NoMemory = Unit {0}
 
--- the answer is a refusal by this fault, or where there is none a value of which this holds
+-- the answer is a refusal by this fault, or where there is none a value of which this holds, or out of memory
 abbrev pub Gives : {A : Type 0} → Option StaticFault → (A → Type 0) → Result A OrderFault → Type 0
 Gives fault Holds result = MatchResult result (λ a. (fault ≡ None) × Holds a) (Refuses fault)
+
+-- a refusal reports this fault, and never that memory is out
+abbrev pub RefusesFor : Option StaticFault → OrderFault → Type 0
+RefusesFor fault (Refused f) = fault ≡ Some f
+RefusesFor fault NoMemory = ⊥
+
+-- the answer of a check that asks for no memory: a refusal by this fault, or where there is none a value of which this
+-- holds
+abbrev pub Decides : {A : Type 0} → Option StaticFault → (A → Type 0) → Result A OrderFault → Type 0
+Decides fault Holds result = MatchResult result (λ a. (fault ≡ None) × Holds a) (RefusesFor fault)
 
 -- the place of a known name, which it keeps whatever name is made
 abbrev pub IsPlace : Source → List Name → ℕ → ℕ → Type 0

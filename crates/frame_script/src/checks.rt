@@ -9,7 +9,7 @@ ghost use Rattle.frame_script.specs.Faults.{limit_fault, signed_fault, handles_f
 ghost use Rattle.frame_ast.specs.declared.kernel.FaultKind.TheVariants.{Limit};
 ghost use Rattle.job_base.specs.declared.limits.TheConstants.{MOST_NAME_BYTES};
 ghost use Rattle.frame_script.specs.Spelling.{place_of, names_with};
-ghost use Rattle.frame_script.specs.Checks.{Gives, IsPlace, ArePlaces};
+ghost use Rattle.frame_script.specs.Checks.{IsPlace, ArePlaces, Gives, Decides};
 
 use crate::raw::RawNumber;
 use crate::{Names, OrderFault, Source};
@@ -28,7 +28,7 @@ pub fn refused<T>(kind: FaultKind, at: TokenAt) -> Result<T, OrderFault>
 
 /// A Number within limits.
 pub fn limited(source: Source<'_>, least: u32, most: u32, at: TokenAt) -> Result<u32, OrderFault>
-    ensures { Gives (limit_fault source.entry least most at) (λ n. n ≡ number_at source.entry at) result }
+    ensures { Decides (limit_fault source.entry least most at) (λ n. n ≡ number_at source.entry at) result }
 {
     let number = source.number(at);
     if number < u64::from(least) || number > u64::from(most) {
@@ -39,7 +39,7 @@ pub fn limited(source: Source<'_>, least: u32, most: u32, at: TokenAt) -> Result
 
 /// A signed number of 64 bits.
 pub fn signed(source: Source<'_>, number: RawNumber) -> Result<i64, OrderFault>
-    ensures { Gives (signed_fault source.entry number) (λ z. z ≡ signed_at source.entry number) result }
+    ensures { Decides (signed_fault source.entry number) (λ z. z ≡ signed_at source.entry number) result }
 {
     let value = source.number(number.at);
     let value = if number.minus {
@@ -62,7 +62,7 @@ pub fn is_among(kind: NameKind, kinds: &[NameKind]) -> bool
 
 // The text of a name that isn't too long.
 fn short_text(text: &[u8], at: TokenAt) -> Result<(), OrderFault>
-    ensures { Gives (unless (nat_le (length text.now) MOST_NAME_BYTES) Limit at) (λ _. ⊤) result }
+    ensures { Decides (unless (nat_le (length text.now) MOST_NAME_BYTES) Limit at) (λ _. ⊤) result }
 {
     if text.len() > MOST_NAME_BYTES as usize {
         return refused(FaultKind::Limit, at);
@@ -72,7 +72,7 @@ fn short_text(text: &[u8], at: TokenAt) -> Result<(), OrderFault>
 
 /// A name that isn't too long.
 pub fn short(source: Source<'_>, at: TokenAt) -> Result<(), OrderFault>
-    ensures { Gives (long_fault source.entry at) (λ _. ⊤) result }
+    ensures { Decides (long_fault source.entry at) (λ _. ⊤) result }
 {
     short_text(source.text(at), at)
 }
@@ -84,7 +84,7 @@ pub fn used(
     kinds: &[NameKind],
     at: TokenAt,
 ) -> Result<u32, OrderFault>
-    ensures { Gives (use_fault source.entry names.now kinds.now at) (IsPlace source.entry names.now at) result }
+    ensures { Decides (use_fault source.entry names.now kinds.now at) (IsPlace source.entry names.now at) result }
 {
     let Some((place, kind)) = names.get(source.text(at)) else {
         return refused(FaultKind::UnknownName, at);
@@ -122,7 +122,7 @@ pub fn maybe_signed(
     source: Source<'_>,
     number: Option<RawNumber>,
 ) -> Result<Option<i64>, OrderFault>
-    ensures { Gives (value_fault source.entry number) (λ z. z ≡ option_map (signed_at source.entry) number) result }
+    ensures { Decides (value_fault source.entry number) (λ z. z ≡ option_map (signed_at source.entry) number) result }
 {
     match number {
         None => Ok(None),
@@ -153,7 +153,7 @@ pub fn handles(
 
 /// The Text of a column, without its quotes, where it isn't too long.
 pub fn short_column<'a>(source: Source<'a>, at: TokenAt) -> Result<&'a [u8], OrderFault>
-    ensures { Gives (column_fault source.entry at) (λ text. text.now ≡ column_at source.entry at) result }
+    ensures { Decides (column_fault source.entry at) (λ text. text.now ≡ column_at source.entry at) result }
 {
     let text = source.column(at);
     if text.len() > MOST_COLUMN_BYTES as usize {

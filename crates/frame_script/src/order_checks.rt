@@ -7,7 +7,7 @@ ghost use Rattle.frame_script.specs.Raw.{form_of, Repeat, When};
 ghost use Rattle.frame_script.specs.Sources.{number_at};
 ghost use Rattle.frame_script.specs.Names.{Name};
 ghost use Rattle.frame_script.specs.Faults.{unless, order_faults, limit_fault};
-ghost use Rattle.frame_script.specs.Checks.{Checked, Gives, among, is_plain};
+ghost use Rattle.frame_script.specs.Checks.{Checked, among, is_plain, Gives, Decides};
 
 mod changes;
 mod jobs;
@@ -125,7 +125,7 @@ pub fn check_order(
 
 // A block stands in at most so many others, and no `when` in another.
 fn opened(blocks: u32, allowed: bool, at: TokenAt) -> Result<(), OrderFault>
-    ensures { Gives (unless (nat_lt blocks MOST_BLOCKS && allowed) Limit at) (λ _. ⊤) result }
+    ensures { Decides (unless (nat_lt blocks MOST_BLOCKS && allowed) Limit at) (λ _. ⊤) result }
 {
     if blocks < MOST_BLOCKS && allowed {
         Ok(())

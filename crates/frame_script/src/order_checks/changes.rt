@@ -6,7 +6,7 @@ ghost use Rattle.frame_ast.specs.Lists.{first_some};
 ghost use Rattle.frame_script.specs.Raw.{Dispose, Set, Add, Put, Remove, Clear, SetCapacity, Complete, DisposeAuto, Print};
 ghost use Rattle.frame_script.specs.Faults.{as_faults, made_as, use_fault, set_kinds, add_kinds};
 ghost use Rattle.frame_script.specs.Spelling.{place_of, names_with};
-ghost use Rattle.frame_script.specs.Checks.{Checked, Gives, IsPlace, bare};
+ghost use Rattle.frame_script.specs.Checks.{Checked, IsPlace, bare, Gives, Decides};
 
 use crate::checks::{handles, limited, made, maybe_signed, signed, used};
 use crate::raw::RawNumber;
@@ -132,7 +132,7 @@ fn settable(
     index: &Option<RawNumber>,
     name: TokenAt,
 ) -> Result<u32, OrderFault>
-    ensures { Gives (use_fault source.entry names.now (set_kinds index.now) name)
+    ensures { Decides (use_fault source.entry names.now (set_kinds index.now) name)
         (IsPlace source.entry names.now name) result }
 {
     match index {
@@ -148,7 +148,7 @@ fn addable(
     second: &Option<RawNumber>,
     name: TokenAt,
 ) -> Result<u32, OrderFault>
-    ensures { Gives (use_fault source.entry names.now (add_kinds second.now) name)
+    ensures { Decides (use_fault source.entry names.now (add_kinds second.now) name)
         (IsPlace source.entry names.now name) result }
 {
     match second {

@@ -11,7 +11,7 @@ ghost use Rattle.frame_script.specs.declared.raw.RawSizes.TheVariants as Sizes;
 ghost use Rattle.frame_script.specs.Faults.{is_deferred, use_fault, kernel_fault, arg_fault, args_faults, sizes_faults, sizes_fit, room_fits, takes, unless, waive_fault, waived_fault, limit_fault, signed_fault, scheduled_faults};
 ghost use Rattle.frame_script.specs.Spelling.{arg_of, names_with, cut_of, defer_of, param_place};
 ghost use Rattle.frame_script.specs.Sources.{text_at, number_at, signed_at};
-ghost use Rattle.frame_script.specs.Checks.{Checked, among, Gives, IsPlace, AreArgs, IsArg, IsDefer};
+ghost use Rattle.frame_script.specs.Checks.{Checked, among, IsPlace, AreArgs, IsArg, IsDefer, Gives, Decides};
 ghost use Rattle.frame_script.specs.Scheduled.{IsBehind};
 ghost use Rattle.frame_script.specs.Raw as Form;
 
@@ -47,7 +47,7 @@ fn used_for(
     kind: ParamKind,
     at: TokenAt,
 ) -> Result<u32, OrderFault>
-    ensures { Gives (use_fault source.entry names.now (kinds_for kind deferred) at)
+    ensures { Decides (use_fault source.entry names.now (kinds_for kind deferred) at)
         (IsPlace source.entry names.now at) result }
 {
     match kind {
@@ -69,7 +69,7 @@ fn is_int(kind: ParamKind) -> bool
 
 // A number is given for an `int` alone.
 fn taken(kind: ParamKind, at: TokenAt) -> Result<(), OrderFault>
-    ensures { Gives (unless (is_int kind) KindMismatch at) (λ _. ⊤) result }
+    ensures { Decides (unless (is_int kind) KindMismatch at) (λ _. ⊤) result }
 {
     if is_int(kind) {
         Ok(())
@@ -150,7 +150,7 @@ fn room_fits(room: bool, sizes: RawSizes) -> bool
 }
 
 fn takes(kernel: &Kernel, at: TokenAt, args: &[RawArg], sizes: RawSizes) -> Result<(), OrderFault>
-    ensures { Gives (unless (takes kernel.now args.now sizes) KindMismatch at) (λ _. ⊤) result }
+    ensures { Decides (unless (takes kernel.now args.now sizes) KindMismatch at) (λ _. ⊤) result }
 {
     if args.len() == kernel.params.len() && sizes_fit(kernel.parallel, sizes) {
         Ok(())
@@ -160,7 +160,7 @@ fn takes(kernel: &Kernel, at: TokenAt, args: &[RawArg], sizes: RawSizes) -> Resu
 }
 
 fn leaves_room(room: bool, at: TokenAt, sizes: RawSizes) -> Result<(), OrderFault>
-    ensures { Gives (unless (room_fits room sizes) Limit at) (λ _. ⊤) result }
+    ensures { Decides (unless (room_fits room sizes) Limit at) (λ _. ⊤) result }
 {
     if room_fits(room, sizes) {
         Ok(())
@@ -222,7 +222,7 @@ fn is_array(kind: ParamKind) -> bool
 // WAIVED NAMES
 
 fn waivable(parallel: bool, kind: ParamKind, access: Access, at: TokenAt) -> Result<(), OrderFault>
-    ensures { Gives (unless (parallel && (is_array kind && writes_to access)) KindMismatch at) (λ _. ⊤) result }
+    ensures { Decides (unless (parallel && (is_array kind && writes_to access)) KindMismatch at) (λ _. ⊤) result }
 {
     if parallel && (is_array(kind) && writes_to(access)) {
         Ok(())

@@ -8,7 +8,7 @@ ghost use Rattle.frame_ast.specs.declared.name_kind.NameKind.TheVariants.{Array}
 ghost use Rattle.frame_script.specs.Faults.{order_faults, count_fault};
 ghost use Rattle.frame_script.specs.Sources.{signed_at};
 ghost use Rattle.frame_script.specs.Spelling.{Says, names_with};
-ghost use Rattle.frame_script.specs.Checks.{Checked, Gives, bare, valued_form};
+ghost use Rattle.frame_script.specs.Checks.{Checked, bare, valued_form, Gives, Decides};
 
 use crate::checks::{
     handles, is_among, limited, made, maybe_signed, refused, short, short_column, used,
@@ -25,7 +25,7 @@ use std::alloc::Global;
 
 // An array that is given values has as many as its length says.
 fn counted(source: Source<'_>, at: TokenAt, values: &[Note]) -> Result<(), OrderFault>
-    ensures { Gives (count_fault source.entry at (Some (values_of (events_of values.now)))) (λ _. ⊤) result }
+    ensures { Decides (count_fault source.entry at (Some (values_of (events_of values.now)))) (λ _. ⊤) result }
 {
     if source.number(at) == count_values(values) as u64 {
         Ok(())

@@ -3,7 +3,7 @@ use Rattle.kernel_code.specs.declared.check.StaticFault.{StaticFault}
 use Rattle.frame_ast.specs.declared.name_kind.NameKind.TheVariants.{Handle}
 use Rattle.frame_script.specs.Faults.{use_fault}
 use Rattle.frame_script.specs.Spelling.{place_of, names_with}
-use Rattle.frame_script.proofs.FaultLemmas.{exits, exits_without_memory}
+use Rattle.frame_script.proofs.FaultLemmas.{refuses, exits, exits_without_memory}
 use Rattle.frame_script.proofs.ListLemmas.{passed_more, stopped_here, all_passed, kept_more, all_taken}
 use Rattle.frame_script.proofs.checks.handles.Goals as goal
 
@@ -21,7 +21,7 @@ pub returns-in_err-place : goal.returns-in_err-place
 returns-in_err-place c =
     let f : ℕ → Option StaticFault = use_fault c.args.source c.args.names.now (Handle ∷ []) in
     exits _ _ c.from_residual.result _ c.from_residual.ensures.1
-    (stopped_here f c.args.handles.now c.loop-handle.handle-index c.handle-item.result _ _ (omega arith) c.loop-handle.invariant.passed c.handle-item.is c.in_err-place.ensures)
+    (stopped_here f c.args.handles.now c.loop-handle.handle-index c.handle-item.result _ _ (omega arith) c.loop-handle.invariant.passed c.handle-item.is (refuses _ _ c.in_err-place.ensures))
 
 pub returns-in_err-push : goal.returns-in_err-push
 returns-in_err-push c = exits_without_memory _ _ c.from_residual-in_err-push.result c.from_residual-in_err-push.ensures.1

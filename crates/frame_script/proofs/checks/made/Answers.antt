@@ -4,7 +4,7 @@ use Rattle.frame_ast.specs.declared.kernel.FaultKind.TheVariants.{KindMismatch, 
 use Rattle.job_base.specs.declared.limits.TheConstants.{MOST_NAME_BYTES}
 use Rattle.frame_script.specs.Faults.{unless, remake_fault, long_fault}
 use Rattle.frame_script.specs.Checks.{Refuses}
-use Rattle.frame_script.proofs.FaultLemmas.{first_end, first_none, first_here, refuses_here, refuses_next, exits, refused_by}
+use Rattle.frame_script.proofs.FaultLemmas.{first_end, first_none, first_here, refuses, refuses_here, refuses_next, exits, refused_by}
 use Rattle.frame_script.proofs.PlaceLemmas.{made_new, made_again, made_otherwise}
 use Rattle.frame_script.proofs.checks.made.Goals as goal
 
@@ -18,7 +18,7 @@ returns-in_err-short_text c =
     let made = made_new s names c.args.kind c.args.at (length names) (search rules) (search rules) refl in
     exits _ _ c.from_residual.result _ c.from_residual.ensures.1
     (refuses_next (remake_fault s names c.args.kind c.args.at) (long_fault s c.args.at ∷ []) _ made.0
-    (refuses_here (long_fault s c.args.at) [] _ (subst (λ t. Refuses (long_in c.args.at t) c.in_err-short_text.field-0.0) c.text-text.ensures c.in_err-short_text.ensures)))
+    (refuses_here (long_fault s c.args.at) [] _ (subst (λ t. Refuses (long_in c.args.at t) c.in_err-short_text.field-0.0) c.text-text.ensures (refuses _ _ c.in_err-short_text.ensures))))
 
 pub returns-in_default : goal.returns-in_default
 returns-in_default c =
@@ -44,7 +44,7 @@ returns-in_err-short_text-2 c =
     let made = made_again s names c.args.kind c.in-Some.known c.args.at c.in-Some.place (search rules) (search rules) (sym c.if-not-is_among.false ∙ c.is_among.ensures) in
     exits _ _ c.from_residual-in_err-short_text-2.result _ c.from_residual-in_err-short_text-2.ensures.1
     (refuses_next (remake_fault s names c.args.kind c.args.at) (long_fault s c.args.at ∷ []) _ made.0
-    (refuses_here (long_fault s c.args.at) [] _ (subst (λ t. Refuses (long_in c.args.at t) c.in_err-short_text-2.field-0.0) c.text-text.ensures c.in_err-short_text-2.ensures)))
+    (refuses_here (long_fault s c.args.at) [] _ (subst (λ t. Refuses (long_in c.args.at t) c.in_err-short_text-2.field-0.0) c.text-text.ensures (refuses _ _ c.in_err-short_text-2.ensures))))
 
 pub returns : goal.returns
 returns c =

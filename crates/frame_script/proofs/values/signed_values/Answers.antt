@@ -5,7 +5,7 @@ use Rattle.frame_grammar.specs.Notes.{events_of}
 use Rattle.frame_script.specs.declared.raw.RawNumber.{RawNumber}
 use Rattle.frame_script.specs.Raw.{signed_from, values_of}
 use Rattle.frame_script.proofs.Noted.{noted_next, noted_out}
-use Rattle.frame_script.proofs.FaultLemmas.{exits}
+use Rattle.frame_script.proofs.FaultLemmas.{refuses, exits}
 use Rattle.frame_script.proofs.NumberLemmas.{signed_kept}
 use Rattle.frame_script.proofs.ValueLemmas.{Kept, kept_on, kept_more, kept_all, stopped_at, left_after, left_alike}
 use Rattle.frame_script.proofs.values.signed_values.Goals as goal
@@ -21,7 +21,7 @@ returns-in_err-value-in-PlainNumber c =
     let n : RawNumber = record { minus = false; at = at } in
     let next = noted_next notes i _ e c.loop-note-test.true c.event-event.ensures in
     exits _ _ c.from_residual-in_err-value-in-PlainNumber.result _ c.from_residual-in_err-value-in-PlainNumber.ensures.1
-    (stopped_at c.args.source (values_of all) _ (signed_from at (drop (i + 1) all)) n c.loop-note.values.items _ (left_after all i at e PlainNumber next c.in-PlainNumber.is) c.in_err-value-in-PlainNumber.ensures c.loop-note.invariant)
+    (stopped_at c.args.source (values_of all) _ (signed_from at (drop (i + 1) all)) n c.loop-note.values.items _ (left_after all i at e PlainNumber next c.in-PlainNumber.is) (refuses _ _ c.in_err-value-in-PlainNumber.ensures) c.loop-note.invariant)
 
 pub returns-in_err-value-in-MinusNumber : goal.returns-in_err-value-in-MinusNumber
 returns-in_err-value-in-MinusNumber c =
@@ -33,7 +33,7 @@ returns-in_err-value-in-MinusNumber c =
     let n : RawNumber = record { minus = true; at = at } in
     let next = noted_next notes i _ e c.loop-note-test.true c.event-event.ensures in
     exits _ _ c.from_residual-in_err-value-in-MinusNumber.result _ c.from_residual-in_err-value-in-MinusNumber.ensures.1
-    (stopped_at c.args.source (values_of all) _ (signed_from at (drop (i + 1) all)) n c.loop-note.values.items _ (left_after all i at e MinusNumber next c.in-MinusNumber.is) c.in_err-value-in-MinusNumber.ensures c.loop-note.invariant)
+    (stopped_at c.args.source (values_of all) _ (signed_from at (drop (i + 1) all)) n c.loop-note.values.items _ (left_after all i at e MinusNumber next c.in-MinusNumber.is) (refuses _ _ c.in_err-value-in-MinusNumber.ensures) c.loop-note.invariant)
 
 pub loop-note-preserved : goal.loop-note-preserved
 loop-note-preserved c =

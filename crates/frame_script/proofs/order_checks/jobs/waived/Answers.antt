@@ -3,7 +3,7 @@ use Rattle.std.specs.List.{position}
 use Rattle.std.specs.Str.{bytes_eq}
 use Rattle.std.specs.String.{string_bytes}
 use Rattle.frame_script.specs.Sources.{text_at}
-use Rattle.frame_script.proofs.FaultLemmas.{exits, refused_by}
+use Rattle.frame_script.proofs.FaultLemmas.{refuses, exits, refused_by}
 use Rattle.frame_script.proofs.JobLemmas.{waive_unknown, waive_known, waive_refused}
 use Rattle.frame_script.proofs.order_checks.jobs.waived.Goals as goal
 
@@ -13,7 +13,7 @@ returns-in_default c = refused_by _ _ c.refused.result _ c.refused.ensures (waiv
 pub returns-in_err-waivable : goal.returns-in_err-waivable
 returns-in_err-waivable c =
     exits _ _ c.from_residual.result _ c.from_residual.ensures.1
-    (waive_refused c.args.source c.args.kernel.now c.args.at c.in-Some.place c.index-param.result.now _ (search rules) c.index-param.ensures c.in_err-waivable.ensures)
+    (waive_refused c.args.source c.args.kernel.now c.args.at c.in-Some.place c.index-param.result.now _ (search rules) c.index-param.ensures (refuses _ _ c.in_err-waivable.ensures))
 
 pub returns : goal.returns
 returns c =

@@ -1,7 +1,7 @@
 use Rattle.std.proofs.Common.{rules}
 use Rattle.frame_script.specs.Names.{kind_in}
 use Rattle.frame_script.specs.Sources.{text_at}
-use Rattle.frame_script.proofs.FaultLemmas.{exits, refused_by}
+use Rattle.frame_script.proofs.FaultLemmas.{refuses, exits, refused_by}
 use Rattle.frame_script.proofs.PlaceLemmas.{stays}
 use Rattle.frame_script.proofs.CopyLemmas.{unknown_long, unknown_source, other_long, other_source, copy_unmade, copy_good, copy_says}
 use Rattle.frame_script.proofs.order_checks.makes.copy.Goals as goal
@@ -9,7 +9,7 @@ use Rattle.frame_script.proofs.order_checks.makes.copy.Goals as goal
 pub returns-in_err-short : goal.returns-in_err-short
 returns-in_err-short c =
     exits _ _ c.from_residual.result _ c.from_residual.ensures.1
-    (unknown_long c.args.source c.args.names.now c.args.name c.args.of (kind_in c.args.names.now (text_at c.args.source c.args.of)) _ (search rules) c.in_err-short.ensures)
+    (unknown_long c.args.source c.args.names.now c.args.name c.args.of (kind_in c.args.names.now (text_at c.args.source c.args.of)) _ (search rules) (refuses _ _ c.in_err-short.ensures))
 
 pub returns-in_default : goal.returns-in_default
 returns-in_default c =
@@ -19,7 +19,7 @@ returns-in_default c =
 pub returns-in_err-short-2 : goal.returns-in_err-short-2
 returns-in_err-short-2 c =
     exits _ _ c.from_residual-in_err-short-2.result _ c.from_residual-in_err-short-2.ensures.1
-    (other_long c.args.source c.args.names.now c.args.name c.args.of (kind_in c.args.names.now (text_at c.args.source c.args.of)) c.in-Some.kind _ (search rules) (search rules) c.in_err-short-2.ensures)
+    (other_long c.args.source c.args.names.now c.args.name c.args.of (kind_in c.args.names.now (text_at c.args.source c.args.of)) c.in-Some.kind _ (search rules) (search rules) (refuses _ _ c.in_err-short-2.ensures))
 
 pub returns-then-not-is_among : goal.returns-then-not-is_among
 returns-then-not-is_among c =
