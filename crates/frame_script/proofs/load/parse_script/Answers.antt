@@ -12,7 +12,7 @@ use Rattle.frame_script.specs.declared.fault.LoadFault.TheVariants as load
 use Rattle.frame_script.specs.declared.source.Source.{Source}
 use Rattle.frame_script.specs.Raw.{IsFile}
 use Rattle.frame_script.specs.Sources.{file_tokens}
-use Rattle.frame_script.specs.Loading.{IsRefused, refusal_of}
+use Rattle.frame_script.specs.Loading.{refusal_of}
 use Rattle.frame_script.proofs.FileTokens.{few_marks, marks_ended, kinds_in_file}
 use Rattle.frame_script.proofs.WalkSteps.{exit_is}
 use Rattle.frame_script.proofs.Loads.{IsRead, read_of, spelled, script_accepted, stopped, refused_statically, refused_as_long, if_ok}
