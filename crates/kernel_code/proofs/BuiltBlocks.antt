@@ -36,14 +36,14 @@ partly_end raw owner from at end b ss h p =
     let e = p.ends in
     subst (λ xs. BlockOf raw from b xs) (append-nil ss) (p.before [] (nothing-left raw at p.rest (omega arith)))
 
-size-split : (b : RawBlock) → block_size b ≡ first_size b + block_size (rest_of b)
+pub size-split : (b : RawBlock) → block_size b ≡ first_size b + block_size (rest_of b)
 size-split Nothing = refl
 size-split (Simple f a n parts more) = omega arith
 size-split (Nested f a n parts inner more) = omega arith
 size-split (Branched a e first second more) = omega arith
 
 -- the first node of a block tells how many nodes its first statement has
-first-after : (raw : RawKernel) (owner : Option ℕ) (at : ℕ) (node : RawNode) (b : RawBlock) → IsTrue (has_first b) → slice_get raw.nodes.items at ≡ Some node → StandsBlock raw.nodes.items owner at b →
+pub first-after : (raw : RawKernel) (owner : Option ℕ) (at : ℕ) (node : RawNode) (b : RawBlock) → IsTrue (has_first b) → slice_get raw.nodes.items at ≡ Some node → StandsBlock raw.nodes.items owner at b →
     1 + node.after ≡ first_size b
 first-after raw owner at node Nothing h s st = cc
 first-after raw owner at node (Simple f a n parts more) h s st =
@@ -63,7 +63,7 @@ no-at : (raw : RawKernel) (i j : ℕ) → i ≡ j → NoOperator raw.nodes.items
 no-at raw i j e h = subst (λ n. NoOperator raw.nodes.items n) e h
 
 -- the rest of a block stands behind its first statement
-rest-here : (raw : RawKernel) (owner : Option ℕ) (at j : ℕ) (b : RawBlock) → at + first_size b ≡ j → IsBlockHere raw owner at b → IsBlockHere raw owner j (rest_of b)
+pub rest-here : (raw : RawKernel) (owner : Option ℕ) (at j : ℕ) (b : RawBlock) → at + first_size b ≡ j → IsBlockHere raw owner at b → IsBlockHere raw owner j (rest_of b)
 rest-here raw owner at j Nothing e here = record { formed = tt; stands = tt; after = no-at raw _ _ (omega arith) here.after }
 rest-here raw owner at j (Simple f a n parts more) e here =
     record { formed = here.formed.1; stands = block-at raw owner _ _ more e here.stands.2; after = no-at raw _ _ (omega arith) here.after }
@@ -72,7 +72,7 @@ rest-here raw owner at j (Nested f a n parts inner more) e here =
 rest-here raw owner at j (Branched a x first second more) e here =
     record { formed = here.formed.3; stands = block-at raw owner _ _ more e here.stands.4; after = no-at raw _ _ (omega arith) here.after }
 
-begun-first : (b : RawBlock) → 0 < block_size b → IsTrue (has_first b)
+pub begun-first : (b : RawBlock) → 0 < block_size b → IsTrue (has_first b)
 begun-first Nothing h = absurd (omega arith)
 begun-first (Simple f a n parts more) h = refl
 begun-first (Nested f a n parts inner more) h = refl
@@ -100,7 +100,7 @@ partly_next raw owner from at end b ss ss' node s lt there pushed first p =
 inside-slice : (nodes : List RawNode) (i : ℕ) → slice_get nodes i ≡ None → (node : RawNode) → slice_get nodes i ≡ Some node → ⊥
 inside-slice nodes i none node some = cc
 
-first-exists : (raw : RawKernel) (owner : Option ℕ) (at : ℕ) (b : RawBlock) → IsTrue (has_first b) → StandsBlock raw.nodes.items owner at b → slice_get raw.nodes.items at ≡ None → ⊥
+pub first-exists : (raw : RawKernel) (owner : Option ℕ) (at : ℕ) (b : RawBlock) → IsTrue (has_first b) → StandsBlock raw.nodes.items owner at b → slice_get raw.nodes.items at ≡ None → ⊥
 first-exists raw owner at Nothing h st none = cc
 first-exists raw owner at (Simple f a n parts more) h st none = let q = st.0 in cc
 first-exists raw owner at (Nested f a n parts inner more) h st none = let q = st.0 in cc

@@ -31,6 +31,7 @@ pub mod Noted
 pub mod Keeping
 pub mod KeepingChanges
 pub mod KeepingSteps
+pub mod FirstEvents
 pub mod KeptFaults
 pub mod RunningDepths
 pub mod Streams
@@ -38,6 +39,7 @@ pub mod NoFaults
 pub mod Leaves
 pub mod BuiltExpressions
 pub mod BuiltBlocks
+pub mod CountedBlocks
 pub mod BuiltStatements
 pub mod BuiltKernels
 pub mod Counting

@@ -2,13 +2,16 @@
 --
 -- A node that isn't kept is late. Where it is open, so are all late nodes that began within it. It says something of a
 -- kept node only if it is an operator whose left side begins with that node, and at most one such operator is open.
-use Rattle.std.specs.Prelude.{ℕ, ◌+◌, ◌-◌, ◌==◌, nat_lt, min, Bool, ◌&&◌, is_none, if◌then◌else◌, List, [], ◌++◌, length, take, get_or, replicate, slice_set, Option, None, Some}
+use Rattle.std.specs.Prelude.{◌≡◌, ◌≤◌, ◌<◌, ℕ, ◌+◌, ◌-◌, ◌^◌, ◌==◌, nat_lt, min, Bool, ◌&&◌, is_none, if◌then◌else◌, List, [], ◌∷◌, ◌++◌, length, take, get_or, replicate, slice_set, slice_index, Option, None, Some}
 use Rattle.frame_grammar.specs.declared.symbols.Event.{Event}
 use Rattle.kernel_code.specs.declared.part.Part.{Part}
 use Rattle.kernel_code.specs.declared.part.Part.TheVariants as part
+use Rattle.kernel_code.specs.declared.raw.RawForm.{RawForm}
+use Rattle.kernel_code.specs.declared.raw.RawForm.TheVariants as form
 use Rattle.kernel_code.specs.declared.raw.TheConstants.{MOST_KEPT}
 use Rattle.kernel_code.specs.declared.late.Joint.{Joint}
 use Rattle.kernel_code.specs.declared.reader.Reader.{Reader}
+use Rattle.kernel_code.specs.Raw.{expr_node}
 use Rattle.kernel_code.specs.Reading.{Reading, part_of, with_part, described, begun, changed_in, is_last, is_whole, top, reading_of, nothing_read}
 
 -- What has been read with the kept nodes alone, where MOST_KEPT stands for each late one; how many nodes have begun;
@@ -130,6 +133,52 @@ kept_part part.Branches q k = kept_change part.Branches q k
 
 abbrev pub kept_step : Kept → Event → Kept
 kept_step k e = kept_part (part_of e.action) e.place k
+
+-- FIRST EVENTS
+
+-- what is kept after these events
+abbrev pub kept_run : Kept → List Event → Kept
+kept_run k [] = k
+kept_run k (e ∷ es) = kept_run (kept_step k e) es
+
+-- a node with a name begins, and is kept
+abbrev pub begun_named : (at : ℕ) (owner : Option ℕ) (name : ℕ) → Kept → Kept
+begun_named at owner name k =
+    let nodes = k.shown.nodes ++ record {
+      form = form.Number;
+      at = at;
+      name = name;
+      owner = owner;
+      before = 0;
+      after = 0;
+      heads = 0;
+      inside = 0;
+    } ∷ [] in
+    record k {
+      shown = record k.shown { nodes = nodes; opened = length k.shown.nodes ∷ k.shown.opened };
+      count = k.count + 1;
+    }
+
+-- an atom with nothing under it has been read, and is kept
+abbrev pub with_leaf : RawForm → (at name : ℕ) → Kept → Kept
+with_leaf f at name k = record k {
+  shown = record k.shown { nodes = k.shown.nodes ++ expr_node f at name 0 0 ∷ []; last = length k.shown.nodes };
+  count = k.count + 1;
+}
+
+-- nothing that is kept grows too great by one more event, and as long as there is room all nodes are kept
+pub record HasSpace (k : Kept) : Type 0 where
+  pub few : k.count < 2 ^ 32
+  pub nodes : length k.shown.nodes < 2 ^ 32
+  pub late : k.late + 1 < 2 ^ 32
+  pub joined : (n : ℕ) → slice_index k.joined n < 2 ^ 64 - 1
+  pub all : k.count < MOST_KEPT → (k.count ≡ length k.shown.nodes) × (k.late ≡ 0)
+
+-- the first events, so many of them, have been taken
+pub record TakesFirst (n : ℕ) (es : List Event) (k k' : Kept) : Type 0 where
+  pub some : 0 < n
+  pub within : n ≤ length es
+  pub kept : k' ≡ kept_run k (take n es)
 
 abbrev pub nothing_kept : Kept
 nothing_kept = record { shown = nothing_read; count = 0; late = 0; joint = None; joined = [] }

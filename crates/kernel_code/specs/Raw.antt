@@ -50,6 +50,13 @@ block_size (Nested f at name parts inner more) = 1 + (parts_size parts + (block_
 block_size (Branched at e first second more) =
     1 + (expr_size e + (block_size first + (block_size second + block_size more)))
 
+-- how many statements a block has, those within them aside
+abbrev pub statement_count : RawBlock → ℕ
+statement_count Nothing = 0
+statement_count (Simple f at name parts more) = 1 + statement_count more
+statement_count (Nested f at name parts inner more) = 1 + statement_count more
+statement_count (Branched at e first second more) = 1 + statement_count more
+
 -- a node of an expression, with so many nodes under it before and behind it
 abbrev pub expr_node : RawForm → (at name before after : ℕ) → RawNode
 expr_node f at name before after =

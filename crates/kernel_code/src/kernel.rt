@@ -13,6 +13,7 @@ ghost use Rattle.kernel_code.specs.Parsing.{kinds, StandsAt, StopsAt, refusal_of
 ghost use Rattle.kernel_code.specs.Legible.{NamesAreText, NamesStand, IsParsed};
 
 use crate::depths::depths_of;
+use crate::first::take_first;
 use crate::mark::line_at;
 use crate::raw::MOST_KEPT;
 use crate::reader::Reader;
@@ -52,8 +53,9 @@ pub fn raw_kernel<'a>(
     // Each node has two events of its own.
     let room = (parts.len() / 2).min(MOST_KEPT as usize);
     let mut reader = Reader::new(alloc, room)?;
-    for note in parts {
-        reader.take(note.event())?;
+    let mut at = 0;
+    while at < parts.len() {
+        at += take_first(&mut reader, &parts[at..])?;
     }
     let nodes = reader.nodes;
     let depths = depths_of(alloc, &nodes, reader.joined)?;

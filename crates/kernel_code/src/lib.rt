@@ -5,12 +5,14 @@
 //! `check_kernel` looks the names up, and answers the kernel or its first static fault.
 #![tactic(auto)]
 
+mod changes;
 mod check;
 #[cfg(test)]
 mod check_tests;
 mod decimal;
 mod depths;
 mod fault;
+mod first;
 mod kernel;
 #[cfg(test)]
 mod kernel_tests;

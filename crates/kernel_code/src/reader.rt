@@ -1,27 +1,13 @@
 //! Puts the events of a kernel together into its raw form.
 
-ghost use Rattle.std.specs.Prelude.{◌≡◌, ◌+◌, ◌-◌, ◌≤◌, ◌<◌, ◌^◌, ℕ, length, slice_index, None, IfOk};
+ghost use Rattle.std.specs.Prelude.{◌≡◌, ◌+◌, ◌-◌, ◌<◌, ◌^◌, nat_lt, ℕ, length, slice_index, None, IfOk};
+ghost use Rattle.kernel_code.specs.declared.raw.TheConstants.{MOST_KEPT};
 ghost use Rattle.kernel_code.specs.declared.part.Part.TheVariants as part;
-ghost use Rattle.kernel_code.specs.Reading.{
-  reading_of,
-  nothing_read,
-  fresh,
-  param_with,
-  changed,
-  is_last,
-  is_whole,
-  last_after,
-  left,
-  top,
-  begun,
-  described,
-  changed_in,
-};
+ghost use Rattle.kernel_code.specs.Reading.{reading_of, left, top, changed_in};
 ghost use Rattle.kernel_code.specs.Keeping.{
   kept_of,
   nothing_kept,
   showing,
-  with_last,
   closed_late,
   begun_late,
   begun_kept,
@@ -30,118 +16,18 @@ ghost use Rattle.kernel_code.specs.Keeping.{
   is_outside,
   kept_part,
   kept_step,
+  begun_named,
+  with_leaf,
 };
 
+use crate::changes::{change_node, fresh, is_last, is_whole, last_after, param_with};
 use crate::depths::count_one;
 use crate::late::{Joint, first_at, first_left, joint_below, joint_with};
 use crate::part::{Part, part_of};
 use crate::raw::MOST_KEPT;
 use crate::{RawForm, RawNode, RawParam};
-use frame_ast::kernel::ParamKind;
 use frame_grammar::{Event, TokenAt};
-use job_base::Access;
 use std::alloc::{AllocError, Global};
-
-/// A parameter of this name of which nothing else has been read.
-fn fresh(name: TokenAt) -> RawParam
-    ensures { result ≡ fresh name }
-{
-    RawParam {
-        name,
-        kind: ParamKind::Int,
-        access: Access::Read,
-        word: name,
-        width: None,
-    }
-}
-
-/// The parameter, when this part of it has been read at this place.
-fn param_with(part: Part, place: TokenAt, param: RawParam) -> RawParam
-    ensures { result ≡ param_with part place param }
-{
-    match part {
-        Part::Access(access) => RawParam { access, ..param },
-        Part::Container(kind) => RawParam { kind, ..param },
-        Part::Stream => RawParam {
-            kind: ParamKind::Stream,
-            word: place,
-            ..param
-        },
-        Part::Width => RawParam {
-            word: place,
-            ..param
-        },
-        Part::Number => RawParam {
-            width: Some(place),
-            ..param
-        },
-        Part::Name => fresh(place),
-        _ => param,
-    }
-}
-
-/// Changes the open node by this part of it, which has been read at this place, where so many nodes stand after it.
-fn change_node(part: Part, place: TokenAt, behind: u32, node: &mut RawNode)
-    ensures { node.new ≡ changed part place behind node.old }
-{
-    match part {
-        Part::Name => node.name = place,
-        Part::Ends(form) => {
-            node.form = form;
-            node.before = 0;
-            node.after = behind;
-        }
-        Part::Joins => {
-            node.form = RawForm::Binary;
-            node.after = behind;
-        }
-        Part::Closes(form) => {
-            node.form = form;
-            node.after = behind;
-            node.heads = behind;
-        }
-        Part::Heads => node.heads = behind,
-        Part::Block => node.inside = behind.saturating_sub(node.heads),
-        Part::Nests(form) => {
-            node.form = form;
-            node.after = behind;
-            node.inside = behind.saturating_sub(node.heads);
-        }
-        Part::Branches => {
-            node.form = RawForm::IfElse;
-            node.after = behind;
-        }
-        _ => {}
-    }
-}
-
-/// Whether a node is whole with this part.
-fn is_last(part: Part) -> bool
-    ensures { result ≡ is_last part }
-{
-    matches!(
-        part,
-        Part::Ends(_) | Part::Joins | Part::Closes(_) | Part::Nests(_) | Part::Branches
-    )
-}
-
-/// Whether an expression is whole with this part.
-fn is_whole(part: Part) -> bool
-    ensures { result ≡ is_whole part }
-{
-    matches!(part, Part::Ends(_) | Part::Joins)
-}
-
-/// The first node of the expression that was whole last, after this part of the node at this index.
-fn last_after(part: Part, at: u32, before: u32, last: u32) -> u32
-    ensures { result ≡ last_after part at before last }
-{
-    if is_whole(part) {
-        at.saturating_sub(before)
-    } else {
-        last
-    }
-}
 
 /// What has been read of a kernel. The open nodes stand on a list, so that deep text needs no deep
 /// stack.
@@ -213,6 +99,57 @@ impl Reader {
         Ok(())
     }
 
+    /// Begins a node that is kept and has this name.
+    #[inline(always)]
+    pub fn begin_named(&mut self, at: TokenAt, owner: Option<u32>, name: TokenAt) -> Result<(), AllocError>
+        requires few { self.old.count < 2 ^ 32 }
+        requires nodes { length self.old.nodes.items < 2 ^ 32 }
+        ensures { IfOk result (λ _. kept_of self.new ≡ begun_named at owner name (kept_of self.old)) }
+    {
+        self.opened.push(self.nodes.len() as u32)?;
+        self.nodes.push(RawNode {
+            form: RawForm::Number,
+            at,
+            name,
+            owner,
+            before: 0,
+            after: 0,
+            heads: 0,
+            inside: 0,
+        })?;
+        self.count += 1;
+        Ok(())
+    }
+
+    /// Adds an atom with nothing under it, which is kept and whole at once.
+    #[inline(always)]
+    pub fn add_leaf(&mut self, form: RawForm, at: TokenAt, name: TokenAt) -> Result<(), AllocError>
+        requires few { self.old.count < 2 ^ 32 }
+        requires nodes { length self.old.nodes.items < 2 ^ 32 }
+        ensures { IfOk result (λ _. kept_of self.new ≡ with_leaf form at name (kept_of self.old)) }
+    {
+        self.last = self.nodes.len() as u32;
+        self.nodes.push(RawNode {
+            form,
+            at,
+            name,
+            owner: None,
+            before: 0,
+            after: 0,
+            heads: 0,
+            inside: 0,
+        })?;
+        self.count += 1;
+        Ok(())
+    }
+
+    /// Whether the next node is kept.
+    pub fn has_room(&self) -> bool
+        ensures { result ≡ nat_lt self.now.count MOST_KEPT }
+    {
+        self.count < MOST_KEPT as usize
+    }
+
     /// Begins a late node, whose left side begins with this node.
     fn begin_late(&mut self, first: u32) -> Result<(), AllocError>
         requires few { self.old.count < 2 ^ 32 }
@@ -258,7 +195,7 @@ impl Reader {
     }
 
     /// The innermost open node that is kept.
-    fn innermost(&self) -> Option<u32>
+    pub fn innermost(&self) -> Option<u32>
         ensures { result ≡ top (reading_of self.now).opened }
     {
         self.opened.last().copied()
@@ -323,7 +260,7 @@ impl Reader {
     }
 
     /// Whether no node is open.
-    fn is_outside(&self) -> bool
+    pub fn is_outside(&self) -> bool
         ensures { result ≡ is_outside (kept_of self.now) }
     {
         self.innermost().is_none() && self.late == 0
@@ -356,6 +293,8 @@ impl Reader {
     }
 
     /// Takes the next event of a kernel.
+    // In line, so that it only looks for the actions that are left where it is called.
+    #[inline(always)]
     pub fn take(&mut self, event: Event) -> Result<(), AllocError>
         requires few { self.old.count < 2 ^ 32 }
         requires nodes { length self.old.nodes.items < 2 ^ 32 }

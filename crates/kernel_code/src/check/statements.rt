@@ -3,7 +3,7 @@
 // A statement has the nodes of its expressions behind it, and then those of its blocks.
 ghost use Rattle.std.specs.Prelude.{◌≡◌, ◌≤◌, ◌<◌, ◌+◌, ℕ, Option, List, length, slice_get, IfOk, Some, IsTrue};
 ghost use Rattle.frame_ast.specs.declared.kernel.Stmt.{Stmt, out-Stmt};
-ghost use Rattle.kernel_code.specs.Raw.{RawBlock, block_size};
+ghost use Rattle.kernel_code.specs.Raw.{RawBlock, block_size, statement_count};
 ghost use Rattle.kernel_code.specs.Known.{number_named};
 ghost use Rattle.kernel_code.specs.Trees.{BlockOf};
 ghost use Rattle.kernel_code.specs.Places.{set_of, one_part, two_parts, has_first, IsFirst, IsBlockHere, IsResolved};
@@ -119,6 +119,20 @@ fn statement(
     }
 }
 
+// How many statements stand from one node up to another, so that their list is made with room for them.
+fn count_statements(raw: &RawKernel<'_>, from: usize, end: usize) -> usize
+    ensures { (owner : Option ℕ) (b : RawBlock) →
+        IsBlockHere raw.now owner from b → end ≡ from + block_size b → result ≡ statement_count b }
+{
+    let mut count = 0;
+    let mut at = from;
+    while at < end && at < raw.nodes.len() {
+        count += 1;
+        at += 1 + raw.nodes[at].after as usize;
+    }
+    count
+}
+
 /// The statements of the nodes from one up to another.
 #[cycle(statement)]
 pub fn block(
@@ -131,7 +145,7 @@ pub fn block(
     ensures { IfOk result (λ v. IsResolved raw.now meanings.now → (owner : Option ℕ) (b : RawBlock) →
         IsBlockHere raw.now owner from b → end ≡ from + block_size b → BlockOf raw.now from b v.items) }
 {
-    let mut statements = Vec::new(alloc);
+    let mut statements = Vec::with_capacity(alloc, count_statements(raw, from, end))?;
     let mut at = from;
     while at < end {
         let Some(node) = node_at(raw, at) else {

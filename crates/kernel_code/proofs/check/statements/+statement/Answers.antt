@@ -10,7 +10,7 @@ use Rattle.kernel_code.proofs.check.statements.+statement.Goals as goal
 pub block-loop-at-init : goal.block-loop-at-init
 block-loop-at-init t c = record {
   begins = omega arith;
-  partly = λ r owner b here e. partly_start c.args.raw.now owner c.args.from c.args.end b _ c.new-statements.ensures.items here e;
+  partly = λ r owner b here e. partly_start c.args.raw.now owner c.args.from c.args.end b _ c.in_ok-statements.ensures.items here e;
 }
 
 pub block-returns-in_default : goal.block-returns-in_default
