@@ -1,7 +1,6 @@
 -- Several events of a node, taken at once.
-use Rattle.std.proofs.Common.{◌≡◌, ℕ, ◌+◌, ◌-◌, ◌<◌, ◌≤◌, ◌^◌, nat_lt, Bool, true, false, if◌then◌else◌, List, [], ◌∷◌, ◌++◌, length, take, drop, Option, Some, None, is_none, slice_get, refl, sym, ◌∙◌, ap, subst, arith, take-add}
+use Rattle.std.proofs.Common.{◌≡◌, ℕ, ◌+◌, ◌-◌, ◌<◌, ◌^◌, nat_lt, false, if◌then◌else◌, List, [], ◌∷◌, ◌++◌, length, take, drop, Option, Some, None, slice_get, sym, ◌∙◌, ap, subst, arith, take-add}
 use Rattle.std.proofs.lemmas.List.{length-take}
-use Rattle.frame_grammar.specs.declared.symbols.Action.{Action}
 use Rattle.frame_grammar.specs.declared.symbols.Action.TheVariants as action
 use Rattle.frame_grammar.specs.declared.symbols.Event.{Event}
 use Rattle.kernel_code.specs.declared.late.Joint.{Joint}
@@ -13,7 +12,7 @@ use Rattle.kernel_code.specs.declared.raw.TheConstants.{MOST_KEPT}
 use Rattle.kernel_code.specs.declared.part.Part.{Part}
 use Rattle.kernel_code.specs.declared.part.Part.TheVariants as part
 use Rattle.kernel_code.specs.Raw.{expr_node, on}
-use Rattle.kernel_code.specs.Reading.{Reading, part_of, changed, changed_in, described, is_last, last_after, run, step, top}
+use Rattle.kernel_code.specs.Reading.{Reading, changed, changed_in, described, is_last, last_after, run, step, top}
 use Rattle.kernel_code.specs.Keeping.{Kept, kept_run, kept_step, kept_part, kept_change, kept_begun, begun_kept, begun_late, late_change, showing, is_outside, begun_named, with_leaf, HasSpace, TakesFirst}
 use Rattle.kernel_code.proofs.Readings.{mk, blank, change_seam, length-more, run-append}
 use Rattle.kernel_code.proofs.Keeping.{Keeps, if_true, if_false, of-lt, late-few, count-few, no-late}

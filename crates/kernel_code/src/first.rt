@@ -45,24 +45,48 @@ fn take_number(reader: &mut Reader, notes: &[Note], at: TokenAt) -> Result<usize
     ensures { IfOk result (λ n. TakesFirst n (events_of notes.now) (kept_of reader.old) (kept_of reader.new)) }
 {
     if reader.has_room() && !reader.is_outside() {
-        if let Some(Event { action: Action::NumberAtom, .. }) = event_at(notes, 1) {
+        if let Some(
+            Event {
+                action: Action::NumberAtom,
+                ..
+            },
+        ) = event_at(notes, 1)
+        {
             reader.add_leaf(RawForm::Number, at, at)?;
             return Ok(2);
         }
     }
-    take_one(reader, notes, Event { action: Action::Number, place: at })
+    take_one(
+        reader,
+        notes,
+        Event {
+            action: Action::Number,
+            place: at,
+        },
+    )
 }
 
 // Takes an atom that begins with this name, and that is kept.
 #[inline(always)]
-fn take_named(reader: &mut Reader, notes: &[Note], at: TokenAt, name: TokenAt) -> Result<usize, AllocError>
+fn take_named(
+    reader: &mut Reader,
+    notes: &[Note],
+    at: TokenAt,
+    name: TokenAt,
+) -> Result<usize, AllocError>
     requires first { slice_get (events_of notes.now) 0 ≡ Some (on action.StartAtom at) }
     requires second { slice_get (events_of notes.now) 1 ≡ Some (on action.Name name) }
     requires space { HasSpace (kept_of reader.old) }
     requires room { (kept_of reader.old).count < MOST_KEPT }
     ensures { IfOk result (λ n. TakesFirst n (events_of notes.now) (kept_of reader.old) (kept_of reader.new)) }
 {
-    if let Some(Event { action: Action::NameAtom, .. }) = event_at(notes, 2) {
+    if let Some(
+        Event {
+            action: Action::NameAtom,
+            ..
+        },
+    ) = event_at(notes, 2)
+    {
         reader.add_leaf(RawForm::Name, at, name)?;
         return Ok(3);
     }
@@ -79,15 +103,32 @@ fn take_atom(reader: &mut Reader, notes: &[Note], at: TokenAt) -> Result<usize, 
 {
     if reader.has_room() {
         match event_at(notes, 1) {
-            Some(Event { action: Action::Name, place }) => return take_named(reader, notes, at, place),
-            Some(Event { action: Action::IndexAtom, .. }) => {
+            Some(
+                Event {
+                    action: Action::Name,
+                    place,
+                },
+            ) => return take_named(reader, notes, at, place),
+            Some(
+                Event {
+                    action: Action::IndexAtom,
+                    ..
+                },
+            ) => {
                 reader.add_leaf(RawForm::Index, at, at)?;
                 return Ok(2);
             }
             _ => {}
         }
     }
-    take_one(reader, notes, Event { action: Action::StartAtom, place: at })
+    take_one(
+        reader,
+        notes,
+        Event {
+            action: Action::StartAtom,
+            place: at,
+        },
+    )
 }
 
 // Takes a statement that begins with this name, and that is kept.
@@ -117,11 +158,24 @@ fn take_statement(reader: &mut Reader, notes: &[Note], at: TokenAt) -> Result<us
     ensures { IfOk result (λ n. TakesFirst n (events_of notes.now) (kept_of reader.old) (kept_of reader.new)) }
 {
     if reader.has_room() {
-        if let Some(Event { action: Action::Name, place }) = event_at(notes, 1) {
+        if let Some(
+            Event {
+                action: Action::Name,
+                place,
+            },
+        ) = event_at(notes, 1)
+        {
             return take_named_statement(reader, notes, at, place);
         }
     }
-    take_one(reader, notes, Event { action: Action::StartStatement, place: at })
+    take_one(
+        reader,
+        notes,
+        Event {
+            action: Action::StartStatement,
+            place: at,
+        },
+    )
 }
 
 /// Takes the first of these events, and answers how many it took.

@@ -101,7 +101,12 @@ impl Reader {
 
     /// Begins a node that is kept and has this name.
     #[inline(always)]
-    pub fn begin_named(&mut self, at: TokenAt, owner: Option<u32>, name: TokenAt) -> Result<(), AllocError>
+    pub fn begin_named(
+        &mut self,
+        at: TokenAt,
+        owner: Option<u32>,
+        name: TokenAt,
+    ) -> Result<(), AllocError>
         requires few { self.old.count < 2 ^ 32 }
         requires nodes { length self.old.nodes.items < 2 ^ 32 }
         ensures { IfOk result (λ _. kept_of self.new ≡ begun_named at owner name (kept_of self.old)) }

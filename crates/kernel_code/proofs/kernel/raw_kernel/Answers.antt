@@ -3,7 +3,6 @@ use Rattle.std.proofs.lemmas.List.{length-map, drop-map}
 use Rattle.frame_grammar.specs.declared.note.Note.{Note}
 use Rattle.frame_grammar.specs.Notes.{event_of, events_of}
 use Rattle.kernel_code.specs.declared.mark.Mark.{Mark}
-use Rattle.kernel_code.specs.declared.raw.TheConstants.{MOST_KEPT}
 use Rattle.kernel_code.specs.Marks.{tokens_in}
 use Rattle.kernel_code.specs.Edges.{AreKeptOf}
 use Rattle.kernel_code.specs.Raw.{IsKernel}
