@@ -1,7 +1,7 @@
 //! Takes the events of a kernel, several at once where they are of one node and all that is known of it.
 //!
-//! Most nodes are atoms with nothing under them, or have a name right where they begin. Such a node is made as it stays, and
-//! not made first and then looked up and changed.
+//! Most nodes are atoms with nothing under them, or have a name right where they begin. Such a node is made as it
+//! stays, and not made first and then looked up and changed.
 
 ghost use Rattle.std.specs.Prelude.{◌≡◌, ◌<◌, IfOk, Some, length, slice_get};
 ghost use Rattle.frame_grammar.specs.declared.symbols.Action.TheVariants as action;
