@@ -90,7 +90,7 @@ count x e at = Expr.Count' x (child at) (e at)
 
 -- `at(x, e, f)`
 abbrev pub item : ℕ → Written → Written → Written
-item x e f at = Expr.Item' x (child at) (e at) (child at) (f at)
+item x e f at = Expr.Item' x (child at) (e at) (f at)
 
 abbrev pub negative : Written → Written
 negative e at = Expr.Negative' (child at) (e at)
@@ -109,10 +109,10 @@ infixl 70 ◌*◌
 infixl 70 ◌/◌
 infixl 70 ◌%◌
 abbrev pub ◌||◌ : Written → Written → Written
-◌||◌ e f at = Expr.Or' (child at) (e at) (child at) (f at)
+◌||◌ e f at = Expr.Or' (child at) (e at) (f at)
 
 abbrev pub ◌&&◌ : Written → Written → Written
-◌&&◌ e f at = Expr.And' (child at) (e at) (child at) (f at)
+◌&&◌ e f at = Expr.And' (child at) (e at) (f at)
 
 abbrev pub ◌>◌ : Written → Written → Written
 e > f = binary Operator.Greater e f

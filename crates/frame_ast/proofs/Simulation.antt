@@ -54,16 +54,16 @@ module _ {S T : Type 0} (R : S → T → Type 0) (parallel : Bool) (params : Lis
       ap (λ u. then_value u (λ k. Ok (one_if (p.has x k s)))) (value_alike e locals s t (and_right _ _ h) r) ∙ then_same (value_of q index e locals t) _ _ (λ k. ap (λ b. Ok (one_if b)) (sim.has x k s t r))
   value_alike (Count' x a e) locals s t h r =
       ap (λ u. then_value u (λ i. then_value (p.count x i s) (λ n. Ok (pos n)))) (value_alike e locals s t (and_right _ _ h) r) ∙ then_same (value_of q index e locals t) _ _ (λ i. ap (λ v. then_value v (λ n. Ok (pos n))) (sim.count x i s t (and_left _ _ h) r))
-  value_alike (Item' x a e b f) locals s t h r =
+  value_alike (Item' x a e f) locals s t h r =
       ap (λ u. then_value u (λ i. then_value (value_of p index f locals s) (λ k. p.item x i k s))) (value_alike e locals s t (and_left _ _ (and_right _ _ h)) r)
       ∙ ap (λ u. then_value (value_of q index e locals t) (λ i. then_value u (λ k. p.item x i k s))) (value_alike f locals s t (and_right _ _ (and_right _ _ h)) r)
       ∙ then_same (value_of q index e locals t) _ _ (λ i. then_same (value_of q index f locals t) _ _ (λ k. sim.item x i k s t (and_left _ _ h) r))
   value_alike (Negative' a e) locals s t h r = ap (λ u. then_value u (λ n. checked (neg_ℤ n))) (value_alike e locals s t h r)
   value_alike (Not' a e) locals s t h r = ap (λ u. then_value u (λ n. Ok (one_if (not (holds n))))) (value_alike e locals s t h r)
-  value_alike (And' a e b f) locals s t h r =
+  value_alike (And' a e f) locals s t h r =
       ap (λ u. then_value u (λ m. also (holds m) (λ _. value_of p index f locals s))) (value_alike e locals s t (and_left _ _ h) r)
       ∙ ap (λ u. then_value (value_of q index e locals t) (λ m. also (holds m) (λ _. u))) (value_alike f locals s t (and_right _ _ h) r)
-  value_alike (Or' a e b f) locals s t h r =
+  value_alike (Or' a e f) locals s t h r =
       ap (λ u. then_value u (λ m. otherwise (holds m) (λ _. value_of p index f locals s))) (value_alike e locals s t (and_left _ _ h) r)
       ∙ ap (λ u. then_value (value_of q index e locals t) (λ m. otherwise (holds m) (λ _. u))) (value_alike f locals s t (and_right _ _ h) r)
   value_alike (Binary' op a e f) locals s t h r =

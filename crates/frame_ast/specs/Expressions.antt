@@ -90,17 +90,17 @@ value_of operations index (Has' x p e) locals s =
 value_of operations index (Count' x p e) locals s =
     then_value (value_of operations index e locals s) (λ i.
     then_value (operations.count x i s) (λ n. Ok (pos n)))
-value_of operations index (Item' x p e q f) locals s =
+value_of operations index (Item' x p e f) locals s =
     then_value (value_of operations index e locals s) (λ i.
     then_value (value_of operations index f locals s) (λ k. operations.item x i k s))
 value_of operations index (Negative' p e) locals s =
     then_value (value_of operations index e locals s) (λ n. checked (neg_ℤ n))
 value_of operations index (Not' p e) locals s =
     then_value (value_of operations index e locals s) (λ n. Ok (one_if (not (holds n))))
-value_of operations index (And' p e q f) locals s =
+value_of operations index (And' p e f) locals s =
     then_value (value_of operations index e locals s) (λ m.
     also (holds m) (λ _. value_of operations index f locals s))
-value_of operations index (Or' p e q f) locals s =
+value_of operations index (Or' p e f) locals s =
     then_value (value_of operations index e locals s) (λ m.
     otherwise (holds m) (λ _. value_of operations index f locals s))
 value_of operations index (Binary' op p e f) locals s =

@@ -60,12 +60,9 @@ fn expr(e: &Expr) -> Size
         Expr::Length(_) => LEAF,
         Expr::Has(_, e) => over(expr(e)),
         Expr::Count(_, e) => over(expr(e)),
-        Expr::Item(_, e, f) => over(beside(expr(e), expr(f))),
         Expr::Negative(e) => over(expr(e)),
         Expr::Not(e) => over(expr(e)),
-        Expr::And(e, f) => over(beside(expr(e), expr(f))),
-        Expr::Or(e, f) => over(beside(expr(e), expr(f))),
-        Expr::Binary(_, sides) => {
+        Expr::Item(_, sides) | Expr::And(sides) | Expr::Or(sides) | Expr::Binary(_, sides) => {
             let (e, f) = &**sides;
             over(beside(expr(e), expr(f)))
         }

@@ -53,11 +53,11 @@ module _ (parallel : Bool) (params more : List Param) (locals : ℕ)
   expr_more (Length x) = K x measurable
   expr_more (Has' x p e) = kept x read_map (expr_more e)
   expr_more (Count' x p e) = kept x read_stream (expr_more e)
-  expr_more (Item' x p e q f) = kept x read_stream (two_more e f (expr_more e) (expr_more f))
+  expr_more (Item' x p e f) = kept x read_stream (two_more e f (expr_more e) (expr_more f))
   expr_more (Negative' p e) = expr_more e
   expr_more (Not' p e) = expr_more e
-  expr_more (And' p e q f) = two_more e f (expr_more e) (expr_more f)
-  expr_more (Or' p e q f) = two_more e f (expr_more e) (expr_more f)
+  expr_more (And' p e f) = two_more e f (expr_more e) (expr_more f)
+  expr_more (Or' p e f) = two_more e f (expr_more e) (expr_more f)
   expr_more (Binary' op p e f) = two_more e f (expr_more e) (expr_more f)
 
   two : (e f : Expr) → Lets (fits e && fits f) (fits_more e && fits_more f)

@@ -67,16 +67,16 @@ module _ {S : Type 0} (p q : Operations S) (params : List Param) (A : AgreeBelow
       λ i locals s. then_value (value_same e (and_right _ _ h) i locals s)
       (λ j. then_value (A.count x
       (is_param params x read_stream (and_left (meets params x read_stream) _ h)) i j s) (λ n. Ok (pos n)))
-  value_same (Item' x a e b f) h =
+  value_same (Item' x a e f) h =
       λ i locals s. then_value (value_same e (and_left _ _ (and_right _ _ h)) i locals s)
       (λ j. then_value (value_same f (and_right _ _ (and_right _ _ h)) i locals s)
       (λ k. A.item x (is_param params x read_stream (and_left (meets params x read_stream) _ h)) i j k s))
   value_same (Negative' a e) h = λ i locals s. then_value (value_same e h i locals s) (λ n. checked (neg_ℤ n))
   value_same (Not' a e) h = λ i locals s. then_value (value_same e h i locals s) (λ n. Ok (one_if (not (holds n))))
-  value_same (And' a e b f) h =
+  value_same (And' a e f) h =
       λ i locals s. then_value (value_same e (and_left _ _ h) i locals s)
       (λ m. also (holds m) (λ _. value_same f (and_right _ _ h) i locals s))
-  value_same (Or' a e b f) h =
+  value_same (Or' a e f) h =
       λ i locals s. then_value (value_same e (and_left _ _ h) i locals s)
       (λ m. otherwise (holds m) (λ _. value_same f (and_right _ _ h) i locals s))
   value_same (Binary' op a e f) h =

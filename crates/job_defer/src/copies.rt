@@ -44,6 +44,17 @@ fn param(alloc: Global, p: &Param) -> Result<Param, NoMemory>
     })
 }
 
+// The two parts of an expression.
+#[cycle(expr)]
+fn pair(alloc: Global, parts: &(Expr, Expr)) -> Result<Box<(Expr, Expr)>, NoMemory>
+    ensures { IfOk result (λ copy. SameExpr parts.now.0 copy.value.0 × SameExpr parts.now.1 copy.value.1) }
+{
+    let first = expr(alloc, &parts.0)?;
+    let second = expr(alloc, &parts.1)?;
+    Ok(Box::new(alloc, (first, second))?)
+}
+
+#[cycle(expr)]
 fn expr(alloc: Global, e: &Expr) -> Result<Expr, NoMemory>
     ensures { IfOk result (λ copy. SameExpr e.now copy) }
 {
@@ -56,26 +67,12 @@ fn expr(alloc: Global, e: &Expr) -> Result<Expr, NoMemory>
         Expr::Length(x) => Ok(Expr::Length(*x)),
         Expr::Has(x, e) => Ok(Expr::Has(*x, Box::new(alloc, expr(alloc, e)?)?)),
         Expr::Count(x, e) => Ok(Expr::Count(*x, Box::new(alloc, expr(alloc, e)?)?)),
-        Expr::Item(x, e, f) => {
-            let e = Box::new(alloc, expr(alloc, e)?)?;
-            Ok(Expr::Item(*x, e, Box::new(alloc, expr(alloc, f)?)?))
-        }
+        Expr::Item(x, both) => Ok(Expr::Item(*x, pair(alloc, both)?)),
         Expr::Negative(e) => Ok(Expr::Negative(Box::new(alloc, expr(alloc, e)?)?)),
         Expr::Not(e) => Ok(Expr::Not(Box::new(alloc, expr(alloc, e)?)?)),
-        Expr::And(e, f) => {
-            let e = Box::new(alloc, expr(alloc, e)?)?;
-            Ok(Expr::And(e, Box::new(alloc, expr(alloc, f)?)?))
-        }
-        Expr::Or(e, f) => {
-            let e = Box::new(alloc, expr(alloc, e)?)?;
-            Ok(Expr::Or(e, Box::new(alloc, expr(alloc, f)?)?))
-        }
-        Expr::Binary(op, sides) => {
-            let (e, f) = &**sides;
-            let e = expr(alloc, e)?;
-            let f = expr(alloc, f)?;
-            Ok(Expr::Binary(*op, Box::new(alloc, (e, f))?))
-        }
+        Expr::And(sides) => Ok(Expr::And(pair(alloc, sides)?)),
+        Expr::Or(sides) => Ok(Expr::Or(pair(alloc, sides)?)),
+        Expr::Binary(op, sides) => Ok(Expr::Binary(*op, pair(alloc, sides)?)),
     }
 }
 

@@ -165,16 +165,16 @@ atom_one raw i node named y x next s ok n o inner is (Infix at e g) here = absur
 IsHere-at : (raw : RawKernel) (i j : ℕ) (e : RawExpr) → i ≡ j → IsHere raw i e → IsHere raw j e
 IsHere-at raw i j e same h = subst (λ n. IsHere raw n e) same h
 
-pub atom_two : (raw : RawKernel) (i : ℕ) (node : RawNode) (named : Option Named) (y z x : Expr) {p q : _} (middle next : ℕ) → slice_get raw.nodes.items i ≡ Some node → IsFaultless raw i node →
+pub atom_two : (raw : RawKernel) (i : ℕ) (node : RawNode) (named : Option Named) (y z x : Expr) {p : _} (middle next : ℕ) → slice_get raw.nodes.items i ≡ Some node → IsFaultless raw i node →
     named ≡ name_stored raw i node → node.form ≡ form.Item → ((e : RawExpr) → IsHere raw (i + 1) e → IsBuilt raw (i + 1) e y middle) → ((e : RawExpr) → IsHere raw middle e → IsBuilt raw middle e z next) →
-    x ≡ Item' (number_named named) p y q z → (e : RawExpr) → IsAtomHere raw i e → IsBuilt raw i e x next
+    x ≡ Item' (number_named named) p y z → (e : RawExpr) → IsAtomHere raw i e → IsBuilt raw i e x next
 atom_two raw i node named y z x middle next s ok n o first second is (Leaf f at name) here =
     let same : node ≡ expr_node f at name 0 0 = let q = here.stands in cc in
     absurd (two-leaf f (sym (ap (λ m. m.form) same) ∙ o) here.formed)
 atom_two raw i node named y z x middle next s ok n o first second is (One f at name e) here =
     let same : node ≡ expr_node f at name 0 (expr_size e) = let q = here.stands.0 in cc in
     absurd (two-one f (sym (ap (λ m. m.form) same) ∙ o) here.formed.0)
-atom_two raw i node named y z x {p} {q} middle next s ok n o first second is (Two f at name e g) here =
+atom_two raw i node named y z x {p} middle next s ok n o first second is (Two f at name e g) here =
     let same : node ≡ expr_node f at name 0 (expr_size e + expr_size g) = let q = here.stands.0 in cc in
     let is_item : f ≡ form.Item = two-is f here.formed.0 in
     let at_g : i + (1 + expr_size e) ≡ i + 1 + expr_size e = omega arith in
@@ -194,12 +194,12 @@ atom_two raw i node named y z x {p} {q} middle next s ok n o first second is (Tw
     }
 atom_two raw i node named y z x middle next s ok n o first second is (Infix at e g) here = absurd (let q = here.atom in cc)
 
-pub atom_item : (raw : RawKernel) (i : ℕ) (node : RawNode) (named : Option Named) (y z : Expr) {p q : _} (m : ℕ) (y' z' : Expr) (middle next : ℕ) → slice_get raw.nodes.items i ≡ Some node → IsFaultless raw i node →
+pub atom_item : (raw : RawKernel) (i : ℕ) (node : RawNode) (named : Option Named) (y z : Expr) {p : _} (m : ℕ) (sides : Expr × Expr) (middle next : ℕ) → slice_get raw.nodes.items i ≡ Some node → IsFaultless raw i node →
     named ≡ name_stored raw i node → node.form ≡ form.Item → ((e : RawExpr) → IsHere raw (i + 1) e → IsBuilt raw (i + 1) e y middle) → ((e : RawExpr) → IsHere raw middle e → IsBuilt raw middle e z next) →
-    m ≡ number_named named → y' ≡ y → z' ≡ z → (e : RawExpr) → IsAtomHere raw i e → IsBuilt raw i e (Item' m p y' q z') next
-atom_item raw i node named y z {p} {q} m y' z' middle next s ok n o first second a b c =
-    atom_two raw i node named y z (Item' m p y' q z') middle next s ok n o first second
-    (ap (λ k. Item' k p y' q z') a ∙ ap (λ w. Item' (number_named named) p w q z') b ∙ ap (λ w. Item' (number_named named) p y q w) c)
+    m ≡ number_named named → sides ≡ (y, z) → (e : RawExpr) → IsAtomHere raw i e → IsBuilt raw i e (Item' m p sides.0 sides.1) next
+atom_item raw i node named y z {p} m sides middle next s ok n o first second a b =
+    atom_two raw i node named y z (Item' m p sides.0 sides.1) middle next s ok n o first second
+    (ap (λ k. Item' k p sides.0 sides.1) a ∙ ap (λ (w : Expr × Expr). Item' (number_named named) p w.0 w.1) b)
 
 -- CHAINS OF OPERATORS
 

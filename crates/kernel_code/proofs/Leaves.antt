@@ -104,8 +104,8 @@ one_is raw i at name f named e y x o h n inner is = cc
 
 pub joint_is : (raw : RawKernel) (i at : ℕ) (e g : RawExpr) (y z x : Expr) (j : Joint) → joint_of (kind_at raw at) ≡ j → ExprOf raw i e y →
     ExprOf raw (i + (expr_size e + 1)) g z → IsJoint j y z x → ExprOf raw i (Infix at e g) x
-joint_is raw i at e g y z x Both h l r is = both h l r is.2
-joint_is raw i at e g y z x Either h l r is = either h l r is.2
+joint_is raw i at e g y z x Both h l r is = both h l r is.1
+joint_is raw i at e g y z x Either h l r is = either h l r is.1
 joint_is raw i at e g y z x (By op) h l r is = between op h l r is.1
 
 pub negative_is : (m : Bool) {p : _} (y : Expr) → m ≡ true → (q : _) × (Negative' p y ≡ (if m then Negative' q y else Not' q y))

@@ -118,8 +118,8 @@ IsOneOf raw _ at named y x = (p : _) × (x ≡ (if is_minus (kind_at raw at) the
 
 -- what joins two sides
 abbrev pub IsJoint : Joint → Expr → Expr → Expr → Type 0
-IsJoint Both y z x = (p q : _) × (x ≡ And' p y q z)
-IsJoint Either y z x = (p q : _) × (x ≡ Or' p y q z)
+IsJoint Both y z x = (p : _) × (x ≡ And' p y z)
+IsJoint Either y z x = (p : _) × (x ≡ Or' p y z)
 IsJoint (By op) y z x = (p : _) × (x ≡ Binary' op p y z)
 
 -- STATEMENTS

@@ -101,19 +101,19 @@ pub data ExprOf (raw : RawKernel) : ℕ → RawExpr → Expr → Type 0 where
   count : {i at name : ℕ} {e : RawExpr} {x y : Expr} {p : _} (k : ℕ) → IsParameter raw i name k →
       ExprOf raw (i + 1) e y →
       x ≡ Count' k p y → ExprOf raw i (One form.Count at name e) x
-  item : {i at name : ℕ} {e g : RawExpr} {x y z : Expr} {p q : _} (k : ℕ) → IsParameter raw i name k →
+  item : {i at name : ℕ} {e g : RawExpr} {x y z : Expr} {p : _} (k : ℕ) → IsParameter raw i name k →
       ExprOf raw (i + 1) e y →
-      ExprOf raw (i + (1 + expr_size e)) g z → x ≡ Item' k p y q z → ExprOf raw i (Two form.Item at name e g) x
+      ExprOf raw (i + (1 + expr_size e)) g z → x ≡ Item' k p y z → ExprOf raw i (Two form.Item at name e g) x
   negative : {i at name : ℕ} {e : RawExpr} {x y : Expr} {p : _} → is_minus (kind_at raw at) ≡ true →
       ExprOf raw (i + 1) e y →
       x ≡ Negative' p y → ExprOf raw i (One form.Unary at name e) x
   opposite : {i at name : ℕ} {e : RawExpr} {x y : Expr} {p : _} → is_minus (kind_at raw at) ≡ false →
       ExprOf raw (i + 1) e y →
       x ≡ Not' p y → ExprOf raw i (One form.Unary at name e) x
-  both : {i at : ℕ} {e g : RawExpr} {x y z : Expr} {p q : _} → joint_of (kind_at raw at) ≡ Both → ExprOf raw i e y →
-      ExprOf raw (i + (expr_size e + 1)) g z → x ≡ And' p y q z → ExprOf raw i (Infix at e g) x
-  either : {i at : ℕ} {e g : RawExpr} {x y z : Expr} {p q : _} → joint_of (kind_at raw at) ≡ Either → ExprOf raw i e y →
-      ExprOf raw (i + (expr_size e + 1)) g z → x ≡ Or' p y q z → ExprOf raw i (Infix at e g) x
+  both : {i at : ℕ} {e g : RawExpr} {x y z : Expr} {p : _} → joint_of (kind_at raw at) ≡ Both → ExprOf raw i e y →
+      ExprOf raw (i + (expr_size e + 1)) g z → x ≡ And' p y z → ExprOf raw i (Infix at e g) x
+  either : {i at : ℕ} {e g : RawExpr} {x y z : Expr} {p : _} → joint_of (kind_at raw at) ≡ Either → ExprOf raw i e y →
+      ExprOf raw (i + (expr_size e + 1)) g z → x ≡ Or' p y z → ExprOf raw i (Infix at e g) x
   between : {i at : ℕ} {e g : RawExpr} {x y z : Expr} {p : _} (op : Operator) → joint_of (kind_at raw at) ≡ By op →
       ExprOf raw i e y →
       ExprOf raw (i + (expr_size e + 1)) g z → x ≡ Binary' op p y z → ExprOf raw i (Infix at e g) x

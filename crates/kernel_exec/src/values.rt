@@ -67,11 +67,11 @@ fn eval_other<M: Mem>(call: &Call<'_>, machine: &mut Machine, mem: &mut M, e: &E
         Expr::Length(x) => i64::from(length(*x, call, mem)),
         Expr::Has(x, key) => eval_has(call, machine, mem, *x, key),
         Expr::Count(x, index) => eval_count(call, machine, mem, *x, index),
-        Expr::Item(x, index, place) => eval_item(call, machine, mem, *x, index, place),
+        Expr::Item(x, at) => eval_item(call, machine, mem, *x, &at.0, &at.1),
         Expr::Negative(inner) => eval_negative(call, machine, mem, inner),
         Expr::Not(inner) => eval_not(call, machine, mem, inner),
-        Expr::And(left, right) => eval_and(call, machine, mem, left, right),
-        Expr::Or(left, right) => eval_or(call, machine, mem, left, right),
+        Expr::And(sides) => eval_and(call, machine, mem, &sides.0, &sides.1),
+        Expr::Or(sides) => eval_or(call, machine, mem, &sides.0, &sides.1),
         Expr::Binary(op, sides) => eval_binary(call, machine, mem, *op, &sides.0, &sides.1),
     }
 }

@@ -61,9 +61,9 @@ module _ (r t : RawKernel) (same : parts_of r ≡ parts_of t) where
       along _ _ (Has' k p y) (Has' l q z) a b (subst (λ m. SameExpr (Has' k p y) (Has' m q z)) (parameter i name k l is is') (SameExpr.has (expr_once d d')))
   expr_once (tree.count {i = i} {name = name} {y = y} {p = p} k is d a) (tree.count {y = z} {p = q} l is' d' b) =
       along _ _ (Count' k p y) (Count' l q z) a b (subst (λ m. SameExpr (Count' k p y) (Count' m q z)) (parameter i name k l is is') (SameExpr.count (expr_once d d')))
-  expr_once (tree.item {i = i} {name = name} {y = y} {z = z} {p = p} {q = q} k is d c a) (tree.item {y = y'} {z = z'} {p = p'} {q = q'} l is' d' c' b) =
-      along _ _ (Item' k p y q z) (Item' l p' y' q' z') a b
-      (subst (λ m. SameExpr (Item' k p y q z) (Item' m p' y' q' z')) (parameter i name k l is is') (SameExpr.item (expr_once d d') (expr_once c c')))
+  expr_once (tree.item {i = i} {name = name} {y = y} {z = z} {p = p} k is d c a) (tree.item {y = y'} {z = z'} {p = q} l is' d' c' b) =
+      along _ _ (Item' k p y z) (Item' l q y' z') a b
+      (subst (λ m. SameExpr (Item' k p y z) (Item' m q y' z')) (parameter i name k l is is') (SameExpr.item (expr_once d d') (expr_once c c')))
   expr_once (tree.negative m d a) (tree.negative m' d' b) = along _ _ _ _ a b (SameExpr.negative (expr_once d d'))
   expr_once (tree.negative {at = at} m d a) (tree.opposite m' d' b) = let e = sign at true false m m' in absurd cc
   expr_once (tree.opposite {at = at} m d a) (tree.negative m' d' b) = let e = sign at false true m m' in absurd cc

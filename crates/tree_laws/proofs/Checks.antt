@@ -89,11 +89,11 @@ module _ (parallel : Bool) (ps qs : List Param) (same : Pairwise SameParam ps qs
   fits_there (Length x) = ask x measurable
   fits_there (Has' x p e) = λ i. ask x read_map i && fits_there e i
   fits_there (Count' x p e) = λ i. ask x read_stream i && fits_there e i
-  fits_there (Item' x p e q f) = λ i. ask x read_stream i && (fits_there e i && fits_there f i)
+  fits_there (Item' x p e f) = λ i. ask x read_stream i && (fits_there e i && fits_there f i)
   fits_there (Negative' p e) = fits_there e
   fits_there (Not' p e) = fits_there e
-  fits_there (And' p e q f) = λ i. fits_there e i && fits_there f i
-  fits_there (Or' p e q f) = λ i. fits_there e i && fits_there f i
+  fits_there (And' p e f) = λ i. fits_there e i && fits_there f i
+  fits_there (Or' p e f) = λ i. fits_there e i && fits_there f i
   fits_there (Binary' op p e f) = λ i. fits_there e i && fits_there f i
 
   same_fits : (e f : Expr) → SameExpr e f → in_p e ≡ in_q f

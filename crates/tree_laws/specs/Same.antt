@@ -21,12 +21,11 @@ pub data SameExpr : Expr → Expr → Type 0 where
   element : {x p q : _} {e f : Expr} → SameExpr e f → SameExpr (Element' x p e) (Element' x q f)
   has : {x p q : _} {e f : Expr} → SameExpr e f → SameExpr (Has' x p e) (Has' x q f)
   count : {x p q : _} {e f : Expr} → SameExpr e f → SameExpr (Count' x p e) (Count' x q f)
-  item : {x p q p2 q2 : _} {e f e2 f2 : Expr} → SameExpr e f → SameExpr e2 f2 →
-      SameExpr (Item' x p e p2 e2) (Item' x q f q2 f2)
+  item : {x p q : _} {e f e2 f2 : Expr} → SameExpr e f → SameExpr e2 f2 → SameExpr (Item' x p e e2) (Item' x q f f2)
   negative : {p q : _} {e f : Expr} → SameExpr e f → SameExpr (Negative' p e) (Negative' q f)
   not : {p q : _} {e f : Expr} → SameExpr e f → SameExpr (Not' p e) (Not' q f)
-  both : {p q p2 q2 : _} {e f e2 f2 : Expr} → SameExpr e f → SameExpr e2 f2 → SameExpr (And' p e p2 e2) (And' q f q2 f2)
-  either : {p q p2 q2 : _} {e f e2 f2 : Expr} → SameExpr e f → SameExpr e2 f2 → SameExpr (Or' p e p2 e2) (Or' q f q2 f2)
+  both : {p q : _} {e f e2 f2 : Expr} → SameExpr e f → SameExpr e2 f2 → SameExpr (And' p e e2) (And' q f f2)
+  either : {p q : _} {e f e2 f2 : Expr} → SameExpr e f → SameExpr e2 f2 → SameExpr (Or' p e e2) (Or' q f f2)
   binary : {op p q : _} {e f e2 f2 : Expr} → SameExpr e f → SameExpr e2 f2 →
       SameExpr (Binary' op p e e2) (Binary' op q f f2)
 

@@ -160,21 +160,11 @@ fn operator_of(kind: TokenKind) -> Operator
 fn join(alloc: Global, kind: TokenKind, left: Expr, right: Expr) -> Result<Expr, NoMemory>
     ensures { IfOk result (λ x. IsJoint (joint_of kind) left right x) }
 {
+    let sides = Box::new(alloc, (left, right))?;
     match kind {
-        TokenKind::AndAnd => {
-            let left = Box::new(alloc, left)?;
-            let right = Box::new(alloc, right)?;
-            Ok(Expr::And(left, right))
-        }
-        TokenKind::OrOr => {
-            let left = Box::new(alloc, left)?;
-            let right = Box::new(alloc, right)?;
-            Ok(Expr::Or(left, right))
-        }
-        _ => {
-            let sides = Box::new(alloc, (left, right))?;
-            Ok(Expr::Binary(operator_of(kind), sides))
-        }
+        TokenKind::AndAnd => Ok(Expr::And(sides)),
+        TokenKind::OrOr => Ok(Expr::Or(sides)),
+        _ => Ok(Expr::Binary(operator_of(kind), sides)),
     }
 }
 
@@ -231,10 +221,9 @@ fn atom(
         RawForm::Item => {
             let first = expression(alloc, raw, meanings, at + 1)?;
             let second = expression(alloc, raw, meanings, first.next)?;
-            let first_expr = Box::new(alloc, first.expr)?;
-            let second_expr = Box::new(alloc, second.expr)?;
+            let both = Box::new(alloc, (first.expr, second.expr))?;
             Ok(Built {
-                expr: Expr::Item(number_of(named), first_expr, second_expr),
+                expr: Expr::Item(number_of(named), both),
                 next: second.next,
             })
         }

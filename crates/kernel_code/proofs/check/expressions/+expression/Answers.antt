@@ -14,14 +14,13 @@ atom-returns-in_ok-one-in-Element-clause-built t c r e here =
     let form_is : IsTrue (is_one c.in-Some.node.form) = grind (arith, c.in-Element.is) in
     atom_one raw c.args.at c.in-Some.node _ c.in_ok-inner-in-Element.inner.expr _ _ there (faultless_at raw _ _ _ r there) known form_is (c.in_ok-inner-in-Element.ensures.built r) c.in_ok-one-in-Element.ensures e here
 
-pub atom-returns-in_ok-second_expr-in-Item-clause-built :
-    goal.atom-returns-in_ok-second_expr-in-Item-clause-built
-atom-returns-in_ok-second_expr-in-Item-clause-built t c r e here =
+pub atom-returns-in_ok-both-in-Item-clause-built : goal.atom-returns-in_ok-both-in-Item-clause-built
+atom-returns-in_ok-both-in-Item-clause-built t c r e here =
     let raw = c.args.raw.now in
     let there = sym c.node_at.ensures.node ∙ c.in-Some.is in
     let known = ap (λ m. m.name) (c.meaning_at-named.ensures _ (meaning_is raw c.args.meanings.now c.args.at c.in-Some.node r there)) in
-    atom_item raw c.args.at c.in-Some.node _ c.in_ok-first-in-Item.first.expr c.in_ok-second-in-Item.second.expr _ _ _ _ _ there (faultless_at raw _ _ _ r there) known c.in-Item.is
-    (c.in_ok-first-in-Item.ensures.built r) (c.in_ok-second-in-Item.ensures.built r) c.number_of.ensures c.in_ok-first_expr-in-Item.ensures.ok c.in_ok-second_expr-in-Item.ensures.ok e here
+    atom_item raw c.args.at c.in-Some.node _ c.in_ok-first-in-Item.first.expr c.in_ok-second-in-Item.second.expr _ _ _ _ there (faultless_at raw _ _ _ r there) known c.in-Item.is
+    (c.in_ok-first-in-Item.ensures.built r) (c.in_ok-second-in-Item.ensures.built r) c.number_of.ensures c.in_ok-both-in-Item.ensures.ok e here
 
 pub atom-returns-in_default-form-clause-built : goal.atom-returns-in_default-form-clause-built
 atom-returns-in_default-form-clause-built t c r e here =
