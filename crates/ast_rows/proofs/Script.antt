@@ -14,7 +14,7 @@ use Rattle.frame_ast.specs.JobRuns.{Run}
 use Rattle.frame_ast.specs.States.{ScriptState}
 use Rattle.frame_ast.specs.Orders.{Table, setting}
 use Rattle.frame_ast.specs.Scripts.{final, output_at, status_at, output_of, status_of}
-use Rattle.ast_rows.proofs.Trees.{Place, vec, text}
+use Rattle.ast_rows.proofs.Trees.{Place, boxed, vec, text}
 use Rattle.ast_rows.proofs.Kernel.{kernel, run, same_runs}
 use Rattle.ast_rows.proofs.Kernels.{kernels}
 
@@ -135,8 +135,16 @@ numbered_list number None = None
 numbered_list number (Some l) = Some (number l.0, l.1)
 
 abbrev scheduled : Bool → String → String → List String → Options → Said
-scheduled auto handle kernel args o = says (λ at number. Order.Schedule auto (number handle) (number_of (map (λ k. k.name) kernels) kernel)
-    (vec at (map (λ a. Arg.Name (number a)) args ++ map (λ n. Arg.Number (pos n)) o.numbers)) o.length (numbered_list number o.list) (vec at o.waived) (vec at (map number o.handles)))
+scheduled auto handle kernel args o = says (λ at number. Order.Schedule (boxed at (record {
+  auto = auto;
+  handle = number handle;
+  kernel = number_of (map (λ k. k.name) kernels) kernel;
+  args = vec at (map (λ a. Arg.Name (number a)) args ++ map (λ n. Arg.Number (pos n)) o.numbers);
+  cut = o.length;
+  defer = numbered_list number o.list;
+  waive = vec at o.waived;
+  after = vec at (map number o.handles);
+})))
 
 abbrev pub schedule : String → String → List String → Options → Said
 schedule handle kernel args o = scheduled false handle kernel args o

@@ -31,9 +31,13 @@ same_vec {A} at xs ys m n p q f g e =
     (λ k r h. subst (λ k. (r : k ≡ length xs) (h : k ≤ 1000) → holding at xs m p f ≡ holding at xs k r h) (p ∙ sym r) (λ r h. let props : IsProp ((m ≡ length xs) × (m ≤ 1000)) = hlevel (le_prop, ℕ_set) in ap (λ o. holding at xs m o.0 o.1) (props (p, f) (r, h))) r h)
     n q g
 
+-- a `Box` at a place
+abbrev pub boxed : {A : Type 0} → Place → A → Box A Global
+boxed at x = record { value = x; ptr = at.ptr; alloc = at.heap }
+
 -- the child of an expression
 abbrev pub child : Place → Box (Unit {0}) Global
-child at = record { value = tt; ptr = at.ptr; alloc = at.heap }
+child at = boxed at tt
 
 -- all texts here are ASCII
 abbrev pub ascii : List ℕ → List ℕ

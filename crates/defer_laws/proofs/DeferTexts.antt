@@ -1,10 +1,12 @@
 -- What the laws of accepted scripts say of a schedule with `defer`, put together.
-use Rattle.std.proofs.Common.{◌≡◌, ◌<◌, ℕ, Bool, true, false, List, take, map, Option, Some, None, refl, subst}
-use Rattle.std.specs.Prelude.{is_some, slice_get}
+use Rattle.std.proofs.Common.{◌≡◌, ◌<◌, ℕ, Bool, true, false, List, take, map, Option, Some, None, refl, sym, subst}
+use Rattle.std.specs.Prelude.{Box, is_some, slice_get}
+use Rattle.std.specs.declared.alloc.Global.{Global}
 use Rattle.std.proofs.lemmas.Bool.{and_parts}
 use Rattle.frame_ast.specs.declared.kernel.Kernel.{Kernel}
 use Rattle.frame_ast.specs.declared.name_kind.NameKind.TheVariants as kind
 use Rattle.frame_ast.specs.declared.script.Arg.{Arg}
+use Rattle.frame_ast.specs.declared.script.NewJob.{NewJob}
 use Rattle.frame_ast.specs.declared.script.Order.{Order}
 use Rattle.frame_ast.specs.declared.script.Order.TheVariants as order
 use Rattle.frame_ast.specs.Accepted.{Names, makes, one_of, args_fit, schedule_fits, order_fits}
@@ -22,7 +24,7 @@ use Rattle.frame_ast.proofs.ValuesFit.{values_fit}
 use Rattle.frame_ast.proofs.Widths.{written_parameters_have_widths}
 use Rattle.frame_core.proofs.Small.{not_both, some_is, none_some}
 use Rattle.defer_laws.specs.Deferring.{Deferred, accepted, IsAcceptedDeferred}
-use Rattle.defer_laws.specs.DeferTexts.{deferred_of, DeferredSchedulesAreAccepted}
+use Rattle.defer_laws.specs.DeferTexts.{deferred_by, deferred_of, DeferredSchedulesAreAccepted}
 
 -- ---- its kernel is parallel
 
@@ -37,13 +39,20 @@ parallel_of ns (Some k) args cut defer waive after h =
     parallel_alone k.parallel (is_some cut) (and_parts (args_fit ns (Some defer) k.params.items args) (one_of k.parallel (is_some cut) true) (and_parts _ _ h).0).1
 
 module _ (g : Setting) where
+  abbrev IsParallelBy : NewJob → Option (ℕ × ℕ) → Type 0
+  IsParallelBy job None = Unit {0}
+  IsParallelBy job (Some defer) = is_parallel g job.kernel ≡ true
+
   abbrev IsParallel : Order → Type 0
-  IsParallel (order.Schedule auto handle kernel args cut (Some defer) waive after) = is_parallel g kernel ≡ true
+  IsParallel (order.Schedule job) = IsParallelBy job.value job.value.defer
   IsParallel _ = Unit {0}
 
+  parallel_by : (ns : Names) (job : NewJob) (d : Option (ℕ × ℕ)) → schedule_fits ns (slice_get g.kernels job.kernel) job.args.items job.cut d job.waive.items job.after.items ≡ true → IsParallelBy job d
+  parallel_by ns job None fits = tt
+  parallel_by ns job (Some defer) fits = parallel_of ns (slice_get g.kernels job.kernel) job.args.items job.cut defer job.waive.items job.after.items fits
+
   parallel_at : (ns : Names) (rest inside : ℕ) (x : Order) → order_fits ns g.literals g.kernels rest inside x ≡ true → IsParallel x
-  parallel_at ns rest inside (order.Schedule auto handle kernel args cut (Some defer) waive after) fits =
-      parallel_of ns (slice_get g.kernels kernel) args.items cut defer waive.items after.items (and_parts (makes ns handle kind.Handle) _ fits).1
+  parallel_at ns rest inside (order.Schedule job) fits = parallel_by ns job.value job.value.defer (and_parts (makes ns job.value.handle kind.Handle) _ fits).1
   parallel_at ns rest inside _ fits = tt
 
 -- ---- the statement
@@ -55,13 +64,23 @@ module _ (g : Setting) (s : ScriptState) (line : ℕ) (runs : g.runs ≡ map run
   abbrev Is : Order → Deferred → Type 0
   Is x o = (effect g line s x ≡ accepted g s o) × IsAcceptedDeferred g s o
 
-  is_deferred : (x : Order) (o : Deferred) → deferred_of x ≡ Some o → refusal g s x ≡ None → IsParallel g x → FitsAsValues g s x → HaveWidths g s x → Keeps x → Is x o
-  is_deferred (order.Schedule auto handle kernel args cut (Some defer) waive after) o e none parallel fits widths forms =
-      subst (Is (order.Schedule auto handle kernel args cut (Some defer) waive after)) (some_is e) (
+  -- by what its `defer` is
+  has_defer : (job : Box NewJob Global) (d : Option (ℕ × ℕ)) (o : Deferred) → job.value.defer ≡ d → deferred_by job.value d ≡ Some o → refusal g s (order.Schedule job) ≡ None → IsParallelBy g job.value d
+      → FitsAsValues g s (order.Schedule job) → HaveWidths g s (order.Schedule job) → Keeps (order.Schedule job) → Is (order.Schedule job) o
+  has_defer job None o is e none parallel fits widths forms = absurd (none_some e)
+  has_defer job (Some defer) o is e none parallel fits widths forms =
+      subst
+      (λ d. let here = order.Schedule (record job { value = record job.value { defer = d } }) in
+      refusal g s here ≡ None → FitsAsValues g s here → HaveWidths g s here → Keeps here → Is here o)
+      (sym is)
+      (λ none fits widths forms. subst (Is (order.Schedule (record job { value = record job.value { defer = Some defer } }))) (some_is e) (
         refl,
         record { runs = runs; parallel = parallel; unrefused = none; args_fit = fits.0; list_fits = fits.1; widths = widths; forms = forms },
-      )
-  is_deferred (order.Schedule auto handle kernel args cut None waive after) o e none parallel fits widths forms = absurd (none_some e)
+      ))
+      none fits widths forms
+
+  is_deferred : (x : Order) (o : Deferred) → deferred_of x ≡ Some o → refusal g s x ≡ None → IsParallel g x → FitsAsValues g s x → HaveWidths g s x → Keeps x → Is x o
+  is_deferred (order.Schedule job) o e none parallel fits widths forms = has_defer job job.value.defer o refl e none parallel fits widths forms
   is_deferred (order.Array name len life values) o e none parallel fits widths forms = absurd (none_some e)
   is_deferred (order.Column name column life) o e none parallel fits widths forms = absurd (none_some e)
   is_deferred (order.List name cap life) o e none parallel fits widths forms = absurd (none_some e)

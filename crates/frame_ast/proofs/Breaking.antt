@@ -159,8 +159,8 @@ effect_rises g line s (Put name key value) none = stays s _ (changed_views name 
 effect_rises g line s (Remove name at) none = rises name _ s
 effect_rises g line s (Clear name) none = rises name (Ok (cleared (contents_at s name))) s
 effect_rises g line s (SetCapacity name cap) none = record { at = (rises name (capacity_in (contents_at s name) cap) s).at }
-effect_rises g line s (Schedule auto handle kernel args cut defer waive after) none =
-    accept_rises g s auto handle kernel args.items cut defer waive.items after.items (no_alias_given s (is_parallel g kernel) auto _ after.items none)
+effect_rises g line s (Schedule job) none =
+    accept_rises g s job.value.auto job.value.handle job.value.kernel job.value.args.items job.value.cut job.value.defer job.value.waive.items job.value.after.items (no_alias_given s (is_parallel g job.value.kernel) job.value.auto _ job.value.after.items none)
 effect_rises g line s (Dispose name after None) none = stays s _ refl
 effect_rises g line s (Dispose name after (Some handle)) none = stays s _ refl
 effect_rises g line s x none = stays s _ refl

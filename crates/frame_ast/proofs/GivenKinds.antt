@@ -72,11 +72,11 @@ args_kinds ns s k defer more (p ∷ ps) (Number z ∷ as_) fits alive =
     (number_kind p.kind both.0, args_kinds ns s k defer more ps as_ both.1 alive)
 
 arguments_fit : (g : Setting) (ns : Names) (rest inside : ℕ) (s : ScriptState) (x : Order) → order_fits ns g.literals g.kernels rest inside x ≡ true → refusal g s x ≡ None → HoldsKinds ns.kinds s → ArgumentsFit g s x
-arguments_fit g ns rest inside s (Schedule auto handle kernel args cut defer waive after) fits none k =
-    let params : List Param = params_of g kernel in
-    let both = and_parts (makes ns handle HandleName) _ fits in
-    let alive = none_named Disposed _ (first_none (disposed s (map name_of (givens s params args.items defer))) _ none).0 in
-    args_kinds ns s k defer (given_length s defer) params args.items (args_of ns (slice_get g.kernels kernel) args.items cut defer waive.items after.items both.1) alive
+arguments_fit g ns rest inside s (Schedule job) fits none k =
+    let params : List Param = params_of g job.value.kernel in
+    let both = and_parts (makes ns job.value.handle HandleName) _ fits in
+    let alive = none_named Disposed _ (first_none (disposed s (map name_of (givens s params job.value.args.items job.value.defer))) _ none).0 in
+    args_kinds ns s k job.value.defer (given_length s job.value.defer) params job.value.args.items (args_of ns (slice_get g.kernels job.value.kernel) job.value.args.items job.value.cut job.value.defer job.value.waive.items job.value.after.items both.1) alive
 arguments_fit g ns rest inside s x fits none k = tt
 
 pub schedules_fit : SchedulesFit

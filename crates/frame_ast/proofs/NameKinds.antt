@@ -252,9 +252,9 @@ effect_kinds g keep line ns rest inside s (Clear name) fits none k = views_kinds
 effect_kinds g keep line ns rest inside s (SetCapacity name cap) fits none k =
     let after = views_kinds ns.kinds name _ (changed_kinds ns.kinds name _ s (capacity_stays cap (contents_at s name) (k.containers (container_at s name))) k) in
     record { names = after.names; containers = after.containers }
-effect_kinds g keep line ns rest inside s (Schedule auto handle kernel args cut defer waive after) fits none k =
-    let both = and_parts (makes ns handle HandleName) _ fits in
-    accept_kinds g keep ns s auto handle kernel args.items cut defer waive.items after.items both.0 (args_of ns (slice_get g.kernels kernel) args.items cut defer waive.items after.items both.1) k
+effect_kinds g keep line ns rest inside s (Schedule job) fits none k =
+    let both = and_parts (makes ns job.value.handle HandleName) _ fits in
+    accept_kinds g keep ns s job.value.auto job.value.handle job.value.kernel job.value.args.items job.value.cut job.value.defer job.value.waive.items job.value.after.items both.0 (args_of ns (slice_get g.kernels job.value.kernel) job.value.args.items job.value.cut job.value.defer job.value.waive.items job.value.after.items both.1) k
 effect_kinds g keep line ns rest inside s (Combine name of) fits none k = named_kinds ns.kinds name _ s (makes_kind ns name HandleName (and_parts _ _ fits).0) k
 effect_kinds g keep line ns rest inside s (Complete name) fits none k = record { names = k.names; containers = k.containers }
 effect_kinds g keep line ns rest inside s (CompleteAuto name) fits none k = record { names = k.names; containers = k.containers }
@@ -280,7 +280,7 @@ lost_kinds r g ns rest inside s (View name of) fits k = named_kinds ns.kinds nam
 lost_kinds r g ns rest inside s (Add name first second) fits k = broken_kinds ns.kinds r name s k
 lost_kinds r g ns rest inside s (Remove name at) fits k = broken_kinds ns.kinds r name s k
 lost_kinds r g ns rest inside s (SetCapacity name cap) fits k = broken_kinds ns.kinds r name s k
-lost_kinds r g ns rest inside s (Schedule auto handle kernel args cut defer waive after) fits k = named_kinds ns.kinds handle _ s (makes_kind ns handle HandleName (and_parts _ _ fits).0) k
+lost_kinds r g ns rest inside s (Schedule job) fits k = named_kinds ns.kinds job.value.handle _ s (makes_kind ns job.value.handle HandleName (and_parts _ _ fits).0) k
 lost_kinds r g ns rest inside s (Dispose name after None) fits k = k
 lost_kinds r g ns rest inside s (Dispose name after (Some handle)) fits k = named_kinds ns.kinds handle _ s (makes_kind ns handle HandleName (and_parts _ _ (and_parts _ _ fits).1).0) k
 lost_kinds r g ns rest inside s (DisposeAuto name handle) fits k = named_kinds ns.kinds handle _ s (makes_kind ns handle HandleName (and_parts _ _ fits).1) k

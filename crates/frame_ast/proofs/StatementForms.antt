@@ -101,9 +101,9 @@ effect_form g keep line ns rest inside s (Clear name) fits none k c below =
 effect_form g keep line ns rest inside s (SetCapacity name cap) fits none k c below =
     let used = is_used ns name (ListName ∷ []) (and_parts (uses ns name (ListName ∷ [])) _ fits).0 in
     setcapacity_form g line s used.kind name cap c (one_kind used.kind ListName used.fits) (k.names name used.kind used.at) none
-effect_form g keep line ns rest inside s (Schedule auto handle kernel args cut defer waive after) fits none k c below =
-    let both = and_parts (makes ns handle HandleName) _ fits in
-    ((accept_after g keep ns s auto handle kernel args.items cut defer waive.items after.items (args_of ns (slice_get g.kernels kernel) args.items cut defer waive.items after.items both.1) k).contents c).form
+effect_form g keep line ns rest inside s (Schedule job) fits none k c below =
+    let both = and_parts (makes ns job.value.handle HandleName) _ fits in
+    ((accept_after g keep ns s job.value.auto job.value.handle job.value.kernel job.value.args.items job.value.cut job.value.defer job.value.waive.items job.value.after.items (args_of ns (slice_get g.kernels job.value.kernel) job.value.args.items job.value.cut job.value.defer job.value.waive.items job.value.after.items both.1) k).contents c).form
 effect_form g keep line ns rest inside s (Dispose name after None) fits none k c below = refl
 effect_form g keep line ns rest inside s (Dispose name after (Some handle)) fits none k c below = refl
 effect_form g keep line ns rest inside s x fits none k c below = refl

@@ -120,8 +120,8 @@ effect_unused g line s (Put name key value) none k = alike_unused s _ (changed_a
 effect_unused g line s (Remove name at) none k = alike_unused s _ (resized_alike name _ s) k
 effect_unused g line s (Clear name) none k = alike_unused s _ (resized_alike name (Ok (cleared (contents_at s name))) s) k
 effect_unused g line s (SetCapacity name cap) none k = let after = resized_alike name (capacity_in (contents_at s name) cap) s in alike_unused s (effect g line s (SetCapacity name cap)) (record { life = after.life; uses = after.uses }) k
-effect_unused g line s (Schedule auto handle kernel args cut defer waive after) none k =
-    accept_unused g s auto handle kernel args.items cut defer waive.items after.items (no_cause_given s (is_parallel g kernel) auto _ after.items none).temp k
+effect_unused g line s (Schedule job) none k =
+    accept_unused g s job.value.auto job.value.handle job.value.kernel job.value.args.items job.value.cut job.value.defer job.value.waive.items job.value.after.items (no_cause_given s (is_parallel g job.value.kernel) job.value.auto _ job.value.after.items none).temp k
 effect_unused g line s (Dispose name after None) none k = record { at = k.at }
 effect_unused g line s (Dispose name after (Some handle)) none k = record { at = k.at }
 effect_unused g line s x none k = record { at = k.at }

@@ -131,13 +131,13 @@ module _ (ns : Names) (s : ScriptState) (holds : HoldsKinds ns.kinds s) where
       (k, (and_parts (cut_fits cut) (defer_fits ns k defer) (and_parts (cut_fits cut && defer_fits ns k defer) _ (and_parts (args_fit ns defer k.params.items args && _) _ h).1).0).1)
 
   pub values_fit_at : (g : Setting) (rest inside : ℕ) (x : Order) → order_fits ns g.literals g.kernels rest inside x ≡ true → refusal g s x ≡ None → FitsAsValues g s x
-  values_fit_at g rest inside (Schedule auto handle kernel args cut defer waive after) fits none =
-      let params : List Param = params_of g kernel in
-      let both = and_parts (makes ns handle kind.Handle) _ fits in
-      let no_cause = no_cause_given s (is_parallel g kernel) auto (givens s params args.items defer) after.items none in
-      let last = defer_of (slice_get g.kernels kernel) args.items cut defer waive.items after.items both.1 in (
-        args_fit_values defer (given_length s defer) params args.items (args_of ns (slice_get g.kernels kernel) args.items cut defer waive.items after.items both.1) no_cause.alive no_cause.fresh,
-        length_fits last.0 defer last.1 (none_last (dead s) (given_length s defer) params args.items no_cause.alive) (none_last (old s) (given_length s defer) params args.items no_cause.fresh),
+  values_fit_at g rest inside (Schedule job) fits none =
+      let params : List Param = params_of g job.value.kernel in
+      let both = and_parts (makes ns job.value.handle kind.Handle) _ fits in
+      let no_cause = no_cause_given s (is_parallel g job.value.kernel) job.value.auto (givens s params job.value.args.items job.value.defer) job.value.after.items none in
+      let last = defer_of (slice_get g.kernels job.value.kernel) job.value.args.items job.value.cut job.value.defer job.value.waive.items job.value.after.items both.1 in (
+        args_fit_values job.value.defer (given_length s job.value.defer) params job.value.args.items (args_of ns (slice_get g.kernels job.value.kernel) job.value.args.items job.value.cut job.value.defer job.value.waive.items job.value.after.items both.1) no_cause.alive no_cause.fresh,
+        length_fits last.0 job.value.defer last.1 (none_last (dead s) (given_length s job.value.defer) params job.value.args.items no_cause.alive) (none_last (old s) (given_length s job.value.defer) params job.value.args.items no_cause.fresh),
       )
   values_fit_at g rest inside x fits none = tt
 

@@ -99,14 +99,14 @@ params_checked kernels k checked = by (slice_get kernels k) refl
     by (Some it) e = (checked k it e).params
 
 pub widths_at : (g : Setting) → ((k : ℕ) (it : Kernel) → slice_get g.kernels k ≡ Some it → IsChecked it) → (ns : Names) (rest inside : ℕ) (s : ScriptState) (x : Order) → order_fits ns g.literals g.kernels rest inside x ≡ true → refusal g s x ≡ None → HaveWidths g s x
-widths_at g checked ns rest inside s (Schedule auto handle kernel args cut defer waive after) fits none = λ x p parallel waived at w.
-    let params : List Param = params_of g kernel in
-    let both = and_parts (makes ns handle kind.Handle) _ fits in
-    let shared = (no_cause_given s (is_parallel g kernel) auto (givens s params args.items defer) after.items none).shared in
-    let now : first_given is_refused (givens s params args.items defer) ≡ None = subst (λ b. first_given (λ v. b && (v.need.writes && is_shared v.kind)) (givens s params args.items defer) ≡ None) parallel shared in
-    subst (λ b. 0 < width_of (widths_from b waive.items 0 params) x) (sym parallel)
+widths_at g checked ns rest inside s (Schedule job) fits none = λ x p parallel waived at w.
+    let params : List Param = params_of g job.value.kernel in
+    let both = and_parts (makes ns job.value.handle kind.Handle) _ fits in
+    let shared = (no_cause_given s (is_parallel g job.value.kernel) job.value.auto (givens s params job.value.args.items job.value.defer) job.value.after.items none).shared in
+    let now : first_given is_refused (givens s params job.value.args.items job.value.defer) ≡ None = subst (λ b. first_given (λ v. b && (v.need.writes && is_shared v.kind)) (givens s params job.value.args.items job.value.defer) ≡ None) parallel shared in
+    subst (λ b. 0 < width_of (widths_from b job.value.waive.items 0 params) x) (sym parallel)
     (subst (λ ws. 0 < width_of (widths_from true ws 0 params) x) (sym waived)
-    (widths_there ns s defer (given_length s defer) params args.items 0 x p (args_of ns (slice_get g.kernels kernel) args.items cut defer waive.items after.items both.1) (params_checked g.kernels kernel checked) now at w))
+    (widths_there ns s job.value.defer (given_length s job.value.defer) params job.value.args.items 0 x p (args_of ns (slice_get g.kernels job.value.kernel) job.value.args.items job.value.cut job.value.defer job.value.waive.items job.value.after.items both.1) (params_checked g.kernels job.value.kernel checked) now at w))
 widths_at g checked ns rest inside s x fits none = tt
 
 pub written_parameters_have_widths : WrittenParametersHaveWidths

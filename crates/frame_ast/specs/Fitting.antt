@@ -69,8 +69,8 @@ LengthFits s (Some d) = NameFits s true KindList d.0
 
 -- of a statement that is a schedule
 abbrev pub FitsAsValues : Setting → ScriptState → Order → Type 0
-FitsAsValues g s (Schedule auto handle kernel args cut defer waive after) =
-    ArgsFit s defer (params_of g kernel) args.items × LengthFits s defer
+FitsAsValues g s (Schedule job) =
+    ArgsFit s job.value.defer (params_of g job.value.kernel) job.value.args.items × LengthFits s job.value.defer
 FitsAsValues g s _ = Unit {0}
 
 abbrev pub ValuesFit : Type 0
@@ -113,12 +113,15 @@ WrittenArgumentsAreUnshared = (s : ScriptState) (params : List Param) (args : Li
 
 -- each parameter that may be written has a width of the own-index rule
 abbrev pub HaveWidths : Setting → ScriptState → Order → Type 0
-HaveWidths g s (Schedule auto handle kernel args cut defer waive after) = (x : ℕ) (p : Param)
-    → is_parallel g kernel ≡ true
-    → waive.items ≡ []
-    → slice_get (params_of g kernel) x ≡ Some p
+HaveWidths g s (Schedule job) =
+    let j = job.value in
+    let params = params_of g j.kernel in
+    (x : ℕ) (p : Param)
+    → is_parallel g j.kernel ≡ true
+    → j.waive.items ≡ []
+    → slice_get params x ≡ Some p
     → writes_to p.access ≡ true
-    → 0 < width_of (widths_from (is_parallel g kernel) waive.items 0 (params_of g kernel)) x
+    → 0 < width_of (widths_from (is_parallel g j.kernel) j.waive.items 0 params) x
 HaveWidths g s _ = Unit {0}
 
 abbrev pub WrittenParametersHaveWidths : Type 0

@@ -70,8 +70,8 @@ FitKinds (p ∷ ps) (c ∷ cs) = (kind_of c ≡ kind_given p.kind) × FitKinds p
 
 -- of a statement that is a schedule
 abbrev pub ArgumentsFit : Setting → ScriptState → Order → Type 0
-ArgumentsFit g s (Schedule auto handle kernel args cut defer waive after) =
-    FitKinds (params_of g kernel) (arguments_of s (params_of g kernel) args.items)
+ArgumentsFit g s (Schedule job) =
+    FitKinds (params_of g job.value.kernel) (arguments_of s (params_of g job.value.kernel) job.value.args.items)
 ArgumentsFit g s _ = Unit {0}
 
 -- What holds of each statement of an accepted script that isn't refused, in the state before it.

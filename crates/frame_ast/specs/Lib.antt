@@ -25,4 +25,5 @@ pub mod Kinds
 pub mod Fitting
 -- for this crate's own contracts, and for those that cite them
 pub mod Lists
+pub mod SameJobs
 pub mod Simulation

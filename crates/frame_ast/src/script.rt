@@ -32,6 +32,24 @@ pub enum Arg {
     Number(i64),
 }
 
+/// What a schedule says of the job that it makes.
+#[derive(Drop)]
+pub struct NewJob {
+    /// Whether the job depends on everything that it has to.
+    pub auto: bool,
+    /// The name of the handle that it makes.
+    pub handle: u32,
+    pub kernel: u32,
+    pub args: Vec<Arg>,
+    /// The length and the batch.
+    pub cut: Option<(u32, u32)>,
+    /// The list that gives the length, and the batch.
+    pub defer: Option<(u32, u32)>,
+    /// Places among the kernel's parameters.
+    pub waive: Vec<u32>,
+    pub after: Vec<u32>,
+}
+
 /// A statement. Its text holds what the fields say, in their order; `name` is the name that it makes, or else the one
 /// that it is of.
 #[derive(Drop)]
@@ -132,21 +150,8 @@ pub enum Order {
         cap: u32,
     },
     /// `schedule [auto] h kernel(args) [N BATCH | defer l BATCH] [waive p ..] [after h ..]`
-    Schedule {
-        /// Whether the job depends on everything that it has to.
-        auto: bool,
-        /// The name of the handle that it makes.
-        handle: u32,
-        kernel: u32,
-        args: Vec<Arg>,
-        /// The length and the batch.
-        cut: Option<(u32, u32)>,
-        /// The list that gives the length, and the batch.
-        defer: Option<(u32, u32)>,
-        /// Places among the kernel's parameters.
-        waive: Vec<u32>,
-        after: Vec<u32>,
-    },
+    // In a box, since it is by far the longest: a statement then has 48 bytes, and would have 120.
+    Schedule(Box<NewJob>),
     /// `combine h g ..`
     Combine {
         name: u32,

@@ -1,6 +1,6 @@
 -- A kernel's copy in its place: the schedule does the same, so the laws of planning hold of the copy too.
-use Rattle.std.proofs.Common.{◌≡◌, ℕ, zero, suc, ◌<◌, Bool, true, false, List, [], ◌∷◌, ◌++◌, length, map, Option, Some, None, refl, sym, ap, subst, ◌∙◌}
-use Rattle.std.specs.Prelude.{Vec, slice_get, slice_set, if◌then◌else◌}
+use Rattle.std.proofs.Common.{◌≡◌, ℕ, zero, suc, ◌<◌, Bool, true, false, List, [], ◌∷◌, ◌++◌, length, map, Some, None, refl, sym, ap, subst, ◌∙◌}
+use Rattle.std.specs.Prelude.{Box, slice_get, slice_set, if◌then◌else◌}
 use Rattle.std.specs.declared.alloc.Global.{Global}
 use Rattle.frame_ast.specs.declared.kernel.Kernel.{Kernel}
 use Rattle.frame_ast.specs.declared.kernel.Param.{Param}
@@ -25,6 +25,8 @@ use Rattle.tree_laws.proofs.Runs.{same_runs}
 use Rattle.tree_laws.proofs.Settings.{same_refusal, same_effect}
 use Rattle.frame_plan.proofs.Arguments.{same_args_fit, same_widths, same_at}
 use Rattle.frame_plan.proofs.Naming.{get_set}
+use Rattle.frame_ast.specs.declared.script.NewJob.{NewJob}
+use Rattle.frame_plan.specs.Starting.{in_box, undeferred}
 
 same_given_args : (s : ScriptState) (ps qs : List Param) → Pairwise SameParam ps qs → (args : List Arg) → given_args s ps args ≡ given_args s qs args
 same_given_args s [] [] same args = refl
@@ -47,44 +49,44 @@ set_same [] n old new h same = tt
 set_same (k ∷ ks) zero old new h same = (subst (λ (k : Kernel). SameKernel k new) (sym (some_is h)) same, all_same ks)
 set_same (k ∷ ks) (suc n) old new h same = (kernels_are_themselves k, set_same ks n old new h same)
 
-module _ (g : Setting) (s : ScriptState) (auto : Bool) (handle kernel : ℕ) (args : Vec Arg Global) (cut : Option (ℕ × ℕ)) (waive after : Vec ℕ Global)
-    (old new : Kernel) (is_old : slice_get g.kernels kernel ≡ Some old) (below : kernel < length g.kernels) (same : SameKernel old new) where
+module _ (g : Setting) (s : ScriptState) (home : Box NewJob Global) (asked : NewJob)
+    (old new : Kernel) (is_old : slice_get g.kernels asked.kernel ≡ Some old) (below : asked.kernel < length g.kernels) (same : SameKernel old new) where
   -- the setting with the copy
   abbrev pub h : Setting
-  h = record g { kernels = slice_set g.kernels kernel new }
+  h = record g { kernels = slice_set g.kernels asked.kernel new }
 
   abbrev pub o : Schedule
-  o = record { auto = auto; handle = handle; kernel = kernel; args = args.items; cut = cut; waive = waive.items; after = after.items }
+  o = record { auto = asked.auto; handle = asked.handle; kernel = asked.kernel; args = asked.args.items; cut = asked.cut; waive = asked.waive.items; after = asked.after.items }
 
   abbrev order : Order
-  order = Scheduled auto handle kernel args cut None waive after
+  order = Scheduled (in_box home (undeferred asked))
 
   pairs : Pairwise SameKernel g.kernels h.kernels
-  pairs = set_same g.kernels kernel old new is_old same
+  pairs = set_same g.kernels asked.kernel old new is_old same
 
-  pub has_new : slice_get h.kernels kernel ≡ Some new
-  has_new = get_set g.kernels kernel new below
+  pub has_new : slice_get h.kernels asked.kernel ≡ Some new
+  has_new = get_set g.kernels asked.kernel new below
 
   pub new_accepted : accepted g s o ≡ accepted h s o
   new_accepted = same_effect g h.kernels pairs 0 s order
 
   -- what is asked of the parameters
   abbrev Widths : List Param → Bool → Type 0
-  Widths ps parallel = (n : ℕ) (q : Param) → parallel ≡ true → waive.items ≡ [] → slice_get ps n ≡ Some q → writes_to q.access ≡ true
-      → 0 < width_of (widths_from parallel waive.items 0 ps) n
+  Widths ps parallel = (n : ℕ) (q : Param) → parallel ≡ true → asked.waive.items ≡ [] → slice_get ps n ≡ Some q → writes_to q.access ≡ true
+      → 0 < width_of (widths_from parallel asked.waive.items 0 ps) n
 
   new_widths : Widths old.params.items old.parallel → Widths new.params.items new.parallel
   new_widths w n r par none at wr =
       let q = same_at old.params.items new.params.items n r same.params at in
-      subst (λ ws. 0 < width_of ws n) (same_widths old.parallel waive.items 0 old.params.items new.params.items same.params ∙ ap (λ b. widths_from b waive.items 0 new.params.items) same.parallel)
+      subst (λ ws. 0 < width_of ws n) (same_widths old.parallel asked.waive.items 0 old.params.items new.params.items same.params ∙ ap (λ b. widths_from b asked.waive.items 0 new.params.items) same.parallel)
       (w n q.0 (same.parallel ∙ par) none q.1 (ap writes_to q.2 ∙ wr))
 
   pub new_is_accepted : IsAcceptedSchedule g s o → IsAcceptedSchedule h s o
   new_is_accepted a = record {
     runs = a.runs ∙ same_runs g.kernels h.kernels pairs;
     unrefused = sym (same_refusal g h.kernels pairs s order) ∙ a.unrefused;
-    args_fit = subst (λ k. ArgsFit s None (kernel_params k) args.items) (sym has_new)
-        (same_args_fit s old.params.items new.params.items args.items same.params (subst (λ k. ArgsFit s None (kernel_params k) args.items) is_old a.args_fit));
+    args_fit = subst (λ k. ArgsFit s None (kernel_params k) asked.args.items) (sym has_new)
+        (same_args_fit s old.params.items new.params.items asked.args.items same.params (subst (λ k. ArgsFit s None (kernel_params k) asked.args.items) is_old a.args_fit));
     widths = subst (λ k. Widths (kernel_params k) (kernel_parallel k)) (sym has_new)
         (new_widths (subst (λ k. Widths (kernel_params k) (kernel_parallel k)) is_old a.widths));
     forms = λ c lt. ap (λ (t : ScriptState). form_of (t.contents c)) (sym new_accepted) ∙ a.forms c lt;
@@ -93,11 +95,11 @@ module _ (g : Setting) (s : ScriptState) (auto : Bool) (handle kernel : ℕ) (ar
   -- the dependency set is that of the script
   pub new_deps : deps_of g s o ≡ deps_of h s o
   new_deps =
-      let gives : givens s (params_of g kernel) args.items None ≡ givens s (params_of h kernel) args.items None =
-      ap (λ k. givens s (kernel_params k) args.items None) is_old
-      ∙ (λ i. same_given_args s old.params.items new.params.items same.params args.items i ++ [])
-      ∙ sym (ap (λ k. givens s (kernel_params k) args.items None) has_new) in
+      let gives : givens s (params_of g asked.kernel) asked.args.items None ≡ givens s (params_of h asked.kernel) asked.args.items None =
+      ap (λ k. givens s (kernel_params k) asked.args.items None) is_old
+      ∙ (λ i. same_given_args s old.params.items new.params.items same.params asked.args.items i ++ [])
+      ∙ sym (ap (λ k. givens s (kernel_params k) asked.args.items None) has_new) in
       λ i.
-      let named = jobs_named s after.items in
+      let named = jobs_named s asked.after.items in
       let needs = map (λ v. v.need) (gives i) in
-      if auto then both named (automatic s.book s.uses named needs) else named
+      if asked.auto then both named (automatic s.book s.uses named needs) else named

@@ -1,13 +1,12 @@
 -- An accepted schedule with `defer`: the planner that scheduled its job stands for the state after it.
 use Rattle.std.proofs.Common.{◌≡◌, ⊎_elim, ℕ, suc, ◌+◌, ◌-◌, ◌<◌, ◌≤◌, All, Bool, true, false, ◌&&◌, ◌||◌, List, [], ◌∷◌, ◌++◌, length, take, Some, None, refl, sym, ap, subst, ◌∙◌, arith, append-nil, append_assoc, length-take}
-use Rattle.std.specs.Prelude.{Vec, nat_eq, slice_get, if◌then◌else◌}
+use Rattle.std.specs.Prelude.{Box, Vec, nat_eq, slice_get, if◌then◌else◌}
 use Rattle.std.specs.declared.alloc.Global.{Global}
 use Rattle.std.proofs.lemmas.Bool.{or_cases, eqb-true, and_parts}
 use Rattle.batch_cut.specs.Cuts.{step_of}
 use Rattle.job_base.specs.declared.JobId.{JobId}
 use Rattle.job_base.specs.declared.limits.TheConstants.{MOST_STATEMENTS, MOST_INDEXES}
 use Rattle.frame_ast.specs.declared.kernel.Param.{Param}
-use Rattle.frame_ast.specs.declared.script.Arg.{Arg}
 use Rattle.frame_ast.specs.declared.script.Script.{Script}
 use Rattle.frame_ast.specs.declared.script.Statement.{Statement}
 use Rattle.frame_ast.specs.Checks.{refusal}
@@ -18,9 +17,9 @@ use Rattle.frame_ast.specs.Laws.{IsKnown, AreUpTo}
 use Rattle.frame_ast.specs.Orders.{Table, Setting, setting, kernel_params, is_parallel}
 use Rattle.frame_ast.specs.Refusals.{jobs_named, pending, schedule_refusal}
 use Rattle.frame_ast.specs.Ranges.{Starts}
-use Rattle.frame_ast.specs.Schedules.{Given, given_args, givens}
+use Rattle.frame_ast.specs.Schedules.{Given, given_args}
 use Rattle.frame_ast.specs.States as states
-use Rattle.frame_ast.specs.States.{ScriptState, with_at, container_at, contents_at}
+use Rattle.frame_ast.specs.States.{ScriptState, container_at, contents_at}
 use Rattle.frame_ast.proofs.Breaking.{view_numbers_are_few}
 use Rattle.job_handle.specs.declared.handle.Handle.{Handle}
 use Rattle.job_handle.specs.Books.{count_of, StandsFor}
@@ -28,9 +27,8 @@ use Rattle.kernel_exec.specs.declared.binds.Bind.TheVariants.{List as WholeList}
 use Rattle.native_list.specs.declared.ListAt.{ListAt}
 use Rattle.safety_handle.specs.Entries.{SlotState, state_of}
 use Rattle.safety_handle.specs.Uses.{Latest, StandForUses}
-use Rattle.frame_core.specs.Names.{has_job, kernel_of, pieces_before}
 use Rattle.frame_core.proofs.Small.{not_both, some_is, get_below, get_before}
-use Rattle.plan_laws.specs.Binds.{bind_of, start_at}
+use Rattle.plan_laws.specs.Binds.{start_at}
 use Rattle.plan_laws.specs.Ledgers.{later}
 use Rattle.plan_laws.specs.Planned.{Outline, IsPlanned, Closes, jobs_before}
 use Rattle.plan_laws.proofs.Making.{at_here, at_other}
@@ -43,7 +41,7 @@ use Rattle.frame_plan.specs.declared.state.Container.{Container}
 use Rattle.frame_plan.specs.declared.state.Planner.{Planner}
 use Rattle.frame_plan.specs.declared.state.Value.{Value}
 use Rattle.frame_plan.specs.declared.uses.NamedUse.{NamedUse}
-use Rattle.frame_plan.specs.Deferring.{IsLengthUse, IsListName, IsDeferredStart, noted_uses, with_length}
+use Rattle.frame_plan.specs.Deferring.{IsLengthUse, IsListName, IsDeferredStart, noted_uses, with_length, by_list}
 use Rattle.frame_plan.specs.Growth.{StartAs, IsJobOf, is_none}
 use Rattle.frame_plan.specs.JobBinds.{job_binds}
 use Rattle.frame_plan.specs.Noting.{MayNoteAll, noted_all}
@@ -74,8 +72,9 @@ use Rattle.frame_plan.proofs.ScheduleGrown as growing
 use Rattle.frame_plan.proofs.ScheduleGrown.{none_waived}
 use Rattle.frame_plan.proofs.ScheduleText.{each_lower}
 use Rattle.frame_plan.proofs.Slots.{noted_live, noted_version, noted_folded, may_note}
+use Rattle.frame_ast.specs.declared.script.NewJob.{NewJob}
 
-module _ (script : Script) (table : Table) (begun : ScriptState) (n : ℕ) (found : List ℕ) (line : ℕ) (auto : Bool) (handle kernel : ℕ) (args : Vec Arg Global) (list batch : ℕ) (waive after : Vec ℕ Global) where
+module _ (script : Script) (table : Table) (begun : ScriptState) (n : ℕ) (found : List ℕ) (line : ℕ) (home : Box NewJob Global) (asked : NewJob) (list batch : ℕ) where
   abbrev g : Setting
   g = setting script table
 
@@ -83,17 +82,17 @@ module _ (script : Script) (table : Table) (begun : ScriptState) (n : ℕ) (foun
   s = state_at script table n
 
   abbrev x : Statement
-  x = text.x script table n line auto handle kernel args list batch waive after
+  x = text.x script table n line home asked list batch
 
   abbrev pub o : Deferred
-  o = record { auto = auto; handle = handle; kernel = kernel; args = args.items; cut = None; defer = (list, batch); waive = waive.items; after = after.items }
+  o = record { auto = asked.auto; handle = asked.handle; kernel = asked.kernel; args = asked.args.items; cut = None; defer = (list, batch); waive = asked.waive.items; after = asked.after.items }
 
   abbrev t : ScriptState
   t = accepted g s o
 
-  module _ (step : IsStep script table n x) (is_text : IsDeferredText script table n line auto handle kernel args list batch waive after step) (p : Planner) (st : StandsAt p script table begun n found)
-      (uses : List NamedUse) (length_use : NamedUse) (named : Jobs) (named_is : named ≡ jobs_named s after.items)
-      (are : ForNames (IsUse p named) is_text.source.params.items args.items uses) (is : IsLengthUse p named list length_use) (none : refusal g s x.act ≡ None) where
+  module _ (step : IsStep script table n x) (is_text : IsDeferredText script table n line home asked list batch step) (p : Planner) (st : StandsAt p script table begun n found)
+      (uses : List NamedUse) (length_use : NamedUse) (named : Jobs) (named_is : named ≡ jobs_named s asked.after.items)
+      (are : ForNames (IsUse p named) is_text.source.params.items asked.args.items uses) (is : IsLengthUse p named list length_use) (none : refusal g s x.act ≡ None) where
     deferred_is : IsDeferredOf g s x o
     deferred_is = deferred_schedules_are_accepted script step.accepted table n x o step.here refl none
 
@@ -104,21 +103,21 @@ module _ (script : Script) (table : Table) (begun : ScriptState) (n : ℕ) (foun
     ps = is_text.source.params.items
 
     abbrev gs : List Given
-    gs = given_args s ps args.items
+    gs = given_args s ps asked.args.items
 
     abbrev l : Given
     l = length_value s list
 
     gives_are : uses_of g s o ≡ gs ++ l ∷ []
-    gives_are = ap (λ k. given_args s (kernel_params k) args.items ++ l ∷ []) is_text.has
+    gives_are = ap (λ k. given_args s (kernel_params k) asked.args.items ++ l ∷ []) is_text.has
 
-    unrefused : schedule_refusal s (is_parallel g kernel) auto (gs ++ l ∷ []) after.items ≡ None
-    unrefused = subst (λ gs. schedule_refusal s (is_parallel g kernel) auto gs after.items ≡ None) gives_are none
+    unrefused : schedule_refusal s (is_parallel g asked.kernel) asked.auto (gs ++ l ∷ []) asked.after.items ≡ None
+    unrefused = subst (λ gs. schedule_refusal s (is_parallel g asked.kernel) asked.auto gs asked.after.items ≡ None) gives_are none
 
     -- ---- the uses that are noted
 
     meant_args : AreMeant p s named uses gs
-    meant_args = uses_meant p g begun n s found st named ps args.items uses are
+    meant_args = uses_meant p g begun n s found st named ps asked.args.items uses are
 
     meant_length : IsMeant p s named length_use (plain l)
     meant_length = length_meant p g begun n s found st named list length_use is
@@ -130,13 +129,13 @@ module _ (script : Script) (table : Table) (begun : ScriptState) (n : ℕ) (foun
     ng = noted_givens gs l
 
     meant : AreMeant p s named noted ng
-    meant = noting.noted_meant p s named uses ps args.items meant_args length_use list batch meant_length (is_parallel g kernel) auto after.items unrefused
+    meant = noting.noted_meant p s named uses ps asked.args.items meant_args length_use list batch meant_length (is_parallel g asked.kernel) asked.auto asked.after.items unrefused
 
     alive : AreAlive s ng
-    alive = noting.noted_alive p s named uses ps args.items meant_args length_use list batch meant_length (is_parallel g kernel) auto after.items unrefused
+    alive = noting.noted_alive p s named uses ps asked.args.items meant_args length_use list batch meant_length (is_parallel g asked.kernel) asked.auto asked.after.items unrefused
 
     apart : AreApart ng
-    apart = noting.noted_apart p s named uses ps args.items meant_args length_use list batch meant_length (is_parallel g kernel) auto after.items unrefused
+    apart = noting.noted_apart p s named uses ps asked.args.items meant_args length_use list batch meant_length (is_parallel g asked.kernel) asked.auto asked.after.items unrefused
 
     views_few : (c : ℕ) → s.view c < MOST_STATEMENTS
     views_few c =
@@ -166,17 +165,17 @@ module _ (script : Script) (table : Table) (begun : ScriptState) (n : ℕ) (foun
     abbrev waited : Jobs
     waited = deps_of g s o
 
-    unpended : (if auto then None else pending s (jobs_named s after.items) (needs (uses_of g s o))) ≡ None
-    unpended = unpending s (is_parallel g kernel) auto (uses_of g s o) after.items none
+    unpended : (if asked.auto then None else pending s (jobs_named s asked.after.items) (needs (uses_of g s o))) ≡ None
+    unpended = unpending s (is_parallel g asked.kernel) asked.auto (uses_of g s o) asked.after.items none
 
     open_ : (j : ℕ) → 0 < j → j ≤ s.book.count → blocking s.book s.uses waited (needs ng) j ≡ false
     open_ j above le =
         noting.noted_open gs l refl s.book s.uses waited j
         (subst (λ gs. blocking s.book s.uses waited (needs gs) j ≡ false) gives_are
-        (unblocked s st.known auto after.items (needs (uses_of g s o)) unpended j above le))
+        (unblocked s st.known asked.auto asked.after.items (needs (uses_of g s o)) unpended j above le))
 
     pub waited_up : AreUpTo s.book.count waited
-    waited_up = deps_up s st.known auto after.items (needs (uses_of g s o)) unpended
+    waited_up = deps_up s st.known asked.auto asked.after.items (needs (uses_of g s o)) unpended
 
     abbrev all : List Given
     all = gs ++ plain l ∷ []
@@ -185,13 +184,13 @@ module _ (script : Script) (table : Table) (begun : ScriptState) (n : ℕ) (foun
     meant_all = meant_more p s named uses gs length_use (plain l) meant_args meant_length
 
     pub alive_all : AreAlive s all
-    alive_all = noting.all_alive_here p s named uses ps args.items meant_args length_use list batch meant_length (is_parallel g kernel) auto after.items unrefused
+    alive_all = noting.all_alive_here p s named uses ps asked.args.items meant_args length_use list batch meant_length (is_parallel g asked.kernel) asked.auto asked.after.items unrefused
 
-    pub waits_are : (deps : Jobs) → Rattle.frame_plan.specs.Starting.AreDeps auto named p.jobs p.safety (Rattle.frame_plan.specs.Uses.tags_of (with_length uses length_use)) deps → deps ≡ waited
+    pub waits_are : (deps : Jobs) → Rattle.frame_plan.specs.Starting.AreDeps asked.auto named p.jobs p.safety (Rattle.frame_plan.specs.Uses.tags_of (with_length uses length_use)) deps → deps ≡ waited
     waits_are deps d =
-        waiting.deps_are p g begun n s found st named auto (with_length uses length_use) all meant_all alive_all deps d
-        ∙ ap (λ ns. if auto then both named (automatic s.book s.uses named ns) else named) (needs_same gs l ∙ ap needs (sym gives_are))
-        ∙ ap (λ named. if auto then both named (automatic s.book s.uses named (needs (uses_of g s o))) else named) named_is
+        waiting.deps_are p g begun n s found st named asked.auto (with_length uses length_use) all meant_all alive_all deps d
+        ∙ ap (λ ns. if asked.auto then both named (automatic s.book s.uses named ns) else named) (needs_same gs l ∙ ap needs (sym gives_are))
+        ∙ ap (λ named. if asked.auto then both named (automatic s.book s.uses named (needs (uses_of g s o))) else named) named_is
 
     -- ---- the list
 
@@ -209,13 +208,13 @@ module _ (script : Script) (table : Table) (begun : ScriptState) (n : ℕ) (foun
 
     -- ---- the planner afterwards
 
-    module _ (q : Planner) (deps : Jobs) (deps_is : deps ≡ waited) (d : IsDeferredStart script p q handle kernel args.items list batch waive.items noted deps) where
+    module _ (q : Planner) (deps : Jobs) (deps_is : deps ≡ waited) (d : IsDeferredStart script p q asked.handle asked.kernel asked.args.items list batch asked.waive.items noted deps) where
       kept : (d.after.kernels ≡ p.kernels) × (d.after.plan.kernels ≡ p.plan.kernels) × (d.after.guards ≡ p.guards)
       kept = (ap (λ (k : Planner). k.kernels) d.rest, ap (λ (k : Planner). k.plan.kernels) d.rest, ap (λ (k : Planner). k.guards) d.rest)
 
       middle_of : d.middle ≡ record p { jobs = d.after.jobs; safety = d.after.safety; guards = d.middle.guards; plan = record p.plan { kernels = d.middle.plan.kernels } }
       middle_of =
-          places.middle_is script g refl p d.after d.middle kernel d.job.kernel st.kernels kept d.guarded d.source d.is_source
+          places.middle_is script g refl p d.after d.middle asked.kernel d.job.kernel st.kernels kept d.guarded d.source d.is_source
           ∙ ap (λ (k : Planner). record k { guards = d.middle.guards; plan = record k.plan { kernels = d.middle.plan.kernels } }) d.rest
 
       ended_of : d.ended ≡ record p {
@@ -287,10 +286,10 @@ module _ (script : Script) (table : Table) (begun : ScriptState) (n : ℕ) (foun
       was = subst (λ (v : Vec Value Global). AreNames v.items d.ended.handles.items (length p.containers.items) s) (sym values_were)
           (subst (λ (v : Vec Handle Global). AreNames p.values.items v.items (length p.containers.items) s) (sym handles_were) st.names)
 
-      names_now : IsNamed s as_t handle (states.Handle (only (count_of p.jobs + 1)))
+      names_now : IsNamed s as_t asked.handle (states.Handle (only (count_of p.jobs + 1)))
       names_now = record {
-        here = ap (λ f. f handle) (ap (λ (u : ScriptState). u.values) (accepted_is g s o)) ∙ at_here s.values handle (states.Handle (only (s.book.count + 1))) ∙ ap (λ k. states.Handle (only (k + 1))) (sym count_is);
-        others = λ m ne. ap (λ f. f m) (ap (λ (u : ScriptState). u.values) (accepted_is g s o)) ∙ at_other s.values handle (states.Handle (only (s.book.count + 1))) m ne;
+        here = ap (λ f. f asked.handle) (ap (λ (u : ScriptState). u.values) (accepted_is g s o)) ∙ at_here s.values asked.handle (states.Handle (only (s.book.count + 1))) ∙ ap (λ k. states.Handle (only (k + 1))) (sym count_is);
+        others = λ m ne. ap (λ f. f m) (ap (λ (u : ScriptState). u.values) (accepted_is g s o)) ∙ at_other s.values asked.handle (states.Handle (only (s.book.count + 1))) m ne;
       }
 
       -- slots
@@ -355,8 +354,8 @@ module _ (script : Script) (table : Table) (begun : ScriptState) (n : ℕ) (foun
 
       -- ---- the plan
 
-      has_guard : places.HasGuard script g refl p d.after d.middle kernel d.job.kernel st.kernels kept d.guarded d.source d.is_source
-      has_guard = places.has_guard script g refl p d.after d.middle kernel d.job.kernel st.kernels kept d.guarded d.source d.is_source
+      has_guard : places.HasGuard script g refl p d.after d.middle asked.kernel d.job.kernel st.kernels kept d.guarded d.source d.is_source
+      has_guard = places.has_guard script g refl p d.after d.middle asked.kernel d.job.kernel st.kernels kept d.guarded d.source d.is_source
 
       same_source : d.source ≡ is_text.source
       same_source = some_is (sym d.is_source ∙ is_text.has)
@@ -390,11 +389,11 @@ module _ (script : Script) (table : Table) (begun : ScriptState) (n : ℕ) (foun
       binds_are : (y : Outline) → Agrees p g begun found y → d.job.binds.items ≡ deferred_binds y.starts s o d.source
       binds_are y a = d.binds ∙ (λ i. args_now i ++ word_at (start_now i) ∷ [])
         where
-          args_now : job_binds p d.source.parallel waive.items 0 d.source.params.items args.items
-              ≡ Rattle.plan_laws.specs.Binds.binds_by y.starts s d.source.params.items (Rattle.frame_ast.specs.Schedules.widths_from d.source.parallel waive.items 0 d.source.params.items) args.items
-          args_now = arguments.deferred_args p g begun n s found st y a (Some (list, batch)) d.source.parallel waive.items 0 d.source.params.items args.items
-              (each_lower (length g.names) (length p.values.items) (let e = st.each in omega arith) args.items is_text.below)
-              (subst (λ k. Rattle.frame_ast.specs.Fitting.ArgsFit s (Some (list, batch)) (kernel_params k) args.items) d.is_source accepted_as.args_fit)
+          args_now : job_binds p d.source.parallel asked.waive.items 0 d.source.params.items asked.args.items
+              ≡ Rattle.plan_laws.specs.Binds.binds_by y.starts s d.source.params.items (Rattle.frame_ast.specs.Schedules.widths_from d.source.parallel asked.waive.items 0 d.source.params.items) asked.args.items
+          args_now = arguments.deferred_args p g begun n s found st y a (Some (list, batch)) d.source.parallel asked.waive.items 0 d.source.params.items asked.args.items
+              (each_lower (length g.names) (length p.values.items) (let e = st.each in omega arith) asked.args.items is_text.below)
+              (subst (λ k. Rattle.frame_ast.specs.Fitting.ArgsFit s (Some (list, batch)) (kernel_params k) asked.args.items) d.is_source accepted_as.args_fit)
 
           start_now : d.at.start ≡ start_at y.starts s list
           start_now = ap (λ (w : ListAt). w.start) same_at ∙ the_list.start ∙ sym (a.starts (s.range (container_at s list)) the_list.range)
@@ -407,7 +406,7 @@ module _ (script : Script) (table : Table) (begun : ScriptState) (n : ℕ) (foun
         agrees = record {
           begins = a.begins;
           names = a.names;
-          kernels = places.kernels_later script g refl p d.after d.middle kernel d.job.kernel st.kernels kept d.guarded d.source d.is_source y.plan.kernels.items a.kernels;
+          kernels = places.kernels_later script g refl p d.after d.middle asked.kernel d.job.kernel st.kernels kept d.guarded d.source d.is_source y.plan.kernels.items a.kernels;
           literals = a.literals;
           jobs = (d.job ∷ a.jobs.0, later_jobs ∙ append_assoc p.plan.jobs.items (d.job ∷ []) a.jobs.0);
           starts = a.starts;
@@ -434,13 +433,13 @@ module _ (script : Script) (table : Table) (begun : ScriptState) (n : ℕ) (foun
               ∙ has_guard.here;
           guarded = has_guard.guards.guarded;
           guards = has_guard.guards.words;
-          old_checked = step.accepted.kernels kernel d.source d.is_source;
+          old_checked = step.accepted.kernels asked.kernel d.source d.is_source;
           checked = has_guard.guards.checked;
           first = d.first ∙ ap (λ (k : Planner). k.plan.pieces) middle_of ∙ st.numbers.pieces;
           binds = binds_are y agrees;
           indexes = d.indexes ∙ ap (λ (w : ListAt). w.cap) same_at ∙ the_list.cap;
           cut = d.cut;
-          parallel = λ e. none_waived waive.items (and_parts d.source.parallel (is_none waive.items) (sym d.parallel ∙ e)).1;
+          parallel = λ e. none_waived asked.waive.items (and_parts d.source.parallel (is_none asked.waive.items) (sym d.parallel ∙ e)).1;
           known_deps = (
             d.later_are.within.0,
             up_to_all d.job.deps.items (count_of p.jobs - p.jobs_before) (length y.plan.jobs.items)
@@ -464,9 +463,9 @@ module _ (script : Script) (table : Table) (begun : ScriptState) (n : ℕ) (foun
           t.values t.contents t.view t.uses waited t.traps d.started.segment d.job
       with_job_is = record {
         known = known;
-        named = handle_names d.ended q (length p.containers.items) s as_t handle (only (count_of p.jobs + 1)) was d.named names_now;
-        values_long = ap length d.named.values ∙ set_long d.ended.values.items handle _ ∙ ap (λ (v : Vec Value Global). length v.items) values_were;
-        handles_few = (let h = (handles_more d.ended q (length p.containers.items) s as_t handle (only (count_of p.jobs + 1)) was d.named names_now).1 in
+        named = handle_names d.ended q (length p.containers.items) s as_t asked.handle (only (count_of p.jobs + 1)) was d.named names_now;
+        values_long = ap length d.named.values ∙ set_long d.ended.values.items asked.handle _ ∙ ap (λ (v : Vec Value Global). length v.items) values_were;
+        handles_few = (let h = (handles_more d.ended q (length p.containers.items) s as_t asked.handle (only (count_of p.jobs + 1)) was d.named names_now).1 in
             let e = ap (λ (v : Vec Handle Global). length v.items) handles_were in omega arith);
         form = λ c start lt. bind_by_form start (t.contents c) (s.contents c) (accepted_as.forms c lt);
         lives = λ k. ap (λ (x : SlotState). x.live) (safety_is k) ∙ noted_live job_number noted (state_of p.safety) k;
@@ -476,8 +475,8 @@ module _ (script : Script) (table : Table) (begun : ScriptState) (n : ℕ) (foun
         unused = unused;
         held = dead_stands;
         book = subst (λ (j : Jobs). StandsFor d.after.jobs (with_job s.book j)) deps_is (d.jobs s.book st.jobs);
-        kernels_are = places.kernels_stand script g refl p d.after d.middle kernel d.job.kernel st.kernels kept d.guarded d.source d.is_source as_q refl refl refl;
-        copies_few = places.copies_few script g refl p d.after d.middle kernel d.job.kernel st.kernels kept d.guarded d.source d.is_source;
+        kernels_are = places.kernels_stand script g refl p d.after d.middle asked.kernel d.job.kernel st.kernels kept d.guarded d.source d.is_source as_q refl refl refl;
+        copies_few = places.copies_few script g refl p d.after d.middle asked.kernel d.job.kernel st.kernels kept d.guarded d.source d.is_source;
         segments_are = segments_are;
         ops_were = d.started.ops_were ∙ ap (λ (k : Planner). k.plan.ops.items) middle_of;
         ops_are = d.started.ops;
@@ -492,7 +491,7 @@ module _ (script : Script) (table : Table) (begun : ScriptState) (n : ℕ) (foun
       kernels_now = ap (λ (k : Planner). k.plan.kernels.items) q_is
 
       deferred_job : (starts : Starts) → StartAs starts found
-          → IsJobOf g starts begun.book.count s waited kernel args.items None (Some (list, batch)) waive.items q.plan.kernels.items d.job
+          → IsJobOf g starts begun.book.count s waited asked.kernel asked.args.items None (Some (list, batch)) asked.waive.items q.plan.kernels.items d.job
       deferred_job starts as_found = record {
         source = d.source;
         is_source = d.is_source;
@@ -506,7 +505,7 @@ module _ (script : Script) (table : Table) (begun : ScriptState) (n : ℕ) (foun
         deps = λ j. d.later_are.are j ∙ (λ i. later (st.numbers.before i) (deps_is i) j);
       }
 
-      has_started : growing.HasStarted script table begun n found line auto handle kernel args None (Some (list, batch)) waive after p q d.started.segment d.job waited
+      has_started : growing.HasStarted script table begun n found line home (by_list asked None (list, batch)) p q d.started.segment d.job waited
       has_started = record {
         store = ap (λ (k : Planner). k.store) q_is;
         segments = ap (λ (k : Planner). k.plan.segments.items) q_is ∙ segments_are;
@@ -516,14 +515,14 @@ module _ (script : Script) (table : Table) (begun : ScriptState) (n : ℕ) (foun
         waits = ap (λ (k : Planner). k.plan.waits.items) q_is ∙ d.started.waits;
         ops = ap (λ (k : Planner). k.plan.ops.items) q_is ∙ d.started.ops;
         jobs = ap (λ (k : Planner). k.plan.jobs.items) q_is ∙ jobs_are;
-        kernels = places.kernels_later script g refl p d.after d.middle kernel d.job.kernel st.kernels kept d.guarded d.source d.is_source q.plan.kernels.items
+        kernels = places.kernels_later script g refl p d.after d.middle asked.kernel d.job.kernel st.kernels kept d.guarded d.source d.is_source q.plan.kernels.items
             ([], kernels_now ∙ sym (append-nil d.middle.plan.kernels.items));
         book = ap (λ (u : ScriptState). u.book) (after_is ∙ t_is);
         job_is = deferred_job;
       }
 
       pub deferred_on : HasStepped script table begun n found p q x
-      deferred_on = growing.stepped script table begun n found line auto handle kernel args None (Some (list, batch)) waive after p q step none st d.started.segment d.job waited has_started
+      deferred_on = growing.stepped script table begun n found line home (by_list asked None (list, batch)) p q step none st d.started.segment d.job waited has_started
           (subst (λ u. Stands q g begun (suc n) u found) (sym (after_is ∙ t_is))
           (subst (λ k. Stands k g begun (suc n) as_t found) (sym q_is)
           (newly.with_job_stands p g begun n s found st q.values q.handles d.after.jobs d.after.safety p.kernels d.middle.guards d.middle.plan.kernels

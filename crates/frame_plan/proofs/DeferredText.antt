@@ -1,6 +1,6 @@
 -- What the text of an accepted schedule with `defer` gives: its kernel has a guarded copy, its list and its names fit.
 use Rattle.std.proofs.Common.{◌≡◌, ℕ, zero, suc, ◌<◌, ◌≤◌, Bool, true, false, ◌&&◌, List, [], ◌∷◌, length, get_or, Option, Some, None, refl, ap, arith}
-use Rattle.std.specs.Prelude.{Vec, slice_get, is_some, nat_le}
+use Rattle.std.specs.Prelude.{Box, slice_get, is_some, nat_le}
 use Rattle.std.specs.List.{list_all}
 use Rattle.std.specs.declared.alloc.Global.{Global}
 use Rattle.std.proofs.lemmas.Bool.{and_parts, leb-true}
@@ -15,15 +15,17 @@ use Rattle.frame_ast.specs.declared.script.Statement.{Statement}
 use Rattle.frame_ast.specs.declared.name_kind.NameKind.TheVariants as kind
 use Rattle.frame_ast.specs.Accepted.{Names, uses, makes, all_used, up_to, arg_fits, args_fit, one_of, is_deferred, batch_fits, guard_fits, defer_fits, schedule_fits, kinds_for}
 use Rattle.frame_ast.specs.Orders.{Table, setting}
-use Rattle.frame_plan.specs.Deferring.{MayBeGuarded}
+use Rattle.frame_plan.specs.Deferring.{MayBeGuarded, by_list}
 use Rattle.frame_plan.specs.Steps.{IsStep}
 use Rattle.frame_plan.specs.Uses.{IsNameBelow}
 use Rattle.frame_plan.proofs.Reaching.{fits_at, used_below, made_below}
 use Rattle.frame_plan.proofs.ScheduleText.{EachBelow}
+use Rattle.frame_ast.specs.declared.script.NewJob.{NewJob}
+use Rattle.frame_plan.specs.Starting.{in_box}
 
-module _ (script : Script) (table : Table) (n line : ℕ) (auto : Bool) (handle kernel : ℕ) (args : Vec Arg Global) (list batch : ℕ) (waive after : Vec ℕ Global) where
+module _ (script : Script) (table : Table) (n line : ℕ) (home : Box NewJob Global) (asked : NewJob) (list batch : ℕ) where
   abbrev pub x : Statement
-  x = record { line = line; act = Scheduled auto handle kernel args None (Some (list, batch)) waive after }
+  x = record { line = line; act = Scheduled (in_box home (by_list asked None (list, batch))) }
 
   module _ (step : IsStep script table n x) where
     abbrev names : ℕ → Names
@@ -55,15 +57,15 @@ module _ (script : Script) (table : Table) (n line : ℕ) (auto : Bool) (handle 
 
     pub record IsDeferredText : Type 0 where
       pub source : Kernel
-      pub has : slice_get script.kernels.items kernel ≡ Some source
+      pub has : slice_get script.kernels.items asked.kernel ≡ Some source
       pub guardable : MayBeGuarded source
-      pub handle_below : handle < many
+      pub handle_below : asked.handle < many
       pub list_below : list < many
       pub batch_fit : (1 ≤ batch) × (batch ≤ MOST_INDEXES)
-      pub each : length args.items ≡ length source.params.items
-      pub few : length args.items ≤ 16
-      pub below : EachBelow many args.items
-      pub after_below : (k d : ℕ) → k < length after.items → get_or after.items k d < many
+      pub each : length asked.args.items ≡ length source.params.items
+      pub few : length asked.args.items ≤ 16
+      pub below : EachBelow many asked.args.items
+      pub after_below : (k d : ℕ) → k < length asked.after.items → get_or asked.after.items k d < many
 
     parallel_alone : (parallel : Bool) → one_of parallel false true ≡ true → parallel ≡ true
     parallel_alone true h = refl
@@ -72,21 +74,21 @@ module _ (script : Script) (table : Table) (n line : ℕ) (auto : Bool) (handle 
     pub deferred_text : IsDeferredText
     deferred_text =
         let fit = fits_at script table n x step in
-        let parts = and_parts (makes (names fit.made) handle kind.Handle) (schedule_fits (names fit.made) (slice_get script.kernels.items kernel) args.items None defer waive.items after.items) fit.fits in
-        by fit.made (made_below script table n x step fit.made handle kind.Handle parts.0) (slice_get script.kernels.items kernel) refl parts.1
+        let parts = and_parts (makes (names fit.made) asked.handle kind.Handle) (schedule_fits (names fit.made) (slice_get script.kernels.items asked.kernel) asked.args.items None defer asked.waive.items asked.after.items) fit.fits in
+        by fit.made (made_below script table n x step fit.made asked.handle kind.Handle parts.0) (slice_get script.kernels.items asked.kernel) refl parts.1
       where
-        by : (made : ℕ) → handle < many → (o : Option Kernel) → slice_get script.kernels.items kernel ≡ o → schedule_fits (names made) o args.items None defer waive.items after.items ≡ true → IsDeferredText
+        by : (made : ℕ) → asked.handle < many → (o : Option Kernel) → slice_get script.kernels.items asked.kernel ≡ o → schedule_fits (names made) o asked.args.items None defer asked.waive.items asked.after.items ≡ true → IsDeferredText
         by made lt None at e = absurd cc
         by made lt (Some k) at e =
-            let a = and_parts (args_fit (names made) defer k.params.items args.items && one_of k.parallel false true) _ e in
-            let b = and_parts (args_fit (names made) defer k.params.items args.items) (one_of k.parallel false true) a.0 in
+            let a = and_parts (args_fit (names made) defer k.params.items asked.args.items && one_of k.parallel false true) _ e in
+            let b = and_parts (args_fit (names made) defer k.params.items asked.args.items) (one_of k.parallel false true) a.0 in
             let c = and_parts (defer_fits (names made) k defer) _ a.1 in
             let f = and_parts (uses (names made) list (kind.List ∷ []) && batch_fits batch) (guard_fits k) c.0 in
             let u = and_parts (uses (names made) list (kind.List ∷ [])) (batch_fits batch) f.0 in
             let s = and_parts (nat_le 1 batch) (up_to MOST_INDEXES batch) u.1 in
-            let d = and_parts _ (all_used (names made) after.items) c.1 in
-            let below = args_below made k.params.items args.items b.0 in
-            let checked = step.accepted.kernels kernel k at in
+            let d = and_parts _ (all_used (names made) asked.after.items) c.1 in
+            let below = args_below made k.params.items asked.args.items b.0 in
+            let checked = step.accepted.kernels asked.kernel k at in
             let few = leb-true (length k.params.items) MOST_PARAMS checked.count in
             record {
               source = k;
@@ -98,13 +100,13 @@ module _ (script : Script) (table : Table) (n line : ℕ) (auto : Bool) (handle 
               each = below.0;
               few = (let e = below.0 in omega arith);
               below = below.1;
-              after_below = all_below_names made after.items d.1;
+              after_below = all_below_names made asked.after.items d.1;
             }
 
 -- there is no cut beside a `defer`
-module _ (script : Script) (table : Table) (n line : ℕ) (auto : Bool) (handle kernel : ℕ) (args : Vec Arg Global) (cut : Option (ℕ × ℕ)) (defer : ℕ × ℕ) (waive after : Vec ℕ Global) where
+module _ (script : Script) (table : Table) (n line : ℕ) (home : Box NewJob Global) (asked : NewJob) (cut : Option (ℕ × ℕ)) (defer : ℕ × ℕ) where
   abbrev y : Statement
-  y = record { line = line; act = Scheduled auto handle kernel args cut (Some defer) waive after }
+  y = record { line = line; act = Scheduled (in_box home (by_list asked cut defer)) }
 
   alone : (parallel : Bool) (cut : Option (ℕ × ℕ)) → one_of parallel (is_some cut) true ≡ true → cut ≡ None
   alone true None h = refl
@@ -115,11 +117,11 @@ module _ (script : Script) (table : Table) (n line : ℕ) (auto : Bool) (handle 
   pub uncut : IsStep script table n y → cut ≡ None
   uncut step =
       let fit = fits_at script table n y step in
-      by (record { kinds = step.accepted.kinds; made = fit.made }) (slice_get script.kernels.items kernel)
-      (and_parts (makes (record { kinds = step.accepted.kinds; made = fit.made }) handle kind.Handle) (schedule_fits (record { kinds = step.accepted.kinds; made = fit.made }) (slice_get script.kernels.items kernel) args.items cut (Some defer) waive.items after.items) fit.fits).1
+      by (record { kinds = step.accepted.kinds; made = fit.made }) (slice_get script.kernels.items asked.kernel)
+      (and_parts (makes (record { kinds = step.accepted.kinds; made = fit.made }) asked.handle kind.Handle) (schedule_fits (record { kinds = step.accepted.kinds; made = fit.made }) (slice_get script.kernels.items asked.kernel) asked.args.items cut (Some defer) asked.waive.items asked.after.items) fit.fits).1
     where
-      by : (ns : Names) (o : Option Kernel) → schedule_fits ns o args.items cut (Some defer) waive.items after.items ≡ true → cut ≡ None
+      by : (ns : Names) (o : Option Kernel) → schedule_fits ns o asked.args.items cut (Some defer) asked.waive.items asked.after.items ≡ true → cut ≡ None
       by ns None e = absurd cc
       by ns (Some k) e =
-          let a = and_parts (args_fit ns (Some defer) k.params.items args.items && one_of k.parallel (is_some cut) true) _ e in
-          alone k.parallel cut (and_parts (args_fit ns (Some defer) k.params.items args.items) (one_of k.parallel (is_some cut) true) a.0).1
+          let a = and_parts (args_fit ns (Some defer) k.params.items asked.args.items && one_of k.parallel (is_some cut) true) _ e in
+          alone k.parallel cut (and_parts (args_fit ns (Some defer) k.params.items asked.args.items) (one_of k.parallel (is_some cut) true) a.0).1

@@ -1,6 +1,6 @@
 -- Starting: after an accepted schedule the planner that scheduled its job stands for the state of the script.
 use Rattle.std.proofs.Common.{◌≡◌, ⊎_elim, ℕ, zero, suc, ◌+◌, ◌<◌, ◌≤◌, Bool, true, false, ◌&&◌, ◌||◌, eq-eqb, ne_eqb, List, [], ◌∷◌, ◌++◌, length, take, Option, Some, None, refl, sym, ap, subst, ◌∙◌, arith, append-nil, append_assoc}
-use Rattle.std.specs.Prelude.{Vec, nat_eq, slice_get, if◌then◌else◌}
+use Rattle.std.specs.Prelude.{Box, Vec, nat_eq, slice_get, if◌then◌else◌}
 use Rattle.std.specs.declared.alloc.Global.{Global}
 use Rattle.std.proofs.lemmas.List.{length-append, length-take}
 use Rattle.std.proofs.lemmas.Bool.{or_cases, and_parts, eqb-true}
@@ -8,7 +8,6 @@ use Rattle.batch_cut.specs.Cuts.{step_of}
 use Rattle.job_base.specs.declared.limits.TheConstants.{MOST_STATEMENTS}
 use Rattle.frame_ast.specs.declared.kernel.Kernel.{Kernel}
 use Rattle.frame_ast.specs.declared.kernel.Param.{Param}
-use Rattle.frame_ast.specs.declared.script.Arg.{Arg}
 use Rattle.frame_ast.specs.declared.script.Script.{Script}
 use Rattle.frame_ast.specs.declared.script.Statement.{Statement}
 use Rattle.frame_ast.specs.Checked.{IsChecked}
@@ -17,12 +16,12 @@ use Rattle.frame_ast.specs.Conflicts.{blocking, uses_it, with_uses}
 use Rattle.frame_ast.specs.Fitting.{ArgsFit}
 use Rattle.frame_ast.specs.Jobs.{Jobs, only, with_job}
 use Rattle.frame_ast.specs.Laws.{IsKnown, AreUpTo}
-use Rattle.frame_ast.specs.Orders.{Table, Setting, setting, kernel_params, kernel_parallel, params_of, is_parallel}
-use Rattle.frame_ast.specs.Refusals.{jobs_named, schedule_refusal}
+use Rattle.frame_ast.specs.Orders.{Table, Setting, setting, kernel_params, params_of, is_parallel}
+use Rattle.frame_ast.specs.Refusals.{jobs_named}
 use Rattle.frame_ast.specs.Ranges.{Starts}
 use Rattle.frame_ast.specs.Schedules.{Given, given_args, givens, widths_from}
 use Rattle.frame_ast.specs.States as states
-use Rattle.frame_ast.specs.States.{ScriptState, with_at}
+use Rattle.frame_ast.specs.States.{ScriptState}
 use Rattle.frame_ast.proofs.Breaking.{view_numbers_are_few}
 use Rattle.frame_ast.proofs.Scheduled.{no_cause_given}
 use Rattle.frame_ast.proofs.Unshared.{written_arguments_are_unshared}
@@ -45,7 +44,7 @@ use Rattle.frame_plan.specs.declared.uses.NamedUse.{NamedUse}
 use Rattle.frame_plan.specs.Noting.{noted_all}
 use Rattle.frame_plan.specs.Stands.{AreKernels, AreNames, IsCopy, Agrees, Stands, draft_of}
 use Rattle.frame_plan.specs.Growth.{StartAs, IsJobOf, is_none}
-use Rattle.frame_plan.specs.Starting.{IsCopied, IsCopiedAnew, IsScheduled, numbers_by}
+use Rattle.frame_plan.specs.Starting.{IsCopied, IsCopiedAnew, IsScheduled, numbers_by, undeferred}
 use Rattle.frame_plan.specs.Steps.{state_at, IsStep, StandsAt, HasStepped}
 use Rattle.frame_plan.specs.Uses.{ForNames, IsUse}
 use Rattle.frame_plan.proofs.Arguments.{args_are, same_args_fit, same_job_binds}
@@ -60,8 +59,9 @@ use Rattle.frame_plan.proofs.Notes.{needs, folded, folded_view, folded_stands, u
 use Rattle.frame_plan.proofs.Scheduled.{bind_by_form, accepted_is, left, left_view, unpending, unblocked, deps_up, numbers_are, indexes_are, no_cut}
 use Rattle.frame_plan.proofs.ScheduleGrown as growing
 use Rattle.frame_plan.proofs.ScheduleGrown.{none_waived}
-use Rattle.frame_plan.proofs.ScheduleText.{IsText, EachBelow, each_lower}
+use Rattle.frame_plan.proofs.ScheduleText.{IsText, each_lower}
 use Rattle.frame_plan.proofs.Slots.{noted_live, noted_version, noted_folded}
+use Rattle.frame_ast.specs.declared.script.NewJob.{NewJob}
 
 -- ---- the kernel's copy
 
@@ -174,7 +174,7 @@ module _ (script : Script) (g : Setting) (is_g : g.kernels ≡ script.kernels.it
 
 -- ---- the job
 
-module _ (script : Script) (table : Table) (begun : ScriptState) (n : ℕ) (found : List ℕ) (line : ℕ) (auto : Bool) (handle kernel : ℕ) (args : Vec Arg Global) (cut : Option (ℕ × ℕ)) (waive after : Vec ℕ Global) where
+module _ (script : Script) (table : Table) (begun : ScriptState) (n : ℕ) (found : List ℕ) (line : ℕ) (home : Box NewJob Global) (asked : NewJob) where
   abbrev g : Setting
   g = setting script table
 
@@ -182,16 +182,16 @@ module _ (script : Script) (table : Table) (begun : ScriptState) (n : ℕ) (foun
   s = state_at script table n
 
   abbrev x : Statement
-  x = Rattle.frame_plan.proofs.ScheduleText.x script table n line auto handle kernel args cut waive after
+  x = Rattle.frame_plan.proofs.ScheduleText.x script table n line home asked
 
   abbrev pub o : Schedule
-  o = record { auto = auto; handle = handle; kernel = kernel; args = args.items; cut = cut; waive = waive.items; after = after.items }
+  o = record { auto = asked.auto; handle = asked.handle; kernel = asked.kernel; args = asked.args.items; cut = asked.cut; waive = asked.waive.items; after = asked.after.items }
 
   abbrev t : ScriptState
   t = accepted g s o
 
-  module _ (step : IsStep script table n x) (text : IsText script table n line auto handle kernel args cut waive after step) (p : Planner) (st : StandsAt p script table begun n found)
-      (uses : List NamedUse) (named : Jobs) (are : ForNames (IsUse p named) text.source.params.items args.items uses) (none : refusal g s x.act ≡ None) where
+  module _ (step : IsStep script table n x) (text : IsText script table n line home asked step) (p : Planner) (st : StandsAt p script table begun n found)
+      (uses : List NamedUse) (named : Jobs) (are : ForNames (IsUse p named) text.source.params.items asked.args.items uses) (none : refusal g s x.act ≡ None) where
     accepted_as : IsAcceptedSchedule g s o
     accepted_as = (schedules_are_accepted script step.accepted table n x o step.here refl none).is_accepted
 
@@ -199,20 +199,20 @@ module _ (script : Script) (table : Table) (begun : ScriptState) (n : ℕ) (foun
     ps = text.source.params.items
 
     abbrev gs : List Given
-    gs = given_args s ps args.items
+    gs = given_args s ps asked.args.items
 
-    pub gives_are : givens s (params_of g kernel) args.items None ≡ gs
-    gives_are = ap (λ k. given_args s (kernel_params k) args.items ++ []) text.has ∙ append-nil gs
+    pub gives_are : givens s (params_of g asked.kernel) asked.args.items None ≡ gs
+    gives_are = ap (λ k. given_args s (kernel_params k) asked.args.items ++ []) text.has ∙ append-nil gs
 
     meant : AreMeant p s named uses gs
-    meant = uses_meant p g begun n s found st named ps args.items uses are
+    meant = uses_meant p g begun n s found st named ps asked.args.items uses are
 
     pub alive : AreAlive s gs
-    alive = subst (AreAlive s) gives_are (all_alive s _ (no_cause_given s (is_parallel g kernel) auto (givens s (params_of g kernel) args.items None) after.items none).alive)
+    alive = subst (AreAlive s) gives_are (all_alive s _ (no_cause_given s (is_parallel g asked.kernel) asked.auto (givens s (params_of g asked.kernel) asked.args.items None) asked.after.items none).alive)
 
     apart : AreApart gs
-    apart = args_apart s ps args.items (written_arguments_are_unshared s ps args.items None (subst (λ gs. Rattle.frame_ast.specs.Schedules.first_alias [] gs ≡ None) (ap (λ k. given_args s (kernel_params k) args.items ++ []) text.has)
-        (no_cause_given s (is_parallel g kernel) auto (givens s (params_of g kernel) args.items None) after.items none).alias))
+    apart = args_apart s ps asked.args.items (written_arguments_are_unshared s ps asked.args.items None (subst (λ gs. Rattle.frame_ast.specs.Schedules.first_alias [] gs ≡ None) (ap (λ k. given_args s (kernel_params k) asked.args.items ++ []) text.has)
+        (no_cause_given s (is_parallel g asked.kernel) asked.auto (givens s (params_of g asked.kernel) asked.args.items None) asked.after.items none).alias))
 
     few : (c : ℕ) → s.view c < MOST_STATEMENTS
     few c =
@@ -242,17 +242,17 @@ module _ (script : Script) (table : Table) (begun : ScriptState) (n : ℕ) (foun
     abbrev waited : Jobs
     waited = deps_of g s o
 
-    unpended : (if auto then None else Rattle.frame_ast.specs.Refusals.pending s (jobs_named s after.items) (needs (givens s (params_of g kernel) args.items None))) ≡ None
-    unpended = unpending s (is_parallel g kernel) auto (givens s (params_of g kernel) args.items None) after.items none
+    unpended : (if asked.auto then None else Rattle.frame_ast.specs.Refusals.pending s (jobs_named s asked.after.items) (needs (givens s (params_of g asked.kernel) asked.args.items None))) ≡ None
+    unpended = unpending s (is_parallel g asked.kernel) asked.auto (givens s (params_of g asked.kernel) asked.args.items None) asked.after.items none
 
     open_ : (j : ℕ) → 0 < j → j ≤ s.book.count → blocking s.book s.uses waited (needs gs) j ≡ false
     open_ j above le = subst (λ gs. blocking s.book s.uses waited (needs gs) j ≡ false) gives_are
-        (unblocked s st.known auto after.items (needs (givens s (params_of g kernel) args.items None)) unpended j above le)
+        (unblocked s st.known asked.auto asked.after.items (needs (givens s (params_of g asked.kernel) asked.args.items None)) unpended j above le)
 
     pub waited_up : AreUpTo s.book.count waited
-    waited_up = deps_up s st.known auto after.items (needs (givens s (params_of g kernel) args.items None)) unpended
+    waited_up = deps_up s st.known asked.auto asked.after.items (needs (givens s (params_of g asked.kernel) asked.args.items None)) unpended
 
-    module _ (new : Planner) (deps : Jobs) (deps_are : deps ≡ waited) (is : IsScheduled script p new handle kernel args.items cut waive.items uses deps) where
+    module _ (new : Planner) (deps : Jobs) (deps_are : deps ≡ waited) (is : IsScheduled script p new asked.handle asked.kernel asked.args.items asked.cut asked.waive.items uses deps) where
       abbrev middle : Planner
       middle = is.middle
 
@@ -275,11 +275,11 @@ module _ (script : Script) (table : Table) (begun : ScriptState) (n : ℕ) (foun
       source_same : is.source ≡ text.source
       source_same = some_is (sym is.is_source ∙ text.has)
 
-      copy : HasCopy script g refl p is.after middle kernel is.job.kernel st.kernels kept is.copied text.source text.has text.checked
-      copy = has_copy script g refl p is.after middle kernel is.job.kernel st.kernels kept is.copied text.source text.has text.checked
+      copy : HasCopy script g refl p is.after middle asked.kernel is.job.kernel st.kernels kept is.copied text.source text.has text.checked
+      copy = has_copy script g refl p is.after middle asked.kernel is.job.kernel st.kernels kept is.copied text.source text.has text.checked
 
       middle_at : middle ≡ record is.after { kernels = middle.kernels; plan = record is.after.plan { kernels = middle.plan.kernels } }
-      middle_at = middle_is script g refl p is.after middle kernel is.job.kernel st.kernels kept is.copied text.source text.has text.checked
+      middle_at = middle_is script g refl p is.after middle asked.kernel is.job.kernel st.kernels kept is.copied text.source text.has text.checked
 
       -- the planners on the way, by what they changed
 
@@ -324,10 +324,10 @@ module _ (script : Script) (table : Table) (begun : ScriptState) (n : ℕ) (foun
       was : AreNames ended.values.items ended.handles.items (length p.containers.items) s
       was = subst (λ (k : Planner). AreNames k.values.items k.handles.items (length p.containers.items) s) (sym ended_as) st.names
 
-      named_at : IsNamed s t handle (states.Handle (only (count_of p.jobs + 1)))
+      named_at : IsNamed s t asked.handle (states.Handle (only (count_of p.jobs + 1)))
       named_at = record {
-        here = ap (λ b. if b then states.Handle (only (s.book.count + 1)) else s.values handle) (eq-eqb handle handle refl) ∙ ap (λ k. states.Handle (only k)) (sym number_is);
-        others = λ m ne. ap (λ b. if b then states.Handle (only (s.book.count + 1)) else s.values m) (ne_eqb m handle ne);
+        here = ap (λ b. if b then states.Handle (only (s.book.count + 1)) else s.values asked.handle) (eq-eqb asked.handle asked.handle refl) ∙ ap (λ k. states.Handle (only k)) (sym number_is);
+        others = λ m ne. ap (λ b. if b then states.Handle (only (s.book.count + 1)) else s.values m) (ne_eqb m asked.handle ne);
       }
 
       -- the safety book
@@ -410,7 +410,7 @@ module _ (script : Script) (table : Table) (begun : ScriptState) (n : ℕ) (foun
       agrees_back y a = record {
         begins = a.begins;
         names = a.names;
-        kernels = kernels_later script g refl p is.after middle kernel is.job.kernel st.kernels kept is.copied text.source text.has text.checked y.plan.kernels.items a.kernels;
+        kernels = kernels_later script g refl p is.after middle asked.kernel is.job.kernel st.kernels kept is.copied text.source text.has text.checked y.plan.kernels.items a.kernels;
         literals = a.literals;
         jobs = (is.job ∷ a.jobs.0, a.jobs.1 ∙ ap (λ js. js ++ a.jobs.0) jobs_are ∙ append_assoc p.plan.jobs.items (is.job ∷ []) a.jobs.0);
         starts = a.starts;
@@ -418,21 +418,21 @@ module _ (script : Script) (table : Table) (begun : ScriptState) (n : ℕ) (foun
         small = a.small;
       }
 
-      below : kernel < length g.kernels
-      below = get_below g.kernels kernel text.source text.has
+      below : asked.kernel < length g.kernels
+      below = get_below g.kernels asked.kernel text.source text.has
 
       -- the setting with the copy
       abbrev h : Setting
-      h = copying.h g s auto handle kernel args cut waive after text.source copy.copy text.has below copy.same
+      h = copying.h g s home asked text.source copy.copy text.has below copy.same
 
       planned_job : (y : Outline) → Agrees q g begun found y → IsPlannedJob y s (draft_of p) o copy.copy (deps_of h s o) is.job
       planned_job y a =
           let back = agrees_back y a in
           let was = st.planned y back in
           let before : p.jobs_before ≡ jobs_before y = st.numbers.before ∙ ap (λ (b : ScriptState). b.book.count) (sym a.begins) in
-          let waits : deps ≡ deps_of h s o = deps_are ∙ copying.new_deps g s auto handle kernel args cut waive after text.source copy.copy text.has below copy.same in
-          let fit = same_args_fit s ps copy.copy.params.items args.items copy.same.params (subst (λ k. ArgsFit s None (kernel_params k) args.items) text.has accepted_as.args_fit) in
-          let names_below = each_lower (length g.names) (length p.values.items) (let e = st.each in omega arith) args.items text.below in
+          let waits : deps ≡ deps_of h s o = deps_are ∙ copying.new_deps g s home asked text.source copy.copy text.has below copy.same in
+          let fit = same_args_fit s ps copy.copy.params.items asked.args.items copy.same.params (subst (λ k. ArgsFit s None (kernel_params k) asked.args.items) text.has accepted_as.args_fit) in
+          let names_below = each_lower (length g.names) (length p.values.items) (let e = st.each in omega arith) asked.args.items text.below in
           let parallel = copy.same.parallel in
           record {
             jobs_later = a.jobs.0;
@@ -445,17 +445,17 @@ module _ (script : Script) (table : Table) (begun : ScriptState) (n : ℕ) (foun
             first = is.first ∙ ap (λ (k : Planner). k.plan.pieces) middle_as ∙ st.numbers.pieces;
             binds =
                 is.binds
-                ∙ ap (λ (k : Kernel). Rattle.frame_plan.specs.JobBinds.job_binds p k.parallel waive.items 0 k.params.items args.items) source_same
-                ∙ same_job_binds p text.source.parallel waive.items 0 ps copy.copy.params.items args.items copy.same.params
-                ∙ ap (λ b. Rattle.frame_plan.specs.JobBinds.job_binds p b waive.items 0 copy.copy.params.items args.items) parallel
-                ∙ args_are p g begun n s found st y back copy.copy.parallel waive.items 0 copy.copy.params.items args.items names_below fit;
-            indexes = is.cut_by.indexes ∙ indexes_are s text.source.parallel cut text.one ∙ ap (λ b. Rattle.frame_ast.specs.JobRuns.executes b (Rattle.frame_ast.specs.Orders.job_length s cut None)) parallel;
+                ∙ ap (λ (k : Kernel). Rattle.frame_plan.specs.JobBinds.job_binds p k.parallel asked.waive.items 0 k.params.items asked.args.items) source_same
+                ∙ same_job_binds p text.source.parallel asked.waive.items 0 ps copy.copy.params.items asked.args.items copy.same.params
+                ∙ ap (λ b. Rattle.frame_plan.specs.JobBinds.job_binds p b asked.waive.items 0 copy.copy.params.items asked.args.items) parallel
+                ∙ args_are p g begun n s found st y back copy.copy.parallel asked.waive.items 0 copy.copy.params.items asked.args.items names_below fit;
+            indexes = is.cut_by.indexes ∙ indexes_are s text.source.parallel asked.cut text.one ∙ ap (λ b. Rattle.frame_ast.specs.JobRuns.executes b (Rattle.frame_ast.specs.Orders.job_length s asked.cut None)) parallel;
             cut = record { step = is.cut_by.steps; pieces = is.cut_by.pieces; indexes = is.cut_by.few };
             one = λ seq.
-                let none = no_cut text.source.parallel cut text.one (parallel ∙ seq) in
+                let none = no_cut text.source.parallel asked.cut text.one (parallel ∙ seq) in
                 (is.cut_by.indexes ∙ ap (λ c. (numbers_by c).0) none, is.cut_by.step ∙ ap (λ c. step_of (numbers_by c).0 (numbers_by c).1) none);
-            parallel = λ par. (let both = and_parts is.source.parallel (is_none waive.items) (sym is.parallel ∙ par) in
-                (sym parallel ∙ ap (λ (k : Kernel). k.parallel) (sym source_same) ∙ both.0, none_waived waive.items both.1));
+            parallel = λ par. (let both = and_parts is.source.parallel (is_none asked.waive.items) (sym is.parallel ∙ par) in
+                (sym parallel ∙ ap (λ (k : Kernel). k.parallel) (sym source_same) ∙ both.0, none_waived asked.waive.items both.1));
             known_deps = (
               is.later_are.within.0,
               λ k d lt.
@@ -469,10 +469,10 @@ module _ (script : Script) (table : Table) (begun : ScriptState) (n : ℕ) (foun
           }
 
       planned : (y : Outline) → Agrees q g begun found y → IsPlanned y t (draft_of q)
-      planned y a = subst (λ u. IsPlanned y u (draft_of q)) (sym (copying.new_accepted g s auto handle kernel args cut waive after text.source copy.copy text.has below copy.same))
+      planned y a = subst (λ u. IsPlanned y u (draft_of q)) (sym (copying.new_accepted g s home asked text.source copy.copy text.has below copy.same))
           (schedules_are_planned y h s o copy.copy (draft_of p) (draft_of q) is.started.segment is.job a.small st.known (st.planned y (agrees_back y a))
-          (copying.new_is_accepted g s auto handle kernel args cut waive after text.source copy.copy text.has below copy.same accepted_as)
-          (copying.has_new g s auto handle kernel args cut waive after text.source copy.copy text.has below copy.same)
+          (copying.new_is_accepted g s home asked text.source copy.copy text.has below copy.same accepted_as)
+          (copying.has_new g s home asked text.source copy.copy text.has below copy.same)
           (planned_job y a)
           starts_next
           closes)
@@ -486,7 +486,7 @@ module _ (script : Script) (table : Table) (begun : ScriptState) (n : ℕ) (foun
 
       grown_handles : length new.handles.items ≤ suc (length p.handles.items)
       grown_handles =
-          let more = (handles_more ended new (length p.containers.items) s t handle (only (count_of p.jobs + 1)) was is.named named_at).1 in
+          let more = (handles_more ended new (length p.containers.items) s t asked.handle (only (count_of p.jobs + 1)) was is.named named_at).1 in
           let same : length ended.handles.items ≡ length p.handles.items = ap (λ (k : Planner). length k.handles.items) ended_as in
           omega arith
 
@@ -494,8 +494,8 @@ module _ (script : Script) (table : Table) (begun : ScriptState) (n : ℕ) (foun
           t.values t.contents t.view t.uses waited t.traps is.started.segment is.job
       with_job_is = record {
         known = subst IsKnown acted (known_after script table n x step);
-        named = subst (AreNames new.values.items new.handles.items (length p.containers.items)) (accepted_is g s o) (handle_names ended new (length p.containers.items) s t handle (only (count_of p.jobs + 1)) was is.named named_at);
-        values_long = ap length is.named.values ∙ set_long ended.values.items handle _ ∙ ap (λ (k : Planner). length k.values.items) ended_as;
+        named = subst (AreNames new.values.items new.handles.items (length p.containers.items)) (accepted_is g s o) (handle_names ended new (length p.containers.items) s t asked.handle (only (count_of p.jobs + 1)) was is.named named_at);
+        values_long = ap length is.named.values ∙ set_long ended.values.items asked.handle _ ∙ ap (λ (k : Planner). length k.values.items) ended_as;
         handles_few = grown_handles;
         form = λ c start lt. bind_by_form start (t.contents c) (s.contents c) (accepted_as.forms c lt);
         lives = λ k. ap (λ (z : SlotState). z.live) (is.safety k) ∙ noted_live (count_of p.jobs + 1) uses (state_of p.safety) k;
@@ -505,8 +505,8 @@ module _ (script : Script) (table : Table) (begun : ScriptState) (n : ℕ) (foun
         unused = unused;
         held = held;
         book = subst (λ d. StandsFor is.after.jobs (with_job s.book d)) deps_are (is.jobs s.book st.jobs);
-        kernels_are = kernels_stand script g refl p is.after middle kernel is.job.kernel st.kernels kept is.copied text.source text.has text.checked q refl refl refl;
-        copies_few = copies_few script g refl p is.after middle kernel is.job.kernel st.kernels kept is.copied text.source text.has text.checked;
+        kernels_are = kernels_stand script g refl p is.after middle asked.kernel is.job.kernel st.kernels kept is.copied text.source text.has text.checked q refl refl refl;
+        copies_few = copies_few script g refl p is.after middle asked.kernel is.job.kernel st.kernels kept is.copied text.source text.has text.checked;
         segments_are = segments_are;
         ops_were = ops_were;
         ops_are = is.started.ops;
@@ -521,30 +521,30 @@ module _ (script : Script) (table : Table) (begun : ScriptState) (n : ℕ) (foun
       kernels_now = ap (λ (k : Planner). k.plan.kernels.items) new_as
 
       module _ (starts : Starts) (as_found : StartAs starts found) where
-        binds_now : is.job.binds.items ≡ binds_by starts s ps (widths_from text.source.parallel waive.items 0 ps) args.items
+        binds_now : is.job.binds.items ≡ binds_by starts s ps (widths_from text.source.parallel asked.waive.items 0 ps) asked.args.items
         binds_now =
             is.binds
-            ∙ ap (λ (k : Kernel). Rattle.frame_plan.specs.JobBinds.job_binds p k.parallel waive.items 0 k.params.items args.items) source_same
+            ∙ ap (λ (k : Kernel). Rattle.frame_plan.specs.JobBinds.job_binds p k.parallel asked.waive.items 0 k.params.items asked.args.items) source_same
             ∙ args_are p g begun n s found st (growing.outline_by p script table begun n s found st starts) (growing.agrees_by p script table begun n s found st starts as_found)
-            text.source.parallel waive.items 0 ps args.items
-            (each_lower (length g.names) (length p.values.items) (let e = st.each in omega arith) args.items text.below)
-            (subst (λ k. ArgsFit s None (kernel_params k) args.items) text.has accepted_as.args_fit)
+            text.source.parallel asked.waive.items 0 ps asked.args.items
+            (each_lower (length g.names) (length p.values.items) (let e = st.each in omega arith) asked.args.items text.below)
+            (subst (λ k. ArgsFit s None (kernel_params k) asked.args.items) text.has accepted_as.args_fit)
 
-        job_is : IsJobOf g starts begun.book.count s waited kernel args.items cut None waive.items new.plan.kernels.items is.job
+        job_is : IsJobOf g starts begun.book.count s waited asked.kernel asked.args.items asked.cut None asked.waive.items new.plan.kernels.items is.job
         job_is = record {
           source = text.source;
           is_source = text.has;
           copy = copy.copy;
           is_copy = ap (λ ks. slice_get ks is.job.kernel) kernels_now ∙ copy.here;
           copied = copy.same;
-          binds = binds_now ∙ sym (append-nil (binds_by starts s ps (widths_from text.source.parallel waive.items 0 ps) args.items));
-          indexes = is.cut_by.indexes ∙ ap (λ (c : ℕ × ℕ). c.0) (numbers_are s cut);
-          step = is.cut_by.step ∙ ap (λ (c : ℕ × ℕ). step_of c.0 c.1) (numbers_are s cut);
-          parallel = is.parallel ∙ ap (λ (k : Kernel). k.parallel && is_none waive.items) source_same;
+          binds = binds_now ∙ sym (append-nil (binds_by starts s ps (widths_from text.source.parallel asked.waive.items 0 ps) asked.args.items));
+          indexes = is.cut_by.indexes ∙ ap (λ (c : ℕ × ℕ). c.0) (numbers_are s asked.cut);
+          step = is.cut_by.step ∙ ap (λ (c : ℕ × ℕ). step_of c.0 c.1) (numbers_are s asked.cut);
+          parallel = is.parallel ∙ ap (λ (k : Kernel). k.parallel && is_none asked.waive.items) source_same;
           deps = λ j. is.later_are.are j ∙ (λ i. later (st.numbers.before i) (deps_are i) j);
         }
 
-      has_started : growing.HasStarted script table begun n found line auto handle kernel args cut None waive after p new is.started.segment is.job waited
+      has_started : growing.HasStarted script table begun n found line home (undeferred asked) p new is.started.segment is.job waited
       has_started = record {
         store = ap (λ (k : Planner). k.store) new_as;
         segments = ap (λ (k : Planner). k.plan.segments.items) new_as ∙ segments_are;
@@ -554,14 +554,14 @@ module _ (script : Script) (table : Table) (begun : ScriptState) (n : ℕ) (foun
         waits = ap (λ (k : Planner). k.plan.waits.items) new_as ∙ is.started.waits;
         ops = ap (λ (k : Planner). k.plan.ops.items) new_as ∙ is.started.ops;
         jobs = ap (λ (k : Planner). k.plan.jobs.items) new_as ∙ jobs_are;
-        kernels = kernels_later script g refl p is.after middle kernel is.job.kernel st.kernels kept is.copied text.source text.has text.checked new.plan.kernels.items
+        kernels = kernels_later script g refl p is.after middle asked.kernel is.job.kernel st.kernels kept is.copied text.source text.has text.checked new.plan.kernels.items
             ([], kernels_now ∙ sym (append-nil middle.plan.kernels.items));
         book = ap (λ (u : ScriptState). u.book) acted;
         job_is = job_is;
       }
 
       pub goes_on : HasStepped script table begun n found p new x
-      goes_on = growing.stepped script table begun n found line auto handle kernel args cut None waive after p new step none st is.started.segment is.job waited has_started
+      goes_on = growing.stepped script table begun n found line home (undeferred asked) p new step none st is.started.segment is.job waited has_started
           (subst (λ u. Stands new g begun (suc n) u found) (sym acted)
           (subst (λ k. Stands k g begun (suc n) as_t found) (sym new_as)
           (newly.with_job_stands p g begun n s found st new.values new.handles is.after.jobs is.after.safety middle.kernels p.guards middle.plan.kernels ended.plan.segments ended.plan.jobs ended.plan.waits ended.plan.ops ended.plan.pieces

@@ -129,9 +129,9 @@ module _ (script : Script) (table : Table) (starts : Starts) where
 
     unless_later : (deps : Jobs) (a : Order) (o : Option Refused) → SchedulesUnless g starts before s deps a o kernels (slice_get jobs k)
         → SchedulesUnless g starts before s deps a o (kernels ++ more) (slice_get (jobs ++ later) k)
-    unless_later deps (Schedule auto handle kernel args cut defer waive after) None h =
-        has_later before s deps kernel args.items cut defer waive.items kernels more jobs later k h
-    unless_later deps (Schedule auto handle kernel args cut defer waive after) (Some r) h = tt
+    unless_later deps (Schedule job) None h =
+        has_later before s deps job.value.kernel job.value.args.items job.value.cut job.value.defer job.value.waive.items kernels more jobs later k h
+    unless_later deps (Schedule job) (Some r) h = tt
     unless_later deps a o h = tt
 
     schedules_later : (deps : Jobs) (passing : ℕ) → Schedules g starts before s deps passing x.act kernels (slice_get jobs k)
@@ -140,8 +140,8 @@ module _ (script : Script) (table : Table) (starts : Starts) where
     schedules_later deps (suc n) h = tt
 
     awaits_unless_later : (a : Order) (o : Option Refused) → AwaitsUnless before s a o segments → AwaitsUnless before s a o (segments ++ rest)
-    awaits_unless_later (Schedule auto handle kernel args cut defer waive after) None h = started_later segments rest (suc k) before s.book.completed h
-    awaits_unless_later (Schedule auto handle kernel args cut defer waive after) (Some r) h = tt
+    awaits_unless_later (Schedule job) None h = started_later segments rest (suc k) before s.book.completed h
+    awaits_unless_later (Schedule job) (Some r) h = tt
     awaits_unless_later a o h = tt
 
     awaits_later : (passing : ℕ) → Awaits g before s passing x.act segments → Awaits g before s passing x.act (segments ++ rest)

@@ -59,6 +59,7 @@ pub mod Reporting
 pub mod Restating
 pub mod Resuming
 pub mod Rooms
+pub mod ScheduleForms
 pub mod ScheduleGrown
 pub mod ScheduleReady
 pub mod ScheduleText

@@ -84,9 +84,9 @@ effect_makes g keep line ns rest inside s (Put name key value) fits k = inl (cha
 effect_makes g keep line ns rest inside s (Remove name at) fits k = inl (resized_made name _ s)
 effect_makes g keep line ns rest inside s (Clear name) fits k = inl (resized_made name (Ok (cleared (contents_at s name))) s)
 effect_makes g keep line ns rest inside s (SetCapacity name cap) fits k = inl (resized_made name (capacity_in (contents_at s name) cap) s)
-effect_makes g keep line ns rest inside s (Schedule auto handle kernel args cut defer waive after) fits k =
-    let both = and_parts (makes ns handle kind.Handle) _ fits in
-    inl (accept_after g keep ns s auto handle kernel args.items cut defer waive.items after.items (args_of ns (slice_get g.kernels kernel) args.items cut defer waive.items after.items both.1) k).made
+effect_makes g keep line ns rest inside s (Schedule job) fits k =
+    let both = and_parts (makes ns job.value.handle kind.Handle) _ fits in
+    inl (accept_after g keep ns s job.value.auto job.value.handle job.value.kernel job.value.args.items job.value.cut job.value.defer job.value.waive.items job.value.after.items (args_of ns (slice_get g.kernels job.value.kernel) job.value.args.items job.value.cut job.value.defer job.value.waive.items job.value.after.items both.1) k).made
 effect_makes g keep line ns rest inside s (Dispose name after None) fits k = inl refl
 effect_makes g keep line ns rest inside s (Dispose name after (Some handle)) fits k = inl refl
 effect_makes g keep line ns rest inside s x fits k = inl refl

@@ -76,7 +76,7 @@ waits_closed xs ys x waits now after e were is =
 -- WHO ADDS NOTHING
 
 abbrev pub IsNoSchedule : Order → Type 0
-IsNoSchedule (Schedule auto handle kernel args cut defer waive after) = ⊥
+IsNoSchedule (Schedule job) = ⊥
 IsNoSchedule _ = Unit {0}
 
 abbrev pub IsPlain : Setting → Order → Type 0
@@ -84,11 +84,11 @@ IsPlain g x = (takes_words g x ≡ None) × IsNoSchedule x
 
 module _ (g : Setting) (starts : Starts) (before : ℕ) (s : ScriptState) (deps : Jobs) (kernels : List Kernel) (place : Option JobPlan) where
   none_scheduled : (x : Order) (o : Option Refused) → IsNoSchedule x → SchedulesUnless g starts before s deps x o kernels place
-  none_scheduled (Schedule auto handle kernel args cut defer waive after) o h = absurd h
+  none_scheduled (Schedule job) o h = absurd h
   none_scheduled x o h = tt
 
   unscheduled : (x : Order) (r : Refused) → SchedulesUnless g starts before s deps x (Some r) kernels place
-  unscheduled (Schedule auto handle kernel args cut defer waive after) r = tt
+  unscheduled (Schedule job) r = tt
   unscheduled x r = tt
 
   pub plain_schedules : (x : Order) (k : ℕ) → IsNoSchedule x → Schedules g starts before s deps k x kernels place
@@ -102,11 +102,11 @@ module _ (g : Setting) (starts : Starts) (before : ℕ) (s : ScriptState) (deps 
 
 module _ (g : Setting) (before : ℕ) (s : ScriptState) (segments : List Segment) where
   none_awaited : (x : Order) (o : Option Refused) → IsNoSchedule x → AwaitsUnless before s x o segments
-  none_awaited (Schedule auto handle kernel args cut defer waive after) o h = absurd h
+  none_awaited (Schedule job) o h = absurd h
   none_awaited x o h = tt
 
   unawaited : (x : Order) (r : Refused) → AwaitsUnless before s x (Some r) segments
-  unawaited (Schedule auto handle kernel args cut defer waive after) r = tt
+  unawaited (Schedule job) r = tt
   unawaited x r = tt
 
   pub plain_awaits : (x : Order) (k : ℕ) → IsNoSchedule x → Awaits g before s k x segments

@@ -1,9 +1,8 @@
 -- What the plan grows by at an accepted schedule: the segment at hand is closed and starts the job of the schedule.
-use Rattle.std.proofs.Common.{◌≡◌, ℕ, suc, ◌+◌, ◌-◌, Bool, true, false, ◌&&◌, ◌||◌, eq-eqb, List, [], ◌∷◌, ◌++◌, length, Option, Some, None, refl, sym, ap, subst, ◌∙◌, arith, append-nil}
-use Rattle.std.specs.Prelude.{Vec, max, nat_eq, slice_get}
+use Rattle.std.proofs.Common.{◌≡◌, ℕ, suc, ◌+◌, ◌-◌, Bool, true, false, ◌&&◌, ◌||◌, eq-eqb, List, [], ◌∷◌, ◌++◌, length, Some, None, refl, sym, ap, subst, ◌∙◌, arith, append-nil}
+use Rattle.std.specs.Prelude.{Box, max, nat_eq, slice_get}
 use Rattle.std.specs.declared.alloc.Global.{Global}
 use Rattle.frame_ast.specs.declared.kernel.Kernel.{Kernel}
-use Rattle.frame_ast.specs.declared.script.Arg.{Arg}
 use Rattle.frame_ast.specs.declared.script.Order.TheVariants.{Schedule}
 use Rattle.frame_ast.specs.declared.script.Script.{Script}
 use Rattle.frame_ast.specs.declared.script.Statement.{Statement}
@@ -27,6 +26,8 @@ use Rattle.frame_plan.specs.Stands.{Agrees, Stands}
 use Rattle.frame_plan.specs.Steps.{state_at, IsStep, StandsAt, HasStepped}
 use Rattle.frame_plan.proofs.Outlining as outlining
 use Rattle.frame_plan.proofs.Quiet.{given_closed, plain_span, plain_takes, waits_closed}
+use Rattle.frame_ast.specs.declared.script.NewJob.{NewJob}
+use Rattle.frame_plan.specs.Starting.{in_box}
 
 -- ---- jobs
 
@@ -65,7 +66,7 @@ module _ (p : Planner) (script : Script) (table : Table) (begun : ScriptState) (
 
 -- ---- the statement
 
-module _ (script : Script) (table : Table) (begun : ScriptState) (n : ℕ) (found : List ℕ) (line : ℕ) (auto : Bool) (handle kernel : ℕ) (args : Vec Arg Global) (cut defer : Option (ℕ × ℕ)) (waive after : Vec ℕ Global) where
+module _ (script : Script) (table : Table) (begun : ScriptState) (n : ℕ) (found : List ℕ) (line : ℕ) (home : Box NewJob Global) (asked : NewJob) where
   abbrev g : Setting
   g = setting script table
 
@@ -73,7 +74,7 @@ module _ (script : Script) (table : Table) (begun : ScriptState) (n : ℕ) (foun
   s = state_at script table n
 
   abbrev pub x : Statement
-  x = record { line = line; act = Schedule auto handle kernel args cut defer waive after }
+  x = record { line = line; act = Schedule (in_box home asked) }
 
   module _ (p new : Planner) where
     -- The planner closed the segment at hand, and started a job that the schedule is to have.
@@ -90,7 +91,7 @@ module _ (script : Script) (table : Table) (begun : ScriptState) (n : ℕ) (foun
       pub book : (act g s x).book ≡ with_job s.book waited
       pub job_is : (starts : Starts)
           → StartAs starts found
-          → IsJobOf g starts begun.book.count s waited kernel args.items cut defer waive.items new.plan.kernels.items job
+          → IsJobOf g starts begun.book.count s waited asked.kernel asked.args.items asked.cut asked.defer asked.waive.items new.plan.kernels.items job
 
     module _ (step : IsStep script table n x) (none : refusal g s x.act ≡ None) (st : StandsAt p script table begun n found) (segment : Segment) (job : JobPlan) (waited : Jobs) (is : HasStarted segment job waited) where
       spans_stay : given_so_far new ≡ given_so_far p
@@ -108,11 +109,11 @@ module _ (script : Script) (table : Table) (begun : ScriptState) (n : ℕ) (foun
       set_is = ap (λ (b : Book). b.deps (suc s.book.count)) is.book ∙ new_set s.book st.known.book waited
 
       job_there : (starts : Starts) → StartAs starts found
-          → HasJobOf g starts begun.book.count s (deps_after g s x) kernel args.items cut defer waive.items new.plan.kernels.items
+          → HasJobOf g starts begun.book.count s (deps_after g s x) asked.kernel asked.args.items asked.cut asked.defer asked.waive.items new.plan.kernels.items
           (slice_get new.plan.jobs.items (s.book.count - begun.book.count))
       job_there starts h =
-          subst (λ o. HasJobOf g starts begun.book.count s (deps_after g s x) kernel args.items cut defer waive.items new.plan.kernels.items o) (sym at_place)
-          (subst (λ set. IsJobOf g starts begun.book.count s set kernel args.items cut defer waive.items new.plan.kernels.items job) (sym set_is) (is.job_is starts h))
+          subst (λ o. HasJobOf g starts begun.book.count s (deps_after g s x) asked.kernel asked.args.items asked.cut asked.defer asked.waive.items new.plan.kernels.items o) (sym at_place)
+          (subst (λ set. IsJobOf g starts begun.book.count s set asked.kernel asked.args.items asked.cut asked.defer asked.waive.items new.plan.kernels.items job) (sym set_is) (is.job_is starts h))
 
       schedules : (starts : Starts) → StartAs starts found
           → Schedules g starts begun.book.count s (deps_after g s x) s.passing x.act new.plan.kernels.items (slice_get new.plan.jobs.items (s.book.count - begun.book.count))

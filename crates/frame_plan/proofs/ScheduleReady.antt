@@ -1,6 +1,6 @@
 -- What the parts of a schedule need, before a schedule of an accepted script.
 use Rattle.std.proofs.Common.{◌≡◌, ◌≢◌, inr, ⊎_elim, ℕ, zero, suc, ◌+◌, ◌*◌, ◌<◌, ◌≤◌, ◌^◌, Bool, true, false, ◌&&◌, ◌||◌, List, [], ◌∷◌, ◌++◌, length, get_or, All, Option, Some, None, Result, Ok, Err, refl, sym, ap, subst, ◌∙◌, arith, append-nil}
-use Rattle.std.specs.Prelude.{IfErr, Vec, vec_len, nat_eq, nat_lt, slice_get, if◌then◌else◌}
+use Rattle.std.specs.Prelude.{IfErr, Box, vec_len, nat_eq, nat_lt, slice_get, if◌then◌else◌}
 use Rattle.std.specs.Int.{div_ceil}
 use Rattle.std.specs.declared.alloc.Global.{Global}
 use Rattle.std.proofs.lemmas.Grind.{div_ceil_times}
@@ -16,8 +16,8 @@ use Rattle.frame_ast.specs.Checks.{refusal}
 use Rattle.frame_ast.specs.Conflicts.{Uses, automatic}
 use Rattle.frame_ast.specs.Jobs.{Jobs, both, nobody}
 use Rattle.frame_ast.specs.Laws.{AreUpTo, AreUses}
-use Rattle.frame_ast.specs.Orders.{Setting, setting, kernel_params, kernel_parallel, params_of, is_parallel}
-use Rattle.frame_ast.specs.Refusals.{Refused, refused, jobs_named}
+use Rattle.frame_ast.specs.Orders.{Setting, setting, kernel_params, kernel_parallel}
+use Rattle.frame_ast.specs.Refusals.{refused, jobs_named}
 use Rattle.frame_ast.specs.declared.kernel.Param.{Param}
 use Rattle.frame_ast.specs.Schedules.{Given, given_args, givens, writes_to}
 use Rattle.frame_ast.specs.States.{ScriptState}
@@ -59,6 +59,7 @@ use Rattle.frame_plan.proofs.Reaching.{statements_few, within}
 use Rattle.frame_plan.proofs.Restating.{accepted_state, said_nobody}
 use Rattle.frame_plan.proofs.ScheduleText as texts
 use Rattle.frame_plan.proofs.ScheduleText.{IsText, all_below, each_lower}
+use Rattle.frame_ast.specs.declared.script.NewJob.{NewJob}
 
 pub if_err : {T E : Type 0} (r : Result T E) {P Q : E → Type 0} → ((e : E) → P e → Q e) → IfErr r P → IfErr r Q
 if_err (Ok x) f h = tt
@@ -140,9 +141,9 @@ pub no_cause : (o : Option Cause) → ((c : Cause) → o ≡ Some c → ⊥) →
 no_cause None h = refl
 no_cause (Some c) h = absurd (h c refl)
 
-module _ (script : Script) (p : Planner) (line : ℕ) (auto : Bool) (handle kernel : ℕ) (args : Vec Arg Global) (cut : Option (ℕ × ℕ)) (waive after : Vec ℕ Global) where
+module _ (script : Script) (p : Planner) (line : ℕ) (home : Box NewJob Global) (asked : NewJob) where
   abbrev pub x : Statement
-  x = texts.x script (λ c. None) 0 line auto handle kernel args cut waive after
+  x = texts.x script (λ c. None) 0 line home asked
 
   module _ (table : Rattle.frame_ast.specs.Orders.Table) (begun : ScriptState) (n : ℕ) (found : List ℕ) (step : IsStep script table n x) (st : StandsAt p script table begun n found) where
     abbrev g : Setting
@@ -151,21 +152,21 @@ module _ (script : Script) (p : Planner) (line : ℕ) (auto : Bool) (handle kern
     abbrev s : ScriptState
     s = state_at script table n
 
-    pub text : IsText script table n line auto handle kernel args cut waive after step
-    text = texts.text script table n line auto handle kernel args cut waive after step
+    pub text : IsText script table n line home asked step
+    text = texts.text script table n line home asked step
 
-    pub kernel_below : kernel < vec_len script.kernels
-    kernel_below = let lt = get_below script.kernels.items kernel text.source text.has in let len = script.kernels.ok.0 in omega arith
+    pub kernel_below : asked.kernel < vec_len script.kernels
+    kernel_below = let lt = get_below script.kernels.items asked.kernel text.source text.has in let len = script.kernels.ok.0 in omega arith
 
-    pub source_at : (k : Kernel) → slice_get script.kernels.items kernel ≡ Some k → text.source ≡ k
+    pub source_at : (k : Kernel) → slice_get script.kernels.items asked.kernel ≡ Some k → text.source ≡ k
     source_at k h = some_is (sym text.has ∙ h)
 
-    pub names_below : (xs : List Arg) → xs ≡ args.items → AreNamesBelow (vec_len p.values) xs
+    pub names_below : (xs : List Arg) → xs ≡ asked.args.items → AreNamesBelow (vec_len p.values) xs
     names_below xs e = subst (AreNamesBelow (vec_len p.values)) (sym e)
-        (all_below (vec_len p.values) args.items (each_lower (length g.names) (vec_len p.values) (let each = st.each in let len = p.values.ok.0 in omega arith) args.items text.below))
+        (all_below (vec_len p.values) asked.args.items (each_lower (length g.names) (vec_len p.values) (let each = st.each in let len = p.values.ok.0 in omega arith) asked.args.items text.below))
 
-    pub handle_below : handle < vec_len p.values
-    handle_below = within p g begun n s found st handle text.handle_below
+    pub handle_below : asked.handle < vec_len p.values
+    handle_below = within p g begun n s found st asked.handle text.handle_below
 
     pub handles_low : vec_len p.handles < 2 ^ 32
     handles_low = let few = st.numbers.handles_few in let len = p.handles.ok.0 in let low = statements_few script table n x step in omega arith
@@ -176,16 +177,16 @@ module _ (script : Script) (p : Planner) (line : ℕ) (auto : Bool) (handle kern
     pub kernels_each : vec_len p.kernels ≡ vec_len script.kernels
     kernels_each = let e = st.kernels.each in let a = p.kernels.ok.0 in let b = script.kernels.ok.0 in omega arith
 
-    pub after_below : (xs : List ℕ) → xs ≡ after.items → All (λ n. n < vec_len p.values) xs
-    after_below xs e = subst (All (λ n. n < vec_len p.values)) (sym e) (λ k d lt. within p g begun n s found st (get_or after.items k d) (text.after_below k d lt))
+    pub after_below : (xs : List ℕ) → xs ≡ asked.after.items → All (λ n. n < vec_len p.values) xs
+    after_below xs e = subst (All (λ n. n < vec_len p.values)) (sym e) (λ k d lt. within p g begun n s found st (get_or asked.after.items k d) (text.after_below k d lt))
 
-    pub named_is : (jobs : Jobs) (xs : List ℕ) → xs ≡ after.items → ((j : ℕ) → jobs j ≡ jobs_by p.handles.items p.values.items xs j) → jobs ≡ jobs_named s after.items
+    pub named_is : (jobs : Jobs) (xs : List ℕ) → xs ≡ asked.after.items → ((j : ℕ) → jobs j ≡ jobs_by p.handles.items p.values.items xs j) → jobs ≡ jobs_named s asked.after.items
     named_is jobs xs e h = λ i j. (h j
         ∙ ap (λ xs. jobs_by p.handles.items p.values.items xs j) e
-        ∙ jobs_are p s (length p.containers.items) st.names after.items (λ k d lt. (let e = st.each in let low = text.after_below k d lt in omega arith)) j) i
+        ∙ jobs_are p s (length p.containers.items) st.names asked.after.items (λ k d lt. (let e = st.each in let low = text.after_below k d lt in omega arith)) j) i
 
-    pub named_up : (jobs : Jobs) → jobs ≡ jobs_named s after.items → AreUpTo (count_of p.jobs) jobs
-    named_up jobs e = subst (AreUpTo (count_of p.jobs)) (sym e) (subst (λ k. AreUpTo k (jobs_named s after.items)) (sym st.jobs.count) (named_among s st.known after.items))
+    pub named_up : (jobs : Jobs) → jobs ≡ jobs_named s asked.after.items → AreUpTo (count_of p.jobs) jobs
+    named_up jobs e = subst (AreUpTo (count_of p.jobs)) (sym e) (subst (λ k. AreUpTo k (jobs_named s asked.after.items)) (sym st.jobs.count) (named_among s st.known asked.after.items))
 
     section_jobs : s.book.count ≡ begun.book.count + length p.plan.jobs.items
     section_jobs = outlining.jobs_are p script table begun n s found st
@@ -215,36 +216,36 @@ module _ (script : Script) (p : Planner) (line : ℕ) (auto : Bool) (handle kern
 
     -- ---- the code's slices are the statement's vectors
 
-    pub length_is : (k : Kernel) → slice_get script.kernels.items kernel ≡ Some k → (qs : List Param) (xs : List Arg) → qs ≡ k.params.items → xs ≡ args.items → length xs ≡ length qs
+    pub length_is : (k : Kernel) → slice_get script.kernels.items asked.kernel ≡ Some k → (qs : List Param) (xs : List Arg) → qs ≡ k.params.items → xs ≡ asked.args.items → length xs ≡ length qs
     length_is k h qs xs e f = ap length f ∙ text.each ∙ ap (λ (k : Kernel). length k.params.items) (source_at k h) ∙ sym (ap length e)
 
-    pub few_args : (xs : List Arg) → xs ≡ args.items → length xs ≤ 16
+    pub few_args : (xs : List Arg) → xs ≡ asked.args.items → length xs ≤ 16
     few_args xs f = subst (λ xs. length xs ≤ 16) (sym f) text.few
 
-    pub are_given : (k : Kernel) → slice_get script.kernels.items kernel ≡ Some k → (named : Jobs) (qs : List Param) (xs : List Arg) (uses : List NamedUse) → qs ≡ k.params.items → xs ≡ args.items
-        → ForNames (IsUse p named) qs xs uses → ForNames (IsUse p named) text.source.params.items args.items uses
+    pub are_given : (k : Kernel) → slice_get script.kernels.items asked.kernel ≡ Some k → (named : Jobs) (qs : List Param) (xs : List Arg) (uses : List NamedUse) → qs ≡ k.params.items → xs ≡ asked.args.items
+        → ForNames (IsUse p named) qs xs uses → ForNames (IsUse p named) text.source.params.items asked.args.items uses
     are_given k h named qs xs uses e f are =
-        subst (λ qs. ForNames (IsUse p named) qs args.items uses) (e ∙ ap (λ (k : Kernel). k.params.items) (sym (source_at k h)))
+        subst (λ qs. ForNames (IsUse p named) qs asked.args.items uses) (e ∙ ap (λ (k : Kernel). k.params.items) (sym (source_at k h)))
         (subst (λ xs. ForNames (IsUse p named) qs xs uses) f are)
 
     -- ---- with its uses
 
-    module _ (uses : List NamedUse) (named : Jobs) (named_are : named ≡ jobs_named s after.items) (are : ForNames (IsUse p named) text.source.params.items args.items uses) where
+    module _ (uses : List NamedUse) (named : Jobs) (named_are : named ≡ jobs_named s asked.after.items) (are : ForNames (IsUse p named) text.source.params.items asked.args.items uses) where
       abbrev gs : List Given
-      gs = given_args s text.source.params.items args.items
+      gs = given_args s text.source.params.items asked.args.items
 
       meant : AreMeant p s named uses gs
-      meant = uses_meant p g begun n s found st named text.source.params.items args.items uses are
+      meant = uses_meant p g begun n s found st named text.source.params.items asked.args.items uses are
 
-      pub refusal_at : as_refused (refusal_by uses text.source.parallel auto) ≡ refusal g s x.act
+      pub refusal_at : as_refused (refusal_by uses text.source.parallel asked.auto) ≡ refusal g s x.act
       refusal_at =
-          refusal_is p s named uses gs meant text.source.parallel auto after.items named_are
-          ∙ ap (λ gs. Rattle.frame_ast.specs.Refusals.schedule_refusal s text.source.parallel auto gs after.items) (sym (append-nil gs))
-          ∙ ap (λ k. Rattle.frame_ast.specs.Refusals.schedule_refusal s (kernel_parallel k) auto (givens s (kernel_params k) args.items None) after.items) (sym text.has)
+          refusal_is p s named uses gs meant text.source.parallel asked.auto asked.after.items named_are
+          ∙ ap (λ gs. Rattle.frame_ast.specs.Refusals.schedule_refusal s text.source.parallel asked.auto gs asked.after.items) (sym (append-nil gs))
+          ∙ ap (λ k. Rattle.frame_ast.specs.Refusals.schedule_refusal s (kernel_parallel k) asked.auto (givens s (kernel_params k) asked.args.items None) asked.after.items) (sym text.has)
 
       module _ (none : refusal g s x.act ≡ None) where
         alive : AreAlive s gs
-        alive = started.alive script table begun n found line auto handle kernel args cut waive after step text p st uses named are none
+        alive = started.alive script table begun n found line home asked step text p st uses named are none
 
         -- the jobs that the safety book keeps are known
         latest_up : (l : Latest) (u : Uses) (writes : Bool) → StandForUses s.book l u → AreUses s.book u → AreUpTo s.book.count (conflicting_in l writes)
@@ -292,22 +293,22 @@ module _ (script : Script) (p : Planner) (line : ℕ) (auto : Bool) (handle kern
               are_needs us gs m.1 a.1,
             )
 
-        pub deps_is : (deps : Jobs) → AreDeps auto named p.jobs p.safety (tags_of uses) deps → deps ≡ deps_of g s (started.o script table begun n found line auto handle kernel args cut waive after)
-        deps_is deps d = by auto d ∙ ap (λ gs. let named = jobs_named s after.items in if auto then both named (automatic s.book s.uses named (needs gs)) else named) (sym (started.gives_are script table begun n found line auto handle kernel args cut waive after step text p st uses named are none))
+        pub deps_is : (deps : Jobs) → AreDeps asked.auto named p.jobs p.safety (tags_of uses) deps → deps ≡ deps_of g s (started.o script table begun n found line home asked)
+        deps_is deps d = by asked.auto d ∙ ap (λ gs. let named = jobs_named s asked.after.items in if asked.auto then both named (automatic s.book s.uses named (needs gs)) else named) (sym (started.gives_are script table begun n found line home asked step text p st uses named are none))
           where
-            by : (b : Bool) → AreDeps b named p.jobs p.safety (tags_of uses) deps → deps ≡ (let named = jobs_named s after.items in if b then both named (automatic s.book s.uses named (needs gs)) else named)
+            by : (b : Bool) → AreDeps b named p.jobs p.safety (tags_of uses) deps → deps ≡ (let named = jobs_named s asked.after.items in if b then both named (automatic s.book s.uses named (needs gs)) else named)
             by false d = d ∙ named_are
             by true d =
                 let set = d.3 s.book s.uses (needs gs) st.jobs st.known.uses (are_needs uses gs meant alive) in
-                d.1 ∙ (λ i. both (named_are i) d.0) ∙ (λ i j. jobs_named s after.items j || (set j ∙ ap (λ a. automatic s.book s.uses a (needs gs) j) named_are) i)
+                d.1 ∙ (λ i. both (named_are i) d.0) ∙ (λ i j. jobs_named s asked.after.items j || (set j ∙ ap (λ a. automatic s.book s.uses a (needs gs) j) named_are) i)
 
-        pub deps_up : (deps : Jobs) → AreDeps auto named p.jobs p.safety (tags_of uses) deps → AreUpTo (count_of p.jobs) deps
+        pub deps_up : (deps : Jobs) → AreDeps asked.auto named p.jobs p.safety (tags_of uses) deps → AreUpTo (count_of p.jobs) deps
         deps_up deps d = subst (AreUpTo (count_of p.jobs)) (sym (deps_is deps d))
-            (subst (λ k. AreUpTo k (deps_of g s (started.o script table begun n found line auto handle kernel args cut waive after))) (sym st.jobs.count) (started.waited_up script table begun n found line auto handle kernel args cut waive after step text p st uses named are none))
+            (subst (λ k. AreUpTo k (deps_of g s (started.o script table begun n found line home asked))) (sym st.jobs.count) (started.waited_up script table begun n found line home asked step text p st uses named are none))
 
         pub may_note : (us : List NamedUse) → us ≡ uses → MayNoteAll us (state_of p.safety)
         may_note us e = subst (λ us. MayNoteAll us (state_of p.safety)) (sym e)
-            (started.may_note_all script table begun n found line auto handle kernel args cut waive after step text p st uses named are none)
+            (started.may_note_all script table begun n found line home asked step text p st uses named are none)
 
         -- where there are all jobs already, the script has one more
         pub fails_so : (fault : PlanFault) → IsFull fault (count_of p.jobs) → PassesLimit fault (state_after script table n x)
@@ -318,32 +319,32 @@ module _ (script : Script) (p : Planner) (line : ℕ) (auto : Bool) (handle kern
             omega arith
         fails_so TooManyWords full = absurd full
 
-        pub goes_on : (new : Planner) (deps : Jobs) (xs : List Arg) (ws : List ℕ) (us : List NamedUse) → xs ≡ args.items → ws ≡ waive.items → us ≡ uses
-            → AreDeps auto named p.jobs p.safety (tags_of uses) deps
-            → IsScheduled script p new handle kernel xs cut ws us deps
+        pub goes_on : (new : Planner) (deps : Jobs) (xs : List Arg) (ws : List ℕ) (us : List NamedUse) → xs ≡ asked.args.items → ws ≡ asked.waive.items → us ≡ uses
+            → AreDeps asked.auto named p.jobs p.safety (tags_of uses) deps
+            → IsScheduled script p new asked.handle asked.kernel xs asked.cut ws us deps
             → HasStepped script table begun n found p new x
         goes_on new deps xs ws us e f u d is =
-            started.goes_on script table begun n found line auto handle kernel args cut waive after step text p st uses named are none new deps (deps_is deps d)
-            (subst (λ xs. IsScheduled script p new handle kernel xs cut waive.items uses deps) e
-            (subst (λ ws. IsScheduled script p new handle kernel xs cut ws uses deps) f
-            (subst (λ us. IsScheduled script p new handle kernel xs cut ws us deps) u is)))
+            started.goes_on script table begun n found line home asked step text p st uses named are none new deps (deps_is deps d)
+            (subst (λ xs. IsScheduled script p new asked.handle asked.kernel xs asked.cut asked.waive.items uses deps) e
+            (subst (λ ws. IsScheduled script p new asked.handle asked.kernel xs asked.cut ws uses deps) f
+            (subst (λ us. IsScheduled script p new asked.handle asked.kernel xs asked.cut ws us deps) u is)))
 
       -- why it is refused, as the code asks
-      pub refused_by : (k : Kernel) → slice_get script.kernels.items kernel ≡ Some k → (us : List NamedUse) → us ≡ uses → (o : Option Cause) → o ≡ refusal_by us k.parallel auto → as_refused o ≡ refusal g s x.act
+      pub refused_by : (k : Kernel) → slice_get script.kernels.items asked.kernel ≡ Some k → (us : List NamedUse) → us ≡ uses → (o : Option Cause) → o ≡ refusal_by us k.parallel asked.auto → as_refused o ≡ refusal g s x.act
       refused_by k h us e o is =
           ap as_refused is
-          ∙ (λ i. as_refused (refusal_by (e i) (sym (source_at k h) i).parallel auto))
+          ∙ (λ i. as_refused (refusal_by (e i) (sym (source_at k h) i).parallel asked.auto))
           ∙ refusal_at
 
       -- and how it goes on then
-      pub refused_on : (new said : Planner) (cause : Cause) (k : Kernel) → slice_get script.kernels.items kernel ≡ Some k → (us : List NamedUse) → us ≡ uses → Some cause ≡ refusal_by us k.parallel auto
+      pub refused_on : (new said : Planner) (cause : Cause) (k : Kernel) → slice_get script.kernels.items asked.kernel ≡ Some k → (us : List NamedUse) → us ≡ uses → Some cause ≡ refusal_by us k.parallel asked.auto
           → IsPushed p said (record { line = line; name = cause.name; act = Say cause.refusal })
-          → HasHandle said new handle nobody
+          → HasHandle said new asked.handle nobody
           → HasStepped script table begun n found p new x
       refused_on new said cause k h us e is pushed has =
-          let low = refusal_named (length p.values.items) us k.parallel auto cause
-          (subst (AreNamed (length p.values.items)) (sym e) (uses_named p named text.source.params.items args.items uses are)) (sym is) in
+          let low = refusal_named (length p.values.items) us k.parallel asked.auto cause
+          (subst (AreNamed (length p.values.items)) (sym e) (uses_named p named text.source.params.items asked.args.items uses are)) (sym is) in
           let each = st.each in
           let below : cause.name < length g.names = omega arith in
           said_nobody script table begun n found x step (refused cause.refusal cause.name) p st (sym (refused_by k h us e (Some cause) is)) below
-          said new handle refl refl refl (inr (λ c. refl)) pushed has
+          said new asked.handle refl refl refl (inr (λ c. refl)) pushed has

@@ -1,6 +1,6 @@
 -- What the text of an accepted schedule gives: its kernel is there, and its names and its cut fit.
-use Rattle.std.proofs.Common.{◌≡◌, ℕ, zero, suc, ◌<◌, ◌≤◌, Bool, true, false, ◌&&◌, List, [], ◌∷◌, length, get_or, All, Option, Some, None, refl, ap, arith}
-use Rattle.std.specs.Prelude.{Vec, slice_get, is_some}
+use Rattle.std.proofs.Common.{◌≡◌, ℕ, zero, suc, ◌<◌, ◌≤◌, true, false, ◌&&◌, List, [], ◌∷◌, length, get_or, All, Option, Some, None, refl, ap, arith}
+use Rattle.std.specs.Prelude.{Box, slice_get, is_some}
 use Rattle.std.specs.List.{list_all}
 use Rattle.std.specs.declared.alloc.Global.{Global}
 use Rattle.std.proofs.lemmas.Bool.{and_parts, leb-true}
@@ -19,6 +19,8 @@ use Rattle.frame_ast.specs.Orders.{Table, setting}
 use Rattle.frame_plan.specs.Steps.{IsStep}
 use Rattle.frame_plan.specs.Uses.{IsNameBelow}
 use Rattle.frame_plan.proofs.Reaching.{fits_at, used_below, made_below}
+use Rattle.frame_ast.specs.declared.script.NewJob.{NewJob}
+use Rattle.frame_plan.specs.Starting.{undeferred, in_box}
 
 -- each name among the arguments is one of so many
 abbrev pub EachBelow : ℕ → List Arg → Type 0
@@ -35,9 +37,9 @@ each_lower n m le [] h = tt
 each_lower n m le (Name k ∷ as_) h = (let lt = h.0 in omega arith, each_lower n m le as_ h.1)
 each_lower n m le (Number z ∷ as_) h = (tt, each_lower n m le as_ h.1)
 
-module _ (script : Script) (table : Table) (n line : ℕ) (auto : Bool) (handle kernel : ℕ) (args : Vec Arg Global) (cut : Option (ℕ × ℕ)) (waive after : Vec ℕ Global) where
+module _ (script : Script) (table : Table) (n line : ℕ) (home : Box NewJob Global) (asked : NewJob) where
   abbrev pub x : Statement
-  x = record { line = line; act = Scheduled auto handle kernel args cut None waive after }
+  x = record { line = line; act = Scheduled (in_box home (undeferred asked)) }
 
   module _ (step : IsStep script table n x) where
     abbrev names : ℕ → Names
@@ -66,32 +68,32 @@ module _ (script : Script) (table : Table) (n line : ℕ) (auto : Bool) (handle 
 
     pub record IsText : Type 0 where
       pub source : Kernel
-      pub has : slice_get script.kernels.items kernel ≡ Some source
+      pub has : slice_get script.kernels.items asked.kernel ≡ Some source
       pub checked : IsChecked source
-      pub handle_below : handle < many
-      pub each : length args.items ≡ length source.params.items
-      pub few : length args.items ≤ 16
-      pub below : EachBelow many args.items
-      pub one : one_of source.parallel (is_some cut) false ≡ true
-      pub cut_fit : cut_fits cut ≡ true
-      pub after_below : (k d : ℕ) → k < length after.items → get_or after.items k d < many
+      pub handle_below : asked.handle < many
+      pub each : length asked.args.items ≡ length source.params.items
+      pub few : length asked.args.items ≤ 16
+      pub below : EachBelow many asked.args.items
+      pub one : one_of source.parallel (is_some asked.cut) false ≡ true
+      pub cut_fit : cut_fits asked.cut ≡ true
+      pub after_below : (k d : ℕ) → k < length asked.after.items → get_or asked.after.items k d < many
 
     pub text : IsText
     text =
         let fit = fits_at script table n x step in
-        let parts = and_parts (makes (names fit.made) handle kind.Handle) (schedule_fits (names fit.made) (slice_get script.kernels.items kernel) args.items cut None waive.items after.items) fit.fits in
-        by fit.made (made_below script table n x step fit.made handle kind.Handle parts.0) (slice_get script.kernels.items kernel) refl parts.1
+        let parts = and_parts (makes (names fit.made) asked.handle kind.Handle) (schedule_fits (names fit.made) (slice_get script.kernels.items asked.kernel) asked.args.items asked.cut None asked.waive.items asked.after.items) fit.fits in
+        by fit.made (made_below script table n x step fit.made asked.handle kind.Handle parts.0) (slice_get script.kernels.items asked.kernel) refl parts.1
       where
-        by : (made : ℕ) → handle < many → (o : Option Kernel) → slice_get script.kernels.items kernel ≡ o → schedule_fits (names made) o args.items cut None waive.items after.items ≡ true → IsText
+        by : (made : ℕ) → asked.handle < many → (o : Option Kernel) → slice_get script.kernels.items asked.kernel ≡ o → schedule_fits (names made) o asked.args.items asked.cut None asked.waive.items asked.after.items ≡ true → IsText
         by made lt None at e = absurd cc
         by made lt (Some k) at e =
-            let a = and_parts (args_fit (names made) None k.params.items args.items && one_of k.parallel (is_some cut) false) _ e in
-            let b = and_parts (args_fit (names made) None k.params.items args.items) (one_of k.parallel (is_some cut) false) a.0 in
-            let c = and_parts (cut_fits cut && true) _ a.1 in
-            let f = and_parts (cut_fits cut) true c.0 in
-            let d = and_parts _ (all_used (names made) after.items) c.1 in
-            let below = args_below made k.params.items args.items b.0 in
-            let checked = step.accepted.kernels kernel k at in
+            let a = and_parts (args_fit (names made) None k.params.items asked.args.items && one_of k.parallel (is_some asked.cut) false) _ e in
+            let b = and_parts (args_fit (names made) None k.params.items asked.args.items) (one_of k.parallel (is_some asked.cut) false) a.0 in
+            let c = and_parts (cut_fits asked.cut && true) _ a.1 in
+            let f = and_parts (cut_fits asked.cut) true c.0 in
+            let d = and_parts _ (all_used (names made) asked.after.items) c.1 in
+            let below = args_below made k.params.items asked.args.items b.0 in
+            let checked = step.accepted.kernels asked.kernel k at in
             let few = leb-true (length k.params.items) MOST_PARAMS checked.count in
             record {
               source = k;
@@ -103,5 +105,5 @@ module _ (script : Script) (table : Table) (n line : ℕ) (auto : Bool) (handle 
               below = below.1;
               one = b.1;
               cut_fit = f.0;
-              after_below = all_below_names made after.items d.1;
+              after_below = all_below_names made asked.after.items d.1;
             }

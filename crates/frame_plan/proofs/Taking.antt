@@ -119,7 +119,7 @@ effect_takes g line s (order.SetCapacity name cap) =
     let created : t.created ≡ s.created + (cap + 1) = ap (λ n. n + (cap + 1)) c.created in
     let count : t.book.count ≡ s.book.count = c.count in
     record { jobs_from = omega arith; jobs_to = omega arith; words_from = omega arith; words_to = omega arith }
-effect_takes g line s (order.Schedule auto handle kernel args cut defer waive after) = accept_takes g s auto handle kernel args.items cut defer waive.items after.items
+effect_takes g line s (order.Schedule job) = accept_takes g s job.value.auto job.value.handle job.value.kernel job.value.args.items job.value.cut job.value.defer job.value.waive.items job.value.after.items
 effect_takes g line s (order.Dispose name after None) = takes_none s _ 0 0 refl refl
 effect_takes g line s (order.Dispose name after (Some handle)) = takes_none s _ 0 0 refl refl
 effect_takes g line s (order.Slice name of start len) = takes_none s _ 0 0 refl refl
@@ -147,5 +147,5 @@ act_takes g s x = by s.passing refl
 
 -- a statement makes a job or takes words, and never both
 pub one_of : (g : Setting) (x : Order) → (job_of x ≡ 0) ⊎ (words_by g x ≡ 0)
-one_of g (order.Schedule auto handle kernel args cut defer waive after) = inr refl
+one_of g (order.Schedule job) = inr refl
 one_of g x = inl refl

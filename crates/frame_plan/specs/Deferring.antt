@@ -1,5 +1,5 @@
 -- A schedule whose length is that of a list, in the code's terms: the use of the list, why it is refused, and its job.
-use Rattle.std.specs.Prelude.{Vec, ℕ, ◌+◌, ◌≡◌, ◌≤◌, ◌⊎◌, Bool, true, false, ◌&&◌, ◌||◌, nat_eq, if◌then◌else◌, List, [], ◌∷◌, ◌++◌, length, Option, None, Some, slice_get, slice_set}
+use Rattle.std.specs.Prelude.{Box, ℕ, ◌+◌, ◌≡◌, ◌≤◌, ◌⊎◌, Bool, true, false, ◌&&◌, ◌||◌, nat_eq, if◌then◌else◌, List, [], ◌∷◌, ◌++◌, length, Option, None, Some, slice_get, slice_set}
 use Rattle.std.specs.List.{list_any}
 use Rattle.std.specs.declared.alloc.Global.{Global}
 use Rattle.batch_cut.specs.Cuts.{step_of}
@@ -12,6 +12,7 @@ use Rattle.frame_ast.specs.declared.script.Script.{Script}
 use Rattle.frame_ast.specs.Accepted.{guard_fits}
 use Rattle.frame_ast.specs.Checked.{IsChecked}
 use Rattle.frame_ast.specs.declared.script.Arg.{Arg}
+use Rattle.frame_ast.specs.declared.script.NewJob.{NewJob}
 use Rattle.frame_ast.specs.declared.script.Order.TheVariants.{Schedule}
 use Rattle.frame_ast.specs.declared.script.Statement.{Statement}
 use Rattle.frame_ast.specs.Jobs.{Jobs as JobSet, Book, only, with_job}
@@ -34,16 +35,17 @@ use Rattle.frame_plan.specs.Causes.{has_cause, first_with, alias_of, pending_of,
 use Rattle.frame_plan.specs.Growth.{is_none}
 use Rattle.frame_plan.specs.JobBinds.{bind_of_value, job_binds}
 use Rattle.frame_plan.specs.Noting.{noted_all}
-use Rattle.frame_plan.specs.Starting.{AreLater, IsStarted}
+use Rattle.frame_plan.specs.Starting.{in_box, AreLater, IsStarted}
 use Rattle.frame_plan.specs.Uses.{IsBlockedBy, number_of_value, is_temp_in, given_of}
 
 -- THE SCHEDULE
 
+abbrev pub by_list : NewJob → Option (ℕ × ℕ) → ℕ × ℕ → NewJob
+by_list asked cut defer = record asked { cut = cut; defer = Some defer }
+
 -- a schedule with `defer`, as a statement
-abbrev pub deferring : ℕ → Bool → ℕ → ℕ → Vec Arg Global → Option (ℕ × ℕ) → ℕ × ℕ → Vec ℕ Global → Vec ℕ Global
-    → Statement
-deferring line auto handle kernel args cut defer waive after =
-    record { line = line; act = Schedule auto handle kernel args cut (Some defer) waive after }
+abbrev pub deferring : ℕ → Box NewJob Global → NewJob → Option (ℕ × ℕ) → ℕ × ℕ → Statement
+deferring line home asked cut defer = record { line = line; act = Schedule (in_box home (by_list asked cut defer)) }
 
 -- THE USE OF THE LIST
 

@@ -131,9 +131,10 @@ HasJobOf g starts before s deps kernel args cut defer waive kernels (Some job) =
 
 abbrev pub SchedulesUnless : Setting → Starts → ℕ → ScriptState → Jobs → Order → Option Refused → List Kernel
     → Option JobPlan → Type 0
-SchedulesUnless g starts before s deps (Schedule auto handle kernel args cut defer waive after) None kernels place =
-    HasJobOf g starts before s deps kernel args.items cut defer waive.items kernels place
-SchedulesUnless g starts before s deps (Schedule auto handle kernel args cut defer waive after) (Some r) kernels place =
+SchedulesUnless g starts before s deps (Schedule job) None kernels place =
+    let j = job.value in
+    HasJobOf g starts before s deps j.kernel j.args.items j.cut j.defer j.waive.items kernels place
+SchedulesUnless g starts before s deps (Schedule job) (Some r) kernels place =
     Unit {0}
 SchedulesUnless g starts before s deps _ refused kernels place = Unit {0}
 
@@ -171,9 +172,9 @@ pub record IsStartedAfter (segments : List Segment) (number before : ℕ) (compl
   pub waits : (j : ℕ) → 0 < j → has_job (waits_in earlier ++ segment.waits.items) j ≡ later before completed j
 
 abbrev pub AwaitsUnless : ℕ → ScriptState → Order → Option Refused → List Segment → Type 0
-AwaitsUnless before s (Schedule auto handle kernel args cut defer waive after) None segments =
+AwaitsUnless before s (Schedule job) None segments =
     IsStartedAfter segments (suc (s.book.count - before)) before s.book.completed
-AwaitsUnless before s (Schedule auto handle kernel args cut defer waive after) (Some r) segments = Unit {0}
+AwaitsUnless before s (Schedule job) (Some r) segments = Unit {0}
 AwaitsUnless before s _ refused segments = Unit {0}
 
 -- the job of an accepted schedule that isn't passed by is started after the jobs that were completed before it

@@ -1,5 +1,5 @@
 -- A new job of the plan, in the code's terms.
-use Rattle.std.specs.Prelude.{Vec, ℕ, suc, ◌+◌, ◌-◌, ◌*◌, ◌≡◌, ◌≤◌, ◌⊎◌, Bool, true, false, ◌&&◌, List, [], ◌∷◌, ◌++◌, length, Option, None, Some, slice_get, slice_set}
+use Rattle.std.specs.Prelude.{Box, ℕ, suc, ◌+◌, ◌-◌, ◌*◌, ◌≡◌, ◌≤◌, ◌⊎◌, Bool, true, false, ◌&&◌, List, [], ◌∷◌, ◌++◌, length, Option, None, Some, slice_get, slice_set}
 use Rattle.job_base.specs.declared.limits.TheConstants.{MOST_INDEXES, MOST_PIECES, MOST_JOBS}
 use Rattle.batch_cut.specs.declared.pieces.Cut.{Cut}
 use Rattle.batch_cut.specs.Cuts.{step_of}
@@ -7,6 +7,7 @@ use Rattle.frame_ast.specs.declared.kernel.Kernel.{Kernel}
 use Rattle.frame_ast.specs.declared.script.Script.{Script}
 use Rattle.std.specs.declared.alloc.Global.{Global}
 use Rattle.frame_ast.specs.declared.script.Arg.{Arg}
+use Rattle.frame_ast.specs.declared.script.NewJob.{NewJob}
 use Rattle.frame_ast.specs.declared.script.Order.TheVariants.{Schedule}
 use Rattle.frame_ast.specs.declared.script.Statement.{Statement}
 use Rattle.job_base.specs.declared.Access.{Access}
@@ -34,10 +35,16 @@ use Rattle.frame_plan.specs.Growth.{is_none}
 use Rattle.frame_plan.specs.JobBinds.{job_binds}
 use Rattle.frame_plan.specs.Noting.{noted_all}
 
+-- a job in the box of another one
+abbrev pub in_box : Box NewJob Global → NewJob → Box NewJob Global
+in_box home asked = record home { value = asked }
+
+abbrev pub undeferred : NewJob → NewJob
+undeferred asked = record asked { defer = None }
+
 -- a schedule without `defer`, as a statement
-abbrev pub scheduling : ℕ → Bool → ℕ → ℕ → Vec Arg Global → Option (ℕ × ℕ) → Vec ℕ Global → Vec ℕ Global → Statement
-scheduling line auto handle kernel args cut waive after =
-    record { line = line; act = Schedule auto handle kernel args cut None waive after }
+abbrev pub scheduling : ℕ → Box NewJob Global → NewJob → Statement
+scheduling line home asked = record { line = line; act = Schedule (in_box home (undeferred asked)) }
 
 -- a schedule's number of indexes and its batch; one index where there are none
 abbrev pub numbers_by : Option (ℕ × ℕ) → ℕ × ℕ

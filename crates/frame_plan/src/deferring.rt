@@ -1,7 +1,9 @@
 // `schedule` with `defer`: a job with as many indexes as a list can have, of which those below the list's length act.
-ghost use Rattle.std.specs.Prelude.{◌≡◌, ◌≢◌, ◌*◌, ◌^◌, ◌<◌, ◌≤◌, slice_get, ◌++◌, ◌∷◌, [], length, vec_len, IfErr, IfOk, OnOk, None, Some};
+ghost use Rattle.std.specs.Prelude.{Box, ◌≡◌, ◌≢◌, ◌*◌, ◌^◌, ◌<◌, ◌≤◌, slice_get, ◌++◌, ◌∷◌, [], length, vec_len, IfErr, IfOk, OnOk, None, Some};
 ghost use Rattle.job_base.specs.declared.limits.TheConstants.{MOST_INDEXES, MOST_JOBS, MOST_PARAMS, MOST_PIECES};
 ghost use Rattle.frame_ast.specs.declared.kernel.Kernel.{Kernel};
+ghost use Rattle.std.specs.declared.alloc.Global.{Global};
+ghost use Rattle.frame_ast.specs.declared.script.NewJob.{NewJob};
 ghost use Rattle.frame_ast.specs.Laws.{AreUpTo};
 ghost use Rattle.job_handle.specs.Books.{count_of};
 ghost use Rattle.job_handle.specs.Sets.{jobs_of};
@@ -20,7 +22,7 @@ use crate::scheduling::is_split;
 use crate::state::{PlanFault, Planner};
 use crate::uses::NamedUse;
 use frame_ast::kernel::Kernel;
-use frame_ast::script::{Arg, Script};
+use frame_ast::script::{Arg, NewJob, Script};
 use frame_core::JobPlan;
 use job_base::{NoMemory, PieceId};
 use job_handle::Handle;
@@ -40,26 +42,19 @@ impl Planner {
         alloc: Global,
         script: &Script,
         line: u32,
-        auto: bool,
-        handle: u32,
-        kernel: u32,
-        args: &Vec<Arg>,
-        cut: Option<(u32, u32)>,
+        job: &NewJob,
         defer: (u32, u32),
-        waive: &Vec<u32>,
-        after: &Vec<u32>,
     ) -> Result<(), PlanFault>
-        requires ready { IsBefore script.now self.old
-            (deferring line auto handle kernel args.now cut defer waive.now after.now) }
+        // The statement has its job in a box, whichever that is.
+        requires ready { (home : Box NewJob Global) × IsBefore script.now self.old
+            (deferring line home job.now job.now.cut defer) }
 
-        ensures goes_on { OnOk result (GoesOnIn script.now self.old self.new
-            (deferring line auto handle kernel args.now cut defer waive.now after.now)) }
-        ensures fails { IfErr result (λ fault. FailsIn script.now fault self.old
-            (deferring line auto handle kernel args.now cut defer waive.now after.now)) }
+        ensures goes_on { OnOk result ((home : Box NewJob Global)
+            → GoesOnIn script.now self.old self.new (deferring line home job.now job.now.cut defer)) }
+        ensures fails { IfErr result (λ fault. (home : Box NewJob Global)
+            → FailsIn script.now fault self.old (deferring line home job.now job.now.cut defer)) }
     {
-        self.schedule_by_list(
-            alloc, script, line, auto, handle, kernel, args, defer.0, defer.1, waive, after,
-        )
+        self.schedule_by_list(alloc, script, line, job, defer.0, defer.1)
     }
 
     /// The same, by the name of the list and the batch.
@@ -68,35 +63,31 @@ impl Planner {
         alloc: Global,
         script: &Script,
         line: u32,
-        auto: bool,
-        handle: u32,
-        kernel: u32,
-        args: &Vec<Arg>,
+        job: &NewJob,
         list: u32,
         batch: u32,
-        waive: &Vec<u32>,
-        after: &Vec<u32>,
     ) -> Result<(), PlanFault>
-        requires ready { IsBefore script.now self.old
-            (deferring line auto handle kernel args.now None (list, batch) waive.now after.now) }
+        requires ready { (home : Box NewJob Global) × IsBefore script.now self.old
+            (deferring line home job.now None (list, batch)) }
 
-        ensures goes_on { OnOk result (GoesOnIn script.now self.old self.new
-            (deferring line auto handle kernel args.now None (list, batch) waive.now after.now)) }
-        ensures fails { IfErr result (λ fault. FailsIn script.now fault self.old
-            (deferring line auto handle kernel args.now None (list, batch) waive.now after.now)) }
+        ensures goes_on { OnOk result ((home : Box NewJob Global)
+            → GoesOnIn script.now self.old self.new (deferring line home job.now None (list, batch))) }
+        ensures fails { IfErr result (λ fault. (home : Box NewJob Global)
+            → FailsIn script.now fault self.old (deferring line home job.now None (list, batch))) }
     {
-        let params = &script.kernels[kernel as usize].params;
-        let parallel = script.kernels[kernel as usize].parallel;
-        let named = self.jobs_of_all(after);
-        let uses = self.uses(alloc, params, args, &named)?;
+        let params = &script.kernels[job.kernel as usize].params;
+        let parallel = script.kernels[job.kernel as usize].parallel;
+        let named = self.jobs_of_all(&job.after);
+        let uses = self.uses(alloc, params, &job.args, &named)?;
         let length = self.length_use(list, &named);
         let all = with_length(alloc, &uses, &length)?;
-        match deferred_refusal(&uses, &length, &all, parallel, auto) {
-            Some(cause) => self.refuse_schedule(line, handle, cause)?,
+        match deferred_refusal(&uses, &length, &all, parallel, job.auto) {
+            Some(cause) => self.refuse_schedule(line, job.handle, cause)?,
             None => {
-                let deps = self.deps(alloc, auto, &named, &all)?;
+                let deps = self.deps(alloc, job.auto, &named, &all)?;
                 self.accept_deferred(
-                    alloc, script, handle, kernel, args, list, batch, waive, &uses, &length, &deps,
+                    alloc, script, job.handle, job.kernel, &job.args, list, batch, &job.waive,
+                    &uses, &length, &deps,
                 )?;
             }
         }

@@ -54,7 +54,7 @@ fn jobs_of(act: &Order) -> u32
     ensures { result ≡ job_of act.now }
 {
     match act {
-        Order::Schedule { .. } => 1,
+        Order::Schedule(_) => 1,
         _ => 0,
     }
 }

@@ -158,22 +158,9 @@ impl Planner {
             Order::Remove { name, at } => Ok(self.remove(line, *name, *at)?),
             Order::Clear { name } => Ok(self.clear(line, *name)?),
             Order::SetCapacity { name, cap } => self.set_capacity(line, *name, *cap),
-            Order::Schedule {
-                auto,
-                handle,
-                kernel,
-                args,
-                cut,
-                defer,
-                waive,
-                after,
-            } => match *defer {
-                None => self.schedule(
-                    alloc, script, line, *auto, *handle, *kernel, args, *cut, waive, after,
-                ),
-                Some(defer) => self.schedule_deferred(
-                    alloc, script, line, *auto, *handle, *kernel, args, *cut, defer, waive, after,
-                ),
+            Order::Schedule(job) => match job.defer {
+                None => self.schedule(alloc, script, line, job),
+                Some(defer) => self.schedule_deferred(alloc, script, line, job, defer),
             },
             Order::Combine { name, of } => Ok(self.combine(line, *name, of)?),
             Order::Complete { name } => Ok(self.complete(alloc, *name)?),

@@ -1,7 +1,9 @@
 // `schedule`: a job that is refused, or that the segment at hand starts.
-ghost use Rattle.std.specs.Prelude.{◌≡◌, ◌≢◌, ◌*◌, ◌<◌, ◌≤◌, ◌^◌, true, ◌&&◌, IfErr, IfOk, OnOk, Some, slice_get, vec_len, length};
+ghost use Rattle.std.specs.Prelude.{Box, ◌≡◌, ◌≢◌, ◌*◌, ◌<◌, ◌≤◌, ◌^◌, true, ◌&&◌, IfErr, IfOk, OnOk, Some, slice_get, vec_len, length};
 ghost use Rattle.frame_ast.specs.declared.kernel.Kernel.{Kernel};
 ghost use Rattle.job_base.specs.declared.limits.TheConstants.{MOST_JOBS, MOST_PARAMS, MOST_PIECES};
+ghost use Rattle.std.specs.declared.alloc.Global.{Global};
+ghost use Rattle.frame_ast.specs.declared.script.NewJob.{NewJob};
 ghost use Rattle.frame_ast.specs.Accepted.{cut_fits};
 ghost use Rattle.frame_ast.specs.Jobs.{nobody};
 ghost use Rattle.frame_core.specs.declared.plan.Act.TheVariants.{Say};
@@ -22,7 +24,7 @@ use crate::new_job::cut_of;
 use crate::state::{PlanFault, Planner};
 use crate::uses::NamedUse;
 use auto_deps::automatic;
-use frame_ast::script::{Arg, Script};
+use frame_ast::script::{Arg, NewJob, Script};
 use frame_core::JobPlan;
 use job_base::{Access, NoMemory, PieceId};
 use job_handle::Handle;
@@ -36,32 +38,27 @@ impl Planner {
         alloc: Global,
         script: &Script,
         line: u32,
-        auto: bool,
-        handle: u32,
-        kernel: u32,
-        args: &Vec<Arg>,
-        cut: Option<(u32, u32)>,
-        waive: &Vec<u32>,
-        after: &Vec<u32>,
+        job: &NewJob,
     ) -> Result<(), PlanFault>
-        requires ready { IsBefore script.now self.old (scheduling line auto handle kernel args.now cut waive.now after.now) }
+        // The statement has its job in a box, whichever that is.
+        requires ready { (home : Box NewJob Global) × IsBefore script.now self.old (scheduling line home job.now) }
 
-        ensures goes_on { OnOk result (
-            GoesOnIn script.now self.old self.new (scheduling line auto handle kernel args.now cut waive.now after.now)) }
-        ensures fails { IfErr result (λ fault.
-            FailsIn script.now fault self.old (scheduling line auto handle kernel args.now cut waive.now after.now)) }
+        ensures goes_on { OnOk result ((home : Box NewJob Global)
+            → GoesOnIn script.now self.old self.new (scheduling line home job.now)) }
+        ensures fails { IfErr result (λ fault. (home : Box NewJob Global)
+            → FailsIn script.now fault self.old (scheduling line home job.now)) }
     {
-        let params = &script.kernels[kernel as usize].params;
-        let parallel = script.kernels[kernel as usize].parallel;
-        let named = self.jobs_of_all(after);
-        let uses = self.uses(alloc, params, args, &named)?;
-        if let Some(cause) = refusal_of(&uses, parallel, auto) {
-            self.refuse_schedule(line, handle, cause)?;
+        let params = &script.kernels[job.kernel as usize].params;
+        let parallel = script.kernels[job.kernel as usize].parallel;
+        let named = self.jobs_of_all(&job.after);
+        let uses = self.uses(alloc, params, &job.args, &named)?;
+        if let Some(cause) = refusal_of(&uses, parallel, job.auto) {
+            self.refuse_schedule(line, job.handle, cause)?;
             return Ok(());
         }
-        let deps = self.deps(alloc, auto, &named, &uses)?;
+        let deps = self.deps(alloc, job.auto, &named, &uses)?;
         self.accept(
-            alloc, script, handle, kernel, args, cut, waive, &uses, &deps,
+            alloc, script, job.handle, job.kernel, &job.args, job.cut, &job.waive, &uses, &deps,
         )
     }
 

@@ -61,8 +61,8 @@ module _ (s : Source) (c : Scope) (all : List Name) (made : ℕ) (literals : Lis
   order_fitting (SetCapacity name cap) spells single o leads earlier stands h says =
       fits_as (SetCapacity name cap) o _ says (capacity_fits s c all made literals kernels rest inside at enough name cap leads h)
   order_fitting (Schedule auto handle kernel args cut waive after) spells single o leads earlier stands h says =
-      fits_as (Schedule auto handle kernel args cut waive after) o _ says.6
-      (schedule_fitting s c all made literals kernels rest inside at enough auto handle kernel args cut waive after says.0 says.1 says.2 leads earlier h says.3 says.4 says.5)
+      fits_as (Schedule auto handle kernel args cut waive after) o _ says.2
+      (schedule_fitting s c all made literals kernels rest inside at enough auto handle kernel args cut waive after says.0 leads earlier h says.1)
   order_fitting (Combine name of) spells single o leads earlier stands h says =
       fits_as (Combine name of) o _ says.2 (combine_fits s c all made literals kernels rest inside at enough name of says.0 leads h says.1)
   order_fitting (Complete auto name) spells single o leads earlier stands h says =
@@ -98,7 +98,7 @@ not_when s all kernels place count (Put name key value) o single says = ap is_wh
 not_when s all kernels place count (Remove name index) o single says = ap is_when says
 not_when s all kernels place count (Clear name) o single says = ap is_when says
 not_when s all kernels place count (SetCapacity name cap) o single says = ap is_when says
-not_when s all kernels place count (Schedule auto handle kernel args cut waive after) o single says = ap is_when says.6
+not_when s all kernels place count (Schedule auto handle kernel args cut waive after) o single says = ap is_when says.2
 not_when s all kernels place count (Combine name of) o single says = ap is_when says.2
 not_when s all kernels place count (Complete true name) o single says = ap is_when says
 not_when s all kernels place count (Complete false name) o single says = ap is_when says

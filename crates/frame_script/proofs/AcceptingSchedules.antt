@@ -1,5 +1,5 @@
 -- A schedule without a fault fits.
-use Rattle.std.proofs.Common.{◌≡◌, ℕ, ◌≤◌, Bool, true, false, ◌&&◌, ℤ, Vec, Global, List, [], ◌∷◌, length, map, Option, None, Some, is_some, slice_get, refl, sym, ◌∙◌, ap, subst, arith, unwrap_or}
+use Rattle.std.proofs.Common.{◌≡◌, ℕ, ◌≤◌, Bool, true, false, ◌&&◌, ℤ, Box, Global, List, [], ◌∷◌, length, map, Option, None, Some, is_some, slice_get, refl, sym, ◌∙◌, ap, subst, arith, unwrap_or}
 use Rattle.std.specs.List.{list_all}
 use Rattle.std.specs.Str.{bytes_eq}
 use Rattle.std.specs.String.{string_bytes}
@@ -10,9 +10,10 @@ use Rattle.frame_ast.specs.declared.kernel.Param.{Param}
 use Rattle.frame_ast.specs.declared.kernel.ParamKind.{ParamKind}
 use Rattle.frame_ast.specs.declared.kernel.ParamKind.TheVariants as param
 use Rattle.frame_ast.specs.declared.script.Arg.{Arg}
+use Rattle.frame_ast.specs.declared.script.NewJob.{NewJob}
 use Rattle.frame_ast.specs.declared.script.Order.TheVariants as order
 use Rattle.frame_ast.specs.Schedules.{is_array, writes_to}
-use Rattle.frame_ast.specs.Accepted.{kinds_for, guard_fits, uses, args_fit, arg_fits, waive_fits, cut_fits, defer_fits, one_of, schedule_fits, all_used}
+use Rattle.frame_ast.specs.Accepted.{kinds_for, guard_fits, makes, args_fit, arg_fits, waive_fits, cut_fits, defer_fits, one_of, schedule_fits}
 use Rattle.frame_ast.specs.Accepted as accepted
 use Rattle.frame_ast.specs.declared.name_kind.NameKind.{NameKind}
 use Rattle.frame_ast.specs.declared.name_kind.NameKind.TheVariants as kind
@@ -26,7 +27,7 @@ use Rattle.frame_script.specs.Sources.{text_at}
 use Rattle.frame_script.specs.Names as names
 use Rattle.frame_script.specs.Raw.{Schedule}
 use Rattle.frame_script.specs.Faults.{Scope, is_deferred, arg_fault, args_faults, sizes_fit, room_fits, takes, kernel_fault, sizes_faults, kernel_in, param_in, waived_fault, waive_fault, scheduled_faults, order_faults}
-use Rattle.frame_script.specs.Spelling.{place_of, kernel_place, param_place, params_of, params_named, arg_of, cut_of, defer_of, names_after}
+use Rattle.frame_script.specs.Spelling.{place_of, kernel_place, param_place, params_of, params_named, arg_of, cut_of, defer_of, names_after, SaysJob}
 use Rattle.frame_script.proofs.NumberLemmas.{holds_from}
 use Rattle.frame_script.proofs.JobLemmas.{found_at}
 use Rattle.frame_script.proofs.AcceptingPlaces.{found}
@@ -176,24 +177,31 @@ abbrev Scheduled : Source → List names.Name → ℕ → Option Kernel → List
 Scheduled s all made o args cut waive after = schedule_fits (scene all made) o args (cut_of s cut) (defer_of s all cut) waive after ≡ true
 
 pub schedule_fitting : (s : Source) (c : Scope) (all : List names.Name) (made : ℕ) (literals : List (List ℤ)) (kernels : List Kernel) (rest inside at : ℕ) → length c.names ≤ made →
-    (auto : Bool) (handle kernel : ℕ) (args : List RawArg) (cut : RawSizes) (waive after : List ℕ) (given : Vec Arg Global) (waives handles : Vec ℕ Global) →
+    (auto : Bool) (handle kernel : ℕ) (args : List RawArg) (cut : RawSizes) (waive after : List ℕ) (job : Box NewJob Global) →
     Leads (names_after s c.names (Schedule auto handle kernel args cut waive after)) all → Leads c.kernels kernels →
     first_some (order_faults s c at (Schedule auto handle kernel args cut waive after)) ≡ None →
-    given.items ≡ map (arg_of s all) args →
-    waives.items ≡ map (λ x. param_place (params_named s kernels kernel) (text_at s x)) waive →
-    handles.items ≡ map (place_of s all) after →
+    SaysJob s all kernels auto handle kernel args cut waive after job.value →
     Fits all made literals kernels rest inside (names_after s c.names (Schedule auto handle kernel args cut waive after))
-    (order.Schedule auto (place_of s all handle) (kernel_place kernels (text_at s kernel)) given (cut_of s cut) (defer_of s all cut) waives handles)
-schedule_fitting s c all made literals kernels rest inside at enough auto handle kernel args cut waive after given waives handles leads earlier h args_are waive_are after_are =
+    (order.Schedule job)
+schedule_fitting s c all made literals kernels rest inside at enough auto handle kernel args cut waive after job leads earlier h said =
     let p = first_parts _ _ h in
     let m = make s c.names all made kind.Handle handle leads enough p.0 in
     let k = kernel_named s c.names (kernel_in c.kernels (text_at s kernel)) kernel args cut waive after p.1 in
     let there = kernel_known c.kernels kernels (text_at s kernel) k.0 earlier k.1 in
     let params : params_named s kernels kernel ≡ k.0.params.items = ap params_of there.1 in
-    let waived_are : waives.items ≡ map (λ x. param_place k.0.params.items (text_at s x)) waive = waive_are ∙ ap (λ ps. map (λ x. param_place ps (text_at s x)) waive) params in
+    let waived_are : job.value.waive.items ≡ map (λ x. param_place k.0.params.items (text_at s x)) waive = said.waive_are ∙ ap (λ ps. map (λ x. param_place ps (text_at s x)) waive) params in
     let fits = behind s c.names all made k.0 kernel args cut waive after m.leads enough k.2 in
-    let with_args : Scheduled s all made (Some k.0) given.items cut waives.items handles.items =
-    subst (λ xs. Scheduled s all made (Some k.0) xs cut waives.items handles.items) (sym args_are)
-    (subst (λ xs. Scheduled s all made (Some k.0) (map (arg_of s all) args) cut xs handles.items) (sym waived_are)
-    (subst (λ xs. Scheduled s all made (Some k.0) (map (arg_of s all) args) cut (map (λ x. param_place k.0.params.items (text_at s x)) waive) xs) (sym after_are) fits)) in
-    (and_from _ _ m.fits (subst (λ o. Scheduled s all made o given.items cut waives.items handles.items) (sym there.0) with_args), m.enough)
+    let j = job.value in
+    let with_args : Scheduled s all made (Some k.0) j.args.items cut j.waive.items j.after.items =
+    subst (λ xs. Scheduled s all made (Some k.0) xs cut j.waive.items j.after.items) (sym said.args_are)
+    (subst (λ xs. Scheduled s all made (Some k.0) (map (arg_of s all) args) cut xs j.after.items) (sym waived_are)
+    (subst (λ xs. Scheduled s all made (Some k.0) (map (arg_of s all) args) cut (map (λ x. param_place k.0.params.items (text_at s x)) waive) xs) (sym said.after_are) fits)) in
+    let with_kernel : Scheduled s all made (slice_get kernels j.kernel) j.args.items cut j.waive.items j.after.items =
+    subst (λ o. Scheduled s all made o j.args.items cut j.waive.items j.after.items) (sym (ap (slice_get kernels) said.kernel_is ∙ there.0)) with_args in
+    let with_sizes : schedule_fits (scene all made) (slice_get kernels j.kernel) j.args.items j.cut j.defer j.waive.items j.after.items ≡ true =
+    subst (λ n. schedule_fits (scene all made) (slice_get kernels j.kernel) j.args.items n j.defer j.waive.items j.after.items ≡ true) (sym said.cut_is)
+    (subst (λ d. schedule_fits (scene all made) (slice_get kernels j.kernel) j.args.items (cut_of s cut) d j.waive.items j.after.items ≡ true) (sym said.defer_is) with_kernel) in
+    let after_it = names_after s c.names (Schedule auto handle kernel args cut waive after) in (
+      and_from _ _ (subst (λ n. makes (scene all made) n kind.Handle ≡ true) (sym said.handle_is) m.fits) with_sizes,
+      subst (λ n. length after_it ≤ accepted.made_after made (Some n)) (sym said.handle_is) m.enough,
+    )

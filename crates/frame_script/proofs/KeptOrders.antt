@@ -17,7 +17,7 @@ use Rattle.frame_script.specs.Signs.{sign_in}
 use Rattle.frame_script.specs.Sources.{file_tokens, text_at, number_at, signed_at}
 use Rattle.frame_script.specs.Names.{Name, kind_in}
 use Rattle.frame_script.specs.Faults.{Scope, order_faults, use_fault, misfit, kernel_in, takes, scheduled_faults, args_faults, sizes_faults, waive_fault, handles_faults, kernel_fault, made, made_alike}
-use Rattle.frame_script.specs.Spelling.{Says, names_after, names_with, place_of, literal_of, kernel_place, params_of, params_named, param_place, cut_of, defer_of, complete_of}
+use Rattle.frame_script.specs.Spelling.{Says, names_after, names_with, place_of, literal_of, params_of, params_named, param_place, complete_of}
 use Rattle.frame_script.specs.Walking.{KeepsNames, KeepsKernels}
 use Rattle.frame_script.proofs.KeptSays.{parted, joined, holds, same_used, same_made, same_handles, same_args, same_defer}
 
@@ -71,7 +71,7 @@ schedule_known : (s : Source) (c : Scope) (names : List Name) (kernels : List Ke
     (at literals count : ℕ) (o : Order) → KeepsNames (names_with s c.names (Some (handle, kind.Handle))) names → KeepsKernels c.kernels kernels →
     Says s (names_with s c.names (Some (handle, kind.Handle))) c.kernels literals count (Schedule auto handle kernel args cut waive after) o →
     Says s names kernels literals count (Schedule auto handle kernel args cut waive after) o
-schedule_known s c names kernels auto handle kernel args cut waive after k is none at literals count o keeps more (given, waived, handles, given_are, waived_are, handles_are, says) =
+schedule_known s c names kernels auto handle kernel args cut waive after k is none at literals count o keeps more (job, said, says) =
     let m : Option (ℕ × NameKind) = Some (handle, kind.Handle) in
     let p = parted (kernel_fault k kernel args cut) _ none in
     let q = joined (args_faults s c.names cut k.params.items args) _ p.1 in
@@ -80,16 +80,18 @@ schedule_known s c names kernels auto handle kernel args cut waive after k is no
     let taken : takes k args cut ≡ true = holds (takes k args cut) _ kernel (parted _ _ p.0).0 in
     let kept = more (text_at s kernel) k is in
     let params : params_named s c.kernels kernel ≡ params_named s kernels kernel = ap params_of (is ∙ sym kept.0) in (
-      given,
-      waived,
-      handles,
-      given_are ∙ same_args s c.names names m cut k.params.items args keeps (takes_all k args cut taken) q.0,
-      waived_are ∙ ap (λ ps. map (λ x. param_place ps (text_at s x)) waive) params,
-      handles_are ∙ same_handles s c.names names m after keeps t.1,
-      says
-          ∙ (ap (λ h. order.Schedule auto h (kernel_place c.kernels (text_at s kernel)) given (cut_of s cut) (defer_of s (names_with s c.names m) cut) waived handles) (same_made s c.names names handle kind.Handle keeps)
-          ∙ (ap (λ j. order.Schedule auto (place_of s names handle) j given (cut_of s cut) (defer_of s (names_with s c.names m) cut) waived handles) (sym kept.1)
-          ∙ ap (λ d. order.Schedule auto (place_of s names handle) (kernel_place kernels (text_at s kernel)) given (cut_of s cut) d waived handles) (same_defer s c.names names m cut keeps r.0))),
+      job,
+      record {
+        auto_is = said.auto_is;
+        handle_is = said.handle_is ∙ same_made s c.names names handle kind.Handle keeps;
+        kernel_is = said.kernel_is ∙ sym kept.1;
+        args_are = said.args_are ∙ same_args s c.names names m cut k.params.items args keeps (takes_all k args cut taken) q.0;
+        cut_is = said.cut_is;
+        defer_is = said.defer_is ∙ same_defer s c.names names m cut keeps r.0;
+        waive_are = said.waive_are ∙ ap (λ ps. map (λ x. param_place ps (text_at s x)) waive) params;
+        after_are = said.after_are ∙ same_handles s c.names names m after keeps t.1;
+      },
+      says,
     )
 
 schedule_by : (s : Source) (c : Scope) (names : List Name) (kernels : List Kernel) (auto : Bool) (handle kernel : ℕ) (args : List RawArg) (cut : RawSizes) (waive after : List ℕ) →

@@ -42,7 +42,7 @@ says_made s names after kernels literals count (View name of) o at kind e is =
 says_made s names after kernels literals count (Copy name of) o at kind e is =
     ap made_place is ∙ ap (λ x. Some (place_of s after x)) (alike_token (kind_in names (text_at s of)) e)
 says_made s names after kernels literals count (Schedule auto handle kernel args cut waive later) o at kind e is =
-    ap made_place is.6 ∙ ap (λ x. Some (place_of s after x)) (same_token e)
+    ap made_place is.2 ∙ ap (λ x. Some x) is.1.handle_is ∙ ap (λ x. Some (place_of s after x)) (same_token e)
 says_made s names after kernels literals count (Combine name of) o at kind e is =
     ap made_place is.2 ∙ ap (λ x. Some (place_of s after x)) (same_token e)
 says_made s names after kernels literals count (Dispose name later None) o at kind e is = cc

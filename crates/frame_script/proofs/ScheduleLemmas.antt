@@ -1,9 +1,10 @@
 -- The faults of a schedule, by what its kernel's name is.
-use Rattle.std.proofs.Common.{◌≡◌, ℕ, List, [], ◌∷◌, Option, Some, None, refl, sym, ◌∙◌, subst}
+use Rattle.std.proofs.Common.{◌≡◌, ℕ, Bool, List, [], ◌∷◌, Option, Some, None, refl, sym, ◌∙◌, subst}
 use Rattle.std.specs.List.{slice_get}
 use Rattle.kernel_code.specs.declared.check.StaticFault.{StaticFault}
 use Rattle.frame_ast.specs.declared.kernel.Kernel.{Kernel}
 use Rattle.frame_ast.specs.declared.kernel.FaultKind.TheVariants.{UnknownName}
+use Rattle.frame_ast.specs.declared.script.NewJob.{NewJob}
 use Rattle.frame_ast.specs.Lists.{first_some}
 use Rattle.frame_script.specs.declared.fault.OrderFault.{OrderFault}
 use Rattle.frame_script.specs.declared.raw.RawArg.{RawArg}
@@ -13,6 +14,7 @@ use Rattle.frame_script.specs.Names.{Name}
 use Rattle.frame_script.specs.Faults.{scheduled_faults, kernel_in}
 use Rattle.frame_script.specs.KernelIndex.{kernel_at}
 use Rattle.frame_script.specs.Checks.{Refuses}
+use Rattle.frame_script.specs.Spelling.{SaysJob}
 use Rattle.frame_script.proofs.FaultLemmas.{first_next, first_here, first_none, refuses_next}
 use Rattle.frame_script.proofs.JobLemmas.{found_at, not_found}
 
@@ -39,3 +41,9 @@ pub schedule_good : (s : Source) (names : List Name) (o : Option Kernel) (k : Ke
     first_some (a ∷ scheduled_faults s names o at args sizes waive after) ≡ None
 schedule_good s names o k at args sizes waive after a none is r =
     subst (λ j. first_some (a ∷ scheduled_faults s names j at args sizes waive after) ≡ None) is (first_none a _ none r)
+
+-- a job that is another one says what that one says
+pub job_said : {s : Source} {names : List Name} {kernels : List Kernel} {auto : Bool} {handle kernel : ℕ} {args : List RawArg} {cut : RawSizes} {waive after : List ℕ} {job made : NewJob} → job ≡ made →
+    SaysJob s names kernels auto handle kernel args cut waive after made → SaysJob s names kernels auto handle kernel args cut waive after job
+job_said {s} {names} {kernels} {auto} {handle} {kernel} {args} {cut} {waive} {after} e said =
+    subst (SaysJob s names kernels auto handle kernel args cut waive after) (sym e) said

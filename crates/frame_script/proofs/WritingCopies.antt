@@ -40,8 +40,22 @@ copy_says s names kernels literals count (Remove name at) x y says c = copy_of _
 copy_says s names kernels literals count (Clear name) x y says c = copy_of _ x y says c
 copy_says s names kernels literals count (SetCapacity name cap) x y says c = copy_of _ x y says c
 copy_says s names kernels literals count (Schedule auto handle kernel args cut waive after) x y says c =
-    let same = copy_of _ x y says.6 c in
-    (same.0, same.1, same.2, same.3 ∙ says.3, same.4 ∙ says.4, same.5 ∙ says.5, same.6)
+    let same = copy_of _ x y says.2 c in
+    let said = says.1 in
+    let copied = same.1 in (
+      same.0,
+      record {
+        auto_is = copied.auto ∙ said.auto_is;
+        handle_is = copied.handle ∙ said.handle_is;
+        kernel_is = copied.kernel ∙ said.kernel_is;
+        args_are = copied.args ∙ said.args_are;
+        cut_is = copied.cut ∙ said.cut_is;
+        defer_is = copied.defer ∙ said.defer_is;
+        waive_are = copied.waive ∙ said.waive_are;
+        after_are = copied.after ∙ said.after_are;
+      },
+      same.2,
+    )
 copy_says s names kernels literals count (Combine name of) x y says c =
     let same = copy_of _ x y says.2 c in
     (same.0, same.1 ∙ says.1, same.2)
@@ -66,7 +80,7 @@ copy_is {s} {names} {kernels} {literals} {count} {at} {form} x y is c = record {
 
 copy_test : (x y : Order) → IsCopyOf x y → is_test y ≡ is_test x
 copy_test (order.Column name column life) y c = ap is_test c.2
-copy_test (order.Schedule auto handle kernel args cut defer_ waive after) y c = ap is_test c.6
+copy_test (order.Schedule job) y c = ap is_test c.2
 copy_test (order.Combine name of) y c = ap is_test c.2
 copy_test (order.Dispose name after handle) y c = ap is_test c.2
 copy_test _ y c = ap is_test c

@@ -96,7 +96,8 @@ repeated_once Is xs is = (xs, [], sym (append-nil xs), is, refl)
 -- each is a copy of itself
 own_copy_of : (o : Order) → IsCopyOf o o
 own_copy_of (order.Column name column life) = (column, refl, refl)
-own_copy_of (order.Schedule auto handle kernel args cut defer_ waive after) = (args, waive, after, refl, refl, refl, refl)
+own_copy_of (order.Schedule job) =
+    (job, record { auto = refl; handle = refl; kernel = refl; args = refl; cut = refl; defer = refl; waive = refl; after = refl }, refl)
 own_copy_of (order.Combine name of) = (of, refl, refl)
 own_copy_of (order.Dispose name after handle) = (after, refl, refl)
 own_copy_of _ = refl

@@ -1,6 +1,6 @@
 -- Which statement of a script a statement's text says, where it has no fault. An unknown name has no place, and stands
 -- as 0 here.
-use Rattle.std.specs.Prelude.{◌≡◌, ℕ, Bool, true, false, Vec, List, [], map, Option, None, Some, unwrap_or, position, slice_get, string_bytes}
+use Rattle.std.specs.Prelude.{◌≡◌, ℕ, Bool, true, false, Box, Vec, List, [], map, Option, None, Some, unwrap_or, position, slice_get, string_bytes}
 use Rattle.std.specs.declared.alloc.Global.{Global}
 use Rattle.std.specs.Option.{option_map}
 use Rattle.std.specs.Str.{bytes_eq}
@@ -8,6 +8,7 @@ use Rattle.frame_ast.specs.declared.kernel.Param.{Param}
 use Rattle.frame_ast.specs.declared.kernel.Kernel.{Kernel}
 use Rattle.frame_ast.specs.declared.script.Arg.{Arg}
 use Rattle.frame_ast.specs.declared.script.Arg.TheVariants as arg
+use Rattle.frame_ast.specs.declared.script.NewJob.{NewJob}
 use Rattle.frame_ast.specs.declared.script.Order.{Order}
 use Rattle.frame_ast.specs.declared.script.Order.TheVariants as order
 use Rattle.frame_script.specs.declared.raw.RawNumber.{RawNumber}
@@ -67,6 +68,18 @@ abbrev pub complete_of : Bool → ℕ → Order
 complete_of false name = order.Complete name
 complete_of true name = order.CompleteAuto name
 
+-- what a schedule says of its job
+pub record SaysJob (s : Source) (names : List Known) (kernels : List Kernel) (auto : Bool) (handle kernel : ℕ)
+    (args : List RawArg) (cut : RawSizes) (waive after : List ℕ) (job : NewJob) : Type 0 where
+  pub auto_is : job.auto ≡ auto
+  pub handle_is : job.handle ≡ place_of s names handle
+  pub kernel_is : job.kernel ≡ kernel_place kernels (text_at s kernel)
+  pub args_are : job.args.items ≡ map (arg_of s names) args
+  pub cut_is : job.cut ≡ cut_of s cut
+  pub defer_is : job.defer ≡ defer_of s names cut
+  pub waive_are : job.waive.items ≡ map (λ at. param_place (params_named s kernels kernel) (text_at s at)) waive
+  pub after_are : job.after.items ≡ map (place_of s names) after
+
 -- STATEMENTS
 
 -- where these names are known, these are the kernels and so many lists of values stand before it; `count` is how many
@@ -99,12 +112,8 @@ Says s names kernels literals count (Clear name) o = o ≡ order.Clear (place_of
 Says s names kernels literals count (SetCapacity name cap) o =
     o ≡ order.SetCapacity (place_of s names name) (number_at s cap)
 Says s names kernels literals count (Schedule auto handle kernel args cut waive after) o =
-    (given : Vec Arg Global) × (waived : Vec ℕ Global) × (handles : Vec ℕ Global)
-    × (given.items ≡ map (arg_of s names) args)
-    × (waived.items ≡ map (λ at. param_place (params_named s kernels kernel) (text_at s at)) waive)
-    × (handles.items ≡ map (place_of s names) after)
-    × (o ≡ order.Schedule auto (place_of s names handle) (kernel_place kernels (text_at s kernel)) given (cut_of s cut)
-    (defer_of s names cut) waived handles)
+    (job : Box NewJob Global) × SaysJob s names kernels auto handle kernel args cut waive after job.value
+    × (o ≡ order.Schedule job)
 Says s names kernels literals count (Combine name of) o =
     (handles : Vec ℕ Global) × (handles.items ≡ map (place_of s names) of)
     × (o ≡ order.Combine (place_of s names name) handles)

@@ -1,9 +1,10 @@
 //! Copies of statements.
 
 ghost use Rattle.std.specs.Prelude.{◌≡◌, IsTrue, IfOk};
+ghost use Rattle.frame_ast.specs.SameJobs.{SameJob};
 ghost use Rattle.frame_script.specs.Copies.{IsCopyOf, IsCopy, has_no_lists};
 
-use frame_ast::script::{Order, Statement};
+use frame_ast::script::{NewJob, Order, Statement};
 use job_base::NoMemory;
 use std::alloc::Global;
 
@@ -18,6 +19,21 @@ pub fn copy_of(alloc: Global, statement: &Statement) -> Result<Statement, NoMemo
     })
 }
 
+fn job_copy(alloc: Global, job: &NewJob) -> Result<NewJob, NoMemory>
+    ensures { IfOk result (λ copy. SameJob copy job.now) }
+{
+    Ok(NewJob {
+        auto: job.auto,
+        handle: job.handle,
+        kernel: job.kernel,
+        args: job.args.to_vec(alloc)?,
+        cut: job.cut,
+        defer: job.defer,
+        waive: job.waive.to_vec(alloc)?,
+        after: job.after.to_vec(alloc)?,
+    })
+}
+
 fn order_copy(alloc: Global, order: &Order) -> Result<Order, NoMemory>
     ensures { IfOk result (λ copy. IsCopyOf order.now copy) }
 {
@@ -27,25 +43,10 @@ fn order_copy(alloc: Global, order: &Order) -> Result<Order, NoMemory>
             column: column.to_vec(alloc)?,
             life: *life,
         }),
-        Order::Schedule {
-            auto,
-            handle,
-            kernel,
-            args,
-            cut,
-            defer,
-            waive,
-            after,
-        } => Ok(Order::Schedule {
-            auto: *auto,
-            handle: *handle,
-            kernel: *kernel,
-            args: args.to_vec(alloc)?,
-            cut: *cut,
-            defer: *defer,
-            waive: waive.to_vec(alloc)?,
-            after: after.to_vec(alloc)?,
-        }),
+        Order::Schedule(job) => {
+            let copy = Box::new(alloc, job_copy(alloc, job)?)?;
+            Ok(Order::Schedule(copy))
+        }
         Order::Combine { name, of } => Ok(Order::Combine {
             name: *name,
             of: of.to_vec(alloc)?,
@@ -156,7 +157,7 @@ fn plain_copy(order: &Order) -> Order
             name: *name,
             cap: *cap,
         },
-        Order::Schedule { .. } => unreachable!(),
+        Order::Schedule(_) => unreachable!(),
         Order::Combine { .. } => unreachable!(),
         Order::Complete { name } => Order::Complete { name: *name },
         Order::CompleteAuto { name } => Order::CompleteAuto { name: *name },

@@ -99,26 +99,17 @@ fn write_change(text: &mut String, order: &Order) -> Result<(), Fail> {
 /// A statement about jobs.
 fn write_job(text: &mut String, order: &Order) -> Result<(), Fail> {
     match order {
-        Order::Schedule {
-            auto,
-            handle,
-            kernel,
-            args,
-            cut,
-            defer,
-            waive,
-            after,
-        } => {
-            write!(text, "schedule {auto} {handle} {kernel}")?;
-            write_args(text, args.as_slice())?;
-            if let Some((len, batch)) = cut {
+        Order::Schedule(job) => {
+            write!(text, "schedule {} {} {}", job.auto, job.handle, job.kernel)?;
+            write_args(text, job.args.as_slice())?;
+            if let Some((len, batch)) = job.cut {
                 write!(text, " cut {len} {batch}")?;
             }
-            if let Some((list, batch)) = defer {
+            if let Some((list, batch)) = job.defer {
                 write!(text, " defer {list} {batch}")?;
             }
-            write_places(text, waive.as_slice())?;
-            write_places(text, after.as_slice())?;
+            write_places(text, job.waive.as_slice())?;
+            write_places(text, job.after.as_slice())?;
         }
         Order::Combine { name, of } => {
             write!(text, "combine {name}")?;

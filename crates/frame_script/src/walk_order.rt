@@ -68,7 +68,7 @@ fn made_place(act: &Order) -> Option<u32>
         Order::Slice { name, .. } => Some(*name),
         Order::View { name, .. } => Some(*name),
         Order::Copy { name, .. } => Some(*name),
-        Order::Schedule { handle, .. } => Some(*handle),
+        Order::Schedule(job) => Some(job.handle),
         Order::Combine { name, .. } => Some(*name),
         Order::Dispose { handle, .. } => *handle,
         Order::DisposeAuto { handle, .. } => Some(*handle),

@@ -1,5 +1,5 @@
 use crate::written::Written;
-use frame_ast::script::{Arg, Life, Order, Sign};
+use frame_ast::script::{Arg, Life, NewJob, Order, Sign};
 use std::alloc::Global;
 use std::fmt::Write;
 use std::test::Fail;
@@ -89,13 +89,8 @@ fn lists_of(alloc: Global, order: &Order) -> Result<String, Fail> {
                 write!(text, "{byte} ")?;
             }
         }
-        Order::Schedule {
-            args,
-            waive,
-            after,
-            ..
-        } => {
-            write!(text, "{args:?} {waive:?} {after:?}")?;
+        Order::Schedule(job) => {
+            write!(text, "{:?} {:?} {:?}", job.args, job.waive, job.after)?;
         }
         Order::Combine { of, .. } => write!(text, "{of:?}")?,
         Order::Dispose { after, .. } => write!(text, "{after:?}")?,
@@ -117,16 +112,19 @@ fn copies_have_lists_of_their_own(rt: HostRuntime) -> Result<(), Fail> {
             "104 112 ",
         ),
         (
-            Order::Schedule {
-                auto: false,
-                handle: 0,
-                kernel: 1,
-                args: [Arg::Name(2), Arg::Number(-3)].to_vec(alloc)?,
-                cut: None,
-                defer: Some((4, 5)),
-                waive: [0].to_vec(alloc)?,
-                after: [6, 7].to_vec(alloc)?,
-            },
+            Order::Schedule(Box::new(
+                alloc,
+                NewJob {
+                    auto: false,
+                    handle: 0,
+                    kernel: 1,
+                    args: [Arg::Name(2), Arg::Number(-3)].to_vec(alloc)?,
+                    cut: None,
+                    defer: Some((4, 5)),
+                    waive: [0].to_vec(alloc)?,
+                    after: [6, 7].to_vec(alloc)?,
+                },
+            )?),
             "[Name(2), Number(-3)] [0] [6, 7]",
         ),
         (

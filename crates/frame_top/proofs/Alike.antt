@@ -1,5 +1,5 @@
 -- Scripts that are the same but for where their parts lie in memory are refused alike.
-use Rattle.std.proofs.Common.{◌≡◌, refl, ap, ◌∙◌, ℕ, zero, suc, ◌+◌, Bool, true, false, List, [], ◌∷◌, ◌++◌, Option, None, Some, option_map}
+use Rattle.std.proofs.Common.{◌≡◌, refl, ap, ◌∙◌, ℕ, ◌+◌, Bool, true, false, List, [], ◌∷◌, ◌++◌, None, Some, option_map}
 use Rattle.std.specs.Prelude.{if◌then◌else◌, ◌||◌}
 use Rattle.std.specs.List.{list_any}
 use Rattle.frame_ast.specs.declared.kernel.Kernel.{Kernel}
@@ -12,84 +12,51 @@ use Rattle.frame_ast.specs.Accepted.{is_when}
 use Rattle.frame_ast.specs.Answers.{no_column_line, limit_line, script_refused_line}
 use Rattle.frame_ast.specs.Contents.{words_of}
 use Rattle.frame_ast.specs.Limits.{passed, limit_by_run, limit_by_text, limit_of, job_of, words_by}
-use Rattle.frame_ast.specs.States.{Value, ScriptState, at_start, with_name}
-use Rattle.frame_ast.specs.Schedules.{need_of, givens}
+use Rattle.frame_ast.specs.States.{ScriptState, at_start}
 use Rattle.frame_ast.specs.Lists.{first_some}
-use Rattle.frame_ast.specs.Refusals.{Refused, disposed, pending, jobs_named, store_full, schedule_refusal}
-use Rattle.frame_ast.specs.Orders.{Table, Setting, setting, name_text, params_of, is_parallel, new_column}
-use Rattle.frame_ast.specs.Texts.{refused_line}
-use Rattle.frame_ast.specs.Checks.{refusal}
-use Rattle.frame_ast.specs.Effects.{lost, make, accept, dispose, effect}
-use Rattle.frame_ast.specs.Scripts.{decided, act_or_pass, act}
-use Rattle.job_base.specs.declared.Refusal.{Refusal}
+use Rattle.frame_ast.specs.Orders.{Table, Setting, setting, new_column}
+use Rattle.frame_ast.specs.Scripts.{act}
 use Rattle.tree_laws.specs.Same.{SameKernel, SameOrder, SameStatement, SameScript, Pairwise}
 use Rattle.tree_laws.proofs.Runs.{same_runs}
-use Rattle.tree_laws.proofs.Settings.{same_refusal, same_effect}
+use Rattle.tree_laws.proofs.Scripts.{same_act_at}
 use Rattle.frame_plan.specs.Missing.{lacks_column, is_none}
 use Rattle.frame_top.specs.Refusals.{answer, column_name, column_refusal, first_when, depth_refusal, limit_refusal, frame_refusal}
 use Rattle.frame_top.specs.declared.status.TheConstants.{TABLE_REFUSED, SCRIPT_REFUSED, PAST_LIMIT}
 
 -- STATEMENTS THAT ARE THE SAME, in one setting
 
-order_refusal : (g : Setting) (s : ScriptState) (x y : Order) → SameOrder x y → refusal g s x ≡ refusal g s y
-order_refusal g s x y SameOrder.itself = refl
-order_refusal g s _ _ (SameOrder.column {name = name} bytes) = λ i. store_full s (words_of (new_column g (bytes i))) name
-order_refusal g s _ _ (SameOrder.schedule {auto = auto} {kernel = kernel} {defer = defer} args waive after) =
-    λ i. schedule_refusal s (is_parallel g kernel) auto (givens s (params_of g kernel) (args i) defer) (after i)
-order_refusal g s _ _ (SameOrder.combine of) = refl
-order_refusal g s _ _ (SameOrder.dispose {name = name} after) =
-    λ i. first_some (disposed s (name ∷ []) ∷ pending s (jobs_named s (after i)) (need_of s name true ∷ []) ∷ [])
-
-order_loss : (r : Refusal) (s : ScriptState) (x y : Order) → SameOrder x y → lost r x s ≡ lost r y s
-order_loss r s x y SameOrder.itself = refl
-order_loss r s _ _ (SameOrder.column bytes) = refl
-order_loss r s _ _ (SameOrder.schedule args waive after) = refl
-order_loss r s _ _ (SameOrder.combine of) = refl
-order_loss r s _ _ (SameOrder.dispose {handle = None} after) = refl
-order_loss r s _ _ (SameOrder.dispose {handle = Some handle} after) = refl
-
-order_effect : (g : Setting) (line : ℕ) (s : ScriptState) (x y : Order) → SameOrder x y → effect g line s x ≡ effect g line s y
-order_effect g line s x y SameOrder.itself = refl
-order_effect g line s _ _ (SameOrder.column {name = name} {life = life} bytes) = λ i. make line name life (new_column g (bytes i)) s
-order_effect g line s _ _ (SameOrder.schedule {auto = auto} {handle = handle} {kernel = kernel} {cut = cut} {defer = defer} args waive after) =
-    λ i. accept g s auto handle kernel (args i) cut defer (waive i) (after i)
-order_effect g line s _ _ (SameOrder.combine {name = name} of) = λ i. with_name name (Value.Handle (jobs_named s (of i))) s
-order_effect g line s _ _ (SameOrder.dispose {handle = None} after) = refl
-order_effect g line s _ _ (SameOrder.dispose {name = name} {handle = Some handle} after) =
-    λ i. with_name handle (Value.Handle (jobs_named s (after i))) (dispose name s)
-
 order_when : (x y : Order) → SameOrder x y → is_when x ≡ is_when y
 order_when x y SameOrder.itself = refl
 order_when _ _ (SameOrder.column bytes) = refl
-order_when _ _ (SameOrder.schedule args waive after) = refl
+order_when _ _ (SameOrder.schedule same) = refl
 order_when _ _ (SameOrder.combine of) = refl
 order_when _ _ (SameOrder.dispose after) = refl
 
 order_jobs : (x y : Order) → SameOrder x y → job_of x ≡ job_of y
 order_jobs x y SameOrder.itself = refl
 order_jobs _ _ (SameOrder.column bytes) = refl
-order_jobs _ _ (SameOrder.schedule args waive after) = refl
+order_jobs _ _ (SameOrder.schedule same) = refl
 order_jobs _ _ (SameOrder.combine of) = refl
 order_jobs _ _ (SameOrder.dispose after) = refl
 
 order_words : (g : Setting) (x y : Order) → SameOrder x y → words_by g x ≡ words_by g y
 order_words g x y SameOrder.itself = refl
 order_words g _ _ (SameOrder.column bytes) = λ i. words_of (new_column g (bytes i))
-order_words g _ _ (SameOrder.schedule args waive after) = refl
+order_words g _ _ (SameOrder.schedule same) = refl
 order_words g _ _ (SameOrder.combine of) = refl
 order_words g _ _ (SameOrder.dispose after) = refl
 
 order_lacks : (table : Table) (x y : Order) → SameOrder x y → lacks_column table x ≡ lacks_column table y
 order_lacks table x y SameOrder.itself = refl
 order_lacks table _ _ (SameOrder.column bytes) = λ i. is_none (table (bytes i))
-order_lacks table _ _ (SameOrder.schedule args waive after) = refl
+order_lacks table _ _ (SameOrder.schedule same) = refl
 order_lacks table _ _ (SameOrder.combine of) = refl
 order_lacks table _ _ (SameOrder.dispose after) = refl
 
 order_column : (x y : Order) → SameOrder x y → column_name x ≡ column_name y
 order_column x y SameOrder.itself = refl
 order_column _ _ (SameOrder.column bytes) = bytes
-order_column _ _ (SameOrder.schedule args waive after) = refl
+order_column _ _ (SameOrder.schedule same) = refl
 order_column _ _ (SameOrder.combine of) = refl
 order_column _ _ (SameOrder.dispose after) = refl
 
@@ -127,25 +94,12 @@ module _ (g : Setting) (ls : List Kernel) (same : Pairwise SameKernel g.kernels 
   abbrev h : Setting
   h = record g { kernels = ls }
 
-  same_decided : (o : Option Refused) (s : ScriptState) (x y : Statement) → SameStatement x y → decided o g s x ≡ decided o h s y
-  same_decided None s x y alike =
-      same_effect g ls same x.line s x.act ∙ order_effect h x.line s x.act y.act alike.act ∙ ap (λ line. effect h line s y.act) alike.line
-  same_decided (Some r) s x y alike =
-      let told : ℕ → ScriptState → ScriptState = λ line after. record after { refused = s.refused + 1; lines = s.lines ++ refused_line line r.cause (name_text g r.name) } in
-      ap (told x.line) (order_loss r.cause s x.act y.act alike.act) ∙ ap (λ line. told line (lost r.cause y.act s)) alike.line
-
-  same_act_by : (n : ℕ) (s : ScriptState) (x y : Statement) → SameStatement x y → act_or_pass n g s x ≡ act_or_pass n h s y
-  same_act_by zero s x y alike =
-      same_decided (refusal g s x.act) s x y alike
-      ∙ ap (λ o. decided o h s y) (same_refusal g ls same s x.act ∙ order_refusal h s x.act y.act alike.act)
-  same_act_by (suc n) s x y alike = refl
-
   same_by_run : (xs ys : List Statement) → Pairwise SameStatement xs ys → (s t : ScriptState) → s ≡ t → limit_by_run g xs s ≡ limit_by_run h ys t
   same_by_run [] [] alike s t e = refl
   same_by_run [] (y ∷ ys) alike s t e = absurd alike
   same_by_run (x ∷ xs) [] alike s t e = absurd alike
   same_by_run (x ∷ xs) (y ∷ ys) alike s t e =
-      let after : act g s x ≡ act h t y = same_act_by s.passing s x y alike.0 ∙ ap (λ u. act h u y) e in
+      let after : act g s x ≡ act h t y = same_act_at g ls same s.passing s x y alike.0 ∙ ap (λ u. act h u y) e in
       λ i. first_some (passed (after i).book.count (after i).created ∷ same_by_run xs ys alike.1 (act g s x) (act h t y) after i ∷ [])
 
   -- what a statement would take doesn't rest on kernels
@@ -166,7 +120,7 @@ module _ (g : Setting) (ls : List Kernel) (same : Pairwise SameKernel g.kernels 
   words_alike (Remove name at) = refl
   words_alike (Clear name) = refl
   words_alike (SetCapacity name cap) = refl
-  words_alike (Schedule auto handle kernel args cut defer waive after) = refl
+  words_alike (Schedule job) = refl
   words_alike (Combine name of) = refl
   words_alike (Complete name) = refl
   words_alike (CompleteAuto name) = refl

@@ -104,9 +104,9 @@ effect_grows g line s (SetCapacity name cap) =
     let t : ScriptState = views_broken name (changed name (capacity_in (contents_at s name) cap) s) in
     let a : Stays s t = changed_broken_stays name (capacity_in (contents_at s name) cap) s in
     stays_grows s (regrown name cap t) (record { lines = a.lines; count = a.count })
-effect_grows g line s (Schedule auto handle kernel args cut defer waive after) = record {
+effect_grows g line s (Schedule job) = record {
   more = [];
-  lines = (stays_after s _ _ (leave_all_stays (params_of g kernel) args.items _ s) (all_broken_stays (givens s (params_of g kernel) args.items defer) _)).lines ∙ sym (append-nil s.lines);
+  lines = (stays_after s _ _ (leave_all_stays (params_of g job.value.kernel) job.value.args.items _ s) (all_broken_stays (givens s (params_of g job.value.kernel) job.value.args.items job.value.defer) _)).lines ∙ sym (append-nil s.lines);
   count = omega arith;
 }
 effect_grows g line s (Combine name of) = stays_grows s _ (record { lines = refl; count = refl })
@@ -139,7 +139,7 @@ lost_count g r (Put name key value) s = refl
 lost_count g r (Remove name at) s = (broken_by_stays (breaks_views r.cause) name s).count
 lost_count g r (Clear name) s = refl
 lost_count g r (SetCapacity name cap) s = (broken_by_stays (breaks_views r.cause) name s).count
-lost_count g r (Schedule auto handle kernel args cut defer waive after) s = refl
+lost_count g r (Schedule job) s = refl
 lost_count g r (Combine name of) s = refl
 lost_count g r (Complete name) s = refl
 lost_count g r (CompleteAuto name) s = refl

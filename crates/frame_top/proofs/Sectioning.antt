@@ -1,8 +1,7 @@
 -- One section more.
 use Rattle.std.proofs.Common.{◌≡◌, refl, sym, ap, ◌∙◌, subst, ℕ, zero, suc, ◌+◌, ◌*◌, ◌<◌, ◌≤◌, ◌^◌, Bool, true, false, ℤ, List, [], ◌∷◌, ◌++◌, length, map, Option, None, Some, IsSome, length-append, arith}
-use Rattle.std.specs.Prelude.{slice_get, IsTrue, nat_le, Vec, String}
+use Rattle.std.specs.Prelude.{slice_get, Vec, String}
 use Rattle.std.specs.declared.alloc.Global.{Global}
-use Rattle.std.specs.List.{list_any}
 use Rattle.std.proofs.lemmas.Bool.{leb-true}
 use Rattle.std.proofs.lemmas.List.{length-map}
 use Rattle.job_base.specs.declared.limits.TheConstants.{MOST_INDEXES, MOST_STATEMENTS, MOST_TESTS}
@@ -111,7 +110,7 @@ test_is_when script table s cells test (Put name key value) h = absurd h
 test_is_when script table s cells test (Remove name at) h = absurd h
 test_is_when script table s cells test (Clear name) h = absurd h
 test_is_when script table s cells test (SetCapacity name cap) h = absurd h
-test_is_when script table s cells test (Schedule auto handle kernel args cut defer waive after) h = absurd h
+test_is_when script table s cells test (Schedule job) h = absurd h
 test_is_when script table s cells test (Combine name of) h = absurd h
 test_is_when script table s cells test (Complete name) h = absurd h
 test_is_when script table s cells test (CompleteAuto name) h = absurd h
@@ -141,7 +140,7 @@ test_outcome script table s cells test (Put name key value) w h = absurd h
 test_outcome script table s cells test (Remove name at) w h = absurd h
 test_outcome script table s cells test (Clear name) w h = absurd h
 test_outcome script table s cells test (SetCapacity name cap) w h = absurd h
-test_outcome script table s cells test (Schedule auto handle kernel args cut defer waive after) w h = absurd h
+test_outcome script table s cells test (Schedule job) w h = absurd h
 test_outcome script table s cells test (Combine name of) w h = absurd h
 test_outcome script table s cells test (Complete name) w h = absurd h
 test_outcome script table s cells test (CompleteAuto name) w h = absurd h

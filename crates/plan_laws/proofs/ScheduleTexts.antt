@@ -1,5 +1,8 @@
 -- What the laws of accepted scripts say of a schedule, put together.
-use Rattle.std.proofs.Common.{◌≡◌, ◌<◌, ℕ, take, map, Some, None, refl, subst}
+use Rattle.std.proofs.Common.{◌≡◌, ◌<◌, ℕ, take, map, Option, Some, None, refl, sym, subst}
+use Rattle.std.specs.Prelude.{Box}
+use Rattle.std.specs.declared.alloc.Global.{Global}
+use Rattle.frame_ast.specs.declared.script.NewJob.{NewJob}
 use Rattle.frame_ast.specs.declared.script.Order.{Order}
 use Rattle.frame_ast.specs.declared.script.Order.TheVariants as order
 use Rattle.frame_ast.specs.Checks.{refusal}
@@ -15,7 +18,7 @@ use Rattle.frame_ast.proofs.ValuesFit.{values_fit}
 use Rattle.frame_ast.proofs.Widths.{written_parameters_have_widths}
 use Rattle.frame_core.proofs.Small.{some_is, none_some}
 use Rattle.plan_laws.specs.Accepting.{Schedule, accepted, IsAcceptedSchedule}
-use Rattle.plan_laws.specs.ScheduleTexts.{schedule_of, SchedulesAreAccepted}
+use Rattle.plan_laws.specs.ScheduleTexts.{plain_of, schedule_of, SchedulesAreAccepted}
 
 module _ (g : Setting) (s : ScriptState) (line : ℕ) (runs : g.runs ≡ map run_of g.kernels) where
   abbrev Keeps : Order → Type 0
@@ -24,12 +27,23 @@ module _ (g : Setting) (s : ScriptState) (line : ℕ) (runs : g.runs ≡ map run
   abbrev Is : Order → Schedule → Type 0
   Is x o = (effect g line s x ≡ accepted g s o) × IsAcceptedSchedule g s o
 
-  is_schedule : (x : Order) (o : Schedule) → schedule_of x ≡ Some o → refusal g s x ≡ None → FitsAsValues g s x → HaveWidths g s x → Keeps x → Is x o
-  is_schedule (order.Schedule auto handle kernel args cut None waive after) o e none fits widths forms =
-      subst (Is (order.Schedule auto handle kernel args cut None waive after)) (some_is e) (
+  -- by what its `defer` is
+  has_no_defer : (job : Box NewJob Global) (d : Option (ℕ × ℕ)) (o : Schedule) → job.value.defer ≡ d → plain_of job.value d ≡ Some o → refusal g s (order.Schedule job) ≡ None
+      → FitsAsValues g s (order.Schedule job) → HaveWidths g s (order.Schedule job) → Keeps (order.Schedule job) → Is (order.Schedule job) o
+  has_no_defer job None o is e none fits widths forms =
+      subst
+      (λ d. let here = order.Schedule (record job { value = record job.value { defer = d } }) in
+      refusal g s here ≡ None → FitsAsValues g s here → HaveWidths g s here → Keeps here → Is here o)
+      (sym is)
+      (λ none fits widths forms. subst (Is (order.Schedule (record job { value = record job.value { defer = None } }))) (some_is e) (
         refl,
         record { runs = runs; unrefused = none; args_fit = fits.0; widths = widths; forms = forms },
-      )
+      ))
+      none fits widths forms
+  has_no_defer job (Some defer) o is e none fits widths forms = absurd (none_some e)
+
+  is_schedule : (x : Order) (o : Schedule) → schedule_of x ≡ Some o → refusal g s x ≡ None → FitsAsValues g s x → HaveWidths g s x → Keeps x → Is x o
+  is_schedule (order.Schedule job) o e none fits widths forms = has_no_defer job job.value.defer o refl e none fits widths forms
   is_schedule (order.Array name len life values) o e none fits widths forms = absurd (none_some e)
   is_schedule (order.Column name column life) o e none fits widths forms = absurd (none_some e)
   is_schedule (order.List name cap life) o e none fits widths forms = absurd (none_some e)
@@ -45,7 +59,6 @@ module _ (g : Setting) (s : ScriptState) (line : ℕ) (runs : g.runs ≡ map run
   is_schedule (order.Remove name at) o e none fits widths forms = absurd (none_some e)
   is_schedule (order.Clear name) o e none fits widths forms = absurd (none_some e)
   is_schedule (order.SetCapacity name cap) o e none fits widths forms = absurd (none_some e)
-  is_schedule (order.Schedule auto handle kernel args cut (Some defer) waive after) o e none fits widths forms = absurd (none_some e)
   is_schedule (order.Combine name of) o e none fits widths forms = absurd (none_some e)
   is_schedule (order.Complete name) o e none fits widths forms = absurd (none_some e)
   is_schedule (order.CompleteAuto name) o e none fits widths forms = absurd (none_some e)

@@ -1,5 +1,6 @@
 -- The schedules of an accepted script, read from their text: what the language says of one that isn't refused.
 use Rattle.std.specs.Prelude.{ℕ, ◌≡◌, take, Option, None, Some, slice_get}
+use Rattle.frame_ast.specs.declared.script.NewJob.{NewJob}
 use Rattle.frame_ast.specs.declared.script.Order.{Order}
 use Rattle.frame_ast.specs.declared.script.Order.TheVariants as order
 use Rattle.frame_ast.specs.declared.script.Script.{Script}
@@ -12,17 +13,22 @@ use Rattle.frame_ast.specs.Scripts.{final}
 use Rattle.frame_ast.specs.States.{ScriptState}
 use Rattle.plan_laws.specs.Accepting.{Schedule, accepted, IsAcceptedSchedule}
 
+-- what a schedule says where it has no `defer`, which is the second argument
+abbrev pub plain_of : NewJob → Option (ℕ × ℕ) → Option Schedule
+plain_of job None = Some (record {
+  auto = job.auto;
+  handle = job.handle;
+  kernel = job.kernel;
+  args = job.args.items;
+  cut = job.cut;
+  waive = job.waive.items;
+  after = job.after.items;
+})
+plain_of job (Some defer) = None
+
 -- the schedule of a statement that is one and has no `defer`
 abbrev pub schedule_of : Order → Option Schedule
-schedule_of (order.Schedule auto handle kernel args cut None waive after) = Some (record {
-  auto = auto;
-  handle = handle;
-  kernel = kernel;
-  args = args.items;
-  cut = cut;
-  waive = waive.items;
-  after = after.items;
-})
+schedule_of (order.Schedule job) = plain_of job.value job.value.defer
 schedule_of _ = None
 
 -- The statement does what an accepted schedule does, and the language accepts it as one.

@@ -5,7 +5,7 @@ use Rattle.frame_ast.specs.declared.script.Order.{Order}
 use Rattle.kernel_code.specs.declared.mark.Mark.{Mark}
 use Rattle.frame_script.specs.declared.source.Source.{Source}
 use Rattle.frame_script.specs.Sources.{line_at, number_at}
-use Rattle.frame_script.specs.Raw.{OrderForm}
+use Rattle.frame_script.specs.Raw.{OrderForm, Schedule}
 use Rattle.frame_script.specs.Names.{Name}
 use Rattle.frame_script.specs.Faults.{Scope, order_faults}
 use Rattle.frame_script.specs.Spelling.{Says}
@@ -31,6 +31,41 @@ pub by_text_said : (f : Source → Type 0) → ((s t : Source) → f (placed s t
 by_text_said f out in_ s t same x =
     out s t (subst (λ marks. f (placed s t.bytes.now marks)) same.marks (subst (λ bytes. f (placed s bytes s.marks.now)) same.bytes (in_ s s x)))
 
+-- a statement says the same there
+says_out : (names : List Name) (kernels : List Kernel) (literals count : ℕ) (form : OrderForm) (o : Order) (s t : Source) → Says (placed s t.bytes.now t.marks.now) names kernels literals count form o → Says t names kernels literals count form o
+says_out names kernels literals count (Schedule auto handle kernel args cut waive after) o s t (job, said, is) = (
+  job,
+  record {
+    auto_is = said.auto_is;
+    handle_is = said.handle_is;
+    kernel_is = said.kernel_is;
+    args_are = said.args_are;
+    cut_is = said.cut_is;
+    defer_is = said.defer_is;
+    waive_are = said.waive_are;
+    after_are = said.after_are;
+  },
+  is,
+)
+says_out names kernels literals count form o s t h = h
+
+says_in : (names : List Name) (kernels : List Kernel) (literals count : ℕ) (form : OrderForm) (o : Order) (s t : Source) → Says t names kernels literals count form o → Says (placed s t.bytes.now t.marks.now) names kernels literals count form o
+says_in names kernels literals count (Schedule auto handle kernel args cut waive after) o s t (job, said, is) = (
+  job,
+  record {
+    auto_is = said.auto_is;
+    handle_is = said.handle_is;
+    kernel_is = said.kernel_is;
+    args_are = said.args_are;
+    cut_is = said.cut_is;
+    defer_is = said.defer_is;
+    waive_are = said.waive_are;
+    after_are = said.after_are;
+  },
+  is,
+)
+says_in names kernels literals count form o s t h = h
+
 module _ (s t : Source) (same : SameFile s t) where
   pub same_line : (at : ℕ) → line_at s at ≡ line_at t at
   same_line at = by_text (λ x. line_at x at) (λ s t. refl) s t same
@@ -48,4 +83,4 @@ module _ (s t : Source) (same : SameFile s t) where
   same_literals form = by_text (λ x. literals_of x form) (λ s t. refl) s t same
 
   pub same_says : (names : List Name) (kernels : List Kernel) (literals count : ℕ) (form : OrderForm) (o : Order) → Says s names kernels literals count form o → Says t names kernels literals count form o
-  same_says names kernels literals count form o = by_text_said (λ x. Says x names kernels literals count form o) (λ s t h. h) (λ s t h. h) s t same
+  same_says names kernels literals count form o = by_text_said (λ x. Says x names kernels literals count form o) (says_out names kernels literals count form o) (says_in names kernels literals count form o) s t same

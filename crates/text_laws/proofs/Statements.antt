@@ -13,7 +13,7 @@ use Rattle.frame_script.specs.Sources.{text_at, number_at}
 use Rattle.frame_script.specs.Names.{Name}
 use Rattle.frame_script.specs.Raw.{OrderForm, NewColumn, Schedule, Combine, Dispose, Repeat, RawItems, Nothing, Kernel, Single, Block}
 use Rattle.frame_script.specs.Faults.{kernel_in}
-use Rattle.frame_script.specs.Spelling.{kernel_place, param_place, params_of, params_named, place_of, cut_of, defer_of, Says}
+use Rattle.frame_script.specs.Spelling.{kernel_place, param_place, params_of, params_named, Says}
 use Rattle.frame_script.specs.Files.{literals_of, literals_in, Repeated, IsStatement, StandFor}
 use Rattle.tree_laws.specs.Same.{SameParam, SameKernel, SameOrder, SameStatement, Pairwise}
 use Rattle.text_laws.proofs.Scopes.{SameMaybe, same_kernel_in, same_append, same_length}
@@ -62,8 +62,19 @@ module _ (s : Source) (names : List Name) (ks ls : List CheckedKernel) (same : P
   says_once literals count (NewColumn name column life) x y a b = along x y _ _ a.2 b.2 (SameOrder.column (a.1 ∙ sym b.1))
   says_once literals count (Schedule auto handle kernel args cut waive after) x y a b =
       let place = same_kernel_place ks ls same (text_at s kernel) in
-      along x y _ _ a.6 (b.6 ∙ ap (λ k. order.Schedule auto (place_of s names handle) k b.0 (cut_of s cut) (defer_of s names cut) b.1 b.2) (sym place))
-      (SameOrder.schedule (a.3 ∙ sym b.3) (a.4 ∙ ap (λ (f : ℕ → ℕ). map f waive) (λ i at. param_places kernel (text_at s at) i) ∙ sym b.4) (a.5 ∙ sym b.5))
+      let m = a.1 in
+      let n = b.1 in
+      along x y _ _ a.2 b.2
+      (SameOrder.schedule (record {
+        auto = m.auto_is ∙ sym n.auto_is;
+        handle = m.handle_is ∙ sym n.handle_is;
+        kernel = m.kernel_is ∙ place ∙ sym n.kernel_is;
+        args = m.args_are ∙ sym n.args_are;
+        cut = m.cut_is ∙ sym n.cut_is;
+        defer = m.defer_is ∙ sym n.defer_is;
+        waive = m.waive_are ∙ ap (λ (f : ℕ → ℕ). map f waive) (λ i at. param_places kernel (text_at s at) i) ∙ sym n.waive_are;
+        after = m.after_are ∙ sym n.after_are;
+      }))
   says_once literals count (Combine name of) x y a b = along x y _ _ a.2 b.2 (SameOrder.combine (a.1 ∙ sym b.1))
   says_once literals count (Dispose name after handle) x y a b = along x y _ _ a.2 b.2 (SameOrder.dispose (a.1 ∙ sym b.1))
   says_once literals count (Repeat n) x y a b = absurd a

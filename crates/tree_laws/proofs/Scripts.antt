@@ -8,6 +8,7 @@ use Rattle.frame_ast.specs.declared.script.Script.{Script}
 use Rattle.frame_ast.specs.Contents.{words_of}
 use Rattle.frame_ast.specs.States.{Value, ScriptState, at_start, with_name}
 use Rattle.frame_ast.specs.Schedules.{need_of, givens}
+use Rattle.frame_ast.specs.Jobs.{nobody}
 use Rattle.frame_ast.specs.Lists.{first_some}
 use Rattle.frame_ast.specs.Refusals.{Refused, disposed, pending, jobs_named, store_full, schedule_refusal}
 use Rattle.frame_ast.specs.Orders.{Table, no_table, Setting, setting, name_text, params_of, is_parallel, new_column}
@@ -25,8 +26,8 @@ use Rattle.tree_laws.proofs.Settings.{same_refusal, same_effect}
 order_refusal : (g : Setting) (s : ScriptState) (x y : Order) → SameOrder x y → refusal g s x ≡ refusal g s y
 order_refusal g s x y SameOrder.itself = refl
 order_refusal g s _ _ (SameOrder.column {name = name} bytes) = λ i. store_full s (words_of (new_column g (bytes i))) name
-order_refusal g s _ _ (SameOrder.schedule {auto = auto} {kernel = kernel} {defer = defer} args waive after) =
-    λ i. schedule_refusal s (is_parallel g kernel) auto (givens s (params_of g kernel) (args i) defer) (after i)
+order_refusal g s _ _ (SameOrder.schedule same) =
+    λ i. schedule_refusal s (is_parallel g (same.kernel i)) (same.auto i) (givens s (params_of g (same.kernel i)) (same.args i) (same.defer i)) (same.after i)
 order_refusal g s _ _ (SameOrder.combine of) = refl
 order_refusal g s _ _ (SameOrder.dispose {name = name} after) =
     λ i. first_some (disposed s (name ∷ []) ∷ pending s (jobs_named s (after i)) (need_of s name true ∷ []) ∷ [])
@@ -34,7 +35,7 @@ order_refusal g s _ _ (SameOrder.dispose {name = name} after) =
 order_loss : (r : Refusal) (s : ScriptState) (x y : Order) → SameOrder x y → lost r x s ≡ lost r y s
 order_loss r s x y SameOrder.itself = refl
 order_loss r s _ _ (SameOrder.column bytes) = refl
-order_loss r s _ _ (SameOrder.schedule args waive after) = refl
+order_loss r s _ _ (SameOrder.schedule same) = λ i. with_name (same.handle i) (Value.Handle nobody) s
 order_loss r s _ _ (SameOrder.combine of) = refl
 order_loss r s _ _ (SameOrder.dispose {handle = None} after) = refl
 order_loss r s _ _ (SameOrder.dispose {handle = Some handle} after) = refl
@@ -42,8 +43,8 @@ order_loss r s _ _ (SameOrder.dispose {handle = Some handle} after) = refl
 order_effect : (g : Setting) (line : ℕ) (s : ScriptState) (x y : Order) → SameOrder x y → effect g line s x ≡ effect g line s y
 order_effect g line s x y SameOrder.itself = refl
 order_effect g line s _ _ (SameOrder.column {name = name} {life = life} bytes) = λ i. make line name life (new_column g (bytes i)) s
-order_effect g line s _ _ (SameOrder.schedule {auto = auto} {handle = handle} {kernel = kernel} {cut = cut} {defer = defer} args waive after) =
-    λ i. accept g s auto handle kernel (args i) cut defer (waive i) (after i)
+order_effect g line s _ _ (SameOrder.schedule same) =
+    λ i. accept g s (same.auto i) (same.handle i) (same.kernel i) (same.args i) (same.cut i) (same.defer i) (same.waive i) (same.after i)
 order_effect g line s _ _ (SameOrder.combine {name = name} of) = λ i. with_name name (Value.Handle (jobs_named s (of i))) s
 order_effect g line s _ _ (SameOrder.dispose {handle = None} after) = refl
 order_effect g line s _ _ (SameOrder.dispose {name = name} {handle = Some handle} after) =
@@ -60,7 +61,7 @@ module _ (g : Setting) (ls : List Kernel) (same : Pairwise SameKernel g.kernels 
       let told : ℕ → ScriptState → ScriptState = λ line after. record after { refused = s.refused + 1; lines = s.lines ++ refused_line line r.cause (name_text g r.name) } in
       ap (told x.line) (order_loss r.cause s x.act y.act alike.act) ∙ ap (λ line. told line (lost r.cause y.act s)) alike.line
 
-  same_act_at : (n : ℕ) (s : ScriptState) (x y : Statement) → SameStatement x y → act_or_pass n g s x ≡ act_or_pass n h s y
+  pub same_act_at : (n : ℕ) (s : ScriptState) (x y : Statement) → SameStatement x y → act_or_pass n g s x ≡ act_or_pass n h s y
   same_act_at zero s x y alike =
       same_decided (refusal g s x.act) s x y alike
       ∙ ap (λ o. decided o h s y) (same_refusal g ls same s x.act ∙ order_refusal h s x.act y.act alike.act)

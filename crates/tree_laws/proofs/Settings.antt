@@ -96,8 +96,8 @@ module _ (g : Setting) (ls : List Kernel) (same : Pairwise SameKernel g.kernels 
   same_givens s n args defer = λ i. same_given_args s (params_of g n) (params_of h n) (params n) args i ++ given_length s defer
 
   pub same_refusal : (s : ScriptState) (x : Order) → refusal g s x ≡ refusal h s x
-  same_refusal s (Schedule auto handle kernel args cut defer waive after) =
-      λ i. schedule_refusal s (same_parallel g.kernels ls same kernel i) auto (same_givens s kernel args.items defer i) after.items
+  same_refusal s (Schedule job) =
+      λ i. schedule_refusal s (same_parallel g.kernels ls same job.value.kernel i) job.value.auto (same_givens s job.value.kernel job.value.args.items job.value.defer i) job.value.after.items
   same_refusal s x = refl
 
   same_accept : (s : ScriptState) (auto : Bool) (handle kernel : ℕ) (args : List Arg) (cut defer : Option (ℕ × ℕ)) (waive after : List ℕ) → accept g s auto handle kernel args cut defer waive after ≡ accept h s auto handle kernel args cut defer waive after
@@ -120,5 +120,5 @@ module _ (g : Setting) (ls : List Kernel) (same : Pairwise SameKernel g.kernels 
       }
 
   pub same_effect : (line : ℕ) (s : ScriptState) (x : Order) → effect g line s x ≡ effect h line s x
-  same_effect line s (Schedule auto handle kernel args cut defer waive after) = same_accept s auto handle kernel args.items cut defer waive.items after.items
+  same_effect line s (Schedule job) = same_accept s job.value.auto job.value.handle job.value.kernel job.value.args.items job.value.cut job.value.defer job.value.waive.items job.value.after.items
   same_effect line s x = refl

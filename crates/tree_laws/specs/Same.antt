@@ -1,5 +1,5 @@
 -- When two trees are the same but for where their parts lie in memory.
-use Rattle.std.specs.Prelude.{◌≡◌, Vec, ℕ, List, [], ◌∷◌, map, string_bytes}
+use Rattle.std.specs.Prelude.{◌≡◌, Box, Vec, ℕ, List, [], ◌∷◌, map, string_bytes}
 use Rattle.std.specs.declared.alloc.Global.{Global}
 use Rattle.frame_ast.specs.declared.kernel.Param.{Param}
 use Rattle.frame_ast.specs.declared.kernel.Expr.{Expr}
@@ -7,11 +7,12 @@ use Rattle.frame_ast.specs.declared.kernel.Expr.TheVariants.{Element', Has', Cou
 use Rattle.frame_ast.specs.declared.kernel.Stmt.{Stmt, out-Stmt}
 use Rattle.frame_ast.specs.declared.kernel.Stmt.TheOpen.{Assign, SetValue, Store, Add, AddPair, TryAdd, RemoveAt, RemoveKey, Clear, Write, Begin, If, For, While}
 use Rattle.frame_ast.specs.declared.kernel.Kernel.{Kernel}
-use Rattle.frame_ast.specs.declared.script.Arg.{Arg}
+use Rattle.frame_ast.specs.declared.script.NewJob.{NewJob}
 use Rattle.frame_ast.specs.declared.script.Order.{Order}
 use Rattle.frame_ast.specs.declared.script.Order.TheVariants.{Column, Schedule, Combine, Dispose}
 use Rattle.frame_ast.specs.declared.script.Statement.{Statement}
 use Rattle.frame_ast.specs.declared.script.Script.{Script}
+use Rattle.frame_ast.specs.SameJobs.{SameJob}
 
 -- EXPRESSIONS: the same form with the same numbers and the same parts, in whichever boxes p and q they lie
 
@@ -100,11 +101,7 @@ pub data SameOrder : Order → Order → Type 0 where
   itself : {x : Order} → SameOrder x x
   column : {name life : _} {bytes same_bytes : Vec ℕ Global} →
       bytes.items ≡ same_bytes.items → SameOrder (Column name bytes life) (Column name same_bytes life)
-  schedule : {auto handle kernel cut defer : _} {args same_args : Vec Arg Global}
-      {waive same_waive after same_after : Vec ℕ Global} →
-      args.items ≡ same_args.items → waive.items ≡ same_waive.items → after.items ≡ same_after.items →
-      SameOrder (Schedule auto handle kernel args cut defer waive after)
-      (Schedule auto handle kernel same_args cut defer same_waive same_after)
+  schedule : {job other : Box NewJob Global} → SameJob job.value other.value → SameOrder (Schedule job) (Schedule other)
   combine : {name : ℕ} {of same_of : Vec ℕ Global} → of.items ≡ same_of.items →
       SameOrder (Combine name of) (Combine name same_of)
   dispose : {name handle : _} {after same_after : Vec ℕ Global} →

@@ -20,7 +20,7 @@ use crate::raw::{RawArg, RawNumber, RawSizes};
 use crate::{Kernels, Names, OrderFault, Source};
 use frame_ast::kernel::{FaultKind, Kernel, ParamKind};
 use frame_ast::name_kind::{ARRAY_ARGUMENTS, HAS_ELEMENTS, NameKind};
-use frame_ast::script::{Arg, Order};
+use frame_ast::script::{Arg, NewJob, Order};
 use frame_grammar::TokenAt;
 use job_base::Access;
 use job_base::limits::MOST_INDEXES;
@@ -397,14 +397,18 @@ pub fn check_schedule(
     let kernel = kernels.kernel(place);
     let room = kernels.has_room(place);
     let rest = read_behind(alloc, source, names, kernel, room, text)?;
-    Ok(Order::Schedule {
-        auto: text.auto,
-        handle,
-        kernel: place,
-        args: rest.args,
-        cut: rest.cut,
-        defer: rest.defer,
-        waive: rest.waive,
-        after: rest.after,
-    })
+    let job = Box::new(
+        alloc,
+        NewJob {
+            auto: text.auto,
+            handle,
+            kernel: place,
+            args: rest.args,
+            cut: rest.cut,
+            defer: rest.defer,
+            waive: rest.waive,
+            after: rest.after,
+        },
+    )?;
+    Ok(Order::Schedule(job))
 }

@@ -1,5 +1,6 @@
 use Rattle.std.proofs.Common.{◌≡◌, ◌∙◌, refl, sym, subst}
 use Rattle.frame_ast.specs.declared.script.Order.TheVariants as order
+use Rattle.frame_ast.specs.SameJobs.{SameJob}
 use Rattle.frame_script.specs.Copies.{IsCopyOf}
 use Rattle.frame_script.proofs.copies.order_copy.Goals as goal
 
@@ -9,16 +10,12 @@ returns-in_ok-to_vec-in-Column c =
     let same : bytes.items ≡ c.in-Column.column.items = c.in_ok-to_vec-in-Column.ensures.items_if_clones_equal (λ x y e. e) ∙ c.deref.ensures.value in
     subst (λ o. IsCopyOf o (order.Column c.in-Column.name bytes c.in-Column.life)) (sym c.in-Column.is) (bytes, same, refl)
 
-pub returns-in_ok-to_vec-in-Schedule-3 : goal.returns-in_ok-to_vec-in-Schedule-3
-returns-in_ok-to_vec-in-Schedule-3 c =
-    let args = c.in_ok-to_vec-in-Schedule.field-0 in
-    let waive = c.in_ok-to_vec-in-Schedule-2.field-0 in
-    let after = c.in_ok-to_vec-in-Schedule-3.field-0 in
-    let same_args : args.items ≡ c.in-Schedule.args.items = c.in_ok-to_vec-in-Schedule.ensures.items_if_clones_equal (λ x y e. e) ∙ c.deref-in-Schedule.ensures.value in
-    let same_waive : waive.items ≡ c.in-Schedule.waive.items = c.in_ok-to_vec-in-Schedule-2.ensures.items_if_clones_equal (λ x y e. e) ∙ c.deref-in-Schedule-2.ensures.value in
-    let same_after : after.items ≡ c.in-Schedule.after.items = c.in_ok-to_vec-in-Schedule-3.ensures.items_if_clones_equal (λ x y e. e) ∙ c.deref-in-Schedule-3.ensures.value in
-    subst (λ o. IsCopyOf o (order.Schedule c.in-Schedule.auto c.in-Schedule.handle c.in-Schedule.kernel args c.in-Schedule.cut c.in-Schedule.defer waive after)) (sym c.in-Schedule.is)
-    (args, waive, after, same_args, same_waive, same_after, refl)
+pub returns-in_ok-copy-in-Schedule : goal.returns-in_ok-copy-in-Schedule
+returns-in_ok-copy-in-Schedule c =
+    let copy = c.in_ok-copy-in-Schedule.copy in
+    let same = subst (SameJob c.in_ok-job_copy-in-Schedule.field-0) c.deref-in-Schedule.ensures c.in_ok-job_copy-in-Schedule.ensures in
+    subst (λ o. IsCopyOf o (order.Schedule copy)) (sym c.in-Schedule.is)
+    (copy, subst (λ j. SameJob j c.in-Schedule.job.value) (sym c.in_ok-copy-in-Schedule.ensures.ok) same, refl)
 
 pub returns-in_ok-to_vec-in-Combine : goal.returns-in_ok-to_vec-in-Combine
 returns-in_ok-to_vec-in-Combine c =

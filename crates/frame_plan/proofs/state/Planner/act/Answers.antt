@@ -2,7 +2,8 @@ use Rattle.std.proofs.Common.{◌≡◌, ap, sym, ◌∙◌, to_z, of_z, w64, ar
 use Rattle.std.proofs.lemmas.Int.{ints}
 use Rattle.frame_ast.specs.declared.script.Order.TheVariants as order
 use Rattle.frame_plan.specs.Tables.{columns_of}
-use Rattle.frame_plan.proofs.Acting.{ready, passed, passed_in, passed_with, fails, fails_in, fails_with, if_err}
+use Rattle.frame_plan.proofs.ScheduleForms.{without_list, with_list}
+use Rattle.frame_plan.proofs.Acting.{before, ready, passed, passed_in, passed_with, fails, fails_in, fails_with, if_err}
 use Rattle.frame_plan.proofs.Binding.{on_ok}
 use Rattle.frame_plan.proofs.state.Planner.act.Goals as goal
 
@@ -186,14 +187,30 @@ dispose_after-requires c = record { ready = ready c.args.script.now (columns_of 
 pub returns-in_ok-dispose_after-in-Some-handle-clause-passed : goal.returns-in_ok-dispose_after-in-Some-handle-clause-passed
 returns-in_ok-dispose_after-in-Some-handle-clause-passed c = passed c.args.script.now (columns_of c.args.table.now) c.args.self.now c.args.statement.now c.requires.at c.requires.acts _ (c.in-Dispose.is ∙ ap (λ h. order.Dispose c.in-Dispose.name c.in-Dispose.after h) c.in-Some-handle.is) c.dispose_after.new.self c.in_ok-dispose_after-in-Some-handle.ensures.goes_on
 
+pub schedule-requires : goal.schedule-requires
+schedule-requires c =
+    record { ready = (c.in-Schedule.job, before c.args.script.now (columns_of c.args.table.now) c.args.self.now c.args.statement.now c.requires.at c.requires.acts _ (without_list _ c.in-Schedule.job c.deref.result.now c.deref-in-None.result.now c.in-Schedule.is c.deref.ensures c.deref-in-None.ensures c.in-None.is)) }
+
 pub returns-in-None-clause-passed : goal.returns-in-None-clause-passed
-returns-in-None-clause-passed c = on_ok c.schedule.result (passed_in c.args.script.now (columns_of c.args.table.now) c.args.self.now c.args.statement.now c.requires.at c.requires.acts _ (c.in-Schedule.is ∙ ap (λ d. order.Schedule c.in-Schedule.auto c.in-Schedule.handle c.in-Schedule.kernel c.in-Schedule.args c.in-Schedule.cut d c.in-Schedule.waive c.in-Schedule.after) c.in-None.is) c.schedule.new.self) c.schedule.ensures.goes_on
+returns-in-None-clause-passed c =
+    let is = without_list _ c.in-Schedule.job c.deref.result.now c.deref-in-None.result.now c.in-Schedule.is c.deref.ensures c.deref-in-None.ensures c.in-None.is in
+    on_ok c.schedule.result (λ h. passed_in c.args.script.now (columns_of c.args.table.now) c.args.self.now c.args.statement.now c.requires.at c.requires.acts _ is c.schedule.new.self (h c.in-Schedule.job)) c.schedule.ensures.goes_on
 
 pub returns-in-None-clause-fails : goal.returns-in-None-clause-fails
-returns-in-None-clause-fails c = if_err c.schedule.result (fails_in c.args.script.now (columns_of c.args.table.now) c.args.self.now c.args.statement.now c.requires.at c.requires.acts _ (c.in-Schedule.is ∙ ap (λ d. order.Schedule c.in-Schedule.auto c.in-Schedule.handle c.in-Schedule.kernel c.in-Schedule.args c.in-Schedule.cut d c.in-Schedule.waive c.in-Schedule.after) c.in-None.is)) c.schedule.ensures.fails
+returns-in-None-clause-fails c =
+    let is = without_list _ c.in-Schedule.job c.deref.result.now c.deref-in-None.result.now c.in-Schedule.is c.deref.ensures c.deref-in-None.ensures c.in-None.is in
+    if_err c.schedule.result (λ fault h. fails_in c.args.script.now (columns_of c.args.table.now) c.args.self.now c.args.statement.now c.requires.at c.requires.acts _ is fault (h c.in-Schedule.job)) c.schedule.ensures.fails
+
+pub schedule_deferred-requires : goal.schedule_deferred-requires
+schedule_deferred-requires c =
+    record { ready = (c.in-Schedule.job, before c.args.script.now (columns_of c.args.table.now) c.args.self.now c.args.statement.now c.requires.at c.requires.acts _ (with_list _ c.in-Schedule.job c.deref.result.now c.deref-in-Some.result.now _ c.in-Schedule.is c.deref.ensures c.deref-in-Some.ensures c.in-Some.is)) }
 
 pub returns-in-Some-clause-passed : goal.returns-in-Some-clause-passed
-returns-in-Some-clause-passed c = on_ok c.schedule_deferred.result (passed_in c.args.script.now (columns_of c.args.table.now) c.args.self.now c.args.statement.now c.requires.at c.requires.acts _ (c.in-Schedule.is ∙ ap (λ d. order.Schedule c.in-Schedule.auto c.in-Schedule.handle c.in-Schedule.kernel c.in-Schedule.args c.in-Schedule.cut d c.in-Schedule.waive c.in-Schedule.after) c.in-Some.is) c.schedule_deferred.new.self) c.schedule_deferred.ensures.goes_on
+returns-in-Some-clause-passed c =
+    let is = with_list _ c.in-Schedule.job c.deref.result.now c.deref-in-Some.result.now _ c.in-Schedule.is c.deref.ensures c.deref-in-Some.ensures c.in-Some.is in
+    on_ok c.schedule_deferred.result (λ h. passed_in c.args.script.now (columns_of c.args.table.now) c.args.self.now c.args.statement.now c.requires.at c.requires.acts _ is c.schedule_deferred.new.self (h c.in-Schedule.job)) c.schedule_deferred.ensures.goes_on
 
 pub returns-in-Some-clause-fails : goal.returns-in-Some-clause-fails
-returns-in-Some-clause-fails c = if_err c.schedule_deferred.result (fails_in c.args.script.now (columns_of c.args.table.now) c.args.self.now c.args.statement.now c.requires.at c.requires.acts _ (c.in-Schedule.is ∙ ap (λ d. order.Schedule c.in-Schedule.auto c.in-Schedule.handle c.in-Schedule.kernel c.in-Schedule.args c.in-Schedule.cut d c.in-Schedule.waive c.in-Schedule.after) c.in-Some.is)) c.schedule_deferred.ensures.fails
+returns-in-Some-clause-fails c =
+    let is = with_list _ c.in-Schedule.job c.deref.result.now c.deref-in-Some.result.now _ c.in-Schedule.is c.deref.ensures c.deref-in-Some.ensures c.in-Some.is in
+    if_err c.schedule_deferred.result (λ fault h. fails_in c.args.script.now (columns_of c.args.table.now) c.args.self.now c.args.statement.now c.requires.at c.requires.acts _ is fault (h c.in-Schedule.job)) c.schedule_deferred.ensures.fails

@@ -1,11 +1,11 @@
-use Rattle.std.proofs.Common.{rules, ◌≡◌, ◌∙◌, ap, Some, None, unwrap_or, map}
+use Rattle.std.proofs.Common.{rules, ◌≡◌, ◌∙◌, refl, ap, Some, None, unwrap_or, map}
 use Rattle.frame_ast.specs.declared.name_kind.NameKind.TheVariants.{Handle}
 use Rattle.frame_script.specs.Sources.{text_at}
 use Rattle.frame_script.specs.Spelling.{params_of, param_place}
 use Rattle.frame_script.specs.Faults.{kernel_in}
 use Rattle.frame_script.specs.KernelIndex.{kernel_at}
 use Rattle.frame_script.proofs.FaultLemmas.{exits, refused_by, checking}
-use Rattle.frame_script.proofs.ScheduleLemmas.{kernel_missing, kernel_found, schedule_unknown, schedule_refused, schedule_good}
+use Rattle.frame_script.proofs.ScheduleLemmas.{kernel_missing, kernel_found, schedule_unknown, schedule_refused, schedule_good, job_said}
 use Rattle.frame_script.proofs.order_checks.jobs.check_schedule.Goals as goal
 
 pub returns-in_err-handle : goal.returns-in_err-handle
@@ -32,16 +32,22 @@ returns c =
     let text = text_at c.args.source c.args.text.now.kernel in
     let found : Some c.in-Some.place ≡ kernel_at c.args.kernels.now text = search rules in
     let is : Some c.kernel-kernel.result.now ≡ kernel_in c.args.kernels.now text = kernel_found c.args.kernels.now text c.in-Some.place c.kernel-kernel.result.now found c.kernel-kernel.ensures.kernel in
-    let says = c.in_ok-rest.ensures.1 in (
+    let says = c.in_ok-rest.ensures.1 in
+    let made = Some (c.args.text.now.handle, Handle) in (
       schedule_good c.args.source c.args.names.now (kernel_in c.args.kernels.now text) c.kernel-kernel.result.now c.args.text.now.kernel c.args.text.now.args.now c.args.text.now.sizes c.args.text.now.waive.now c.args.text.now.after.now _
           c.in_ok-handle.ensures.0 is c.in_ok-rest.ensures.0,
       (
-        c.in_ok-rest.rest.args,
-        c.in_ok-rest.rest.waive,
-        c.in_ok-rest.rest.after,
-        says.args_are (Some (c.args.text.now.handle, Handle)),
-        says.waive_are ∙ ap (λ o. map (λ at. param_place (params_of o) (text_at c.args.source at)) c.args.text.now.waive.now) is,
-        says.after_are (Some (c.args.text.now.handle, Handle)),
-        cc (c.in_ok-handle.ensures.1, ap (λ o. unwrap_or o 0) found, says.cut_is, says.defer_is (Some (c.args.text.now.handle, Handle))),
+        c.in_ok-job.job,
+        job_said c.in_ok-job.ensures.ok (record {
+          auto_is = refl;
+          handle_is = c.in_ok-handle.ensures.1;
+          kernel_is = ap (λ o. unwrap_or o 0) found;
+          args_are = says.args_are made;
+          cut_is = says.cut_is;
+          defer_is = says.defer_is made;
+          waive_are = says.waive_are ∙ ap (λ o. map (λ at. param_place (params_of o) (text_at c.args.source at)) c.args.text.now.waive.now) is;
+          after_are = says.after_are made;
+        }),
+        refl,
       ),
     )
