@@ -1,22 +1,20 @@
--- A name that is added to those known, and the maps that find their places.
-use Rattle.std.proofs.Common.{◌≡◌, ℕ, ◌+◌, ◌-◌, ◌<◌, ◌^◌, zero, suc, Bool, true, false, cond, List, [], ◌∷◌, ◌++◌, length, map, Option, Some, None, unwrap_or, get_or, is_some, refl, sym, ◌∙◌, ap, subst, arith, length-append}
+-- A name that is added to those known, and the table and the tree that find their places.
+use Rattle.std.proofs.Common.{◌≡◌, ℕ, ◌+◌, ◌-◌, ◌<◌, ◌^◌, zero, suc, Bool, true, false, cond, List, [], ◌∷◌, ◌++◌, length, map, set, ◌==◌, inl, inr, Option, Some, None, unwrap_or, get_or, is_some, refl, sym, ◌∙◌, ap, subst, arith, length-append}
 use Rattle.std.specs.List.{slice_get}
 use Rattle.std.specs.Str.{bytes_eq}
-use Rattle.std.specs.Ordering.{is_eq, nat_cmp}
-use Rattle.std.specs.declared.cmp.Ordering.TheVariants.{Equal}
-use Rattle.std.specs.Cmp.{Equal-is, nat_cmp_is}
+use Rattle.std.specs.Ordering.{nat_cmp}
 use Rattle.std.specs.Cmp.Lexicographic.{slice_cmp}
 use Rattle.std.specs.BTreeMap.{BTreeMap, UpdatesBy}
 use Rattle.std.specs.Borrow.{Bor}
 use Rattle.std.proofs.lemmas.Slice.Eq.{bytes_eq-Decides}
-use Rattle.std.proofs.lemmas.List.{length-map, map-append}
-use Rattle.std.proofs.lemmas.Map.Lookups.{exact_unsigned}
+use Rattle.std.proofs.lemmas.Bool.{cases_eq, eqb-true, eq-eqb, ne_eqb}
+use Rattle.std.proofs.lemmas.List.{length-map, map-append, length-set, get_or-set_same, get_or-set_other}
 use Rattle.std.proofs.lemmas.Map.Text.{btree_map_updates_str}
 use Rattle.frame_script.specs.declared.names.Entry.{Entry}
 use Rattle.frame_ast.specs.declared.name_kind.NameKind.{NameKind}
 use Rattle.std.proofs.lemmas.Option.{slice_get-get_or}
 use Rattle.frame_script.specs.Names.{Name, place_in, with_name}
-use Rattle.frame_script.specs.Index.{known_of, hash_of, first_of, other_of, IsIndex}
+use Rattle.frame_script.specs.Index.{known_of, bucket_of, first_of, first_for, other_of, IsIndex}
 use Rattle.frame_script.proofs.NameLemmas.{place_in-push}
 
 -- ENTRIES
@@ -39,19 +37,20 @@ place_more entries e none q =
     ∙ (place_in-push (map known_of entries) e.text.now e.kind none q
     ∙ ap (λ n. cond (bytes_eq e.text.now q) (Some n) (place_in (map known_of entries) q)) (length-map entries known_of))
 
--- HASHES
+-- BUCKETS
 
-same_number : (h k : ℕ) → is_eq (nat_cmp h k) ≡ true → h ≡ k
-same_number h k e = exact_unsigned h k ((Equal-is (nat_cmp h k)).0 e)
+-- the first name of a bucket, after one is the first of its bucket
+first_set : (firsts : List (Option ℕ)) (b c : ℕ) (x : Option ℕ) → b < length firsts → first_of (set firsts b x) c ≡ cond (b == c) x (first_of firsts c)
+first_set firsts b c x within = elim (cases_eq b c) [
+  | inl same ↦ ap (first_of (set firsts b x)) (sym same) ∙ (get_or-set_same firsts b x None within ∙ sym (ap (λ t. cond t x (first_of firsts c)) (eq-eqb b c same)))
+  | inr other ↦ get_or-set_other firsts b c x None (λ e. other (sym e)) ∙ sym (ap (λ t. cond t x (first_of firsts c)) (ne_eqb b c other))
+]
 
-itself : (h k : ℕ) → h ≡ k → is_eq (nat_cmp h k) ≡ true
-itself h k e = subst (λ j. is_eq (nat_cmp h j) ≡ true) e (ap is_eq (sym (nat_cmp_is h h Equal refl)))
-
-same_hash : (made q : List ℕ) → bytes_eq made q ≡ true → is_eq (nat_cmp (hash_of made) (hash_of q)) ≡ true
-same_hash made q e = itself (hash_of made) (hash_of q) (ap hash_of ((bytes_eq-Decides made q).0 e))
+same_bucket : (count : ℕ) (made q : List ℕ) → bytes_eq made q ≡ true → (bucket_of count made == bucket_of count q) ≡ true
+same_bucket count made q e = eq-eqb _ _ (ap (bucket_of count) ((bytes_eq-Decides made q).0 e))
 
 -- ONE MORE NAME, BY CASES
--- b: the text has the new name's hash; s: it is the new name; t: it is the first name of its hash
+-- b: the text is in the new name's bucket; s: it is the new name; t: it is the first name of its bucket
 
 some_number : (n m : ℕ) → Some n ≡ Some m → n ≡ m
 some_number n m e = ap (λ o. unwrap_or o 0) e
@@ -103,70 +102,79 @@ not_so false b same is = refl
 some_entry : (d e : Entry) → Some d ≡ Some e → d ≡ e
 some_entry d e h = ap (λ o. unwrap_or o d) h
 
--- THE MAPS AFTER ONE MORE NAME
+-- THE TABLE AND THE TREE AFTER ONE MORE NAME
 
--- whether a text has the hash of another
-abbrev alike : Entry → List ℕ → Bool
-alike e q = is_eq (nat_cmp (hash_of e.text.now) (hash_of q))
+-- whether a text is in the bucket of another, where there are so many
+abbrev alike : ℕ → Entry → List ℕ → Bool
+alike count e q = bucket_of count e.text.now == bucket_of count q
 
-free_too : (old : BTreeMap ℕ ℕ) (e : Entry) (q : List ℕ) → first_of old (hash_of e.text.now) ≡ None → alike e q ≡ true → first_of old (hash_of q) ≡ None
-free_too old e q free b = subst (λ h. first_of old h ≡ None) (same_number (hash_of e.text.now) (hash_of q) b) free
+free_too : (old : List (Option ℕ)) (e : Entry) (q : List ℕ) → first_for old e.text.now ≡ None → alike (length old) e q ≡ true → first_for old q ≡ None
+free_too old e q free b = subst (λ h. first_of old h ≡ None) (eqb-true (bucket_of (length old) e.text.now) (bucket_of (length old) q) b) free
 
--- the first name of a text's hash is the new one
+-- the first name of a text's bucket is the new one
 is_last : (entries : List Entry) (e first : Entry) (q : List ℕ) (p : ℕ) → length entries ≡ p → slice_get (entries ++ e ∷ []) p ≡ Some first →
     bytes_eq first.text.now q ≡ bytes_eq e.text.now q
 is_last entries e first q p at here =
     let last : Some e ≡ Some first = sym (entry_last entries e) ∙ (ap (slice_get (entries ++ e ∷ [])) at ∙ here) in
     ap (λ d. bytes_eq d.text.now q) (sym (some_entry e first last))
 
--- the first name of a text's hash is an earlier one
-is_known : (old : BTreeMap ℕ ℕ) (others : BTreeMap (Bor (List ℕ)) ℕ) (entries : List Entry) (e first : Entry) (q : List ℕ) (p : ℕ) → IsIndex old others entries →
-    first_of old (hash_of q) ≡ Some p → slice_get (entries ++ e ∷ []) p ≡ Some first →
+-- the first name of a text's bucket is an earlier one
+is_known : (old : List (Option ℕ)) (others : BTreeMap (Bor (List ℕ)) ℕ) (entries : List Entry) (e first : Entry) (q : List ℕ) (p : ℕ) → IsIndex old others entries →
+    first_for old q ≡ Some p → slice_get (entries ++ e ∷ []) p ≡ Some first →
     place_in (map known_of entries) q ≡ cond (bytes_eq first.text.now q) (Some p) (other_of others q)
 is_known old others entries e first q p index found here =
-    index.finds q p first found (entry_before entries e first p (index.within (hash_of q) p found) here)
+    index.finds q p first found (entry_before entries e first p (index.within (bucket_of (length old) q) p found) here)
 
--- no name has its hash: it is the first
-pub index_first : (old new : BTreeMap ℕ ℕ) (others : BTreeMap (Bor (List ℕ)) ℕ) (entries : List Entry) (e : Entry) (place : ℕ) → place ≡ length entries →
-    IsIndex old others entries → length entries < 2 ^ 32 - 1 → first_of old (hash_of e.text.now) ≡ None →
-    UpdatesBy nat_cmp (nat_cmp (hash_of e.text.now)) old new (Some place) → IsIndex new others (entries ++ e ∷ [])
-index_first old new others entries e place at index room free updates =
+-- no name is in its bucket: it is the first
+pub index_first : (old : List (Option ℕ)) (others : BTreeMap (Bor (List ℕ)) ℕ) (entries : List Entry) (e : Entry) (bucket place : ℕ) → place ≡ length entries →
+    IsIndex old others entries → length entries < 2 ^ 32 - 1 → bucket ≡ bucket_of (length old) e.text.now → bucket < length old → first_for old e.text.now ≡ None →
+    IsIndex (set old bucket (Some place)) others (entries ++ e ∷ [])
+index_first old others entries e bucket place at index room its inside free =
     let absent = index.missing e.text.now free in
-    let after : (hash : ℕ) → first_of new hash ≡ cond (is_eq (nat_cmp (hash_of e.text.now) hash)) (Some (length entries)) (first_of old hash) =
-    λ hash. updates.0 hash ∙ ap (λ n. cond (is_eq (nat_cmp (hash_of e.text.now) hash)) (Some n) (first_of old hash)) at in
+    let many : length (set old bucket (Some place)) ≡ length old = length-set old bucket (Some place) in
+    let after : (b : ℕ) → first_of (set old bucket (Some place)) b ≡ cond (bucket_of (length old) e.text.now == b) (Some (length entries)) (first_of old b) =
+    λ b. first_set old bucket b (Some place) inside
+    ∙ (ap (λ k. cond (k == b) (Some place) (first_of old b)) its
+    ∙ ap (λ n. cond (bucket_of (length old) e.text.now == b) (Some n) (first_of old b)) at) in
+    let after_for : (q : List ℕ) → first_for (set old bucket (Some place)) q ≡ cond (alike (length old) e q) (Some (length entries)) (first_for old q) =
+    λ q. ap (λ n. first_of (set old bucket (Some place)) (bucket_of n q)) many ∙ after (bucket_of (length old) q) in
     record {
       few = rw (length-append entries (e ∷ [])) (omega (arith, room));
-      within = λ hash p found. rw (length-append entries (e ∷ []))
-          (within_more (is_eq (nat_cmp (hash_of e.text.now) hash)) (first_of old hash) (length entries) p (length entries) refl
-          (sym (after hash) ∙ found) (index.within hash p));
+      some_buckets = rw many index.some_buckets;
+      few_buckets = rw many index.few_buckets;
+      within = λ b p found. rw (length-append entries (e ∷ []))
+          (within_more (bucket_of (length old) e.text.now == b) (first_of old b) (length entries) p (length entries) refl
+          (sym (after b) ∙ found) (index.within b p));
       missing = λ q gone. place_more entries e absent q
-          ∙ missing_more (alike e q) (bytes_eq e.text.now q) (first_of old (hash_of q)) (place_in (map known_of entries) q) (length entries) (length entries)
-          (sym (after (hash_of q)) ∙ gone) (index.missing q) (same_hash e.text.now q);
-      apart = λ q gone. apart_more (alike e q) (first_of old (hash_of q)) (other_of others q) (length entries) (sym (after (hash_of q)) ∙ gone) (index.apart q);
+          ∙ missing_more (alike (length old) e q) (bytes_eq e.text.now q) (first_for old q) (place_in (map known_of entries) q) (length entries) (length entries)
+          (sym (after_for q) ∙ gone) (index.missing q) (same_bucket (length old) e.text.now q);
+      apart = λ q gone. apart_more (alike (length old) e q) (first_for old q) (other_of others q) (length entries) (sym (after_for q) ∙ gone) (index.apart q);
       finds = λ q p first found here. place_more entries e absent q
-          ∙ finds_first (alike e q) (bytes_eq e.text.now q) (bytes_eq first.text.now q) (first_of old (hash_of q)) (place_in (map known_of entries) q) (other_of others q) (length entries) p
+          ∙ finds_first (alike (length old) e q) (bytes_eq e.text.now q) (bytes_eq first.text.now q) (first_for old q) (place_in (map known_of entries) q) (other_of others q) (length entries) p
           (λ b.
           let none = free_too old e q free b in
-          let n = taken (alike e q) (first_of old (hash_of q)) (length entries) p b (sym (after (hash_of q)) ∙ found) in
+          let n = taken (alike (length old) e q) (first_for old q) (length entries) p b (sym (after_for q) ∙ found) in
           (n, is_last entries e first q p n here, index.missing q none, index.apart q none))
           (λ b. (
-            not_so (bytes_eq e.text.now q) (alike e q) (same_hash e.text.now q) b,
-            is_known old others entries e first q p index (left (alike e q) (first_of old (hash_of q)) (Some p) (length entries) b (sym (after (hash_of q)) ∙ found)) here,
+            not_so (bytes_eq e.text.now q) (alike (length old) e q) (same_bucket (length old) e.text.now q) b,
+            is_known old others entries e first q p index (left (alike (length old) e q) (first_for old q) (Some p) (length entries) b (sym (after_for q) ∙ found)) here,
           ));
     }
 
--- another name has its hash: it is one of the others
-pub index_other : (firsts : BTreeMap ℕ ℕ) (old new : BTreeMap (Bor (List ℕ)) ℕ) (entries : List Entry) (e : Entry) (place taken_at : ℕ) → place ≡ length entries →
-    IsIndex firsts old entries → length entries < 2 ^ 32 - 1 → first_of firsts (hash_of e.text.now) ≡ Some taken_at → place_in (map known_of entries) e.text.now ≡ None →
+-- another name is in its bucket: it is one of the others
+pub index_other : (firsts : List (Option ℕ)) (old new : BTreeMap (Bor (List ℕ)) ℕ) (entries : List Entry) (e : Entry) (place taken_at : ℕ) → place ≡ length entries →
+    IsIndex firsts old entries → length entries < 2 ^ 32 - 1 → first_for firsts e.text.now ≡ Some taken_at → place_in (map known_of entries) e.text.now ≡ None →
     UpdatesBy (λ x y. slice_cmp nat_cmp x.now y.now) (λ k. slice_cmp nat_cmp e.text.now k.now) old new (Some place) → IsIndex firsts new (entries ++ e ∷ [])
 index_other firsts old new entries e place taken_at at index room used absent updates =
     let other : (q : List ℕ) → other_of new q ≡ cond (bytes_eq e.text.now q) (Some place) (other_of old q) = btree_map_updates_str e.text.now old new (Some place) updates in
-    let not_new : (q : List ℕ) → first_of firsts (hash_of q) ≡ None → bytes_eq e.text.now q ≡ false =
-    λ q gone. not_so (bytes_eq e.text.now q) (is_some (first_of firsts (hash_of q)))
-    (λ s. ap is_some (ap (λ t. first_of firsts (hash_of t)) (sym ((bytes_eq-Decides e.text.now q).0 s)) ∙ used)) (ap is_some gone) in
+    let not_new : (q : List ℕ) → first_for firsts q ≡ None → bytes_eq e.text.now q ≡ false =
+    λ q gone. not_so (bytes_eq e.text.now q) (is_some (first_for firsts q))
+    (λ s. ap is_some (ap (λ t. first_for firsts t) (sym ((bytes_eq-Decides e.text.now q).0 s)) ∙ used)) (ap is_some gone) in
     record {
       few = rw (length-append entries (e ∷ [])) (omega (arith, room));
-      within = λ hash p found. rw (length-append entries (e ∷ [])) (let below = index.within hash p found in omega (arith, below));
+      some_buckets = index.some_buckets;
+      few_buckets = index.few_buckets;
+      within = λ b p found. rw (length-append entries (e ∷ [])) (let below = index.within b p found in omega (arith, below));
       missing = λ q gone. place_more entries e absent q
           ∙ missing_other (bytes_eq e.text.now q) (place_in (map known_of entries) q) (length entries) (not_new q gone) (index.missing q gone);
       apart = λ q gone. other q ∙ missing_other (bytes_eq e.text.now q) (other_of old q) place (not_new q gone) (index.apart q gone);
@@ -179,26 +187,26 @@ index_other firsts old new entries e place taken_at at index room used absent up
 
 -- LOOK-UPS
 
-entry_at : (firsts : BTreeMap ℕ ℕ) (others : BTreeMap (Bor (List ℕ)) ℕ) (entries : List Entry) (hash p : ℕ) (first : Entry) → IsIndex firsts others entries →
-    first_of firsts hash ≡ Some p → first ≡ get_or entries p first → slice_get entries p ≡ Some first
-entry_at firsts others entries hash p first index found is = slice_get-get_or entries p first (index.within hash p found) ∙ ap (λ x. Some x) (sym is)
+entry_at : (firsts : List (Option ℕ)) (others : BTreeMap (Bor (List ℕ)) ℕ) (entries : List Entry) (bucket p : ℕ) (first : Entry) → IsIndex firsts others entries →
+    first_of firsts bucket ≡ Some p → first ≡ get_or entries p first → slice_get entries p ≡ Some first
+entry_at firsts others entries bucket p first index found is = slice_get-get_or entries p first (index.within bucket p found) ∙ ap (λ x. Some x) (sym is)
 
--- the first name of a text's hash is the text
-pub found_first : (firsts : BTreeMap ℕ ℕ) (others : BTreeMap (Bor (List ℕ)) ℕ) (entries : List Entry) (names : List Name) (q : List ℕ) (p : ℕ) (first : Entry) →
-    map known_of entries ≡ names → IsIndex firsts others entries → first_of firsts (hash_of q) ≡ Some p → first ≡ get_or entries p first →
+-- the first name of a text's bucket is the text
+pub found_first : (firsts : List (Option ℕ)) (others : BTreeMap (Bor (List ℕ)) ℕ) (entries : List Entry) (names : List Name) (q : List ℕ) (p : ℕ) (first : Entry) →
+    map known_of entries ≡ names → IsIndex firsts others entries → first_for firsts q ≡ Some p → first ≡ get_or entries p first →
     bytes_eq first.text.now q ≡ true → place_in names q ≡ Some p
 found_first firsts others entries names q p first view index found is same =
     ap (λ ns. place_in ns q) (sym view)
-    ∙ (index.finds q p first found (entry_at firsts others entries (hash_of q) p first index found is)
+    ∙ (index.finds q p first found (entry_at firsts others entries (bucket_of (length firsts) q) p first index found is)
     ∙ ap (λ b. cond b (Some p) (other_of others q)) same)
 
 -- it is another
-pub found_other : (firsts : BTreeMap ℕ ℕ) (others : BTreeMap (Bor (List ℕ)) ℕ) (entries : List Entry) (names : List Name) (q : List ℕ) (p : ℕ) (first : Entry) →
-    map known_of entries ≡ names → IsIndex firsts others entries → first_of firsts (hash_of q) ≡ Some p → first ≡ get_or entries p first →
+pub found_other : (firsts : List (Option ℕ)) (others : BTreeMap (Bor (List ℕ)) ℕ) (entries : List Entry) (names : List Name) (q : List ℕ) (p : ℕ) (first : Entry) →
+    map known_of entries ≡ names → IsIndex firsts others entries → first_for firsts q ≡ Some p → first ≡ get_or entries p first →
     bytes_eq first.text.now q ≡ false → place_in names q ≡ other_of others q
 found_other firsts others entries names q p first view index found is same =
     ap (λ ns. place_in ns q) (sym view)
-    ∙ (index.finds q p first found (entry_at firsts others entries (hash_of q) p first index found is)
+    ∙ (index.finds q p first found (entry_at firsts others entries (bucket_of (length firsts) q) p first index found is)
     ∙ ap (λ b. cond b (Some p) (other_of others q)) same)
 
 -- THE NAMES AFTER ONE IS MADE

@@ -1,8 +1,8 @@
 //! The names of a script, in the order of their first making.
 
-ghost use Rattle.std.specs.Prelude.{◌≡◌, ℕ, All, ◌<◌, ◌-◌, ◌^◌, List, [], length, map, IfOk, OnErr, MatchOption, slice_get, Some, None, IsUtf8, string_bytes};
+ghost use Rattle.std.specs.Prelude.{◌≡◌, ℕ, All, ◌<◌, ◌-◌, ◌^◌, List, [], length, map, replicate, IfOk, None, IsUtf8, string_bytes};
 ghost use Rattle.frame_script.specs.Names.{Name, place_in, kind_in, with_name};
-ghost use Rattle.frame_script.specs.Index.{known_of, hash_of, IsIndex};
+ghost use Rattle.frame_script.specs.Index.{known_of, hash_of, bucket_of, first_for, IsIndex};
 
 use frame_ast::name_kind::NameKind;
 use job_base::NoMemory;
@@ -39,15 +39,45 @@ fn hash_of(text: &[u8]) -> u32
     (hasher.finish() >> 32) as u32
 }
 
+// The bucket of a name, where there are so many: each has as large a part of all hashes.
+fn bucket_of(count: usize, text: &[u8]) -> usize
+    requires some { 0 < count }
+    requires few { count < 2 ^ 32 }
+    ensures bucket { result ≡ bucket_of count text.now }
+    ensures within { result < count }
+{
+    ((u64::from(hash_of(text)) * count as u64) >> 32) as usize
+}
+
+// The place of the first name of a text's bucket, where the first ones have these places.
+fn first_for(firsts: &[Option<u32>], text: &[u8]) -> Option<u32>
+    requires some { 0 < length firsts.now }
+    requires few { length firsts.now < 2 ^ 32 }
+    ensures { result ≡ first_for firsts.now text.now }
+{
+    firsts[bucket_of(firsts.len(), text)]
+}
+
+// So many buckets without a name.
+fn empty_buckets(alloc: Global, count: usize) -> Result<Vec<Option<u32>>, NoMemory>
+    ensures { IfOk result (λ buckets. buckets.items ≡ replicate count None) }
+{
+    Ok(vec![in alloc; None; count]?)
+}
+
+/// The most buckets that names have.
+const MOST_BUCKETS: usize = 65_536;
+
 /// The names that are known, each with what it stands for. A name's place is its number among them.
 ///
-/// A look-up compares whole numbers, and the bytes of one name at its end. An enemy can make names of one hash: all but
-/// the first of them are found by their bytes, so no look-up takes more comparisons than the names are deep in a tree.
+/// They stand in buckets by their hashes. Most are the first of their bucket, and a look-up of one compares its bytes
+/// once. An enemy can make names of one bucket: all but the first of them are found in a tree, so no look-up takes more
+/// comparisons than that is deep.
 #[derive(Drop)]
 pub struct Names<'a> {
-    /// The place of the first name of each hash.
-    firsts: BTreeMap<u32, u32>,
-    /// The places of the names whose hash an earlier name has.
+    /// The place of the first name of each bucket.
+    firsts: Vec<Option<u32>>,
+    /// The places of the names in whose bucket an earlier name is.
     others: BTreeMap<&'a [u8], u32>,
     entries: Vec<Entry<'a>>,
 }
@@ -57,21 +87,23 @@ impl<'a> Model for Names<'a> {
 
     ghost view = { λ s. map known_of s.entries.items };
 
-    ghost invariant = { λ s. IsIndex s.firsts s.others s.entries.items };
+    ghost invariant = { λ s. IsIndex s.firsts.items s.others s.entries.items };
 }
 
 impl<'a> Names<'a> {
     ghost use Rattle.std.specs.Option.{option_map};
 
-    /// No names.
-    pub fn new(alloc: Global) -> Self
-        ensures { result ≡ [] }
+    /// No names yet, in so many buckets, but at least one and at most 65,536.
+    ///
+    /// Look-ups are fast where there are about as many buckets as names.
+    pub fn new(alloc: Global, buckets: usize) -> Result<Self, NoMemory>
+        ensures { IfOk result (λ names. names ≡ []) }
     {
-        Names {
-            firsts: BTreeMap::new(alloc),
+        Ok(Names {
+            firsts: empty_buckets(alloc, buckets.clamp(1, MOST_BUCKETS))?,
             others: BTreeMap::new(alloc),
             entries: Vec::new(alloc),
-        }
+        })
     }
 
     /// How many names are known.
@@ -86,7 +118,7 @@ impl<'a> Names<'a> {
     fn place(&self, text: &[u8]) -> Option<u32>
         ensures { result ≡ place_in self.now text.now }
     {
-        let first = *self.firsts.get(&hash_of(text))?;
+        let first = first_for(&self.firsts, text)?;
         if self.entries[first as usize].text == text {
             return Some(first);
         }
@@ -119,18 +151,15 @@ impl<'a> Names<'a> {
         requires { length self.old < 2 ^ 32 - 1 }
         ensures { IfOk result (λ _. self.new ≡ with_name self.old text.now kind) }
     {
-        let hash = hash_of(text);
         let place = self.entries.len() as u32;
-        match self.firsts.get(&hash) {
+        match first_for(&self.firsts, text) {
             None => {
                 self.entries.push(Entry { text, kind })?;
-                if self.firsts.insert(hash, place).is_err() {
-                    self.entries.pop();
-                    return Err(NoMemory);
-                }
+                let bucket = bucket_of(self.firsts.len(), text);
+                self.firsts[bucket] = Some(place);
             }
             Some(first) => {
-                let is_first = self.entries[*first as usize].text == text;
+                let is_first = self.entries[first as usize].text == text;
                 if is_first {
                     return Ok(());
                 }

@@ -55,23 +55,24 @@ fn told(source: Source<'_>, fault: OrderFault) -> LoadFault
 }
 
 impl<'a> Walk<'a> {
-    /// Before the first item.
-    fn new(alloc: Global) -> Self
-        ensures names { result.names ≡ [] }
-        ensures kernels { result.kernels ≡ [] }
-        ensures literals { result.literals.items ≡ [] }
-        ensures written { result.written ≡ nothing_written }
-        ensures tested { result.tested ≡ false }
-        ensures around { result.around.items ≡ [] }
+    /// Before the first item of a file of so many tokens.
+    fn new(alloc: Global, tokens: usize) -> Result<Self, NoMemory>
+        ensures names { IfOk result (λ walk. walk.names ≡ []) }
+        ensures kernels { IfOk result (λ walk. walk.kernels ≡ []) }
+        ensures literals { IfOk result (λ walk. walk.literals.items ≡ []) }
+        ensures written { IfOk result (λ walk. walk.written ≡ nothing_written) }
+        ensures tested { IfOk result (λ walk. walk.tested ≡ false) }
+        ensures around { IfOk result (λ walk. walk.around.items ≡ []) }
     {
-        Walk {
-            names: Names::new(alloc),
+        Ok(Walk {
+            // A statement that makes a name has some four tokens, its line's end among them.
+            names: Names::new(alloc, tokens / 4)?,
             kernels: Kernels::new(alloc),
             literals: Vec::new(alloc),
             written: Written::new(alloc),
             tested: false,
             around: Vec::new(alloc),
-        }
+        })
     }
 
     // A statement without a block.
@@ -246,7 +247,7 @@ pub fn walk_file<'a>(
     ensures refused { (line : ℕ) (kind : FaultKind) → result ≡ Err (LoadFault.Refused line kind) →
         RefusesItems source.entry (events_of notes.now) line kind }
 {
-    let mut walk = Walk::new(alloc);
+    let mut walk = Walk::new(alloc, source.marks.len())?;
     let mut lines = LineCursor::new();
     let mut at = 0;
     while let Some(next) = walk.step(alloc, source, notes, at, &mut lines)? {

@@ -6,7 +6,7 @@ use Rattle.frame_script.proofs.walk.walk_file.Goals as goal
 pub loop-walk-init : goal.loop-walk-init
 loop-walk-init c =
     let file = c.requires.file in
-    let w = c.new-walk.ensures in
+    let w = c.in_ok-walk.ensures in
     record {
       within = omega arith;
       walking = record {
@@ -14,7 +14,7 @@ loop-walk-init c =
         spells = file.spells;
         left = file.items ∷ [];
         opens = outside file.spells;
-        is = at_first c.args.source file.items c.new-walk.result file.stand w.names w.kernels w.literals w.written w.tested w.around;
+        is = at_first c.args.source file.items c.in_ok-walk.walk file.stand w.names w.kernels w.literals w.written w.tested w.around;
       };
       on = c.new-lines.ensures.on c.args.source;
     }
