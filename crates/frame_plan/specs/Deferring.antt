@@ -40,6 +40,7 @@ use Rattle.frame_plan.specs.Uses.{IsBlockedBy, number_of_value, is_temp_in, give
 
 -- THE SCHEDULE
 
+-- the job that is asked for, with this cut, and with this list and batch size for `defer`
 abbrev pub by_list : NewJob → Option (ℕ × ℕ) → ℕ × ℕ → NewJob
 by_list asked cut defer = record asked { cut = cut; defer = Some defer }
 

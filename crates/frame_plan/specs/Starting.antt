@@ -35,10 +35,11 @@ use Rattle.frame_plan.specs.Growth.{is_none}
 use Rattle.frame_plan.specs.JobBinds.{job_binds}
 use Rattle.frame_plan.specs.Noting.{noted_all}
 
--- a job in the box of another one
+-- a job in the box of another one, which lends its place alone
 abbrev pub in_box : Box NewJob Global → NewJob → Box NewJob Global
 in_box home asked = record home { value = asked }
 
+-- the job that is asked for, without its `defer`
 abbrev pub undeferred : NewJob → NewJob
 undeferred asked = record asked { defer = None }
 
