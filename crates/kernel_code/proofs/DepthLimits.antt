@@ -12,7 +12,7 @@ use Rattle.frame_ast.specs.Checked.{expr_depth, measured, body_depth}
 use Rattle.kernel_code.specs.declared.raw.RawKernel.{RawKernel}
 use Rattle.kernel_code.specs.declared.raw.TheConstants.{MOST_KEPT}
 use Rattle.kernel_code.specs.Raw.{RawExpr, RawBlock, block_size, SpellsRaw}
-use Rattle.kernel_code.specs.Depths.{depth_of, depths_of}
+use Rattle.kernel_code.specs.Depths.{depth_of, depths_of, kept_depths}
 use Rattle.kernel_code.specs.StaticFaults.{nodes_fault, depth_at}
 use Rattle.kernel_code.specs.Trees.{ExprOf, number, index, variable, loop_variable, value, size, element, has, count, item, negative, opposite, both, either, between, BlockOf, nothing, var, set_local, set_value, set_place, set_try_add, set_remove, add_item, add_pair, remove, clear, write, begun, tested, counted, looped, branched}
 use Rattle.kernel_code.proofs.NoFaults.{some_if-none, node_fault-none}
@@ -21,6 +21,7 @@ use Rattle.kernel_code.proofs.BuiltKernels.{body-size}
 use Rattle.kernel_code.proofs.Counting.{has-at, node-number, all-kept}
 use Rattle.kernel_code.proofs.Keeping.{get-take}
 use Rattle.kernel_code.proofs.RunningDepths.{depths-at}
+use Rattle.kernel_code.proofs.KeptDepths.{same-over}
 use Rattle.kernel_code.proofs.Levels.{expr_levels, block_levels, Reaches, block_deep}
 
 -- DEPTHS ARE LEVELS
@@ -73,23 +74,24 @@ block-depth (branched {s = s} x o one two rest) = let a = stmt-depth s _ o in le
 at_most : (n m : ℕ) → nat_lt n m ≡ false → m ≤ n
 at_most n m h = grind (arith, nat_tests)
 
--- the depth that is kept of a node is its depth
-depth-kept : (raw : RawKernel) (events : List Event) (s : SpellsRaw events raw) (i : ℕ) → nodes_fault raw 0 raw.nodes.items ≡ None → i < length raw.nodes.items → depth_at raw i ≡ depth_of raw.nodes.items i
+-- a depth that is no fault by what is kept is none
+depth-kept : (raw : RawKernel) (events : List Event) (s : SpellsRaw events raw) (i : ℕ) → nodes_fault raw 0 raw.nodes.items ≡ None → i < length raw.nodes.items → nat_lt 64 (depth_at raw i) ≡ nat_lt 64 (depth_of raw.nodes.items i)
 depth-kept raw events s i h w =
     let same : 0 + i ≡ i = omega arith in
     let all = all-kept events raw s h in
-    let depths : raw.depths.items ≡ take MOST_KEPT (depths_of raw.nodes.items) = s.depths ∙ ap (λ ns. take MOST_KEPT (depths_of ns)) (sym all) in
-    ap (λ ds. unwrap_or (slice_get ds i) 0) depths
-    ∙ ap (λ d. unwrap_or d 0) (get-take MOST_KEPT (depths_of raw.nodes.items) i (omega (arith, node-number raw i h w)) ∙ depths-at raw.nodes.items 0 raw.nodes.items i w)
-    ∙ ap (depth_of raw.nodes.items) same
+    let depths : raw.depths.items ≡ kept_depths (take MOST_KEPT (depths_of raw.nodes.items)) = s.depths ∙ ap (λ ns. kept_depths (take MOST_KEPT (depths_of ns))) (sym all) in
+    ap (λ ds. nat_lt 64 (unwrap_or (slice_get ds i) 0)) depths
+    ∙ same-over (take MOST_KEPT (depths_of raw.nodes.items)) i
+    ∙ ap (λ d. nat_lt 64 (unwrap_or d 0)) (get-take MOST_KEPT (depths_of raw.nodes.items) i (omega (arith, node-number raw i h w)) ∙ depths-at raw.nodes.items 0 raw.nodes.items i w)
+    ∙ ap (λ k. nat_lt 64 (depth_of raw.nodes.items k)) same
 
 node-depth : (raw : RawKernel) (events : List Event) (s : SpellsRaw events raw) (i : ℕ) → nodes_fault raw 0 raw.nodes.items ≡ None → i < length raw.nodes.items → depth_of raw.nodes.items i ≤ 64
 node-depth raw events s i h w =
     let same : 0 + i ≡ i = omega arith in
     let q = has-at raw.nodes.items i w in
     let f = node_fault-none raw (0 + i) q.0 (none_at raw 0 i raw.nodes.items q.0 h q.1) in
-    let le = at_most 64 (depth_at raw (0 + i)) (or_parts _ _ (some_if-none _ _ f.size)).1 in
-    subst (λ d. d ≤ 64) (ap (depth_at raw) same ∙ depth-kept raw events s i h w) le
+    let none : nat_lt 64 (depth_at raw (0 + i)) ≡ false = (or_parts _ _ (some_if-none _ _ f.size)).1 in
+    at_most 64 (depth_of raw.nodes.items i) (sym (ap (λ k. nat_lt 64 (depth_at raw k)) same ∙ depth-kept raw events s i h w) ∙ none)
 
 few-levels : (raw : RawKernel) (events : List Event) (s : SpellsRaw events raw) (d n : ℕ) → nodes_fault raw 0 raw.nodes.items ≡ None → length raw.nodes.items ≡ 0 + n → Reaches 0 n d raw.nodes.items → d ≤ 64
 few-levels raw events s d n h whole (inl none) = omega arith

@@ -15,7 +15,7 @@ use Rattle.kernel_code.specs.declared.part.Part.TheVariants as part
 use Rattle.kernel_code.specs.Marks.{raw_tokens}
 use Rattle.kernel_code.specs.Raw.{RawBlock, RawExpr, Leaf, One, Two, Infix, Nothing, Simple, Nested, Branched, block_size, block_nodes, expr_nodes, parts_nodes, on, access_action, SpellsKind, SpellsParams, SpellsBlock, SpellsRaw, opening, IsWithin, IsKernel, ExprBelow, PartsBelow, BlockBelow, ParamsBelow}
 use Rattle.kernel_code.specs.Raw as raw
-use Rattle.kernel_code.specs.Depths.{depths_of}
+use Rattle.kernel_code.specs.Depths.{depths_of, kept_depths}
 use Rattle.kernel_code.specs.Reading.{Reading, part_of, with_part, begun, fresh, is_parallel, named, numbered, top, changed, changed_in, replaced_if, step, run, nothing_read}
 use Rattle.kernel_code.proofs.Readings.{mk, run-append}
 use Rattle.kernel_code.proofs.Blocks.{reads_block, length-block}
@@ -222,7 +222,7 @@ has_all events n k s is =
 
 pub spells_raw : (events : List Event) (n : ℕ) (k : IsKernel events n) (s : Reading) (raw : RawKernel) (d : Event) → HasAll events n k s →
     raw.parallel ≡ is_parallel (get_or events 0 d).action → raw.name ≡ (get_or events 1 d).place → raw.params.items ≡ s.params → raw.nodes.items ≡ take MOST_KEPT s.nodes →
-    raw.depths.items ≡ take MOST_KEPT (depths_of s.nodes) → SpellsRaw events raw
+    raw.depths.items ≡ kept_depths (take MOST_KEPT (depths_of s.nodes)) → SpellsRaw events raw
 spells_raw events n k s raw d all parallel called params nodes depths =
     let parallel_same : k.parallel ≡ raw.parallel = sym (parallel ∙ ap (λ es. is_parallel (get_or es 0 d).action) k.spelled ∙ parallel_is k.parallel) in
     let name_same : k.name ≡ raw.name = sym (called ∙ ap (λ es. (get_or es 1 d).place) k.spelled) in
@@ -237,7 +237,7 @@ spells_raw events n k s raw d all parallel called params nodes depths =
       with_params = subst (λ ps. SpellsParams k.param_events ps) (sym (params ∙ all.params)) k.with_params;
       with_statements = k.with_statements;
       nodes = nodes ∙ ap (take MOST_KEPT) all.nodes;
-      depths = depths ∙ ap (λ ns. take MOST_KEPT (depths_of ns)) all.nodes;
+      depths = depths ∙ ap (λ ns. kept_depths (take MOST_KEPT (depths_of ns))) all.nodes;
     }
 
 slice_get_taken : (m : ℕ) (xs : List RawNode) (i : ℕ) (x : RawNode) → slice_get (take m xs) i ≡ Some x → slice_get xs i ≡ Some x

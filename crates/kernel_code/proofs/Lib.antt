@@ -34,6 +34,8 @@ pub mod KeepingSteps
 pub mod FirstEvents
 pub mod KeptFaults
 pub mod RunningDepths
+pub mod Widths
+pub mod KeptDepths
 pub mod Streams
 pub mod NoFaults
 pub mod Leaves

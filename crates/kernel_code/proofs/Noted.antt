@@ -8,7 +8,7 @@ use Rattle.kernel_code.specs.declared.raw.RawNode.{RawNode}
 use Rattle.kernel_code.specs.declared.raw.RawKernel.{RawKernel}
 use Rattle.kernel_code.specs.declared.raw.TheConstants.{MOST_KEPT}
 use Rattle.kernel_code.specs.Marks.{raw_tokens}
-use Rattle.kernel_code.specs.Depths.{depths_of}
+use Rattle.kernel_code.specs.Depths.{depths_of, kept_depths}
 use Rattle.kernel_code.specs.Edges.{AreKeptOf}
 use Rattle.kernel_code.specs.Raw.{IsKernel, SpellsRaw, IsWithin}
 use Rattle.kernel_code.specs.Reading.{run, step, nothing_read, is_parallel}
@@ -72,7 +72,7 @@ pub record IsMadeOf (notes : List Note) (raw : RawKernel) : Type 0 where
 pub made_of : (notes : List Note) (n : ℕ) (k : IsKernel (events_of notes) n) (kept : Kept) (i : ℕ) (raw : RawKernel) (d : Note) → n < 2 ^ 32 → length (parts_noted notes) ≤ i →
     Keeps kept (run nothing_read (take i (events_of (parts_noted notes)))) → n ≡ length (raw_tokens raw) →
     raw.parallel ≡ is_parallel (event_of (get_or notes 0 d)).action → raw.name ≡ (event_of (get_or notes 1 d)).place → raw.params.items ≡ kept.shown.params → raw.nodes.items ≡ kept.shown.nodes →
-    ((all : List RawNode) → AreKeptOf all kept.shown.nodes kept.joined → raw.depths.items ≡ take MOST_KEPT (depths_of all)) → IsMadeOf notes raw
+    ((all : List RawNode) → AreKeptOf all kept.shown.nodes kept.joined → raw.depths.items ≡ kept_depths (take MOST_KEPT (depths_of all))) → IsMadeOf notes raw
 made_of notes n k kept i raw d few past keeps size parallel called params nodes depths =
     let events = events_of notes in
     let s = run nothing_read (take i (events_of (parts_noted notes))) in

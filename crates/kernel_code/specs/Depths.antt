@@ -2,7 +2,9 @@
 --
 -- Nodes are numbered from 0, in the order of their tokens. A node is under all nodes between whose first and last node
 -- it stands.
-use Rattle.std.specs.Prelude.{ℕ, ◌+◌, ◌-◌, nat_le, Bool, ◌&&◌, if◌then◌else◌, List, [], ◌∷◌}
+use Rattle.std.specs.Prelude.{ℕ, ◌+◌, ◌-◌, nat_le, nat_lt, Bool, ◌&&◌, if◌then◌else◌, List, [], ◌∷◌}
+use Rattle.std.specs.List.{list_any}
+use Rattle.job_base.specs.declared.limits.TheConstants.{MOST_DEPTH}
 use Rattle.kernel_code.specs.declared.raw.RawNode.{RawNode}
 
 -- whether node j, with so many nodes under it before and behind it, is node i or contains it
@@ -29,3 +31,7 @@ depths_from nodes i (node ∷ more) = depth_of nodes i ∷ depths_from nodes (i 
 -- the depths of nodes
 abbrev pub depths_of : List RawNode → List ℕ
 depths_of nodes = depths_from nodes 0 nodes
+
+-- the depths as they are kept: none at all where none of them is a fault
+abbrev pub kept_depths : List ℕ → List ℕ
+kept_depths depths = if list_any (nat_lt MOST_DEPTH) depths then depths else []

@@ -12,6 +12,7 @@ pub mod Reading
 pub mod Keeping
 pub mod Parsing
 pub mod Edges
+pub mod Widths
 pub mod Known
 pub mod Places
 pub mod Legible

@@ -13,7 +13,7 @@ use Rattle.kernel_code.specs.declared.raw.RawParam.{RawParam}
 use Rattle.kernel_code.specs.declared.raw.RawKernel.{RawKernel}
 use Rattle.kernel_code.specs.declared.raw.TheConstants.{MOST_KEPT}
 use Rattle.kernel_code.specs.Marks.{raw_tokens}
-use Rattle.kernel_code.specs.Depths.{depths_of}
+use Rattle.kernel_code.specs.Depths.{depths_of, kept_depths}
 
 -- TREES. Numbers are places of tokens.
 
@@ -310,7 +310,7 @@ pub record SpellsRaw (events : List Event) (raw : RawKernel) : Type 0 where
   -- Later nodes say nothing of their own, since node MOST_NODES is a fault. They count among those that stand behind an
   -- earlier one, and in its depth.
   pub nodes : raw.nodes.items ≡ take MOST_KEPT (block_nodes None 0 body)
-  pub depths : raw.depths.items ≡ take MOST_KEPT (depths_of (block_nodes None 0 body))
+  pub depths : raw.depths.items ≡ kept_depths (take MOST_KEPT (depths_of (block_nodes None 0 body)))
 
 -- every place that a raw kernel tells is one of its tokens
 pub record IsWithin (raw : RawKernel) : Type 0 where

@@ -12,7 +12,7 @@ ghost use Rattle.kernel_code.specs.Tokens.{tokens_of, up_to_bad};
 ghost use Rattle.kernel_code.specs.Parsing.{kinds, StandsAt, StopsAt, refusal_of};
 ghost use Rattle.kernel_code.specs.Legible.{NamesAreText, NamesStand, IsParsed};
 
-use crate::depths::depths_of;
+use crate::depths::kept_depths;
 use crate::first::take_first;
 use crate::mark::line_at;
 use crate::raw::MOST_KEPT;
@@ -58,7 +58,7 @@ pub fn raw_kernel<'a>(
         at += take_first(&mut reader, &parts[at..])?;
     }
     let nodes = reader.nodes;
-    let depths = depths_of(alloc, &nodes, reader.joined)?;
+    let depths = kept_depths(alloc, &nodes, reader.joined)?;
     Ok(RawKernel {
         source,
         marks,

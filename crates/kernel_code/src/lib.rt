@@ -29,6 +29,7 @@ mod token;
 mod word;
 
 pub use check::{StaticFault, check_kernel};
+pub use depths::are_shallow;
 pub use fault::KernelFault;
 pub use frame_ast::kernel::{Body, FaultKind, Kernel, Param, ParamKind};
 pub use frame_grammar::{TokenAt, TokenKind};

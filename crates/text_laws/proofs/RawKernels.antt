@@ -6,7 +6,7 @@ use Rattle.frame_grammar.specs.declared.symbols.Event.{Event}
 use Rattle.kernel_code.specs.declared.raw.RawParam.{RawParam}
 use Rattle.kernel_code.specs.declared.raw.RawKernel.{RawKernel}
 use Rattle.kernel_code.specs.declared.raw.TheConstants.{MOST_KEPT}
-use Rattle.kernel_code.specs.Depths.{depths_of}
+use Rattle.kernel_code.specs.Depths.{depths_of, kept_depths}
 use Rattle.kernel_code.specs.Raw.{RawExpr, Leaf, One, Two, Infix, RawBlock, Nothing, Simple, Nested, Branched, ExprBelow, PartsBelow, BlockBelow, ParamsBelow, on, opening, SpellsParams, SpellsRaw, IsKernel, block_size, block_nodes}
 use Rattle.kernel_code.specs.Reading.{Reading, run, nothing_read, is_parallel}
 use Rattle.kernel_code.proofs.Meanings.{expr_up, parts_up, block_up, width_up, params_up}
@@ -149,7 +149,7 @@ same_parts s events r t a b =
     let marks = a.marks ∙ sym b.marks in
     let line = a.line ∙ sym b.line in
     let nodes = a.spells.nodes ∙ ap (take MOST_KEPT) once.nodes ∙ sym b.spells.nodes in
-    let depths = a.spells.depths ∙ ap (λ ns. take MOST_KEPT (depths_of ns)) once.nodes ∙ sym b.spells.depths in
+    let depths = a.spells.depths ∙ ap (λ ns. kept_depths (take MOST_KEPT (depths_of ns))) once.nodes ∙ sym b.spells.depths in
     λ i. record { source = source i; marks = marks i; line = line i; parallel = once.parallel i; name = once.name i; params = once.params i; nodes = nodes i; depths = depths i }
 
 -- the events spell the second one with the tree of the first
@@ -167,5 +167,5 @@ respelled events r t s u =
       with_params = subst (λ ps. SpellsParams s.params ps) once.params s.with_params;
       with_statements = s.with_statements;
       nodes = u.nodes ∙ ap (take MOST_KEPT) (sym once.nodes);
-      depths = u.depths ∙ ap (λ ns. take MOST_KEPT (depths_of ns)) (sym once.nodes);
+      depths = u.depths ∙ ap (λ ns. kept_depths (take MOST_KEPT (depths_of ns))) (sym once.nodes);
     }

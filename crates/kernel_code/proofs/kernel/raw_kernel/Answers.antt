@@ -49,8 +49,8 @@ loop-at-preserved c =
       keeps = taken-keeps (events_of parts) nothing_read at n (kept_of c.loop-at.reader) (kept_of c.take_first.new.reader) c.loop-at.invariant.keeps taken;
     }
 
-pub depths_of-requires : goal.depths_of-requires
-depths_of-requires c =
+pub kept_depths-requires : goal.kept_depths-requires
+kept_depths-requires c =
     let notes = c.args.notes.now in
     let s = run nothing_read (take c.loop-at.at (events_of (parts_noted notes))) in
     let kept = kept_of c.loop-at.reader in
