@@ -14,8 +14,8 @@ use Rattle.std.proofs.lemmas.List.Folds.{position_or_len_push}
 use Rattle.std.proofs.lemmas.List.Sums.{prefix_len-le-length}
 use Rattle.std.proofs.lemmas.Map.Text.{btree_map_updates_str}
 use Rattle.frame_ast.specs.declared.kernel.Kernel.{Kernel}
-use Rattle.frame_script.specs.declared.kernels.Size.{Size}
-use Rattle.frame_script.specs.KernelIndex.{IsKernelIndex, kernel_at, size_of}
+use Rattle.frame_ast.specs.Accepted.{guard_fits}
+use Rattle.frame_script.specs.KernelIndex.{IsKernelIndex, kernel_at}
 use Rattle.frame_script.proofs.NameLemmas.{at_push, bytes_eq-swap, missing, both}
 
 chosen : (kernels : List Kernel) (text q : List ℕ) → kernel_at kernels text ≡ None → (b : Bool) → bytes_eq text q ≡ b → (w : Option ℕ) →
@@ -43,15 +43,15 @@ small_more [] k all here (suc place) j h = cc
 small_more (x ∷ kernels) k all here zero j h = all zero j h
 small_more (x ∷ kernels) k all here (suc place) j h = small_more kernels k (λ q i e. all (suc q) i e) here place j h
 
-pub kernel_added : (old new : BTreeMap (Bor (List ℕ)) ℕ) (kernels : List Kernel) (sizes : List Size) (k : Kernel) (size : Size) (text : Bor (List ℕ)) (place : ℕ) → place ≡ length kernels →
-    IsKernelIndex old kernels sizes → length kernels < 2 ^ 32 - 1 → text.now ≡ string_bytes k.name → kernel_at kernels text.now ≡ None → length k.params.items ≤ 16 → size ≡ size_of k →
+pub kernel_added : (old new : BTreeMap (Bor (List ℕ)) ℕ) (kernels : List Kernel) (rooms : List Bool) (k : Kernel) (room : Bool) (text : Bor (List ℕ)) (place : ℕ) → place ≡ length kernels →
+    IsKernelIndex old kernels rooms → length kernels < 2 ^ 32 - 1 → text.now ≡ string_bytes k.name → kernel_at kernels text.now ≡ None → length k.params.items ≤ 16 → room ≡ guard_fits k →
     UpdatesBy (λ x y. slice_cmp nat_cmp x.now y.now) (λ j. slice_cmp nat_cmp text.now j.now) old new (Some place) →
-    IsKernelIndex new (kernels ++ k ∷ []) (sizes ++ size ∷ [])
-kernel_added old new kernels sizes k size text place at index room is other small sized updates = record {
-  few = rw (length-append kernels (k ∷ [])) (omega (arith, room));
+    IsKernelIndex new (kernels ++ k ∷ []) (rooms ++ room ∷ [])
+kernel_added old new kernels rooms k room text place at index few is other small roomy updates = record {
+  few = rw (length-append kernels (k ∷ [])) (omega (arith, few));
   finds = λ q.
       btree_map_updates_str text.now old new (Some place) updates q
       ∙ (both (bytes_eq text.now q) place (length kernels) _ _ at (index.finds q) ∙ sym (kernel_at-push kernels k text.now is other q));
   small = small_more kernels k index.small small;
-  sized = ap (λ xs. xs ++ size ∷ []) index.sized ∙ (ap (λ z. map size_of kernels ++ z ∷ []) sized ∙ sym (map-append size_of kernels (k ∷ [])));
+  roomy = ap (λ xs. xs ++ room ∷ []) index.roomy ∙ (ap (λ z. map guard_fits kernels ++ z ∷ []) roomy ∙ sym (map-append guard_fits kernels (k ∷ [])));
 }

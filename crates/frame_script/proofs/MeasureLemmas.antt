@@ -3,7 +3,7 @@ use Rattle.std.proofs.Common.{arith, ◌≡◌, ◌≤◌, ◌<◌, ◌+◌, ◌
 use Rattle.std.proofs.lemmas.List.{drop_all}
 use Rattle.frame_ast.specs.declared.kernel.Stmt.{Stmt}
 use Rattle.frame_ast.specs.Checked.{body_nodes, body_depth}
-use Rattle.frame_script.specs.declared.kernels.Size.{Size}
+use Rattle.frame_script.specs.declared.measure.Size.{Size}
 use Rattle.frame_script.specs.Measures.{statement_nodes, statement_depth, statement_size, body_size, beside}
 
 -- so much is measured of the statements up to a place

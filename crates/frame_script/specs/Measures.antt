@@ -1,10 +1,13 @@
--- How many nodes expressions and statements have, and how deep they are.
-use Rattle.std.specs.Prelude.{ℕ, ◌+◌, max, List}
+-- How many nodes expressions, statements and kernels have, and how deep they are.
+use Rattle.std.specs.Prelude.{◌≡◌, ◌≤◌, ℕ, ◌+◌, max, List, length}
 use Rattle.frame_ast.specs.declared.kernel.Expr.{Expr}
 use Rattle.frame_ast.specs.declared.kernel.Stmt.{Stmt}
 use Rattle.frame_ast.specs.declared.kernel.Stmt.TheFolds.{fold-Stmt}
+use Rattle.frame_ast.specs.declared.kernel.Kernel.{Kernel}
 use Rattle.frame_ast.specs.Checked.{measured, expr_nodes, expr_depth, body_nodes, body_depth}
-use Rattle.frame_script.specs.declared.kernels.Size.{Size}
+use Rattle.kernel_code.specs.declared.raw.RawKernel.{RawKernel}
+use Rattle.kernel_code.specs.Depths.{depth_of}
+use Rattle.frame_script.specs.declared.measure.Size.{Size}
 
 abbrev pub expr_size : Expr → Size
 expr_size e = record { nodes = expr_nodes e; depth = expr_depth e }
@@ -28,3 +31,13 @@ beside a b = record { nodes = a.nodes + b.nodes; depth = max a.depth b.depth }
 
 abbrev pub over : Size → Size
 over a = record { nodes = 1 + a.nodes; depth = 1 + a.depth }
+
+-- KERNELS
+
+abbrev pub size_of : Kernel → Size
+size_of k = body_size k.body.statements.items
+
+-- A kernel has as many nodes as a raw form, and is no deeper than the deepest of those.
+pub record HasNodesOf (raw : RawKernel) (k : Kernel) : Type 0 where
+  pub nodes : body_nodes k.body.statements.items ≡ length raw.nodes.items
+  pub depth : (d : ℕ) → ((i : ℕ) → depth_of raw.nodes.items i ≤ d) → body_depth k.body.statements.items ≤ d

@@ -6,30 +6,22 @@ ghost use Rattle.std.specs.Coded.{codes};
 ghost use Rattle.frame_ast.specs.contracts.kernel.Stmt as e;
 ghost use Rattle.frame_ast.specs.contracts.kernel.Expr as f;
 ghost use Rattle.frame_ast.specs.Accepted.{guard_fits};
-ghost use Rattle.frame_script.specs.KernelIndex.{IsKernelIndex, kernel_at, size_of};
+ghost use Rattle.frame_script.specs.KernelIndex.{IsKernelIndex, kernel_at};
 
 use frame_ast::kernel::Kernel;
 use job_base::NoMemory;
-use job_base::limits::{
-    GUARD_DEPTH, GUARD_NODES, GUARD_PARAMS, MOST_DEPTH, MOST_NODES, MOST_PARAMS,
-};
+use job_base::limits::MOST_PARAMS;
 use std::alloc::Global;
 use std::collections::BTreeMap;
 use std::marker::Model;
-
-/// How many nodes statements have, and how deep the deepest is.
-#[derive(Clone, Copy, Debug, PartialEq, Eq)]
-pub struct Size {
-    pub nodes: u32,
-    pub depth: u32,
-}
 
 /// The kernels that are known. A kernel's place is its number among them.
 #[derive(Drop)]
 pub struct Kernels<'a> {
     places: BTreeMap<&'a [u8], u32>,
     kernels: Vec<Kernel>,
-    sizes: Vec<Size>,
+    // Whether each of them has room for the guard of a deferred job.
+    rooms: Vec<bool>,
 }
 
 impl<'a> Model for Kernels<'a> {
@@ -39,7 +31,7 @@ impl<'a> Model for Kernels<'a> {
 
     ghost view = { λ s. s.kernels.items };
 
-    ghost invariant = { λ s. IsKernelIndex s.places s.kernels.items s.sizes.items };
+    ghost invariant = { λ s. IsKernelIndex s.places s.kernels.items s.rooms.items };
 }
 
 impl<'a> Kernels<'a> {
@@ -50,7 +42,7 @@ impl<'a> Kernels<'a> {
         Kernels {
             places: BTreeMap::new(alloc),
             kernels: Vec::new(alloc),
-            sizes: Vec::new(alloc),
+            rooms: Vec::new(alloc),
         }
     }
 
@@ -76,10 +68,7 @@ impl<'a> Kernels<'a> {
         requires { place < length self.now }
         ensures { IfSome (slice_get self.now place) (λ k. result ≡ guard_fits k) }
     {
-        let size = self.sizes[place as usize];
-        self.kernels[place as usize].params.len() <= (MOST_PARAMS - GUARD_PARAMS) as usize
-            && size.nodes <= MOST_NODES - GUARD_NODES
-            && size.depth <= MOST_DEPTH - GUARD_DEPTH
+        self.rooms[place as usize]
     }
 
     /// All kernels.
@@ -97,23 +86,23 @@ impl<'a> Kernels<'a> {
     }
 
     /// Adds a kernel after the others. No other one has its name.
-    pub fn add(&mut self, text: &'a [u8], kernel: Kernel, size: Size) -> Result<(), NoMemory>
+    pub fn add(&mut self, text: &'a [u8], kernel: Kernel, has_room: bool) -> Result<(), NoMemory>
         requires name { text.now ≡ string_bytes kernel.name }
         requires other { kernel_at self.old text.now ≡ None }
         requires few { length self.old < 2 ^ 32 - 1 }
         requires small { length kernel.params.items ≤ MOST_PARAMS }
-        requires size { size ≡ size_of kernel }
+        requires room { has_room ≡ guard_fits kernel }
         ensures { IfOk result (λ _. self.new ≡ self.old ++ kernel ∷ []) }
     {
         let place = self.kernels.len() as u32;
-        self.sizes.push(size)?;
+        self.rooms.push(has_room)?;
         if self.kernels.push(kernel).is_err() {
-            self.sizes.pop();
+            self.rooms.pop();
             return Err(NoMemory);
         }
         if self.places.insert(text, place).is_err() {
             self.kernels.pop();
-            self.sizes.pop();
+            self.rooms.pop();
             return Err(NoMemory);
         }
         Ok(())

@@ -9,7 +9,7 @@ ghost use Rattle.kernel_code.specs.Legible.{NamesAreText, NamesStand};
 ghost use Rattle.frame_script.specs.Sources.{file_tokens};
 ghost use Rattle.frame_script.specs.Walking.{AddsKernel, RefusesKernel};
 
-use crate::measure::size_of;
+use crate::measure::has_guard_room;
 use crate::{Kernels, LoadFault, Source};
 use frame_grammar::Note;
 use kernel_code::{KernelFault, check_kernel, raw_kernel};
@@ -39,7 +39,7 @@ pub fn add_kernel<'a>(
         }
         Err(KernelFault::NoMemory) => return Err(LoadFault::NoMemory),
     };
-    let size = size_of(&kernel);
-    kernels.add(source.text(raw.name), kernel, size)?;
+    let has_room = has_guard_room(&raw, &kernel);
+    kernels.add(source.text(raw.name), kernel, has_room)?;
     Ok(())
 }

@@ -49,7 +49,7 @@ stmt_depth = fold-Stmt ℕ (measured expr_depth max)
 stmt-depth : (s : Stmt) (z : Stmt-F Stmt) → out-Stmt s ≡ z → stmt_depth s ≡ measured expr_depth max (map-Stmt Stmt ℕ stmt_depth z)
 stmt-depth s z o = fold_out-Stmt ℕ (measured expr_depth max) s ∙ ap (λ z. measured expr_depth max (map-Stmt Stmt ℕ stmt_depth z)) o
 
-block-depth : {raw : RawKernel} {i : ℕ} {b : RawBlock} {ss : List Stmt} → BlockOf raw i b ss → body_depth ss ≡ block_levels b
+pub block-depth : {raw : RawKernel} {i : ℕ} {b : RawBlock} {ss : List Stmt} → BlockOf raw i b ss → body_depth ss ≡ block_levels b
 block-depth nothing = refl
 block-depth (var {s = s} k d x o rest) = let a = stmt-depth s _ o in let b = expr-depth x in let c = block-depth rest in omega arith
 block-depth (set_local {s = s} k d x o rest) = let a = stmt-depth s _ o in let b = expr-depth x in let c = block-depth rest in omega arith

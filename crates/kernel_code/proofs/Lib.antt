@@ -57,6 +57,7 @@ pub mod DepthLimits
 pub mod ParamLimits
 pub mod ParamNames
 pub mod Limits
+pub mod Rooms
 pub mod Checking
 pub mod Decimals
 pub mod Values

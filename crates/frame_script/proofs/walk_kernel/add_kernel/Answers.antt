@@ -1,6 +1,7 @@
 use Rattle.std.proofs.Common.{◌≡◌, None, sym, ◌∙◌, ap, subst}
 use Rattle.frame_grammar.specs.Notes.{events_of}
 use Rattle.kernel_code.specs.StaticFaults.{first_fault, TellsFault}
+use Rattle.kernel_code.proofs.Rooms as rooms
 use Rattle.kernel_code.specs.declared.fault.KernelFault.TheVariants.{Refused}
 use Rattle.frame_script.specs.Walking.{RefusesKernel}
 use Rattle.frame_script.specs.Files.{IsRawOf}
@@ -15,6 +16,17 @@ returns-in-Err-Refused-clause-refused c line kind is =
     let tells = subst (λ ks. TellsFault raw (first_fault raw ks) (Refused c.in-Err-Refused.line c.in-Err-Refused.kind)) c.as_slice.ensures (subst (TellsFault raw (first_fault raw c.as_slice.result.now)) c.in-Err-Refused.field-0-is c.in-Err-Refused.ensures.refused) in
     of_refusal (RefusesKernel c.args.source (events_of c.args.notes.now) known) _ line _ kind is
     (kernel_refused c.args.source (events_of c.args.notes.now) raw known _ _ is_raw tells)
+
+pub has_guard_room-has_room-requires-clause-nodes : goal.has_guard_room-has_room-requires-clause-nodes
+has_guard_room-has_room-requires-clause-nodes c =
+    let events = events_of c.args.notes.now in
+    let raw = c.in_ok-raw.raw in
+    let kernel = c.in-Ok.kernel in
+    let known = c.as_slice.result.now in
+    let spells = c.in_ok-raw.ensures.spelled in
+    let none = c.in-Ok.ensures.faultless in
+    let is = c.in-Ok.ensures.kernel in
+    record { nodes = rooms.nodes events raw kernel known spells none is; depth = rooms.depth events raw kernel known spells none is }
 
 pub add-requires-clause-other : goal.add-requires-clause-other
 add-requires-clause-other c =
