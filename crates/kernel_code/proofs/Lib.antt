@@ -61,3 +61,5 @@ pub mod Rooms
 pub mod Checking
 pub mod Decimals
 pub mod Values
+pub mod Glances
+pub mod PlainNames

@@ -1,5 +1,5 @@
 -- What is known of the names of a kernel before a node.
-use Rattle.std.specs.Prelude.{◌≡◌, ℕ, ◌≤◌, nat_le, nat_lt, ◌==◌, ◌&&◌, Bool, true, false, if◌then◌else◌, List, [], ◌∷◌, ◌+◌, length, map, take, Option, Some, None}
+use Rattle.std.specs.Prelude.{◌≡◌, ℕ, ◌≤◌, nat_le, nat_lt, ◌==◌, ◌&&◌, not, is_none, Bool, true, false, if◌then◌else◌, List, [], ◌∷◌, ◌+◌, length, map, take, Option, Some, None}
 use Rattle.std.specs.List.{list_any}
 use Rattle.std.specs.Borrow.{Bor}
 use Rattle.job_base.specs.declared.limits.TheConstants.{MOST_LOCALS}
@@ -12,7 +12,7 @@ use Rattle.kernel_code.specs.declared.check.names.Named.TheVariants.{Parameter, 
 use Rattle.kernel_code.specs.declared.check.names.Local.{Local}
 use Rattle.kernel_code.specs.declared.check.names.Meaning.{Meaning}
 use Rattle.kernel_code.specs.declared.check.streams.StreamBlock.{StreamBlock}
-use Rattle.kernel_code.specs.StaticFaults.{text_at, declares, local_of, as_local, locals_before, parameter, is_begin, is_inside, is_number, begun_among, meaning_of, token_fault, size_fault, name_fault}
+use Rattle.kernel_code.specs.StaticFaults.{text_at, declares, local_of, as_local, locals_before, parameter, is_begin, is_inside, is_number, begun_among, meaning_of, used_fault, token_fault, size_fault, name_fault}
 
 -- whether node i stands in a block of stream x
 abbrev pub is_in : ℕ → ℕ → StreamBlock → Bool
@@ -58,6 +58,32 @@ answer_named raw i node = meaning_if (has_answer node.form) raw i node.at
 -- what the name of node i is, where it has one
 abbrev pub name_named : RawKernel → ℕ → RawNode → Option Named
 name_named raw i node = meaning_if (has_name node.form) raw i node.name
+
+-- forms of a name that they only use: they neither declare nor answer to it, and no block tells whether it fits
+abbrev pub only_uses : RawForm → Bool
+only_uses form.Name = true
+only_uses form.Element = true
+only_uses form.Length = true
+only_uses form.Has = true
+only_uses form.Count = true
+only_uses form.Item = true
+only_uses form.SetName = true
+only_uses form.SetPlace = true
+only_uses form.AddItem = true
+only_uses form.AddPair = true
+only_uses form.Remove = true
+only_uses form.Clear = true
+only_uses _ = false
+
+-- what a name is at node i that only uses it, if nothing is wrong with it there
+abbrev pub used_name : RawKernel → ℕ → RawForm → List ℕ → Option (Option Named)
+used_name raw i f text = if is_none (used_fault raw i f text) then Some (meaning_of raw i text) else None
+
+-- what the name of node i is, if it has none or only uses it, and if nothing is wrong with its token and its name
+abbrev pub plain_name : RawKernel → ℕ → RawNode → Option (Option Named)
+plain_name raw i node =
+    if not (has_name node.form) then (if is_none (token_fault raw i node.at node.form) then Some None else None)
+    else (if only_uses node.form then used_name raw i node.form (text_at raw node.name) else None)
 
 -- what a node declares or means by its name
 abbrev pub name_stored : RawKernel → ℕ → RawNode → Option Named

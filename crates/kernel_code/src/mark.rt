@@ -3,12 +3,14 @@
 //! The tokens of a whole file stand in memory, so each takes as little as it can: a file has fewer than 2^25 bytes, and
 //! there are fewer than 2^7 kinds. Where a token ends is read again in the file, and its line is counted.
 
-ghost use Rattle.std.specs.Prelude.{◌≡◌, ◌<◌, ◌^◌, ◌+◌, ℕ, List, length, min, slice_get};
+ghost use Rattle.std.specs.Prelude.{◌≡◌, ◌<◌, ◌≤◌, ◌^◌, ◌+◌, ◌&&◌, not, ℕ, List, length, min, nat_lt, slice_get};
+ghost use Rattle.std.specs.Char.{is_ascii_alphabetic};
 ghost use Rattle.std.specs.Str.{bytes_eq};
 ghost use Rattle.kernel_code.specs.declared.mark.TheConstants.{KINDS};
 ghost use Rattle.kernel_code.specs.Marks.{kind_numbered, kind_of, start_of, IsOfKind, is_line, token_in, tokens_in, lines_in};
 ghost use Rattle.kernel_code.specs.StaticFaults.{token_line, value_of};
 ghost use Rattle.kernel_code.specs.Tokens.{text_of};
+ghost use Rattle.kernel_code.specs.Words.{continues_name};
 
 use crate::decimal::{front_value, value_of};
 use crate::word::front_end;
@@ -160,6 +162,14 @@ pub fn is_same(a: &[u8], b: &[u8]) -> bool
     len == 1 || a == b
 }
 
+/// Whether a byte is a letter that the byte after it doesn't continue.
+#[inline(always)]
+fn is_lone_letter(byte: u8, next: u8) -> bool
+    ensures { result ≡ (is_ascii_alphabetic byte && not (continues_name next)) }
+{
+    byte.is_ascii_alphabetic() && !next.is_ascii_alphanumeric() && next != b'_'
+}
+
 impl Mark {
     /// The mark of a token of this kind, whose first byte is below 2^25.
     #[inline(always)]
@@ -200,7 +210,24 @@ impl Mark {
     }
 
     /// Its bytes, as far as they lie within the file.
+    // Many names are one letter, which two bytes show; all else is out of line.
+    #[inline(always)]
     pub fn text<'a>(self, source: &'a [u8]) -> &'a [u8]
+        ensures { (line : ℕ) → result.now ≡ text_of source.now (token_in source.now line self) }
+    {
+        let start = self.start() as usize;
+        if start + 1 < source.len()
+            && !matches!(self.kind(), TokenKind::End)
+            && is_lone_letter(source[start], source[start + 1])
+        {
+            return &source[start..start + 1];
+        }
+        self.whole_text(source)
+    }
+
+    /// Its bytes, whatever token it is.
+    #[inline(never)]
+    fn whole_text<'a>(self, source: &'a [u8]) -> &'a [u8]
         ensures { (line : ℕ) → result.now ≡ text_of source.now (token_in source.now line self) }
     {
         let start = self.start() as usize;
@@ -237,6 +264,25 @@ impl Mark {
             return value;
         }
         value_of(self.text(source))
+    }
+
+    /// Whether the value of its digits is greater than this one, which has more digits than four.
+    // Most Numbers have no more than four digits, which two bytes show.
+    #[inline(always)]
+    pub fn is_above(self, source: &[u8], most: u64) -> bool
+        requires great { 9999 ≤ most }
+        requires fits { most < 18446744073709551615 }
+        ensures { (line : ℕ) → result ≡ nat_lt most (value_of (text_of source.now (token_in source.now line self))) }
+    {
+        let start = self.start() as usize;
+        if start + 4 < source.len()
+            && matches!(self.kind(), TokenKind::Number)
+            && source[start].is_ascii_digit()
+            && !source[start + 4].is_ascii_digit()
+        {
+            return false;
+        }
+        self.value(source) > most
     }
 }
 

@@ -67,6 +67,8 @@ fn writes(form: RawForm) -> bool
 }
 
 /// Why a parameter can't be the name of a form.
+// In line, since almost all calls are those of one loop.
+#[inline(always)]
 pub fn demand_fault(form: RawForm, param: RawParam) -> Option<FaultKind>
     ensures { result ≡ demand_fault (demand_of form) param }
 {

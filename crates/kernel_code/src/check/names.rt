@@ -101,6 +101,8 @@ fn local_among(raw: &RawKernel<'_>, locals: &[Local], node: usize, name: &[u8]) 
 }
 
 /// What a name is at a node, where the parameters have these names and these locals are declared before it.
+// In line, since almost all calls are those of one loop.
+#[inline(always)]
 pub fn meaning_of(
     raw: &RawKernel<'_>,
     names: &[&[u8]],

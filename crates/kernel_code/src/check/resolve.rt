@@ -1,11 +1,12 @@
 // What the names of all nodes stand for, up to the first fault.
-ghost use Rattle.std.specs.Prelude.{◌≡◌, ◌≤◌, ◌<◌, ◌++◌, ◌||◌, ℕ, None, Some, length, slice_get, vec_len, IfOk, OnOk, MatchResult};
-ghost use Rattle.kernel_code.specs.StaticFaults.{depth_at, declares, is_loop, is_begin, end_in, block_end, local_of, local_if, locals_before, locals_of, nodes_fault};
+ghost use Rattle.std.specs.Prelude.{◌≡◌, ◌≤◌, ◌<◌, ◌++◌, ◌||◌, ◌+◌, ℕ, nat_le, nat_lt, None, Some, length, slice_get, vec_len, IfOk, OnOk, MatchResult};
+ghost use Rattle.kernel_code.specs.StaticFaults.{depth_at, declares, is_loop, is_begin, end_in, block_end, local_of, local_if, locals_before, locals_of, node_fault, nodes_fault};
+ghost use Rattle.job_base.specs.declared.limits.TheConstants.{MOST_NODES, MOST_DEPTH};
 ghost use Rattle.kernel_code.specs.Known.{AreNames, stands_in, is_block, IsKnown, name_named, name_stored, meanings_from};
 
 use crate::check::StaticFault;
 use crate::check::names::{Local, Meaning, Named, as_local, names_of, parameter_at};
-use crate::check::nodes::look_up;
+use crate::check::nodes::{look_up, plain_name};
 use crate::check::streams::{StreamBlock, close_blocks};
 use crate::raw::{RawForm, RawKernel, RawNode};
 use job_base::NoMemory;
@@ -17,6 +18,16 @@ use std::alloc::Global;
 pub struct Meanings {
     pub of_nodes: Vec<Meaning>,
     pub locals: u32,
+}
+
+// What is kept of the nodes before one.
+#[derive(Drop)]
+struct Known {
+    locals: Vec<Local>,
+    /// The `begin` blocks, of which the last may have ended.
+    blocks: Vec<StreamBlock>,
+    /// What the names of the nodes stand for.
+    of_nodes: Vec<Meaning>,
 }
 
 fn declares(form: RawForm) -> bool
@@ -141,6 +152,72 @@ fn depth_at(raw: &RawKernel<'_>, number: usize) -> u32
     raw.depths.get(number).copied().unwrap_or(0)
 }
 
+// What is kept of a node whatever it is, or its first fault.
+// Few nodes come here, and in line this would take registers from the loop over all.
+#[inline(never)]
+fn note_rare(
+    raw: &RawKernel<'_>,
+    names: &[&[u8]],
+    known: &mut Known,
+    number: usize,
+    node: &RawNode,
+    is_over: bool,
+) -> Result<Option<StaticFault>, NoMemory>
+    requires names { AreNames raw.now names.now }
+    requires params { length raw.now.params.items ≤ MOST_PARAMS }
+    requires here { slice_get raw.now.nodes.items number ≡ Some node.now }
+    requires known { IsKnown raw.now number known.old.locals.items known.old.blocks.items known.old.of_nodes.items }
+    requires over { is_over ≡ (nat_le MOST_NODES number || nat_lt MOST_DEPTH (depth_at raw.now number)) }
+    ensures fault { IfOk result (λ fault. fault ≡ node_fault raw.now number node.now) }
+    ensures known { IfOk result (λ fault. fault ≡ None →
+        IsKnown raw.now (number + 1) known.new.locals.items known.new.blocks.items known.new.of_nodes.items) }
+{
+    close_blocks(&mut known.blocks, number);
+    let meaning = match look_up(
+        raw,
+        names,
+        &known.locals,
+        &known.blocks,
+        number,
+        node,
+        is_over,
+    ) {
+        Ok(meaning) => meaning,
+        Err(fault) => return Ok(Some(fault)),
+    };
+    let answer = meaning.answer;
+    let name = note_local(raw, &mut known.locals, number, node, meaning.name)?;
+    note_block(raw, names, &mut known.blocks, number, node)?;
+    known.of_nodes.push(Meaning { answer, name })?;
+    Ok(None)
+}
+
+// What is kept of a node, or its first fault.
+#[inline(always)]
+fn note_node(
+    raw: &RawKernel<'_>,
+    names: &[&[u8]],
+    known: &mut Known,
+    number: usize,
+    node: &RawNode,
+    is_over: bool,
+) -> Result<Option<StaticFault>, NoMemory>
+    requires names { AreNames raw.now names.now }
+    requires params { length raw.now.params.items ≤ MOST_PARAMS }
+    requires here { slice_get raw.now.nodes.items number ≡ Some node.now }
+    requires known { IsKnown raw.now number known.old.locals.items known.old.blocks.items known.old.of_nodes.items }
+    requires over { is_over ≡ (nat_le MOST_NODES number || nat_lt MOST_DEPTH (depth_at raw.now number)) }
+    ensures fault { IfOk result (λ fault. fault ≡ node_fault raw.now number node.now) }
+    ensures known { IfOk result (λ fault. fault ≡ None →
+        IsKnown raw.now (number + 1) known.new.locals.items known.new.blocks.items known.new.of_nodes.items) }
+{
+    if !is_over && let Some(name) = plain_name(raw, names, &known.locals, number, node) {
+        known.of_nodes.push(Meaning { answer: None, name })?;
+        return Ok(None);
+    }
+    note_rare(raw, names, known, number, node, is_over)
+}
+
 /// What the names of all nodes stand for, or the first fault.
 // Once for a kernel; out of line its loop has all registers.
 #[inline(never)]
@@ -156,22 +233,19 @@ pub fn resolve(
         (λ fault. nodes_fault raw.now 0 raw.now.nodes.items ≡ Some fault)) }
 {
     let names = names_of(alloc, raw)?;
-    let mut locals = Vec::new(alloc);
-    let mut blocks = Vec::new(alloc);
-    let mut of_nodes = Vec::with_capacity(alloc, raw.nodes.len())?;
+    let mut known = Known {
+        locals: Vec::new(alloc),
+        blocks: Vec::new(alloc),
+        of_nodes: Vec::with_capacity(alloc, raw.nodes.len())?,
+    };
     for number in 0..raw.nodes.len() {
         let node = &raw.nodes[number];
-        close_blocks(&mut blocks, number);
         let is_over = number >= MOST_NODES as usize || depth_at(raw, number) > MOST_DEPTH;
-        let meaning = match look_up(raw, &names, &locals, &blocks, number, node, is_over) {
-            Ok(meaning) => meaning,
-            Err(fault) => return Ok(Err(fault)),
-        };
-        let answer = meaning.answer;
-        let name = note_local(raw, &mut locals, number, node, meaning.name)?;
-        note_block(raw, &names, &mut blocks, number, node)?;
-        of_nodes.push(Meaning { answer, name })?;
+        if let Some(fault) = note_node(raw, &names, &mut known, number, node, is_over)? {
+            return Ok(Err(fault));
+        }
     }
-    let locals = locals.len() as u32;
+    let locals = known.locals.len() as u32;
+    let of_nodes = known.of_nodes;
     Ok(Ok(Meanings { of_nodes, locals }))
 }

@@ -1,5 +1,5 @@
 // What the tokens of a kernel say: their bytes, their lines, the values of Numbers.
-ghost use Rattle.std.specs.Prelude.{◌≡◌, ◌<◌, ◌+◌, ◌^◌, min, length};
+ghost use Rattle.std.specs.Prelude.{◌≡◌, ◌<◌, ◌≤◌, ◌+◌, ◌^◌, min, nat_lt, length};
 ghost use Rattle.std.specs.Str.{bytes_eq};
 ghost use Rattle.kernel_code.specs.StaticFaults.{text_at, line_at, value_at};
 
@@ -42,5 +42,18 @@ pub fn value_at(raw: &RawKernel<'_>, at: TokenAt) -> u64
     match raw.marks.get(at.index()) {
         Some(mark) => mark.value(raw.source),
         None => 0,
+    }
+}
+
+/// Whether the value of the Number at a place is greater than this one, which has more digits than four.
+#[inline(always)]
+pub fn is_above(raw: &RawKernel<'_>, at: TokenAt, most: u64) -> bool
+    requires great { 9999 ≤ most }
+    requires fits { most < 18446744073709551615 }
+    ensures { result ≡ nat_lt most (value_at raw.now at) }
+{
+    match raw.marks.get(at.index()) {
+        Some(mark) => mark.is_above(raw.source, most),
+        None => false,
     }
 }
