@@ -1,9 +1,10 @@
 -- What two bytes show of a token: a name of one letter, and a Number of few digits.
-use Rattle.std.proofs.Common.{◌≡◌, ℕ, zero, suc, ◌+◌, ◌-◌, ◌*◌, ◌<◌, ◌≤◌, ◌^◌, ◌&&◌, true, false, not, min, List, length, take, drop, get_or, Some, None, refl, sym, ◌∙◌, ap, subst, ⊎_elim, arith, get_or-drop}
+use Rattle.std.proofs.Common.{◌≡◌, ℕ, zero, suc, ◌+◌, ◌-◌, ◌*◌, ◌<◌, ◌≤◌, ◌^◌, ◌&&◌, true, false, not, min, List, length, take, drop, get_or, Some, None, refl, sym, ◌∙◌, ap, subst, ⊎_elim, arith, get_or-drop, drop-cons, [], ◌∷◌, ◌==◌}
+use Rattle.std.specs.Str.{bytes_eq}
 use Rattle.std.specs.Prelude.{nat_le, nat_lt}
 use Rattle.std.specs.List.{prefix_len}
 use Rattle.std.specs.Char.{is_ascii_digit, is_ascii_alphabetic}
-use Rattle.std.proofs.lemmas.Bool.{and_parts, and_from, not-true, or_left, cases_lt, cond-true, le-leb, lt-ltb, le-ltb}
+use Rattle.std.proofs.lemmas.Bool.{and_parts, and_right, ltb-true, eq-eqb, ne_eqb, ne_eqb, and_right, and_from, not-true, or_left, cases_lt, cond-true, le-leb, lt-ltb, le-ltb}
 use Rattle.std.proofs.lemmas.Bool.Decides.{nat_tests}
 use Rattle.std.proofs.lemmas.List.Sums.{prefix_len_passes, prefix_len-drop_yes, prefix_len-drop_no, fold_more}
 use Rattle.std.proofs.Math.Nat.{pow-suc, pow-le-pow_right}
@@ -13,6 +14,7 @@ use Rattle.kernel_code.specs.declared.mark.Mark.{Mark}
 use Rattle.kernel_code.specs.Marks.{kind_of, start_of, end_in, token_in}
 use Rattle.kernel_code.specs.Tokens.{front_len, text_of}
 use Rattle.kernel_code.specs.Words.{continues_name}
+use Rattle.kernel_code.specs.Letters.{is_end, is_letter}
 use Rattle.kernel_code.specs.StaticFaults.{value_of}
 use Rattle.kernel_code.specs.Numbers.{front_value}
 use Rattle.kernel_code.proofs.FrontsAt.{at_name}
@@ -20,25 +22,44 @@ use Rattle.kernel_code.proofs.Runs.{prefix_len-le}
 use Rattle.kernel_code.proofs.Values.{number_value}
 
 -- a letter that the next byte doesn't continue is all that stands there
-lone_letter : (source : List ℕ) (place : ℕ) → place + 1 < length source → get_or source place 0 < 256 → (is_ascii_alphabetic (get_or source place 0) && not (continues_name (get_or source (place + 1) 0))) ≡ true → front_len (drop place source) ≡ 1
-lone_letter source place within small lone =
-    let parts = and_parts (is_ascii_alphabetic (get_or source place 0)) (not (continues_name (get_or source (place + 1) 0))) lone in
-    let none = prefix_len-drop_no continues_name source (place + 1) 0 within (not-true _ parts.1) in
-    let there = at_name source place (place + 1) (omega arith) small (or_left _ _ parts.0) (omega (arith, none)) in
+lone_letter : (source : List ℕ) (place : ℕ) → place + 1 < length source → get_or source place 0 < 256 → is_ascii_alphabetic (get_or source place 0) ≡ true → continues_name (get_or source (place + 1) 0) ≡ false → front_len (drop place source) ≡ 1
+lone_letter source place within small letter ended =
+    let none = prefix_len-drop_no continues_name source (place + 1) 0 within ended in
+    let there = at_name source place (place + 1) (omega arith) small (or_left _ _ letter) (omega (arith, none)) in
     omega (arith, there.end_is)
 
 -- any token but an end ends behind what the file has there
-ends_behind : (source : List ℕ) (kind : TokenKind) (start : ℕ) → (kind ≡ End → ⊥) → end_in source kind start ≡ start + front_len (drop start source)
-ends_behind source End start other = absurd (other refl)
+ends_behind : (source : List ℕ) (kind : TokenKind) (start : ℕ) → is_end kind ≡ false → end_in source kind start ≡ start + front_len (drop start source)
+ends_behind source End start other = cc
 ends_behind source _ start other = refl
 
--- the text of a name of one letter
-pub letter_text : (source : List ℕ) (line start : ℕ) (mark : Mark) → start ≡ start_of mark → start + 1 < length source → get_or source start 0 < 256 → (kind_of mark ≡ End → ⊥) →
-    (is_ascii_alphabetic (get_or source start 0) && not (continues_name (get_or source (start + 1) 0))) ≡ true → take (start + 1 - start) (drop start source) ≡ text_of source (token_in source line mark)
-letter_text source line start mark is within small other lone =
-    let len : start + 1 - start ≡ end_in source (kind_of mark) (start_of mark) - start_of mark =
-    omega (arith, ends_behind source (kind_of mark) (start_of mark) other, lone_letter source start within small lone, ap (λ n. front_len (drop n source)) is) in
-    (λ i. take (len i) (drop (is i) source))
+-- the text of a token of one letter
+pub letter_text : (source : List ℕ) (line : ℕ) (mark : Mark) → get_or source (start_of mark) 0 < 256 → is_letter source mark ≡ true → take 1 (drop (start_of mark) source) ≡ text_of source (token_in source line mark)
+letter_text source line mark small letter =
+    let start = start_of mark in
+    let first = is_ascii_alphabetic (get_or source start 0) in
+    let more = not (continues_name (get_or source (start + 1) 0)) in
+    let within = and_parts (nat_lt (start + 1) (length source)) (not (is_end (kind_of mark)) && (first && more)) letter in
+    let other = and_parts (not (is_end (kind_of mark))) (first && more) within.1 in
+    let bytes = and_parts first more other.1 in
+    let lone = lone_letter source start (ltb-true _ _ within.0) small bytes.0 (not-true _ bytes.1) in
+    let len : 1 ≡ end_in source (kind_of mark) start - start = omega (arith, ends_behind source (kind_of mark) start (not-true _ other.0), lone) in
+    ap (λ n. take n (drop start source)) len
+
+one_byte : (byte : ℕ) (name : List ℕ) → 0 < length name → byte ≡ get_or name 0 0 → (length name == 1) ≡ bytes_eq (byte ∷ []) name
+one_byte byte [] some first = absurd (omega arith)
+one_byte byte (other ∷ []) some first = sym (ap (λ b. b && true) (eq-eqb byte other first))
+one_byte byte (other ∷ next ∷ more) some first = ne_eqb _ _ (λ one. omega (arith, one)) ∙ sym (and_right (byte == other) false refl)
+
+first_byte : (source : List ℕ) (start : ℕ) → start < length source → take 1 (drop start source) ≡ get_or source start 0 ∷ []
+first_byte source start within = ap (take 1) (drop-cons source start 0 within)
+
+-- a token of one letter is spelled by that letter alone
+pub letter_spelled : (source : List ℕ) (line : ℕ) (mark : Mark) (name : List ℕ) → get_or source (start_of mark) 0 < 256 → is_letter source mark ≡ true → start_of mark < length source → 0 < length name →
+    get_or source (start_of mark) 0 ≡ get_or name 0 0 → (length name == 1) ≡ bytes_eq (text_of source (token_in source line mark)) name
+letter_spelled source line mark name small letter within some first =
+    one_byte (get_or source (start_of mark) 0) name some first
+    ∙ ap (λ text. bytes_eq text name) (sym (first_byte source (start_of mark) within) ∙ letter_text source line mark small letter)
 
 digit_range : (byte : ℕ) → is_ascii_digit byte ≡ true → byte - 48 ≤ 9
 digit_range byte is = grind (arith, nat_tests)

@@ -16,3 +16,4 @@ pub mod Widths
 pub mod Known
 pub mod Places
 pub mod Legible
+pub mod Letters

@@ -3,14 +3,14 @@
 //! The tokens of a whole file stand in memory, so each takes as little as it can: a file has fewer than 2^25 bytes, and
 //! there are fewer than 2^7 kinds. Where a token ends is read again in the file, and its line is counted.
 
-ghost use Rattle.std.specs.Prelude.{◌≡◌, ◌<◌, ◌≤◌, ◌^◌, ◌+◌, ◌&&◌, not, ℕ, List, length, min, nat_lt, slice_get};
-ghost use Rattle.std.specs.Char.{is_ascii_alphabetic};
+ghost use Rattle.std.specs.Prelude.{◌≡◌, ◌<◌, ◌≤◌, ◌^◌, ◌+◌, ℕ, List, length, min, nat_lt, slice_get};
 ghost use Rattle.std.specs.Str.{bytes_eq};
 ghost use Rattle.kernel_code.specs.declared.mark.TheConstants.{KINDS};
 ghost use Rattle.kernel_code.specs.Marks.{kind_numbered, kind_of, start_of, IsOfKind, is_line, token_in, tokens_in, lines_in};
 ghost use Rattle.kernel_code.specs.StaticFaults.{token_line, value_of};
 ghost use Rattle.kernel_code.specs.Tokens.{text_of};
 ghost use Rattle.kernel_code.specs.Words.{continues_name};
+ghost use Rattle.kernel_code.specs.Letters.{is_letter};
 
 use crate::decimal::{front_value, value_of};
 use crate::word::front_end;
@@ -162,12 +162,10 @@ pub fn is_same(a: &[u8], b: &[u8]) -> bool
     len == 1 || a == b
 }
 
-/// Whether a byte is a letter that the byte after it doesn't continue.
-#[inline(always)]
-fn is_lone_letter(byte: u8, next: u8) -> bool
-    ensures { result ≡ (is_ascii_alphabetic byte && not (continues_name next)) }
+fn continues_name(byte: u8) -> bool
+    ensures { result ≡ continues_name byte }
 {
-    byte.is_ascii_alphabetic() && !next.is_ascii_alphanumeric() && next != b'_'
+    byte.is_ascii_alphanumeric() || byte == b'_'
 }
 
 impl Mark {
@@ -209,17 +207,26 @@ impl Mark {
         self.word % MOST_KINDS == TokenKind::Line as u32
     }
 
+    /// Whether it is one letter, as its byte and the next one show.
+    // Many names are, and what else is asked of them needs no look at where they end.
+    #[inline(always)]
+    fn is_letter(self, source: &[u8]) -> bool
+        ensures { result ≡ is_letter source.now self }
+    {
+        let start = self.start() as usize;
+        start + 1 < source.len()
+            && !matches!(self.kind(), TokenKind::End)
+            && source[start].is_ascii_alphabetic()
+            && !continues_name(source[start + 1])
+    }
+
     /// Its bytes, as far as they lie within the file.
-    // Many names are one letter, which two bytes show; all else is out of line.
     #[inline(always)]
     pub fn text<'a>(self, source: &'a [u8]) -> &'a [u8]
         ensures { (line : ℕ) → result.now ≡ text_of source.now (token_in source.now line self) }
     {
-        let start = self.start() as usize;
-        if start + 1 < source.len()
-            && !matches!(self.kind(), TokenKind::End)
-            && is_lone_letter(source[start], source[start + 1])
-        {
+        if self.is_letter(source) {
+            let start = self.start() as usize;
             return &source[start..start + 1];
         }
         self.whole_text(source)
@@ -240,14 +247,28 @@ impl Mark {
     /// Whether it is spelled so.
     // Names that differ mostly differ in their first bytes, and then the token isn't read again. The bytes of an end, which
     // are none, are no name either, whatever stands there.
+    #[inline(always)]
     pub fn is_spelled(self, source: &[u8], name: &[u8]) -> bool
         ensures { (line : ℕ) → result ≡ bytes_eq (text_of source.now (token_in source.now line self)) name.now }
     {
         let start = self.start() as usize;
-        if start < source.len() && !name.is_empty() && source[start] != name[0] {
-            return false;
+        if start < source.len() && !name.is_empty() {
+            if source[start] != name[0] {
+                return false;
+            }
+            if self.is_letter(source) {
+                return name.len() == 1;
+            }
         }
-        is_same(self.text(source), name)
+        self.is_read(source, name)
+    }
+
+    /// Whether it is spelled so, by its bytes up to their end.
+    #[inline(never)]
+    fn is_read(self, source: &[u8], name: &[u8]) -> bool
+        ensures { (line : ℕ) → result ≡ bytes_eq (text_of source.now (token_in source.now line self)) name.now }
+    {
+        is_same(self.whole_text(source), name)
     }
 
     /// The value of its digits, or 2 ^ 64 - 1 where it is greater.

@@ -88,6 +88,7 @@ pub fn as_local(is_loop: bool, number: u32) -> Named
 }
 
 // The local in scope at a node that a name is.
+#[inline(always)]
 fn local_among(raw: &RawKernel<'_>, locals: &[Local], node: usize, name: &[u8]) -> Option<Named>
     requires { length locals.now ≤ MOST_LOCALS }
     ensures { result ≡ local_among raw.now node name.now 0 locals.now }
