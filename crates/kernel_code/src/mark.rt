@@ -284,7 +284,16 @@ impl Mark {
         {
             return value;
         }
-        value_of(self.text(source))
+        self.read_value(source)
+    }
+
+    /// The value of its digits, or 2 ^ 64 - 1 where it is greater, by its bytes up to their end.
+    #[inline(never)]
+    fn read_value(self, source: &[u8]) -> u64
+        ensures { (line : ℕ) →
+            result ≡ min 18446744073709551615 (value_of (text_of source.now (token_in source.now line self))) }
+    {
+        value_of(self.whole_text(source))
     }
 
     /// Whether the value of its digits is greater than this one, which has more digits than four.

@@ -2,7 +2,6 @@ use Rattle.std.proofs.Common.{◌≡◌, ◌≤◌, ◌-◌, ℕ, length, drop, 
 use Rattle.std.proofs.lemmas.List.{take_all}
 use Rattle.frame_grammar.specs.declared.TokenKind.TheVariants.{Number}
 use Rattle.kernel_code.specs.Marks.{kind_of, start_of}
-use Rattle.kernel_code.specs.StaticFaults.{value_of}
 use Rattle.kernel_code.specs.Numbers.{front_value}
 use Rattle.kernel_code.proofs.Values.{number_value}
 use Rattle.kernel_code.proofs.mark.Mark.value.Goals as goal
@@ -26,6 +25,3 @@ returns c line =
     let is = number_value source line c.args.self c.in-Some.value 17 (c.type_inv.source (start_of c.args.self)).fits kind value_is in
     let fits : c.in-Some.value ≤ 18446744073709551615 = c.in-Some.ensures.fits in
     in_range _ _ fits is
-
-pub returns-2 : goal.returns-2
-returns-2 c line = c.value_of.ensures ∙ ap (λ text. min 18446744073709551615 (value_of text)) (c.text.ensures line)
