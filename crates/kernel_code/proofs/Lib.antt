@@ -6,6 +6,7 @@ pub mod Others
 pub mod Texts
 pub mod Fronts
 pub mod FrontsAt
+pub mod Begun
 pub mod Reserved
 pub mod Cuts
 pub mod Steps

@@ -6,6 +6,7 @@ use Rattle.std.specs.Str.{bytes_eq}
 use Rattle.std.proofs.lemmas.Bool.{cases_Bool, cond-true, cond-false, eq-eqb, and_parts, leb-true}
 use Rattle.std.proofs.lemmas.Slice.Eq.{bytes_eq-Decides}
 use Rattle.frame_grammar.specs.declared.TokenKind.{TokenKind}
+use Rattle.frame_grammar.specs.declared.TokenKind.TheVariants.{Index}
 use Rattle.kernel_code.specs.Spellings.{spelling_of, spelled, reserved_words, is_first_of}
 
 -- a word that is spelled so has the spelling's first byte
@@ -44,3 +45,8 @@ longer_not_spelled (kind ∷ kinds) word one longer =
 pub one_byte : (word : List ℕ) → length word ≡ 1 → spelled reserved_words word ≡ None
 unfolding spelling_of reserved_words
 one_byte word one = longer_not_spelled reserved_words word one refl
+
+-- the first of the reserved words
+pub index_is : (word : List ℕ) → bytes_eq (spelling_of Index) word ≡ true → spelled reserved_words word ≡ Some Index
+unfolding reserved_words
+index_is word same = cond-true _ _ _ same

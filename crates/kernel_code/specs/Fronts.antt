@@ -1,8 +1,10 @@
 -- What private functions of the lexer say of the first byte of a text.
-use Rattle.std.specs.Prelude.{◌≡◌, ◌≢◌, ℕ, false, [], ◌∷◌, Some, None}
+use Rattle.std.specs.Prelude.{◌≡◌, ◌≢◌, ◌==◌, ◌&&◌, ℕ, Bool, false, [], ◌∷◌, length, Some, None, unwrap_or, nat_le, if◌then◌else◌}
+use Rattle.std.specs.List.{list_any}
 use Rattle.std.specs.Char.{is_ascii_digit}
 use Rattle.frame_grammar.specs.declared.TokenKind.{TokenKind}
-use Rattle.kernel_code.specs.Spellings.{spelled, symbols}
+use Rattle.frame_grammar.specs.declared.TokenKind.TheVariants.{Name, Number, Line, Bad}
+use Rattle.kernel_code.specs.Spellings.{spelling_of, spelled, symbols, is_first_of}
 use Rattle.kernel_code.specs.Words.{begins_name}
 
 -- a byte that begins no name, number, text or comment, is not blank, and ends no line
@@ -20,3 +22,16 @@ pub record IsOther (byte : ℕ) : Type 0 where
 pub record IsLone (byte : ℕ) (kind : TokenKind) : Type 0 where
   pub single : spelled symbols (byte ∷ []) ≡ Some kind
   pub no_pair : (next : ℕ) → spelled symbols (byte ∷ next ∷ []) ≡ None
+
+-- whether a symbol of two bytes begins with this byte
+unfoldable pub begins_pair : ℕ → Bool
+begins_pair byte = list_any (λ kind. is_first_of byte kind && nat_le 2 (length (spelling_of kind))) symbols
+
+-- the kind of the token that begins with this byte, where the byte alone tells it; else Bad
+unfoldable pub kind_begun : ℕ → TokenKind
+kind_begun byte =
+    if begins_name byte then Name
+    else (if is_ascii_digit byte then Number
+    else (if byte == 10 then Line
+    else (if begins_pair byte then Bad
+    else unwrap_or (spelled symbols (byte ∷ [])) Bad)))

@@ -1,6 +1,5 @@
-ghost use Rattle.std.specs.Prelude.{◌≡◌, ◌<◌, ◌∷◌, [], length, filter, unwrap_or, IfSome};
+ghost use Rattle.std.specs.Prelude.{◌≡◌, ◌<◌, ◌∷◌, [], length, filter, unwrap_or};
 ghost use Rattle.kernel_code.specs.Spellings.{spelling_of, spelled, symbols, reserved_words, is_first_of};
-ghost use Rattle.kernel_code.specs.Fronts.{IsLone};
 ghost use Rattle.frame_grammar.specs.declared.TokenKind.TheVariants.{Name};
 
 use TokenKind as K;
@@ -140,15 +139,27 @@ fn spelled(kinds: &[K], word: &[u8]) -> Option<K>
 /// The reserved word that is spelled so, or `Name`.
 // In line its search would take registers from the lexer's loop.
 #[inline(never)]
+fn searched_kind(word: &[u8]) -> K
+    requires { 0 < length word.now }
+    ensures { result ≡ unwrap_or (spelled reserved_words word.now) Name }
+{
+    spelled(reserved_with(word[0]), word).unwrap_or(K::Name)
+}
+
+/// The reserved word that is spelled so, or `Name`.
+// No reserved word has one byte, and in kernels nearly all words are names of one letter and `index`.
+#[inline(always)]
 pub fn word_kind(word: &[u8]) -> K
     requires { 0 < length word.now }
     ensures { result ≡ unwrap_or (spelled reserved_words word.now) Name }
 {
-    // No reserved word has one byte, and names of one letter are most.
     if word.len() == 1 {
         return K::Name;
     }
-    spelled(reserved_with(word[0]), word).unwrap_or(K::Name)
+    if spelling(K::Index) == word {
+        return K::Index;
+    }
+    searched_kind(word)
 }
 
 /// The symbol of this one byte.
@@ -175,30 +186,6 @@ pub fn single_symbol(byte: u8) -> Option<K>
         b'/' => Some(K::Slash),
         b'%' => Some(K::Percent),
         b'!' => Some(K::Not),
-        _ => None,
-    }
-}
-
-/// The symbol of this one byte, where no symbol of two bytes begins with it.
-#[tactic(auto, unfolding(crate::specs::Spellings::spelling_of, crate::specs::Spellings::symbols))]
-pub fn lone_symbol(byte: u8) -> Option<K>
-    ensures { IfSome result (IsLone byte) }
-{
-    match byte {
-        b'{' => Some(K::OpenBrace),
-        b'}' => Some(K::CloseBrace),
-        b'(' => Some(K::OpenParen),
-        b')' => Some(K::CloseParen),
-        b'[' => Some(K::OpenBracket),
-        b']' => Some(K::CloseBracket),
-        b',' => Some(K::Comma),
-        b';' => Some(K::Semicolon),
-        b':' => Some(K::Colon),
-        b'+' => Some(K::Plus),
-        b'-' => Some(K::Minus),
-        b'*' => Some(K::Star),
-        b'/' => Some(K::Slash),
-        b'%' => Some(K::Percent),
         _ => None,
     }
 }

@@ -1,14 +1,21 @@
 //! The word that stands at a place of a file.
 
-ghost use Rattle.std.specs.Prelude.{◌≡◌, ◌<◌, ◌≤◌, ◌+◌, ◌∷◌, [], length, drop, slice_index};
+ghost use Rattle.std.specs.Prelude.{◌≡◌, ◌<◌, ◌≤◌, ◌+◌, true, ◌∷◌, [], length, drop, slice_index};
 ghost use Rattle.std.specs.List.{prefix_len};
 ghost use Rattle.std.specs.Char.{is_ascii_digit};
 ghost use Rattle.kernel_code.specs.Words.{begins_name, continues_name, stands_in_text, stays_in_line, is_blank};
+ghost use Rattle.kernel_code.specs.declared.word.TheConstants.{KINDS_BEGUN};
 ghost use Rattle.kernel_code.specs.Tokens.{front_kind, front_len};
-ghost use Rattle.kernel_code.specs.Fronts.{IsOther};
+ghost use Rattle.kernel_code.specs.Fronts.{IsOther, kind_begun};
+ghost use Rattle.frame_grammar.specs.declared.TokenKind.TheVariants.{Bad};
 
-use crate::spelling::{lone_symbol, pair_symbol, single_symbol, word_kind};
+use crate::spelling::{pair_symbol, single_symbol, word_kind};
 use frame_grammar::TokenKind;
+use frame_grammar::TokenKind::{
+    Bad as X, CloseBrace, CloseBracket as EndSquare, CloseParen, Colon, Comma, Line, Minus,
+    Name as N, Number as D, OpenBrace, OpenBracket as OpenSquare, OpenParen, Percent, Plus,
+    Semicolon, Slash, Star,
+};
 
 /// What stands at a place of a file.
 #[derive(Clone, Copy, Debug, PartialEq, Eq)]
@@ -19,16 +26,46 @@ pub struct Front {
     pub end: usize,
 }
 
-fn begins_name(byte: u8) -> bool
-    ensures { result ≡ begins_name byte }
+/// The kind of the token that begins with each byte: `N` with a letter a name, `D` with a digit a number, and `X`, which
+/// is `Bad`, where the byte alone doesn't tell it.
+const KINDS_BEGUN: [TokenKind; 256] = [
+    X, X, X, X, X, X, X, X, X, X, Line, X, X, X, X, X, // 0x00
+    X, X, X, X, X, X, X, X, X, X, X, X, X, X, X, X, // 0x10
+    X, X, X, X, X, Percent, X, X, OpenParen, CloseParen, Star, Plus, Comma, Minus, X, Slash, // 0x20
+    D, D, D, D, D, D, D, D, D, D, Colon, Semicolon, X, X, X, X, // 0x30
+    X, N, N, N, N, N, N, N, N, N, N, N, N, N, N, N, // 0x40
+    N, N, N, N, N, N, N, N, N, N, N, OpenSquare, X, EndSquare, X, N, // 0x50
+    X, N, N, N, N, N, N, N, N, N, N, N, N, N, N, N, // 0x60
+    N, N, N, N, N, N, N, N, N, N, N, OpenBrace, X, CloseBrace, X, X, // 0x70
+    X, X, X, X, X, X, X, X, X, X, X, X, X, X, X, X, // 0x80
+    X, X, X, X, X, X, X, X, X, X, X, X, X, X, X, X, // 0x90
+    X, X, X, X, X, X, X, X, X, X, X, X, X, X, X, X, // 0xA0
+    X, X, X, X, X, X, X, X, X, X, X, X, X, X, X, X, // 0xB0
+    X, X, X, X, X, X, X, X, X, X, X, X, X, X, X, X, // 0xC0
+    X, X, X, X, X, X, X, X, X, X, X, X, X, X, X, X, // 0xD0
+    X, X, X, X, X, X, X, X, X, X, X, X, X, X, X, X, // 0xE0
+    X, X, X, X, X, X, X, X, X, X, X, X, X, X, X, X, // 0xF0
+];
+
+fn kinds_begun() -> &'static [TokenKind]
+    ensures { result.now ≡ KINDS_BEGUN }
 {
-    byte.is_ascii_alphabetic() || byte == b'_'
+    &KINDS_BEGUN
+}
+
+/// The kind of the token that begins with this byte, or `Bad` where the byte alone doesn't tell it.
+// In a table, since half of all tokens are symbols: a chain of tests tells them last.
+#[inline(always)]
+fn kind_begun(byte: u8) -> TokenKind
+    ensures { result ≡ kind_begun byte }
+{
+    kinds_begun()[byte as usize]
 }
 
 fn continues_name(byte: u8) -> bool
     ensures { result ≡ continues_name byte }
 {
-    byte.is_ascii_alphanumeric() || byte == b'_'
+    matches!(kind_begun(byte), TokenKind::Name | TokenKind::Number)
 }
 
 fn stands_in_text(byte: u8) -> bool
@@ -155,13 +192,6 @@ fn symbol_at(source: &[u8], place: usize) -> Front
     ensures some { place < result.end }
 {
     let next = place + 1;
-    // Most symbols begin no longer one, so that they are told by one byte.
-    if let Some(kind) = lone_symbol(source[place]) {
-        return Front {
-            kind: Some(kind),
-            end: next,
-        };
-    }
     if next < source.len()
         && let Some(kind) = pair_symbol(source[place], source[next])
     {
@@ -177,38 +207,20 @@ fn symbol_at(source: &[u8], place: usize) -> Front
     }
 }
 
-/// What stands at a place of a file: the longest word, or a byte that begins none.
-// `other_end` calls it too, and a function that two call the compiler puts in line in the lexer's loop only if it is
-// told to.
-#[inline(always)]
-pub fn front_at(source: &[u8], place: usize) -> Front
-    requires { place < length source.now }
+/// What stands at this place, where its first byte alone doesn't tell it.
+// Out of line as `line_end` is: of such tokens only `=` stands often.
+#[inline(never)]
+fn other_at(source: &[u8], place: usize) -> Front
+    requires some { place < length source.now }
+    requires other { kind_begun (slice_index source.now place) ≡ Bad }
     ensures kind { result.kind ≡ front_kind (drop place source.now) }
     ensures end { result.end ≡ place + front_len (drop place source.now) }
     ensures within { result.end ≤ length source.now }
     ensures some { place < result.end }
 {
-    let first = source[place];
-    if first.is_ascii_digit() {
-        return Front {
-            kind: Some(TokenKind::Number),
-            end: digits_end(source, place + 1),
-        };
-    }
-    if begins_name(first) {
-        let end = name_end(source, place + 1);
-        return Front {
-            kind: Some(word_kind(&source[place..end])),
-            end,
-        };
-    }
-    match first {
+    match source[place] {
         b' ' | b'\t' | b'\r' => Front {
             kind: None,
-            end: place + 1,
-        },
-        b'\n' => Front {
-            kind: Some(TokenKind::Line),
             end: place + 1,
         },
         b'#' => Front {
@@ -220,15 +232,45 @@ pub fn front_at(source: &[u8], place: usize) -> Front
     }
 }
 
-/// The place after what stands at a place of a file, whatever it is.
-// A function of its own, out of line, so that the code of `front_at` is there a second time and not in `front_end` too.
-#[inline(never)]
-fn other_end(source: &[u8], place: usize) -> usize
-    requires { place < length source.now }
-    ensures end { result ≡ place + front_len (drop place source.now) }
-    ensures within { result ≤ length source.now }
+/// The name or the reserved word that begins at this place.
+fn name_at(source: &[u8], place: usize) -> Front
+    requires some { place < length source.now }
+    requires name { begins_name (slice_index source.now place) ≡ true }
+    ensures kind { result.kind ≡ front_kind (drop place source.now) }
+    ensures end { result.end ≡ place + front_len (drop place source.now) }
+    ensures within { result.end ≤ length source.now }
+    ensures some { place < result.end }
 {
-    front_at(source, place).end
+    let end = name_end(source, place + 1);
+    Front {
+        kind: Some(word_kind(&source[place..end])),
+        end,
+    }
+}
+
+/// What stands at a place of a file: the longest word, or a byte that begins none.
+// `other_end` calls it too, and a function that two call the compiler puts in line in the lexer's loop only if it is
+// told to.
+#[inline(always)]
+pub fn front_at(source: &[u8], place: usize) -> Front
+    requires { place < length source.now }
+    ensures kind { result.kind ≡ front_kind (drop place source.now) }
+    ensures end { result.end ≡ place + front_len (drop place source.now) }
+    ensures within { result.end ≤ length source.now }
+    ensures some { place < result.end }
+{
+    match kind_begun(source[place]) {
+        TokenKind::Number => Front {
+            kind: Some(TokenKind::Number),
+            end: digits_end(source, place + 1),
+        },
+        TokenKind::Name => name_at(source, place),
+        TokenKind::Bad => other_at(source, place),
+        kind => Front {
+            kind: Some(kind),
+            end: place + 1,
+        },
+    }
 }
 
 /// The place after what stands at a place of a file.
@@ -239,12 +281,10 @@ pub fn front_end(source: &[u8], place: usize) -> usize
     ensures end { result ≡ place + front_len (drop place source.now) }
     ensures within { result ≤ length source.now }
 {
-    let first = source[place];
-    if first.is_ascii_digit() {
-        return digits_end(source, place + 1);
+    match kind_begun(source[place]) {
+        TokenKind::Number => digits_end(source, place + 1),
+        TokenKind::Name => name_end(source, place + 1),
+        TokenKind::Bad => other_at(source, place).end,
+        _ => place + 1,
     }
-    if begins_name(first) {
-        return name_end(source, place + 1);
-    }
-    other_end(source, place)
 }

@@ -1,14 +1,13 @@
-use Rattle.std.proofs.Common.{unwrap_or, ◌∙◌, sym, ap}
+use Rattle.std.proofs.Common.{◌∙◌, unwrap_or, sym, ap}
+use Rattle.std.specs.Str.{bytes_eq}
 use Rattle.frame_grammar.specs.declared.TokenKind.TheVariants.{Name}
-use Rattle.kernel_code.specs.Spellings.{spelled, reserved_words}
-use Rattle.kernel_code.proofs.Reserved.{spelled-filter, one_byte}
+use Rattle.kernel_code.proofs.Reserved.{one_byte, index_is}
 use Rattle.kernel_code.proofs.spelling.word_kind.Goals as goal
-
--- a reserved word is among those with its first byte
-pub returns : goal.returns
-returns c =
-    c.unwrap_or.ensures
-    ∙ ap (λ kind. unwrap_or kind Name) (c.spelled.ensures ∙ ap (λ kinds. spelled kinds c.args.word.now) c.reserved_with.ensures ∙ spelled-filter reserved_words c.args.word.now)
 
 pub returns-then-word-eq1 : goal.returns-then-word-eq1
 returns-then-word-eq1 c = sym (ap (λ kind. unwrap_or kind Name) (one_byte c.args.word.now c.if-word-eq1.true))
+
+pub returns-then-eq : goal.returns-then-eq
+returns-then-eq c =
+    let same = ap (λ spelling. bytes_eq spelling c.args.word.now) (sym c.spelling.ensures) ∙ sym c.eq.ensures ∙ c.if-eq.true in
+    sym (ap (λ kind. unwrap_or kind Name) (index_is c.args.word.now same))

@@ -1,23 +1,15 @@
 use Rattle.std.proofs.Common.{Some, ap, ◌∙◌, sym, arith}
-use Rattle.kernel_code.proofs.FrontsAt.{at_lone, at_pair, at_single}
+use Rattle.kernel_code.proofs.FrontsAt.{at_pair, at_single}
 use Rattle.kernel_code.proofs.word.symbol_at.Goals as goal
 use Rattle.kernel_code.proofs.word.symbol_at.Goals.{else-next-source-via-else-next-source, else-next-source-via-then-next-source+in-None-1}
 
-pub returns-in-Some-clause-kind : goal.returns-in-Some-clause-kind
-returns-in-Some-clause-kind c =
-    (at_lone c.args.source.now c.args.place c.in-Some.kind c.requires.some c.requires.other c.in-Some.ensures).kind_is
-
-pub returns-in-Some-clause-end : goal.returns-in-Some-clause-end
-returns-in-Some-clause-end c =
-    (at_lone c.args.source.now c.args.place c.in-Some.kind c.requires.some c.requires.other c.in-Some.ensures).end_is
-
 pub returns-clause-kind : goal.returns-clause-kind
 returns-clause-kind c =
-    (at_pair c.args.source.now c.args.place c.in-Some-pair_symbol.kind c.if-next-source.true c.requires.other (sym c.in-Some-pair_symbol.ensures)).kind_is
+    (at_pair c.args.source.now c.args.place c.in-Some.kind c.if-next-source.true c.requires.other (sym c.in-Some.ensures)).kind_is
 
 pub returns-clause-end : goal.returns-clause-end
 returns-clause-end c =
-    (at_pair c.args.source.now c.args.place c.in-Some-pair_symbol.kind c.if-next-source.true c.requires.other (sym c.in-Some-pair_symbol.ensures)).end_is
+    (at_pair c.args.source.now c.args.place c.in-Some.kind c.if-next-source.true c.requires.other (sym c.in-Some.ensures)).end_is
 
 pub returns-2-clause-kind : goal.returns-2-clause-kind
 returns-2-clause-kind c =
