@@ -12,6 +12,7 @@ mod kernels;
 mod names;
 mod nodes;
 mod params;
+mod plain;
 mod resolve;
 mod statements;
 mod streams;

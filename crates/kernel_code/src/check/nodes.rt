@@ -1,8 +1,8 @@
 // What the names of a node are, and its faults.
-ghost use Rattle.std.specs.Prelude.{◌≡◌, ◌≤◌, ◌<◌, ◌||◌, nat_le, nat_lt, ℕ, None, Some, length, slice_get, false, is_none, IsTrue, MatchResult};
+ghost use Rattle.std.specs.Prelude.{◌≡◌, ◌≤◌, ◌<◌, ◌||◌, nat_le, nat_lt, ℕ, None, Some, length, slice_get, false, IsTrue, MatchResult};
 ghost use Rattle.kernel_code.specs.StaticFaults.{text_at, use_fault, answer_fault, declared_fault, token_fault, size_fault, name_fault, first_of_two, node_fault, locals_before, depth_at, meaning_of, block_fault, param_fault_of, is_begun};
 ghost use Rattle.job_base.specs.declared.limits.TheConstants.{MOST_NODES, MOST_DEPTH};
-ghost use Rattle.kernel_code.specs.Known.{AreBegun, AreNames, answer_named, name_named, meaning_if, has_name, has_answer, only_uses, used_name, plain_name};
+ghost use Rattle.kernel_code.specs.Known.{AreBegun, AreNames, answer_named, name_named, meaning_if, has_name, has_answer};
 
 use crate::check::StaticFault;
 use crate::check::demands::{
@@ -42,7 +42,8 @@ fn answer_named(
     }
 }
 
-fn has_name(form: RawForm) -> bool
+/// Whether a form has a name.
+pub fn has_name(form: RawForm) -> bool
     ensures { result ≡ has_name form }
 {
     !matches!(
@@ -150,8 +151,8 @@ fn declared_fault(
     )
 }
 
-// What the token of a node without an answer says, its number and depth aside: only a Number or `index` can be wrong.
-fn atom_fault(raw: &RawKernel<'_>, node: &RawNode) -> Option<FaultKind>
+/// What the token of a node without an answer says, its number and depth aside: only a Number or `index` can be wrong.
+pub fn atom_fault(raw: &RawKernel<'_>, node: &RawNode) -> Option<FaultKind>
     requires { has_answer node.now.form ≡ false }
     ensures { (i : ℕ) → result ≡ token_fault raw.now i node.now.at node.now.form }
 {
@@ -278,7 +279,7 @@ fn unless(fault: Option<StaticFault>, meaning: Meaning) -> Result<Meaning, Stati
 }
 
 /// What the names of a node are, or its first fault. It is known whether the node is one too many or too deep.
-// Most nodes have no name, and a name's text is read once.
+// A name's text is read once.
 pub fn look_up(
     raw: &RawKernel<'_>,
     names: &[&[u8]],
@@ -316,94 +317,4 @@ pub fn look_up(
         named_fault(raw, locals, blocks, number, node, name, meaning, is_over),
         meaning,
     )
-}
-
-fn only_uses(form: RawForm) -> bool
-    ensures { result ≡ only_uses form }
-{
-    matches!(
-        form,
-        RawForm::Name
-            | RawForm::Element
-            | RawForm::Length
-            | RawForm::Has
-            | RawForm::Count
-            | RawForm::Item
-            | RawForm::SetName
-            | RawForm::SetPlace
-            | RawForm::AddItem
-            | RawForm::AddPair
-            | RawForm::Remove
-            | RawForm::Clear
-    )
-}
-
-// Whether what a name stands for can be the name of a form that only uses it.
-fn fits_use(raw: &RawKernel<'_>, form: RawForm, named: Option<Named>) -> bool
-    requires { IsTrue (only_uses form) }
-    ensures { (i : ℕ) → result ≡ is_none (use_fault raw.now i form named) }
-{
-    match named {
-        None => false,
-        Some(Named::Variable(_)) => variable_fault(form).is_none(),
-        Some(Named::LoopVariable(_)) => loop_variable_fault(form).is_none(),
-        Some(Named::Parameter(x)) => match raw.params.get(x as usize) {
-            Some(param) => demand_fault(form, *param).is_none(),
-            None => false,
-        },
-    }
-}
-
-// What the name of a node is that only uses it, if nothing is wrong with it.
-#[inline(always)]
-fn used_name(
-    raw: &RawKernel<'_>,
-    names: &[&[u8]],
-    locals: &[Local],
-    number: usize,
-    node: &RawNode,
-) -> Option<Option<Named>>
-    requires uses { IsTrue (only_uses node.now.form) }
-    requires names { AreNames raw.now names.now }
-    requires params { length raw.now.params.items ≤ MOST_PARAMS }
-    requires few { length locals.now ≤ MOST_LOCALS }
-    requires locals { locals.now ≡ locals_before raw.now.nodes.items number }
-    ensures { result ≡ used_name raw.now number node.now.form (text_at raw.now node.now.name) }
-{
-    let text = text_at(raw, node.name);
-    let name = meaning_of(raw, names, locals, number, text);
-    if fits_use(raw, node.form, name) && length_fault(text).is_none() {
-        Some(name)
-    } else {
-        None
-    }
-}
-
-/// What the name of a node is, if it has none or only uses it, and if nothing is wrong with its token and its name.
-// Almost all nodes are such ones, and for them little is asked.
-#[inline(always)]
-pub fn plain_name(
-    raw: &RawKernel<'_>,
-    names: &[&[u8]],
-    locals: &[Local],
-    number: usize,
-    node: &RawNode,
-) -> Option<Option<Named>>
-    requires names { AreNames raw.now names.now }
-    requires params { length raw.now.params.items ≤ MOST_PARAMS }
-    requires few { length locals.now ≤ MOST_LOCALS }
-    requires locals { locals.now ≡ locals_before raw.now.nodes.items number }
-    ensures { result ≡ plain_name raw.now number node.now }
-{
-    if !has_name(node.form) {
-        return match atom_fault(raw, node) {
-            Some(_) => None,
-            None => Some(None),
-        };
-    }
-    if only_uses(node.form) {
-        used_name(raw, names, locals, number, node)
-    } else {
-        None
-    }
 }

@@ -6,7 +6,8 @@ ghost use Rattle.kernel_code.specs.Known.{AreNames, stands_in, is_block, IsKnown
 
 use crate::check::StaticFault;
 use crate::check::names::{Local, Meaning, Named, as_local, names_of, parameter_at};
-use crate::check::nodes::{look_up, plain_name};
+use crate::check::nodes::look_up;
+use crate::check::plain::plain_name;
 use crate::check::streams::{StreamBlock, close_blocks};
 use crate::raw::{RawForm, RawKernel, RawNode};
 use job_base::NoMemory;
