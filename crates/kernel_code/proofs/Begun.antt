@@ -1,22 +1,23 @@
 -- What stands at a place whose byte alone tells the kind of the token that begins there, and what the other bytes are.
 use Rattle.std.proofs.Common.{◌≡◌, ◌≢◌, ◌⊎◌, inl, inr, ℕ, ◌+◌, ◌<◌, ◌==◌, ◌&&◌, ◌||◌, not, Bool, true, false, true≢false, List, [], ◌∷◌, length, get_or, Option, Some, None, unwrap_or, ◌∙◌, refl, sym, ap, subst, ⊎_elim}
 use Rattle.std.specs.Prelude.{nat_eq, nat_le}
-use Rattle.std.specs.List.{list_any}
+use Rattle.std.specs.List.{list_any, list_all}
 use Rattle.std.specs.Str.{bytes_eq}
 use Rattle.std.specs.Char.{is_ascii_digit}
-use Rattle.std.proofs.lemmas.Bool.{agree_below_at, eqb-true, eq-eqb, ne_eqb, cases_Bool, cond-false, and_parts, not-true, or_parts, or_cases}
+use Rattle.std.proofs.lemmas.Bool.{agree_below_at, eqb-true, eq-eqb, ne_eqb, cases_Bool, cond-false, cond_both, and_parts, not-true, or_parts, or_cases}
 use Rattle.std.proofs.lemmas.Slice.Eq.{bytes_eq-Decides}
 use denote.Enum.Declared.{tag_of}
 use Rattle.frame_grammar.specs.declared.TokenKind.{TokenKind}
 use Rattle.frame_grammar.specs.declared.TokenKind.TheVariants.{Name, Number, Line, Bad}
 use Rattle.frame_grammar.specs.contracts.TokenKind.{the_type}
 use Rattle.kernel_code.specs.declared.word.TheConstants.{KINDS_BEGUN}
+use Rattle.kernel_code.specs.Tokens.{is_bad}
 use Rattle.kernel_code.specs.Marks.{kind_numbered}
-use Rattle.kernel_code.specs.Spellings.{spelling_of, symbols, spelled, is_first_of}
+use Rattle.kernel_code.specs.Spellings.{spelling_of, symbols, reserved_words, spelled, is_first_of}
 use Rattle.kernel_code.specs.Words.{begins_name, continues_name}
-use Rattle.kernel_code.specs.Fronts.{begins_pair, kind_begun, IsOther, IsLone}
+use Rattle.kernel_code.specs.Fronts.{begins_pair, kind_begun, IsOther}
 use Rattle.kernel_code.proofs.Marks.{numbered}
-use Rattle.kernel_code.proofs.FrontsAt.{IsFrontAt, at_line, at_lone}
+use Rattle.kernel_code.proofs.FrontsAt.{IsFrontAt, at_line, at_single}
 
 -- THE TABLE
 
@@ -162,15 +163,15 @@ single_is : (found : Option TokenKind) (kind : TokenKind) → unwrap_or found Ba
 single_is None kind is lone = absurd (true≢false (sym lone ∙ sym (ap is_lone_kind is)))
 single_is (Some found) kind is lone = ap Some is
 
-lone_begun : (byte : ℕ) (kind : TokenKind) → kind_begun byte ≡ kind → is_lone_kind kind ≡ true → is_other byte ≡ true → begins_pair byte ≡ false → IsLone byte kind
-unfolding kind_begun begins_pair
-lone_begun byte kind is lone apart alone =
-    let other = other_is byte apart in
+lone_begun : (byte : ℕ) (kind : TokenKind) → kind_begun byte ≡ kind → is_lone_kind kind ≡ true → IsOther byte → begins_pair byte ≡ false → spelled symbols (byte ∷ []) ≡ Some kind
+unfolding kind_begun
+lone_begun byte kind is lone other alone =
     let value = cond-false _ _ _ other.no_name ∙ cond-false _ _ _ other.no_digit ∙ cond-false _ _ _ (ne_eqb byte 10 other.no_line) ∙ cond-false _ _ _ alone in
-    record {
-      single = single_is (spelled symbols (byte ∷ [])) kind (sym value ∙ is) lone;
-      no_pair = λ next. no_pair symbols byte next alone;
-    }
+    single_is (spelled symbols (byte ∷ [])) kind (sym value ∙ is) lone
+
+no_pair_begun : (byte next : ℕ) → begins_pair byte ≡ false → spelled symbols (byte ∷ next ∷ []) ≡ None
+unfolding begins_pair
+no_pair_begun byte next alone = no_pair symbols byte next alone
 
 line_begun : kind_begun 10 ≡ Line
 unfolding kind_begun
@@ -190,7 +191,25 @@ at_begun source place kind within small is lone =
     (λ feed.
     let ten = eqb-true byte 10 feed in
     subst (λ k. IsFrontAt source place (Some k) (place + 1)) (sym line_begun ∙ sym (ap kind_begun ten) ∙ is) (at_line source place within ten))
-    (λ other.
-    let parts = and_parts _ _ other in
-    at_lone source place kind within (other_is byte parts.0) (lone_begun byte kind is lone parts.0 (not-true _ parts.1)))
+    (λ symbol.
+    let parts = and_parts _ _ symbol in
+    let other = other_is byte parts.0 in
+    let alone = not-true _ parts.1 in
+    at_single source place (Some kind) within other (λ two. no_pair_begun byte (get_or source (place + 1) 0) alone) (lone_begun byte kind is lone other alone))
     (or_cases _ _ (lone_tests byte small (ap is_lone_kind is ∙ lone)))
+
+-- NO TOKEN THAT A BYTE TELLS IS BAD
+
+pub lone_fine : (kind : TokenKind) → is_lone_kind kind ≡ true → is_bad kind ≡ false
+lone_fine Bad lone = absurd (true≢false (sym lone))
+lone_fine _ lone = refl
+
+spelled_fine : (kinds : List TokenKind) (word : List ℕ) → list_all (λ kind. not (is_bad kind)) kinds ≡ true → is_bad (unwrap_or (spelled kinds word) Name) ≡ false
+spelled_fine [] word fine = refl
+spelled_fine (kind ∷ kinds) word fine =
+    let parts = and_parts _ _ fine in
+    cond_both (bytes_eq (spelling_of kind) word) (Some kind) (spelled kinds word) (λ found. is_bad (unwrap_or found Name) ≡ false) (λ same. not-true _ parts.0) (λ differs. spelled_fine kinds word parts.1)
+
+pub word_fine : (word : List ℕ) → is_bad (unwrap_or (spelled reserved_words word) Name) ≡ false
+unfolding reserved_words
+word_fine word = spelled_fine reserved_words word refl

@@ -7,7 +7,7 @@ use Rattle.frame_grammar.specs.declared.TokenKind.TheVariants.{Name, Number, Tex
 use Rattle.kernel_code.specs.Spellings.{symbols, reserved_words, spelled}
 use Rattle.kernel_code.specs.Words.{begins_name, continues_name, stands_in_text, stays_in_line}
 use Rattle.kernel_code.specs.Tokens.{front_kind, front_len}
-use Rattle.kernel_code.specs.Fronts.{IsOther, IsLone}
+use Rattle.kernel_code.specs.Fronts.{IsOther}
 use Rattle.kernel_code.proofs.Fronts.{IsFront, front_name, front_number, front_blank, front_line, front_comment, front_text, front_quote, front_pair, front_single}
 
 -- a token of this kind, or what separates tokens, stands from a place up to another
@@ -104,6 +104,3 @@ at_single source place kind within other pair single =
     from_front source place 1 (place + 1) _ refl
     (front_single (drop place source) kind (some_left source place within) (subst IsOther (sym (first_is source place)) other)
     (λ two. two_are source place ∙ pair (omega (arith, length-drop place source))) (ap (λ b. spelled symbols (b ∷ [])) (first_is source place) ∙ single))
-
-pub at_lone : (source : List ℕ) (place : ℕ) (kind : TokenKind) → place < length source → IsOther (get_or source place 0) → IsLone (get_or source place 0) kind → IsFrontAt source place (Some kind) (place + 1)
-at_lone source place kind within other lone = at_single source place (Some kind) within other (λ two. lone.no_pair (get_or source (place + 1) 0)) lone.single

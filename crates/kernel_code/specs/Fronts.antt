@@ -1,11 +1,12 @@
 -- What private functions of the lexer say of the first byte of a text.
-use Rattle.std.specs.Prelude.{◌≡◌, ◌≢◌, ◌==◌, ◌&&◌, ℕ, Bool, false, [], ◌∷◌, length, Some, None, unwrap_or, nat_le, if◌then◌else◌}
+use Rattle.std.specs.Prelude.{◌≡◌, ◌≢◌, ◌==◌, ◌&&◌, ◌+◌, ◌<◌, ◌≤◌, ℕ, Bool, false, List, [], ◌∷◌, length, drop, Some, unwrap_or, nat_le, if◌then◌else◌}
 use Rattle.std.specs.List.{list_any}
 use Rattle.std.specs.Char.{is_ascii_digit}
 use Rattle.frame_grammar.specs.declared.TokenKind.{TokenKind}
 use Rattle.frame_grammar.specs.declared.TokenKind.TheVariants.{Name, Number, Line, Bad}
 use Rattle.kernel_code.specs.Spellings.{spelling_of, spelled, symbols, is_first_of}
 use Rattle.kernel_code.specs.Words.{begins_name}
+use Rattle.kernel_code.specs.Tokens.{front_kind, front_len, is_bad}
 
 -- a byte that begins no name, number, text or comment, is not blank, and ends no line
 pub record IsOther (byte : ℕ) : Type 0 where
@@ -17,11 +18,6 @@ pub record IsOther (byte : ℕ) : Type 0 where
   pub no_tab : byte ≢ 9
   pub no_return : byte ≢ 13
   pub no_line : byte ≢ 10
-
--- the symbol of this byte alone, with which no symbol of two bytes begins
-pub record IsLone (byte : ℕ) (kind : TokenKind) : Type 0 where
-  pub single : spelled symbols (byte ∷ []) ≡ Some kind
-  pub no_pair : (next : ℕ) → spelled symbols (byte ∷ next ∷ []) ≡ None
 
 -- whether a symbol of two bytes begins with this byte
 unfoldable pub begins_pair : ℕ → Bool
@@ -35,3 +31,11 @@ kind_begun byte =
     else (if byte == 10 then Line
     else (if begins_pair byte then Bad
     else unwrap_or (spelled symbols (byte ∷ [])) Bad)))
+
+-- a token of this kind, other than Bad, stands from a place up to another
+pub record IsTokenAt (source : List ℕ) (place : ℕ) (kind : TokenKind) (end : ℕ) : Type 0 where
+  pub kind_is : Some kind ≡ front_kind (drop place source)
+  pub end_is : end ≡ place + front_len (drop place source)
+  pub some : place < end
+  pub within : end ≤ length source
+  pub fine : is_bad kind ≡ false

@@ -6,7 +6,7 @@ ghost use Rattle.kernel_code.specs.Marks.{IsOfKind, tokens_in, lines_in};
 ghost use Rattle.kernel_code.specs.Legible.{NamesAreText};
 
 use crate::mark::Mark;
-use crate::word::{front_at, is_blank};
+use crate::word::{begun_at, front_at, is_blank};
 use frame_grammar::TokenKind;
 use job_base::NoMemory;
 use std::alloc::Global;
@@ -64,6 +64,12 @@ pub fn lex(alloc: Global, source: &[u8]) -> Result<Vec<Mark>, NoMemory>
     while place < source.len() {
         if is_blank(source[place]) {
             place += 1;
+            continue;
+        }
+        // Most tokens are told by their first byte, and none of those is `Bad`.
+        if let Some(token) = begun_at(source, place) {
+            marks.push(Mark::of(token.kind, place as u32))?;
+            place = token.end;
             continue;
         }
         let word = front_at(source, place);

@@ -1,12 +1,12 @@
 //! The word that stands at a place of a file.
 
-ghost use Rattle.std.specs.Prelude.{◌≡◌, ◌<◌, ◌≤◌, ◌+◌, true, ◌∷◌, [], length, drop, slice_index};
+ghost use Rattle.std.specs.Prelude.{◌≡◌, ◌<◌, ◌≤◌, ◌+◌, ◌↔◌, None, IfSome, ◌∷◌, [], length, drop, slice_index};
 ghost use Rattle.std.specs.List.{prefix_len};
 ghost use Rattle.std.specs.Char.{is_ascii_digit};
-ghost use Rattle.kernel_code.specs.Words.{begins_name, continues_name, stands_in_text, stays_in_line, is_blank};
+ghost use Rattle.kernel_code.specs.Words.{continues_name, stands_in_text, stays_in_line, is_blank};
 ghost use Rattle.kernel_code.specs.declared.word.TheConstants.{KINDS_BEGUN};
 ghost use Rattle.kernel_code.specs.Tokens.{front_kind, front_len};
-ghost use Rattle.kernel_code.specs.Fronts.{IsOther, kind_begun};
+ghost use Rattle.kernel_code.specs.Fronts.{IsOther, IsTokenAt, kind_begun};
 ghost use Rattle.frame_grammar.specs.declared.TokenKind.TheVariants.{Bad};
 
 use crate::spelling::{pair_symbol, single_symbol, word_kind};
@@ -22,6 +22,15 @@ use frame_grammar::TokenKind::{
 pub struct Front {
     /// The kind of the token that stands there, or none where it is no token but separates tokens.
     pub kind: Option<TokenKind>,
+    /// The place after its last byte.
+    pub end: usize,
+}
+
+/// A token that its first byte tells.
+#[derive(Clone, Copy, Debug, PartialEq, Eq)]
+pub struct Begun {
+    /// Its kind.
+    pub kind: TokenKind,
     /// The place after its last byte.
     pub end: usize,
 }
@@ -54,7 +63,7 @@ fn kinds_begun() -> &'static [TokenKind]
 }
 
 /// The kind of the token that begins with this byte, or `Bad` where the byte alone doesn't tell it.
-// In a table, since half of all tokens are symbols: a chain of tests tells them last.
+// By a table: of all tokens half are symbols, which a chain of tests tells last.
 #[inline(always)]
 fn kind_begun(byte: u8) -> TokenKind
     ensures { result ≡ kind_begun byte }
@@ -208,7 +217,7 @@ fn symbol_at(source: &[u8], place: usize) -> Front
 }
 
 /// What stands at this place, where its first byte alone doesn't tell it.
-// Out of line as `line_end` is: of such tokens only `=` stands often.
+// Out of line as `line_end` is: of what it tells only `=` stands often.
 #[inline(never)]
 fn other_at(source: &[u8], place: usize) -> Front
     requires some { place < length source.now }
@@ -232,25 +241,36 @@ fn other_at(source: &[u8], place: usize) -> Front
     }
 }
 
-/// The name or the reserved word that begins at this place.
-fn name_at(source: &[u8], place: usize) -> Front
-    requires some { place < length source.now }
-    requires name { begins_name (slice_index source.now place) ≡ true }
-    ensures kind { result.kind ≡ front_kind (drop place source.now) }
-    ensures end { result.end ≡ place + front_len (drop place source.now) }
-    ensures within { result.end ≤ length source.now }
-    ensures some { place < result.end }
+/// The token that stands at this place, where its first byte alone tells what it is, and none where it doesn't.
+// In line in the lexer's loop: it has nearly all tokens from here, and then asks neither whether one is there nor whether
+// it is `Bad`.
+#[inline(always)]
+pub fn begun_at(source: &[u8], place: usize) -> Option<Begun>
+    requires { place < length source.now }
+    ensures token { IfSome result (λ token. IsTokenAt source.now place token.kind token.end) }
+    ensures none { result ≡ None ↔ kind_begun (slice_index source.now place) ≡ Bad }
 {
-    let end = name_end(source, place + 1);
-    Front {
-        kind: Some(word_kind(&source[place..end])),
-        end,
+    match kind_begun(source[place]) {
+        TokenKind::Bad => None,
+        TokenKind::Number => Some(Begun {
+            kind: TokenKind::Number,
+            end: digits_end(source, place + 1),
+        }),
+        TokenKind::Name => {
+            let end = name_end(source, place + 1);
+            Some(Begun {
+                kind: word_kind(&source[place..end]),
+                end,
+            })
+        }
+        kind => Some(Begun {
+            kind,
+            end: place + 1,
+        }),
     }
 }
 
 /// What stands at a place of a file: the longest word, or a byte that begins none.
-// `other_end` calls it too, and a function that two call the compiler puts in line in the lexer's loop only if it is
-// told to.
 #[inline(always)]
 pub fn front_at(source: &[u8], place: usize) -> Front
     requires { place < length source.now }
@@ -259,17 +279,12 @@ pub fn front_at(source: &[u8], place: usize) -> Front
     ensures within { result.end ≤ length source.now }
     ensures some { place < result.end }
 {
-    match kind_begun(source[place]) {
-        TokenKind::Number => Front {
-            kind: Some(TokenKind::Number),
-            end: digits_end(source, place + 1),
+    match begun_at(source, place) {
+        Some(token) => Front {
+            kind: Some(token.kind),
+            end: token.end,
         },
-        TokenKind::Name => name_at(source, place),
-        TokenKind::Bad => other_at(source, place),
-        kind => Front {
-            kind: Some(kind),
-            end: place + 1,
-        },
+        None => other_at(source, place),
     }
 }
 

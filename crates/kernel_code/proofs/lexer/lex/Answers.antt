@@ -1,4 +1,4 @@
-use Rattle.std.proofs.Common.{◌+◌, ◌++◌, drop, sym, ap, subst, ◌∙◌, All, arith}
+use Rattle.std.proofs.Common.{◌+◌, ◌++◌, drop, refl, sym, ap, subst, ◌∙◌, All, arith}
 use Rattle.std.proofs.Math.ListN.{drop_of_length-le}
 use Rattle.std.proofs.lemmas.List.Elements.{All-nil, All-push}
 use Rattle.kernel_code.specs.Tokens.{tokens_from, up_to_bad}
@@ -23,15 +23,26 @@ loop-place-init c =
           ∙ ap up_to_bad (tokens_of-start source within);
     }
 
+pub loop-place-preserved-in-Some : goal.loop-place-preserved-in-Some
+loop-place-preserved-in-Some c =
+    let token = c.in-Some.ensures.token in
+    record {
+      in_range = token.within;
+      exact = subst (All IsOfKind) (sym c.in_ok-push.ensures.items) (All-push IsOfKind c.loop-place.marks.items c.of.result c.loop-place.invariant.exact c.of.ensures.exact);
+      so_far = mark_turn c.args.source.now c.loop-place.place _ _ _ c.loop-place.marks.items _ c.of.result _
+          c.loop-place-test.true token.kind_is token.end_is token.some token.within refl token.fine
+          c.of.ensures.kind c.of.ensures.start c.in_ok-push.ensures.items c.loop-place.invariant.so_far;
+    }
+
 pub loop-place-preserved-else-is_bad : goal.loop-place-preserved-else-is_bad
 loop-place-preserved-else-is_bad c =
     let word = c.front_at-word in
     record {
       in_range = word.ensures.within;
-      exact = subst (All IsOfKind) (sym c.in_ok-push.ensures.items) (All-push IsOfKind c.loop-place.marks.items c.of.result c.loop-place.invariant.exact c.of.ensures.exact);
-      so_far = mark_turn c.args.source.now c.loop-place.place word.result.end word.result.kind c.in-Some.kind c.loop-place.marks.items _ c.of.result _
+      exact = subst (All IsOfKind) (sym c.in_ok-push-2.ensures.items) (All-push IsOfKind c.loop-place.marks.items c.of-in-Some-kind.result c.loop-place.invariant.exact c.of-in-Some-kind.ensures.exact);
+      so_far = mark_turn c.args.source.now c.loop-place.place word.result.end word.result.kind c.in-Some-kind.kind c.loop-place.marks.items _ c.of-in-Some-kind.result _
           c.loop-place-test.true word.ensures.kind word.ensures.end word.ensures.some word.ensures.within
-          c.in-Some.is (sym c.is_bad.ensures ∙ c.if-is_bad.false) c.of.ensures.kind c.of.ensures.start c.in_ok-push.ensures.items
+          c.in-Some-kind.is (sym c.is_bad.ensures ∙ c.if-is_bad.false) c.of-in-Some-kind.ensures.kind c.of-in-Some-kind.ensures.start c.in_ok-push-2.ensures.items
           c.loop-place.invariant.so_far;
     }
 
@@ -42,7 +53,7 @@ loop-place-preserved c =
       in_range = word.ensures.within;
       exact = c.loop-place.invariant.exact;
       so_far = nothing_turn c.args.source.now c.loop-place.place word.result.end word.result.kind c.loop-place.marks.items _
-          c.loop-place-test.true word.ensures.kind word.ensures.end word.ensures.some word.ensures.within c.in_default.is c.loop-place.invariant.so_far;
+          c.loop-place-test.true word.ensures.kind word.ensures.end word.ensures.some word.ensures.within c.in_default-kind.is c.loop-place.invariant.so_far;
     }
 
 pub loop-place-preserved-then-is_blank : goal.loop-place-preserved-then-is_blank
@@ -60,10 +71,10 @@ returns-then-is_bad c =
     let source = c.args.source.now in
     let word = c.front_at-word in
     let tokens =
-    last_mark source c.loop-place.place word.result.end c.in-Some.kind c.loop-place.marks.items _ _ c.of.result _
-    c.loop-place-test.true (sym c.in-Some.is ∙ word.ensures.kind) word.ensures.end word.ensures.some word.ensures.within (sym c.is_bad.ensures ∙ c.if-is_bad.true)
-    c.of.ensures.kind c.of.ensures.start c.in_ok-push.ensures.items (c.in_ok-push_end.ensures.tokens source) c.loop-place.invariant.so_far in
-    let pushed = subst (All IsOfKind) (sym c.in_ok-push.ensures.items) (All-push IsOfKind c.loop-place.marks.items c.of.result c.loop-place.invariant.exact c.of.ensures.exact) in
+    last_mark source c.loop-place.place word.result.end c.in-Some-kind.kind c.loop-place.marks.items _ _ c.of-in-Some-kind.result _
+    c.loop-place-test.true (sym c.in-Some-kind.is ∙ word.ensures.kind) word.ensures.end word.ensures.some word.ensures.within (sym c.is_bad.ensures ∙ c.if-is_bad.true)
+    c.of-in-Some-kind.ensures.kind c.of-in-Some-kind.ensures.start c.in_ok-push-2.ensures.items (c.in_ok-push_end.ensures.tokens source) c.loop-place.invariant.so_far in
+    let pushed = subst (All IsOfKind) (sym c.in_ok-push-2.ensures.items) (All-push IsOfKind c.loop-place.marks.items c.of-in-Some-kind.result c.loop-place.invariant.exact c.of-in-Some-kind.ensures.exact) in
     record {
       tokens = tokens;
       text = subst (NamesAreText source) (sym tokens) (lexed-text source);
