@@ -73,12 +73,14 @@ fn few_value(bytes: &[u8]) -> Option<u64>
 }
 
 /// The value of the digits that the bytes begin with, or none where there is no digit or where there are too many.
-// Most Numbers have few digits, which are read without a look at where the bytes end.
+// Most Numbers have few digits, which are read without a look at where the bytes end. Where the fourth and the fifth
+// are digits it is mostly a longer one, which isn't begun twice.
 pub fn front_value(bytes: &[u8]) -> Option<u64>
     ensures value { result ≡ front_value PLAIN_DIGITS bytes.now }
     ensures fits { IfSome result (λ value. value ≤ 18446744073709551615) }
 {
     if bytes.len() >= 5
+        && !(bytes[3].is_ascii_digit() && bytes[4].is_ascii_digit())
         && let Some(value) = few_value(bytes)
     {
         return Some(value);
