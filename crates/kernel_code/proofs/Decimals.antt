@@ -1,9 +1,9 @@
 -- How great a number of few digits is.
-use Rattle.std.proofs.Common.{◌≡◌, ℕ, zero, ◌+◌, ◌*◌, ◌<◌, ◌≤◌, ◌^◌, ◌&&◌, cond, true, false, List, take, drop, Some, None, sym, ◌∙◌, ap, ⊎_elim, arith}
+use Rattle.std.proofs.Common.{◌≡◌, ℕ, zero, ◌+◌, ◌*◌, ◌<◌, ◌≤◌, ◌^◌, ◌&&◌, cond, true, List, take, drop, Some, None, sym, ◌∙◌, ap, arith}
 use Rattle.std.specs.Prelude.{nat_le}
 use Rattle.std.specs.List.{prefix_len}
 use Rattle.std.specs.Char.{is_ascii_digit}
-use Rattle.std.proofs.lemmas.Bool.{cases_Bool, cond-true, cond-false, and_parts, and_from, and_right, leb-true, le-leb, lt-leb}
+use Rattle.std.proofs.lemmas.Bool.{cond-true, cond-false, and_from, and_right, le-leb, lt-leb}
 use Rattle.std.proofs.Math.Nat.{pow-le-pow_right}
 use Rattle.kernel_code.specs.StaticFaults.{value_of}
 use Rattle.kernel_code.specs.Numbers.{front_value}
@@ -38,17 +38,3 @@ digits_end_here most bytes end value some few run ended is =
     let test : (nat_le 1 end && nat_le end most) ≡ true = and_from _ _ (le-leb _ _ some) (le-leb _ _ few) in
     ap Some is ∙ sym (cond-true _ _ None test)
     ∙ ap (λ n. cond (nat_le 1 n && nat_le n most) (Some (value_of (take n bytes))) None) here
-
--- what is the value of no more than so many digits is so for a greater number of them
-pub few_for_more : (few most value : ℕ) (bytes : List ℕ) → few ≤ most → Some value ≡ front_value few bytes → Some value ≡ front_value most bytes
-few_for_more few most value bytes less is =
-    let n = prefix_len is_ascii_digit bytes in
-    let found = Some (value_of (take n bytes)) in
-    ⊎_elim
-    (λ (held : (nat_le 1 n && nat_le n few) ≡ true).
-    let parts = and_parts (nat_le 1 n) (nat_le n few) held in
-    is ∙ cond-true (nat_le 1 n && nat_le n few) found None held
-    ∙ sym (cond-true (nat_le 1 n && nat_le n most) found None (and_from _ _ parts.0 (le-leb _ _ (omega (arith, leb-true _ _ parts.1))))))
-    (λ (other : (nat_le 1 n && nat_le n few) ≡ false).
-    let none : Some value ≡ None = is ∙ cond-false (nat_le 1 n && nat_le n few) found None other in cc)
-    (cases_Bool (nat_le 1 n && nat_le n few))

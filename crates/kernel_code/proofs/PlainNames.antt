@@ -1,11 +1,10 @@
 -- Plain nodes: those that have no name or only use it, and with which nothing is wrong.
 use Rattle.std.proofs.Common.{ℕ, ◌≡◌, ◌+◌, ◌==◌, Bool, true, false, cond, List, [], ◌∷◌, ◌++◌, length, slice_get, Option, Some, None, append-nil, refl, ap, sym, ◌∙◌}
-use Rattle.std.specs.Prelude.{◌||◌, ◌&&◌, not, is_none, nat_le, nat_lt, if◌then◌else◌}
+use Rattle.std.specs.Prelude.{◌||◌, ◌&&◌, not, is_none, if◌then◌else◌}
 use Rattle.std.proofs.lemmas.Option.{slice_get_within, get_or_from_slice_get}
 use Rattle.std.specs.Option.{option_or}
 use Rattle.frame_ast.specs.Lists.{some_if}
 use Rattle.frame_ast.specs.declared.kernel.FaultKind.TheVariants.{Limit}
-use Rattle.job_base.specs.declared.limits.TheConstants.{MOST_NODES, MOST_DEPTH}
 use Rattle.frame_ast.specs.declared.kernel.FaultKind.{FaultKind}
 use Rattle.kernel_code.specs.declared.raw.RawForm.{RawForm}
 use Rattle.kernel_code.specs.declared.raw.RawForm.TheVariants as form
@@ -15,7 +14,7 @@ use Rattle.kernel_code.specs.declared.check.names.Local.{Local}
 use Rattle.kernel_code.specs.declared.check.names.Meaning.{Meaning}
 use Rattle.kernel_code.specs.declared.check.names.Named.{Named}
 use Rattle.kernel_code.specs.declared.check.streams.StreamBlock.{StreamBlock}
-use Rattle.kernel_code.specs.StaticFaults.{text_at, depth_at, meaning_of, declares, as_local, locals_before, lowest, fault_at, local_of, local_if, is_begin, is_inside, is_number, parameter, used_fault, token_fault, size_fault, name_fault, first_of_two, node_fault}
+use Rattle.kernel_code.specs.StaticFaults.{text_at, is_over_limit, meaning_of, declares, as_local, locals_before, lowest, fault_at, local_of, local_if, is_begin, is_inside, is_number, parameter, used_fault, token_fault, size_fault, name_fault, first_of_two, node_fault}
 use Rattle.kernel_code.specs.Known.{has_name, has_answer, only_uses, meaning_if, name_named, used_name, plain_name, name_stored, stands_in, IsKnown}
 use Rattle.kernel_code.proofs.Passing.{known_next, meaning_pushed}
 
@@ -76,7 +75,7 @@ plain_faultless : (raw : RawKernel) (i : ℕ) (node : RawNode) (named : Option N
 plain_faultless raw i node named p small =
     (λ j. first_of_two node.at (lowest (p.token j) (small j)) node.name (p.called j)) ∙ no_faults (node.at == node.name) node.at node.name
 
-pub small_size : (raw : RawKernel) (i : ℕ) (over : Bool) → over ≡ (nat_le MOST_NODES i || nat_lt MOST_DEPTH (depth_at raw i)) → over ≡ false → size_fault raw i ≡ None
+pub small_size : (raw : RawKernel) (i : ℕ) (over : Bool) → over ≡ is_over_limit raw i → over ≡ false → size_fault raw i ≡ None
 small_size raw i over is small = ap (λ b. some_if b Limit) (sym is ∙ small)
 
 or-false : (b : Bool) → b ≡ (b || false)

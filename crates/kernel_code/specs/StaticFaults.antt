@@ -293,9 +293,12 @@ token_fault raw i at form.SetRemove =
     lowest (answer_fault raw (meaning_of raw i (text_at raw at))) (length_fault (text_at raw at))
 token_fault raw i at _ = None
 
--- node i is one too many, or too deep
+-- whether node i is one too many, or too deep
+abbrev pub is_over_limit : RawKernel → ℕ → Bool
+is_over_limit raw i = nat_le MOST_NODES i || nat_lt MOST_DEPTH (depth_at raw i)
+
 abbrev pub size_fault : RawKernel → ℕ → Option FaultKind
-size_fault raw i = some_if (nat_le MOST_NODES i || nat_lt MOST_DEPTH (depth_at raw i)) Limit
+size_fault raw i = some_if (is_over_limit raw i) Limit
 
 abbrev pub used_fault : RawKernel → ℕ → RawForm → List ℕ → Option FaultKind
 used_fault raw i f text = lowest (use_fault raw i f (meaning_of raw i text)) (length_fault text)

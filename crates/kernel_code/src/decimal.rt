@@ -43,60 +43,15 @@ pub fn value_of(digits: &[u8]) -> u64
     }
 }
 
-/// The value of the digits that five bytes or more begin with, or none where there is no digit or where there are more
-/// than four.
-fn few_value(bytes: &[u8]) -> Option<u64>
-    requires { 5 ≤ length bytes.now }
-    ensures value { result ≡ front_value 4 bytes.now }
-    ensures small { IfSome result (λ value. value ≤ 9999) }
-{
-    if !bytes[0].is_ascii_digit() {
-        return None;
-    }
-    let one = u64::from(bytes[0] - b'0');
-    if !bytes[1].is_ascii_digit() {
-        return Some(one);
-    }
-    let two = one * 10 + u64::from(bytes[1] - b'0');
-    if !bytes[2].is_ascii_digit() {
-        return Some(two);
-    }
-    let three = two * 10 + u64::from(bytes[2] - b'0');
-    if !bytes[3].is_ascii_digit() {
-        return Some(three);
-    }
-    let four = three * 10 + u64::from(bytes[3] - b'0');
-    if bytes[4].is_ascii_digit() {
-        return None;
-    }
-    Some(four)
-}
-
-/// The value of the digits that the bytes begin with, or none where there is no digit or where there are too many.
-// Most Numbers have few digits, which are read without a look at where the bytes end. Where the fourth and the fifth
-// are digits it is mostly a longer one, which isn't begun twice.
-pub fn front_value(bytes: &[u8]) -> Option<u64>
+/// The value of the digits that the bytes begin with, as far as this limit, or none where there is no digit or where
+/// there are too many.
+// In line where the limit is a constant, the loop is unrolled.
+#[inline(always)]
+fn value_within(bytes: &[u8], limit: usize) -> Option<u64>
+    requires { limit ≡ min (length bytes.now) PLAIN_DIGITS }
     ensures value { result ≡ front_value PLAIN_DIGITS bytes.now }
     ensures fits { IfSome result (λ value. value ≤ 18446744073709551615) }
 {
-    if bytes.len() >= 5
-        && !(bytes[3].is_ascii_digit() && bytes[4].is_ascii_digit())
-        && let Some(value) = few_value(bytes)
-    {
-        return Some(value);
-    }
-    many_value(bytes)
-}
-
-/// The value of the digits that the bytes begin with, or none where there is no digit or where there are too many.
-///
-/// Where they end is found as they are read.
-#[inline(never)]
-fn many_value(bytes: &[u8]) -> Option<u64>
-    ensures value { result ≡ front_value PLAIN_DIGITS bytes.now }
-    ensures fits { IfSome result (λ value. value ≤ 18446744073709551615) }
-{
-    let limit = bytes.len().min(PLAIN_DIGITS);
     let mut value: u64 = 0;
     for (len, byte) in bytes[..limit].iter().enumerate() {
         if !byte.is_ascii_digit() {
@@ -111,4 +66,28 @@ fn many_value(bytes: &[u8]) -> Option<u64>
         return None;
     }
     Some(value)
+}
+
+/// The value of the digits that a file's last bytes begin with, or none where there is no digit.
+#[inline(never)]
+fn last_value(bytes: &[u8]) -> Option<u64>
+    requires { length bytes.now ≤ PLAIN_DIGITS }
+    ensures value { result ≡ front_value PLAIN_DIGITS bytes.now }
+    ensures fits { IfSome result (λ value. value ≤ 18446744073709551615) }
+{
+    value_within(bytes, bytes.len())
+}
+
+/// The value of the digits that the bytes begin with, or none where there is no digit or where there are too many.
+// Where they end is found as they are read.
+#[inline(always)]
+pub fn front_value(bytes: &[u8]) -> Option<u64>
+    ensures value { result ≡ front_value PLAIN_DIGITS bytes.now }
+    ensures fits { IfSome result (λ value. value ≤ 18446744073709551615) }
+{
+    if bytes.len() > PLAIN_DIGITS {
+        value_within(bytes, PLAIN_DIGITS)
+    } else {
+        last_value(bytes)
+    }
 }

@@ -9,11 +9,10 @@ ghost use Rattle.kernel_code.specs.declared.mark.TheConstants.{KINDS};
 ghost use Rattle.kernel_code.specs.Marks.{kind_numbered, kind_of, start_of, IsOfKind, is_line, token_in, tokens_in, lines_in};
 ghost use Rattle.kernel_code.specs.StaticFaults.{token_line, value_of};
 ghost use Rattle.kernel_code.specs.Tokens.{text_of};
-ghost use Rattle.kernel_code.specs.Words.{continues_name};
 ghost use Rattle.kernel_code.specs.Letters.{is_letter};
 
 use crate::decimal::{front_value, value_of};
-use crate::word::front_end;
+use crate::word::{continues_name, front_end};
 use frame_grammar::{HasKind, TokenAt, TokenKind};
 
 /// How many kinds a mark could tell from each other.
@@ -160,12 +159,6 @@ pub fn is_same(a: &[u8], b: &[u8]) -> bool
         return false;
     }
     len == 1 || a == b
-}
-
-fn continues_name(byte: u8) -> bool
-    ensures { result ≡ continues_name byte }
-{
-    byte.is_ascii_alphanumeric() || byte == b'_'
 }
 
 impl Mark {

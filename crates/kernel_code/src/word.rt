@@ -71,7 +71,8 @@ fn kind_begun(byte: u8) -> TokenKind
     kinds_begun()[byte as usize]
 }
 
-fn continues_name(byte: u8) -> bool
+/// Whether a byte continues a name.
+pub fn continues_name(byte: u8) -> bool
     ensures { result ≡ continues_name byte }
 {
     matches!(kind_begun(byte), TokenKind::Name | TokenKind::Number)

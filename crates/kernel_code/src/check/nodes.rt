@@ -1,7 +1,6 @@
 // What the names of a node are, and its faults.
-ghost use Rattle.std.specs.Prelude.{◌≡◌, ◌≤◌, ◌<◌, ◌||◌, nat_le, nat_lt, ℕ, None, Some, length, slice_get, false, IsTrue, MatchResult};
-ghost use Rattle.kernel_code.specs.StaticFaults.{text_at, use_fault, answer_fault, declared_fault, token_fault, size_fault, name_fault, first_of_two, node_fault, locals_before, depth_at, meaning_of, block_fault, param_fault_of, is_begun};
-ghost use Rattle.job_base.specs.declared.limits.TheConstants.{MOST_NODES, MOST_DEPTH};
+ghost use Rattle.std.specs.Prelude.{◌≡◌, ◌≤◌, ◌<◌, ℕ, None, Some, length, slice_get, false, IsTrue, MatchResult};
+ghost use Rattle.kernel_code.specs.StaticFaults.{text_at, use_fault, answer_fault, declared_fault, token_fault, size_fault, name_fault, first_of_two, node_fault, locals_before, is_over_limit, meaning_of, block_fault, param_fault_of, is_begun};
 ghost use Rattle.kernel_code.specs.Known.{AreBegun, AreNames, answer_named, name_named, meaning_if, has_name, has_answer};
 
 use crate::check::StaticFault;
@@ -232,7 +231,7 @@ fn nameless_fault(
     is_over: bool,
 ) -> Option<StaticFault>
     requires none { has_name node.now.form ≡ false }
-    requires over { is_over ≡ (nat_le MOST_NODES number || nat_lt MOST_DEPTH (depth_at raw.now number)) }
+    requires over { is_over ≡ is_over_limit raw.now number }
     ensures { result ≡ node_fault raw.now number node.now }
 {
     let token = atom_fault(raw, node);
@@ -257,7 +256,7 @@ fn named_fault(
     requires text { name.now ≡ text_at raw.now node.now.name }
     requires answer { meaning.answer ≡ answer_named raw.now number node.now }
     requires name { meaning.name ≡ meaning_of raw.now number name.now }
-    requires over { is_over ≡ (nat_le MOST_NODES number || nat_lt MOST_DEPTH (depth_at raw.now number)) }
+    requires over { is_over ≡ is_over_limit raw.now number }
     ensures { result ≡ node_fault raw.now number node.now }
 {
     let token = lowest(
@@ -294,7 +293,7 @@ pub fn look_up(
     requires few { length locals.now ≤ MOST_LOCALS }
     requires locals { locals.now ≡ locals_before raw.now.nodes.items number }
     requires blocks { AreBegun raw.now number blocks.now }
-    requires over { is_over ≡ (nat_le MOST_NODES number || nat_lt MOST_DEPTH (depth_at raw.now number)) }
+    requires over { is_over ≡ is_over_limit raw.now number }
     ensures { MatchResult result
         (λ m. (node_fault raw.now number node.now ≡ None)
         × (m.answer ≡ answer_named raw.now number node.now)

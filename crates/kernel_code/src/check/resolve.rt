@@ -1,7 +1,6 @@
 // What the names of all nodes stand for, up to the first fault.
-ghost use Rattle.std.specs.Prelude.{◌≡◌, ◌≤◌, ◌<◌, ◌++◌, ◌||◌, ◌+◌, ℕ, nat_le, nat_lt, None, Some, length, slice_get, vec_len, IfOk, OnOk, MatchResult};
-ghost use Rattle.kernel_code.specs.StaticFaults.{depth_at, declares, is_loop, is_begin, end_in, block_end, local_of, local_if, locals_before, locals_of, node_fault, nodes_fault};
-ghost use Rattle.job_base.specs.declared.limits.TheConstants.{MOST_NODES, MOST_DEPTH};
+ghost use Rattle.std.specs.Prelude.{◌≡◌, ◌≤◌, ◌<◌, ◌++◌, ◌||◌, ◌+◌, ℕ, None, Some, length, slice_get, vec_len, IfOk, OnOk, MatchResult};
+ghost use Rattle.kernel_code.specs.StaticFaults.{depth_at, is_over_limit, declares, is_loop, is_begin, end_in, block_end, local_of, local_if, locals_before, locals_of, node_fault, nodes_fault};
 ghost use Rattle.kernel_code.specs.Known.{AreNames, stands_in, is_block, IsKnown, name_named, name_stored, meanings_from};
 
 use crate::check::StaticFault;
@@ -168,7 +167,7 @@ fn note_rare(
     requires params { length raw.now.params.items ≤ MOST_PARAMS }
     requires here { slice_get raw.now.nodes.items number ≡ Some node.now }
     requires known { IsKnown raw.now number known.old.locals.items known.old.blocks.items known.old.of_nodes.items }
-    requires over { is_over ≡ (nat_le MOST_NODES number || nat_lt MOST_DEPTH (depth_at raw.now number)) }
+    requires over { is_over ≡ is_over_limit raw.now number }
     ensures fault { IfOk result (λ fault. fault ≡ node_fault raw.now number node.now) }
     ensures known { IfOk result (λ fault. fault ≡ None →
         IsKnown raw.now (number + 1) known.new.locals.items known.new.blocks.items known.new.of_nodes.items) }
@@ -207,7 +206,7 @@ fn note_node(
     requires params { length raw.now.params.items ≤ MOST_PARAMS }
     requires here { slice_get raw.now.nodes.items number ≡ Some node.now }
     requires known { IsKnown raw.now number known.old.locals.items known.old.blocks.items known.old.of_nodes.items }
-    requires over { is_over ≡ (nat_le MOST_NODES number || nat_lt MOST_DEPTH (depth_at raw.now number)) }
+    requires over { is_over ≡ is_over_limit raw.now number }
     ensures fault { IfOk result (λ fault. fault ≡ node_fault raw.now number node.now) }
     ensures known { IfOk result (λ fault. fault ≡ None →
         IsKnown raw.now (number + 1) known.new.locals.items known.new.blocks.items known.new.of_nodes.items) }

@@ -2,7 +2,7 @@ use Rattle.std.proofs.Common.{◌≡◌, ◌≤◌, ◌+◌, ◌^◌, take, drop
 use Rattle.std.specs.List.{prefix_len}
 use Rattle.std.specs.Char.{is_ascii_digit}
 use Rattle.kernel_code.specs.StaticFaults.{value_of}
-use Rattle.kernel_code.proofs.decimal.many_value.Given as goal
+use Rattle.kernel_code.proofs.decimal.value_within.Given as goal
 
 abbrev pub invariant-loop-len : goal.invariant-loop-len
 invariant-loop-len l = record {
