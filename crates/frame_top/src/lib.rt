@@ -14,6 +14,7 @@
 
 mod frame;
 mod inputs;
+pub mod laws;
 #[cfg(test)]
 mod rows;
 mod section;
