@@ -1,7 +1,7 @@
 use Rattle.std.proofs.Common.{arith}
 use Rattle.std.proofs.lemmas.Grind.{common_steps}
 use Rattle.job_base.proofs.Parts.{part_more, part_stop}
-use Rattle.frame_print.proofs.lines.print_text.Goals as goal
+use Rattle.frame_print.proofs.texts.print_text.Goals as goal
 
 pub loop-rest-preserved : goal.loop-rest-preserved
 loop-rest-preserved g c =

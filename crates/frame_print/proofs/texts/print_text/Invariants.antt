@@ -1,6 +1,6 @@
 use Rattle.std.proofs.Common.{◌≡◌, length}
 use Rattle.job_base.proofs.Parts.{InPart}
-use Rattle.frame_print.proofs.lines.print_text.Given as goal
+use Rattle.frame_print.proofs.texts.print_text.Given as goal
 
 abbrev pub invariant-loop-rest : goal.invariant-loop-rest
 invariant-loop-rest g l =
