@@ -106,9 +106,9 @@ module _ (plan : Plan) (well : IsWellOrderedPlan plan) where
     parts_end i cells e c =
         let down : id.0 - 1 ≡ j = omega (arith, number) in
         let count : length (started plan.jobs.items (starts_in (segment_at plan k))) ≡ pieces_of x =
-            ap (λ o. length (started plan.jobs.items o)) starts
-            ∙ (ap (λ l. length (parts_of l (slice_get plan.jobs.items l))) down
-            ∙ (ap (λ o. length (parts_of j o)) has ∙ length_parts j 0 (pieces_of x))) in
+        ap (λ o. length (started plan.jobs.items o)) starts
+        ∙ (ap (λ l. length (parts_of l (slice_get plan.jobs.items l))) down
+        ∙ (ap (λ o. length (parts_of j o)) has ∙ length_parts j 0 (pieces_of x))) in
         next_is k i cells below (e ∙ sym count) c
 
   -- RIGHTS

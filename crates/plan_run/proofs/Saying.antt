@@ -47,6 +47,32 @@ says_none s = record {
   nothing = λ h. (h, keeps_same s.taken, refl);
 }
 
+-- WHAT A CALL SAID
+
+-- after a fault it says nothing
+pub says_nothing : (s : Said) (text : List ℕ) → s.failed ≡ true → Says s s text
+says_nothing s text is = record {
+  whole = λ h i. absurd (differs s.failed is h);
+  part = λ h i. absurd (differs s.failed is h);
+  nothing = λ h. (h, keeps_same s.taken, refl);
+}
+
+-- it put all of the text
+pub says_put : (s t : Said) (text : List ℕ) → s.failed ≡ false → t.failed ≡ false → Joins s.taken s.waits t.taken t.waits text → t.faults ≡ s.faults → Says s t text
+says_put s t text is same p e = record {
+  whole = λ h i. (p, e);
+  part = λ h i. absurd (differs t.failed i same);
+  nothing = λ h. absurd (differs s.failed h is);
+}
+
+-- a write failed
+pub says_part : (s t : Said) (text : List ℕ) → s.failed ≡ false → t.failed ≡ true → Stops s.taken t.taken (s.waits ++ text) → Rose s.faults t.faults → Says s t text
+says_part s t text is fails p rose = record {
+  whole = λ h i. absurd (differs t.failed fails i);
+  part = λ h i. (p, rose);
+  nothing = λ h. absurd (differs s.failed h is);
+}
+
 module _ (s t u : Said) (x y : List ℕ) (p : Says s t x) (q : Says t u y) where
   whole_after : (f : Bool) → t.failed ≡ f → s.failed ≡ false → u.failed ≡ false → Joins s.taken s.waits u.taken u.waits (x ++ y) × (u.faults ≡ s.faults)
   whole_after true e i j = absurd (differs u.failed (q.nothing e).0 j)
