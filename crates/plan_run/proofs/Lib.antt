@@ -1,0 +1,7 @@
+pub mod Saying
+mod Printing
+pub mod InOps
+pub mod Tallies
+pub mod Segments
+pub mod Running
+pub mod InScriptOrder

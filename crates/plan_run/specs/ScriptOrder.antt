@@ -1,0 +1,23 @@
+-- A run in script order: the cells between its pieces.
+use Rattle.std.specs.Prelude.{ℕ, suc, ◌+◌, ◌<◌, Bool, IsTrue, pos, length}
+use Rattle.job_base.specs.declared.JobId.{JobId}
+use Rattle.merge_laws.specs.Graph.{Cells, cells_before}
+use Rattle.frame_core.specs.declared.plan.Plan.{Plan}
+use Rattle.frame_core.specs.Pieces.{segment_place}
+use Rattle.frame_core.specs.Graphs.{graph_of}
+
+-- the cells before the first piece: all are 0
+abbrev pub blank_cells : Cells
+blank_cells w = pos 0
+
+-- a memory allows every word of the plan
+abbrev pub AllowsAll : Plan → (ℕ → Bool) → Type 0
+AllowsAll plan allowed = (w : ℕ) → w < plan.words → IsTrue (allowed w)
+
+-- the number of a job of the plan
+abbrev pub IsJobOf : Plan → JobId → Type 0
+IsJobOf plan id = (0 < id.0) × (id.0 < length plan.jobs.items + 1)
+
+-- the cells after segment k and the first i pieces of the job that it starts
+abbrev pub before_part : Plan → ℕ → ℕ → Cells
+before_part plan k i = cells_before (graph_of plan) (suc (segment_place plan.jobs.items plan.segments.items k + i))
