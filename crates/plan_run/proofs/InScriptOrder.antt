@@ -1,5 +1,5 @@
 -- The pieces of a plan in script order, one after another.
-use Rattle.std.proofs.Common.{◌≡◌, ℕ, zero, suc, ◌+◌, ◌-◌, ◌<◌, ◌≤◌, Bool, true, eq-eqb, drop, get_or, List, [], ◌∷◌, ◌++◌, length, Option, Some, None, IsTrue, refl, sym, ap, ◌∙◌, arith}
+use Rattle.std.proofs.Common.{◌≡◌, ℕ, zero, suc, ◌+◌, ◌-◌, ◌<◌, ◌≤◌, Bool, true, eq-eqb, get_or, List, [], ◌∷◌, ◌++◌, length, Option, Some, None, IsTrue, pos, refl, sym, ap, ◌∙◌, arith}
 use Rattle.std.specs.Prelude.{slice_get}
 use Rattle.std.proofs.lemmas.Option.{slice_get_read}
 use Rattle.job_base.specs.declared.JobId.{JobId}
@@ -7,13 +7,11 @@ use Rattle.merge_laws.specs.Graph.{Cells, cells_before}
 use Rattle.frame_core.specs.declared.piece.Piece.{Piece}
 use Rattle.frame_core.specs.declared.piece.Piece.TheVariants.{OfScript, OfJob}
 use Rattle.frame_core.specs.declared.plan.JobPlan.{JobPlan}
-use Rattle.frame_core.specs.declared.plan.Op.{Op}
 use Rattle.frame_core.specs.declared.plan.Plan.{Plan}
 use Rattle.frame_core.specs.declared.plan.Segment.{Segment}
 use Rattle.frame_core.specs.Effects.{touches, piece_cells}
 use Rattle.frame_core.specs.Graphs.{graph_of, piece_at, cells_at, before_piece, cells_after}
 use Rattle.frame_core.specs.Names.{is_job, job_at, job_pieces, pieces_of, segment_at, starts_in}
-use Rattle.frame_core.specs.Operations.{ops_cells}
 use Rattle.frame_core.specs.Ordered.{IsCutIn, IsWellOrderedPlan}
 use Rattle.frame_core.specs.Pieces.{IsPieceOf, order_from, parts_of, piece_numbered, place_of, script_order, segment_place, started, starter_of}
 use Rattle.frame_core.specs.Rights.{MayReadIn, MayWriteIn}
@@ -25,7 +23,7 @@ use Rattle.frame_core.proofs.Planned.{has_kernel}
 use Rattle.frame_core.proofs.Starting.{started_within}
 use Rattle.frame_core.proofs.Touching.{writes_read}
 use Rattle.frame_core.proofs.Within.{pieces_stay_within}
-use Rattle.plan_run.specs.ScriptOrder.{AllowsAll, IsJobOf, before_part, blank_cells}
+use Rattle.plan_run.specs.ScriptOrder.{AllowsAll, IsJobOf, before_part}
 use Rattle.plan_run.specs.Lines.{segment_cells}
 
 -- PLACES
@@ -49,6 +47,11 @@ place_end jobs n (s ∷ more) =
 
 -- CELLS
 
+-- all are 0 before the first piece
+pub first_blank : (plan : Plan) (w : ℕ) → before_piece plan (OfScript 0) w ≡ pos 0
+unfolding before_piece place_of
+first_blank plan w = refl
+
 module _ (plan : Plan) (well : IsWellOrderedPlan plan) where
   abbrev place : ℕ → ℕ
   place k = segment_place plan.jobs.items plan.segments.items k
@@ -56,10 +59,6 @@ module _ (plan : Plan) (well : IsWellOrderedPlan plan) where
   step : (x : Piece) (p : ℕ) → IsPieceOf plan x → p ≡ place_of plan x → cells_before (graph_of plan) (suc p) ≡ piece_cells plan x (cells_before (graph_of plan) p)
   unfolding graph_of
   step x p is at = ap (λ o. cells_at plan o (cells_before (graph_of plan) p)) (ap (piece_at plan) at ∙ at_place plan well.order.starts x is)
-
-  pub begins : (cells : Cells) → cells ≡ blank_cells → cells ≡ before_piece plan (OfScript 0)
-  unfolding before_piece place_of
-  begins cells c = c
 
   pub ends : (k : ℕ) (cells : Cells) → k ≡ length plan.segments.items → cells ≡ before_piece plan (OfScript k) → cells ≡ cells_after plan
   unfolding before_piece place_of cells_after script_order
@@ -146,12 +145,3 @@ module _ (plan : Plan) (well : IsWellOrderedPlan plan) (k : ℕ) (below : k < le
 
   pub started_job : (id : JobId) → s.starts ≡ Some id → IsJobOf plan id
   started_job id e = let h = started_within plan.segments.items 1 (length plan.jobs.items) well.order.starts k id (starts_is (Some id) e) in let a = h.0 in let b = h.1 in (omega (arith, a), omega (arith, b))
-
-ops_over_at : (plan : Plan) (ops : List Op) (i : ℕ) (cells : Cells) → length ops ≤ i → ops_cells plan (drop i ops) cells ≡ cells
-ops_over_at plan [] zero cells le = refl
-ops_over_at plan [] (suc i) cells le = refl
-ops_over_at plan (op ∷ more) zero cells le = absurd (omega arith)
-ops_over_at plan (op ∷ more) (suc i) cells le = ops_over_at plan more i cells (omega arith)
-
-pub ops_over : (plan : Plan) (ops : List Op) (i : ℕ) (cells : Cells) → length ops ≤ i → cells ≡ ops_cells plan (drop i ops) cells
-ops_over plan ops i cells le = sym (ops_over_at plan ops i cells le)

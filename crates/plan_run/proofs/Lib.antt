@@ -4,4 +4,5 @@ pub mod InOps
 pub mod Tallies
 pub mod Segments
 pub mod Running
-pub mod InScriptOrder
+mod InScriptOrder
+mod Beginning

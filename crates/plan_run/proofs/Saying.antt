@@ -5,6 +5,7 @@ use Rattle.std.proofs.lemmas.Grind.{common_steps}
 use Rattle.job_base.specs.Faults.{Rose}
 use Rattle.frame_print.specs.Gathering.{Joins}
 use Rattle.frame_print.proofs.Gathering.{joins_none, joins_more, Stops, stops_after, stops_before}
+use Rattle.frame_core.proofs.Small.{not_both}
 use Rattle.plan_run.specs.Says.{Said, Says}
 
 -- KNOWN BYTES THAT STAY
@@ -35,15 +36,11 @@ rose_at m n o e p = rw (← e) p
 
 -- NOTHING, AND TWO TEXTS
 
-differs : (b : Bool) → b ≡ true → b ≡ false → ⊥
-differs true p q = cc
-differs false p q = cc
-
 -- nothing is said
 pub says_none : (s : Said) → Says s s []
 says_none s = record {
   whole = λ h i. (joins_none s.taken s.waits, refl);
-  part = λ h i. absurd (differs s.failed i h);
+  part = λ h i. absurd (not_both i h);
   nothing = λ h. (h, keeps_same s.taken, refl);
 }
 
@@ -52,8 +49,8 @@ says_none s = record {
 -- after a fault it says nothing
 pub says_nothing : (s : Said) (text : List ℕ) → s.failed ≡ true → Says s s text
 says_nothing s text is = record {
-  whole = λ h i. absurd (differs s.failed is h);
-  part = λ h i. absurd (differs s.failed is h);
+  whole = λ h i. absurd (not_both is h);
+  part = λ h i. absurd (not_both is h);
   nothing = λ h. (h, keeps_same s.taken, refl);
 }
 
@@ -61,21 +58,21 @@ says_nothing s text is = record {
 pub says_put : (s t : Said) (text : List ℕ) → s.failed ≡ false → t.failed ≡ false → Joins s.taken s.waits t.taken t.waits text → t.faults ≡ s.faults → Says s t text
 says_put s t text is same p e = record {
   whole = λ h i. (p, e);
-  part = λ h i. absurd (differs t.failed i same);
-  nothing = λ h. absurd (differs s.failed h is);
+  part = λ h i. absurd (not_both i same);
+  nothing = λ h. absurd (not_both h is);
 }
 
 -- a write failed
 pub says_part : (s t : Said) (text : List ℕ) → s.failed ≡ false → t.failed ≡ true → Stops s.taken t.taken (s.waits ++ text) → Rose s.faults t.faults → Says s t text
 says_part s t text is fails p rose = record {
-  whole = λ h i. absurd (differs t.failed fails i);
+  whole = λ h i. absurd (not_both fails i);
   part = λ h i. (p, rose);
-  nothing = λ h. absurd (differs s.failed h is);
+  nothing = λ h. absurd (not_both h is);
 }
 
 module _ (s t u : Said) (x y : List ℕ) (p : Says s t x) (q : Says t u y) where
   whole_after : (f : Bool) → t.failed ≡ f → s.failed ≡ false → u.failed ≡ false → Joins s.taken s.waits u.taken u.waits (x ++ y) × (u.faults ≡ s.faults)
-  whole_after true e i j = absurd (differs u.failed (q.nothing e).0 j)
+  whole_after true e i j = absurd (not_both (q.nothing e).0 j)
   whole_after false e i j =
       let a = p.whole i e in
       let b = q.whole e j in

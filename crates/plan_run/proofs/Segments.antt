@@ -20,9 +20,8 @@ use Rattle.frame_core.specs.Know.{reads, writes}
 use Rattle.frame_core.specs.Ordered.{IsWellOrderedPlan, OpFits, OpsStand}
 use Rattle.frame_core.specs.Rights.{MayReadIn, MayWriteIn}
 use Rattle.frame_core.proofs.Numbered.{of_script}
-use Rattle.frame_core.proofs.OwnWords.{traps_are_told}
 use Rattle.frame_core.proofs.Touching.{reads_append, writes_append, has_it}
-use Rattle.plan_run.specs.Lines.{MayReadOwn, TellAll}
+use Rattle.plan_run.specs.Lines.{segment_cells, MayReadOwn, RunsAlike}
 use Rattle.plan_run.specs.Says.{Said, Says}
 use Rattle.plan_run.proofs.InOps.{first_way, second_way}
 
@@ -55,10 +54,6 @@ module _ (plan : Plan) (well : IsWellOrderedPlan plan) (i : ℕ) (below : i < le
   pub fits : (s : Segment) (ops : List Op) → s ≡ get_or plan.segments.items i s → ops ≡ s.ops.items → All (OpFits plan) ops
   fits s ops e h = subst (All (OpFits plan)) (sym h) (well.ops i s (segment_there s e))
 
-  pub stands : (s : Segment) (ops : List Op) (cells : Cells) → s ≡ get_or plan.segments.items i s → ops ≡ s.ops.items → cells ≡ before_piece plan (OfScript i) → OpsStand plan ops cells
-  stands s ops cells e h c =
-      subst (λ (l : List Op). OpsStand plan l cells) (sym h) (subst (λ (d : Cells). OpsStand plan s.ops.items d) (sym c) (well.stand.ops i s (segment_there s e)))
-
   module _ (ops : List Op) (are : ops_in (segment_at plan i) ≡ ops) where
     pub may_read : (readable now : ℕ → Bool) → now ≡ readable → MayReadIn (touches plan (OfScript i)) readable → MayReadIn (ops_touch ops) now
     unfolding touches
@@ -74,27 +69,27 @@ module _ (plan : Plan) (well : IsWellOrderedPlan plan) (i : ℕ) (below : i < le
         let there : writes_in (ops_touch (ops_in (segment_at plan i))) w ≡ true = ap (λ (l : List Op). writes_in (ops_touch l) w) are ∙ t in
         subst (λ (f : ℕ → Bool). IsTrue (f w)) (sym e) (h w (writes_append (ops_touch (ops_in (segment_at plan i))) own w ∙ first_way _ (writes_in own w) there))
 
-    pub few : (cells : Cells) (r limit : ℕ) → cells ≡ before_piece plan (OfScript i) → r + segment_refused plan i < limit → r + ops_refused plan ops cells < limit
-    few cells r limit c lt =
-        let same : ops_refused plan ops cells ≡ segment_refused plan i = ap (λ (l : List Op). ops_refused plan l cells) (sym are) ∙ ap (λ (d : Cells). ops_refused plan (ops_in (segment_at plan i)) d) c in
-        omega (arith, same, lt)
+    module _ (cells : Cells) (alike : RunsAlike plan i cells) where
+      pub stands : OpsStand plan ops cells
+      stands = subst (λ (l : List Op). OpsStand plan l cells) are alike.stands
 
-    pub refused_is : (cells : Cells) (r s : ℕ) → cells ≡ before_piece plan (OfScript i) → s ≡ r + ops_refused plan ops cells → s ≡ r + segment_refused plan i
-    refused_is cells r s c e =
-        let same : ops_refused plan ops cells ≡ segment_refused plan i = ap (λ (l : List Op). ops_refused plan l cells) (sym are) ∙ ap (λ (d : Cells). ops_refused plan (ops_in (segment_at plan i)) d) c in
-        omega (arith, same, e)
+      refused_same : ops_refused plan ops cells ≡ segment_refused plan i
+      refused_same = ap (λ (l : List Op). ops_refused plan l cells) (sym are) ∙ alike.refused
 
-    pub text_is : (cells : Cells) (a b : Said) → cells ≡ before_piece plan (OfScript i) → Says a b (ops_lines plan ops cells) → Says a b (segment_lines plan i)
-    text_is cells a b c p =
-        let same : ops_lines plan ops cells ≡ segment_lines plan i = ap (λ (l : List Op). ops_lines plan l cells) (sym are) ∙ ap (λ (d : Cells). ops_lines plan (ops_in (segment_at plan i)) d) c in
-        subst (Says a b) same p
+      pub few : (r limit : ℕ) → r + segment_refused plan i < limit → r + ops_refused plan ops cells < limit
+      few r limit lt = let same = refused_same in omega (arith, same, lt)
 
-    pub cells_are : (cells new : Cells) → cells ≡ before_piece plan (OfScript i) → new ≡ ops_cells plan ops cells → new ≡ piece_cells plan (OfScript i) (before_piece plan (OfScript i))
-    unfolding piece_cells
-    cells_are cells new c e = e ∙ (ap (λ (l : List Op). ops_cells plan l cells) (sym are) ∙ ap (λ (d : Cells). ops_cells plan (ops_in (segment_at plan i)) d) c)
+      pub refused_is : (r s : ℕ) → s ≡ r + ops_refused plan ops cells → s ≡ r + segment_refused plan i
+      refused_is r s e = let same = refused_same in omega (arith, same, e)
+
+      pub text_is : (a b : Said) → Says a b (ops_lines plan ops cells) → Says a b (segment_lines plan i)
+      text_is a b p = subst (Says a b) (ap (λ (l : List Op). ops_lines plan l cells) (sym are) ∙ alike.lines) p
+
+      pub cells_are : (new : Cells) → new ≡ ops_cells plan ops cells → new ≡ segment_cells plan i
+      cells_are new e = e ∙ (ap (λ (l : List Op). ops_cells plan l cells) (sym are) ∙ alike.cells_are)
 
   module _ (n : ℕ) (count : n ≡ length plan.segments.items) (last : nat_eq (i + 1) n ≡ true) where
-    is_end : suc i ≡ length plan.segments.items
+    pub is_end : suc i ≡ length plan.segments.items
     is_end = let e : i + 1 ≡ n = eqb-true (i + 1) n last in omega (arith, e, count)
 
     pub may_read_own : (readable : ℕ → Bool) → MayReadIn (touches plan (OfScript i)) readable → MayReadOwn plan readable
@@ -104,6 +99,3 @@ module _ (plan : Plan) (well : IsWellOrderedPlan plan) (i : ℕ) (below : i < le
         let own : reads_in (cond (is_last plan i) (all_own_words plan ∷ []) []) w ≡ true =
         ap (λ (b : Bool). reads_in (cond b (all_own_words plan ∷ []) []) w) yes ∙ first_way (has_word (all_own_words plan) w) false (has_it (all_own_words plan) w lo hi) in
         h w (reads_append (ops_touch (ops_in (segment_at plan i))) _ w ∙ second_way (reads_in (ops_touch (ops_in (segment_at plan i))) w) _ own)
-
-    pub all_told : (cells : Cells) → cells ≡ before_piece plan (OfScript i) → TellAll plan cells
-    all_told cells c = subst (TellAll plan) (sym c) (λ j h is. (traps_are_told plan well j h is).last i is_end)

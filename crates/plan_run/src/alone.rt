@@ -8,9 +8,9 @@ ghost use Rattle.frame_core.specs.Output.{plan_lines};
 ghost use Rattle.plan_run.specs.Lines.{segment_cells};
 ghost use Rattle.plan_run.specs.Runs.{IsReport};
 ghost use Rattle.plan_run.specs.Says.{SaysTo};
-ghost use Rattle.plan_run.specs.ScriptOrder.{AllowsAll, IsJobOf, before_part, blank_cells};
+ghost use Rattle.plan_run.specs.ScriptOrder.{AllowsAll, AreFresh, IsJobOf, before_part};
 
-use crate::segment::run_segment;
+use crate::segment::run_alike;
 use crate::tally::{no_traps, with_refused};
 use frame_core::{Plan, run_piece};
 use frame_print::{Outgoing, Report};
@@ -53,8 +53,8 @@ fn run_started<M: Mem>(plan: &Plan, k: u32, scratch: &mut Scratch, mem: &mut M)
     }
 }
 
-/// Runs a plan on the caller's own thread, whose cells are 0 at first, and says its lines, without those of its traps:
-/// these are said once, after the last section of a frame. It waits for nobody, starts no thread and takes no memory.
+/// Runs a plan on the caller's own thread, on fresh cells, and says its lines, without those of its traps: these are
+/// said once, after the last section of a frame. It waits for nobody, starts no thread and takes no memory.
 pub fn run_alone<M: Mem, S: Sink>(
     plan: &Plan,
     scratch: &mut Scratch,
@@ -64,7 +64,7 @@ pub fn run_alone<M: Mem, S: Sink>(
     failed: &mut bool,
 ) -> Report
     requires well { IsWellOrderedPlan plan.now }
-    requires cells { M.cells mem.old ≡ blank_cells }
+    requires fresh { AreFresh plan.now (M.cells mem.old) }
     requires readable { AllowsAll plan.now (M.readable mem.old) }
     requires writable { AllowsAll plan.now (M.writable mem.old) }
     ensures report { IsReport plan.now result }
@@ -78,7 +78,7 @@ pub fn run_alone<M: Mem, S: Sink>(
     let mut refused = 0u64;
     let mut last = no_traps();
     for i in 0..plan.segments.len() as u32 {
-        last = run_segment(plan, i, mem, out, sink, failed, &mut refused);
+        last = run_alike(plan, i, mem, out, sink, failed, &mut refused);
         run_started(plan, i, scratch, mem);
     }
     with_refused(&last, refused)

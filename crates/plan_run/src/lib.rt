@@ -21,6 +21,7 @@
 
 mod alone;
 mod flush;
+mod fresh;
 mod lines;
 mod run_end;
 mod segment;
@@ -28,6 +29,7 @@ mod tally;
 
 pub use alone::run_alone;
 pub use flush::{flush_lines, say_traps};
+pub use fresh::fresh_cells;
 pub use run_end::RunEnd;
 pub use segment::run_segment;
 pub use tally::{no_traps, with_refused};
