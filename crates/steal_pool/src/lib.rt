@@ -28,6 +28,7 @@ mod claims;
 mod crew;
 mod followers;
 mod held;
+mod idling;
 pub mod laws;
 mod lines;
 mod pieces;

@@ -13,6 +13,7 @@ ghost use Rattle.steal_pool.specs.Seats.{IsIdle, IsOn, IsAt, MayOpenNone};
 
 use crate::crew::Crew;
 use crate::held::{Counted, hold_segment};
+use crate::idling::leave_search;
 use crate::pieces::release_job;
 use crate::place::Tools;
 use crate::queue::Queue;
@@ -87,6 +88,7 @@ fn run_next<R: Wait, B: Board, S: Sink, G: Gate>(
     crew.gate.leave(tools.number, piece);
     board.end(&mut own);
     start_job(plan, board, &mut own, &mut tools.queue, segment.starts);
+    leave_search(crew.shared, tools);
     Counted { seat: own, traps }
 }
 

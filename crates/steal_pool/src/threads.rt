@@ -8,6 +8,7 @@ ghost use Rattle.steal_pool.specs.Runs.{RunsTo};
 ghost use Rattle.steal_pool.specs.Seats.{IsReady, IsFirst};
 
 use crate::crew::{Crew, Shared};
+use crate::idling::{end_workers, leave_search, pause};
 use crate::pieces::{Ran, help};
 use crate::place::Place;
 use crate::run_end::RunEnd;
@@ -20,10 +21,7 @@ use std::sync::Wait;
 use std::thread;
 use std::thread::{Threads, join_mut};
 
-/// How many turns without a piece, one after another, end a worker.
-const IDLE_TURNS: u32 = 65_536;
-
-// One worker, until it finds no piece for a while, or finds none once the script is through.
+// One worker, until it finds no piece once the script is through.
 fn work<R: Wait, B: Board, G: Gate>(
     rt: &R,
     plan: &Plan,
@@ -49,21 +47,18 @@ where
     };
     let backoff = Backoff::new();
     let mut own = seat;
-    let mut turns = 0u32;
     for _ in rt.forever() {
         let Ran { seat: next, ran } = help(&crew, &mut place.tools, own);
         own = next;
         if ran {
-            turns = 0;
             backoff.reset();
+        } else if shared.over.load() {
+            break;
         } else {
-            turns += 1;
-            if turns >= IDLE_TURNS || shared.over.load() {
-                break;
-            }
-            backoff.snooze();
+            pause(rt, shared, &mut place.tools, &backoff);
         }
     }
+    leave_search(shared, &mut place.tools);
     place.seat = Some(own);
 }
 
@@ -97,7 +92,7 @@ where
     };
     let Scripted { seat: own, end } = run_script(&crew, &mut place.tools, seat, sink);
     place.seat = Some(own);
-    shared.over.store(true);
+    end_workers(shared);
     end
 }
 

@@ -9,6 +9,7 @@ ghost use Rattle.steal_pool.specs.Crews.{IsCrewOf};
 ghost use Rattle.steal_pool.specs.Seats.{IsIdle, IsOn};
 
 use crate::crew::Crew;
+use crate::idling::{leave_search, pause_for};
 use crate::pieces::{Ran, help};
 use crate::place::Tools;
 use crossbeam_utils::Backoff;
@@ -36,6 +37,7 @@ fn wait_one<R: Wait, B: Board, G: Gate>(
     let mut own = seat;
     for _ in crew.rt.forever() {
         if crew.board.finished(&mut own, job) {
+            leave_search(crew.shared, tools);
             return own;
         }
         let Ran { seat: next, ran } = help(crew, tools, own);
@@ -43,7 +45,7 @@ fn wait_one<R: Wait, B: Board, G: Gate>(
         if ran {
             backoff.reset();
         } else {
-            backoff.snooze();
+            own = pause_for(crew, tools, own, job, &backoff);
         }
     }
     unreachable!()
