@@ -9,7 +9,7 @@ ghost use Rattle.frame_print.specs.Gathering.{Gathers};
 use crate::outgoing::Outgoing;
 use job_base::{Mem, Sink, SinkFault, Word};
 
-impl<const N: usize> Outgoing<N> {
+impl Outgoing {
     /// Puts the numbers of the cells from a word on.
     pub(crate) fn put_cells<M: Mem, S: Sink>(
         &mut self,

@@ -12,7 +12,7 @@ use crate::outgoing::Outgoing;
 use job_base::{Mem, Sink, SinkFault};
 use native_stream::StreamAt;
 
-impl<const N: usize> Outgoing<N> {
+impl Outgoing {
     // Puts the items of index `k`.
     fn put_items<M: Mem, S: Sink>(
         &mut self,

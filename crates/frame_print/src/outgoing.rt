@@ -1,69 +1,69 @@
 // Bytes on their way to a sink.
-ghost use Rattle.std.specs.Prelude.{◌≡◌, ◌≤◌, ◌+◌, ◌++◌, List, [], length, take, OnOk, OnErr};
+ghost use Rattle.std.specs.Prelude.{◌≡◌, ◌≤◌, ◌<◌, ◌+◌, ◌++◌, ℤ, List, [], length, IfOk, OnOk, OnErr};
 ghost use Rattle.std.specs.Fmt.{signed_decimal};
 ghost use Rattle.job_base.specs.Faults.{Rose};
 ghost use Rattle.job_base.specs.Texts.{Writes};
 ghost use Rattle.frame_print.specs.Gathering.{Gathers, joined, comma_before};
 
-use crate::lines::print_text;
+use crate::texts::print_text;
 use itoa::Buffer;
-use job_base::{Sink, SinkFault};
+use job_base::limits::MOST_PAIRS;
+use job_base::{NoMemory, Sink, SinkFault};
+use std::alloc::Global;
 use std::marker::Model;
 
-/// Room for a line of a few short parts. Each print clears its room before it begins, so a short line takes a small
-/// one.
-pub const LINE: usize = 512;
+/// How many bytes wait at most.
+pub const ROOM: u32 = 65_536;
 
-/// Room for a text of any length: a sink takes some 16,000 bytes at a time.
-pub const TEXT: usize = 16_384;
-
-/// The bytes of a text that no sink has taken yet, at most `N` of them. They wait on the stack, so that a sink is
-/// called once for many parts. What still waits when it is dropped is lost: end with [`Outgoing::flush`].
+/// The bytes of a run's lines that no sink has taken yet, in the order of the lines. A sink is called once for many
+/// lines: where a part no longer fits, and by [`Outgoing::flush`]. What still waits when it is dropped is lost, so end
+/// with a flush.
+///
+/// All of its memory is taken when it is made: 64 KiB for bytes, and 64 KiB for the pairs of a map that is being put.
 #[derive(Drop)]
-pub struct Outgoing<const N: usize> {
-    bytes: [u8; N],
-    len: usize,
+pub struct Outgoing {
+    bytes: Vec<u8>,
+    pub(crate) pairs: Vec<(i64, i64)>,
 }
 
-impl<const N: usize> Model for Outgoing<N> {
-    ghost use Rattle.std.specs.Prelude.{ℕ, ◌≤◌, List, take};
+impl Model for Outgoing {
+    ghost use Rattle.std.specs.Prelude.{ℕ, ◌≤◌, List, vec_len, vec_capacity};
+    ghost use Rattle.job_base.specs.declared.limits.TheConstants.{MOST_PAIRS};
+    ghost use Rattle.frame_print.specs.declared.outgoing.TheConstants.{ROOM};
 
     ghost Value = { List ℕ };
 
-    ghost view = { λ o. take o.len o.bytes };
+    ghost view = { λ o. o.bytes.items };
 
-    ghost invariant = { λ o. o.len ≤ N };
+    ghost invariant = { λ o. (vec_len o.bytes ≤ ROOM) × (ROOM ≤ vec_capacity o.bytes) × (MOST_PAIRS ≤ vec_capacity o.pairs) };
 }
 
-impl<const N: usize> Outgoing<N> {
+impl Outgoing {
     /// With nothing that waits.
-    pub fn new() -> Outgoing<N>
-        ensures { result ≡ [] }
+    pub fn new(alloc: Global) -> Result<Outgoing, NoMemory>
+        ensures { IfOk result (λ o. o ≡ []) }
     {
-        Outgoing {
-            bytes: [0; N],
-            len: 0,
-        }
+        Ok(Outgoing {
+            bytes: Vec::with_capacity(alloc, ROOM as usize)?,
+            pairs: Vec::with_capacity(alloc, MOST_PAIRS as usize)?,
+        })
     }
 
-    // How many bytes wait.
-    fn len(&self) -> usize
-        ensures len { result ≡ length self.now }
-        ensures most { result ≤ N }
+    // For how many more bytes there is room.
+    fn room(&self) -> usize
+        ensures { result + length self.now ≡ ROOM }
     {
-        self.len
+        ROOM as usize - self.bytes.len()
     }
 
     // Lets a part wait for which there is room.
     fn keep(&mut self, part: &[u8])
-        requires { length self.old + length part.now ≤ N }
+        requires { length self.old + length part.now ≤ ROOM }
         ensures { self.new ≡ self.old ++ part.now }
     {
-        let start = self.len;
-        let end = start + part.len();
-        let bytes = &mut self.bytes[..];
-        bytes[start..end].copy_from_slice(part);
-        self.len = end;
+        let Ok(()) = self.bytes.extend_from_slice(part) else {
+            unreachable!()
+        };
     }
 
     /// Hands the bytes that wait to the sink.
@@ -74,9 +74,8 @@ impl<const N: usize> Outgoing<N> {
         ensures cause { OnErr result (Rose (S.faults sink.old) (S.faults sink.new)) }
         ensures later { S.faults sink.old ≤ S.faults sink.new }
     {
-        let bytes = &self.bytes[..];
-        print_text(&bytes[..self.len], sink)?;
-        self.len = 0;
+        print_text(&self.bytes, sink)?;
+        self.bytes.clear();
         Ok(())
     }
 
@@ -87,12 +86,12 @@ impl<const N: usize> Outgoing<N> {
         ensures cause { OnErr result (Rose (S.faults sink.old) (S.faults sink.new)) }
         ensures later { S.faults sink.old ≤ S.faults sink.new }
     {
-        if part.len() <= N - self.len() {
+        if part.len() <= self.room() {
             self.keep(part);
             return Ok(());
         }
         self.flush(sink)?;
-        if part.len() <= N {
+        if part.len() <= self.room() {
             self.keep(part);
             return Ok(());
         }

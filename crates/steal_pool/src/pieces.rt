@@ -2,7 +2,8 @@
 ghost use Rattle.std.specs.Prelude.{◌≡◌, ◌+◌, ◌<◌, ◌≤◌, ℕ, suc, Some, None, IfSome, length, All};
 ghost use Rattle.frame_core.specs.Ordered.{IsWellOrderedPlan};
 ghost use Rattle.steal_pool.specs.Claims.{AreClaimsOf, IsGiven};
-ghost use Rattle.steal_pool.specs.Followers.{IsJobOf, AreFollowers};
+ghost use Rattle.plan_run.specs.ScriptOrder.{IsJobOf};
+ghost use Rattle.steal_pool.specs.Followers.{AreFollowers};
 ghost use Rattle.steal_pool.specs.Crews.{IsCrewOf};
 ghost use Rattle.steal_pool.specs.Seats.{IsIdle, IsOn, IsSteady, IsReleased, MayOpenFrom, MayOpenNone, HasDues};
 
