@@ -1,5 +1,5 @@
 // The run of a section with jobs: on a board of its own, by as many workers as have work.
-ghost use Rattle.std.specs.Prelude.{◌≡◌, ◌≤◌, length, min, ◌+◌, true, IfOk, OnErr};
+ghost use Rattle.std.specs.Prelude.{◌≡◌, ◌≤◌, length, min, ◌+◌, false, true, IfOk, OnErr};
 ghost use Rattle.job_base.specs.declared.limits.TheConstants.{MOST_WORKERS};
 ghost use Rattle.frame_core.specs.Names.{job_pieces};
 ghost use Rattle.frame_core.specs.Ordered.{IsWellOrderedPlan};

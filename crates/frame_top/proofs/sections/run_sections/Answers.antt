@@ -8,7 +8,7 @@ use Rattle.frame_top.proofs.sections.run_sections.Goals as goal
 
 pub loop-section-init : goal.loop-section-init
 loop-section-init g c =
-    at_first g.S.Sink.taken g.S.Sink.faults _ _ c.args.first _ c.args.sink.now c.requires.begins refl c.in-Ok-out.ensures refl (c.no_report.ensures _ refl refl) c.in-Ok.ensures
+    at_first g.S.Sink.taken g.S.Sink.faults _ _ c.args.first _ c.args.sink.now c.requires.begins refl c.in-Ok-new.ensures refl (c.no_report.ensures _ refl refl) c.in-Ok.ensures
 
 pub returns-in-Ok-false : goal.returns-in-Ok-false
 returns-in-Ok-false g c =
