@@ -3,7 +3,7 @@ use Rattle.std.proofs.Common.{◌≡◌, ℕ, zero, suc, ◌+◌, ◌<◌, ◌�
 use Rattle.std.proofs.lemmas.Bool.{cond-true, cond-false, and_parts, and_from, or_left}
 use Rattle.std.proofs.lemmas.List.Elements.{All-head, All-tail}
 use Rattle.merge_laws.specs.Numbers.{tally}
-use Rattle.merge_laws.proofs.Sums.{tally_same, tally_less}
+use Rattle.merge_laws.proofs.Sums.{tally_less}
 use Rattle.job_base.specs.declared.JobId.{JobId}
 use Rattle.frame_core.specs.Names.{has_job}
 use Rattle.frame_core.specs.Ordered.{IsAbove}
