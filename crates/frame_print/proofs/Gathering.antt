@@ -1,6 +1,6 @@
 -- A text that is gathered part by part.
-use Rattle.std.proofs.Common.{◌≡◌, ℕ, zero, suc, ◌+◌, ◌<◌, List, [], ◌∷◌, ◌++◌, length, get_or, take, drop, Option, Result, Ok, Err, refl, sym, ap, subst, ◌∙◌, arith, append_assoc}
-use Rattle.std.specs.Prelude.{IsErr}
+use Rattle.std.proofs.Common.{◌≡◌, ℕ, zero, suc, ◌+◌, ◌<◌, ◌≤◌, List, [], ◌∷◌, ◌++◌, length, get_or, take, drop, Option, Result, Ok, Err, refl, sym, ap, subst, ◌∙◌, arith, append_assoc, append-nil}
+use Rattle.std.specs.Prelude.{IsErr, OnOk}
 use Rattle.std.specs.Borrow.{Bor}
 use Rattle.std.specs.Io.KnownBytes.{Appends}
 use Rattle.std.proofs.lemmas.Grind.{common_steps}
@@ -67,6 +67,23 @@ passes_on old w mid new w' (Ok x) part p none q = record {
   whole = grind (arith, common_steps);
 }
 passes_on {T} {E} old w mid new w' (Err e) part p none q = writes_after {T = T} {E = E} old mid new (Err e) w part p q
+
+-- what waited was written, and no part was put
+pub flushed : {T E : Type 0} (old : Option (List ℕ)) (w : List ℕ) (new : Option (List ℕ)) (w' : List ℕ) (r : Result T E) → Writes old new r w → OnOk r (w' ≡ []) → Gathers old w new w' r []
+flushed old w new w' (Ok x) p none = record { bytes = w; taken = p; whole = ap (λ l. w ++ l) (sym none) }
+flushed old w new w' (Err e) p none = stop_first old new w [] p
+
+pub room_after : {T E : Type 0} (r : Result T E) (w' : List ℕ) (n most : ℕ) → n ≤ most → OnOk r (w' ≡ []) → OnOk r (length w' + n ≤ most)
+room_after (Ok x) w' n most h none = let empty = ap length none in omega arith
+room_after (Err e) w' n most h none = tt
+
+-- room was made, and then a part waits
+pub keeps : (old : Option (List ℕ)) (w : List ℕ) (new : Option (List ℕ)) (w' w'' part : List ℕ) → Joins old w new w' [] → w'' ≡ w' ++ part → Joins old w new w'' part
+keeps old w new w' w'' part p e = record {
+  bytes = p.bytes;
+  taken = p.taken;
+  whole = ap (λ l. l ++ part) (sym (append-nil w) ∙ p.whole) ∙ append_assoc p.bytes w' part ∙ ap (λ l. p.bytes ++ l) (sym e);
+}
 
 -- ---- a text with an end
 
@@ -156,6 +173,11 @@ module _ (old : Option (List ℕ)) (w : List ℕ) (a b c text : List ℕ) (e : (
         → Joins mid w' later w'' b → Gathers later w'' new w''' r c → Gathers old w new w''' r text
     third_gathers later w'' new w''' r q s =
         gathers_as old w new w''' r ((a ++ b) ++ c) text e (gathers_after old w later w'' new w''' r (a ++ b) c (joins_more old w mid w' later w'' a b p q) s)
+
+    pub third_joins : (later : Option (List ℕ)) (w'' : List ℕ) (new : Option (List ℕ)) (w''' : List ℕ)
+        → Joins mid w' later w'' b → Joins later w'' new w''' c → Joins old w new w''' text
+    third_joins later w'' new w''' q s =
+        joins_as old w new w''' ((a ++ b) ++ c) text e (joins_more old w later w'' new w''' (a ++ b) c (joins_more old w mid w' later w'' a b p q) s)
 
     pub third_stops : (later : Option (List ℕ)) (w'' : List ℕ) (new : Option (List ℕ)) → Joins mid w' later w'' b → Stops later new (w'' ++ c) → Stops old new (w ++ text)
     third_stops later w'' new q s =

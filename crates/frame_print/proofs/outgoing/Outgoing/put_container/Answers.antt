@@ -13,9 +13,9 @@ pub returns-in_err-put_contents-clause-text : goal.returns-in_err-put_contents-c
 returns-in_err-put_contents-clause-text g c =
     λ contents s.
     gathers_stops _ _ _ _ _ _ c.from_residual-in_err-put_contents.ensures.0
-    (second_stops _ _ _ (contents_text (elements contents) contents) (codes "\n") _ refl _ _ c.in_ok-put_all.ensures.text _ (c.in_err-put_contents.ensures.text contents s))
+    (second_stops _ _ _ (contents_text (elements contents) contents) (codes "\n") _ refl _ _ c.in_ok-put_all.ensures.text _ (rw c.self.view_is at (c.in_err-put_contents.ensures.text contents s)))
 
 pub returns-clause-text : goal.returns-clause-text
 returns-clause-text g c =
     λ contents s.
-    third_gathers _ _ _ (contents_text (elements contents) contents) (codes "\n") _ refl _ _ c.in_ok-put_all.ensures.text _ _ _ _ c.put.result (c.in_ok-put_contents.ensures.text contents s) c.put.ensures.text
+    third_gathers _ _ _ (contents_text (elements contents) contents) (codes "\n") _ refl _ _ c.in_ok-put_all.ensures.text _ _ _ _ c.put.result (rw c.self.view_is at (c.in_ok-put_contents.ensures.text contents s)) c.put.ensures.text

@@ -1,6 +1,6 @@
 use Rattle.std.proofs.Common.{◌∙◌}
 use Rattle.frame_print.proofs.Gathering.{going_part, stops_part, gathers_stops}
-use Rattle.frame_print.proofs.outgoing.Outgoing.put_all.Goals as goal
+use Rattle.frame_print.proofs.waiting.Waiting.put_all.Goals as goal
 
 pub returns-in_err-put-clause-text : goal.returns-in_err-put-clause-text
 returns-in_err-put-clause-text g c =

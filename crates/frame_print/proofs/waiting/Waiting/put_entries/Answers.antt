@@ -3,7 +3,7 @@ use Rattle.frame_ast.specs.Texts.{entry_text}
 use Rattle.frame_print.proofs.Gathering.{gathers_stops, stops_before, joins_as, stops_as}
 use Rattle.frame_print.proofs.Listing.{stops_comma, stops_item, going_item, going_closes}
 use Rattle.frame_print.proofs.Words.{entry_is, entry_next, entries_end}
-use Rattle.frame_print.proofs.outgoing.Outgoing.put_entries.Goals as goal
+use Rattle.frame_print.proofs.waiting.Waiting.put_entries.Goals as goal
 
 pub returns-in_err-put-clause-text : goal.returns-in_err-put-clause-text
 returns-in_err-put-clause-text g c =

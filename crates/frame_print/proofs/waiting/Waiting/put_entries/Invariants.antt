@@ -3,7 +3,7 @@ use Rattle.frame_ast.specs.Texts.{listed, entry_text}
 use Rattle.native_stream.specs.Layout.{HoldsEntries}
 use Rattle.frame_print.proofs.Gathering.{Going}
 use Rattle.frame_print.proofs.Listing.{Same, text_from}
-use Rattle.frame_print.proofs.outgoing.Outgoing.put_entries.Given as goal
+use Rattle.frame_print.proofs.waiting.Waiting.put_entries.Given as goal
 
 abbrev pub invariant-loop-k : goal.invariant-loop-k
 invariant-loop-k g l =

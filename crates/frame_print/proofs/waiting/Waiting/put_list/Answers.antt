@@ -1,6 +1,6 @@
 use Rattle.frame_print.proofs.Words.{list_is}
 use Rattle.frame_print.proofs.Gathering.{gathers_as}
-use Rattle.frame_print.proofs.outgoing.Outgoing.put_list.Goals as goal
+use Rattle.frame_print.proofs.waiting.Waiting.put_list.Goals as goal
 
 pub returns-clause-text : goal.returns-clause-text
 returns-clause-text g c =

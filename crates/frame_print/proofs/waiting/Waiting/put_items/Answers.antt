@@ -2,7 +2,7 @@ use Rattle.std.proofs.Common.{◌≤◌, arith}
 use Rattle.native_stream.specs.Layout.{index_end, end_of}
 use Rattle.native_stream.proofs.Places.{index_within, may_use_at}
 use Rattle.frame_print.proofs.Words.{items_within}
-use Rattle.frame_print.proofs.outgoing.Outgoing.put_items.Goals as goal
+use Rattle.frame_print.proofs.waiting.Waiting.put_items.Goals as goal
 
 pub items-requires-clause-readable : goal.items-requires-clause-readable
 items-requires-clause-readable g c = may_use_at c.args.at.now _ c.requires.readable _

@@ -1,7 +1,7 @@
 use Rattle.std.proofs.Common.{◌≡◌, drop}
 use Rattle.frame_print.specs.Gathering.{joined}
 use Rattle.frame_print.proofs.Gathering.{Going}
-use Rattle.frame_print.proofs.outgoing.Outgoing.put_all.Given as goal
+use Rattle.frame_print.proofs.waiting.Waiting.put_all.Given as goal
 
 abbrev pub invariant-loop-part : goal.invariant-loop-part
 invariant-loop-part g l =

@@ -4,7 +4,7 @@ use Rattle.job_base.specs.Cells.{cell_list}
 use Rattle.frame_ast.specs.Texts.{numbers_text}
 use Rattle.frame_print.proofs.Gathering.{Going}
 use Rattle.frame_print.proofs.Listing.{Same, text_from}
-use Rattle.frame_print.proofs.outgoing.Outgoing.put_cells.Given as goal
+use Rattle.frame_print.proofs.waiting.Waiting.put_cells.Given as goal
 
 abbrev pub invariant-loop-i : goal.invariant-loop-i
 invariant-loop-i g l =
