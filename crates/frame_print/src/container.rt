@@ -1,8 +1,7 @@
 // The line of a container.
-ghost use Rattle.std.specs.Prelude.{◌≡◌, ◌≢◌, ◌<◌, ◌≤◌, ◌+◌, ◌^◌, ℤ, List, [], OnOk, OnErr};
+ghost use Rattle.std.specs.Prelude.{◌≡◌, ◌≢◌, ◌<◌, ◌≤◌, ◌+◌, ◌^◌, ℤ, List, OnOk, OnErr};
 ghost use Rattle.job_base.specs.Faults.{Rose};
 ghost use Rattle.job_base.specs.Forms.{AreAllowed};
-ghost use Rattle.job_base.specs.Texts.{Writes};
 ghost use Rattle.frame_ast.specs.declared.kernel.ParamKind.TheVariants.{Int as IntKind};
 ghost use Rattle.frame_ast.specs.Contents.{Contents, elements};
 ghost use Rattle.frame_ast.specs.Texts.{contents_text, numbers_text, print_line};
@@ -11,15 +10,13 @@ ghost use Rattle.kernel_exec.specs.Binds.{kind_of, start_of, end_of};
 ghost use Rattle.kernel_exec.specs.Layout.{Holds};
 ghost use Rattle.frame_print.specs.Gathering.{Gathers};
 
-use crate::outgoing::{LINE, Outgoing, TEXT};
+use crate::outgoing::Outgoing;
+use crate::waiting::Waiting;
 use job_base::{Mem, Sink, SinkFault};
 use kernel_exec::Bind;
 use native_list::ListAt;
 
-// A container of so few words has a short line. A word is printed in at most 22 bytes, its comma with it.
-const FEW_WORDS: u64 = 20;
-
-impl<const N: usize> Outgoing<N> {
+impl Waiting {
     // Puts the elements that a list has.
     fn put_list<M: Mem, S: Sink>(
         &mut self,
@@ -42,10 +39,11 @@ impl<const N: usize> Outgoing<N> {
         self.put_cells(elements.start, elements.len, mem, sink)
     }
 
-    // Puts what the words of a container stand for.
+    // Puts what the words of a container stand for. In `pairs` those of a map are sorted.
     fn put_contents<M: Mem, S: Sink>(
         &mut self,
         at: &Bind,
+        pairs: &mut Vec<(i64, i64)>,
         mem: &mut M,
         sink: &mut S,
     ) -> Result<(), SinkFault>
@@ -69,28 +67,32 @@ impl<const N: usize> Outgoing<N> {
             Bind::List(at) => self.put_list(at, mem, sink),
             Bind::Ref(at) => {
                 let value = at.value(mem);
-                self.put_signed(value, sink)
+                self.put_number(0, value, sink)
             }
-            Bind::Map(at) => self.put_pairs(at, mem, sink),
+            Bind::Map(at) => self.put_pairs(at, pairs, mem, sink),
             Bind::Stream { at, .. } => self.put_entries(at, mem, sink),
         }
     }
+}
 
-    // Writes the line of a container, where nothing waits.
-    fn write_line<M: Mem, S: Sink>(
+impl Outgoing {
+    /// Puts the line of a container: its name, and what its words stand for. It only reads the memory.
+    ///
+    /// An array, a view and a list are their elements, a reference is its value, a map its pairs in rising key order,
+    /// and a stream the items of each index in foreach order. A view has the length that its list has now.
+    pub fn put_container<M: Mem, S: Sink>(
         &mut self,
         name: &[u8],
         at: &Bind,
         mem: &mut M,
         sink: &mut S,
     ) -> Result<(), SinkFault>
-        requires none { self.old ≡ [] }
         requires container { kind_of at.now ≢ IntKind }
         requires fits { end_of at.now < 2 ^ 32 }
         requires readable { AreAllowed (start_of at.now) (end_of at.now) (M.readable mem.old) }
         requires stands { (contents : Contents) × Holds (M.cells mem.old) at.now contents }
         ensures text { (contents : Contents) → Holds (M.cells mem.old) at.now contents →
-            Writes (S.taken sink.old) (S.taken sink.new) result (print_line name.now (elements contents) contents) }
+            Gathers (S.taken sink.old) self.old (S.taken sink.new) self.new result (print_line name.now (elements contents) contents) }
         ensures count { OnOk result (S.faults sink.new ≡ S.faults sink.old) }
         ensures cause { OnErr result (Rose (S.faults sink.old) (S.faults sink.new)) }
         ensures later { S.faults sink.old ≤ S.faults sink.new }
@@ -99,55 +101,7 @@ impl<const N: usize> Outgoing<N> {
         ensures writable { M.writable mem.new ≡ M.writable mem.old }
     {
         self.put_all(&[name, b" = "], sink)?;
-        self.put_contents(at, mem, sink)?;
-        self.put(b"\n", sink)?;
-        self.flush(sink)
-    }
-}
-
-// How many words a container has.
-fn words(at: &Bind) -> u64
-    ensures { start_of at.now + result ≡ end_of at.now }
-{
-    match at {
-        Bind::Int(_) => 0,
-        Bind::Array { at, .. } => u64::from(at.len),
-        Bind::View { at, .. } | Bind::List(at) => u64::from(at.cap) + 1,
-        Bind::Ref(_) => 1,
-        Bind::Map(at) => native_map::words_of(at.cap),
-        Bind::Stream { at, .. } => native_stream::words_of(at.count, at.room),
-    }
-}
-
-/// Writes the line of a container: its name, and what its words stand for. It only reads the memory.
-///
-/// An array, a view and a list are their elements, a reference is its value, a map its pairs in rising key order, and a
-/// stream the items of each index in foreach order. A view has the length that its list has now.
-///
-/// The text is gathered on the stack, so that the sink is called once for some 16,000 bytes, and once for a container
-/// of a few words. A map of n keys is gone through n times, as each key is sought among all places of its table.
-pub fn print_container<M: Mem, S: Sink>(
-    name: &[u8],
-    at: &Bind,
-    mem: &mut M,
-    sink: &mut S,
-) -> Result<(), SinkFault>
-    requires container { kind_of at.now ≢ IntKind }
-    requires fits { end_of at.now < 2 ^ 32 }
-    requires readable { AreAllowed (start_of at.now) (end_of at.now) (M.readable mem.old) }
-    requires stands { (contents : Contents) × Holds (M.cells mem.old) at.now contents }
-    ensures text { (contents : Contents) → Holds (M.cells mem.old) at.now contents →
-        Writes (S.taken sink.old) (S.taken sink.new) result (print_line name.now (elements contents) contents) }
-    ensures count { OnOk result (S.faults sink.new ≡ S.faults sink.old) }
-    ensures cause { OnErr result (Rose (S.faults sink.old) (S.faults sink.new)) }
-    ensures later { S.faults sink.old ≤ S.faults sink.new }
-    ensures cells { M.cells mem.new ≡ M.cells mem.old }
-    ensures readable { M.readable mem.new ≡ M.readable mem.old }
-    ensures writable { M.writable mem.new ≡ M.writable mem.old }
-{
-    if words(at) <= FEW_WORDS {
-        Outgoing::<LINE>::new().write_line(name, at, mem, sink)
-    } else {
-        Outgoing::<TEXT>::new().write_line(name, at, mem, sink)
+        self.waiting.put_contents(at, &mut self.pairs, mem, sink)?;
+        self.put(b"\n", sink)
     }
 }

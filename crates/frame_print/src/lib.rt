@@ -1,11 +1,11 @@
 //! The texts that a run prints: the lines of containers, of refusals, of traps and of overdue containers.
 //!
-//! Each call writes one text to a sink and takes no memory. Its contract says which bytes: those of the definition in
-//! `frame_ast`. After a fault the sink has taken some first part of them, and a fault is answered only where the sink's
-//! count of faults rose.
+//! A run has one [`Outgoing`], which its lines are put into and which calls a sink once for some 65,000 bytes. The
+//! contract of each call says which bytes join those that wait: those of the definition in `frame_ast`. After a fault
+//! the sink has taken some first part of what waited and of the line, and a fault is answered only where the sink's
+//! count of faults rose. A text that comes alone, as that of a refused script, is written to the sink at once.
 //!
-//! A text is gathered in `Outgoing`, a buffer on the stack, so that a sink is called once for some 16,000 bytes. A line
-//! of a few short parts has a small one, since a buffer is cleared before it is used. Numbers are written by `itoa`.
+//! No call but [`Outgoing::new`] takes memory. Numbers are written by `itoa`.
 #![tactic(auto)]
 
 mod cells;
@@ -19,10 +19,10 @@ mod report;
 mod script_refusal;
 #[cfg(test)]
 mod tests;
+mod texts;
+mod waiting;
 
-pub use container::print_container;
-pub use lines::{print_overdue, print_parts, print_text, print_traps};
-pub use outgoing::{LINE, Outgoing, TEXT};
-pub use refusal::print_refusal;
+pub use outgoing::Outgoing;
 pub use report::Report;
 pub use script_refusal::print_script_refusal;
+pub use texts::{print_parts, print_text};

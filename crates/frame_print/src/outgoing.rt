@@ -1,69 +1,43 @@
-// Bytes on their way to a sink.
-ghost use Rattle.std.specs.Prelude.{◌≡◌, ◌≤◌, ◌+◌, ◌++◌, List, [], length, take, OnOk, OnErr};
-ghost use Rattle.std.specs.Fmt.{signed_decimal};
+// What is on its way to a sink.
+ghost use Rattle.std.specs.Prelude.{◌≡◌, ◌≤◌, [], IfOk, OnOk, OnErr};
 ghost use Rattle.job_base.specs.Faults.{Rose};
 ghost use Rattle.job_base.specs.Texts.{Writes};
-ghost use Rattle.frame_print.specs.Gathering.{Gathers, joined, comma_before};
+ghost use Rattle.frame_print.specs.Gathering.{Gathers, joined};
 
-use crate::lines::print_text;
-use itoa::Buffer;
-use job_base::{Sink, SinkFault};
+use crate::waiting::Waiting;
+use job_base::limits::MOST_PAIRS;
+use job_base::{NoMemory, Sink, SinkFault};
+use std::alloc::Global;
 use std::marker::Model;
 
-/// Room for a line of a few short parts. Each print clears its room before it begins, so a short line takes a small
-/// one.
-pub const LINE: usize = 512;
-
-/// Room for a text of any length: a sink takes some 16,000 bytes at a time.
-pub const TEXT: usize = 16_384;
-
-/// The bytes of a text that no sink has taken yet, at most `N` of them. They wait on the stack, so that a sink is
-/// called once for many parts. What still waits when it is dropped is lost: end with [`Outgoing::flush`].
+/// The bytes of a run's lines that no sink has taken yet, in the order of the lines. A sink is called once for many
+/// lines: where a part no longer fits, and by [`Outgoing::flush`]. What still waits when it is dropped is lost, so end
+/// with a flush.
+///
+/// All of its memory is taken when it is made: 64 KiB for bytes, and 64 KiB in which the pairs of a map are sorted.
 #[derive(Drop)]
-pub struct Outgoing<const N: usize> {
-    bytes: [u8; N],
-    len: usize,
+pub struct Outgoing {
+    pub(crate) waiting: Waiting,
+    pub(crate) pairs: Vec<(i64, i64)>,
 }
 
-impl<const N: usize> Model for Outgoing<N> {
-    ghost use Rattle.std.specs.Prelude.{ℕ, ◌≤◌, List, take};
+impl Model for Outgoing {
+    ghost use Rattle.std.specs.Prelude.{ℕ, List};
 
     ghost Value = { List ℕ };
 
-    ghost view = { λ o. take o.len o.bytes };
-
-    ghost invariant = { λ o. o.len ≤ N };
+    ghost view = { λ o. o.waiting };
 }
 
-impl<const N: usize> Outgoing<N> {
+impl Outgoing {
     /// With nothing that waits.
-    pub fn new() -> Outgoing<N>
-        ensures { result ≡ [] }
+    pub fn new(alloc: Global) -> Result<Outgoing, NoMemory>
+        ensures { IfOk result (λ o. o ≡ []) }
     {
-        Outgoing {
-            bytes: [0; N],
-            len: 0,
-        }
-    }
-
-    // How many bytes wait.
-    fn len(&self) -> usize
-        ensures len { result ≡ length self.now }
-        ensures most { result ≤ N }
-    {
-        self.len
-    }
-
-    // Lets a part wait for which there is room.
-    fn keep(&mut self, part: &[u8])
-        requires { length self.old + length part.now ≤ N }
-        ensures { self.new ≡ self.old ++ part.now }
-    {
-        let start = self.len;
-        let end = start + part.len();
-        let bytes = &mut self.bytes[..];
-        bytes[start..end].copy_from_slice(part);
-        self.len = end;
+        Ok(Outgoing {
+            waiting: Waiting::new(alloc)?,
+            pairs: Vec::with_capacity(alloc, MOST_PAIRS as usize)?,
+        })
     }
 
     /// Hands the bytes that wait to the sink.
@@ -74,10 +48,7 @@ impl<const N: usize> Outgoing<N> {
         ensures cause { OnErr result (Rose (S.faults sink.old) (S.faults sink.new)) }
         ensures later { S.faults sink.old ≤ S.faults sink.new }
     {
-        let bytes = &self.bytes[..];
-        print_text(&bytes[..self.len], sink)?;
-        self.len = 0;
-        Ok(())
+        self.waiting.flush(sink)
     }
 
     /// Puts a part of the text after what waits.
@@ -87,16 +58,7 @@ impl<const N: usize> Outgoing<N> {
         ensures cause { OnErr result (Rose (S.faults sink.old) (S.faults sink.new)) }
         ensures later { S.faults sink.old ≤ S.faults sink.new }
     {
-        if part.len() <= N - self.len() {
-            self.keep(part);
-            return Ok(());
-        }
-        self.flush(sink)?;
-        if part.len() <= N {
-            self.keep(part);
-            return Ok(());
-        }
-        print_text(part, sink)
+        self.waiting.put(part, sink)
     }
 
     /// Puts some parts of the text, one after the other.
@@ -106,33 +68,6 @@ impl<const N: usize> Outgoing<N> {
         ensures cause { OnErr result (Rose (S.faults sink.old) (S.faults sink.new)) }
         ensures later { S.faults sink.old ≤ S.faults sink.new }
     {
-        for part in parts {
-            self.put(part, sink)?;
-        }
-        Ok(())
-    }
-
-    /// Puts what comes before a place of a list.
-    pub(crate) fn put_comma<S: Sink>(&mut self, place: u32, sink: &mut S) -> Result<(), SinkFault>
-        ensures text { Gathers (S.taken sink.old) self.old (S.taken sink.new) self.new result (comma_before place) }
-        ensures count { OnOk result (S.faults sink.new ≡ S.faults sink.old) }
-        ensures cause { OnErr result (Rose (S.faults sink.old) (S.faults sink.new)) }
-        ensures later { S.faults sink.old ≤ S.faults sink.new }
-    {
-        if place == 0 {
-            return Ok(());
-        }
-        self.put(b", ", sink)
-    }
-
-    /// Puts a number.
-    pub(crate) fn put_signed<S: Sink>(&mut self, n: i64, sink: &mut S) -> Result<(), SinkFault>
-        ensures text { Gathers (S.taken sink.old) self.old (S.taken sink.new) self.new result (signed_decimal n) }
-        ensures count { OnOk result (S.faults sink.new ≡ S.faults sink.old) }
-        ensures cause { OnErr result (Rose (S.faults sink.old) (S.faults sink.new)) }
-        ensures later { S.faults sink.old ≤ S.faults sink.new }
-    {
-        let mut digits = Buffer::new();
-        self.put(digits.format(n).as_bytes(), sink)
+        self.waiting.put_all(parts, sink)
     }
 }

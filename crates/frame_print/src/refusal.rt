@@ -1,17 +1,16 @@
 // The line of a refused statement.
 ghost use Rattle.std.specs.Prelude.{◌≡◌, ◌≤◌, OnOk, OnErr};
 ghost use Rattle.job_base.specs.Faults.{Rose};
-ghost use Rattle.job_base.specs.Texts.{Writes};
 ghost use Rattle.frame_ast.specs.Texts.{refusal_text, refused_line};
 ghost use Rattle.frame_print.specs.Gathering.{Gathers};
 
-use crate::outgoing::{LINE, Outgoing};
+use crate::outgoing::Outgoing;
 use itoa::Buffer;
 use job_base::{Refusal, Sink, SinkFault};
 
-impl<const N: usize> Outgoing<N> {
+impl Outgoing {
     // Puts the text of a refusal that names `name`.
-    fn put_refusal<S: Sink>(
+    fn put_refusal_text<S: Sink>(
         &mut self,
         refusal: Refusal,
         name: &[u8],
@@ -44,26 +43,25 @@ impl<const N: usize> Outgoing<N> {
             }
         }
     }
-}
 
-/// Writes the line of a statement of line `line` that was refused. `name` is the value that the refusal names, where it
-/// names one.
-pub fn print_refusal<S: Sink>(
-    line: u32,
-    refusal: Refusal,
-    name: &[u8],
-    sink: &mut S,
-) -> Result<(), SinkFault>
-    ensures text { Writes (S.taken sink.old) (S.taken sink.new) result (refused_line line refusal name.now) }
-    ensures count { OnOk result (S.faults sink.new ≡ S.faults sink.old) }
-    ensures cause { OnErr result (Rose (S.faults sink.old) (S.faults sink.new)) }
-    ensures later { S.faults sink.old ≤ S.faults sink.new }
-{
-    let mut digits = Buffer::new();
-    let line_text = digits.format(line).as_bytes();
-    let mut out = Outgoing::<LINE>::new();
-    out.put_all(&[b"refused ", line_text, b": "], sink)?;
-    out.put_refusal(refusal, name, sink)?;
-    out.put(b"\n", sink)?;
-    out.flush(sink)
+    /// Puts the line of a statement of line `line` that was refused. `name` is the value that the refusal names, where
+    /// it names one.
+    pub fn put_refusal<S: Sink>(
+        &mut self,
+        line: u32,
+        refusal: Refusal,
+        name: &[u8],
+        sink: &mut S,
+    ) -> Result<(), SinkFault>
+        ensures text { Gathers (S.taken sink.old) self.old (S.taken sink.new) self.new result (refused_line line refusal name.now) }
+        ensures count { OnOk result (S.faults sink.new ≡ S.faults sink.old) }
+        ensures cause { OnErr result (Rose (S.faults sink.old) (S.faults sink.new)) }
+        ensures later { S.faults sink.old ≤ S.faults sink.new }
+    {
+        let mut digits = Buffer::new();
+        let line_text = digits.format(line).as_bytes();
+        self.put_all(&[b"refused ", line_text, b": "], sink)?;
+        self.put_refusal_text(refusal, name, sink)?;
+        self.put(b"\n", sink)
+    }
 }

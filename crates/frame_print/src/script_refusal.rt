@@ -4,7 +4,7 @@ ghost use Rattle.job_base.specs.Faults.{Rose};
 ghost use Rattle.job_base.specs.Texts.{Writes};
 ghost use Rattle.frame_ast.specs.Answers.{fault_text, script_refused_line};
 
-use crate::lines::print_parts;
+use crate::texts::print_parts;
 use frame_ast::kernel::FaultKind;
 use itoa::Buffer;
 use job_base::{Sink, SinkFault};

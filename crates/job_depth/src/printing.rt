@@ -1,19 +1,19 @@
 // The report as text.
-ghost use Rattle.std.specs.Prelude.{◌≡◌, ◌≤◌, ◌++◌, List, codes, decimal, OnOk, OnErr};
+ghost use Rattle.std.specs.Prelude.{◌≡◌, ◌≤◌, ◌++◌, [], codes, decimal, OnOk, OnErr};
 ghost use Rattle.job_base.specs.Faults.{Rose};
 ghost use Rattle.job_base.specs.Texts.{Writes};
 ghost use Rattle.frame_print.specs.Gathering.{Gathers};
 ghost use Rattle.job_depth.specs.Texts.{depth_text, numbers_text, jobs_text};
 
 use crate::report::Depth;
-use frame_print::{Outgoing, TEXT};
+use frame_print::Outgoing;
 use itoa::Buffer;
 use job_base::{JobId, Sink, SinkFault};
 
 // Puts all before the jobs of the chain.
 fn put_numbers<S: Sink>(
     depth: &Depth,
-    out: &mut Outgoing<TEXT>,
+    out: &mut Outgoing,
     sink: &mut S,
 ) -> Result<(), SinkFault>
     ensures text { Gathers (S.taken sink.old) out.old (S.taken sink.new) out.new result (numbers_text depth.now) }
@@ -43,7 +43,7 @@ fn put_numbers<S: Sink>(
 }
 
 // Puts a job of the chain.
-fn put_job<S: Sink>(id: JobId, out: &mut Outgoing<TEXT>, sink: &mut S) -> Result<(), SinkFault>
+fn put_job<S: Sink>(id: JobId, out: &mut Outgoing, sink: &mut S) -> Result<(), SinkFault>
     ensures text { Gathers (S.taken sink.old) out.old (S.taken sink.new) out.new result (codes " " ++ decimal id.0) }
     ensures count { OnOk result (S.faults sink.new ≡ S.faults sink.old) }
     ensures cause { OnErr result (Rose (S.faults sink.old) (S.faults sink.new)) }
@@ -56,7 +56,7 @@ fn put_job<S: Sink>(id: JobId, out: &mut Outgoing<TEXT>, sink: &mut S) -> Result
 
 fn put_jobs<S: Sink>(
     jobs: &[JobId],
-    out: &mut Outgoing<TEXT>,
+    out: &mut Outgoing,
     sink: &mut S,
 ) -> Result<(), SinkFault>
     ensures text { Gathers (S.taken sink.old) out.old (S.taken sink.new) out.new result (jobs_text jobs.now) }
@@ -70,17 +70,21 @@ fn put_jobs<S: Sink>(
     Ok(())
 }
 
-/// Writes the report as four lines: `rounds`, `widest`, what the workers take, and the chain. It takes no memory, and
-/// calls the sink once for some 16,000 bytes.
-pub fn print_depth<S: Sink>(depth: &Depth, sink: &mut S) -> Result<(), SinkFault>
-    ensures text { Writes (S.taken sink.old) (S.taken sink.new) result (depth_text depth.now) }
+/// Writes the report as four lines after what waits: `rounds`, `widest`, what the workers take, and the chain. Nothing
+/// waits then. It takes no memory.
+pub fn print_depth<S: Sink>(
+    depth: &Depth,
+    out: &mut Outgoing,
+    sink: &mut S,
+) -> Result<(), SinkFault>
+    ensures text { Writes (S.taken sink.old) (S.taken sink.new) result (out.old ++ depth_text depth.now) }
+    ensures none { OnOk result (out.new ≡ []) }
     ensures count { OnOk result (S.faults sink.new ≡ S.faults sink.old) }
     ensures cause { OnErr result (Rose (S.faults sink.old) (S.faults sink.new)) }
     ensures later { S.faults sink.old ≤ S.faults sink.new }
 {
-    let mut out = Outgoing::<TEXT>::new();
-    put_numbers(depth, &mut out, sink)?;
-    put_jobs(&depth.chain, &mut out, sink)?;
+    put_numbers(depth, out, sink)?;
+    put_jobs(&depth.chain, out, sink)?;
     out.put(b"\n", sink)?;
     out.flush(sink)
 }
