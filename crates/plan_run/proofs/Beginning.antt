@@ -1,6 +1,6 @@
 -- The first segment, on cells of which only those are known that its first operation doesn't fill.
-use Rattle.std.proofs.Common.{◌≡◌, ℕ, zero, suc, ◌+◌, ◌*◌, ◌<◌, ◌≤◌, ◌⊎◌, inl, inr, ⊎_elim, ℤ, pos, Bool, true, false, eqb-true, get_or, List, [], ◌∷◌, ◌++◌, length, All, Option, Some, None, refl, sym, ap, subst, ◌∙◌, arith}
-use Rattle.std.specs.Prelude.{replicate, nat_eq, if◌then◌else◌}
+use Rattle.std.proofs.Common.{◌≡◌, ℕ, suc, ◌+◌, ◌<◌, ◌≤◌, inr, ⊎_elim, ℤ, pos, Bool, true, false, eqb-true, List, [], ◌∷◌, ◌++◌, length, All, Option, Some, None, refl, sym, ap, subst, ◌∙◌, arith}
+use Rattle.std.specs.Prelude.{nat_eq, if◌then◌else◌}
 use Rattle.std.proofs.lemmas.Bool.{cases_lt}
 use Rattle.std.proofs.lemmas.List.{length-replicate}
 use Rattle.job_base.specs.declared.Span.{Span}
@@ -15,7 +15,7 @@ use Rattle.frame_core.specs.declared.plan.Op.{Op}
 use Rattle.frame_core.specs.declared.plan.Plan.{Plan}
 use Rattle.frame_core.specs.declared.plan.Segment.{Segment}
 use Rattle.frame_core.specs.Names.{name_of, ops_in, segment_at}
-use Rattle.frame_core.specs.Pieces.{own_word, place_of}
+use Rattle.frame_core.specs.Pieces.{own_word}
 use Rattle.frame_core.specs.Effects.{part_run, piece_cells}
 use Rattle.frame_core.specs.Graphs.{before_piece}
 use Rattle.frame_core.specs.Laws.{TellTraps}
