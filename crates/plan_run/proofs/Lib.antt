@@ -1,0 +1,8 @@
+pub mod Saying
+mod Printing
+pub mod InOps
+pub mod Tallies
+pub mod Segments
+pub mod Running
+mod InScriptOrder
+mod Beginning

@@ -1,0 +1,29 @@
+// How a run ended.
+
+use frame_print::Report;
+
+/// How a run ended. The report is that of the whole run, whatever was written.
+#[derive(Clone, Copy, Debug, PartialEq, Eq)]
+pub enum RunEnd {
+    /// Everything was written.
+    Done(Report),
+    /// A write failed. Nothing was written after it, and all pieces were run all the same.
+    WriteFault(Report),
+}
+
+impl RunEnd {
+    ghost use Rattle.std.specs.Prelude.{◌≡◌};
+    ghost use Rattle.plan_run.specs.Runs.{is_fault, report_of};
+
+    /// The end of a run with this report.
+    pub fn of(failed: bool, report: Report) -> RunEnd
+        ensures fault { is_fault result ≡ failed }
+        ensures report { report_of result ≡ report }
+    {
+        if failed {
+            RunEnd::WriteFault(report)
+        } else {
+            RunEnd::Done(report)
+        }
+    }
+}
