@@ -6,7 +6,7 @@ use Rattle.std.specs.Io.KnownBytes.{Appends}
 use Rattle.std.proofs.lemmas.Grind.{common_steps}
 use Rattle.std.proofs.lemmas.Result.{MatchResult-from_err}
 use Rattle.job_base.specs.Texts.{Writes}
-use Rattle.job_base.proofs.Parts.{appends_none, appends_more, stop_first, writes_after}
+use Rattle.job_base.proofs.Parts.{InPart, appends_none, appends_more, stop_first, writes_after}
 use Rattle.frame_print.specs.Gathering.{Joins, Gathers, joined}
 
 -- the sink took some first bytes of a text
@@ -125,6 +125,11 @@ module _ (old : Option (List ℕ)) (w : List ℕ) (now : Option (List ℕ)) (w' 
   pub stops_part : (parts : List (Bor (List ℕ))) (i : ℕ) (d : Bor (List ℕ)) → i < length parts
       → Going old w now w' (joined parts) (joined (drop i parts)) → Stops now new (w' ++ (get_or parts i d).now) → Stops old new (w ++ joined parts)
   stops_part parts i d h p q = going_stops old w now w' new (joined parts) (get_or parts i d).now _ (subst (Going old w now w' (joined parts)) (joined_next parts i d h) p) q
+
+-- the next of some parts begins what is left to write
+pub part_begins : (old mid : Option (List ℕ)) (text : List ℕ) (parts : List (Bor (List ℕ))) (i : ℕ) (d : Bor (List ℕ)) → i < length parts
+    → InPart old mid text (joined (drop i parts)) → InPart old mid text ((get_or parts i d).now ++ joined (drop (i + 1) parts))
+part_begins old mid text parts i d h p = subst (InPart old mid text) (joined_next parts i d h) p
 
 -- the same under another spelling of the part
 pub gathers_as : {T E : Type 0} (old : Option (List ℕ)) (w : List ℕ) (new : Option (List ℕ)) (w' : List ℕ) (r : Result T E) (t part : List ℕ)
