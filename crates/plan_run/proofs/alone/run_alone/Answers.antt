@@ -1,4 +1,4 @@
-use Rattle.std.proofs.Common.{◌≡◌, ◌<◌, ◌∙◌, length, refl, arith}
+use Rattle.std.proofs.Common.{◌≡◌, ◌+◌, ◌<◌, ◌∙◌, length, refl, arith}
 use Rattle.frame_core.specs.declared.piece.Piece.TheVariants.{OfScript}
 use Rattle.plan_run.proofs.Beginning.{alike_before, alike_fresh}
 use Rattle.plan_run.proofs.InScriptOrder.{ends, may_read, may_write}

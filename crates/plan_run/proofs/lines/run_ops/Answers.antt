@@ -1,7 +1,16 @@
-use Rattle.std.proofs.Common.{◌∙◌, ◌+◌, arith}
+use Rattle.std.proofs.Common.{◌∙◌, ◌+◌, refl, arith}
 use Rattle.plan_run.specs.Says.{said_to}
-use Rattle.plan_run.proofs.InOps.{step_refused, step_done, in_mem}
+use Rattle.plan_run.proofs.InOps.{ops_start, step_refused, step_done, in_mem}
 use Rattle.plan_run.proofs.lines.run_ops.Goals as goal
+
+pub loop-op-init : goal.loop-op-init
+loop-op-init g c = record {
+  readable = refl;
+  writable = refl;
+  later = omega arith;
+  ops = ops_start c.args.plan.now (g.M.Mem.readable c.args.mem.now) (g.M.Mem.writable c.args.mem.now) (said_to g.S.Sink.taken g.S.Sink.faults c.args.sink.now c.args.out.now c.args.failed.now) c.args.ops.now (g.M.Mem.cells c.args.mem.now) c.args.refused.now
+      c.requires.fits c.requires.readable c.requires.writable c.requires.stands;
+}
 
 pub loop-op-preserved-then-run_op : goal.loop-op-preserved-then-run_op
 loop-op-preserved-then-run_op g c = let i = c.run_op.ensures in let v = c.loop-op.invariant in record {
