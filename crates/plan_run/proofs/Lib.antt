@@ -1,5 +1,5 @@
 pub mod Saying
-mod Printing
+pub mod Printing
 pub mod InOps
 pub mod Tallies
 pub mod Segments

@@ -21,7 +21,7 @@ use Rattle.steal_pool.specs.declared.claims.Spent.TheVariants.{AllGiven}
 use Rattle.steal_pool.specs.declared.view.View.{View}
 use Rattle.steal_pool.specs.declared.view.View.TheVariants.{Given}
 use Rattle.steal_pool.specs.Claims.{HasPlace, SawAll, IsOwn, IsSpent, PiecesAreGivenOnce, SeenPiecesAreGiven}
-use Rattle.steal_pool.specs.Followers.{IsJobOf}
+use Rattle.plan_run.specs.ScriptOrder.{IsJobOf}
 use Rattle.steal_pool.proofs.Opening.{number_is, there, first_is, low, high}
 use Rattle.steal_pool.proofs.Seating.{is_one, below}
 

@@ -1,15 +1,9 @@
-mod Saying
-mod Printing
-mod InOps
-mod Tallies
-mod Segments
 mod Seating
 mod Placed
 mod Ready
 mod Following
 mod Opening
 mod Turns
-mod Running
 mod Joining
 mod Giving
 mod Claiming

@@ -16,7 +16,7 @@ use Rattle.steal_pool.specs.declared.claims.Spent.{Spent}
 use Rattle.steal_pool.specs.declared.claims.Spent.TheVariants.{NoJob, AllGiven}
 use Rattle.steal_pool.specs.declared.view.View.{View}
 use Rattle.steal_pool.specs.declared.view.View.TheVariants.{Saw, Given}
-use Rattle.steal_pool.specs.Followers.{IsJobOf}
+use Rattle.plan_run.specs.ScriptOrder.{IsJobOf}
 use Rattle.steal_pool.specs.Given.{AreGiven}
 
 -- There is a count for each job.

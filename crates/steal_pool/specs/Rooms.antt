@@ -1,8 +1,9 @@
 -- The room of a pool before and after a run.
-use Rattle.std.specs.Prelude.{◌≡◌, ℕ, ◌<◌, List, ◌∷◌, length, map, All, Some}
+use Rattle.std.specs.Prelude.{◌≡◌, ℕ, ◌*◌, ◌<◌, ◌≤◌, List, ◌∷◌, length, map, All, Some}
 use Rattle.job_base.specs.declared.limits.TheConstants.{MOST_WORKERS}
 use Rattle.frame_core.specs.declared.plan.Plan.{Plan}
 use Rattle.frame_core.specs.Know.{Know}
+use Rattle.steal_pool.specs.declared.place.Place.{Place}
 use Rattle.steal_pool.specs.declared.room.PoolRoom.{PoolRoom}
 use Rattle.steal_pool.specs.Claims.{AreClaimsOf}
 use Rattle.steal_pool.specs.Followers.{AreFollowers}
@@ -18,11 +19,17 @@ pub record IsRoomOf {S : Type 0} (home : S → List ℕ) (know : S → Know) (pl
   pub others : All (IsReady home know name) room.others.items
   pub many : length room.others.items < MOST_WORKERS
 
--- It is made for the plan, and its places have these seats, in their order.
+-- The place's deque has room for each job of the plan twice: where its worker opens it, and where it takes it up.
+abbrev pub HasRoomFor : {S : Type 0} → Plan → Place S → Type 0
+HasRoomFor plan place = 2 * length plan.jobs.items ≤ place.tools.queue.capacity
+
+-- It is made for the plan, and its places have these seats, in their order, and deques that have room.
 pub record HasSeats {S : Type 0} (plan : Plan) (seats : List S) (room : PoolRoom S) : Type 0 where
   pub followers : AreFollowers plan room.shared.followers
   pub claims : AreClaimsOf plan room.shared.claims
   pub seats_are : room.first.seat ∷ map (λ place. place.seat) room.others.items ≡ map (λ seat. Some seat) seats
+  pub first : HasRoomFor plan room.first
+  pub others : All (HasRoomFor plan) room.others.items
   pub many : length room.others.items < MOST_WORKERS
 
 -- The first place holds the first seat, which has run all segments, and has no lease, no count owed and no duty.

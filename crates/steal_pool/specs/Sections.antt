@@ -6,7 +6,7 @@ use Rattle.frame_print.specs.declared.report.Report.{Report}
 use Rattle.frame_core.specs.declared.plan.Plan.{Plan}
 use Rattle.frame_core.specs.Names.{job_pieces}
 use Rattle.frame_core.specs.Ordered.{IsWellOrderedPlan}
-use Rattle.steal_pool.specs.Runs.{IsReport}
+use Rattle.plan_run.specs.Runs.{IsReport}
 
 -- A section numbers its jobs from 1. These are its traps by the numbers that its jobs have in the frame, where so many
 -- come before it.

@@ -5,6 +5,7 @@ use crate::followers::Followers;
 use crossbeam_deque::Stealer;
 use crossbeam_utils::atomic::AtomicCell;
 use frame_core::Plan;
+use idle_workers::IdleWorkers;
 use job_base::JobId;
 
 /// What all workers of a room share.
@@ -14,7 +15,11 @@ pub struct Shared {
     pub claims: Claims,
     /// The other ends of all deques, in the order of their places.
     pub thieves: Vec<Stealer<JobId>>,
-    /// The script is through, so the workers may end. No clause speaks of it.
+    /// Who searches for pieces and who sleeps. No clause speaks of this, nor of what follows.
+    pub idle: IdleWorkers,
+    /// The job for which the script's thread sleeps, or 0, which is the number of no job.
+    pub awaited: AtomicCell<u32>,
+    /// The script is through, so the workers may end.
     pub over: AtomicCell<bool>,
 }
 

@@ -9,14 +9,14 @@ ghost use Rattle.frame_core.specs.Graphs.{before_piece};
 ghost use Rattle.frame_core.specs.Output.{plan_traps, segment_lines, segment_refused};
 ghost use Rattle.frame_core.specs.Know.{IsStill, reads, writes};
 ghost use Rattle.frame_core.specs.Ordered.{IsWellOrderedPlan};
-ghost use Rattle.steal_pool.specs.Lines.{segment_cells};
-ghost use Rattle.steal_pool.specs.Says.{SaysTo};
+ghost use Rattle.plan_run.specs.Lines.{segment_cells};
+ghost use Rattle.plan_run.specs.Says.{SaysTo};
 
-use crate::segment::run_segment;
 use frame_core::{Board, Holding, Lease, Plan, run_piece};
-use frame_print::Report;
+use frame_print::{Outgoing, Report};
 use job_base::{PieceId, Sink};
 use kernel_exec::Scratch;
+use plan_run::run_segment;
 use std::marker::Brand;
 
 fn run_part_on<B: Board, K: Holding>(
@@ -76,6 +76,7 @@ fn run_segment_on<B: Board, K: Holding, S: Sink>(
     board: &B,
     seat: B::Seat,
     i: u32,
+    out: &mut Outgoing,
     sink: &mut S,
     failed: &mut bool,
     refused: &mut u64,
@@ -95,13 +96,14 @@ fn run_segment_on<B: Board, K: Holding, S: Sink>(
     ensures home { B.home result.seat ≡ B.home seat }
     ensures still { IsStill (B.know seat) (B.know result.seat) }
     ensures cells { (B.know result.seat).cells ≡ segment_cells plan.now i }
-    ensures text { SaysTo S.taken S.faults sink.old sink.new failed.old failed.new (segment_lines plan.now i) }
+    ensures text { SaysTo S.taken S.faults sink.old out.old failed.old sink.new out.new failed.new
+        (segment_lines plan.now i) }
     ensures later { S.faults sink.old ≤ S.faults sink.new }
     ensures refused { refused.new ≡ refused.old + segment_refused plan.now i }
     ensures traps { i + 1 ≡ length plan.now.segments.items → IsReportOf (plan_traps plan.now) result.traps }
 {
     let mut lease: Lease<B, K> = Lease::over(board, seat);
-    let traps = run_segment(plan, i, &mut lease, sink, failed, refused);
+    let traps = run_segment(plan, i, &mut lease, out, sink, failed, refused);
     Counted {
         seat: lease.into_seat(),
         traps,
@@ -114,6 +116,7 @@ pub fn hold_segment<B: Board, S: Sink>(
     board: &B,
     seat: B::Seat,
     i: u32,
+    out: &mut Outgoing,
     sink: &mut S,
     failed: &mut bool,
     refused: &mut u64,
@@ -128,10 +131,11 @@ pub fn hold_segment<B: Board, S: Sink>(
     ensures home { B.home result.seat ≡ B.home seat }
     ensures still { IsStill (B.know seat) (B.know result.seat) }
     ensures cells { (B.know result.seat).cells ≡ segment_cells plan.now i }
-    ensures text { SaysTo S.taken S.faults sink.old sink.new failed.old failed.new (segment_lines plan.now i) }
+    ensures text { SaysTo S.taken S.faults sink.old out.old failed.old sink.new out.new failed.new
+        (segment_lines plan.now i) }
     ensures later { S.faults sink.old ≤ S.faults sink.new }
     ensures refused { refused.new ≡ refused.old + segment_refused plan.now i }
     ensures traps { i + 1 ≡ length plan.now.segments.items → IsReportOf (plan_traps plan.now) result.traps }
 {
-    run_segment_on::<B, Brand, S>(plan, board, seat, i, sink, failed, refused)
+    run_segment_on::<B, Brand, S>(plan, board, seat, i, out, sink, failed, refused)
 }

@@ -2,21 +2,22 @@
 ghost use Rattle.std.specs.Prelude.{◌≡◌, ◌+◌, ◌<◌, ◌≤◌, ℕ, suc, Some, None, IfSome, length, All};
 ghost use Rattle.frame_core.specs.Ordered.{IsWellOrderedPlan};
 ghost use Rattle.steal_pool.specs.Claims.{AreClaimsOf, IsGiven};
-ghost use Rattle.steal_pool.specs.Followers.{IsJobOf, AreFollowers};
+ghost use Rattle.plan_run.specs.ScriptOrder.{IsJobOf};
+ghost use Rattle.steal_pool.specs.Followers.{AreFollowers};
 ghost use Rattle.steal_pool.specs.Crews.{IsCrewOf};
 ghost use Rattle.steal_pool.specs.Seats.{IsIdle, IsOn, IsSteady, IsReleased, MayOpenFrom, MayOpenNone, HasDues};
 
 use crate::claims::{Claimed, Claims};
 use crate::crew::{Crew, Shared};
-use crate::followers::Followers;
 use crate::held::hold_part;
+use crate::idling::{leave_search, wake_script};
 use crate::place::Tools;
 use crate::queue::Queue;
 use frame_core::{Board, Plan};
 use job_base::{Gate, JobId, PieceId};
 
-// Opens the pieces of a job, and then offers the job, so that whoever finds it can begin them.
-fn open_job<B: Board>(plan: &Plan, board: &B, seat: &mut B::Seat, queue: &mut Queue, job: JobId)
+// Opens the pieces of a job.
+fn open_pieces<B: Board>(plan: &Plan, board: &B, seat: &mut B::Seat, job: JobId)
     requires plan { plan.now ≡ B.plan board.now }
     requires well { IsWellOrderedPlan plan.now }
     requires job { IsJobOf plan.now job }
@@ -31,7 +32,21 @@ fn open_job<B: Board>(plan: &Plan, board: &B, seat: &mut B::Seat, queue: &mut Qu
     for p in first..first + entry.pieces() {
         board.open_piece(seat, PieceId(p));
     }
-    queue.push(job);
+}
+
+// Opens the pieces of a job, and then offers the job, so that whoever finds it can begin them.
+fn open_job<B: Board>(plan: &Plan, board: &B, seat: &mut B::Seat, queue: &mut Queue, job: JobId)
+    requires plan { plan.now ≡ B.plan board.now }
+    requires well { IsWellOrderedPlan plan.now }
+    requires job { IsJobOf plan.now job }
+    requires home { B.home seat.old ≡ B.name board.now }
+    requires rights { MayOpenFrom plan.now job.0 0 (B.know seat.old) }
+    ensures home { B.home seat.new ≡ B.home seat.old }
+    ensures steady { IsSteady (B.know seat.old) (B.know seat.new) }
+    ensures none { MayOpenNone (B.know seat.new) }
+{
+    open_pieces(plan, board, seat, job);
+    queue.offer::<B>(seat, job);
 }
 
 // Ends the duty to release a job, and opens it where nothing is left to wait for.
@@ -96,11 +111,11 @@ fn end_piece<B: Board>(
     board: &B,
     seat: &mut B::Seat,
     queue: &mut Queue,
-    followers: &Followers,
+    shared: &Shared,
 )
     requires plan { plan.now ≡ B.plan board.now }
     requires well { IsWellOrderedPlan plan.now }
-    requires followers { AreFollowers plan.now followers.now }
+    requires followers { AreFollowers plan.now shared.now.followers }
     requires home { B.home seat.old ≡ B.name board.now }
     requires owed { (j : ℕ) × ((B.know seat.old).owed ≡ Some (suc j)) × (j < length plan.now.jobs.items) }
     requires lease { (B.know seat.old).lease ≡ None }
@@ -111,7 +126,8 @@ fn end_piece<B: Board>(
     ensures on { IsOn (B.know seat.old) (B.know seat.new) }
 {
     if let Some(job) = board.count(seat) {
-        release_after(plan, board, seat, queue, followers.of(job));
+        release_after(plan, board, seat, queue, shared.followers.of(job));
+        wake_script(shared, job);
     }
 }
 
@@ -148,13 +164,7 @@ fn run_piece<R, B: Board, G: Gate>(
     let mut own = hold_part(plan, board, own, piece, &mut tools.scratch);
     crew.gate.leave(tools.number, piece);
     board.end(&mut own);
-    end_piece(
-        plan,
-        board,
-        &mut own,
-        &mut tools.queue,
-        &crew.shared.followers,
-    );
+    end_piece(plan, board, &mut own, &mut tools.queue, crew.shared);
     Ran {
         seat: own,
         ran: true,
@@ -181,7 +191,13 @@ fn at_hand(plan: &Plan, claims: &Claims, tools: &mut Tools) -> Option<Claimed>
 }
 
 // Takes up a job that is offered, and offers it again where it has more pieces than the one that is answered.
-fn take_up(plan: &Plan, shared: &Shared, tools: &mut Tools) -> Option<Claimed>
+fn take_up<B: Board>(
+    plan: &Plan,
+    shared: &Shared,
+    tools: &mut Tools,
+    seat: &B::Seat,
+) -> Option<Claimed>
+    requires none { MayOpenNone (B.know seat.now) }
     requires well { IsWellOrderedPlan plan.now }
     requires claims { AreClaimsOf plan.now shared.now.claims }
     ensures given { IfSome result (IsGiven plan.now shared.now.claims) }
@@ -191,8 +207,9 @@ fn take_up(plan: &Plan, shared: &Shared, tools: &mut Tools) -> Option<Claimed>
         if let Ok(claimed) = shared.claims.next(plan, job) {
             if claimed.more {
                 tools.at_hand = Some(job);
-                tools.queue.push(job);
+                tools.queue.offer::<B>(seat, job);
             }
+            leave_search(shared, tools);
             return Some(claimed);
         }
     }
@@ -200,7 +217,13 @@ fn take_up(plan: &Plan, shared: &Shared, tools: &mut Tools) -> Option<Claimed>
 }
 
 // The next piece of a job that is for this worker to run.
-fn next_piece(plan: &Plan, shared: &Shared, tools: &mut Tools) -> Option<Claimed>
+fn next_piece<B: Board>(
+    plan: &Plan,
+    shared: &Shared,
+    tools: &mut Tools,
+    seat: &B::Seat,
+) -> Option<Claimed>
+    requires none { MayOpenNone (B.know seat.now) }
     requires well { IsWellOrderedPlan plan.now }
     requires claims { AreClaimsOf plan.now shared.now.claims }
     ensures given { IfSome result (IsGiven plan.now shared.now.claims) }
@@ -208,7 +231,7 @@ fn next_piece(plan: &Plan, shared: &Shared, tools: &mut Tools) -> Option<Claimed
     if let Some(claimed) = at_hand(plan, &shared.claims, tools) {
         return Some(claimed);
     }
-    take_up(plan, shared, tools)
+    take_up::<B>(plan, shared, tools, seat)
 }
 
 /// Runs a piece of a job, if one is found that is open: of the job at hand, or else of one that it takes up.
@@ -224,7 +247,7 @@ pub fn help<R, B: Board, G: Gate>(
     ensures idle { IsIdle (B.know result.seat) }
     ensures on { IsOn (B.know seat) (B.know result.seat) }
 {
-    match next_piece(crew.plan, crew.shared, tools) {
+    match next_piece::<B>(crew.plan, crew.shared, tools, &seat) {
         Some(claimed) => run_piece(crew, tools, seat, claimed),
         None => Ran { seat, ran: false },
     }

@@ -13,6 +13,8 @@ pub struct Tools {
     pub queue: Queue,
     /// The job whose pieces it runs, one after another, while it has some left.
     pub at_hand: Option<JobId>,
+    /// It found no piece, and counts among those who search.
+    pub searching: bool,
     pub scratch: Scratch,
 }
 
@@ -26,7 +28,8 @@ pub struct Place<S> {
 impl<S: Drop> Place<S> {
     /// The place of that number, whose deque has room for so many pushes.
     pub fn new(alloc: Global, number: u32, seat: S, capacity: usize) -> Result<Place<S>, NoMemory>
-        ensures { IfOk result (λ place. place.seat ≡ Some seat) }
+        ensures seat { IfOk result (λ place. place.seat ≡ Some seat) }
+        ensures room { IfOk result (λ place. place.tools.queue.capacity ≡ capacity) }
     {
         let queue = Queue::new(alloc, capacity)?;
         let scratch = Scratch::new(alloc)?;
@@ -36,6 +39,7 @@ impl<S: Drop> Place<S> {
                 number,
                 queue,
                 at_hand: None,
+                searching: false,
                 scratch,
             },
         })

@@ -1,9 +1,11 @@
 // A worker's own open jobs, which other workers may steal.
-ghost use Rattle.std.specs.Prelude.{◌≤◌};
+ghost use Rattle.std.specs.Prelude.{◌≡◌, ◌≤◌, IfOk};
 ghost use Rattle.crossbeam_deque.specs.Handles.{worker_capacity, worker_index};
+ghost use Rattle.steal_pool.specs.Seats.{MayOpenNone};
 
 use crossbeam_deque::protocol::Free;
 use crossbeam_deque::{Steal, Stealer, Worker};
+use frame_core::Board;
 use job_base::{JobId, NoMemory};
 use std::alloc::Global;
 
@@ -22,7 +24,9 @@ pub struct Queue {
 
 impl Queue {
     /// An empty deque with room for so many pushes, whatever is popped in between.
-    pub fn new(alloc: Global, capacity: usize) -> Result<Queue, NoMemory> {
+    pub fn new(alloc: Global, capacity: usize) -> Result<Queue, NoMemory>
+        ensures room { IfOk result (λ queue. queue.capacity ≡ capacity) }
+    {
         let own = Worker::new_lifo(alloc, capacity)?;
         Ok(Queue {
             own,
@@ -31,9 +35,12 @@ impl Queue {
         })
     }
 
-    /// Offers a job to all workers. A push past the capacity would be left out. There is none: the capacity is twice
-    /// the number of jobs, and a worker opens a job at most once, and offers it again at most once.
-    pub fn push(&mut self, job: JobId) {
+    /// Offers a job to all workers, by the worker of that seat, which has no piece left to open: whoever finds the job can
+    /// begin its pieces. A push past the capacity would be left out. There is none: the capacity is twice the number of
+    /// jobs, and a worker opens a job at most once, and offers it again at most once.
+    pub fn offer<B: Board>(&mut self, _seat: &B::Seat, job: JobId)
+        requires opened { MayOpenNone (B.know _seat.now) }
+    {
         if self.pushes < self.capacity {
             let pushed = self.own.push_as::<Free>(job);
             self.pushes += 1;

@@ -10,6 +10,7 @@ use crate::followers::Followers;
 use crate::place::Place;
 use crossbeam_utils::atomic::AtomicCell;
 use frame_core::Plan;
+use idle_workers::IdleWorkers;
 use job_base::NoMemory;
 use std::alloc::Global;
 
@@ -17,9 +18,9 @@ use std::alloc::Global;
 /// run takes no memory beside it.
 #[derive(Drop)]
 pub struct PoolRoom<T> {
-    pub first: Place<T>,
-    pub others: Vec<Place<T>>,
-    pub shared: Shared,
+    pub(crate) first: Place<T>,
+    pub(crate) others: Vec<Place<T>>,
+    pub(crate) shared: Shared,
 }
 
 impl<T: Drop> PoolRoom<T> {
@@ -32,7 +33,7 @@ impl<T: Drop> PoolRoom<T> {
     {
         let followers = Followers::of_plan(alloc, plan)?;
         let claims = Claims::of_plan(alloc, plan)?;
-        let capacity = plan.jobs.len().saturating_mul(2);
+        let capacity = 2 * plan.jobs.len();
         let mut rest = seats;
         let first = Place::new(alloc, 0, rest.remove(0), capacity)?;
         let mut thieves = Vec::with_capacity(alloc, rest.len() + 1)?;
@@ -50,6 +51,8 @@ impl<T: Drop> PoolRoom<T> {
                 followers,
                 claims,
                 thieves,
+                idle: IdleWorkers::new(),
+                awaited: AtomicCell::new(0),
                 over: AtomicCell::new(false),
             },
         })

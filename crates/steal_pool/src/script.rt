@@ -1,27 +1,26 @@
 // The script thread: the segments one after another.
-ghost use Rattle.std.specs.Prelude.{◌≡◌, ◌<◌, ◌≤◌, ◌+◌, ◌^◌, None, IfSome, ℕ, List, length};
-ghost use Rattle.frame_ast.specs.States.{JobTrap};
+ghost use Rattle.std.specs.Prelude.{◌≡◌, ◌<◌, ◌≤◌, ◌+◌, ◌^◌, None, IfSome, ℕ, length};
 ghost use Rattle.frame_print.specs.Reports.{IsReportOf};
 ghost use Rattle.frame_core.specs.Know.{due_once};
 ghost use Rattle.frame_core.specs.Output.{plan_lines, plan_traps, segment_lines, segment_refused};
 ghost use Rattle.frame_core.specs.Ordered.{IsWellOrderedPlan};
-ghost use Rattle.steal_pool.specs.Followers.{IsJobOf};
+ghost use Rattle.plan_run.specs.Runs.{RunsBetween};
+ghost use Rattle.plan_run.specs.Says.{SaysTo};
+ghost use Rattle.plan_run.specs.ScriptOrder.{IsJobOf};
 ghost use Rattle.steal_pool.specs.Crews.{IsCrewOf};
-ghost use Rattle.steal_pool.specs.Runs.{RunsTo, is_fault, report_of};
-ghost use Rattle.steal_pool.specs.Says.{SaysTo};
 ghost use Rattle.steal_pool.specs.Seats.{IsIdle, IsOn, IsAt, MayOpenNone};
 
 use crate::crew::Crew;
 use crate::held::{Counted, hold_segment};
+use crate::idling::leave_search;
 use crate::pieces::release_job;
 use crate::place::Tools;
 use crate::queue::Queue;
-use crate::run_end::RunEnd;
-use crate::tally::no_traps;
 use crate::waiting::{begin_opened, wait_all};
 use frame_core::{Board, Plan};
-use frame_print::Report;
+use frame_print::Outgoing;
 use job_base::{Gate, JobId, PieceId, Sink};
+use plan_run::{RunEnd, no_traps, with_refused};
 use std::sync::Wait;
 
 // Releases the job that a segment starts.
@@ -54,6 +53,7 @@ fn run_next<R: Wait, B: Board, S: Sink, G: Gate>(
     crew: &Crew<R, B, G>,
     tools: &mut Tools,
     seat: B::Seat,
+    out: &mut Outgoing,
     sink: &mut S,
     failed: &mut bool,
     refused: &mut u64,
@@ -66,7 +66,8 @@ fn run_next<R: Wait, B: Board, S: Sink, G: Gate>(
     requires few { refused.old + segment_refused crew.now.plan.now i < 2 ^ 64 }
     ensures home { B.home result.seat ≡ B.home seat }
     ensures at { IsAt (i + 1) (B.know result.seat) }
-    ensures text { SaysTo S.taken S.faults sink.old sink.new failed.old failed.new (segment_lines crew.now.plan.now i) }
+    ensures text { SaysTo S.taken S.faults sink.old out.old failed.old sink.new out.new failed.new
+        (segment_lines crew.now.plan.now i) }
     ensures later { S.faults sink.old ≤ S.faults sink.new }
     ensures refused { refused.new ≡ refused.old + segment_refused crew.now.plan.now i }
     ensures traps { i + 1 ≡ length crew.now.plan.now.segments.items
@@ -76,17 +77,18 @@ fn run_next<R: Wait, B: Board, S: Sink, G: Gate>(
     let board = crew.board;
     let segment = &plan.segments[i as usize];
     let piece = PieceId(plan.job_pieces() + i);
-    let mut own = wait_all(crew, tools, seat, &segment.waits);
+    let mut own = wait_all(crew, tools, seat, &segment.waits, out, sink, failed);
     board.open_piece(&mut own, piece);
     let own = begin_opened(crew.rt, board, own, piece);
     crew.gate.enter(tools.number, piece);
     let Counted {
         seat: mut own,
         traps,
-    } = hold_segment(plan, board, own, i, sink, failed, refused);
+    } = hold_segment(plan, board, own, i, out, sink, failed, refused);
     crew.gate.leave(tools.number, piece);
     board.end(&mut own);
     start_job(plan, board, &mut own, &mut tools.queue, segment.starts);
+    leave_search(crew.shared, tools);
     Counted { seat: own, traps }
 }
 
@@ -96,25 +98,12 @@ pub struct Scripted<S> {
     pub end: RunEnd,
 }
 
-// How a run ended that met these traps, and refused so many statements.
-fn end_of(failed: bool, traps: &Report, refused: u64) -> RunEnd
-    ensures fault { is_fault result ≡ failed }
-    ensures traps { (ts : List JobTrap) → IsReportOf ts traps.now → IsReportOf ts (report_of result) }
-    ensures refused { (report_of result).refused ≡ refused }
-{
-    let report = Report { refused, ..*traps };
-    if failed {
-        RunEnd::WriteFault(report)
-    } else {
-        RunEnd::Done(report)
-    }
-}
-
-/// Runs all segments in order, and writes their lines.
+/// Runs all segments in order, and says their lines.
 pub fn run_script<R: Wait, B: Board, S: Sink, G: Gate>(
     crew: &Crew<R, B, G>,
     tools: &mut Tools,
     seat: B::Seat,
+    out: &mut Outgoing,
     sink: &mut S,
 ) -> Scripted<B::Seat>
     requires crew { IsCrewOf crew.now.plan.now (B.plan crew.now.board.now) crew.now.shared.now }
@@ -122,8 +111,8 @@ pub fn run_script<R: Wait, B: Board, S: Sink, G: Gate>(
     requires at { IsAt 0 (B.know seat) }
     ensures home { B.home result.seat ≡ B.home seat }
     ensures at { IsAt (length crew.now.plan.now.segments.items) (B.know result.seat) }
-    ensures run { RunsTo S.taken S.faults crew.now.plan.now (plan_lines crew.now.plan.now)
-        sink.old sink.new result.end }
+    ensures run { RunsBetween S.taken S.faults crew.now.plan.now (plan_lines crew.now.plan.now)
+        sink.old out.old sink.new out.new result.end }
     ensures later { S.faults sink.old ≤ S.faults sink.new }
 {
     let mut own = seat;
@@ -135,6 +124,7 @@ pub fn run_script<R: Wait, B: Board, S: Sink, G: Gate>(
             crew,
             tools,
             own,
+            out,
             sink,
             &mut failed,
             &mut refused,
@@ -143,6 +133,8 @@ pub fn run_script<R: Wait, B: Board, S: Sink, G: Gate>(
         own = next;
         last = traps;
     }
-    let end = end_of(failed, &last, refused);
-    Scripted { seat: own, end }
+    Scripted {
+        seat: own,
+        end: RunEnd::of(failed, with_refused(&last, refused)),
+    }
 }

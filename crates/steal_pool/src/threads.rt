@@ -3,27 +3,26 @@ ghost use Rattle.std.specs.Prelude.{◌≡◌, ◌<◌, ◌≤◌, All, length};
 ghost use Rattle.std.specs.Thread.{IsSync};
 ghost use Rattle.job_base.specs.declared.limits.TheConstants.{MOST_WORKERS};
 ghost use Rattle.frame_core.specs.Output.{plan_lines};
+ghost use Rattle.plan_run.specs.Runs.{RunsBetween};
 ghost use Rattle.steal_pool.specs.Crews.{IsCrewOf};
-ghost use Rattle.steal_pool.specs.Runs.{RunsTo};
 ghost use Rattle.steal_pool.specs.Seats.{IsReady, IsFirst};
 
 use crate::crew::{Crew, Shared};
+use crate::idling::{end_workers, leave_search, pause};
 use crate::pieces::{Ran, help};
 use crate::place::Place;
-use crate::run_end::RunEnd;
 use crate::script::{Scripted, run_script};
 use crate::shown_plan::ShowsPlan;
 use crossbeam_utils::Backoff;
 use frame_core::{Board, Plan};
+use frame_print::Outgoing;
 use job_base::{Gate, Sink};
+use plan_run::RunEnd;
 use std::sync::Wait;
 use std::thread;
 use std::thread::{Threads, join_mut};
 
-/// How many turns without a piece, one after another, end a worker.
-const IDLE_TURNS: u32 = 65_536;
-
-// One worker, until it finds no piece for a while, or finds none once the script is through.
+// One worker, until it finds no piece once the script is through.
 fn work<R: Wait, B: Board, G: Gate>(
     rt: &R,
     plan: &Plan,
@@ -49,21 +48,18 @@ where
     };
     let backoff = Backoff::new();
     let mut own = seat;
-    let mut turns = 0u32;
     for _ in rt.forever() {
         let Ran { seat: next, ran } = help(&crew, &mut place.tools, own);
         own = next;
         if ran {
-            turns = 0;
             backoff.reset();
+        } else if shared.over.load() {
+            break;
         } else {
-            turns += 1;
-            if turns >= IDLE_TURNS || shared.over.load() {
-                break;
-            }
-            backoff.snooze();
+            pause(rt, shared, &mut place.tools, &backoff);
         }
     }
+    leave_search(shared, &mut place.tools);
     place.seat = Some(own);
 }
 
@@ -75,6 +71,7 @@ fn run_script_on<R: Wait, B: Board, S: Sink, G: Gate>(
     gate: &G,
     shared: &Shared,
     place: &mut Place<B::Seat>,
+    out: &mut Outgoing,
     sink: &mut S,
 ) -> RunEnd
 where
@@ -82,7 +79,8 @@ where
     requires crew { IsCrewOf plan.now (B.plan board.now) shared.now }
     requires first { IsFirst B.home B.know (B.name board.now) 0 place.old }
     ensures first { IsFirst B.home B.know (B.name board.now) (length plan.now.segments.items) place.new }
-    ensures run { RunsTo S.taken S.faults plan.now (plan_lines plan.now) sink.old sink.new result }
+    ensures run { RunsBetween S.taken S.faults plan.now (plan_lines plan.now)
+        sink.old out.old sink.new out.new result }
     ensures later { S.faults sink.old ≤ S.faults sink.new }
 {
     let crew = Crew {
@@ -95,9 +93,9 @@ where
     let Some(seat) = place.seat.take() else {
         unreachable!()
     };
-    let Scripted { seat: own, end } = run_script(&crew, &mut place.tools, seat, sink);
+    let Scripted { seat: own, end } = run_script(&crew, &mut place.tools, seat, out, sink);
     place.seat = Some(own);
-    shared.over.store(true);
+    end_workers(shared);
     end
 }
 
@@ -147,6 +145,7 @@ pub(crate) fn run_places<
     board: &'x B,
     gate: &'x G,
     shared: &'x Shared,
+    out: &mut Outgoing,
     sink: &mut S,
     first: &mut Place<B::Seat>,
     others: &mut [Place<B::Seat>],
@@ -158,12 +157,13 @@ where
     requires others { All (IsReady B.home B.know (B.name board.now)) others.old }
     requires many { length others.old < MOST_WORKERS }
     ensures first { IsFirst B.home B.know (B.name board.now) (length (P.shown plan.now).segments.items) first.new }
-    ensures run { RunsTo S.taken S.faults (P.shown plan.now) (plan_lines (P.shown plan.now)) sink.old sink.new result }
+    ensures run { RunsBetween S.taken S.faults (P.shown plan.now) (plan_lines (P.shown plan.now))
+        sink.old out.old sink.new out.new result }
     ensures later { S.faults sink.old ≤ S.faults sink.new }
 {
     let busy = others.len().min(plan.plan().job_pieces() as usize);
     if busy == 0 {
-        return run_script_on(rt, plan.plan(), board, gate, shared, first, sink);
+        return run_script_on(rt, plan.plan(), board, gate, shared, first, out, sink);
     }
     let workers = &mut others[..busy];
     let mut f = ||
@@ -177,10 +177,10 @@ where
             × IsFirst B.home B.know (B.name board.now) 0 first.now }
         ensures first { IsFirst B.home B.know (B.name board.entry.now)
             (length (P.shown plan.entry.now).segments.items) first.exit.now }
-        ensures run { RunsTo S.taken S.faults (P.shown plan.entry.now) (plan_lines (P.shown plan.entry.now))
-            sink.entry.now sink.exit.now result }
+        ensures run { RunsBetween S.taken S.faults (P.shown plan.entry.now) (plan_lines (P.shown plan.entry.now))
+            sink.entry.now out.entry.now sink.exit.now out.exit.now result }
         ensures later { S.faults sink.entry.now ≤ S.faults sink.exit.now }
-    { run_script_on(rt, plan.plan(), board, gate, shared, first, sink) };
+    { run_script_on(rt, plan.plan(), board, gate, shared, first, out, sink) };
     let (_, end) = join_mut(rt, &mut f, &mut g);
     end
 }

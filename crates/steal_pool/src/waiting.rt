@@ -1,23 +1,27 @@
 // Waiting for others: the script thread helps meanwhile.
-ghost use Rattle.std.specs.Prelude.{◌≡◌, ◌<◌, ℕ, true, All};
+ghost use Rattle.std.specs.Prelude.{◌≡◌, ◌<◌, ◌≤◌, ℕ, [], true, All};
 ghost use Rattle.frame_core.specs.Names.{has_job};
 ghost use Rattle.frame_core.specs.Pieces.{piece_numbered};
 ghost use Rattle.frame_core.specs.Know.{IsFree, MayBegin, begun, piece_count};
 ghost use Rattle.frame_core.specs.Ordered.{IsWellOrderedPlan};
-ghost use Rattle.steal_pool.specs.Followers.{IsJobOf};
+ghost use Rattle.plan_run.specs.Says.{SaysTo};
+ghost use Rattle.plan_run.specs.ScriptOrder.{IsJobOf};
 ghost use Rattle.steal_pool.specs.Crews.{IsCrewOf};
 ghost use Rattle.steal_pool.specs.Seats.{IsIdle, IsOn};
 
 use crate::crew::Crew;
+use crate::idling::{leave_search, pause_for};
 use crate::pieces::{Ran, help};
 use crate::place::Tools;
 use crossbeam_utils::Backoff;
 use frame_core::Board;
-use job_base::{Gate, JobId, PieceId};
+use frame_print::Outgoing;
+use job_base::{Gate, JobId, PieceId, Sink};
+use plan_run::flush_lines;
 use std::sync::Wait;
 
 // Helps until a job is finished. The script thread never gives up: it may be the only one.
-fn wait_one<R: Wait, B: Board, G: Gate>(
+fn help_until<R: Wait, B: Board, G: Gate>(
     crew: &Crew<R, B, G>,
     tools: &mut Tools,
     seat: B::Seat,
@@ -36,6 +40,7 @@ fn wait_one<R: Wait, B: Board, G: Gate>(
     let mut own = seat;
     for _ in crew.rt.forever() {
         if crew.board.finished(&mut own, job) {
+            leave_search(crew.shared, tools);
             return own;
         }
         let Ran { seat: next, ran } = help(crew, tools, own);
@@ -43,18 +48,50 @@ fn wait_one<R: Wait, B: Board, G: Gate>(
         if ran {
             backoff.reset();
         } else {
-            backoff.snooze();
+            own = pause_for(crew, tools, own, job, &backoff);
         }
     }
     unreachable!()
 }
 
-/// Helps until jobs are finished.
-pub fn wait_all<R: Wait, B: Board, G: Gate>(
+// Waits for a job. Where it isn't finished the lines that wait are written first: they are to be seen meanwhile.
+fn wait_one<R: Wait, B: Board, S: Sink, G: Gate>(
+    crew: &Crew<R, B, G>,
+    tools: &mut Tools,
+    seat: B::Seat,
+    job: JobId,
+    out: &mut Outgoing,
+    sink: &mut S,
+    failed: &mut bool,
+) -> B::Seat
+    requires crew { IsCrewOf crew.now.plan.now (B.plan crew.now.board.now) crew.now.shared.now }
+    requires home { B.home seat ≡ B.name crew.now.board.now }
+    requires idle { IsIdle (B.know seat) }
+    requires job { IsJobOf crew.now.plan.now job }
+    ensures home { B.home result ≡ B.home seat }
+    ensures idle { IsIdle (B.know result) }
+    ensures on { IsOn (B.know seat) (B.know result) }
+    ensures seen { (B.know result).seen job.0 ≡ true }
+    ensures text { SaysTo S.taken S.faults sink.old out.old failed.old sink.new out.new failed.new [] }
+    ensures later { S.faults sink.old ≤ S.faults sink.new }
+{
+    let mut own = seat;
+    if !crew.board.finished(&mut own, job) {
+        flush_lines(out, sink, failed);
+        own = help_until(crew, tools, own, job);
+    }
+    own
+}
+
+/// Waits until jobs are finished. It says nothing, and writes what was said before.
+pub fn wait_all<R: Wait, B: Board, S: Sink, G: Gate>(
     crew: &Crew<R, B, G>,
     tools: &mut Tools,
     seat: B::Seat,
     waits: &[JobId],
+    out: &mut Outgoing,
+    sink: &mut S,
+    failed: &mut bool,
 ) -> B::Seat
     requires crew { IsCrewOf crew.now.plan.now (B.plan crew.now.board.now) crew.now.shared.now }
     requires home { B.home seat ≡ B.name crew.now.board.now }
@@ -64,11 +101,13 @@ pub fn wait_all<R: Wait, B: Board, G: Gate>(
     ensures idle { IsIdle (B.know result) }
     ensures on { IsOn (B.know seat) (B.know result) }
     ensures seen { (j : ℕ) → has_job waits.now j ≡ true → (B.know result).seen j ≡ true }
+    ensures text { SaysTo S.taken S.faults sink.old out.old failed.old sink.new out.new failed.new [] }
+    ensures later { S.faults sink.old ≤ S.faults sink.new }
 {
     let mut own = seat;
     let mut rest = waits;
     while let Some((job, tail)) = rest.split_first() {
-        own = wait_one(crew, tools, own, *job);
+        own = wait_one(crew, tools, own, *job, out, sink, failed);
         rest = tail;
     }
     own

@@ -1,4 +1,4 @@
-use Rattle.steal_pool.proofs.Segments.{may_read_as, may_write_as}
+use Rattle.plan_run.proofs.Segments.{may_read_as, may_write_as}
 use Rattle.steal_pool.proofs.held.run_segment_on.Goals as goal
 
 pub run_segment-traps-requires-clause-readable : goal.run_segment-traps-requires-clause-readable

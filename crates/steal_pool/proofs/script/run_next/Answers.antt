@@ -1,4 +1,7 @@
-use Rattle.std.proofs.Common.{◌+◌, ap, ℕ}
+use Rattle.std.proofs.Common.{[], ◌+◌, ap, ℕ}
+use Rattle.frame_core.specs.Output.{segment_lines}
+use Rattle.plan_run.specs.Says.{said_to}
+use Rattle.plan_run.proofs.Saying.{says_after}
 use Rattle.steal_pool.proofs.Turns.{waits_are, starts_are, may_open_it, cells_here, segment_done, segment_owed, segment_dues, segment_rights, segment_at_next}
 use Rattle.steal_pool.proofs.script.run_next.Goals as goal
 
@@ -46,3 +49,8 @@ returns-clause-at g c =
     segment_at_next c.args.crew.now.plan.now c.requires.crew.well c.args.i c.requires.index c.index-segment.result.now c.index-segment.ensures (g.B.Board.plan c.args.crew.now.board.now) c.requires.crew.plan_is (c.job_pieces.result + c.args.i) (ap (λ (n : ℕ). n + c.args.i) c.job_pieces.ensures)
     (g.B.Board.know c.wait_all-own.result) (g.B.Board.know c.open_piece.new.seat) c.open_piece.ensures.know (g.B.Board.know c.begin_opened-own.result) c.begin_opened-own.ensures.know (g.B.Board.know c.hold_segment-own.result.seat) c.hold_segment-own.ensures.still
     (g.B.Board.know c.end.new.seat) c.end.ensures.know (g.B.Board.know c.args.seat) (g.B.Board.know c.start_job.new.seat) c.requires.at c.wait_all-own.ensures.on c.start_job.ensures.idle c.start_job.ensures.on
+
+pub returns-clause-text : goal.returns-clause-text
+returns-clause-text g c =
+    says_after (said_to g.S.Sink.taken g.S.Sink.faults c.args.sink.now c.args.out.now c.args.failed.now) (said_to g.S.Sink.taken g.S.Sink.faults c.wait_all-own.new.sink c.wait_all-own.new.out c.wait_all-own.new.failed)
+    (said_to g.S.Sink.taken g.S.Sink.faults c.hold_segment-own.new.sink c.hold_segment-own.new.out c.hold_segment-own.new.failed) [] (segment_lines c.args.crew.now.plan.now c.args.i) c.wait_all-own.ensures.text c.hold_segment-own.ensures.text

@@ -1,5 +1,8 @@
-use Rattle.std.proofs.Common.{◌≡◌, ◌<◌, ◌∙◌, arith, rules, length}
-use Rattle.steal_pool.proofs.Running.{lines_next, refused_next, refused_few, run_end}
+use Rattle.std.proofs.Common.{◌≡◌, ◌<◌, ◌∙◌, arith, rules, length, false, sym, subst}
+use Rattle.frame_core.specs.Output.{plan_lines}
+use Rattle.plan_run.specs.Runs.{IsReport}
+use Rattle.plan_run.specs.Says.{SaysTo, said_to}
+use Rattle.plan_run.proofs.Running.{lines_next, refused_next, refused_few, all_lines, all_reported}
 use Rattle.steal_pool.proofs.script.run_script.Goals as goal
 
 pub run_next-next-requires-clause-few : goal.run_next-next-requires-clause-few
@@ -9,7 +12,8 @@ pub loop-i-preserved : goal.loop-i-preserved
 loop-i-preserved g c = let i = c.run_next-next.ensures in let v = c.loop-i.invariant in record {
   home = i.home ∙ v.home;
   at = i.at;
-  says = lines_next c.args.crew.now.plan.now (g.S.Sink.taken c.args.sink.now) (g.S.Sink.taken c.loop-i.sink) (g.S.Sink.taken c.run_next-next.new.sink) (g.S.Sink.faults c.args.sink.now) (g.S.Sink.faults c.loop-i.sink) (g.S.Sink.faults c.run_next-next.new.sink) c.loop-i.failed c.run_next-next.new.failed c.loop-i.i v.says i.text;
+  says = lines_next c.args.crew.now.plan.now (said_to g.S.Sink.taken g.S.Sink.faults c.args.sink.now c.args.out.now false) (said_to g.S.Sink.taken g.S.Sink.faults c.loop-i.sink c.loop-i.out c.loop-i.failed)
+      (said_to g.S.Sink.taken g.S.Sink.faults c.run_next-next.new.sink c.run_next-next.new.out c.run_next-next.new.failed) c.loop-i.i v.says i.text;
   later = let a = v.later in let b = i.later in omega (arith, a, b);
   refused = refused_next c.args.crew.now.plan.now c.loop-i.i c.loop-i.refused c.run_next-next.new.refused v.refused i.refused;
   traps = λ p e. i.traps e;
@@ -24,4 +28,9 @@ returns-clause-run g c =
     let last = c.requires.crew.well.order.last_is in
     let at : c.loop-i.i ≡ length c.args.crew.now.plan.now.segments.items = omega (arith, n, t, u) in
     let pos : 0 < c.loop-i.i = omega (arith, at, last) in
-    run_end c.args.crew.now.plan.now (g.S.Sink.taken c.args.sink.now) (g.S.Sink.taken c.loop-i.sink) (g.S.Sink.faults c.args.sink.now) (g.S.Sink.faults c.loop-i.sink) c.loop-i.failed c.loop-i.i c.loop-i.refused c.end_of-end.result at v.says c.end_of-end.ensures.fault v.refused c.end_of-end.ensures.refused (c.end_of-end.ensures.traps _ (v.traps pos at))
+    let from = said_to g.S.Sink.taken g.S.Sink.faults c.args.sink.now c.args.out.now false in
+    let to = said_to g.S.Sink.taken g.S.Sink.faults c.loop-i.sink c.loop-i.out c.loop-i.failed in (
+      subst (λ b. SaysTo g.S.Sink.taken g.S.Sink.faults c.args.sink.now c.args.out.now false c.loop-i.sink c.loop-i.out b (plan_lines c.args.crew.now.plan.now)) (sym c.of-end.ensures.fault) (all_lines c.args.crew.now.plan.now from to c.loop-i.i at v.says),
+      subst (λ r. IsReport c.args.crew.now.plan.now r) (sym c.of-end.ensures.report)
+          (all_reported c.args.crew.now.plan.now c.loop-i.i c.loop-i.refused c.with_refused.result at v.refused c.with_refused.ensures.refused (c.with_refused.ensures.traps _ (v.traps pos at))),
+    )

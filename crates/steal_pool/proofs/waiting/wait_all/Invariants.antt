@@ -1,5 +1,6 @@
-use Rattle.std.proofs.Common.{◌≡◌, All, length}
-use Rattle.steal_pool.specs.Followers.{IsJobOf}
+use Rattle.std.proofs.Common.{◌≡◌, ◌≤◌, [], All, length}
+use Rattle.plan_run.specs.Says.{SaysTo}
+use Rattle.plan_run.specs.ScriptOrder.{IsJobOf}
 use Rattle.steal_pool.specs.Seats.{IsIdle, IsOn}
 use Rattle.steal_pool.proofs.Seating.{Waits}
 use Rattle.steal_pool.proofs.waiting.wait_all.Given as goal
@@ -11,6 +12,8 @@ invariant-loop-job g l = record {
   on : IsOn (g.B.Board.know l.fn.seat) (g.B.Board.know l.own);
   jobs : All (IsJobOf l.crew.plan.now) l.rest;
   waits : Waits l.waits l.rest (g.B.Board.know l.own).seen;
+  says : SaysTo g.S.Sink.taken g.S.Sink.faults l.fn.sink l.fn.out l.fn.failed l.sink l.out l.failed [];
+  later : g.S.Sink.faults l.fn.sink ≤ g.S.Sink.faults l.sink;
 }
 
 abbrev pub decreases-loop-job : goal.decreases-loop-job

@@ -1,6 +1,6 @@
 use Rattle.std.proofs.Common.{◌≡◌, length, arith, rules, refl}
 use Rattle.frame_core.specs.Names.{pieces_of}
-use Rattle.steal_pool.specs.Followers.{IsJobOf}
+use Rattle.plan_run.specs.ScriptOrder.{IsJobOf}
 use Rattle.steal_pool.proofs.Opening.{cut_is, end_within}
 use Rattle.steal_pool.proofs.Claiming.{of_job, piece, own, spent}
 use Rattle.steal_pool.proofs.claims.Claims.next.Goals as goal
