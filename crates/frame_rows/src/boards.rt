@@ -14,14 +14,16 @@ ghost use Rattle.frame_rows.specs.Between.{AreCellsOf};
 use crate::section::section_of;
 use crate::texts::TOTAL;
 use frame_core::{Board, Plan};
+use frame_print::Outgoing;
 use job_base::limits::MOST_WORKERS;
 use job_base::{FlatMem, Mem, MemSink, OpenGate, PieceId, Word};
+use plan_run::RunEnd;
 use std::alloc::Global;
 use std::sync::Wait;
 use std::test::Fail;
 use std::thread::{Threads, join_mut};
 use steal_pool::laws::rooms_are_ready;
-use steal_pool::{PoolRoom, RunEnd, ShowsPlan, run_lines};
+use steal_pool::{PoolRoom, ShowsPlan, run_lines};
 use word_board::{WordBoard, WordSeat};
 
 // Whether a seat can begin one of the first pieces of a board.
@@ -106,11 +108,13 @@ fn run_shown<R: Threads + Wait + Sync, P: ShowsPlan + Sync>(
         return Err(Fail::new("no such number of workers"));
     }
     let mut left = FlatMem::new(alloc, plan.plan().words)?;
+    let mut out = Outgoing::new(alloc)?;
     let (board, seats) = WordBoard::make(alloc, plan.plan(), workers)?;
     let mut room = PoolRoom::make(alloc, plan.plan(), seats)?;
     rooms_are_ready::<WordBoard>();
-    let end = run_lines(rt, plan, &board, &mut room, sink, &OpenGate);
+    let end = run_lines(rt, plan, &board, &mut room, &mut out, sink, &OpenGate);
     board.close(room.into_first(), &mut left);
+    out.flush(sink)?;
     match end {
         RunEnd::Done(_) => Ok(left),
         RunEnd::WriteFault(_) => Err(Fail::new("a write failed")),

@@ -2,6 +2,7 @@
 
 use crate::section::section_of;
 use crate::texts::{BUMPS, TOTAL};
+use frame_print::Outgoing;
 use job_base::MemSink;
 use job_base::limits::MOST_WORKERS;
 use job_depth::{depth, print_depth};
@@ -16,7 +17,8 @@ fn report_of(alloc: Global, lines: &str, workers: u32) -> Result<MemSink, Fail> 
     let section = section_of(alloc, lines)?;
     let report = depth(alloc, &section.plan, workers)?;
     let mut sink = MemSink::new(alloc, 200, 200, Vec::new(alloc))?;
-    print_depth(&report, &mut sink)?;
+    let mut out = Outgoing::new(alloc)?;
+    print_depth(&report, &mut out, &mut sink)?;
     Ok(sink)
 }
 

@@ -1,5 +1,5 @@
 -- What a script and its table answer.
-use Rattle.std.proofs.Common.{◌≡◌, ◌⊎◌, ⊎_elim, refl, sym, ap, ◌∙◌, subst, ℕ, zero, suc, ◌-◌, ◌<◌, ◌≤◌, Bool, true, false, List, [], ◌∷◌, length, get_or, Option, None, Some, option_map, arith}
+use Rattle.std.proofs.Common.{◌≡◌, ◌⊎◌, ⊎_elim, refl, sym, ap, ◌∙◌, subst, ℕ, zero, suc, ◌-◌, ◌<◌, ◌≤◌, Bool, true, false, List, [], ◌∷◌, ◌++◌, length, take, get_or, Option, None, Some, option_map, arith}
 use Rattle.std.specs.Prelude.{slice_get, if◌then◌else◌, ◌||◌}
 use Rattle.std.specs.Io.KnownBytes.{Appends}
 use Rattle.std.specs.List.{list_any}
@@ -11,6 +11,7 @@ use Rattle.frame_ast.specs.Limits.{Limit, limit_of}
 use Rattle.frame_ast.specs.Lists.{first_some}
 use Rattle.frame_ast.specs.Orders.{Table, setting}
 use Rattle.frame_ast.specs.Scripts.{status_of, output_of}
+use Rattle.job_base.proofs.Parts.{appends_none}
 use Rattle.frame_plan.specs.declared.state.PlanFault.{PlanFault}
 use Rattle.frame_plan.specs.declared.state.PlanFault.TheVariants.{NoMemory}
 use Rattle.frame_plan.specs.Missing.{lacks_column, missing_from}
@@ -23,7 +24,6 @@ use Rattle.frame_ast.specs.declared.kernel.FaultKind.TheVariants.{Limit as Limit
 use Rattle.frame_top.specs.Answers.{SaidTo, AnswersTo, Answers, Caused, Early, Midway, FrameCause, Refused, Ran, Reported, IsCut, has_when}
 use Rattle.frame_top.specs.Refusals.{Answer, answer, column_name, column_refusal, depth_refusal, limit_refusal, frame_refusal, first_when}
 use Rattle.frame_top.specs.declared.status.TheConstants.{DONE, NO_MEMORY, PAST_LIMIT, SCRIPT_REFUSED, TABLE_REFUSED}
-use Rattle.frame_top.proofs.Saying.{appends_none}
 
 -- THE FIRST OF THREE
 
@@ -193,3 +193,11 @@ column_answers taken faults script table depth workers k it name old new result 
     let m = at_missing table k script.statements.items e in
     let same : it ≡ m.0 = at ∙ got script.statements.items k m.0 it m.1 in
     Caused _ (Refused (column_refuses script table depth _ m.2)) (subst (λ n. SaidTo taken faults old new (answer TABLE_REFUSED (no_column_line n)) result) (named ∙ ap (λ (x : Statement). column_name x.act) same) said)
+
+-- NOTHING WAITED before a text
+
+pub none_waited : (old new : Option (List ℕ)) (waited text : List ℕ) → waited ≡ [] → Appends old new (waited ++ text) → Appends old new text
+none_waited old new waited text none app = subst (λ w. Appends old new (w ++ text)) none app
+
+pub none_cut : (old new : Option (List ℕ)) (waited text : List ℕ) → waited ≡ [] → (n : ℕ) × Appends old new (take n (waited ++ text)) → (n : ℕ) × Appends old new (take n text)
+none_cut old new waited text none cut = (cut.0, subst (λ w. Appends old new (take cut.0 (w ++ text))) none cut.1)

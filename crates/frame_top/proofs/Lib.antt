@@ -4,6 +4,7 @@ mod Framing
 mod Growing
 mod Lines
 mod Looping
+mod OnCells
 mod Rooms
 mod Clauses
 mod Saying

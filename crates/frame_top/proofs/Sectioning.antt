@@ -19,8 +19,8 @@ use Rattle.frame_core.specs.Graphs.{cells_after}
 use Rattle.frame_core.specs.Output.{plan_lines, plan_traps}
 use Rattle.frame_print.specs.declared.report.Report.{Report}
 use Rattle.frame_print.specs.Reports.{IsReportOf}
-use Rattle.steal_pool.specs.Runs.{IsReport}
-use Rattle.steal_pool.specs.Says.{SaysTo}
+use Rattle.plan_run.specs.Runs.{IsReport}
+use Rattle.plan_run.specs.Says.{SaysTo}
 use Rattle.steal_pool.specs.Sections.{shifted, ReportsAreWithin}
 use Rattle.plan_laws.specs.Planned.{renumbered}
 use Rattle.frame_plan.specs.declared.section.Section.{Section}
@@ -228,8 +228,8 @@ runs_on script table sections from book section next test e tests p left cells s
     }
 
 -- what one section more comes to, whether a test follows or not
-module _ {S : Type 0} (taken : S → Option (List ℕ)) (faults : S → ℕ) (script : Script) (table : Table) (sections from : ℕ) (old_book book : SectionBook) (p : Progress) (section : Section) (keeps : Bool) (old new : S) (r : SectionRun) (joined : Report)
-    (law : ReportsAreWithin) (was : HasRun script table sections from old_book p) (next : IsNext book script table from section) (run : HasRunPlan taken faults section.plan keeps p.failed old new r)
+module _ {S : Type 0} (taken : S → Option (List ℕ)) (faults : S → ℕ) (script : Script) (table : Table) (sections from : ℕ) (old_book book : SectionBook) (p : Progress) (section : Section) (keeps : Bool) (old new : S) (waits : List ℕ) (r : SectionRun) (joined : Report)
+    (law : ReportsAreWithin) (was : HasRun script table sections from old_book p) (next : IsNext book script table from section) (run : HasRunPlan taken faults section.plan keeps old p.out p.failed new waits r)
     (traps : (a b : List JobTrap) → IsReportOf a p.report → IsReportOf b r.report → IsReportOf (a ++ shifted section.jobs_before b) joined)
     (refused : joined.refused ≡ p.report.refused + r.report.refused) where
   is : IsSectionOf script table from next.to section
@@ -242,24 +242,28 @@ module _ {S : Type 0} (taken : S → Option (List ℕ)) (faults : S → ℕ) (sc
   few = joined_few sections p.report r.report joined (state_at script table from).traps (plan_traps section.plan) section.jobs_before was.few (added_few script table from next.to section is r.report law run.report)
       was.report.traps run.report.traps (traps (state_at script table from).traps (plan_traps section.plan) was.report.traps run.report.traps) refused
 
-  pub section_last : (q : Progress) → q.failed ≡ r.failed → q.report ≡ joined → section.test ≡ None → RunsOn taken faults script table sections from old new p.failed book q false
-  section_last q failed report none = record {
+  said_as : (q : Progress) → q.out ≡ waits → q.failed ≡ r.failed → SaysTo taken faults old p.out p.failed new q.out q.failed (plan_lines section.plan)
+  said_as q out failed = subst (λ b. SaysTo taken faults old p.out p.failed new q.out b (plan_lines section.plan)) (sym failed)
+      (subst (λ w. SaysTo taken faults old p.out p.failed new w r.failed (plan_lines section.plan)) (sym out) run.lines)
+
+  pub section_last : (q : Progress) → q.out ≡ waits → q.failed ≡ r.failed → q.report ≡ joined → section.test ≡ None → RunsOn taken faults script table sections from old p new book q false
+  section_last q out failed report none = record {
     to = next.to;
     lines = plan_lines section.plan;
     lines_are = is.lines;
-    said = subst (λ b. SaysTo taken faults old new p.failed b (plan_lines section.plan)) (sym failed) run.lines;
+    said = said_as q out failed;
     report = subst (IsReportAt (state_at script table next.to)) (sym report) report_at;
     next = λ e. absurd cc;
     last = λ e. ends_last script table from next.to section is none;
   }
 
-  pub section_more : (q : Progress) (test : Test) → q.failed ≡ r.failed → q.report ≡ joined → section.test ≡ Some test → keeps ≡ true → q.cells ≡ r.left → q.names ≡ section.plan.names → q.kernels ≡ section.plan.kernels
-      → q.held ≡ Some (compares test.sign (cells_of r.left test.at.start) test.bound) → RunsOn taken faults script table sections from old new p.failed book q true
-  section_more q test failed report some kept cells names kernels held = record {
+  pub section_more : (q : Progress) (test : Test) → q.out ≡ waits → q.failed ≡ r.failed → q.report ≡ joined → section.test ≡ Some test → keeps ≡ true → q.cells ≡ r.left → q.names ≡ section.plan.names → q.kernels ≡ section.plan.kernels
+      → q.held ≡ Some (compares test.sign (cells_of r.left test.at.start) test.bound) → RunsOn taken faults script table sections from old p new book q true
+  section_more q test out failed report some kept cells names kernels held = record {
     to = next.to;
     lines = plan_lines section.plan;
     lines_are = is.lines;
-    said = subst (λ b. SaysTo taken faults old new p.failed b (plan_lines section.plan)) (sym failed) run.lines;
+    said = said_as q out failed;
     report = subst (IsReportAt (state_at script table next.to)) (sym report) report_at;
     next = λ e. runs_on script table sections from book section next test some was.tests q r.left (run.cells kept) cells held
         (subst (IsReportAt (state_at script table next.to)) (sym report) report_at) (subst (IsFew (suc sections)) (sym report) few) names kernels;

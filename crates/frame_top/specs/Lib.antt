@@ -1,4 +1,5 @@
 -- promises
+pub mod Statuses
 pub mod Words
 pub mod Inputs
 pub mod Refusals

@@ -1,5 +1,5 @@
 -- How far a frame has been run, section by section.
-use Rattle.std.specs.Prelude.{◌≡◌, ℕ, suc, ◌*◌, ◌≤◌, ◌^◌, Bool, true, false, List, ◌++◌, length, take, count_by, Option, IsSome}
+use Rattle.std.specs.Prelude.{◌≡◌, ℕ, suc, ◌*◌, ◌≤◌, ◌^◌, Bool, true, false, List, [], ◌++◌, length, take, count_by, Option, IsSome}
 use Rattle.job_base.specs.declared.limits.TheConstants.{MOST_INDEXES}
 use Rattle.frame_ast.specs.declared.script.Script.{Script}
 use Rattle.frame_ast.specs.Accepted.{is_when}
@@ -8,12 +8,13 @@ use Rattle.frame_ast.specs.States.{ScriptState}
 use Rattle.merge_laws.specs.Graph.{Cells}
 use Rattle.frame_print.specs.declared.report.Report.{Report}
 use Rattle.frame_print.specs.Reports.{IsReportOf}
-use Rattle.steal_pool.specs.Says.{SaysTo}
+use Rattle.plan_run.specs.Says.{SaysTo}
 use Rattle.frame_plan.specs.declared.sections.SectionBook.{SectionBook}
 use Rattle.frame_plan.specs.Names.{AreNamesOf}
 use Rattle.frame_plan.specs.Sections.{AreKernelsOf, IsAt, IsOutcome, AreLeft}
 use Rattle.frame_plan.specs.Steps.{state_at}
 use Rattle.frame_top.specs.declared.sections.Progress.{Progress}
+use Rattle.frame_top.specs.declared.status.TheConstants.{UNWRITTEN}
 
 -- The report of a frame that has come to this state: its traps and its refused statements are those of the state.
 pub record IsReportAt (s : ScriptState) (report : Report) : Type 0 where
@@ -47,12 +48,21 @@ pub record HasRun (script : Script) (table : Table) (sections from : ℕ) (book 
 
 -- One section more was run, up to another place, and its lines are said.
 pub record RunsOn {S : Type 0} (taken : S → Option (List ℕ)) (faults : S → ℕ) (script : Script) (table : Table)
-    (sections from : ℕ) (old new : S) (failed : Bool) (book : SectionBook) (p : Progress) (more : Bool) : Type 0 where
+    (sections from : ℕ) (old : S) (p : Progress) (new : S) (book : SectionBook) (q : Progress) (more : Bool)
+    : Type 0 where
   pub to : ℕ
   pub lines : List ℕ
   pub lines_are : (state_at script table to).lines ≡ (state_at script table from).lines ++ lines
-  pub said : SaysTo taken faults old new failed p.failed lines
-  pub report : IsReportAt (state_at script table to) p.report
+  pub said : SaysTo taken faults old p.out p.failed new q.out q.failed lines
+  pub report : IsReportAt (state_at script table to) q.report
   -- there is a next section, or this was the last one
-  pub next : more ≡ true → HasRun script table (suc sections) to book p
+  pub next : more ≡ true → HasRun script table (suc sections) to book q
   pub last : more ≡ false → to ≡ length script.statements.items
+
+-- A text was said after the lines so far, and none of them waits any more. The status is this one, unless a write failed.
+pub record Closes {S : Type 0} (taken : S → Option (List ℕ)) (faults : S → ℕ) (old : S) (p : Progress) (new : S)
+    (q : Progress) (text : List ℕ) (status result : ℕ) : Type 0 where
+  pub said : SaysTo taken faults old p.out p.failed new q.out q.failed text
+  pub none : q.failed ≡ false → q.out ≡ []
+  pub whole : q.failed ≡ false → result ≡ status
+  pub unwritten : q.failed ≡ true → result ≡ UNWRITTEN

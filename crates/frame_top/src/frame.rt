@@ -13,6 +13,7 @@ use crate::texts::{refuse_column, refuse_plan, refuse_script};
 use frame_ast::kernel::FaultKind;
 use frame_ast::script::{Order, Script};
 use frame_plan::{SectionBook, missing_column, plan};
+use frame_print::Outgoing;
 use job_base::{Gate, NoMemory, Sink};
 use job_depth::{depth, print_depth};
 use std::alloc::Global;
@@ -78,7 +79,10 @@ fn report_depth<S: Sink>(
     let Ok(depth) = depth(alloc, &plan, workers) else {
         return NO_MEMORY;
     };
-    match print_depth(&depth, sink) {
+    let Ok(mut out) = Outgoing::new(alloc) else {
+        return NO_MEMORY;
+    };
+    match print_depth(&depth, &mut out, sink) {
         Ok(()) => DONE,
         Err(_) => UNWRITTEN,
     }

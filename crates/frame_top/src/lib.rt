@@ -2,18 +2,24 @@
 //!
 //! `run_frame` reads the words, the script and the table, and refuses what isn't accepted, in the order in which the
 //! work is done (`specs/Refusals`). A script that is accepted is planned section by section: a section ends at a
-//! `when`, whose test is decided by what was computed before it. Each section is run by the workers of `steal_pool` on
-//! a `WordBoard` of its own, which takes no lock, and the lines of traps are written once, after the last one.
+//! `when`, whose test is decided by what was computed before it. A section with jobs is run by the workers of
+//! `steal_pool` on a `WordBoard` of its own, which takes no lock; one without jobs needs no more than plain cells and
+//! the caller's thread. The lines of all sections wait in one buffer, and those of traps come last.
 //!
-//! *Promise.* Each status comes with its cause and its text, and each cause with its status (`specs/Answers`). What a
-//! script writes is its meaning, `output_of`, whatever the number of workers and the cuts of its jobs.
+//! *Promise.* Each status comes with its cause and its text, and each cause with its status (`specs/Answers`), and the
+//! statuses are the numbers that are written down (`laws`). What a script writes is its meaning, `output_of`, whatever
+//! the number of workers and the cuts of its jobs.
 //!
-//! *Cost.* Beside the plan of a section its board, its deques and its scratch are made, each as large as the plan asks
-//! for, and its cells once more where a test follows.
+//! *Cost.* Beside the plan of a section with jobs its board, its deques and its scratch are made, each as large as the
+//! plan asks for, and its cells once more where a test follows. A section without jobs copies the cells that the last
+//! one left, once.
 #![tactic(auto)]
 
 mod frame;
 mod inputs;
+pub mod laws;
+mod on_board;
+mod on_cells;
 #[cfg(test)]
 mod rows;
 mod section;

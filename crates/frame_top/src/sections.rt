@@ -1,5 +1,5 @@
 // The run of a script, section after section.
-ghost use Rattle.std.specs.Prelude.{◌≡◌, ◌<◌, ◌≤◌, ℕ, [], length, OnErr, IfOk, false, true};
+ghost use Rattle.std.specs.Prelude.{◌≡◌, ◌<◌, ◌≤◌, ℕ, [], length, OnErr, IfOk, true};
 ghost use Rattle.job_base.specs.declared.limits.TheConstants.{MOST_TESTS, MOST_WORKERS};
 ghost use Rattle.job_base.specs.Cells.{cells_of};
 ghost use Rattle.frame_ast.specs.Accepted.{IsAccepted};
@@ -10,9 +10,9 @@ ghost use Rattle.frame_ast.specs.Texts.{traps_text};
 ghost use Rattle.merge_laws.specs.Graph.{Cells};
 ghost use Rattle.frame_plan.specs.Sections.{IsAt};
 ghost use Rattle.frame_plan.specs.Tables.{columns_of};
-ghost use Rattle.frame_top.specs.Answers.{AnswersTo, SaidTo, has_when};
+ghost use Rattle.frame_top.specs.Answers.{AnswersTo, has_when};
 ghost use Rattle.frame_top.specs.Refusals.{answer};
-ghost use Rattle.frame_top.specs.Running.{HasRun, IsReportAt, RunsOn};
+ghost use Rattle.frame_top.specs.Running.{Closes, HasRun, IsReportAt, RunsOn};
 ghost use Rattle.frame_top.specs.declared.status.TheConstants.{NO_MEMORY, UNWRITTEN};
 
 use crate::section::run_section;
@@ -20,9 +20,10 @@ use crate::status::{DONE, NO_MEMORY, STATEMENT_REFUSED, TRAPPED, UNWRITTEN};
 use frame_ast::kernel::Kernel;
 use frame_ast::script::{Script, Sign};
 use frame_plan::{Section, SectionBook, Test, names_of};
-use frame_print::{Report, print_traps};
+use frame_print::{Outgoing, Report};
 use job_base::limits::MOST_TESTS;
 use job_base::{FlatMem, Gate, JobId, Mem, NoMemory, Sink, Trap, Word};
+use plan_run::{flush_lines, say_traps};
 use std::alloc::Global;
 use std::mem;
 use std::sync::Wait;
@@ -45,6 +46,8 @@ pub struct Progress {
     pub spare: Vec<i64>,
     /// Of all sections so far.
     pub report: Report,
+    /// Their lines that wait before the sink takes them.
+    pub out: Outgoing,
     /// A write failed, and nothing was written since.
     pub failed: bool,
 }
@@ -113,10 +116,11 @@ fn run_next<R: Threads + Wait + Sync, S: Sink, G: Gate + Sync>(
         × HasRun script.now (columns_of table.now) sections from book.old progress.old }
     ensures next { (sections from : ℕ) → sections ≤ MOST_TESTS
         → HasRun script.now (columns_of table.now) sections from book.old progress.old
-        → IfOk result (RunsOn S.taken S.faults script.now (columns_of table.now) sections from sink.old sink.new
-        progress.old.failed book.new progress.new) }
-    ensures sink { OnErr result (sink.new ≡ sink.old) }
+        → IfOk result (RunsOn S.taken S.faults script.now (columns_of table.now) sections from sink.old progress.old
+        sink.new book.new progress.new) }
     ensures later { S.faults sink.old ≤ S.faults sink.new }
+    ensures sink { OnErr result (sink.new ≡ sink.old) }
+    ensures waits { OnErr result (progress.new.out ≡ progress.old.out) }
     ensures failed { OnErr result (progress.new.failed ≡ progress.old.failed) }
 {
     let cells = mem::replace(&mut progress.cells, FlatMem::of(Vec::new(alloc)));
@@ -133,6 +137,7 @@ fn run_next<R: Threads + Wait + Sync, S: Sink, G: Gate + Sync>(
         keeps,
         progress.failed,
         spare,
+        &mut progress.out,
         sink,
         gate,
     )?;
@@ -153,32 +158,30 @@ fn run_next<R: Threads + Wait + Sync, S: Sink, G: Gate + Sync>(
     }
 }
 
-/// The status where memory for the next section runs out.
-fn status_where_none(progress: &Progress) -> u8
-    ensures failed { progress.now.failed ≡ true → result ≡ UNWRITTEN }
-    ensures whole { progress.now.failed ≡ false → result ≡ NO_MEMORY }
-{
-    if progress.failed {
-        UNWRITTEN
-    } else {
-        NO_MEMORY
-    }
-}
-
-/// Writes what comes after the last section, and answers the status.
-fn finish<S: Sink>(progress: &Progress, sink: &mut S) -> u8
-    ensures failed { progress.now.failed ≡ true → (result ≡ UNWRITTEN) × (sink.new ≡ sink.old) }
-    ensures whole { progress.now.failed ≡ false → (s : ScriptState) → IsReportAt s progress.now.report
-        → SaidTo S.taken S.faults sink.old sink.new (answer (status_by s.traps s.refused) (traps_text s.traps)) result }
+/// Writes what waits, and answers this status, unless a write failed.
+fn close<S: Sink>(progress: &mut Progress, status: u8, sink: &mut S) -> u8
+    ensures closed { Closes S.taken S.faults sink.old progress.old sink.new progress.new [] status result }
     ensures later { S.faults sink.old ≤ S.faults sink.new }
 {
-    if progress.failed {
-        return UNWRITTEN;
-    }
-    match print_traps(&progress.report, sink) {
-        Ok(()) => status_of_report(&progress.report),
-        Err(_) => UNWRITTEN,
-    }
+    flush_lines(&mut progress.out, sink, &mut progress.failed);
+    if progress.failed { UNWRITTEN } else { status }
+}
+
+/// Writes what waits and the lines of the traps, and answers the status.
+fn finish<S: Sink>(progress: &mut Progress, sink: &mut S) -> u8
+    ensures closed { (s : ScriptState) → IsReportAt s progress.old.report
+        → Closes S.taken S.faults sink.old progress.old sink.new progress.new (traps_text s.traps)
+        (status_by s.traps s.refused) result }
+    ensures later { S.faults sink.old ≤ S.faults sink.new }
+{
+    say_traps(
+        &progress.report,
+        &mut progress.out,
+        sink,
+        &mut progress.failed,
+    );
+    let status = status_of_report(&progress.report);
+    close(progress, status, sink)
 }
 
 /// The report of a frame of which no section was run yet.
@@ -197,7 +200,8 @@ fn no_report() -> Report
 /// Runs the sections of a script one after another, and then writes the lines of its traps.
 ///
 /// All that a section needs is made before its first piece is begun; of the first section, before the first byte is
-/// written. After a failed write the other sections are run all the same, and nothing more is written.
+/// written. Lines wait in one buffer, from one section to the next; where memory for a section runs out, those that
+/// wait are still written. After a failed write the other sections are run all the same, and nothing more is written.
 pub fn run_sections<R: Threads + Wait + Sync, S: Sink, G: Gate + Sync>(
     rt: &R,
     alloc: Global,
@@ -219,6 +223,9 @@ pub fn run_sections<R: Threads + Wait + Sync, S: Sink, G: Gate + Sync>(
     let Ok(names) = names_of(alloc, script) else {
         return NO_MEMORY;
     };
+    let Ok(out) = Outgoing::new(alloc) else {
+        return NO_MEMORY;
+    };
     let mut book = first;
     let mut progress = Progress {
         held: None,
@@ -227,6 +234,7 @@ pub fn run_sections<R: Threads + Wait + Sync, S: Sink, G: Gate + Sync>(
         kernels: Vec::new(alloc),
         spare: Vec::new(alloc),
         report: no_report(),
+        out,
         failed: false,
     };
     for _section in 0..MOST_TESTS + 1 {
@@ -242,8 +250,8 @@ pub fn run_sections<R: Threads + Wait + Sync, S: Sink, G: Gate + Sync>(
             gate,
         ) {
             Ok(true) => {}
-            Ok(false) => return finish(&progress, sink),
-            Err(NoMemory) => return status_where_none(&progress),
+            Ok(false) => return finish(&mut progress, sink),
+            Err(NoMemory) => return close(&mut progress, NO_MEMORY, sink),
         }
     }
     // Each section but the last one ends at another `when`, of which a script has at most so many.

@@ -334,12 +334,12 @@ fn pieces_run_side_by_side(rt: HostRuntime) -> Result<(), Fail> {
     Ok(())
 }
 
-// The jobs are run although a write failed before they were scheduled.
+// The jobs are run although a write failed before they were scheduled: that of a line which is too long to wait.
 #[test]
 fn jobs_run_after_a_fault(rt: HostRuntime) -> Result<(), Fail> {
     let alloc = rt.alloc();
     let lines =
-        "array a 1\narray b 1\nprint b\nschedule h1 bump(a)\nschedule h2 bump(b)\ncombine h h1 h2\ncomplete h\n";
+        "array x 30000\nprint x\narray a 1\narray b 1\nschedule h1 bump(a)\nschedule h2 bump(b)\ncombine h h1 h2\ncomplete h\n";
     let script = with_kernels(alloc, lines)?;
     let given = Given {
         script: script.as_bytes(),

@@ -2,7 +2,7 @@
 
 use crate::frames::{Given, WORKERS, difference, status_of, with_kernels};
 use frame_rows::texts::TOTAL;
-use job_base::{MemSink, OpenGate};
+use job_base::{CountingGate, MemSink, OpenGate, PieceId};
 use std::test::Fail;
 
 const TRIPLE: &str =
@@ -60,6 +60,38 @@ fn nothing_is_written(rt: HostRuntime) -> Result<(), Fail> {
             assert_eq!(rt; got, 7);
             assert_eq!(rt; sink.bytes(), b"".as_slice());
         }
+    }
+    Ok(())
+}
+
+// Three jobs in the section after a test, before which more is printed than can wait for the sink.
+const TESTED: &str = "array x 30000
+print x
+reference t
+array a 1
+array b 1
+array c 1
+when t == 0 {
+schedule h1 bump(a)
+schedule h2 bump(b)
+schedule h3 bump(c)
+}
+";
+
+// After a write that failed the later sections are run all the same: two pieces of the second one, whose numbers the
+// first one hasn't, meet.
+#[test]
+fn sections_after_a_failed_write(rt: HostRuntime) -> Result<(), Fail> {
+    let alloc = rt.alloc();
+    let script = with_kernels(alloc, TESTED)?;
+    let given = Given::script(&script);
+    for (first, second) in [(1, 2), (2, 1)] {
+        let gate = CountingGate::new(PieceId(first), PieceId(second), 10_000_000);
+        let mut sink = MemSink::new(alloc, 0, 100, Vec::new(alloc))?;
+        let got = status_of(&rt, "2", &["s"], &given, &mut sink, &gate)?;
+        assert_eq!(rt; got, 7);
+        assert_eq!(rt; sink.bytes(), b"".as_slice());
+        assert!(rt; gate.met());
     }
     Ok(())
 }

@@ -1,6 +1,6 @@
 use Rattle.std.proofs.Common.{refl, sym}
 use Rattle.frame_top.specs.Answers.{Caused, Whole, Part}
-use Rattle.frame_top.proofs.Framing.{when_refuses, none_first, no_plan, reports}
+use Rattle.frame_top.proofs.Framing.{when_refuses, none_first, no_plan, reports, none_waited, none_cut}
 use Rattle.frame_top.proofs.frame.report_depth.Goals as goal
 
 pub returns-in-Some : goal.returns-in-Some
@@ -18,13 +18,13 @@ pub returns-in-Ok-print_depth : goal.returns-in-Ok-print_depth
 returns-in-Ok-print_depth g c =
     record {
       answer = Caused _ (reports _ _ _ _ _ c.requires.columns (sym c.in_default.ensures) c.in-Ok.ensures.within c.in-Ok.ensures.plan c.in-Ok-depth.ensures)
-          (Whole refl c.in-Ok-print_depth.ensures.text c.in-Ok-print_depth.ensures.count);
+          (Whole refl (none_waited _ _ _ _ c.in-Ok-out.ensures c.in-Ok-print_depth.ensures.text) c.in-Ok-print_depth.ensures.count);
       later = c.in-Ok-print_depth.ensures.later;
     }
 
 pub returns : goal.returns
 returns g c =
-    let p = c.in-Err-print_depth.ensures.text in
+    let p = none_cut _ _ _ _ c.in-Ok-out.ensures c.in-Err-print_depth.ensures.text in
     record {
       answer = Caused _ (reports _ _ _ _ _ c.requires.columns (sym c.in_default.ensures) c.in-Ok.ensures.within c.in-Ok.ensures.plan c.in-Ok-depth.ensures)
           (Part refl p.0 p.1 c.in-Err-print_depth.ensures.cause);

@@ -1,7 +1,8 @@
-use Rattle.std.proofs.Common.{refl}
-use Rattle.frame_top.specs.Answers.{Part}
+use Rattle.frame_ast.specs.Texts.{traps_text}
+use Rattle.frame_top.proofs.Looping.{closes_after}
 use Rattle.frame_top.proofs.sections.finish.Goals as goal
 
-pub returns-in-Err-clause-whole : goal.returns-in-Err-clause-whole
-returns-in-Err-clause-whole g c e s at =
-    let p = c.in-Err.ensures.text s.traps at.traps in Part refl p.0 p.1 c.in-Err.ensures.cause
+pub returns-clause-closed : goal.returns-clause-closed
+returns-clause-closed g c s at =
+    closes_after g.S.Sink.taken g.S.Sink.faults _ _ _ c.args.progress.now _ _ (traps_text s.traps) _ _ _ c.close.ensures.closed
+    (c.say_traps.ensures.text s.traps at.traps) (c.status_of_report-status.ensures s at)

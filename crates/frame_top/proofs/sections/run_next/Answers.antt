@@ -9,21 +9,21 @@ use Rattle.frame_top.proofs.sections.run_next.Goals as goal
 
 pub returns-in-None-clause-next : goal.returns-in-None-clause-next
 returns-in-None-clause-next g c sections from few was =
-    section_last g.S.Sink.taken g.S.Sink.faults _ _ sections from _ _ _ c.in_ok-section.section c.is_some-keeps.result _ _ c.in_ok-run.run' c.join_reports-progress.result
+    section_last g.S.Sink.taken g.S.Sink.faults _ _ sections from _ _ _ c.in_ok-section.section c.is_some-keeps.result _ _ _ c.in_ok-run.run' c.join_reports-progress.result
     c.reports_are_within.ensures was
     (c.in_ok-section.ensures.section from was.carried was.len was.at was.outcome
     (subst (λ m. AreLeft m was.carried was.len) (sym c.replace-cells.ensures.value) was.left))
     c.in_ok-run.ensures.run c.join_reports-progress.ensures.traps c.join_reports-progress.ensures.refused
-    _ refl refl c.in-None.is
+    _ refl refl refl c.in-None.is
 
 pub returns-clause-next : goal.returns-clause-next
 returns-clause-next g c sections from few was =
-    section_more g.S.Sink.taken g.S.Sink.faults _ _ sections from _ _ _ c.in_ok-section.section c.is_some-keeps.result _ _ c.in_ok-run.run' c.join_reports-progress.result
+    section_more g.S.Sink.taken g.S.Sink.faults _ _ sections from _ _ _ c.in_ok-section.section c.is_some-keeps.result _ _ _ c.in_ok-run.run' c.join_reports-progress.result
     c.reports_are_within.ensures was
     (c.in_ok-section.ensures.section from was.carried was.len was.at was.outcome
     (subst (λ m. AreLeft m was.carried was.len) (sym c.replace-cells.ensures.value) was.left))
     c.in_ok-run.ensures.run c.join_reports-progress.ensures.traps c.join_reports-progress.ensures.refused
-    _ c.in-Some.test refl refl c.in-Some.is (c.is_some-keeps.ensures ∙ ap is_some c.in-Some.is) c.holds.ensures.cells refl refl (ap Some c.holds.ensures.held)
+    _ c.in-Some.test refl refl refl c.in-Some.is (c.is_some-keeps.ensures ∙ ap is_some c.in-Some.is) c.holds.ensures.cells refl refl (ap Some c.holds.ensures.held)
 
 pub next-requires-clause-kernels : goal.next-requires-clause-kernels
 next-requires-clause-kernels g c some =

@@ -2,7 +2,7 @@ use Rattle.std.proofs.Common.{◌∙◌, subst, ap}
 use Rattle.steal_pool.specs.Rooms.{IsRoomOf}
 use Rattle.word_board.specs.Boards.{home_of, know_of, name_of}
 use Rattle.frame_top.proofs.Rooms.{made_ready, closed_into}
-use Rattle.frame_top.proofs.section.run_on_board.Goals as goal
+use Rattle.frame_top.proofs.on_board.run_shown.Goals as goal
 
 pub run_lines-end-requires-clause-room : goal.run_lines-end-requires-clause-room
 run_lines-end-requires-clause-room g c lives within =
