@@ -1,6 +1,6 @@
 // Whole runs, over files and a sink in memory.
 
-use crate::run_frame;
+use frame_top::run_frame;
 use job_base::{CountingGate, Gate, MemFiles, MemSink, OpenGate, PieceId};
 use std::alloc::Global;
 use std::sync::Wait;

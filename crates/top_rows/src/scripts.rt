@@ -1,6 +1,6 @@
 // Worked scripts, each with its output and status at 1, 4 and 64 workers.
 
-use crate::tests::{Row, difference};
+use crate::calls::{Row, difference};
 use std::test::Fail;
 
 #[test]
