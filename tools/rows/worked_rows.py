@@ -1,6 +1,6 @@
 """Worked scripts with what they give, read from where the repository has them: no list of them stands here.
 
-`worked_rows()` gives the rows of the tests in crates/frame_top/src/rows.rt and crates/whole_rows/src/rows.rt, which are
+`worked_rows()` gives the rows of the tests in crates/top_rows/src/scripts.rt and crates/whole_rows/src/rows.rt, which are
 texts, and those of crates/ast_rows/proofs/Rows*.antt, which are theorems about what the definitions compute. The latter
 are written out as texts: the kernels that a row uses stand before its lines, so the line numbers in what it prints are
 moved by as many. A row with a `repeat` that is written out there is left out here, since the tests have it.
@@ -38,13 +38,13 @@ PLAIN_ROW = re.compile(rf"\(\s*{STRING},\s*(\d+),\s*{STRING},?\s*\)")
 
 
 def rows_of_tests():
-    kernels = unescaped(re.search(rf"const KERNELS: &str = {STRING}", read("crates/frame_top/src/tests.rt"))[1])
-    text = read("crates/frame_top/src/rows.rt")
+    kernels = unescaped(re.search(rf"const KERNELS: &str = {STRING}", read("crates/top_rows/src/calls.rt"))[1])
+    text = read("crates/top_rows/src/scripts.rt")
     rows = TEST_ROW.findall(text)
-    assert len(rows) == text.count("Row {"), "a row of frame_top/src/rows.rt isn't read"
+    assert len(rows) == text.count("Row {"), "a row of top_rows/src/scripts.rt isn't read"
     for number, (has_kernels, script, status, output) in enumerate(rows, 1):
         head = kernels if has_kernels == "true" else ""
-        yield Row(f"frame_top row {number}", head + unescaped(script), None, int(status), unescaped(output))
+        yield Row(f"top_rows row {number}", head + unescaped(script), None, int(status), unescaped(output))
     for number, (lines, status, output) in enumerate(PLAIN_ROW.findall(read("crates/whole_rows/src/rows.rt")), 1):
         yield Row(f"whole_rows row {number}", kernels + unescaped(lines), None, int(status), unescaped(output))
 

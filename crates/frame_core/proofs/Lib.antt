@@ -26,3 +26,5 @@ pub mod Touched
 pub mod Tallies
 pub mod Boards
 pub mod Rising
+pub mod Standing
+pub mod Counting

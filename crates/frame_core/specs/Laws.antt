@@ -1,6 +1,7 @@
 -- The laws of well ordered plans.
 use Rattle.std.specs.Prelude.{◌≡◌, ◌≢◌, ℕ, ℤ, pos, suc, ◌+◌, ◌<◌, ◌≤◌, ◌⊎◌, ◌↔◌, true, List, [], ◌∷◌, length, Some, slice_get}
 use Rattle.job_base.specs.declared.Trap.{Trap}
+use Rattle.job_base.specs.declared.Trap.TheVariants.{Overflow, ZeroDivisor, Range, OwnIndex, Full, MissingKey, PresentKey, Written, Budget}
 use Rattle.job_base.specs.declared.limits.TheConstants.{MOST_INDEXES}
 use Rattle.frame_ast.specs.Contents.{Contents}
 use Rattle.kernel_exec.specs.declared.binds.Bind.{Bind}
@@ -81,6 +82,18 @@ abbrev pub PartsAreApart : Type 0
 PartsAreApart = (plan : Plan) → AreJobsFitting plan → (j i h w : ℕ) (x : JobPlan) → job_at plan j ≡ Some x
     → i < pieces_of x → h < pieces_of x → i ≢ h
     → writes_in (touches plan (OfJob j i)) w ≡ true → reads_in (touches plan (OfJob j h)) w ≡ true → ⊥
+
+-- The numbers by which words keep traps. A clause that cites a number by its name says nothing of its value.
+pub record TrapNumbersAreThese : Type 0 where
+  pub overflow : trap_number Overflow ≡ 1
+  pub zero_divisor : trap_number ZeroDivisor ≡ 2
+  pub range : trap_number Range ≡ 3
+  pub own_index : trap_number OwnIndex ≡ 4
+  pub full : trap_number Full ≡ 5
+  pub missing_key : trap_number MissingKey ≡ 6
+  pub present_key : trap_number PresentKey ≡ 7
+  pub written : trap_number Written ≡ 8
+  pub budget : trap_number Budget ≡ 9
 
 -- the own words tell how many traps there are, and the first of them
 abbrev pub TellTraps : ℕ → List (ℕ × Trap) → Cells → Type 0

@@ -15,5 +15,6 @@ pub mod Touched
 pub mod Tallies
 pub mod Events
 -- for this crate's own contracts
+pub mod Spans
 pub mod Rights
 pub mod Empty

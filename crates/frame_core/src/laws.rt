@@ -1,5 +1,5 @@
 //! Laws over the definitions. A function here does nothing: its contract is the law.
-ghost use Rattle.frame_core.specs.Laws.{ContentsAreRead, PartsAreApart, PiecesAreNamed, PiecesStayWithin, PlansMeetTheLaws, PredecessorsAreOfFourKinds, ReadsStayWithin, TrapsAreTold, TrapsComeByNumber};
+ghost use Rattle.frame_core.specs.Laws.{ContentsAreRead, PartsAreApart, PiecesAreNamed, PiecesStayWithin, PlansMeetTheLaws, PredecessorsAreOfFourKinds, ReadsStayWithin, TrapNumbersAreThese, TrapsAreTold, TrapsComeByNumber};
 ghost use Rattle.frame_core.specs.Framed.{PartsKeepToTouches, PiecesKeepToTouches};
 ghost use Rattle.frame_core.specs.Touched.{TouchedWordsAreUsed};
 ghost use Rattle.frame_core.specs.Tallies.{RefusalsAreFew, ReportsTally, TrapsRise};
@@ -52,6 +52,11 @@ pub fn touched_words_are_used()
 /// Where jobs fit their kernels, no piece of a job writes a word that another piece of it reads or writes.
 pub fn parts_are_apart()
     ensures { PartsAreApart }
+{}
+
+/// Words keep traps by these numbers.
+pub fn trap_numbers_are_these()
+    ensures { TrapNumbersAreThese }
 {}
 
 /// In the run in script order the own words of each piece hold its traps, before the last segment and after all pieces.

@@ -12,12 +12,20 @@ use std::sync::Wait;
 use std::thread::Threads;
 
 // The examples, and which of them have a table.
-const EXAMPLES: [(&str, bool); 10] = [
+const EXAMPLES: [(&str, bool); 18] = [
     ("auto", false),
     ("deferred", false),
     ("events", false),
     ("fall", false),
     ("frames", false),
+    ("guide_first_job", false),
+    ("guide_frames", false),
+    ("guide_lists", false),
+    ("guide_order", false),
+    ("guide_parallel", false),
+    ("guide_race", false),
+    ("guide_streams", false),
+    ("guide_when", false),
     ("hash", false),
     ("prices", true),
     ("race", false),

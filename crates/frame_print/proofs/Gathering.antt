@@ -1,12 +1,12 @@
 -- A text that is gathered part by part.
-use Rattle.std.proofs.Common.{◌≡◌, ℕ, zero, suc, ◌+◌, ◌<◌, List, [], ◌∷◌, ◌++◌, length, get_or, take, drop, Option, Result, Ok, Err, refl, sym, ap, subst, ◌∙◌, arith, append_assoc}
-use Rattle.std.specs.Prelude.{IsErr}
+use Rattle.std.proofs.Common.{◌≡◌, ℕ, zero, suc, ◌+◌, ◌<◌, ◌≤◌, List, [], ◌∷◌, ◌++◌, length, get_or, take, drop, Option, Result, Ok, Err, refl, sym, ap, subst, ◌∙◌, arith, append_assoc, append-nil}
+use Rattle.std.specs.Prelude.{IsErr, OnOk}
 use Rattle.std.specs.Borrow.{Bor}
 use Rattle.std.specs.Io.KnownBytes.{Appends}
 use Rattle.std.proofs.lemmas.Grind.{common_steps}
 use Rattle.std.proofs.lemmas.Result.{MatchResult-from_err}
 use Rattle.job_base.specs.Texts.{Writes}
-use Rattle.job_base.proofs.Parts.{appends_none, appends_more, stop_first, writes_after}
+use Rattle.job_base.proofs.Parts.{InPart, appends_none, appends_more, stop_first, writes_after}
 use Rattle.frame_print.specs.Gathering.{Joins, Gathers, joined}
 
 -- the sink took some first bytes of a text
@@ -68,6 +68,23 @@ passes_on old w mid new w' (Ok x) part p none q = record {
 }
 passes_on {T} {E} old w mid new w' (Err e) part p none q = writes_after {T = T} {E = E} old mid new (Err e) w part p q
 
+-- what waited was written, and no part was put
+pub flushed : {T E : Type 0} (old : Option (List ℕ)) (w : List ℕ) (new : Option (List ℕ)) (w' : List ℕ) (r : Result T E) → Writes old new r w → OnOk r (w' ≡ []) → Gathers old w new w' r []
+flushed old w new w' (Ok x) p none = record { bytes = w; taken = p; whole = ap (λ l. w ++ l) (sym none) }
+flushed old w new w' (Err e) p none = stop_first old new w [] p
+
+pub room_after : {T E : Type 0} (r : Result T E) (w' : List ℕ) (n most : ℕ) → n ≤ most → OnOk r (w' ≡ []) → OnOk r (length w' + n ≤ most)
+room_after (Ok x) w' n most h none = let empty = ap length none in omega arith
+room_after (Err e) w' n most h none = tt
+
+-- room was made, and then a part waits
+pub keeps : (old : Option (List ℕ)) (w : List ℕ) (new : Option (List ℕ)) (w' w'' part : List ℕ) → Joins old w new w' [] → w'' ≡ w' ++ part → Joins old w new w'' part
+keeps old w new w' w'' part p e = record {
+  bytes = p.bytes;
+  taken = p.taken;
+  whole = ap (λ l. l ++ part) (sym (append-nil w) ∙ p.whole) ∙ append_assoc p.bytes w' part ∙ ap (λ l. p.bytes ++ l) (sym e);
+}
+
 -- ---- a text with an end
 
 -- In the end what waits is written: what waited first, and the text.
@@ -126,6 +143,11 @@ module _ (old : Option (List ℕ)) (w : List ℕ) (now : Option (List ℕ)) (w' 
       → Going old w now w' (joined parts) (joined (drop i parts)) → Stops now new (w' ++ (get_or parts i d).now) → Stops old new (w ++ joined parts)
   stops_part parts i d h p q = going_stops old w now w' new (joined parts) (get_or parts i d).now _ (subst (Going old w now w' (joined parts)) (joined_next parts i d h) p) q
 
+-- the next of some parts begins what is left to write
+pub part_begins : (old mid : Option (List ℕ)) (text : List ℕ) (parts : List (Bor (List ℕ))) (i : ℕ) (d : Bor (List ℕ)) → i < length parts
+    → InPart old mid text (joined (drop i parts)) → InPart old mid text ((get_or parts i d).now ++ joined (drop (i + 1) parts))
+part_begins old mid text parts i d h p = subst (InPart old mid text) (joined_next parts i d h) p
+
 -- the same under another spelling of the part
 pub gathers_as : {T E : Type 0} (old : Option (List ℕ)) (w : List ℕ) (new : Option (List ℕ)) (w' : List ℕ) (r : Result T E) (t part : List ℕ)
     → t ≡ part → Gathers old w new w' r t → Gathers old w new w' r part
@@ -151,6 +173,11 @@ module _ (old : Option (List ℕ)) (w : List ℕ) (a b c text : List ℕ) (e : (
         → Joins mid w' later w'' b → Gathers later w'' new w''' r c → Gathers old w new w''' r text
     third_gathers later w'' new w''' r q s =
         gathers_as old w new w''' r ((a ++ b) ++ c) text e (gathers_after old w later w'' new w''' r (a ++ b) c (joins_more old w mid w' later w'' a b p q) s)
+
+    pub third_joins : (later : Option (List ℕ)) (w'' : List ℕ) (new : Option (List ℕ)) (w''' : List ℕ)
+        → Joins mid w' later w'' b → Joins later w'' new w''' c → Joins old w new w''' text
+    third_joins later w'' new w''' q s =
+        joins_as old w new w''' ((a ++ b) ++ c) text e (joins_more old w later w'' new w''' (a ++ b) c (joins_more old w mid w' later w'' a b p q) s)
 
     pub third_stops : (later : Option (List ℕ)) (w'' : List ℕ) (new : Option (List ℕ)) → Joins mid w' later w'' b → Stops later new (w'' ++ c) → Stops old new (w ++ text)
     third_stops later w'' new q s =

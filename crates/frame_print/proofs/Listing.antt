@@ -48,6 +48,16 @@ module _ {A : Type 0} (text : A → List ℕ) (place : ℕ) (left : List A) (x :
     pub going_item : (new : Option (List ℕ)) (w''' : List ℕ) → Joins mid w'' new w''' (text x) → Going old w new w''' whole (text_from text (place + 1) more ++ close)
     going_item new w''' s = going_on old w mid w'' new w''' whole _ _ (going_on old w now w' mid w'' whole _ _ begun q) s
 
+  begun_next : Going old w now w' whole ((comma_before place ++ text x) ++ (text_from text (place + 1) more ++ close))
+  begun_next = subst (Going old w now w' whole) (sym (append_assoc (comma_before place) (text x) (text_from text (place + 1) more ++ close))) begun
+
+  -- the same where the item and what comes before it are put at once
+  pub stops_next : (new : Option (List ℕ)) → Stops now new (w' ++ (comma_before place ++ text x)) → Stops old new (w ++ whole)
+  stops_next new q = going_stops old w now w' new whole _ _ begun_next q
+
+  pub going_next : (new : Option (List ℕ)) (w'' : List ℕ) → Joins now w' new w'' (comma_before place ++ text x) → Going old w new w'' whole (text_from text (place + 1) more ++ close)
+  going_next new w'' q = going_on old w now w' new w'' whole _ _ begun_next q
+
 -- ---- the end
 
 -- all items were put, and the bracket behind them was tried

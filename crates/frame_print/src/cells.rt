@@ -1,17 +1,39 @@
 // The elements of an array or a list.
-ghost use Rattle.std.specs.Prelude.{◌≡◌, ◌<◌, ◌≤◌, ◌+◌, ◌^◌, OnOk, OnErr};
+ghost use Rattle.std.specs.Prelude.{◌≡◌, ◌<◌, ◌≤◌, ◌+◌, ◌++◌, ◌^◌, OnOk, OnErr};
+ghost use Rattle.std.specs.Fmt.{signed_decimal};
 ghost use Rattle.job_base.specs.Cells.{cell_list};
 ghost use Rattle.job_base.specs.Faults.{Rose};
 ghost use Rattle.job_base.specs.Forms.{AreAllowed};
 ghost use Rattle.frame_ast.specs.Texts.{numbers_text};
-ghost use Rattle.frame_print.specs.Gathering.{Gathers};
+ghost use Rattle.frame_print.specs.Gathering.{Gathers, comma_before};
 
-use crate::outgoing::Outgoing;
+use crate::waiting::Waiting;
+use itoa::Buffer;
 use job_base::{Mem, Sink, SinkFault, Word};
 
-impl Outgoing {
+impl Waiting {
+    /// Puts a number of a list, after what comes before its place. There is one look for room.
+    pub fn put_number<S: Sink>(
+        &mut self,
+        place: usize,
+        n: i64,
+        sink: &mut S,
+    ) -> Result<(), SinkFault>
+        ensures text { Gathers (S.taken sink.old) self.old (S.taken sink.new) self.new result (comma_before place ++ signed_decimal n) }
+        ensures count { OnOk result (S.faults sink.new ≡ S.faults sink.old) }
+        ensures cause { OnErr result (Rose (S.faults sink.old) (S.faults sink.new)) }
+        ensures later { S.faults sink.old ≤ S.faults sink.new }
+    {
+        let mut digits = Buffer::new();
+        let text = digits.format(n).as_bytes();
+        self.make_room(2 + text.len(), sink)?;
+        self.keep_comma(place);
+        self.keep(text);
+        Ok(())
+    }
+
     /// Puts the numbers of the cells from a word on.
-    pub(crate) fn put_cells<M: Mem, S: Sink>(
+    pub fn put_cells<M: Mem, S: Sink>(
         &mut self,
         start: u32,
         len: u32,
@@ -30,9 +52,8 @@ impl Outgoing {
     {
         self.put(b"[", sink)?;
         for i in 0..len {
-            self.put_comma(i, sink)?;
             let n = mem.load(Word(start + i));
-            self.put_signed(n, sink)?;
+            self.put_number(i as usize, n, sink)?;
         }
         self.put(b"]", sink)
     }

@@ -11,11 +11,12 @@ ghost use Rattle.kernel_exec.specs.Layout.{Holds};
 ghost use Rattle.frame_print.specs.Gathering.{Gathers};
 
 use crate::outgoing::Outgoing;
+use crate::waiting::Waiting;
 use job_base::{Mem, Sink, SinkFault};
 use kernel_exec::Bind;
 use native_list::ListAt;
 
-impl Outgoing {
+impl Waiting {
     // Puts the elements that a list has.
     fn put_list<M: Mem, S: Sink>(
         &mut self,
@@ -38,10 +39,11 @@ impl Outgoing {
         self.put_cells(elements.start, elements.len, mem, sink)
     }
 
-    // Puts what the words of a container stand for.
+    // Puts what the words of a container stand for. In `pairs` those of a map are sorted.
     fn put_contents<M: Mem, S: Sink>(
         &mut self,
         at: &Bind,
+        pairs: &mut Vec<(i64, i64)>,
         mem: &mut M,
         sink: &mut S,
     ) -> Result<(), SinkFault>
@@ -65,13 +67,15 @@ impl Outgoing {
             Bind::List(at) => self.put_list(at, mem, sink),
             Bind::Ref(at) => {
                 let value = at.value(mem);
-                self.put_signed(value, sink)
+                self.put_number(0, value, sink)
             }
-            Bind::Map(at) => self.put_pairs(at, mem, sink),
+            Bind::Map(at) => self.put_pairs(at, pairs, mem, sink),
             Bind::Stream { at, .. } => self.put_entries(at, mem, sink),
         }
     }
+}
 
+impl Outgoing {
     /// Puts the line of a container: its name, and what its words stand for. It only reads the memory.
     ///
     /// An array, a view and a list are their elements, a reference is its value, a map its pairs in rising key order,
@@ -97,7 +101,7 @@ impl Outgoing {
         ensures writable { M.writable mem.new ≡ M.writable mem.old }
     {
         self.put_all(&[name, b" = "], sink)?;
-        self.put_contents(at, mem, sink)?;
+        self.waiting.put_contents(at, &mut self.pairs, mem, sink)?;
         self.put(b"\n", sink)
     }
 }

@@ -8,11 +8,11 @@ ghost use Rattle.native_stream.specs.Layout.{HoldsEntries, mark_word, end_of};
 ghost use Rattle.native_stream.specs.Words.{item_count};
 ghost use Rattle.frame_print.specs.Gathering.{Gathers};
 
-use crate::outgoing::Outgoing;
+use crate::waiting::Waiting;
 use job_base::{Mem, Sink, SinkFault};
 use native_stream::StreamAt;
 
-impl Outgoing {
+impl Waiting {
     // Puts the items of index `k`.
     fn put_items<M: Mem, S: Sink>(
         &mut self,
@@ -40,7 +40,7 @@ impl Outgoing {
     }
 
     /// Puts the items of each index of a stream in foreach order.
-    pub(crate) fn put_entries<M: Mem, S: Sink>(
+    pub fn put_entries<M: Mem, S: Sink>(
         &mut self,
         at: &StreamAt,
         mem: &mut M,
@@ -59,7 +59,7 @@ impl Outgoing {
     {
         self.put(b"[", sink)?;
         for k in 0..at.count {
-            self.put_comma(k, sink)?;
+            self.put_comma(k as usize, sink)?;
             self.put_items(at, k, mem, sink)?;
         }
         self.put(b"]", sink)

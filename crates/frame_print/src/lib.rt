@@ -20,6 +20,7 @@ mod script_refusal;
 #[cfg(test)]
 mod tests;
 mod texts;
+mod waiting;
 
 pub use outgoing::Outgoing;
 pub use report::Report;

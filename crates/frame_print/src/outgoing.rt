@@ -1,41 +1,32 @@
-// Bytes on their way to a sink.
-ghost use Rattle.std.specs.Prelude.{◌≡◌, ◌≤◌, ◌<◌, ◌+◌, ◌++◌, ℤ, List, [], length, IfOk, OnOk, OnErr};
-ghost use Rattle.std.specs.Fmt.{signed_decimal};
+// What is on its way to a sink.
+ghost use Rattle.std.specs.Prelude.{◌≡◌, ◌≤◌, [], IfOk, OnOk, OnErr};
 ghost use Rattle.job_base.specs.Faults.{Rose};
 ghost use Rattle.job_base.specs.Texts.{Writes};
-ghost use Rattle.frame_print.specs.Gathering.{Gathers, joined, comma_before};
+ghost use Rattle.frame_print.specs.Gathering.{Gathers, joined};
 
-use crate::texts::print_text;
-use itoa::Buffer;
+use crate::waiting::Waiting;
 use job_base::limits::MOST_PAIRS;
 use job_base::{NoMemory, Sink, SinkFault};
 use std::alloc::Global;
 use std::marker::Model;
 
-/// How many bytes wait at most.
-pub const ROOM: u32 = 65_536;
-
 /// The bytes of a run's lines that no sink has taken yet, in the order of the lines. A sink is called once for many
 /// lines: where a part no longer fits, and by [`Outgoing::flush`]. What still waits when it is dropped is lost, so end
 /// with a flush.
 ///
-/// All of its memory is taken when it is made: 64 KiB for bytes, and 64 KiB for the pairs of a map that is being put.
+/// All of its memory is taken when it is made: 64 KiB for bytes, and 64 KiB in which the pairs of a map are sorted.
 #[derive(Drop)]
 pub struct Outgoing {
-    bytes: Vec<u8>,
+    pub(crate) waiting: Waiting,
     pub(crate) pairs: Vec<(i64, i64)>,
 }
 
 impl Model for Outgoing {
-    ghost use Rattle.std.specs.Prelude.{ℕ, ◌≤◌, List, vec_len, vec_capacity};
-    ghost use Rattle.job_base.specs.declared.limits.TheConstants.{MOST_PAIRS};
-    ghost use Rattle.frame_print.specs.declared.outgoing.TheConstants.{ROOM};
+    ghost use Rattle.std.specs.Prelude.{ℕ, List};
 
     ghost Value = { List ℕ };
 
-    ghost view = { λ o. o.bytes.items };
-
-    ghost invariant = { λ o. (vec_len o.bytes ≤ ROOM) × (ROOM ≤ vec_capacity o.bytes) × (MOST_PAIRS ≤ vec_capacity o.pairs) };
+    ghost view = { λ o. o.waiting };
 }
 
 impl Outgoing {
@@ -44,26 +35,9 @@ impl Outgoing {
         ensures { IfOk result (λ o. o ≡ []) }
     {
         Ok(Outgoing {
-            bytes: Vec::with_capacity(alloc, ROOM as usize)?,
+            waiting: Waiting::new(alloc)?,
             pairs: Vec::with_capacity(alloc, MOST_PAIRS as usize)?,
         })
-    }
-
-    // For how many more bytes there is room.
-    fn room(&self) -> usize
-        ensures { result + length self.now ≡ ROOM }
-    {
-        ROOM as usize - self.bytes.len()
-    }
-
-    // Lets a part wait for which there is room.
-    fn keep(&mut self, part: &[u8])
-        requires { length self.old + length part.now ≤ ROOM }
-        ensures { self.new ≡ self.old ++ part.now }
-    {
-        let Ok(()) = self.bytes.extend_from_slice(part) else {
-            unreachable!()
-        };
     }
 
     /// Hands the bytes that wait to the sink.
@@ -74,9 +48,7 @@ impl Outgoing {
         ensures cause { OnErr result (Rose (S.faults sink.old) (S.faults sink.new)) }
         ensures later { S.faults sink.old ≤ S.faults sink.new }
     {
-        print_text(&self.bytes, sink)?;
-        self.bytes.clear();
-        Ok(())
+        self.waiting.flush(sink)
     }
 
     /// Puts a part of the text after what waits.
@@ -86,16 +58,7 @@ impl Outgoing {
         ensures cause { OnErr result (Rose (S.faults sink.old) (S.faults sink.new)) }
         ensures later { S.faults sink.old ≤ S.faults sink.new }
     {
-        if part.len() <= self.room() {
-            self.keep(part);
-            return Ok(());
-        }
-        self.flush(sink)?;
-        if part.len() <= self.room() {
-            self.keep(part);
-            return Ok(());
-        }
-        print_text(part, sink)
+        self.waiting.put(part, sink)
     }
 
     /// Puts some parts of the text, one after the other.
@@ -105,33 +68,6 @@ impl Outgoing {
         ensures cause { OnErr result (Rose (S.faults sink.old) (S.faults sink.new)) }
         ensures later { S.faults sink.old ≤ S.faults sink.new }
     {
-        for part in parts {
-            self.put(part, sink)?;
-        }
-        Ok(())
-    }
-
-    /// Puts what comes before a place of a list.
-    pub(crate) fn put_comma<S: Sink>(&mut self, place: u32, sink: &mut S) -> Result<(), SinkFault>
-        ensures text { Gathers (S.taken sink.old) self.old (S.taken sink.new) self.new result (comma_before place) }
-        ensures count { OnOk result (S.faults sink.new ≡ S.faults sink.old) }
-        ensures cause { OnErr result (Rose (S.faults sink.old) (S.faults sink.new)) }
-        ensures later { S.faults sink.old ≤ S.faults sink.new }
-    {
-        if place == 0 {
-            return Ok(());
-        }
-        self.put(b", ", sink)
-    }
-
-    /// Puts a number.
-    pub(crate) fn put_signed<S: Sink>(&mut self, n: i64, sink: &mut S) -> Result<(), SinkFault>
-        ensures text { Gathers (S.taken sink.old) self.old (S.taken sink.new) self.new result (signed_decimal n) }
-        ensures count { OnOk result (S.faults sink.new ≡ S.faults sink.old) }
-        ensures cause { OnErr result (Rose (S.faults sink.old) (S.faults sink.new)) }
-        ensures later { S.faults sink.old ≤ S.faults sink.new }
-    {
-        let mut digits = Buffer::new();
-        self.put(digits.format(n).as_bytes(), sink)
+        self.waiting.put_all(parts, sink)
     }
 }

@@ -47,8 +47,14 @@ fn line<M: Mem>(
     ensures cells { M.cells mem.new ≡ M.cells mem.old }
     ensures readable { M.readable mem.new ≡ M.readable mem.old }
 {
+    let mut out = Outgoing::new(alloc)?;
     let mut sink = sevens(alloc)?;
-    assert_eq!(rt; print_container(b"x", at, mem, &mut sink), Ok(()), "{want}");
+    assert_eq!(rt;
+        out.put_container(b"x", at, mem, &mut sink),
+        Ok(()),
+        "{want}"
+    );
+    assert_eq!(rt; out.flush(&mut sink), Ok(()), "{want}");
     assert_eq!(rt; sink.bytes(), want.as_bytes(), "{want}");
     Ok(())
 }
@@ -184,13 +190,15 @@ fn refusals(rt: HostRuntime) -> Result<(), Fail> {
         (Refusal::TempInJob, "refused 15: temp x\n"),
         (Refusal::Busy(JobId(2)), "refused 15: busy job 2\n"),
     ];
+    let mut out = Outgoing::new(alloc)?;
     for (refusal, want) in table {
         let mut sink = sevens(alloc)?;
         assert_eq!(rt;
-            print_refusal(15, refusal, b"x", &mut sink),
+            out.put_refusal(15, refusal, b"x", &mut sink),
             Ok(()),
             "{want}"
         );
+        assert_eq!(rt; out.flush(&mut sink), Ok(()), "{want}");
         assert_eq!(rt; sink.bytes(), want.as_bytes(), "{want}");
     }
     Ok(())
@@ -227,6 +235,7 @@ fn traps(rt: HostRuntime) -> Result<(), Fail> {
         (2, Trap::Written, "trap job 3 index 7: written\ntraps 2\n"),
         (40, Trap::Budget, "trap job 3 index 7: budget\ntraps 40\n"),
     ];
+    let mut out = Outgoing::new(alloc)?;
     for (traps, trap, want) in table {
         let report = Report {
             traps,
@@ -236,7 +245,8 @@ fn traps(rt: HostRuntime) -> Result<(), Fail> {
             trap,
         };
         let mut sink = sevens(alloc)?;
-        assert_eq!(rt; print_traps(&report, &mut sink), Ok(()), "{want}");
+        assert_eq!(rt; out.put_traps(&report, &mut sink), Ok(()), "{want}");
+        assert_eq!(rt; out.flush(&mut sink), Ok(()), "{want}");
         assert_eq!(rt; sink.bytes(), want.as_bytes(), "{want}");
     }
     Ok(())
@@ -277,15 +287,19 @@ fn script_refusals(rt: HostRuntime) -> Result<(), Fail> {
     Ok(())
 }
 
-// The line of a status, and one of an overdue container.
+// The line of a status, which is written at once, and one of an overdue container, which waits.
 #[test]
 fn other_texts(rt: HostRuntime) -> Result<(), Fail> {
-    let mut sink = sevens(rt.alloc())?;
+    let alloc = rt.alloc();
+    let mut out = Outgoing::new(alloc)?;
+    let mut sink = sevens(alloc)?;
+    assert_eq!(rt; out.put_overdue(18, b"a", 13, &mut sink), Ok(()));
     assert_eq!(rt; print_text(b"table refused: empty\n", &mut sink), Ok(()));
-    assert_eq!(rt; print_overdue(18, b"a", 13, &mut sink), Ok(()));
+    assert_eq!(rt; out.flush(&mut sink), Ok(()));
+    assert_eq!(rt; print_parts(&[b"no", b" ", b"more\n"], &mut sink), Ok(()));
     assert_eq!(rt;
         sink.bytes(),
-        b"table refused: empty\noverdue 18: a made on line 13\n".as_slice()
+        b"table refused: empty\noverdue 18: a made on line 13\nno more\n".as_slice()
     );
     Ok(())
 }
@@ -297,12 +311,18 @@ fn faults(rt: HostRuntime) -> Result<(), Fail> {
     let text = b"refused 9: alias ab\n".as_slice();
     for step in [1, 2, 100] {
         for failing in 0..25u64 {
+            let mut out = Outgoing::new(alloc)?;
             let mut sink = MemSink::new(alloc, 200, step, [failing].to_vec(alloc)?)?;
-            let printed = print_refusal(9, Refusal::Alias, b"ab", &mut sink);
+            assert_eq!(rt;
+                out.put_refusal(9, Refusal::Alias, b"ab", &mut sink),
+                Ok(())
+            );
+            assert_eq!(rt; sink.bytes(), [].as_slice());
+            let written = out.flush(&mut sink);
             let taken = text.len().min(failing as usize * step as usize);
             let fails = failing as usize * (step as usize) < text.len();
             assert_eq!(rt;
-                printed.is_err(),
+                written.is_err(),
                 fails,
                 "write {failing} in steps of {step}"
             );
@@ -347,12 +367,14 @@ fn count(rt: &impl Abort, alloc: Global, len: u32) -> Result<Counter, NoMemory> 
         mem.store(Word(i), i64::from(i));
     }
     let at = ArrayAt { start: 0, len };
+    let mut out = Outgoing::new(alloc)?;
     let mut sink = Counter {
         writes: 0,
         bytes: 0,
     };
-    let printed = print_container(b"x", &Bind::Array { at, own: 0 }, &mut mem, &mut sink);
+    let printed = out.put_container(b"x", &Bind::Array { at, own: 0 }, &mut mem, &mut sink);
     assert_eq!(rt; printed, Ok(()));
+    assert_eq!(rt; out.flush(&mut sink), Ok(()));
     Ok(sink)
 }
 
@@ -363,6 +385,22 @@ fn few_writes(rt: HostRuntime) -> Result<(), Fail> {
     assert_eq!(rt; (line.writes, line.bytes), (1, 30 + 2 * 19 + 7));
     let sink = count(&rt, rt.alloc(), 1_048_576)?;
     assert_eq!(rt; sink.bytes, 6_228_922 + 2 * 1_048_575 + 7);
-    assert!(rt; sink.writes < 600, "{} writes", sink.writes);
+    assert!(rt; sink.writes < 140, "{} writes", sink.writes);
+    Ok(())
+}
+
+#[test]
+fn many_lines_are_one_write(rt: HostRuntime) -> Result<(), Fail> {
+    let mut out = Outgoing::new(rt.alloc())?;
+    let mut sink = Counter {
+        writes: 0,
+        bytes: 0,
+    };
+    for line in 0..1_000 {
+        assert_eq!(rt; out.put_overdue(line, b"a", 1, &mut sink), Ok(()));
+    }
+    assert_eq!(rt; sink.writes, 0);
+    assert_eq!(rt; out.flush(&mut sink), Ok(()));
+    assert_eq!(rt; sink.writes, 1);
     Ok(())
 }

@@ -9,11 +9,9 @@
 
 mod order;
 mod replaying;
-mod spans;
 mod state;
 mod steps;
 mod writing;
 
 pub use replaying::replay;
-pub use spans::touches;
-pub use state::{CoreLease, CoreState};
+pub use state::CoreState;

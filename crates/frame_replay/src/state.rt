@@ -12,9 +12,9 @@ pub struct CoreState {
     pub(crate) cells: Vec<i64>,
 }
 
-/// A piece that was begun and isn't ended, with its own copy of the cells.
+// A piece that was begun and isn't ended, with its own copy of the cells.
 #[derive(Drop)]
-pub struct CoreLease {
+pub(crate) struct CoreLease {
     pub(crate) piece: u32,
     pub(crate) local: FlatMem,
 }

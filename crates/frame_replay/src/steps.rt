@@ -16,10 +16,9 @@ ghost use Rattle.frame_replay.specs.declared.state.CoreLease.{CoreLease};
 ghost use Rattle.frame_replay.specs.States.{IsState, IsReachedBy, Refuses, MayTakeNow, LeasesNow, IsSizedFor};
 
 use crate::order::{is_leased, is_of, is_ready};
-use crate::spans::touches;
 use crate::state::{CoreLease, CoreState};
 use crate::writing::{copy_of, run_on, write_back};
-use frame_core::{CoreFault, Event, Piece, Plan, Touch};
+use frame_core::{CoreFault, Event, Piece, Plan, Touch, touches};
 use job_base::limits::MOST_WORKERS;
 use job_base::{NoMemory, PieceId, Word};
 use kernel_exec::Scratch;

@@ -20,13 +20,9 @@ mod inputs;
 pub mod laws;
 mod on_board;
 mod on_cells;
-#[cfg(test)]
-mod rows;
 mod section;
 mod sections;
 pub mod status;
-#[cfg(test)]
-mod tests;
 mod texts;
 mod top;
 

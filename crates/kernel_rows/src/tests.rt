@@ -190,9 +190,17 @@ fn ends(rt: HostRuntime) -> Result<(), Fail> {
         "job quotients(a: wo array) { var l = -9223372036854775807 - 1; var m = 9223372036854775807;
         a[0] = l / m; a[1] = l % m; a[2] = m / 3; a[3] = m / 3; a[4] = m % 10; a[5] = m % 10; a[6] = -7 / 2;
         a[7] = -7 % 2; a[8] = 7 / -2; a[9] = 7 % -2; a[10] = m / m; a[11] = l / l; }";
+    let compared =
+        "job compared(a: wo array) { var l = -9223372036854775807 - 1; var m = 9223372036854775807;
+        a[0] = l == l; a[1] = l != m; a[2] = l < m; a[3] = m <= l; a[4] = m > l; a[5] = l >= m; a[6] = m + l;
+        a[7] = -1 - l; a[8] = 4294967296 * -2147483648; a[9] = m % 1000003; a[10] = m % m; a[11] = 7 % -2; }";
     let same =
         "job same(a: wo array) { for k in 0..3 { a[k] = 100 / 7 * 1000 + 100 % 7 * 100 + (99 - k) % 23; } }";
     let less = "job less(a: rw array) { a[0] = 1; a[1] = -9223372036854775807 - 2; a[0] = 9; }";
+    let more =
+        "job more(a: rw array) { a[0] = 1; a[1] = 9223372036854775807 + 1; a[0] = 9; }";
+    let square =
+        "job square(a: rw array) { a[0] = 1; a[1] = 3037000500 * 3037000500; a[0] = 9; }";
     let product =
         "job product(a: rw array) { a[0] = 1; a[1] = 4294967296 * 2147483648; a[0] = 9; }";
     let minus =
@@ -203,7 +211,15 @@ fn ends(rt: HostRuntime) -> Result<(), Fail> {
         "job rest(a: rw array) { a[0] = 1; a[1] = (-9223372036854775807 - 1) % -1; a[0] = 9; }";
     let least =
         "job least(a: rw array) { a[0] = 1; a[1] = (-9223372036854775807 - 1) / 0; a[0] = 9; }";
-    let rows: [Row<'_>; 8] = [
+    let rows: [Row<'_>; 11] = [
+        (
+            compared,
+            &[array(0, 12, 0)],
+            0,
+            0,
+            12,
+            "1 1 1 0 1 0 -1 9223372036854775807 -9223372036854775808 675344 0 1 ",
+        ),
         (
             quotients,
             &[array(0, 12, 0)],
@@ -214,6 +230,8 @@ fn ends(rt: HostRuntime) -> Result<(), Fail> {
         ),
         (same, &[array(0, 3, 0)], 0, 0, 3, "14207 14206 14205 "),
         (less, &[array(0, 2, 0)], 0, 0, 2, "Overflow; 1 0 "),
+        (more, &[array(0, 2, 0)], 0, 0, 2, "Overflow; 1 0 "),
+        (square, &[array(0, 2, 0)], 0, 0, 2, "Overflow; 1 0 "),
         (product, &[array(0, 2, 0)], 0, 0, 2, "Overflow; 1 0 "),
         (minus, &[array(0, 2, 0)], 0, 0, 2, "Overflow; 1 0 "),
         (quotient, &[array(0, 2, 0)], 0, 0, 2, "Overflow; 1 0 "),

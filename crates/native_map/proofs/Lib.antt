@@ -14,3 +14,4 @@ pub mod Standing
 pub mod Readings
 pub mod Forms
 pub mod InOrder
+pub mod Listed

@@ -5,7 +5,7 @@ use Rattle.job_base.specs.Cells.{with_cell}
 use Rattle.native_map.specs.declared.MapAt.{MapAt}
 use Rattle.native_map.specs.declared.search.Spot.TheVariants.{Held, Free, Nowhere}
 use Rattle.native_map.specs.Table.{next_place, probe, flag_word, holds, key_at, stops, places, place_of, home, spot_in, spot_of}
-use Rattle.native_map.specs.Words.{nearer, nearest, copied, passes, shifted}
+use Rattle.native_map.specs.Words.{nearer, nearest, copied, passes, shifted, with_place, gathered}
 
 pub probe_more : (stops : ℕ → Bool) (t n i p : ℕ) (r : Option ℕ) → i < n → stops p ≡ false → probe stops t (n - i) p ≡ r → probe stops t (n - (i + 1)) (next_place t p) ≡ r
 probe_more stops t n i p r lt s e =
@@ -70,3 +70,6 @@ below_either false i j t hi hj = hi
 
 pub nearest_more : (at : MapAt) (cells : ℕ → ℤ) (k : Option ℤ) (p : ℕ) → nearer at cells k (nearest at cells k p) p ≡ nearest at cells k (p + 1)
 nearest_more at cells k p = let e : suc p ≡ p + 1 = omega arith in ap (λ n. nearest at cells k n) e
+
+pub gathered_more : (at : MapAt) (cells : ℕ → ℤ) (p : ℕ) → with_place at cells (gathered at cells p) p ≡ gathered at cells (p + 1)
+gathered_more at cells p = let e : suc p ≡ p + 1 = omega arith in ap (λ n. gathered at cells n) e

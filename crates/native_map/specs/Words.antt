@@ -1,5 +1,5 @@
 -- The word form of each call: its answer and the cells after, from the cells before.
-use Rattle.std.specs.Prelude.{ℕ, ℤ, pos, negsuc, min, zero, suc, Bool, true, false, not, ◌&&◌, nat_lt, if◌then◌else◌, Option, Some, None, is_some, Result, Ok, Err, int_lt, ◌+ℤ◌}
+use Rattle.std.specs.Prelude.{ℕ, ℤ, pos, negsuc, min, zero, suc, Bool, true, false, not, ◌&&◌, nat_lt, if◌then◌else◌, Option, Some, None, is_some, Result, Ok, Err, int_lt, ◌+ℤ◌, List, [], ◌∷◌, ◌++◌, length}
 use Rattle.std.specs.Int.{w64, int_wrapping_sub}
 use Rattle.job_base.specs.declared.Trap.{Trap}
 use Rattle.job_base.specs.declared.Trap.TheVariants.{Full, PresentKey}
@@ -129,3 +129,16 @@ nearest at cells k (suc n) = nearer at cells k (nearest at cells k n) n
 
 abbrev pub next_words : MapAt → (ℕ → ℤ) → Option ℤ → Option (ℤ × ℤ)
 next_words at cells k = nearest at cells k (places at.cap)
+
+-- the pairs with that of place p behind them, where it holds one and a map may have one more
+abbrev pub with_place : MapAt → (ℕ → ℤ) → List (ℤ × ℤ) → ℕ → List (ℤ × ℤ)
+with_place at cells ps p =
+    if holds cells at.start p && nat_lt (length ps) at.cap then ps ++ (key_at cells at.start p, value_at cells at.start p) ∷ [] else ps
+
+-- the pairs that the first places hold, in the order of the places, as many as a map may have
+abbrev pub gathered : MapAt → (ℕ → ℤ) → ℕ → List (ℤ × ℤ)
+gathered at cells zero = []
+gathered at cells (suc n) = with_place at cells (gathered at cells n) n
+
+abbrev pub all_gathered : MapAt → (ℕ → ℤ) → List (ℤ × ℤ)
+all_gathered at cells = gathered at cells (places at.cap)

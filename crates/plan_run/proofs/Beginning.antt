@@ -1,6 +1,6 @@
 -- The first segment, on cells of which only those are known that its first operation doesn't fill.
-use Rattle.std.proofs.Common.{◌≡◌, ℕ, zero, suc, ◌+◌, ◌*◌, ◌<◌, ◌≤◌, ◌⊎◌, inl, inr, ⊎_elim, ℤ, pos, get_or, List, [], ◌∷◌, ◌++◌, length, All, Option, Some, None, refl, sym, ap, subst, ◌∙◌, arith}
-use Rattle.std.specs.Prelude.{replicate, nat_eq, if◌then◌else◌}
+use Rattle.std.proofs.Common.{◌≡◌, ℕ, suc, ◌+◌, ◌<◌, ◌≤◌, inr, ⊎_elim, ℤ, pos, Bool, true, false, eqb-true, List, [], ◌∷◌, ◌++◌, length, All, Option, Some, None, refl, sym, ap, subst, ◌∙◌, arith}
+use Rattle.std.specs.Prelude.{nat_eq, if◌then◌else◌}
 use Rattle.std.proofs.lemmas.Bool.{cases_lt}
 use Rattle.std.proofs.lemmas.List.{length-replicate}
 use Rattle.job_base.specs.declared.Span.{Span}
@@ -15,8 +15,8 @@ use Rattle.frame_core.specs.declared.plan.Op.{Op}
 use Rattle.frame_core.specs.declared.plan.Plan.{Plan}
 use Rattle.frame_core.specs.declared.plan.Segment.{Segment}
 use Rattle.frame_core.specs.Names.{name_of, ops_in, segment_at}
-use Rattle.frame_core.specs.Pieces.{own_word, place_of}
-use Rattle.frame_core.specs.Effects.{piece_cells}
+use Rattle.frame_core.specs.Pieces.{own_word}
+use Rattle.frame_core.specs.Effects.{part_run, piece_cells}
 use Rattle.frame_core.specs.Graphs.{before_piece}
 use Rattle.frame_core.specs.Laws.{TellTraps}
 use Rattle.frame_core.specs.Operations.{first_cells, act_cells, act_answer, cells_or, op_cells, op_answer, ops_cells, ops_refused, one_if_refused}
@@ -34,7 +34,7 @@ abbrev Meet : ℕ → Cells → Cells → Type 0
 Meet n a b = (w : ℕ) → n ≤ w → a w ≡ b w
 
 meet_all : (a b : Cells) → Meet 0 a b → a ≡ b
-meet_all a b h i w = h w (omega arith) i
+meet_all a b h = λ i w. h w (omega arith) i
 
 module _ (a b : Cells) (xs : List ℤ) (h : Meet (length xs) a b) (w : ℕ) where
   from_start : 0 + w ≡ w
@@ -55,7 +55,7 @@ module _ (a b : Cells) (xs : List ℤ) (h : Meet (length xs) a b) (w : ℕ) wher
   written_at = ⊎_elim written_inside written_outside (cases_lt w (length xs))
 
 written : (a b : Cells) (n : ℕ) (xs : List ℤ) → length xs ≡ n → Meet n a b → write_cells a 0 xs ≡ write_cells b 0 xs
-written a b n xs long h i w = written_at a b xs (subst (λ m. Meet m a b) (sym long) h) w i
+written a b n xs long h = λ i w. written_at a b xs (subst (λ m. Meet m a b) (sym long) h) w i
 
 -- OPERATIONS
 
@@ -113,12 +113,12 @@ module _ (plan : Plan) (op : Op) (more : List Op) (fits : OpFits plan op) (a b :
   whole : Meet 0 a b → Alike plan (op ∷ more) a b
   whole h = alike_same plan (op ∷ more) a b (meet_all a b h)
 
-  by_start : (span : Span) (literal : Option ℕ) (start : ℕ) → span.start ≡ start → op.act ≡ Fill span literal → Meet (if nat_eq start 0 then span.len else 0) a b → Alike plan (op ∷ more) a b
-  by_start span literal zero e is h = alike_fill plan op span literal is e fits a b h more
-  by_start span literal (suc n) e is h = whole h
+  by_start : (span : Span) (literal : Option ℕ) (t : Bool) → nat_eq span.start 0 ≡ t → op.act ≡ Fill span literal → Meet (if t then span.len else 0) a b → Alike plan (op ∷ more) a b
+  by_start span literal true e is h = alike_fill plan op span literal is (eqb-true span.start 0 e) fits a b h more
+  by_start span literal false e is h = whole h
 
   by_act : (act : Act) → op.act ≡ act → Meet (filled_by act) a b → Alike plan (op ∷ more) a b
-  by_act (Fill span literal) is h = by_start span literal span.start refl is h
+  by_act (Fill span literal) is h = by_start span literal (nat_eq span.start 0) refl is h
   by_act (Move from to) is h = whole h
   by_act (Say refusal) is h = whole h
   by_act (Set at i v) is h = whole h
@@ -136,19 +136,19 @@ alike_ops plan (op ∷ more) a b fits h = by_act plan op more (fits 0 op (omega 
 -- SEGMENTS
 
 fits_in : (plan : Plan) → IsWellOrderedPlan plan → (k : ℕ) (o : Option Segment) → segment_at plan k ≡ o → All (OpFits plan) (ops_in o)
-fits_in plan well k None e j d lt = absurd (omega (arith, lt))
+fits_in plan well k None e = λ j d lt. absurd (omega (arith, lt))
 fits_in plan well k (Some s) e = well.ops k s e
 
 stand_in : (plan : Plan) → IsWellOrderedPlan plan → (k : ℕ) (o : Option Segment) → segment_at plan k ≡ o → OpsStand plan (ops_in o) (before_piece plan (OfScript k))
 stand_in plan well k None e = tt
 stand_in plan well k (Some s) e = well.stand.ops k s e
 
-filled_span : (m start len : ℕ) → start + len ≤ m → (if nat_eq start 0 then len else 0) ≤ m
-filled_span m zero len le = omega (arith, le)
-filled_span m (suc start) len le = omega arith
+filled_span : (t : Bool) (m start len : ℕ) → start + len ≤ m → (if t then len else 0) ≤ m
+filled_span true m start len le = omega (arith, le)
+filled_span false m start len le = omega arith
 
 filled_act : (plan : Plan) (act : Act) → ActFits plan act → filled_by act ≤ plan.cells
-filled_act plan (Fill span literal) fits = filled_span plan.cells span.start span.len fits.0
+filled_act plan (Fill span literal) fits = filled_span (nat_eq span.start 0) plan.cells span.start span.len fits.0
 filled_act plan (Move from to) fits = omega arith
 filled_act plan (Say refusal) fits = omega arith
 filled_act plan (Set at i v) fits = omega arith
@@ -194,7 +194,7 @@ module _ (plan : Plan) (well : IsWellOrderedPlan plan) where
   fresh_tells : (cells : Cells) → AreFresh plan cells → suc 0 ≡ length plan.segments.items → TellAll plan cells
   fresh_tells cells fresh last j h is =
       let low = filled_below plan (ops_in (segment_at plan 0)) (fits_in plan well 0 (segment_at plan 0) refl) in
-      tell_same (own_word plan j h) _ cells (before_piece plan (OfScript 0)) (λ w le. fresh_meets cells fresh w (omega (arith, low, le))) (told_before 0 last j h is)
+      tell_same (own_word plan j h) (part_run plan j h (before_piece plan (OfJob j h))).traps cells (before_piece plan (OfScript 0)) (λ w le. fresh_meets cells fresh w (omega (arith, low, le))) (told_before 0 last j h is)
 
   -- on fresh cells
   pub alike_fresh : (cells : Cells) → AreFresh plan cells → RunsAlike plan 0 cells

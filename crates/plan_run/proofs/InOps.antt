@@ -1,5 +1,5 @@
 -- Operations that are run one after another.
-use Rattle.std.proofs.Common.{◌≡◌, ℕ, ◌+◌, ◌<◌, Bool, true, false, ◌||◌, List, [], ◌∷◌, Option, refl, sym, ◌∙◌, ap, subst, arith, length, All, suc}
+use Rattle.std.proofs.Common.{◌≡◌, ℕ, ◌+◌, ◌<◌, Bool, true, false, ◌||◌, List, [], ◌∷◌, refl, sym, ◌∙◌, ap, subst, arith, length, All, suc}
 use Rattle.std.proofs.lemmas.Grind.{common_steps}
 use Rattle.merge_laws.specs.Graph.{Cells}
 use Rattle.frame_core.specs.declared.plan.Op.{Op}

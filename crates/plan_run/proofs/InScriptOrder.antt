@@ -1,5 +1,5 @@
 -- The pieces of a plan in script order, one after another.
-use Rattle.std.proofs.Common.{◌≡◌, ℕ, zero, suc, ◌+◌, ◌-◌, ◌<◌, ◌≤◌, Bool, true, eq-eqb, get_or, List, [], ◌∷◌, ◌++◌, length, Option, Some, None, IsTrue, pos, refl, sym, ap, ◌∙◌, arith}
+use Rattle.std.proofs.Common.{◌≡◌, ℕ, zero, suc, ◌+◌, ◌-◌, ◌<◌, ◌≤◌, Bool, eq-eqb, get_or, List, [], ◌∷◌, ◌++◌, length, Option, Some, None, pos, refl, sym, ap, ◌∙◌, arith}
 use Rattle.std.specs.Prelude.{slice_get}
 use Rattle.std.proofs.lemmas.Option.{slice_get_read}
 use Rattle.job_base.specs.declared.JobId.{JobId}
@@ -15,7 +15,6 @@ use Rattle.frame_core.specs.Names.{is_job, job_at, job_pieces, pieces_of, segmen
 use Rattle.frame_core.specs.Ordered.{IsCutIn, IsWellOrderedPlan}
 use Rattle.frame_core.specs.Pieces.{IsPieceOf, order_from, parts_of, piece_numbered, place_of, script_order, segment_place, started, starter_of}
 use Rattle.frame_core.specs.Rights.{MayReadIn, MayWriteIn}
-use Rattle.frame_core.specs.Touches.{writes_in}
 use Rattle.frame_core.proofs.Numbered.{number_numbered, numbered_number, pieces_within}
 use Rattle.frame_core.proofs.Orders.{at_place, starter_alone}
 use Rattle.frame_core.proofs.Placing.{length_parts}

@@ -1,5 +1,5 @@
 -- What an operation prints.
-use Rattle.std.proofs.Common.{◌≡◌, ℕ, zero, suc, ◌<◌, List, [], ◌∷◌, length, map, get_or, Option, Some, None, Result, refl, sym, ap, subst, ◌∙◌, arith}
+use Rattle.std.proofs.Common.{◌≡◌, ℕ, zero, suc, ◌<◌, List, [], ◌∷◌, length, map, get_or, Option, Some, None, refl, sym, ap, subst, ◌∙◌, arith}
 use Rattle.job_base.specs.declared.Refusal.{Refusal}
 use Rattle.frame_ast.specs.Contents.{Contents, elements}
 use Rattle.frame_ast.specs.Texts.{print_line}

@@ -1,7 +1,6 @@
 -- Segments that are run one after another.
-use Rattle.std.proofs.Common.{◌≡◌, ℕ, suc, ◌+◌, ◌<◌, ◌^◌, Bool, true, false, List, [], ◌++◌, length, take, Option, refl, sym, ap, subst, ◌∙◌, arith, append-nil}
+use Rattle.std.proofs.Common.{◌≡◌, ℕ, suc, ◌+◌, ◌<◌, ◌^◌, false, List, [], ◌++◌, length, take, Option, sym, ap, subst, ◌∙◌, arith, append-nil}
 use Rattle.std.specs.Io.KnownBytes.{Appends}
-use Rattle.job_base.specs.Faults.{Rose}
 use Rattle.frame_print.specs.declared.report.Report.{Report}
 use Rattle.frame_print.specs.Gathering.{Joins}
 use Rattle.frame_print.specs.Reports.{IsReportOf}

@@ -1,5 +1,5 @@
 -- A segment that is run on its cells.
-use Rattle.std.proofs.Common.{◌≡◌, ℕ, suc, ◌+◌, ◌<◌, Bool, true, false, cond, List, [], ◌∷◌, length, All, get_or, Option, Some, IsTrue, refl, sym, ap, subst, ◌∙◌, arith, eqb-true, eq-eqb}
+use Rattle.std.proofs.Common.{◌≡◌, ℕ, suc, ◌+◌, ◌<◌, Bool, true, false, cond, List, [], ◌∷◌, length, All, get_or, Some, IsTrue, refl, sym, ap, subst, ◌∙◌, arith, eqb-true, eq-eqb}
 use Rattle.std.specs.Prelude.{nat_eq}
 use Rattle.std.proofs.lemmas.Option.{slice_get_read}
 use Rattle.merge_laws.specs.Graph.{Cells}
@@ -13,8 +13,7 @@ use Rattle.frame_core.specs.Names.{job_pieces, segment_at, ops_in}
 use Rattle.frame_core.specs.Pieces.{piece_numbered}
 use Rattle.frame_core.specs.Touches.{has_word, reads_in, writes_in, ops_touch}
 use Rattle.frame_core.specs.Operations.{ops_cells, ops_refused}
-use Rattle.frame_core.specs.Effects.{touches, is_last, all_own_words, piece_cells}
-use Rattle.frame_core.specs.Graphs.{before_piece}
+use Rattle.frame_core.specs.Effects.{touches, is_last, all_own_words}
 use Rattle.frame_core.specs.Output.{ops_lines, segment_lines, segment_refused}
 use Rattle.frame_core.specs.Know.{reads, writes}
 use Rattle.frame_core.specs.Ordered.{IsWellOrderedPlan, OpFits, OpsStand}

@@ -7,13 +7,16 @@
 //! **Lines wait.** They are put into one buffer of the run, which goes to the sink when it is full and where
 //! [`flush_lines`] is called. Whoever runs a plan flushes it before he waits, and at the end.
 //!
+//! **Cells.** A run alone begins on cells that are 0, but for those that the plan's first operation fills
+//! ([`fresh_cells`]). A section after a test fills the words so far, so it costs one pass over them.
+//!
 //! **Faults.** A mark that is handed on says whether a write failed. After that nothing is written, what waited is
 //! lost, and all pieces are run all the same: the report is that of the whole run. `specs/Says` says so of each step,
 //! and two steps one after the other are one of the joined text.
 //!
-//! **Cost.** An operation costs what it does, and the bytes of its line are copied once. At the last segment the own words
-//! of each piece of a job are read, for the traps. [`run_alone`] looks for no piece: it goes through those of each job
-//! where a segment starts it. Nothing here allocates, waits or starts a thread.
+//! **Cost.** An operation costs what it does, and the bytes of its line are copied once. At the last segment the own
+//! words of each piece of a job are read, for the traps. [`run_alone`] goes through the pieces of a job where a segment
+//! starts it. Nothing here waits or starts a thread, and only [`fresh_cells`] takes memory, where the list is short.
 //!
 //! A script reaches this crate as a well ordered plan alone, so the operations fit their containers, the counts fit
 //! their types, and nothing is tested twice.

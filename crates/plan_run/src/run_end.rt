@@ -26,4 +26,20 @@ impl RunEnd {
             RunEnd::Done(report)
         }
     }
+
+    /// Whether a write failed.
+    pub fn is_fault(self) -> bool
+        ensures { result ≡ is_fault self }
+    {
+        matches!(self, RunEnd::WriteFault(_))
+    }
+
+    /// The report of the whole run.
+    pub fn report(self) -> Report
+        ensures { result ≡ report_of self }
+    {
+        match self {
+            RunEnd::Done(report) | RunEnd::WriteFault(report) => report,
+        }
+    }
 }

@@ -100,7 +100,8 @@ pub fn pause_for<R: Wait, B: Board, G: Gate>(
     shared.awaited.store(job.0);
     let announced = shared.idle.announce();
     let mut own = seat;
-    if is_any_offered(&shared.thieves) || crew.board.finished(&mut own, job) {
+    let finished = crew.board.finished(&mut own, job);
+    if finished || is_any_offered(&shared.thieves) {
         shared.idle.stay(announced);
     } else {
         shared.idle.sleep(crew.rt, announced);

@@ -16,8 +16,8 @@ use crate::queue::Queue;
 use frame_core::{Board, Plan};
 use job_base::{Gate, JobId, PieceId};
 
-// Opens the pieces of a job, and then offers the job, so that whoever finds it can begin them.
-fn open_job<B: Board>(plan: &Plan, board: &B, seat: &mut B::Seat, queue: &mut Queue, job: JobId)
+// Opens the pieces of a job.
+fn open_pieces<B: Board>(plan: &Plan, board: &B, seat: &mut B::Seat, job: JobId)
     requires plan { plan.now ≡ B.plan board.now }
     requires well { IsWellOrderedPlan plan.now }
     requires job { IsJobOf plan.now job }
@@ -32,6 +32,20 @@ fn open_job<B: Board>(plan: &Plan, board: &B, seat: &mut B::Seat, queue: &mut Qu
     for p in first..first + entry.pieces() {
         board.open_piece(seat, PieceId(p));
     }
+}
+
+// Opens the pieces of a job, and then offers the job, so that whoever finds it can begin them.
+fn open_job<B: Board>(plan: &Plan, board: &B, seat: &mut B::Seat, queue: &mut Queue, job: JobId)
+    requires plan { plan.now ≡ B.plan board.now }
+    requires well { IsWellOrderedPlan plan.now }
+    requires job { IsJobOf plan.now job }
+    requires home { B.home seat.old ≡ B.name board.now }
+    requires rights { MayOpenFrom plan.now job.0 0 (B.know seat.old) }
+    ensures home { B.home seat.new ≡ B.home seat.old }
+    ensures steady { IsSteady (B.know seat.old) (B.know seat.new) }
+    ensures none { MayOpenNone (B.know seat.new) }
+{
+    open_pieces(plan, board, seat, job);
     queue.offer::<B>(seat, job);
 }
 

@@ -33,7 +33,7 @@ impl<T: Drop> PoolRoom<T> {
     {
         let followers = Followers::of_plan(alloc, plan)?;
         let claims = Claims::of_plan(alloc, plan)?;
-        let capacity = plan.jobs.len().saturating_mul(2);
+        let capacity = 2 * plan.jobs.len();
         let mut rest = seats;
         let first = Place::new(alloc, 0, rest.remove(0), capacity)?;
         let mut thieves = Vec::with_capacity(alloc, rest.len() + 1)?;

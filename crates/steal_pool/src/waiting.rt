@@ -76,11 +76,11 @@ fn wait_one<R: Wait, B: Board, S: Sink, G: Gate>(
     ensures later { S.faults sink.old ≤ S.faults sink.new }
 {
     let mut own = seat;
-    if crew.board.finished(&mut own, job) {
-        return own;
+    if !crew.board.finished(&mut own, job) {
+        flush_lines(out, sink, failed);
+        own = help_until(crew, tools, own, job);
     }
-    flush_lines(out, sink, failed);
-    help_until(crew, tools, own, job)
+    own
 }
 
 /// Waits until jobs are finished. It says nothing, and writes what was said before.

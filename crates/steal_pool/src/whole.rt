@@ -80,10 +80,9 @@ where
     ensures none { is_fault result ≡ false → out.new ≡ [] }
     ensures sink_later { S.faults sink.old ≤ S.faults sink.new }
 {
-    let (mut failed, report) = match run_lines(rt, plan, board, room, out, sink, gate) {
-        RunEnd::Done(report) => (false, report),
-        RunEnd::WriteFault(report) => (true, report),
-    };
+    let lines = run_lines(rt, plan, board, room, out, sink, gate);
+    let report = lines.report();
+    let mut failed = lines.is_fault();
     say_traps(&report, out, sink, &mut failed);
     flush_lines(out, sink, &mut failed);
     RunEnd::of(failed, report)

@@ -21,3 +21,5 @@ mod rows;
 mod statements;
 #[cfg(test)]
 mod tables;
+#[cfg(test)]
+mod waking;

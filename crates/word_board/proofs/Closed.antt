@@ -10,7 +10,7 @@ use Rattle.word_board.specs.Views.{claims}
 use Rattle.word_board.specs.Rule.{moment}
 use Rattle.word_board.specs.Laws.{ClosedBoardsAreDone}
 use Rattle.word_board.proofs.Showing.{claims_at}
-use Rattle.word_board.proofs.Standing.{segments_are}
+use Rattle.frame_core.proofs.Boards.{segments_are}
 
 after_is : (plan : Plan) (w : ℕ) → cells_before (graph_of plan) (graph_of plan).count w ≡ cells_after plan w
 unfolding cells_after graph_of

@@ -25,7 +25,8 @@ use Rattle.word_board.specs.Rule.{moment, Holds}
 use Rattle.word_board.specs.Plays.{Counts as CountPlay, Releases as ReleasePlay}
 use Rattle.word_board.proofs.Lists.{window_at}
 use Rattle.word_board.proofs.Showing.{lease_kept, claims_at, claims_changed, states_far, cells_far, rests_far, waits_far, rests_put, waits_put, step_kept}
-use Rattle.word_board.proofs.Standing.{place_low_too, part_there, IsPart, part_is, is_of_job, job_of_is, jobs_are, dependency_is}
+use Rattle.frame_core.proofs.Standing.{place_low_too, part_there, IsPart, part_is}
+use Rattle.frame_core.proofs.Boards.{is_of_job, job_of_is, jobs_are, dependency_is}
 use Rattle.word_board.proofs.Claiming.{duties_are, without_here, without_there, without_segments, followers_none, followers_one, followers_segments, right_there, IsRight, right_of}
 
 pub total_at : (f : Claims → ℕ) (cs : List Claims) (k : ℕ) (v : Claims) → slice_get cs k ≡ Some v → f v ≤ total f cs

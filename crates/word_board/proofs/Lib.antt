@@ -1,7 +1,7 @@
 pub mod Lists
 pub mod Showing
 pub mod Claiming
-pub mod Standing
+pub mod Starters
 pub mod Cells
 pub mod Ends
 pub mod Counts

@@ -18,13 +18,15 @@ use Rattle.frame_core.proofs.Planned.{pieces_are_named}
 use Rattle.word_board.specs.declared.view.Held.{Held}
 use Rattle.word_board.specs.declared.view.View.{View}
 use Rattle.word_board.specs.Words.{state_word, states_in}
-use Rattle.word_board.specs.Views.{claims, know, local_cells, place_numbered}
+use Rattle.frame_core.specs.Events.{place_numbered}
+use Rattle.word_board.specs.Views.{claims, know, local_cells}
 use Rattle.word_board.specs.Rule.{Holds}
 use Rattle.word_board.specs.Laws.{LeasedWordsHoldTheirCells, LeasedPiecesAreBegun, PiecesAreLeasedOnce, OpenPiecesAreReady, PiecesToOpenAreClosed, RightsAreHeldOnce, CountdownsAreExact}
 use Rattle.word_board.proofs.Cells.{lease_at}
 use Rattle.word_board.proofs.Claiming.{right_there}
 use Rattle.word_board.proofs.Showing.{claims_at, state_is}
-use Rattle.word_board.proofs.Standing.{reads_there, segment_there, segments_are, stands}
+use Rattle.frame_core.proofs.Standing.{reads_there, segment_there, stands}
+use Rattle.frame_core.proofs.Boards.{segments_are}
 
 abbrev lease_here : Plan → Held → Lease
 lease_here plan h = record { piece = place_numbered plan h.piece; local = local_cells plan h }

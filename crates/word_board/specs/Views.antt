@@ -11,8 +11,8 @@ use Rattle.frame_core.specs.declared.piece.Piece.{Piece}
 use Rattle.frame_core.specs.declared.piece.Piece.TheVariants.{OfScript, OfJob}
 use Rattle.frame_core.specs.declared.plan.Plan.{Plan}
 use Rattle.frame_core.specs.Names.{has_job, deps_in, starts_in, job_at, segment_at}
-use Rattle.frame_core.specs.Pieces.{place_of, piece_numbered}
 use Rattle.frame_core.specs.Graphs.{before_number}
+use Rattle.frame_core.specs.Events.{place_numbered}
 use Rattle.frame_core.specs.Know.{Know, no_cells, piece_count, is_of}
 use Rattle.word_board.specs.declared.view.Duty.{Duty}
 use Rattle.word_board.specs.declared.view.Held.{Held}
@@ -61,9 +61,6 @@ know v = record {
 
 -- WHAT IT CLAIMS, as the laws say it: pieces by their places in script order, and jobs by theirs, from 0. What is no
 -- piece or no job has no place, and is left out.
-
-abbrev pub place_numbered : Plan → ℕ → ℕ
-place_numbered plan p = place_of plan (piece_numbered plan p)
 
 abbrev pub lease_in : Plan → Option Held → Option Lease
 lease_in plan None = None

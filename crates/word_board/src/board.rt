@@ -39,8 +39,8 @@ impl WordBoard {
     ghost use Rattle.word_board.specs.Boards.{home_of, name_of, view_of};
     ghost use Rattle.word_board.specs.Views.{fresh_view};
 
-    /// Another seat, which holds nothing. One load.
-    pub fn split(&self, seat: &mut WordSeat) -> WordSeat
+    // Another seat, which holds nothing. One load.
+    pub(crate) fn split(&self, seat: &mut WordSeat) -> WordSeat
         requires home { home_of seat.old ≡ name_of self.now }
 
         ensures other { home_of result ≡ name_of self.now }
@@ -61,8 +61,8 @@ fn shared_by_threads<T: Send + Sync>(_it: &T) {}
 
 fn sent_to_threads<T: Send>(_it: &T) {}
 
-/// A board is shared by threads, and a seat goes to one. It does nothing: that it is accepted shows it.
-pub fn crosses(board: &WordBoard, seat: &WordSeat) {
+// A board is shared by threads, and a seat goes to one. Nothing calls it: that it is accepted shows it.
+fn crosses(board: &WordBoard, seat: &WordSeat) {
     shared_by_threads(board);
     sent_to_threads(seat);
 }

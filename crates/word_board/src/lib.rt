@@ -34,6 +34,6 @@ mod state;
 mod steps;
 mod view;
 
-pub use board::{WordBoard, crosses};
+pub use board::WordBoard;
 pub use seat::WordSeat;
 pub use view::{Duty, Held, Kind, Predecessor, View};

@@ -1,10 +1,9 @@
-use Rattle.std.proofs.Common.{◌≡◌, ◌<◌, ◌∙◌, length, refl, arith}
+use Rattle.std.proofs.Common.{◌≡◌, ◌+◌, ◌<◌, ◌∙◌, length, refl, arith}
 use Rattle.frame_core.specs.declared.piece.Piece.TheVariants.{OfScript}
 use Rattle.plan_run.proofs.Beginning.{alike_before, alike_fresh}
 use Rattle.plan_run.proofs.InScriptOrder.{ends, may_read, may_write}
 use Rattle.plan_run.proofs.Saying.{says_none}
 use Rattle.plan_run.proofs.Running.{lines_next, refused_next, refused_few, all_lines, all_reported}
-use Rattle.plan_run.specs.Says.{said_to}
 use Rattle.plan_run.proofs.alone.run_alone.Goals as goal
 
 pub run_alike-last-requires-clause-few : goal.run_alike-last-requires-clause-few
@@ -39,7 +38,7 @@ loop-i-init g c = record {
   after = λ p e. absurd (omega (arith, p));
   readable = refl;
   writable = refl;
-  says = says_none (said_to g.S.Sink.taken g.S.Sink.faults c.args.sink.now c.args.out.now c.args.failed.now);
+  says = says_none _;
   later = omega arith;
   refused = refl;
   traps = λ p e. absurd (omega (arith, p));
@@ -55,8 +54,7 @@ loop-i-preserved g c =
       after = λ p e. ends c.args.plan.now c.requires.well (c.loop-i.i + 1) (g.M.Mem.cells c.run_started.new.mem) e r.cells;
       readable = r.readable ∙ (i.readable ∙ v.readable);
       writable = r.writable ∙ (i.writable ∙ v.writable);
-      says = lines_next c.args.plan.now (said_to g.S.Sink.taken g.S.Sink.faults c.args.sink.now c.args.out.now c.args.failed.now) (said_to g.S.Sink.taken g.S.Sink.faults c.loop-i.sink c.loop-i.out c.loop-i.failed)
-          (said_to g.S.Sink.taken g.S.Sink.faults c.run_alike-last.new.sink c.run_alike-last.new.out c.run_alike-last.new.failed) c.loop-i.i v.says i.text;
+      says = lines_next c.args.plan.now _ _ _ c.loop-i.i v.says i.text;
       later = let a = v.later in let b = i.later in omega (arith, a, b);
       refused = refused_next c.args.plan.now c.loop-i.i c.loop-i.refused c.run_alike-last.new.refused v.refused i.refused;
       traps = λ p e. i.traps e;
@@ -78,8 +76,7 @@ returns-clause-text g c =
     let t = c.loop-i-test.false in
     let u = c.loop-i.auto.i-end in
     let at : c.loop-i.i ≡ length c.args.plan.now.segments.items = omega (arith, n, t, u) in
-    all_lines c.args.plan.now (said_to g.S.Sink.taken g.S.Sink.faults c.args.sink.now c.args.out.now c.args.failed.now)
-    (said_to g.S.Sink.taken g.S.Sink.faults c.loop-i.sink c.loop-i.out c.loop-i.failed) c.loop-i.i at c.loop-i.invariant.says
+    all_lines c.args.plan.now _ _ c.loop-i.i at c.loop-i.invariant.says
 
 pub returns-clause-report : goal.returns-clause-report
 returns-clause-report g c =

@@ -1,4 +1,4 @@
-use Rattle.std.proofs.Common.{◌≡◌, ℕ, ◌+◌, ◌-◌, ◌<◌, refl, ◌∙◌, arith}
+use Rattle.std.proofs.Common.{◌≡◌, ◌+◌, ◌-◌, ◌<◌, refl, ◌∙◌, arith}
 use Rattle.frame_core.specs.Names.{job_pieces, pieces_of}
 use Rattle.frame_core.specs.Pieces.{piece_numbered}
 use Rattle.plan_run.proofs.InScriptOrder.{cut_is, end_within, number_is, there, may_read, may_write, named, part_step, parts_end}

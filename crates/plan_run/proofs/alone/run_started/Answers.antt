@@ -1,4 +1,3 @@
-use Rattle.std.proofs.Common.{Some, sym}
 use Rattle.plan_run.proofs.InScriptOrder.{started_job, starts_is, segment_step, none_end}
 use Rattle.plan_run.proofs.alone.run_started.Goals as goal
 

@@ -1,5 +1,6 @@
 use Rattle.std.proofs.Common.{◌≡◌, ◌<◌, ◌∙◌, arith, rules, length, false, sym, subst}
 use Rattle.frame_core.specs.Output.{plan_lines}
+use Rattle.plan_run.specs.Runs.{IsReport}
 use Rattle.plan_run.specs.Says.{SaysTo, said_to}
 use Rattle.plan_run.proofs.Running.{lines_next, refused_next, refused_few, all_lines, all_reported}
 use Rattle.steal_pool.proofs.script.run_script.Goals as goal
@@ -27,4 +28,9 @@ returns-clause-run g c =
     let last = c.requires.crew.well.order.last_is in
     let at : c.loop-i.i ≡ length c.args.crew.now.plan.now.segments.items = omega (arith, n, t, u) in
     let pos : 0 < c.loop-i.i = omega (arith, at, last) in
-    ?
+    let from = said_to g.S.Sink.taken g.S.Sink.faults c.args.sink.now c.args.out.now false in
+    let to = said_to g.S.Sink.taken g.S.Sink.faults c.loop-i.sink c.loop-i.out c.loop-i.failed in (
+      subst (λ b. SaysTo g.S.Sink.taken g.S.Sink.faults c.args.sink.now c.args.out.now false c.loop-i.sink c.loop-i.out b (plan_lines c.args.crew.now.plan.now)) (sym c.of-end.ensures.fault) (all_lines c.args.crew.now.plan.now from to c.loop-i.i at v.says),
+      subst (λ r. IsReport c.args.crew.now.plan.now r) (sym c.of-end.ensures.report)
+          (all_reported c.args.crew.now.plan.now c.loop-i.i c.loop-i.refused c.with_refused.result at v.refused c.with_refused.ensures.refused (c.with_refused.ensures.traps _ (v.traps pos at))),
+    )

@@ -25,7 +25,7 @@ overflow_sub-end_of c =
     let lt : c.loop-j.j < length c.args.plan.now.jobs.items = omega arith in
     let first = c.requires.well.order.firsts c.loop-j.j c.index.result.now (job_is c.args.plan.now c.loop-j.j c.index.result.now lt c.index.ensures) in
     let e = c.end_of.ensures.end in
-    let grows = Rattle.word_board.proofs.Standing.before_grows c.args.plan.now.jobs.items c.loop-j.j in
+    let grows = Rattle.frame_core.proofs.Boards.pieces_grow c.args.plan.now.jobs.items c.loop-j.j in
     omega arith
 
 pub loop-j-preserved : goal.loop-j-preserved

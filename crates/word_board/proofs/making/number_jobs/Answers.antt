@@ -1,7 +1,7 @@
 use Rattle.std.proofs.Common.{◌≡◌, ◌<◌, length, ap, subst, ◌∙◌, arith, rules}
 use Rattle.frame_core.specs.Names.{pieces_before}
 use Rattle.word_board.proofs.Laying.{numbered_more}
-use Rattle.word_board.proofs.Standing.{before_grows}
+use Rattle.frame_core.proofs.Boards.{pieces_grow}
 use Rattle.word_board.proofs.making.number_jobs.Goals as goal
 
 pub loop-j-init : goal.loop-j-init
@@ -11,7 +11,7 @@ pub push_job-requires : goal.push_job-requires
 push_job-requires c =
     let size = c.loop-j.invariant.numbered.size in
     let end = c.end_of-end.ensures.end in
-    let grows = before_grows c.args.plan.now.jobs.items c.loop-j.j in
+    let grows = pieces_grow c.args.plan.now.jobs.items c.loop-j.j in
     record { end = omega arith }
 
 pub loop-j-preserved : goal.loop-j-preserved
