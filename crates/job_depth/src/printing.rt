@@ -11,11 +11,7 @@ use itoa::Buffer;
 use job_base::{JobId, Sink, SinkFault};
 
 // Puts all before the jobs of the chain.
-fn put_numbers<S: Sink>(
-    depth: &Depth,
-    out: &mut Outgoing,
-    sink: &mut S,
-) -> Result<(), SinkFault>
+fn put_numbers<S: Sink>(depth: &Depth, out: &mut Outgoing, sink: &mut S) -> Result<(), SinkFault>
     ensures text { Gathers (S.taken sink.old) out.old (S.taken sink.new) out.new result (numbers_text depth.now) }
     ensures count { OnOk result (S.faults sink.new ≡ S.faults sink.old) }
     ensures cause { OnErr result (Rose (S.faults sink.old) (S.faults sink.new)) }
@@ -54,11 +50,7 @@ fn put_job<S: Sink>(id: JobId, out: &mut Outgoing, sink: &mut S) -> Result<(), S
     out.put_all(&parts, sink)
 }
 
-fn put_jobs<S: Sink>(
-    jobs: &[JobId],
-    out: &mut Outgoing,
-    sink: &mut S,
-) -> Result<(), SinkFault>
+fn put_jobs<S: Sink>(jobs: &[JobId], out: &mut Outgoing, sink: &mut S) -> Result<(), SinkFault>
     ensures text { Gathers (S.taken sink.old) out.old (S.taken sink.new) out.new result (jobs_text jobs.now) }
     ensures count { OnOk result (S.faults sink.new ≡ S.faults sink.old) }
     ensures cause { OnErr result (Rose (S.faults sink.old) (S.faults sink.new)) }
