@@ -1,7 +1,6 @@
 // A worker's own open jobs, which other workers may steal.
 ghost use Rattle.std.specs.Prelude.{◌≡◌, ◌≤◌, IfOk};
 ghost use Rattle.crossbeam_deque.specs.Handles.{worker_capacity, worker_index};
-ghost use Rattle.steal_pool.specs.Seats.{MayOpenNone};
 
 use crossbeam_deque::protocol::Free;
 use crossbeam_deque::{Steal, Stealer, Worker};
@@ -23,6 +22,8 @@ pub struct Queue {
 }
 
 impl Queue {
+    ghost use Rattle.steal_pool.specs.Seats.{MayOpenNone};
+
     /// An empty deque with room for so many pushes, whatever is popped in between.
     pub fn new(alloc: Global, capacity: usize) -> Result<Queue, NoMemory>
         ensures room { IfOk result (λ queue. queue.capacity ≡ capacity) }

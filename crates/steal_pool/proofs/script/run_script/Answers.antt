@@ -30,7 +30,7 @@ returns-clause-run g c =
     let pos : 0 < c.loop-i.i = omega (arith, at, last) in
     let from = said_to g.S.Sink.taken g.S.Sink.faults c.args.sink.now c.args.out.now false in
     let to = said_to g.S.Sink.taken g.S.Sink.faults c.loop-i.sink c.loop-i.out c.loop-i.failed in (
-      subst (λ b. SaysTo g.S.Sink.taken g.S.Sink.faults c.args.sink.now c.args.out.now false c.loop-i.sink c.loop-i.out b (plan_lines c.args.crew.now.plan.now)) (sym c.of-end.ensures.fault) (all_lines c.args.crew.now.plan.now from to c.loop-i.i at v.says),
-      subst (λ r. IsReport c.args.crew.now.plan.now r) (sym c.of-end.ensures.report)
+      subst (λ b. SaysTo g.S.Sink.taken g.S.Sink.faults c.args.sink.now c.args.out.now false c.loop-i.sink c.loop-i.out b (plan_lines c.args.crew.now.plan.now)) (sym c.of.ensures.fault) (all_lines c.args.crew.now.plan.now from to c.loop-i.i at v.says),
+      subst (λ r. IsReport c.args.crew.now.plan.now r) (sym c.of.ensures.report)
           (all_reported c.args.crew.now.plan.now c.loop-i.i c.loop-i.refused c.with_refused.result at v.refused c.with_refused.ensures.refused (c.with_refused.ensures.traps _ (v.traps pos at))),
     )

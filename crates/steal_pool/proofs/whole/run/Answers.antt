@@ -1,7 +1,7 @@
-use Rattle.std.proofs.Common.{◌≡◌, List, ◌++◌, Bool, false, refl, sym, ap, subst}
+use Rattle.std.proofs.Common.{◌++◌, false, refl, sym, subst}
 use Rattle.frame_ast.specs.Texts.{traps_text}
 use Rattle.frame_core.specs.Output.{plan_lines, plan_traps}
-use Rattle.plan_run.specs.Runs.{IsReport, report_of}
+use Rattle.plan_run.specs.Runs.{IsReport}
 use Rattle.plan_run.specs.Says.{Says, said_to}
 use Rattle.plan_run.proofs.Saying.{says_after}
 use Rattle.plan_run.proofs.Running.{says_flushed, whole_run}
@@ -12,7 +12,7 @@ returns-clause-run g c =
     let plan = g.P.ShowsPlan.shown c.args.plan.now in
     let traps = plan_traps plan in
     let lines = c.run_lines-lines.ensures.run in
-    let same = c.report.ensures in
+    let same = c.report-report.ensures in
     let reported = subst (λ r. IsReport plan r) (sym same) lines.1 in
     let a = said_to g.S.Sink.taken g.S.Sink.faults c.args.sink.now c.args.out.now false in
     let b = said_to g.S.Sink.taken g.S.Sink.faults c.run_lines-lines.new.sink c.run_lines-lines.new.out c.is_fault-failed.result in
