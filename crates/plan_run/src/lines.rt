@@ -1,5 +1,5 @@
 // The operations of a segment, and the lines that they say.
-ghost use Rattle.std.specs.Prelude.{◌≡◌, ◌≤◌, ◌<◌, ◌+◌, ◌^◌, All, OnOk, OnErr, IsSome, Bool};
+ghost use Rattle.std.specs.Prelude.{◌≡◌, ◌≤◌, ◌<◌, ◌+◌, ◌^◌, All, OnOk, OnErr};
 ghost use Rattle.job_base.specs.Faults.{Rose};
 ghost use Rattle.frame_print.specs.Gathering.{Gathers};
 ghost use Rattle.frame_core.specs.Touches.{act_touches, ops_touch};

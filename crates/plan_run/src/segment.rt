@@ -2,7 +2,7 @@
 ghost use Rattle.std.specs.Prelude.{◌≡◌, ◌<◌, ◌≤◌, ◌+◌, ◌^◌, true, length};
 ghost use Rattle.frame_print.specs.Reports.{IsReportOf};
 ghost use Rattle.frame_core.specs.declared.piece.Piece.TheVariants.{OfScript};
-ghost use Rattle.frame_core.specs.Effects.{touches, piece_cells};
+ghost use Rattle.frame_core.specs.Effects.{touches};
 ghost use Rattle.frame_core.specs.Graphs.{before_piece};
 ghost use Rattle.frame_core.specs.Output.{plan_traps, segment_lines, segment_refused};
 ghost use Rattle.frame_core.specs.Ordered.{IsWellOrderedPlan};

@@ -1,5 +1,5 @@
 // The traps of a run, counted in the own words of its pieces.
-ghost use Rattle.std.specs.Prelude.{◌≡◌, ◌≤◌, ◌<◌, ◌+◌, ◌*◌, ℕ, List, [], true};
+ghost use Rattle.std.specs.Prelude.{◌≡◌, ◌≤◌, ◌<◌, ◌+◌, ◌*◌, List, []};
 ghost use Rattle.job_base.specs.declared.Trap.{Trap};
 ghost use Rattle.job_base.specs.declared.limits.TheConstants.{MOST_INDEXES};
 ghost use Rattle.frame_ast.specs.States.{JobTrap};
