@@ -197,10 +197,8 @@ fn ends(rt: HostRuntime) -> Result<(), Fail> {
     let same =
         "job same(a: wo array) { for k in 0..3 { a[k] = 100 / 7 * 1000 + 100 % 7 * 100 + (99 - k) % 23; } }";
     let less = "job less(a: rw array) { a[0] = 1; a[1] = -9223372036854775807 - 2; a[0] = 9; }";
-    let more =
-        "job more(a: rw array) { a[0] = 1; a[1] = 9223372036854775807 + 1; a[0] = 9; }";
-    let square =
-        "job square(a: rw array) { a[0] = 1; a[1] = 3037000500 * 3037000500; a[0] = 9; }";
+    let more = "job more(a: rw array) { a[0] = 1; a[1] = 9223372036854775807 + 1; a[0] = 9; }";
+    let square = "job square(a: rw array) { a[0] = 1; a[1] = 3037000500 * 3037000500; a[0] = 9; }";
     let product =
         "job product(a: rw array) { a[0] = 1; a[1] = 4294967296 * 2147483648; a[0] = 9; }";
     let minus =

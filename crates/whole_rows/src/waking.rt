@@ -6,7 +6,8 @@ use job_base::{CountingGate, PieceId};
 use std::test::Fail;
 
 // Twice a job that takes long enough for the other workers to go to sleep, and then one of 64 pieces.
-const SLOW_FIRST: &str = "job spin(a: rw array) { var k = 0; while k < 40000 { k = k + 1; } a[0] = k; }
+const SLOW_FIRST: &str =
+    "job spin(a: rw array) { var k = 0; while k < 40000 { k = k + 1; } a[0] = k; }
 parallel next(x: rw array) { x[index] = x[index] + 1; }
 array a 1
 array x 64
@@ -21,6 +22,7 @@ print s
 
 // The first two pieces of the last job.
 const FIRST: PieceId = PieceId(66);
+
 const SECOND: PieceId = PieceId(67);
 
 #[test]
