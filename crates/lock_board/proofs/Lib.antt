@@ -1,0 +1,13 @@
+pub mod Reading
+pub mod Spans
+pub mod Lists
+pub mod Places
+pub mod Beginning
+pub mod Ending
+pub mod Counting
+pub mod Opening
+pub mod Closing
+pub mod Making
+pub mod Tables
+pub mod Following
+pub mod Knowing
