@@ -101,7 +101,7 @@ def build():
     uses = crates()
     summed = sum_of(sources())
     print(f"frame_run: proving and building {len(uses)} crates, {os.cpu_count()} side by side; the first time takes "
-          "most of an hour on four processors", file=sys.stderr, flush=True)
+          "some tens of minutes on four processors", file=sys.stderr, flush=True)
     done, running = set(), {}
     with concurrent.futures.ThreadPoolExecutor(os.cpu_count()) as pool:
         while len(done) < len(uses):
