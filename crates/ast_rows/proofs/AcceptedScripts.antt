@@ -73,7 +73,9 @@ Counts s = IsTrue (up_to 65536 (length s.statements.items)) × IsTrue (up_to 102
 pub record Accepts (names : List String) (said : List (ℕ × Said)) : Type 0 where
   pub accepted : (at : Place) → IsAccepted (script at names said)
 
-computed : {names : List String} {said : List (ℕ × Said)} (kinds : List NameKind) → ((at : Place) → (length kinds ≡ length (script at names said).names.items) × (fit names said kinds at ≡ true) × Counts (script at names said)) → Accepts names said
+computed : {names : List String} {said : List (ℕ × Said)} (kinds : List NameKind)
+    → ((at : Place) → (length kinds ≡ length (script at names said).names.items) × (fit names said kinds at ≡ true) × Counts (script at names said))
+    → Accepts names said
 computed kinds each = record {
   accepted = λ at. record {
     kinds = kinds;
@@ -103,13 +105,16 @@ used_too_early : (at : Place) → fit ("a" ∷ []) (lines 1 (print "a" ∷ array
 used_too_early at = refl
 
 -- reference t / array y 1 / schedule h scale(t, y) 1 1: a reference is no array
-wrong_kind : (at : Place) → fit ("t" ∷ "y" ∷ "h" ∷ []) (lines 1 (reference "t" ∷ array "y" 1 ∷ schedule "h" "scale" ("t" ∷ "y" ∷ []) (cut 1 1 plain) ∷ [])) (RefName ∷ ArrayName ∷ HandleName ∷ []) at ≡ false
+wrong_kind : (at : Place) → fit ("t" ∷ "y" ∷ "h" ∷ []) (lines 1 (reference "t" ∷ array "y" 1 ∷ schedule "h" "scale" ("t" ∷ "y" ∷ []) (cut 1 1 plain) ∷ []))
+    (RefName ∷ ArrayName ∷ HandleName ∷ []) at ≡ false
 wrong_kind at = refl
 
 -- array y 1 / schedule h scale(y, y): a parallel job has no length
-no_length : (at : Place) → fit ("y" ∷ "h" ∷ []) (lines 1 (array "y" 1 ∷ schedule "h" "scale" ("y" ∷ "y" ∷ []) plain ∷ [])) (ArrayName ∷ HandleName ∷ []) at ≡ false
+no_length : (at : Place) → fit ("y" ∷ "h" ∷ []) (lines 1 (array "y" 1 ∷ schedule "h" "scale" ("y" ∷ "y" ∷ []) plain ∷ []))
+    (ArrayName ∷ HandleName ∷ []) at ≡ false
 no_length at = refl
 
 -- array y 1 / schedule h scale(y, y) 1 0: a batch is at least 1
-no_batch : (at : Place) → fit ("y" ∷ "h" ∷ []) (lines 1 (array "y" 1 ∷ schedule "h" "scale" ("y" ∷ "y" ∷ []) (cut 1 0 plain) ∷ [])) (ArrayName ∷ HandleName ∷ []) at ≡ false
+no_batch : (at : Place) → fit ("y" ∷ "h" ∷ []) (lines 1 (array "y" 1 ∷ schedule "h" "scale" ("y" ∷ "y" ∷ []) (cut 1 0 plain) ∷ []))
+    (ArrayName ∷ HandleName ∷ []) at ≡ false
 no_batch at = refl

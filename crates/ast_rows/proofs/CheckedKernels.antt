@@ -34,7 +34,9 @@ pub record Passes (k : Text) (count deepest : ℕ) : Type 0 where
   pub nodes : (at : Place) → body_nodes (kernel at k).body.statements.items ≡ count
   pub depth : (at : Place) → body_depth (kernel at k).body.statements.items ≡ deepest
 
-passes : {k : Text} {count deepest : ℕ} → ((at : Place) → measures at k ≡ (true, count, deepest)) → ((at : Place) → IsTrue (list_all param_fits (params at k))) → ((at : Place) → IsTrue (list_all (width_fits k.parallel) (params at k))) → ((at : Place) → IsTrue (nat_le (length (params at k)) MOST_PARAMS)) → IsTrue (nat_le k.locals MOST_LOCALS) → IsTrue (nat_le count MOST_NODES) → IsTrue (nat_le deepest MOST_DEPTH) → Passes k count deepest
+passes : {k : Text} {count deepest : ℕ} → ((at : Place) → measures at k ≡ (true, count, deepest)) → ((at : Place) → IsTrue (list_all param_fits (params at k)))
+    → ((at : Place) → IsTrue (list_all (width_fits k.parallel) (params at k))) → ((at : Place) → IsTrue (nat_le (length (params at k)) MOST_PARAMS))
+    → IsTrue (nat_le k.locals MOST_LOCALS) → IsTrue (nat_le count MOST_NODES) → IsTrue (nat_le deepest MOST_DEPTH) → Passes k count deepest
 passes {k} {count} {deepest} same params_fit placed few_params few_locals few_nodes not_deep =
     let counted : (at : Place) → body_nodes (kernel at k).body.statements.items ≡ count =
     λ at. ap (all_joined (λ m n. m + n)) (taken at _ k.body (same_folds at (measured expr_nodes (λ m n. m + n)) k.body)) ∙ ap (λ c. c.1) (same at) in
@@ -42,7 +44,8 @@ passes {k} {count} {deepest} same params_fit placed few_params few_locals few_no
     λ at. ap (all_joined max) (taken at _ k.body (same_folds at (measured expr_depth max) k.body)) ∙ ap (λ c. c.2) (same at) in
     record {
       checked = λ at. record {
-        fits = ap (λ fs. all_fit fs []) (taken at _ k.body (same_folds at (statement_fits (params at k) k.locals (expr_fits k.parallel (params at k) k.locals)) k.body)) ∙ ap (λ c. c.0) (same at);
+        fits = ap (λ fs. all_fit fs []) (taken at _ k.body (same_folds at
+            (statement_fits (params at k) k.locals (expr_fits k.parallel (params at k) k.locals)) k.body)) ∙ ap (λ c. c.0) (same at);
         params = params_fit at;
         widths = placed at;
         count = few_params at;

@@ -228,14 +228,18 @@ module _ (at : Place) where
       same_fold (clear x) = fold-roll-Stmt R step (Stmt-F.Clear x)
       same_fold (write x e) = fold-roll-Stmt R step (Stmt-F.Write x (e at))
       same_fold (begin x e body) =
-          fold-roll-Stmt R step (Stmt-F.Begin x (e at) (vec at (trees body))) ∙ ap (λ v. step (Stmt-F.Begin x (e at) v)) (same_vec at _ _ _ _ _ _ _ _ (taken body (same_folds body)))
+          fold-roll-Stmt R step (Stmt-F.Begin x (e at) (vec at (trees body)))
+          ∙ ap (λ v. step (Stmt-F.Begin x (e at) v)) (same_vec at _ _ _ _ _ _ _ _ (taken body (same_folds body)))
       same_fold (if_ e body other) =
           fold-roll-Stmt R step (Stmt-F.If (e at) (vec at (trees body)) (vec at (trees other)))
-          ∙ ap₂ (λ v w. step (Stmt-F.If (e at) v w)) (same_vec at _ _ _ _ _ _ _ _ (taken body (same_folds body))) (same_vec at _ _ _ _ _ _ _ _ (taken other (same_folds other)))
+          ∙ ap₂ (λ v w. step (Stmt-F.If (e at) v w)) (same_vec at _ _ _ _ _ _ _ _ (taken body (same_folds body)))
+          (same_vec at _ _ _ _ _ _ _ _ (taken other (same_folds other)))
       same_fold (for_ k e f body) =
-          fold-roll-Stmt R step (Stmt-F.For k (e at) (f at) (vec at (trees body))) ∙ ap (λ v. step (Stmt-F.For k (e at) (f at) v)) (same_vec at _ _ _ _ _ _ _ _ (taken body (same_folds body)))
+          fold-roll-Stmt R step (Stmt-F.For k (e at) (f at) (vec at (trees body)))
+          ∙ ap (λ v. step (Stmt-F.For k (e at) (f at) v)) (same_vec at _ _ _ _ _ _ _ _ (taken body (same_folds body)))
       same_fold (while e body) =
-          fold-roll-Stmt R step (Stmt-F.While (e at) (vec at (trees body))) ∙ ap (λ v. step (Stmt-F.While (e at) v)) (same_vec at _ _ _ _ _ _ _ _ (taken body (same_folds body)))
+          fold-roll-Stmt R step (Stmt-F.While (e at) (vec at (trees body)))
+          ∙ ap (λ v. step (Stmt-F.While (e at) v)) (same_vec at _ _ _ _ _ _ _ _ (taken body (same_folds body)))
 
       pub same_folds : (b : Block) → map (fold-Stmt R step) (trees b) ≡ all_folded b
       same_folds end = refl
@@ -270,7 +274,8 @@ run at k widths steps n args =
     indexes (λ index s. in_turn (take 1000 (all_folded at (statement (arguments widths index) index) k.body)) (fresh steps s)) (executes k.parallel n) 0 args
 
 pub same_run : (at : Place) (k : Text) → run_of (kernel at k) ≡ run at k
-same_run at k = λ i widths steps n args. indexes (λ index s. in_turn (taken at (statement (arguments widths index) index) k.body (same_folds at (statement (arguments widths index) index) k.body) i) (fresh steps s)) (executes k.parallel n) 0 args
+same_run at k = λ i widths steps n args. indexes (λ index s. in_turn (taken at (statement (arguments widths index) index) k.body
+    (same_folds at (statement (arguments widths index) index) k.body) i) (fresh steps s)) (executes k.parallel n) 0 args
 
 pub same_runs : (at : Place) (ks : List Text) → map run_of (map (kernel at) ks) ≡ map (run at) ks
 same_runs at [] = refl

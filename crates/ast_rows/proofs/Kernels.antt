@@ -178,4 +178,5 @@ loop = job "loop" (wo a_ref "t" ∷ []) 1 (for_ 0 (number 0) (number 5) end ⨾ 
 
 -- Scripts take their kernels from this one list, whether they use all of them or not.
 abbrev pub kernels : List Text
-kernels = scale ∷ total ∷ bump ∷ peek ∷ shift ∷ pair ∷ both ∷ emit ∷ slow ∷ quick ∷ keys ∷ push ∷ triple ∷ edge ∷ twice ∷ pairs ∷ over ∷ grow ∷ cap ∷ signs ∷ logic ∷ edit ∷ lookup ∷ again ∷ missed ∷ mark ∷ cross ∷ []
+kernels = scale ∷ total ∷ bump ∷ peek ∷ shift ∷ pair ∷ both ∷ emit ∷ slow ∷ quick ∷ keys ∷ push ∷ triple ∷ edge ∷ twice ∷ pairs ∷ over ∷ grow ∷ cap ∷ signs
+    ∷ logic ∷ edit ∷ lookup ∷ again ∷ missed ∷ mark ∷ cross ∷ []

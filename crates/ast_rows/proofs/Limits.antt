@@ -33,7 +33,8 @@ unfolding first_some
 refused_fits at = refl
 
 -- but with a `when` they count on the text: reference t / when t == 1 { / print t / } / list b 1048575 / repeat 8 { / list a 1048575 / }
-refused_counts : Passes ("t" ∷ "b" ∷ "a" ∷ []) (reference "t" ∷ when "t" Sign.Eq 1 1 ∷ print "t" ∷ list "b" 1048575 ∷ times 8 (list "a" 1048575 ∷ [])) (Some TooManyWords)
+refused_counts : Passes ("t" ∷ "b" ∷ "a" ∷ []) (reference "t" ∷ when "t" Sign.Eq 1 1 ∷ print "t" ∷ list "b" 1048575 ∷ times 8 (list "a" 1048575 ∷ []))
+    (Some TooManyWords)
 unfolding first_some
 refused_counts at = refl
 
@@ -42,7 +43,8 @@ abbrev jobs_past : ℕ → Place → Option Limit
 jobs_past n at =
     let names = "t" ∷ "a" ∷ "h" ∷ [] in
     let said = reference "t" ∷ when "t" Sign.Eq 1 1 ∷ print "t" ∷ array "a" 1 ∷ [] in
-    limit_of (setting (script at names (lines 1 said)) no_table) (statements at (number_of names) 0 (lines 1 (said ++ times n (schedule "h" "bump" ("a" ∷ []) plain ∷ []))))
+    limit_of (setting (script at names (lines 1 said)) no_table) (statements at (number_of names) 0
+    (lines 1 (said ++ times n (schedule "h" "bump" ("a" ∷ []) plain ∷ []))))
 
 jobs_4096 : (at : Place) → jobs_past 4096 at ≡ None
 unfolding first_some

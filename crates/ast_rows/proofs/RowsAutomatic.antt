@@ -7,7 +7,7 @@ use Rattle.frame_ast.specs.declared.script.Sign.{Sign}
 use Rattle.frame_ast.specs.Kernels.{fresh}
 use Rattle.frame_ast.specs.JobRuns.{full_steps, deferred_steps}
 use Rattle.frame_ast.specs.Orders.{no_table}
-use Rattle.ast_rows.proofs.Script.{Said, Gives, computed, lines, array, array_of, reference, set, print, plain, cut, schedule, schedule_auto, complete, complete_auto, dispose_auto, when, reference_of}
+use Rattle.ast_rows.proofs.Script.{Said, Gives, computed, lines, array, array_of, reference, set, print, plain, after, cut, schedule, schedule_auto, complete, complete_auto, dispose_auto, when, reference_of}
 
 -- array x 4 = 1 2 3 4 / array y 4 / reference t / schedule auto h1 scale(x, y) 4 2 / schedule auto h2 total(y, t) / complete auto t / print t
 automatic_dependencies : Gives ("x" ∷ "y" ∷ "t" ∷ "h1" ∷ "h2" ∷ []) (lines 13 (
@@ -39,6 +39,54 @@ automatic_disposal : Gives ("a" ∷ "t" ∷ "u" ∷ "w" ∷ "r1" ∷ "r2" ∷ "w
     ∷ [])) no_table "t = 6\nu = 6\n" 0
 unfolding fresh full_steps deferred_steps digits first_some
 automatic_disposal = computed (λ at. refl)
+
+-- array a 1 / reference t / schedule auto h1 bump(a) / schedule auto h2 peek(a, t) / complete h2 / print a
+automatic_job_waits : Gives ("a" ∷ "t" ∷ "h1" ∷ "h2" ∷ []) (lines 13 (
+    array "a" 1
+    ∷ reference "t"
+    ∷ schedule_auto "h1" "bump" ("a" ∷ []) plain
+    ∷ schedule_auto "h2" "peek" ("a" ∷ "t" ∷ []) plain
+    ∷ complete "h2"
+    ∷ print "a"
+    ∷ [])) no_table "a = [1]\n" 0
+unfolding fresh full_steps deferred_steps digits first_some
+automatic_job_waits = computed (λ at. refl)
+
+-- array a 1 / array b 1 / schedule h1 bump(a) / schedule auto h2 bump(b) after h1 / complete h2 / print a
+automatic_job_waits_for_what_it_names : Gives ("a" ∷ "b" ∷ "h1" ∷ "h2" ∷ []) (lines 13 (
+    array "a" 1
+    ∷ array "b" 1
+    ∷ schedule "h1" "bump" ("a" ∷ []) plain
+    ∷ schedule_auto "h2" "bump" ("b" ∷ []) (after ("h1" ∷ []) plain)
+    ∷ complete "h2"
+    ∷ print "a"
+    ∷ [])) no_table "a = [1]\n" 0
+unfolding fresh full_steps deferred_steps digits first_some
+automatic_job_waits_for_what_it_names = computed (λ at. refl)
+
+-- array a 1 / reference t / schedule h peek(a, t) / complete auto a / set a 0 = 5 / print t
+automatic_completion_of_a_reader : Gives ("a" ∷ "t" ∷ "h" ∷ []) (lines 13 (
+    array "a" 1
+    ∷ reference "t"
+    ∷ schedule "h" "peek" ("a" ∷ "t" ∷ []) plain
+    ∷ complete_auto "a"
+    ∷ set "a" 0 5
+    ∷ print "t"
+    ∷ [])) no_table "t = 0\n" 0
+unfolding fresh full_steps deferred_steps digits first_some
+automatic_completion_of_a_reader = computed (λ at. refl)
+
+-- array a 1 / reference t / schedule h peek(a, t) / dispose auto a as d / complete d / print t
+automatic_disposal_after_a_reader : Gives ("a" ∷ "t" ∷ "h" ∷ "d" ∷ []) (lines 13 (
+    array "a" 1
+    ∷ reference "t"
+    ∷ schedule "h" "peek" ("a" ∷ "t" ∷ []) plain
+    ∷ dispose_auto "a" "d"
+    ∷ complete "d"
+    ∷ print "t"
+    ∷ [])) no_table "t = 0\n" 0
+unfolding fresh full_steps deferred_steps digits first_some
+automatic_disposal_after_a_reader = computed (λ at. refl)
 
 -- reference t / array a 1 = 6 / schedule h peek(a, t) / complete h / when t > 3 { / set a 0 = 1 / print a / } / when t < 3 { / print a / } / print t
 abbrev pub block_names : List String

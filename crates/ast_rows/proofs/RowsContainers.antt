@@ -49,7 +49,8 @@ keys_said = lines 13 (
     ∷ put "m" 4 4
     ∷ [])
 
-keys_of_a_map : Gives keys_names keys_said no_table "t = 0\nrefused 22: missing key\nrefused 23: present key\nm = {2: 6, 3: 8}\nrefused 25: full\ntrap job 1 index 0: full\ntraps 1\n" 5
+keys_of_a_map : Gives keys_names keys_said no_table
+    "t = 0\nrefused 22: missing key\nrefused 23: present key\nm = {2: 6, 3: 8}\nrefused 25: full\ntrap job 1 index 0: full\ntraps 1\n" 5
 unfolding fresh full_steps deferred_steps digits first_some
 keys_of_a_map = computed (λ at. refl)
 

@@ -222,7 +222,8 @@ pub record Gives (names : List String) (said : List (ℕ × Said)) (table : Tabl
   pub ends : (at : Place) → status_of (script at names said) table ≡ status
 
 -- It is enough to compute with the runs of the kernels.
-pub computed : {names : List String} {said : List (ℕ × Said)} {table : Table} {output : String} {status : ℕ} → ((at : Place) → answer (ended at names said table (map (run at) kernels)) ≡ (codes output, status)) → Gives names said table output status
+pub computed : {names : List String} {said : List (ℕ × Said)} {table : Table} {output : String} {status : ℕ}
+    → ((at : Place) → answer (ended at names said table (map (run at) kernels)) ≡ (codes output, status)) → Gives names said table output status
 computed {names} {said} {table} same = record {
   prints = λ at. ap (λ runs. output_at (ended at names said table runs)) (same_runs at kernels) ∙ ap (λ a. a.0) (same at);
   ends = λ at. ap (λ runs. status_at (ended at names said table runs)) (same_runs at kernels) ∙ ap (λ a. a.1) (same at);

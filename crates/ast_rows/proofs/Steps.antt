@@ -12,7 +12,8 @@ use Rattle.ast_rows.proofs.Kernels.{spin, loop}
 pub record Does (k : Text) (steps : ℕ) (args : List Contents) (left : Ran (List Contents)) : Type 0 where
   pub leaves : (at : Place) → run_of (kernel at k) [] steps 1 args ≡ left
 
-computed : {k : Text} {steps : ℕ} {args : List Contents} {left : Ran (List Contents)} → ((at : Place) → run at k [] steps 1 args ≡ left) → Does k steps args left
+computed : {k : Text} {steps : ℕ} {args : List Contents} {left : Ran (List Contents)} → ((at : Place) → run at k [] steps 1 args ≡ left)
+    → Does k steps args left
 computed {k} {steps} {args} same = record { leaves = λ at. ap (λ run. run [] steps 1 args) (same_run at k) ∙ same at }
 
 -- `for k in 0..5 { }` needs 7 steps: its own and six tests

@@ -25,10 +25,12 @@ abbrev pub vec : {A : Type 0} → Place → List A → Vec A Global
 vec at xs = holding at (take 1000 xs) (length (take 1000 xs)) refl (few xs)
 
 -- the elements alone decide
-pub same_vec : {A : Type 0} (at : Place) (xs ys : List A) (m n : ℕ) (p : m ≡ length xs) (q : n ≡ length ys) (f : m ≤ 1000) (g : n ≤ 1000) → xs ≡ ys → holding at xs m p f ≡ holding at ys n q g
+pub same_vec : {A : Type 0} (at : Place) (xs ys : List A) (m n : ℕ) (p : m ≡ length xs) (q : n ≡ length ys) (f : m ≤ 1000) (g : n ≤ 1000) → xs ≡ ys
+    → holding at xs m p f ≡ holding at ys n q g
 same_vec {A} at xs ys m n p q f g e =
     subst (λ zs. (k : ℕ) (r : k ≡ length zs) (h : k ≤ 1000) → holding at xs m p f ≡ holding at zs k r h) e
-    (λ k r h. subst (λ k. (r : k ≡ length xs) (h : k ≤ 1000) → holding at xs m p f ≡ holding at xs k r h) (p ∙ sym r) (λ r h. let props : IsProp ((m ≡ length xs) × (m ≤ 1000)) = hlevel (le_prop, ℕ_set) in ap (λ o. holding at xs m o.0 o.1) (props (p, f) (r, h))) r h)
+    (λ k r h. subst (λ k. (r : k ≡ length xs) (h : k ≤ 1000) → holding at xs m p f ≡ holding at xs k r h) (p ∙ sym r)
+    (λ r h. let props : IsProp ((m ≡ length xs) × (m ≤ 1000)) = hlevel (le_prop, ℕ_set) in ap (λ o. holding at xs m o.0 o.1) (props (p, f) (r, h))) r h)
     n q g
 
 -- a `Box` at a place

@@ -62,7 +62,8 @@ numbered (suc g) j e = (sym (ap number_of e), omega arith)
 -- THE NEXT JOB
 
 module _ (jobs : JobBook) (after wanted chosen before : Handle) (C : IsChosen jobs after wanted chosen before)
-    (n j : ℕ) (found : Some (record { 0 = j }) ≡ job_numbered (greatest (outside (jobs_of wanted) (jobs_of before)) n)) (known : AreUpTo n (jobs_of wanted)) where
+    (n j : ℕ) (found : Some (record { 0 = j }) ≡ job_numbered (greatest (outside (jobs_of wanted) (jobs_of before)) n))
+    (known : AreUpTo n (jobs_of wanted)) where
   abbrev left : Jobs
   left = outside (jobs_of wanted) (jobs_of before)
 
@@ -84,13 +85,16 @@ module _ (jobs : JobBook) (after wanted chosen before : Handle) (C : IsChosen jo
   pub range : (0 < j) × (j ≤ n)
   range = known j is_wanted
 
-  module _ (one row more all : Handle) (single : jobs_of one ≡ only j) (rows : (b : Book) → StandsFor jobs b → (k : ℕ) → jobs_of row k ≡ ancestors_in b (jobs_of one) k)
-      (own : (k : ℕ) → jobs_of one k ≡ true → jobs_of row k ≡ true) (grown : jobs_of more ≡ both (jobs_of chosen) (jobs_of one)) (widened : jobs_of all ≡ both (jobs_of before) (jobs_of row)) where
+  module _ (one row more all : Handle) (single : jobs_of one ≡ only j) (rows : (b : Book) → StandsFor jobs b → (k : ℕ)
+      → jobs_of row k ≡ ancestors_in b (jobs_of one) k)
+      (own : (k : ℕ) → jobs_of one k ≡ true → jobs_of row k ≡ true) (grown : jobs_of more ≡ both (jobs_of chosen) (jobs_of one))
+      (widened : jobs_of all ≡ both (jobs_of before) (jobs_of row)) where
     row_is : (b : Book) → StandsFor jobs b → (k : ℕ) → jobs_of row k ≡ ancestors_in b (only j) k
     row_is b F k = rows b F k ∙ ap (λ s. ancestors_in b s k) single
 
     grown_cases : (m : ℕ) → jobs_of more m ≡ true → (jobs_of chosen m ≡ true) ⊎ (m ≡ j)
-    grown_cases m t = ⊎_elim (λ a. inl a) (λ a. inr (eqb-true m j (sym (λ i. single i m) ∙ a))) (or_cases (jobs_of chosen m) (jobs_of one m) (sym (λ i. grown i m) ∙ t))
+    grown_cases m t = ⊎_elim (λ a. inl a) (λ a. inr (eqb-true m j (sym (λ i. single i m) ∙ a)))
+        (or_cases (jobs_of chosen m) (jobs_of one m) (sym (λ i. grown i m) ∙ t))
 
     was : (m : ℕ) → jobs_of chosen m ≡ true → jobs_of more m ≡ true
     was m t = (λ i. grown i m) ∙ or_left (jobs_of chosen m) (jobs_of one m) t
@@ -116,11 +120,13 @@ module _ (jobs : JobBook) (after wanted chosen before : Handle) (C : IsChosen jo
     less_left : (k : ℕ) → outside (jobs_of wanted) (jobs_of all) k ≡ true → left k ≡ true
     less_left k t =
         let p = and_parts (jobs_of wanted k) (not (jobs_of all k)) t in
-        and_from (jobs_of wanted k) (not (jobs_of before k)) p.0 (not_from_false (jobs_of before k) (false_from_ne_true (jobs_of before k) (λ s. not_both (stays k s) (not-true (jobs_of all k) p.1))))
+        and_from (jobs_of wanted k) (not (jobs_of before k)) p.0 (not_from_false (jobs_of before k)
+        (false_from_ne_true (jobs_of before k) (λ s. not_both (stays k s) (not-true (jobs_of all k) p.1))))
 
     older : (k : ℕ) → outside (jobs_of wanted) (jobs_of all) k ≡ true → k < j
     older k t = ⊎_elim
-        (λ q. absurd (not_both (subst (λ x. jobs_of all x ≡ true) (sym q) is_there) (not-true (jobs_of all k) (and_parts (jobs_of wanted k) (not (jobs_of all k)) t).1)))
+        (λ q. absurd (not_both (subst (λ x. jobs_of all x ≡ true) (sym q) is_there)
+        (not-true (jobs_of all k) (and_parts (jobs_of wanted k) (not (jobs_of all k)) t).1)))
         (λ ne. let le = is_greatest k (less_left k t) in omega arith)
         (cases_eq k j)
 
@@ -138,7 +144,8 @@ module _ (jobs : JobBook) (after wanted chosen before : Handle) (C : IsChosen jo
       own = λ m t. ⊎_elim (λ a. C.own m a) (λ q. subst (λ x. jobs_of wanted x ≡ true) (sym q) is_wanted) (grown_cases m t);
       late = λ b F m t. ⊎_elim
           (λ a. C.late b F m a)
-          (λ q. subst (λ x. happens_before b (jobs_of after) x ≡ false) (sym q) (false_from_ne_true (happens_before b (jobs_of after) j) (λ h. not_both (C.already b F j h) not_before)))
+          (λ q. subst (λ x. happens_before b (jobs_of after) x ≡ false) (sym q)
+          (false_from_ne_true (happens_before b (jobs_of after) j) (λ h. not_both (C.already b F j h) not_before)))
           (grown_cases m t);
       apart = λ b F x k s t a. ⊎_elim
           (λ old_x. ⊎_elim
@@ -164,7 +171,8 @@ module _ (jobs : JobBook) (after wanted chosen before : Handle) (C : IsChosen jo
         let low = range.0 in
         ⊎_elim
         (λ z. omega arith)
-        (λ ne. let less = older (greatest (outside (jobs_of wanted) (jobs_of all)) n) (greatest_in (outside (jobs_of wanted) (jobs_of all)) n (omega arith)) in omega arith)
+        (λ ne. let less = older (greatest (outside (jobs_of wanted) (jobs_of all)) n) (greatest_in (outside (jobs_of wanted) (jobs_of all)) n (omega arith)) in
+        omega arith)
         (cases_eq (greatest (outside (jobs_of wanted) (jobs_of all)) n) 0)
 
 -- ALL OF THEM
@@ -177,21 +185,25 @@ within_all h k t =
     let high = ltb-true k (MOST_JOBS + 1) q.1 in
     (ltb-true 0 k q.0, omega arith)
 
-pub none_is_left : (wanted before : Handle) (n : ℕ) → AreUpTo n (jobs_of wanted) → None ≡ job_numbered (greatest (outside (jobs_of wanted) (jobs_of before)) n) → (k : ℕ) → jobs_of wanted k ≡ true → jobs_of before k ≡ true
+pub none_is_left : (wanted before : Handle) (n : ℕ) → AreUpTo n (jobs_of wanted) → None ≡ job_numbered (greatest (outside (jobs_of wanted) (jobs_of before)) n)
+    → (k : ℕ) → jobs_of wanted k ≡ true → jobs_of before k ≡ true
 none_is_left wanted before n known found k t = ⊎_elim
     (λ y. y)
     (λ no.
     let range = known k t in
-    let up = greatest_above (outside (jobs_of wanted) (jobs_of before)) n k range.1 (and_from (jobs_of wanted k) (not (jobs_of before k)) t (not_from_false (jobs_of before k) no)) in
+    let up = greatest_above (outside (jobs_of wanted) (jobs_of before)) n k range.1
+    (and_from (jobs_of wanted k) (not (jobs_of before k)) t (not_from_false (jobs_of before k) no)) in
     let low = range.0 in
-    let z : greatest (outside (jobs_of wanted) (jobs_of before)) n ≡ 0 = no_number (greatest (outside (jobs_of wanted) (jobs_of before)) n) found in absurd (omega arith))
+    let z : greatest (outside (jobs_of wanted) (jobs_of before)) n ≡ 0 = no_number (greatest (outside (jobs_of wanted) (jobs_of before)) n) found in
+    absurd (omega arith))
     (cases_Bool (jobs_of before k))
   where
     no_number : (g : ℕ) → None ≡ job_numbered g → g ≡ 0
     no_number zero e = refl
     no_number (suc g) e = absurd cc
 
-module _ (jobs : JobBook) (after wanted chosen before : Handle) (C : IsChosen jobs after wanted chosen before) (done : (k : ℕ) → jobs_of wanted k ≡ true → jobs_of before k ≡ true)
+module _ (jobs : JobBook) (after wanted chosen before : Handle) (C : IsChosen jobs after wanted chosen before)
+    (done : (k : ℕ) → jobs_of wanted k ≡ true → jobs_of before k ≡ true)
     (book : SafetyBook) (given : List (Tag × Access)) (kept : (k : ℕ) → jobs_of wanted k ≡ conflicting_with book given k)
     (b : Book) (uses : ℕ → Uses) (needs : List Need) (F : StandsFor jobs b) (known : (c : ℕ) → AreUses b (uses c)) (N : AreNeeds b uses book given needs) where
   abbrev set : Jobs
@@ -211,7 +223,8 @@ module _ (jobs : JobBook) (after wanted chosen before : Handle) (C : IsChosen jo
 
   pub is_automatic : (j : ℕ) → jobs_of chosen j ≡ automatic b uses (jobs_of after) needs j
   is_automatic j = same_test (jobs_of chosen j) (automatic b uses (jobs_of after) needs j)
-      (λ t. and_from (set j) (not (any_job (above j) b.count)) (chosen_blocks j t) (not_from_false (any_job (above j) b.count) (false_from_ne_true (any_job (above j) b.count) (λ s.
+      (λ t. and_from (set j) (not (any_job (above j) b.count)) (chosen_blocks j t)
+      (not_from_false (any_job (above j) b.count) (false_from_ne_true (any_job (above j) b.count) (λ s.
       let k = some_job (above j) b.count s in
       let p = and_parts (set k.0) (leads_to b k.0 j) k.2 in
       let q = and_parts (not (nat_eq k.0 j)) (ancestors_in b (only k.0) j) p.1 in
@@ -227,7 +240,8 @@ module _ (jobs : JobBook) (after wanted chosen before : Handle) (C : IsChosen jo
       (λ q. subst (λ x. jobs_of chosen x ≡ true) q m.1)
       (λ ne. let range = blocking_among b uses known (jobs_of after) needs m.0 (chosen_blocks m.0 m.1) in
       absurd (not_both (any_from (above j) b.count m.0 range.0 range.1 (and_from (set m.0) (leads_to b m.0 j) (chosen_blocks m.0 m.1)
-      (and_from (not (nat_eq m.0 j)) (ancestors_in b (only m.0) j) (not_from_false (nat_eq m.0 j) (ne_eqb m.0 j ne)) m.2))) (not-true (any_job (above j) b.count) p.1)))
+      (and_from (not (nat_eq m.0 j)) (ancestors_in b (only m.0) j) (not_from_false (nat_eq m.0 j) (ne_eqb m.0 j ne)) m.2)))
+      (not-true (any_job (above j) b.count) p.1)))
       (cases_eq m.0 j))
     where
       above : ℕ → Jobs

@@ -20,7 +20,8 @@ use Rattle.auto_deps.specs.Needs.{conflicting_with, AreNeeds, NoneIsBlocked}
 -- ONE CONTAINER
 
 -- the last writer and the readers since are among those whose use conflicts
-kept_conflicts : (b : Book) (l : Latest) (u : Uses) → StandForUses b l u → (writes : Bool) (j : ℕ) → conflicting_in l writes j ≡ true → conflicts u writes j ≡ true
+kept_conflicts : (b : Book) (l : Latest) (u : Uses) → StandForUses b l u → (writes : Bool) (j : ℕ) → conflicting_in l writes j ≡ true
+    → conflicts u writes j ≡ true
 kept_conflicts b l u S writes j t =
     let p = and_parts (nat_lt 0 j) (nat_eq j l.writer || (writes && l.readers j)) t in
     let low = ltb-true 0 j p.0 in
@@ -40,7 +41,8 @@ module _ (b : Book) (B : IsBook b) (after : Jobs) where
   itself j = contains b.deps b.count (only j) j (eq-eqb j j refl)
 
   -- one of them leads to each job that blocks
-  one_leads : (l : Latest) (u : Uses) → AreUses b u → StandForUses b l u → (writes : Bool) (j : ℕ) → blockers b u after writes j ≡ true → Leads b (conflicting_in l writes) after j
+  one_leads : (l : Latest) (u : Uses) → AreUses b u → StandForUses b l u → (writes : Bool) (j : ℕ) → blockers b u after writes j ≡ true
+      → Leads b (conflicting_in l writes) after j
   one_leads l u U S writes j t =
       let p = and_parts (conflicts u writes j) (not (happens_before b after j)) t in
       let late : happens_before b after j ≡ false = not-true (happens_before b after j) p.1 in
@@ -49,7 +51,8 @@ module _ (b : Book) (B : IsBook b) (after : Jobs) where
       ⊎_elim
       (λ q. (
         j,
-        and_from (nat_lt 0 j) (nat_eq j l.writer || (writes && l.readers j)) (lt-ltb 0 j range.0) (or_left (nat_eq j l.writer) (writes && l.readers j) (eq-eqb j l.writer q)),
+        and_from (nat_lt 0 j) (nat_eq j l.writer || (writes && l.readers j)) (lt-ltb 0 j range.0)
+            (or_left (nat_eq j l.writer) (writes && l.readers j) (eq-eqb j l.writer q)),
         late,
         itself j,
       ))
@@ -67,7 +70,8 @@ module _ (b : Book) (B : IsBook b) (after : Jobs) where
       (λ t. (and_parts writes (u.users j) t).0) (or_cases (u.writers j) (writes && u.users j) p.0) in (
         j,
         and_from (nat_lt 0 j) (nat_eq j l.writer || (writes && l.readers j)) (lt-ltb 0 j range.0)
-            (or_right (nat_eq j l.writer) (writes && l.readers j) (and_from writes (l.readers j) w (S.readers j ∙ and_from (u.users j) (nat_lt l.writer j) used (lt-ltb l.writer j more)))),
+            (or_right (nat_eq j l.writer) (writes && l.readers j) (and_from writes (l.readers j) w
+            (S.readers j ∙ and_from (u.users j) (nat_lt l.writer j) used (lt-ltb l.writer j more)))),
         late,
         itself j,
       ))
@@ -84,7 +88,8 @@ module _ (b : Book) (B : IsBook b) (after : Jobs) where
 
   module _ (uses : ℕ → Uses) (known : (c : ℕ) → AreUses b (uses c)) (book : SafetyBook) where
     -- what is kept and doesn't happen before blocks
-    pub kept_blocks : (given : List (Tag × Access)) (needs : List Need) → AreNeeds b uses book given needs → (j : ℕ) → conflicting_with book given j ≡ true → happens_before b after j ≡ false
+    pub kept_blocks : (given : List (Tag × Access)) (needs : List Need) → AreNeeds b uses book given needs → (j : ℕ) → conflicting_with book given j ≡ true
+        → happens_before b after j ≡ false
         → blocking b uses after needs j ≡ true
     kept_blocks [] [] N j t late = absurd (not_both t refl)
     kept_blocks [] (n ∷ rest) N j t late = absurd N
@@ -94,11 +99,13 @@ module _ (b : Book) (B : IsBook b) (after : Jobs) where
         let u = uses n.container in
         ⊎_elim
         (λ a. or_left (blockers b u after n.writes j) (blocking b uses after rest j) (and_from (conflicts u n.writes j) (not (happens_before b after j))
-        (kept_conflicts b l u N.0.latest n.writes j (subst (λ w. conflicting_in l w j ≡ true) (sym N.0.writes) a)) (not_from_false (happens_before b after j) late)))
+        (kept_conflicts b l u N.0.latest n.writes j (subst (λ w. conflicting_in l w j ≡ true) (sym N.0.writes) a))
+        (not_from_false (happens_before b after j) late)))
         (λ a. or_right (blockers b u after n.writes j) (blocking b uses after rest j) (kept_blocks more rest N.1 j a late))
         (or_cases (conflicting_in l (writes_to x.1) j) (conflicting_with book more j) t)
 
-    pub each_is_led : (given : List (Tag × Access)) (needs : List Need) → AreNeeds b uses book given needs → (j : ℕ) → blocking b uses after needs j ≡ true → Leads b (conflicting_with book given) after j
+    pub each_is_led : (given : List (Tag × Access)) (needs : List Need) → AreNeeds b uses book given needs → (j : ℕ) → blocking b uses after needs j ≡ true
+        → Leads b (conflicting_with book given) after j
     each_is_led [] [] N j t = absurd (not_both t refl)
     each_is_led [] (n ∷ rest) N j t = absurd N
     each_is_led (x ∷ more) [] N j t = absurd N
@@ -123,19 +130,22 @@ no_greatest set n none = ⊎_elim
     (λ ne. absurd (not_both (greatest_in set n (omega arith)) (none (greatest set n))))
     (cases_eq (greatest set n) 0)
 
-pub none_blocked : (b : Book) (uses : ℕ → Uses) (after : Jobs) (needs : List Need) → ((j : ℕ) → blocking b uses after needs j ≡ false) → NoneIsBlocked b uses after needs
+pub none_blocked : (b : Book) (uses : ℕ → Uses) (after : Jobs) (needs : List Need) → ((j : ℕ) → blocking b uses after needs j ≡ false)
+    → NoneIsBlocked b uses after needs
 none_blocked b uses after [] none = tt
 none_blocked b uses after (n ∷ more) none = (
   no_greatest (blockers b (uses n.container) after n.writes) b.count (λ j. false_from_ne_true (blockers b (uses n.container) after n.writes j)
       (λ t. not_both (or_left (blockers b (uses n.container) after n.writes j) (blocking b uses after more j) t) (none j))),
-  none_blocked b uses after more (λ j. false_from_ne_true (blocking b uses after more j) (λ t. not_both (or_right (blockers b (uses n.container) after n.writes j) (blocking b uses after more j) t) (none j))),
+  none_blocked b uses after more (λ j. false_from_ne_true (blocking b uses after more j)
+      (λ t. not_both (or_right (blockers b (uses n.container) after n.writes j) (blocking b uses after more j) t) (none j))),
 )
 
 -- ONE USE AFTER ANOTHER
 
 pub one_passed : (book : SafetyBook) (given : List (Tag × Access)) (i : ℕ) (d : Tag × Access) (all here more : Jobs) (w : Bool) → i < length given
     → w ≡ writes_to (get_or given i d).1 → here ≡ conflicting_in (state_of book (get_or given i d).0.slot.0).latest w → more ≡ both all here
-    → (j : ℕ) → (all j || conflicting_with book (drop i given) j) ≡ conflicting_with book given j → (more j || conflicting_with book (drop (i + 1) given) j) ≡ conflicting_with book given j
+    → (j : ℕ) → (all j || conflicting_with book (drop i given) j) ≡ conflicting_with book given j
+    → (more j || conflicting_with book (drop (i + 1) given) j) ≡ conflicting_with book given j
 one_passed book given i d all here more w lt is_write is_here is_more j so =
     let one = get_or given i d in
     let rest = conflicting_with book (drop (suc i) given) j in

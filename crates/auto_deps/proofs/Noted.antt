@@ -42,7 +42,8 @@ pub still_noted : (n m : ℕ) (book : SafetyBook) → n ≤ m → AreNoted n boo
 still_noted n m book le N slot k t = let r = N slot k t in let high = r.1 in (r.0, omega arith)
 
 -- one slot is changed
-changed : (n : ℕ) (old new : SafetyBook) (s : ℕ) → AreNoted n old → AreUpTo n (users_of (state_of new s).latest) → ((k : ℕ) → k ≢ s → state_of new k ≡ state_of old k) → AreNoted n new
+changed : (n : ℕ) (old new : SafetyBook) (s : ℕ) → AreNoted n old → AreUpTo n (users_of (state_of new s).latest)
+    → ((k : ℕ) → k ≢ s → state_of new k ≡ state_of old k) → AreNoted n new
 changed n old new s N here others slot k t = ⊎_elim
     (λ q. here k (subst (λ x. users_of (state_of new x).latest k ≡ true) q t))
     (λ ne. N slot k (subst (λ (x : SlotState). users_of x.latest k ≡ true) (others slot ne) t))
@@ -57,10 +58,12 @@ no_user k t =
 pub none_noted : (n : ℕ) (book : SafetyBook) → ((k : ℕ) → state_of book k ≡ no_state) → AreNoted n book
 none_noted n book e slot k t = absurd (no_user k (subst (λ (x : SlotState). users_of x.latest k ≡ true) (e slot) t))
 
-pub enrolled : (n : ℕ) (old new : SafetyBook) (s version : ℕ) → AreNoted n old → state_of new s ≡ fresh version → ((k : ℕ) → k ≢ s → state_of new k ≡ state_of old k) → AreNoted n new
+pub enrolled : (n : ℕ) (old new : SafetyBook) (s version : ℕ) → AreNoted n old → state_of new s ≡ fresh version
+    → ((k : ℕ) → k ≢ s → state_of new k ≡ state_of old k) → AreNoted n new
 enrolled n old new s version N e others = changed n old new s N (λ k t. absurd (no_user k (subst (λ (x : SlotState). users_of x.latest k ≡ true) e t))) others
 
-module _ (n j : ℕ) (old new : SafetyBook) (s : ℕ) (N : AreNoted n old) (low : 0 < j) (high : j ≤ n) (others : (k : ℕ) → k ≢ s → state_of new k ≡ state_of old k) where
+module _ (n j : ℕ) (old new : SafetyBook) (s : ℕ) (N : AreNoted n old) (low : 0 < j) (high : j ≤ n)
+    (others : (k : ℕ) → k ≢ s → state_of new k ≡ state_of old k) where
   abbrev l : Latest
   l = (state_of old s).latest
 
@@ -81,7 +84,8 @@ module _ (n j : ℕ) (old new : SafetyBook) (s : ℕ) (N : AreNoted n old) (low 
       (or_cases (nat_eq k l.writer) (l.readers k || nat_eq k j) p.1)) others
 
 -- where a check answers Ok, the container is there
-pub live_if_ok : (s : SlotState) (tag : Tag) (jobs : JobBook) (after : Jobs) (writes : Bool) (r : Result (Unit {0}) Blocked) → IsAnswer s tag jobs after writes r → is_ok r ≡ true → s.live ≡ true
+pub live_if_ok : (s : SlotState) (tag : Tag) (jobs : JobBook) (after : Jobs) (writes : Bool) (r : Result (Unit {0}) Blocked)
+    → IsAnswer s tag jobs after writes r → is_ok r ≡ true → s.live ≡ true
 live_if_ok s tag jobs after writes r A ok = ⊎_elim
     (λ t. (and_parts s.live (nat_eq s.version tag.version.0) t).0)
     (λ f. absurd (not_both ok (ap (λ x. is_ok x) (A.disposed.1 f))))

@@ -1,11 +1,11 @@
 // The automatic set of a statement.
 ghost use Rattle.std.specs.Prelude.{◌≡◌, ℕ};
 ghost use Rattle.frame_ast.specs.Laws.{AreUpTo};
-ghost use Rattle.frame_ast.specs.Schedules.{writes_to};
 ghost use Rattle.job_handle.specs.Sets.{jobs_of};
 ghost use Rattle.job_handle.specs.Books.{count_of};
 ghost use Rattle.auto_deps.specs.Needs.{conflicting_with, ForNeeds, IsAutomatic, AreBlockers, LeavesNone, AreApart};
 
+use frame_ast::kernel::writes_to;
 use job_base::Access;
 use job_handle::{Handle, JobBook};
 use safety_handle::{SafetyBook, Tag};
@@ -48,18 +48,8 @@ fn conflicting(uses: &[(Tag, Access)], book: &SafetyBook) -> Handle
 {
     let mut all = Handle::empty();
     for (tag, access) in uses {
-        let jobs = book.conflicting(tag.slot, writes(*access));
+        let jobs = book.conflicting(tag.slot, writes_to(*access));
         all = all.combine(&jobs);
     }
     all
-}
-
-// Whether a use counts as a write.
-fn writes(access: Access) -> bool
-    ensures { result ≡ writes_to access }
-{
-    match access {
-        Access::Read => false,
-        Access::Write | Access::Both => true,
-    }
 }

@@ -8,7 +8,8 @@ use Rattle.batch_cut.specs.Cuts.{count_of, numbers_from, indexes_of, IsCovered}
 
 joined : (a m l b : ℕ) → b ≡ a + m → numbers_from a m ++ numbers_from b l ≡ numbers_from a (m + l)
 joined a zero l b e = ap (λ x. numbers_from x l) (let h : b ≡ a = omega arith in h) ∙ ap (λ x. numbers_from a x) (let h : l ≡ zero + l = omega arith in h)
-joined a (suc m) l b e = ap (λ xs. a ∷ xs) (joined (suc a) m l b (omega arith)) ∙ ap (λ x. numbers_from a x) (let h : suc (m + l) ≡ suc m + l = omega arith in h)
+joined a (suc m) l b e = ap (λ xs. a ∷ xs) (joined (suc a) m l b (omega arith))
+    ∙ ap (λ x. numbers_from a x) (let h : suc (m + l) ≡ suc m + l = omega arith in h)
 
 so_far : (n step k : ℕ) → indexes_of n step k ≡ numbers_from 0 (min (k * step) n)
 so_far n step zero = ap (λ x. numbers_from 0 x) (let h : 0 ≡ min (zero * step) n = grind arith in h)
@@ -23,7 +24,8 @@ so_far n step (suc k) =
   where
     pieces : (here next n : ℕ) → next ≡ here + step → numbers_from 0 (min here n) ++ numbers_from here (min next n - here) ≡ numbers_from 0 (min next n)
     pieces here next n e = ⊎_elim
-        (λ z. joined 0 (min here n) (min next n - here) here (omega arith) ∙ ap (λ x. numbers_from 0 x) (let h : min here n + (min next n - here) ≡ min next n = omega arith in h))
+        (λ z. joined 0 (min here n) (min next n - here) here (omega arith)
+        ∙ ap (λ x. numbers_from 0 x) (let h : min here n + (min next n - here) ≡ min next n = omega arith in h))
         (λ ne. ap (λ l. numbers_from 0 (min here n) ++ numbers_from here l) (let h : min next n - here ≡ 0 = omega arith in h)
         ∙ append-nil (numbers_from 0 (min here n)) ∙ ap (λ x. numbers_from 0 x) (let h : min here n ≡ min next n = omega arith in h))
         (cases_eq (here - n) 0)

@@ -18,7 +18,8 @@ after_prefix_is [] word v e = cc
 after_prefix_is (c ∷ prefix) [] v e = absurd (let bad : None ≡ Some v = e in cc)
 after_prefix_is (c ∷ prefix) (x ∷ word) v e = go (after_prefix_is prefix word v) (eqb x c) refl e
   where
-    go : (after_prefix prefix word ≡ Some v → word ≡ prefix ++ v) → (b : Bool) → eqb x c ≡ b → cond b (after_prefix prefix word) None ≡ Some v → x ∷ word ≡ c ∷ (prefix ++ v)
+    go : (after_prefix prefix word ≡ Some v → word ≡ prefix ++ v) → (b : Bool) → eqb x c ≡ b → cond b (after_prefix prefix word) None ≡ Some v
+        → x ∷ word ≡ c ∷ (prefix ++ v)
     go more true same e = ap₂ (λ a rest. a ∷ rest) (eqb-true x c same) (more e)
     go more false same e = absurd (let bad : None ≡ Some v = e in cc)
 
@@ -29,7 +30,8 @@ after_prefix-append (c ∷ prefix) v =
     rw same (after_prefix-append prefix v)
 
 -- what `strip_prefix` answers
-pub after_is : (prefix word : Text) (r : Option (Bor Text)) → MatchOption r (FindsTextPrefix prefix word None) (λ x. StripsPrefix (FindsTextPrefix prefix) word x.now)
+pub after_is : (prefix word : Text) (r : Option (Bor Text)) → MatchOption r (FindsTextPrefix prefix word None)
+    (λ x. StripsPrefix (FindsTextPrefix prefix) word x.now)
     → option_map (λ s. s.now) r ≡ after_prefix prefix word
 after_is prefix word (Some x) h =
     let whole : word ≡ prefix ++ x.now = h.1.1 ∙ ap (λ v. prefix ++ v) (sym h.2) in
@@ -56,7 +58,8 @@ pub option_by_parts : (p : Place) (name word : Text) (other : Spelling) → byte
 option_by_parts p name word other differs = rw (differs, after_both name (61 ∷ []) word) refl
 
 -- what two calls of `strip` show of an option
-pub option_given : (p : Place) (name word rest v : Text) → bytes_eq word name ≡ false → Some rest ≡ after_prefix name word → Some v ≡ after_prefix (61 ∷ []) rest
+pub option_given : (p : Place) (name word rest v : Text) → bytes_eq word name ≡ false → Some rest ≡ after_prefix name word
+    → Some v ≡ after_prefix (61 ∷ []) rest
     → (other : Spelling) → option_or p name word other ≡ gives p v
 option_given p name word rest v differs first second other =
     option_by_parts p name word other differs ∙ ap (λ o. option_map_or (gives p) (option_and_then (after_prefix (61 ∷ [])) o) other) (sym first)
@@ -81,7 +84,8 @@ option_view p name word other = go (bytes_eq word name) refl (after_prefix (name
   where
     go : (b : Bool) → bytes_eq word name ≡ b → (o : Option Text) → after_prefix (name ++ 61 ∷ []) word ≡ o
         → ((word ≡ name) × (cond b (awaits p) (option_map_or (gives p) o other) ≡ awaits p))
-        ⊎ (((v : Text) × (word ≡ (name ++ 61 ∷ []) ++ v) × (cond b (awaits p) (option_map_or (gives p) o other) ≡ gives p v)) ⊎ (cond b (awaits p) (option_map_or (gives p) o other) ≡ other))
+        ⊎ (((v : Text) × (word ≡ (name ++ 61 ∷ []) ++ v) × (cond b (awaits p) (option_map_or (gives p) o other) ≡ gives p v))
+        ⊎ (cond b (awaits p) (option_map_or (gives p) o other) ≡ other))
     go true same o e = inl ((bytes_eq-Decides word name).0 same, refl)
     go false same (Some v) e = inr (inl (v, after_prefix_is _ word v e, refl))
     go false same None e = inr (inr refl)
@@ -94,11 +98,13 @@ IsSpelling word positional = Unit {0}
 
 pub spelling_is : (word : Text) → IsSpelling word (spelling word)
 unfolding name_of
-spelling_is word = option_is Workers (codes "--workers") (option_or Number (codes "--gen") word (option_or Jobs (codes "--jobs") word (flag_or_positional word))) refl refl
+spelling_is word = option_is Workers (codes "--workers") (option_or Number (codes "--gen") word
+    (option_or Jobs (codes "--jobs") word (flag_or_positional word))) refl refl
     (option_is Number (codes "--gen") (option_or Jobs (codes "--jobs") word (flag_or_positional word)) refl refl
     (option_is Jobs (codes "--jobs") (flag_or_positional word) refl refl (last (bytes_eq word (codes "--depth")) refl)))
   where
-    option_is : (p : Place) (name : Text) (other : Spelling) → is_option p ≡ true → name ≡ name_of p → IsSpelling word other → IsSpelling word (option_or p name word other)
+    option_is : (p : Place) (name : Text) (other : Spelling) → is_option p ≡ true → name ≡ name_of p → IsSpelling word other
+        → IsSpelling word (option_or p name word other)
     option_is p name other o named rest = elim (option_view p name word other) [
       | inl h ↦ subst (IsSpelling word) (sym h.1) (o, h.0 ∙ named)
       | inr (inl h) ↦ subst (IsSpelling word) (sym h.2) (o, h.1 ∙ append_assoc name (61 ∷ []) h.0 ∙ ap (λ n. n ++ 61 ∷ h.0) named)

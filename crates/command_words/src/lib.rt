@@ -17,6 +17,5 @@ mod spelling;
 #[cfg(test)]
 mod tests;
 
-pub use command::{Command, MOST_DIGITS, WORKERS_UNSAID, WordsFault};
-pub use place::Place;
+pub use command::{Command, WordsFault};
 pub use reading::read_words;

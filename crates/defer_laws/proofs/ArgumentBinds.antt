@@ -62,7 +62,8 @@ record IsBindFor (kind : ParamKind) (width start : ℕ) (c : Contents) (b : Bind
   ends : end_of b ≤ end_of (bind_of start c)
   own : own_of b ≡ width
 
-bind_for_kind : (kind : ParamKind) (w : ℕ) (v : Value) (start : ℕ) (c : Contents) → FitsKind kind v c → IsWidthFor kind w → IsBindFor kind w start c (bind_as kind w v start c)
+bind_for_kind : (kind : ParamKind) (w : ℕ) (v : Value) (start : ℕ) (c : Contents) → FitsKind kind v c → IsWidthFor kind w
+    → IsBindFor kind w start c (bind_as kind w v start c)
 bind_for_kind IntKind w v start c f h = absurd f
 bind_for_kind ArrayKind w Value.Dead start c f h = absurd f
 bind_for_kind ArrayKind w (Value.Whole n) start (Elements xs) f h = record { is_kind = refl; ends = omega arith; own = refl }
@@ -138,12 +139,22 @@ module _ (starts : Starts) (s : ScriptState) (parallel : Bool) (waive : List ℕ
   bind_at from [] as_ y b f h = absurd (none_some h)
   bind_at from (p ∷ ps) [] y b f h = absurd (none_some h)
   bind_at from (p ∷ ps) (a ∷ as_) zero b f h =
-      record { param = p; width = width_at parallel waive from p; arg = a; has_param = refl; has_arg = refl; fits = f.0; right = width_for parallel waive from p; is = some_is h }
+      record {
+        param = p;
+        width = width_at parallel waive from p;
+        arg = a;
+        has_param = refl;
+        has_arg = refl;
+        fits = f.0;
+        right = width_for parallel waive from p;
+        is = some_is h;
+      }
   bind_at from (p ∷ ps) (a ∷ as_) (suc y) b f h =
       let r = bind_at (from + 1) ps as_ y b f.1 h in
       record { param = r.param; width = r.width; arg = r.arg; has_param = r.has_param; has_arg = r.has_arg; fits = r.fits; right = r.right; is = r.is }
 
-  binds_long : (from : ℕ) (ps : List Param) (as_ : List Arg) → ArgsFit s ps (widths_from parallel waive from ps) as_ → length (binds_by starts s ps (widths_from parallel waive from ps) as_) ≡ length ps
+  binds_long : (from : ℕ) (ps : List Param) (as_ : List Arg) → ArgsFit s ps (widths_from parallel waive from ps) as_
+      → length (binds_by starts s ps (widths_from parallel waive from ps) as_) ≡ length ps
   binds_long from [] as_ f = refl
   binds_long from (p ∷ ps) [] f = absurd f
   binds_long from (p ∷ ps) (a ∷ as_) f = ap suc (binds_long (from + 1) ps as_ f.1)
@@ -162,7 +173,8 @@ module _ (starts : Starts) (s : ScriptState) (parallel : Bool) (waive : List ℕ
       let rest = widths_same (from + 1) ps as_ f.1 in
       λ i. here i ∷ rest i
 
-module _ (x : Outline) (small : x.plan.cells < 2 ^ 32) (s : ScriptState) (d : Draft) (was : IsPlanned x s d) (k : Kernel) (waive : List ℕ) (args : List Arg) (defer : Option (ℕ × ℕ))
+module _ (x : Outline) (small : x.plan.cells < 2 ^ 32) (s : ScriptState) (d : Draft) (was : IsPlanned x s d) (k : Kernel) (waive : List ℕ) (args : List Arg)
+    (defer : Option (ℕ × ℕ))
     (fits : fit.ArgsFit s defer k.params.items args) (un : AreUnshared s k.params.items args) where
   abbrev ps : List Param
   ps = k.params.items
@@ -207,7 +219,8 @@ module _ (x : Outline) (small : x.plan.cells < 2 ^ 32) (s : ScriptState) (d : Dr
       by p w (Number z) f h = omega arith
 
   -- a word that two of them have is one container's
-  apart : (y z : ℕ) (a b : Bind) (w : ℕ) → may_write ps y ≡ true → y ≢ z → slice_get binds y ≡ Some a → slice_get binds z ≡ Some b → IsWordOf a w → IsWordOf b w → ⊥
+  apart : (y z : ℕ) (a b : Bind) (w : ℕ) → may_write ps y ≡ true → y ≢ z → slice_get binds y ≡ Some a → slice_get binds z ≡ Some b → IsWordOf a w → IsWordOf b w
+      → ⊥
   apart y z a b w may ne ha hb wa wb =
       let p = wrote (slice_get ps y) may in
       let r = bind_here z b hb in

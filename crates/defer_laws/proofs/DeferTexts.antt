@@ -33,10 +33,12 @@ parallel_alone true cut h = refl
 parallel_alone false true h = absurd (not_both h refl)
 parallel_alone false false h = absurd (not_both h refl)
 
-parallel_of : (ns : Names) (k : Option Kernel) (args : List Arg) (cut : Option (ℕ × ℕ)) (defer : ℕ × ℕ) (waive after : List ℕ) → schedule_fits ns k args cut (Some defer) waive after ≡ true → kernel_parallel k ≡ true
+parallel_of : (ns : Names) (k : Option Kernel) (args : List Arg) (cut : Option (ℕ × ℕ)) (defer : ℕ × ℕ) (waive after : List ℕ)
+    → schedule_fits ns k args cut (Some defer) waive after ≡ true → kernel_parallel k ≡ true
 parallel_of ns None args cut defer waive after h = absurd (not_both h refl)
 parallel_of ns (Some k) args cut defer waive after h =
-    parallel_alone k.parallel (is_some cut) (and_parts (args_fit ns (Some defer) k.params.items args) (one_of k.parallel (is_some cut) true) (and_parts _ _ h).0).1
+    parallel_alone k.parallel (is_some cut) (and_parts (args_fit ns (Some defer) k.params.items args) (one_of k.parallel (is_some cut) true)
+    (and_parts _ _ h).0).1
 
 module _ (g : Setting) where
   abbrev IsParallelBy : NewJob → Option (ℕ × ℕ) → Type 0
@@ -47,7 +49,8 @@ module _ (g : Setting) where
   IsParallel (order.Schedule job) = IsParallelBy job.value job.value.defer
   IsParallel _ = Unit {0}
 
-  parallel_by : (ns : Names) (job : NewJob) (d : Option (ℕ × ℕ)) → schedule_fits ns (slice_get g.kernels job.kernel) job.args.items job.cut d job.waive.items job.after.items ≡ true → IsParallelBy job d
+  parallel_by : (ns : Names) (job : NewJob) (d : Option (ℕ × ℕ)) → schedule_fits ns
+      (slice_get g.kernels job.kernel) job.args.items job.cut d job.waive.items job.after.items ≡ true → IsParallelBy job d
   parallel_by ns job None fits = tt
   parallel_by ns job (Some defer) fits = parallel_of ns (slice_get g.kernels job.kernel) job.args.items job.cut defer job.waive.items job.after.items fits
 
@@ -65,7 +68,8 @@ module _ (g : Setting) (s : ScriptState) (line : ℕ) (runs : g.runs ≡ map run
   Is x o = (effect g line s x ≡ accepted g s o) × IsAcceptedDeferred g s o
 
   -- by what its `defer` is
-  has_defer : (job : Box NewJob Global) (d : Option (ℕ × ℕ)) (o : Deferred) → job.value.defer ≡ d → deferred_by job.value d ≡ Some o → refusal g s (order.Schedule job) ≡ None → IsParallelBy g job.value d
+  has_defer : (job : Box NewJob Global) (d : Option (ℕ × ℕ)) (o : Deferred) → job.value.defer ≡ d → deferred_by job.value d ≡ Some o
+      → refusal g s (order.Schedule job) ≡ None → IsParallelBy g job.value d
       → FitsAsValues g s (order.Schedule job) → HaveWidths g s (order.Schedule job) → Keeps (order.Schedule job) → Is (order.Schedule job) o
   has_defer job None o is e none parallel fits widths forms = absurd (none_some e)
   has_defer job (Some defer) o is e none parallel fits widths forms =
@@ -79,7 +83,8 @@ module _ (g : Setting) (s : ScriptState) (line : ℕ) (runs : g.runs ≡ map run
       ))
       none fits widths forms
 
-  is_deferred : (x : Order) (o : Deferred) → deferred_of x ≡ Some o → refusal g s x ≡ None → IsParallel g x → FitsAsValues g s x → HaveWidths g s x → Keeps x → Is x o
+  is_deferred : (x : Order) (o : Deferred) → deferred_of x ≡ Some o → refusal g s x ≡ None → IsParallel g x → FitsAsValues g s x → HaveWidths g s x → Keeps x
+      → Is x o
   is_deferred (order.Schedule job) o e none parallel fits widths forms = has_defer job job.value.defer o refl e none parallel fits widths forms
   is_deferred (order.Array name len life values) o e none parallel fits widths forms = absurd (none_some e)
   is_deferred (order.Column name column life) o e none parallel fits widths forms = absurd (none_some e)

@@ -66,7 +66,8 @@ pub record IsAtHand (x : Outline) (s : ScriptState) (o : Deferred) (old new : Ke
   pub widths : NeedsWidths o (Some old)
   pub planned : IsDeferredJob x s d o old new deps job
 
-module _ (x : Outline) (s : ScriptState) (o : Deferred) (old new : Kernel) (d : Draft) (deps : Jobs) (job : JobPlan) (is : IsAtHand x s o old new d deps job) where
+module _ (x : Outline) (s : ScriptState) (o : Deferred) (old new : Kernel) (d : Draft) (deps : Jobs) (job : JobPlan)
+    (is : IsAtHand x s o old new d deps job) where
   abbrev pub ps : List Param
   ps = old.params.items
 
@@ -101,7 +102,8 @@ module _ (x : Outline) (s : ScriptState) (o : Deferred) (old new : Kernel) (d : 
   length_within = lengths.length_within x is.small s d is.was old o.waive o.args o.defer is.args_fit unshared is.list_fits no_alias
 
   new_fit : BindsFit new (binds ++ word_at start ∷ [])
-  new_fit = guard.binds_fit old new is.planned.guarded binds start old_fit (lengths.length_only x is.small s d is.was old o.waive o.args o.defer is.args_fit unshared is.list_fits no_alias)
+  new_fit = guard.binds_fit old new is.planned.guarded binds start old_fit
+      (lengths.length_only x is.small s d is.was old o.waive o.args o.defer is.args_fit unshared is.list_fits no_alias)
       (let le = length_within in omega arith)
 
   -- ---- its job fits the guarded kernel
@@ -109,15 +111,21 @@ module _ (x : Outline) (s : ScriptState) (o : Deferred) (old new : Kernel) (d : 
   pub job_fits : JobFits x.plan job new
   job_fits = record {
     binds = subst (BindsFit new) (sym is.planned.binds) new_fit;
-    within = λ y b h. guard.binds_within old new is.planned.guarded binds start x.plan.cells (argument.within x is.small s d is.was old o.waive o.args (Some o.defer) is.args_fit unshared) length_within y b
+    within = λ y b h. guard.binds_within old new is.planned.guarded binds start x.plan.cells
+        (argument.within x is.small s d is.was old o.waive o.args (Some o.defer) is.args_fit unshared) length_within y b
         (ap (λ bs. slice_get bs y) (sym is.planned.binds) ∙ h);
-    widths = record { waived = o.waive; widths_are = ap widths is.planned.binds ∙ guard.binds_have_widths old new is.planned.guarded binds start o.waive is.parallel widths_are };
+    widths = record {
+      waived = o.waive;
+      widths_are = ap widths is.planned.binds
+          ∙ guard.binds_have_widths old new is.planned.guarded binds start o.waive is.parallel widths_are;
+    };
     cut = is.planned.cut;
     one = λ h. absurd (not_both is.planned.guarded.parallel h);
     deps = is.planned.known_deps;
     is_parallel = λ h. is.planned.guarded.parallel;
     parts = λ h. subst (HaveOwnParts new) (sym is.planned.binds) (guard.own_parts old new is.planned.guarded binds start old_fit.count
-        (argument.own_parts x is.small s d is.was old o.waive o.args (Some o.defer) is.args_fit unshared (λ n p. is.widths n p is.parallel (is.planned.parallel h))));
+        (argument.own_parts x is.small s d is.was old o.waive o.args (Some o.defer) is.args_fit unshared
+        (λ n p. is.widths n p is.parallel (is.planned.parallel h))));
   }
 
   -- ---- its words
@@ -171,7 +179,8 @@ module _ (x : Outline) (s : ScriptState) (o : Deferred) (old new : Kernel) (d : 
 
   apart : AreApartBelow x.starts s x.plan.cells
   apart = record {
-    apart = λ c e w bc be ac ae wc we. words_apart x.plan x.starts (jobs_before x) n s is.was.ordered.ledger c e w (alive_is_live s c bc ac) (alive_is_live s e be ae) (word_has x.starts s c w wc) (word_has x.starts s e w we);
+    apart = λ c e w bc be ac ae wc we. words_apart x.plan x.starts (jobs_before x) n s is.was.ordered.ledger c e w (alive_is_live s c bc ac)
+        (alive_is_live s e be ae) (word_has x.starts s c w wc) (word_has x.starts s e w we);
     below = λ c w b a word. let le = is.was.standing.within c (alive_is_live s c b a) in let lt = word.below in omega arith;
   }
 
@@ -180,11 +189,14 @@ module _ (x : Outline) (s : ScriptState) (o : Deferred) (old new : Kernel) (d : 
   ran = steps_on_contents old ws deferred_steps len 0 (arguments_of s ps o.args)
 
   leaves : JobLeaves x.starts s ps ws o.args before after ran.store
-  leaves = subst (λ v. JobLeaves x.starts s ps ws o.args before after (steps_on_contents old v deferred_steps len 0 (arguments_of s ps o.args)).store) widths_are
-      (job_leaves x.starts s old ws o.args (Some o.defer) deferred_steps len x.plan.cells before after is.planned.old_checked old_fit is.args_fit widths_long unshared is.was.standing.contents apart after_is)
+  leaves = subst (λ v. JobLeaves x.starts s ps ws o.args before after (steps_on_contents old v deferred_steps len 0 (arguments_of s ps o.args)).store)
+      widths_are
+      (job_leaves x.starts s old ws o.args (Some o.defer) deferred_steps len x.plan.cells before after is.planned.old_checked old_fit is.args_fit widths_long
+      unshared is.was.standing.contents apart after_is)
 
   pub left_held : AllHeld x.starts (leave_all ps o.args ran.store s) after
-  left_held = left_contents_are_held x.starts s ps ws o.args (Some o.defer) before after ran.store is.was.standing.contents is.args_fit widths_long unshared leaves
+  left_held = left_contents_are_held x.starts s ps ws o.args (Some o.defer) before after ran.store is.was.standing.contents is.args_fit widths_long unshared
+      leaves
 
   given : StandFor binds before (arguments_of s ps o.args)
   given = arguments_stand x.starts s before ps ws o.args (Some o.defer) is.was.standing.contents is.args_fit widths_long
@@ -197,11 +209,13 @@ module _ (x : Outline) (s : ScriptState) (o : Deferred) (old new : Kernel) (d : 
   pub parts_stand : (i : ℕ) → i < N → (contents : List Contents) × StandFor job.binds.items (cells_after (parts x.plan n i ++ pieces_of x.plan d)) contents
   parts_stand i lt =
       let first = pieces_run_as_one x.plan n job new (pieces_of x.plan d) has_job is.planned.has_kernel is.planned.checked job_fits i (omega arith) in
-      let run = words_run_as_contents new job.binds.items (indexes_before job i) 0 before (arguments_of s ps o.args ++ Elements (cell_list before start 1) ∷ []) is.planned.checked job_fits.binds given_all in (
+      let run = words_run_as_contents new job.binds.items (indexes_before job i) 0 before
+      (arguments_of s ps o.args ++ Elements (cell_list before start 1) ∷ []) is.planned.checked job_fits.binds given_all in (
         (on_contents new (widths job.binds.items) (indexes_before job i) 0 (arguments_of s ps o.args ++ Elements (cell_list before start 1) ∷ [])).store,
         record {
           count = run.store.count;
-          each = λ y b h. still b (at_indexes new job.binds.items full_steps (indexes_before job i) 0 before).store (cells_after (parts x.plan n i ++ pieces_of x.plan d)) _ (run.store.each y b h)
+          each = λ y b h. still b (at_indexes new job.binds.items full_steps (indexes_before job i) 0 before).store
+              (cells_after (parts x.plan n i ++ pieces_of x.plan d)) _ (run.store.each y b h)
               (λ w word. first.cells w (let le = job_fits.within y b h in let lt = word.below in omega arith));
         },
       )

@@ -43,7 +43,8 @@ use Rattle.defer_laws.proofs.Uses.{given_more, written_more, given_below}
 use Rattle.defer_laws.proofs.DeferredJob.{IsAtHand}
 use Rattle.defer_laws.proofs.DeferredJob as at_hand
 
-module _ (x : Outline) (s : ScriptState) (o : Deferred) (old new : Kernel) (d : Draft) (deps : Jobs) (job : JobPlan) (is : IsAtHand x s o old new d deps job) where
+module _ (x : Outline) (s : ScriptState) (o : Deferred) (old new : Kernel) (d : Draft) (deps : Jobs) (job : JobPlan)
+    (is : IsAtHand x s o old new d deps job) where
   abbrev ps : List Param
   ps = old.params.items
 
@@ -101,15 +102,18 @@ module _ (x : Outline) (s : ScriptState) (o : Deferred) (old new : Kernel) (d : 
 
   -- a touched word of a bind is one of an argument's container, or the length
   pub of_bound : (w : ℕ) → IsBound new.params.items job.binds.items w → IsOfArgument x s (is_given s params args) w
-  of_bound w b = guard.by_end (λ z. IsWordOf z w → IsOfArgument x s (is_given s params args) w) binds (word_at start) b.number b.bind (ap (λ bs. slice_get bs b.number) (sym is.planned.binds) ∙ b.has_bind)
+  of_bound w b = guard.by_end (λ z. IsWordOf z w → IsOfArgument x s (is_given s params args) w) binds (word_at start) b.number b.bind
+      (ap (λ bs. slice_get bs b.number) (sym is.planned.binds) ∙ b.has_bind)
       (λ lt at word.
       let r = argument.bind_here x is.small s d is.was old o.waive o.args (Some o.defer) is.args_fit unshared b.number b.bind at in
-      let a = argument_word x.starts s ps ws o.args b.number w b.bind (argument.all_fit x is.small s d is.was old o.waive o.args (Some o.defer) is.args_fit unshared) at word in
+      let a = argument_word x.starts s ps ws o.args b.number w b.bind (argument.all_fit x is.small s d is.was old o.waive o.args
+      (Some o.defer) is.args_fit unshared) at word in
       record {
         container = container_at s a.name;
         below = a.below;
         alive = a.alive;
-        is_of = is_given_now (container_at s a.name) ∙ or_left (is_given s ps o.args (container_at s a.name)) _ (any_by s ps o.args b.number a.name (container_at s a.name) r.param r.has_param a.has refl);
+        is_of = is_given_now (container_at s a.name) ∙ or_left (is_given s ps o.args (container_at s a.name)) _
+            (any_by s ps o.args b.number a.name (container_at s a.name) r.param r.has_param a.has refl);
         word = word_has x.starts s (container_at s a.name) w a.word;
       })
       (λ end word.
@@ -121,7 +125,9 @@ module _ (x : Outline) (s : ScriptState) (o : Deferred) (old new : Kernel) (d : 
         below = is.list_fits.made;
         alive = is.list_fits.alive;
         is_of = list_given;
-        word = word_has x.starts s c w (subst (IsWordOf (bind_of_container x.starts s c)) (sym at) (lengths.length_word x is.small s d is.was old o.waive o.args o.defer is.args_fit unshared is.list_fits (at_hand.no_alias x s o old new d deps job is)));
+        word = word_has x.starts s c w (subst (IsWordOf (bind_of_container x.starts s c)) (sym at)
+            (lengths.length_word x is.small s d is.was old o.waive o.args o.defer is.args_fit unshared is.list_fits
+            (at_hand.no_alias x s o old new d deps job is)));
       })
       b.word
 
@@ -130,20 +136,24 @@ module _ (x : Outline) (s : ScriptState) (o : Deferred) (old new : Kernel) (d : 
       let p = guard.old_param old new is.planned.guarded binds start b.bound.number b.bound.param b.bound.has_param b.writes in
       let few = get_below ps b.bound.number p.0 p.1 in
       let count = (at_hand.old_fit x s o old new d deps job is).count in
-      guard.by_end (λ z. IsWordOf z w → IsOfArgument x s (is_written s params args) w) binds (word_at start) b.bound.number b.bound.bind (ap (λ bs. slice_get bs b.bound.number) (sym is.planned.binds) ∙ b.bound.has_bind)
+      guard.by_end (λ z. IsWordOf z w → IsOfArgument x s (is_written s params args) w) binds (word_at start) b.bound.number b.bound.bind
+      (ap (λ bs. slice_get bs b.bound.number) (sym is.planned.binds) ∙ b.bound.has_bind)
       (λ lt at word.
-      let a = argument_word x.starts s ps ws o.args b.bound.number w b.bound.bind (argument.all_fit x is.small s d is.was old o.waive o.args (Some o.defer) is.args_fit unshared) at word in
+      let a = argument_word x.starts s ps ws o.args b.bound.number w b.bound.bind
+      (argument.all_fit x is.small s d is.was old o.waive o.args (Some o.defer) is.args_fit unshared) at word in
       record {
         container = container_at s a.name;
         below = a.below;
         alive = a.alive;
-        is_of = is_written_now (container_at s a.name) ∙ writes_by s ps o.args b.bound.number a.name (container_at s a.name) p.0 p.1 a.has refl (ap writes_to p.2.access ∙ b.writes);
+        is_of = is_written_now (container_at s a.name) ∙ writes_by s ps o.args b.bound.number a.name (container_at s a.name) p.0 p.1 a.has refl
+            (ap writes_to p.2.access ∙ b.writes);
         word = word_has x.starts s (container_at s a.name) w a.word;
       })
       (λ end word. absurd (omega arith))
       b.bound.word
 
-  pub own_is : (i w : ℕ) → i < N → has_word (record { from = own_word x.plan n i; end = own_word x.plan n i + 3; written = true }) w ≡ true → is_own_word x.plan (suc n) w ≡ true
+  pub own_is : (i w : ℕ) → i < N → has_word (record { from = own_word x.plan n i; end = own_word x.plan n i + 3; written = true }) w ≡ true
+      → is_own_word x.plan (suc n) w ≡ true
   own_is i w lt e =
       let b = it_has (record { from = own_word x.plan n i; end = own_word x.plan n i + 3; written = true }) w e in
       let lo = b.0 in
@@ -156,12 +166,14 @@ module _ (x : Outline) (s : ScriptState) (o : Deferred) (old new : Kernel) (d : 
 
   -- ---- its pieces
 
-  pub reads_are : (i w : ℕ) → i < N → reads_in (touches x.plan (OfJob n i)) w ≡ true → (is_own_word x.plan (suc n) w ≡ true) ⊎ IsOfArgument x s (is_given s params args) w
+  pub reads_are : (i w : ℕ) → i < N → reads_in (touches x.plan (OfJob n i)) w ≡ true
+      → (is_own_word x.plan (suc n) w ≡ true) ⊎ IsOfArgument x s (is_given s params args) w
   reads_are i w lt e = ⊎_elim (λ own. inl (own_is i w lt own))
       (λ b. inr (of_bound w (touched_words_are_used.bound job.parallel new.params.items job.binds.items _ _ w b)))
       (read_by x n job new has_job is.planned.has_kernel job_fits i w e)
 
-  pub writes_are : (i w : ℕ) → i < N → writes_in (touches x.plan (OfJob n i)) w ≡ true → (is_own_word x.plan (suc n) w ≡ true) ⊎ IsOfArgument x s (is_written s params args) w
+  pub writes_are : (i w : ℕ) → i < N → writes_in (touches x.plan (OfJob n i)) w ≡ true
+      → (is_own_word x.plan (suc n) w ≡ true) ⊎ IsOfArgument x s (is_written s params args) w
   writes_are i w lt e = ⊎_elim (λ own. inl (own_is i w lt own))
       (λ b. inr (of_written w (touched_words_are_used.bound_to_write job.parallel new.params.items job.binds.items _ _ w b)))
       (written_by x n job new has_job is.planned.has_kernel job_fits i w e)

@@ -85,7 +85,8 @@ accepted_with s o k run =
     let gs = givens s params o.args (Some o.defer) in
     let needs = map (λ v. v.need) gs in
     let job = s.book.count + 1 in
-    let ran = run (widths_from (kernel_parallel k) o.waive 0 params) (steps_by (Some o.defer)) (job_length s o.cut (Some o.defer)) (arguments_of s params o.args) in
+    let ran = run (widths_from (kernel_parallel k) o.waive 0 params) (steps_by (Some o.defer)) (job_length s o.cut (Some o.defer))
+    (arguments_of s params o.args) in
     let left = all_broken gs (leave_all params o.args ran.store s) in
     record left {
       values = with_at s.values o.handle (Value.Handle (only job));
@@ -183,14 +184,16 @@ module _ (x : Outline) (s : ScriptState) (o : Deferred) (old new : Kernel) (d : 
         deps_up = deps_up s known o.auto old.parallel gs o.after;
         deps_are = is.planned.deps_are;
         used_alive = touches.given_alive x s o old new d deps job is;
-        readers = λ c j given w. let up = (known.uses c).users j ((known.uses c).writers j w) in read_free s deps c j needs (given_is c ∙ given) w (free j up.0 up.1);
+        readers = λ c j given w. let up = (known.uses c).users j ((known.uses c).writers j w) in
+            read_free s deps c j needs (given_is c ∙ given) w (free j up.0 up.1);
         writers_too = λ c j given w. let up = (known.uses c).users j w in write_free s deps c j needs (written_is c ∙ given) w (free j up.0 up.1);
         reads = touches.reads_are x s o old new d deps job is;
         writes = touches.writes_are x s o old new d deps job is;
       }
 
       held : AllHeld x.starts u after
-      held = λ c below alive. subst (λ t. AllHeld x.starts t after) (all_hold x.starts s ps o.args ran.store s.contents) (at_hand.left_held x s o old new d deps job is) c below alive
+      held = λ c below alive. subst (λ t. AllHeld x.starts t after) (all_hold x.starts s ps o.args ran.store s.contents)
+          (at_hand.left_held x s o old new d deps job is) c below alive
 
       started : IsStarted x s u d job new params args deps ran.traps
       started = record {
@@ -213,10 +216,12 @@ module _ (x : Outline) (s : ScriptState) (o : Deferred) (old new : Kernel) (d : 
 
   module _ (small : x.plan.cells < 2 ^ 32) (was : IsPlanned x s d) where
     abbrev Fits : Option Kernel → Type 0
-    Fits ok = kernel_parallel ok ≡ true → Unrefused s o ok → ArgsFit s (Some o.defer) (kernel_params ok) o.args → NameFits s true ListKind o.defer.0 → NeedsWidths o ok
+    Fits ok = kernel_parallel ok ≡ true → Unrefused s o ok → ArgsFit s (Some o.defer) (kernel_params ok) o.args → NameFits s true ListKind o.defer.0
+        → NeedsWidths o ok
         → IsDeferredJob x s d o old new (deps_with s o ok) job → JobFits x.plan job new
 
-    all_at_hand : old.parallel ≡ true → Unrefused s o (Some old) → ArgsFit s (Some o.defer) ps o.args → NameFits s true ListKind o.defer.0 → NeedsWidths o (Some old) → IsDeferredJob x s d o old new deps job
+    all_at_hand : old.parallel ≡ true → Unrefused s o (Some old) → ArgsFit s (Some o.defer) ps o.args → NameFits s true ListKind o.defer.0
+        → NeedsWidths o (Some old) → IsDeferredJob x s d o old new deps job
         → IsAtHand x s o old new d deps job
     all_at_hand parallel unrefused fit list widths planned =
         record { small = small; was = was; parallel = parallel; unrefused = unrefused; args_fit = fit; list_fits = list; widths = widths; planned = planned }
@@ -224,9 +229,11 @@ module _ (x : Outline) (s : ScriptState) (o : Deferred) (old new : Kernel) (d : 
     fits : Fits (Some old)
     fits parallel unrefused fit list widths planned = at_hand.job_fits x s o old new d deps job (all_at_hand parallel unrefused fit list widths planned)
 
-    module _ (e : Draft) (segment : Segment) (known : IsKnown s) (starts : segment.starts ≡ Some (record { 0 = suc (length d.jobs) })) (closes : Closes d e segment (job ∷ []) []) where
+    module _ (e : Draft) (segment : Segment) (known : IsKnown s) (starts : segment.starts ≡ Some (record { 0 = suc (length d.jobs) }))
+        (closes : Closes d e segment (job ∷ []) []) where
       abbrev Goes : Option Kernel → Run → Type 0
-      Goes ok run = kernel_parallel ok ≡ true → Unrefused s o ok → ArgsFit s (Some o.defer) (kernel_params ok) o.args → NameFits s true ListKind o.defer.0 → NeedsWidths o ok
+      Goes ok run = kernel_parallel ok ≡ true → Unrefused s o ok → ArgsFit s (Some o.defer) (kernel_params ok) o.args → NameFits s true ListKind o.defer.0
+          → NeedsWidths o ok
           → ((c : ℕ) → c < s.made → form_of ((accepted_with s o ok run).contents c) ≡ form_of (s.contents c))
           → IsDeferredJob x s d o old new (deps_with s o ok) job → IsPlanned x (accepted_with s o ok run) e
 
@@ -234,7 +241,8 @@ module _ (x : Outline) (s : ScriptState) (o : Deferred) (old new : Kernel) (d : 
       goes parallel unrefused fit list widths forms planned =
           let is = all_at_hand parallel unrefused fit list widths planned in
           subst (λ t. IsPlanned x t e) (sym (u_is is))
-          (started_jobs_are_planned x small s (u is) d e segment job new (params is) (args is) deps (ran is).traps known was (started is known forms) starts closes)
+          (started_jobs_are_planned x small s (u is) d e segment job new (params is) (args is) deps (ran is).traps known was
+          (started is known forms) starts closes)
 
 pub deferred_jobs_fit : DeferredJobsFit
 deferred_jobs_fit x g s o old new d job small was a has pj =
@@ -243,7 +251,9 @@ deferred_jobs_fit x g s o old new d job small was a has pj =
 pub deferred_schedules_are_planned : DeferredSchedulesArePlanned
 deferred_schedules_are_planned x g s o old new d e segment job small known was a has pj starts closes =
     let run_is : run_of old ≡ get_or g.runs o.kernel no_run =
-    sym (ap (λ rs. get_or rs o.kernel no_run) a.runs ∙ get_or-map run_of g.kernels o.kernel old no_run (get_below g.kernels o.kernel old has) ∙ ap run_of (get_is g.kernels o.kernel old old has)) in
+    sym (ap (λ rs. get_or rs o.kernel no_run) a.runs ∙ get_or-map run_of g.kernels o.kernel old no_run (get_below g.kernels o.kernel old has)
+    ∙ ap run_of (get_is g.kernels o.kernel old old has)) in
     subst (λ ok. Goes x s o old new d job small was e segment known starts closes ok (get_or g.runs o.kernel no_run)) (sym has)
-    (subst (Goes x s o old new d job small was e segment known starts closes (Some old)) run_is (goes x s o old new d job small was e segment known starts closes))
+    (subst (Goes x s o old new d job small was e segment known starts closes (Some old)) run_is
+    (goes x s o old new d job small was e segment known starts closes))
     a.parallel a.unrefused a.args_fit a.list_fits a.widths a.forms pj

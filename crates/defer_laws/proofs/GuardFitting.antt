@@ -45,7 +45,8 @@ one_longer [] y = refl
 one_longer (x ∷ xs) y = ap suc (one_longer xs y)
 
 -- its words stand for one more
-pub stand_more : (binds : List Bind) (b : Bind) (cells : Cells) (args : List Contents) (c : Contents) → StandFor binds cells args → Holds cells b c → StandFor (binds ++ b ∷ []) cells (args ++ c ∷ [])
+pub stand_more : (binds : List Bind) (b : Bind) (cells : Cells) (args : List Contents) (c : Contents) → StandFor binds cells args → Holds cells b c
+    → StandFor (binds ++ b ∷ []) cells (args ++ c ∷ [])
 stand_more binds b cells args c st held = record {
   count = one_longer args c ∙ ap suc st.count ∙ sym (one_longer binds b);
   each = λ y z h. by_end (λ z. Holds cells z (argument (args ++ c ∷ []) y)) binds b y z h
@@ -62,7 +63,8 @@ same_long [] (q ∷ qs) e = absurd e
 same_long (p ∷ ps) [] e = absurd e
 same_long (p ∷ ps) (q ∷ qs) e = ap suc (same_long ps qs e.1)
 
-pub same_at : (ps qs : List Param) → Pairwise SameParam ps qs → (y : ℕ) (q : Param) → slice_get qs y ≡ Some q → (p : Param) × (slice_get ps y ≡ Some p) × SameParam p q
+pub same_at : (ps qs : List Param) → Pairwise SameParam ps qs → (y : ℕ) (q : Param) → slice_get qs y ≡ Some q
+    → (p : Param) × (slice_get ps y ≡ Some p) × SameParam p q
 same_at [] [] e y q h = absurd (none_some h)
 same_at [] (r ∷ qs) e y q h = absurd e
 same_at (p ∷ ps) [] e y q h = absurd (none_some h)
@@ -78,7 +80,8 @@ width_by_same m p q e MapKind = refl
 width_by_same m p q e StreamKind = refl
 
 -- the length has no width
-widths_more : (waive : List ℕ) (x : ℕ) (ps qs : List Param) (last : Param) → Pairwise SameParam ps qs → last.access ≡ Read → widths_from true waive x (qs ++ last ∷ []) ≡ widths_from true waive x ps ++ 0 ∷ []
+widths_more : (waive : List ℕ) (x : ℕ) (ps qs : List Param) (last : Param) → Pairwise SameParam ps qs → last.access ≡ Read
+    → widths_from true waive x (qs ++ last ∷ []) ≡ widths_from true waive x ps ++ 0 ∷ []
 widths_more waive x [] [] last e read = ap (λ a. (if true && writes_to a then width_by (member x waive) last last.kind else 0) ∷ []) read
 widths_more waive x [] (q ∷ qs) last e read = absurd e
 widths_more waive x (p ∷ ps) [] last e read = absurd e
@@ -101,7 +104,8 @@ module _ (old new : Kernel) (is : IsGuarded old new) (binds : List Bind) (start 
       → (p : Param) × (slice_get old.params.items y ≡ Some p) × SameParam p q
   old_param y q h writes = ⊎_elim
       (λ l. same_at old.params.items is.same is.are_same y q l.1)
-      (λ r. let o = only_last is.last r.0 q r.2 in absurd (not_both (sym (ap (λ (p : Param). writes_to p.access) o.1) ∙ writes) (ap writes_to is.is_length.access)))
+      (λ r. let o = only_last is.last r.0 q r.2 in absurd (not_both (sym (ap (λ (p : Param). writes_to p.access) o.1) ∙ writes)
+      (ap writes_to is.is_length.access)))
       (get_either is.same (is.last ∷ []) y q (ap (λ ps. slice_get ps y) (sym is.params) ∙ h))
 
   may_old : (y : ℕ) → may_write new.params.items y ≡ true → may_write old.params.items y ≡ true
@@ -113,7 +117,8 @@ module _ (old new : Kernel) (is : IsGuarded old new) (binds : List Bind) (start 
   long : length old.params.items ≡ length is.same
   long = same_long old.params.items is.same is.are_same
 
-  module _ (fits : BindsFit old binds) (only : (y : ℕ) (p : Param) (b : Bind) → slice_get old.params.items y ≡ Some p → writes_to p.access ≡ true → slice_get binds y ≡ Some b → IsWordOf b start → IsLength b start) where
+  module _ (fits : BindsFit old binds) (only : (y : ℕ) (p : Param) (b : Bind) → slice_get old.params.items y ≡ Some p → writes_to p.access ≡ true
+      → slice_get binds y ≡ Some b → IsWordOf b start → IsLength b start) where
     kinds : (y : ℕ) (p : Param) (b : Bind) → slice_get new.params.items y ≡ Some p → slice_get all y ≡ Some b → kind_of b ≡ p.kind
     kinds y p b hp hb =
         let count = fits.count in
@@ -127,7 +132,8 @@ module _ (old new : Kernel) (is : IsGuarded old new) (binds : List Bind) (start 
         hp' : slice_get (is.same ++ is.last ∷ []) y ≡ Some p
         hp' = ap (λ ps. slice_get ps y) (sym is.params) ∙ hp
 
-    apart : (y z : ℕ) (a b : Bind) (w : ℕ) → may_write new.params.items y ≡ true → y ≢ z → slice_get all y ≡ Some a → slice_get all z ≡ Some b → IsWordOf a w → (IsLength a w → ⊥) → IsWordOf b w → ⊥
+    apart : (y z : ℕ) (a b : Bind) (w : ℕ) → may_write new.params.items y ≡ true → y ≢ z → slice_get all y ≡ Some a → slice_get all z ≡ Some b → IsWordOf a w
+        → (IsLength a w → ⊥) → IsWordOf b w → ⊥
     apart y z a b w may ne ha hb wa beyond =
         let q = wrote (slice_get new.params.items y) may in
         let p = old_param y q.0 q.1 q.2 in
@@ -147,10 +153,12 @@ module _ (old new : Kernel) (is : IsGuarded old new) (binds : List Bind) (start 
       apart = apart;
     }
 
-  pub binds_within : (limit : ℕ) → ((y : ℕ) (b : Bind) → slice_get binds y ≡ Some b → end_of b ≤ limit) → start + 1 ≤ limit → (y : ℕ) (b : Bind) → slice_get all y ≡ Some b → end_of b ≤ limit
+  pub binds_within : (limit : ℕ) → ((y : ℕ) (b : Bind) → slice_get binds y ≡ Some b → end_of b ≤ limit) → start + 1 ≤ limit → (y : ℕ) (b : Bind)
+      → slice_get all y ≡ Some b → end_of b ≤ limit
   binds_within limit each last y b hb = by_end (λ b. end_of b ≤ limit) binds (word_at start) y b hb (λ lt at. each y b at) (λ end. last)
 
-  pub binds_have_widths : (waive : List ℕ) → old.parallel ≡ true → widths binds ≡ widths_from old.parallel waive 0 old.params.items → widths all ≡ widths_from new.parallel waive 0 new.params.items
+  pub binds_have_widths : (waive : List ℕ) → old.parallel ≡ true → widths binds ≡ widths_from old.parallel waive 0 old.params.items
+      → widths all ≡ widths_from new.parallel waive 0 new.params.items
   binds_have_widths waive parallel same =
       map-append own_of binds (word_at start ∷ [])
       ∙ ap (λ ws. ws ++ 0 ∷ []) (same ∙ ap (λ b. widths_from b waive 0 old.params.items) parallel)

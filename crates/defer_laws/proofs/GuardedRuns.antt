@@ -32,7 +32,8 @@ module _ (old new : Kernel) (binds : List Bind) (w : ℕ) (guards : GuardsWords 
   nothing_more : (m from n : ℕ) (cells : Cells) → n ≤ from → cells w ≡ pos n → guarded m from cells ≡ record { store = cells; traps = [] }
   nothing_more zero from n cells le held = refl
   nothing_more (suc m) from n cells le held =
-      let r = guards.above binds (record { start = w; len = 1 }) from cells fit.count (omega arith) (ap (λ z. int_lt (pos from) z) held ∙ isnt_less from n le) in
+      let r = guards.above binds (record { start = w; len = 1 }) from cells fit.count (omega arith)
+      (ap (λ z. int_lt (pos from) z) held ∙ isnt_less from n le) in
       (λ i. followed (trap_at from (r.trap i)) (guarded m (from + 1) (r.store i)))
       ∙ ap (followed []) (nothing_more m (from + 1) n cells (omega arith) held)
 
@@ -43,7 +44,8 @@ module _ (old new : Kernel) (binds : List Bind) (w : ℕ) (guards : GuardsWords 
       ap (λ k. guarded k from cells) none ∙ nothing_more m from len cells (omega arith) held
   all_alike (suc n) m from len cells e held =
       let more : suc n + m ≡ suc (n + m) = omega arith in
-      let r = guards.below binds (record { start = w; len = 1 }) from cells fit.count (omega arith) (ap (λ z. int_lt (pos from) z) held ∙ is_less from len (omega arith)) in
+      let r = guards.below binds (record { start = w; len = 1 }) from cells fit.count (omega arith)
+      (ap (λ z. int_lt (pos from) z) held ∙ is_less from len (omega arith)) in
       let kept = only_written_words_change.at_one old binds deferred_steps from cells w checked fit (unwritten from (from + 1)) ∙ held in
       ap (λ k. guarded k from cells) more
       ∙ (λ i. followed (trap_at from (r.trap i)) (guarded (n + m) (from + 1) (r.store i)))

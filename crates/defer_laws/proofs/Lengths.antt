@@ -45,7 +45,8 @@ whole_is_list s (Value.View c number) f = absurd f
 whole_is_list s (Value.Handle jobs) f = absurd f
 
 -- its first word is its length, which is within its capacity
-list_held : (cells : Cells) (start : ℕ) (c : Contents) → kind_of c ≡ kind.List → Holds cells (bind_of start c) c → (cells start ≡ pos (length_of c)) × (length_of c ≤ capacity_of c)
+list_held : (cells : Cells) (start : ℕ) (c : Contents) → kind_of c ≡ kind.List → Holds cells (bind_of start c) c
+    → (cells start ≡ pos (length_of c)) × (length_of c ≤ capacity_of c)
 list_held cells start (Elements xs) e h = absurd cc
 list_held cells start (Single z) e h = absurd cc
 list_held cells start (Items cap xs) e h =
@@ -64,7 +65,8 @@ list_word start (Pairs cap ps) e = absurd cc
 list_word start (Entries room es) e = absurd cc
 
 -- given as an array, it is a view with that length
-view_length : (s : ScriptState) (width start : ℕ) (v : Value) (c : Contents) → fit.IsWhole s kind.List v → kind_of c ≡ kind.List → IsLength (array_for width v start c) start
+view_length : (s : ScriptState) (width start : ℕ) (v : Value) (c : Contents) → fit.IsWhole s kind.List v → kind_of c ≡ kind.List
+    → IsLength (array_for width v start c) start
 view_length s width start Value.Dead c f e = absurd f
 view_length s width start (Value.Whole n) (Elements xs) f e = absurd cc
 view_length s width start (Value.Whole n) (Single z) f e = absurd cc
@@ -80,10 +82,12 @@ view_length s width start (Value.Handle jobs) c f e = absurd f
 no_alias_before : (before gs : List Given) (x : Given) → first_alias before (gs ++ x ∷ []) ≡ None → list_any (λ a. alias a x) (before ++ gs) ≡ false
 no_alias_before before [] x h = ap (list_any (λ a. alias a x)) (append-nil before) ∙ (no_alias before x [] h).0
 no_alias_before before (g ∷ more) x h =
-    ap (list_any (λ a. alias a x)) (sym (append_assoc before (g ∷ []) more)) ∙ no_alias_before (before ++ g ∷ []) more x (no_alias before g (more ++ x ∷ []) h).1
+    ap (list_any (λ a. alias a x)) (sym (append_assoc before (g ∷ []) more))
+    ∙ no_alias_before (before ++ g ∷ []) more x (no_alias before g (more ++ x ∷ []) h).1
 
 module _ (s : ScriptState) (test : Given → Bool) where
-  fails_at : (ps : List Param) (as_ : List Arg) (y n : ℕ) (p : Param) → list_any test (given_args s ps as_) ≡ false → slice_get ps y ≡ Some p → slice_get as_ y ≡ Some (Name n) → test (by_name s p n) ≡ false
+  fails_at : (ps : List Param) (as_ : List Arg) (y n : ℕ) (p : Param) → list_any test (given_args s ps as_) ≡ false → slice_get ps y ≡ Some p
+      → slice_get as_ y ≡ Some (Name n) → test (by_name s p n) ≡ false
   fails_at [] as_ y n p h hp ha = absurd (none_some hp)
   fails_at (q ∷ ps) [] y n p h hp ha = absurd (none_some ha)
   fails_at (q ∷ ps) (Name m ∷ as_) zero n p h hp ha =
@@ -91,11 +95,13 @@ module _ (s : ScriptState) (test : Given → Bool) where
       let is : q ≡ p = some_is hp in
       (λ i. test (by_name s (sym is i) (sym same i))) ∙ or_false_left (test (by_name s q m)) (list_any test (given_args s ps as_)) h
   fails_at (q ∷ ps) (Number z ∷ as_) zero n p h hp ha = absurd cc
-  fails_at (q ∷ ps) (Name m ∷ as_) (suc y) n p h hp ha = fails_at ps as_ y n p (or_false_right (test (by_name s q m)) (list_any test (given_args s ps as_)) h) hp ha
+  fails_at (q ∷ ps) (Name m ∷ as_) (suc y) n p h hp ha = fails_at ps as_ y n p
+      (or_false_right (test (by_name s q m)) (list_any test (given_args s ps as_)) h) hp ha
   fails_at (q ∷ ps) (Number z ∷ as_) (suc y) n p h hp ha = fails_at ps as_ y n p h hp ha
 
 -- what is written of the list's container is the list itself, given as an array
-same_list : (same writes array named : Bool) → same ≡ true → writes ≡ true → ((same && (writes || false)) && not (true && (array && named))) ≡ false → (array ≡ true) × (named ≡ true)
+same_list : (same writes array named : Bool) → same ≡ true → writes ≡ true → ((same && (writes || false)) && not (true && (array && named))) ≡ false
+    → (array ≡ true) × (named ≡ true)
 same_list true true true true e w h = (refl, refl)
 same_list true true true false e w h = absurd cc
 same_list true true false named e w h = absurd cc
@@ -110,7 +116,8 @@ is_array_kind RefKind e = absurd cc
 is_array_kind MapKind e = absurd cc
 is_array_kind StreamKind e = absurd cc
 
-module _ (x : Outline) (small : x.plan.cells < 2 ^ 32) (s : ScriptState) (d : Draft) (was : IsPlanned x s d) (k : Kernel) (waive : List ℕ) (args : List Arg) (defer : ℕ × ℕ)
+module _ (x : Outline) (small : x.plan.cells < 2 ^ 32) (s : ScriptState) (d : Draft) (was : IsPlanned x s d) (k : Kernel) (waive : List ℕ) (args : List Arg)
+    (defer : ℕ × ℕ)
     (fits : fit.ArgsFit s (Some defer) k.params.items args) (un : AreUnshared s k.params.items args) (list : NameFits s true ListKind defer.0)
     (no_alias : first_alias [] (givens s k.params.items args (Some defer)) ≡ None) where
   abbrev c : ℕ
@@ -138,15 +145,18 @@ module _ (x : Outline) (small : x.plan.cells < 2 ^ 32) (s : ScriptState) (d : Dr
   length_given = record { need = need_of s defer.0 false; kind = ListKind; is_length = true }
 
   -- an argument that is written has the length word as the length of a view alone
-  pub length_only : (y : ℕ) (p : Param) (b : Bind) → slice_get k.params.items y ≡ Some p → writes_to p.access ≡ true → slice_get (binds x small s d was k waive args (Some defer) fits un) y ≡ Some b → IsWordOf b start → IsLength b start
+  pub length_only : (y : ℕ) (p : Param) (b : Bind) → slice_get k.params.items y ≡ Some p → writes_to p.access ≡ true
+      → slice_get (binds x small s d was k waive args (Some defer) fits un) y ≡ Some b → IsWordOf b start → IsLength b start
   length_only y p b hp writes hb word =
       let r = bind_here x small s d was k waive args (Some defer) fits un y b hb in
       let a = argument_word x.starts s k.params.items _ args y start b (all_fit x small s d was k waive args (Some defer) fits un) hb word in
       let same : container_at s a.name ≡ c = words_apart x.plan x.starts (jobs_before x) (length d.jobs) s was.ordered.ledger (container_at s a.name) c start
       (alive_is_live s (container_at s a.name) a.below a.alive) (alive_is_live s c list.made list.alive)
       (word_has x.starts s (container_at s a.name) start a.word) (word_has x.starts s c start length_word) in
-      let apart = fails_at s (λ g. alias g length_given) k.params.items args y a.name p (no_alias_before [] (given_args s k.params.items args) length_given no_alias) hp a.has in
-      let both = same_list (nat_eq (container_at s a.name) c) (writes_to p.access) (is_array p.kind) (nat_eq a.name defer.0) (eq-eqb (container_at s a.name) c same) writes apart in
+      let apart = fails_at s (λ g. alias g length_given) k.params.items args y a.name p
+      (no_alias_before [] (given_args s k.params.items args) length_given no_alias) hp a.has in
+      let both = same_list (nat_eq (container_at s a.name) c) (writes_to p.access) (is_array p.kind) (nat_eq a.name defer.0)
+      (eq-eqb (container_at s a.name) c same) writes apart in
       let arg_is : r.arg ≡ Name defer.0 = some_is (sym r.has_arg ∙ a.has) ∙ ap Name (eqb-true a.name defer.0 both.1) in
       let kind_is : r.param.kind ≡ ArrayKind = ap (λ (q : Param). q.kind) (some_is (sym r.has_param ∙ hp)) ∙ is_array_kind p.kind both.0 in
       subst (λ b. IsLength b start) r.is

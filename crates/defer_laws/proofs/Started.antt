@@ -43,7 +43,8 @@ use Rattle.plan_laws.proofs.ScheduledParts.{some_pieces, before_more, numbers_mo
 
 -- What is known of the job and of the state after its schedule: its pieces are enrolled, words stand for contents before
 -- each piece and after all of them, and the traps are those of the script.
-pub record IsStarted (x : Outline) (s t : ScriptState) (d : Draft) (job : JobPlan) (k : Kernel) (params : List Param) (args : List Arg) (deps : Jobs) (traps : List (ℕ × Trap)) : Type 0 where
+pub record IsStarted (x : Outline) (s t : ScriptState) (d : Draft) (job : JobPlan) (k : Kernel) (params : List Param) (args : List Arg) (deps : Jobs)
+    (traps : List (ℕ × Trap)) : Type 0 where
   pub jobs_later : List JobPlan
   pub jobs_are : x.plan.jobs.items ≡ (d.jobs ++ job ∷ []) ++ jobs_later
   pub has_kernel : kernel_of x.plan job ≡ Some k
@@ -59,7 +60,8 @@ pub record IsStarted (x : Outline) (s t : ScriptState) (d : Draft) (job : JobPla
   pub refused : t.refused ≡ s.refused
   pub traps_more : t.traps ≡ s.traps ++ map (script_trap (suc s.book.count)) traps
 
-module _ (x : Outline) (small : x.plan.cells < 2 ^ 32) (s t : ScriptState) (d : Draft) (segment : Segment) (job : JobPlan) (k : Kernel) (params : List Param) (args : List Arg) (deps : Jobs) (traps : List (ℕ × Trap))
+module _ (x : Outline) (small : x.plan.cells < 2 ^ 32) (s t : ScriptState) (d : Draft) (segment : Segment) (job : JobPlan) (k : Kernel) (params : List Param)
+    (args : List Arg) (deps : Jobs) (traps : List (ℕ × Trap))
     (known : IsKnown s) (was : IsPlanned x s d) (st : IsStarted x s t d job k params args deps traps) where
   abbrev n : ℕ
   n = length d.jobs
@@ -78,7 +80,8 @@ module _ (x : Outline) (small : x.plan.cells < 2 ^ 32) (s t : ScriptState) (d : 
   m = ledger_of x.plan x.starts (jobs_before x) (suc n) t
 
   order : IsLedger m × AreInOrder m (parts x.plan n N ++ pieces_of x.plan d)
-  order = enrolled_jobs_are_in_order x s t d job params args deps N known was st.enrolled (omega arith) (parts_are_apart x n job k has_job st.has_kernel st.fits)
+  order = enrolled_jobs_are_in_order x s t d job params args deps N known was st.enrolled (omega arith)
+      (parts_are_apart x n job k has_job st.has_kernel st.fits)
 
   no_depends : (j : ℕ) → m.depends 0 j ≡ false
   no_depends j = by (nat_lt 0 j)
@@ -128,13 +131,18 @@ module _ (x : Outline) (small : x.plan.cells < 2 ^ 32) (s t : ScriptState) (d : 
     output_is : output_closed x.plan e ≡ with_traps (map (job_trap n) traps) (output_of x.plan d)
     output_is =
         output_onto-one x.plan [] no_output d.segments segment
-        ∙ (λ i. with_traps (started_traps x.plan (here_is i) (starts i)) (with_ops x.plan (ops_were i) (cells_after (closed_pieces x.plan d)) (output_closed x.plan d)))
+        ∙ (λ i. with_traps (started_traps x.plan (here_is i) (starts i)) (with_ops x.plan (ops_were i) (cells_after (closed_pieces x.plan d))
+        (output_closed x.plan d)))
         ∙ ap (λ ts. with_traps ts (output_of x.plan d))
-        (ap (λ j. parts_traps x.plan (pieces_of x.plan d) j (pieces_in (job_at x.plan j))) down ∙ ap (λ o. parts_traps x.plan (pieces_of x.plan d) n (pieces_in o)) has_job ∙ st.traps_are)
+        (ap (λ j. parts_traps x.plan (pieces_of x.plan d) j (pieces_in (job_at x.plan j))) down
+        ∙ ap (λ o. parts_traps x.plan (pieces_of x.plan d) n (pieces_in o)) has_job ∙ st.traps_are)
 
     framed_parts : (i : ℕ) → AreFramed (parts x.plan n i ++ pieces_of x.plan d)
     framed_parts zero = was.ordered.framed
-    framed_parts (suc i) = (part_framed x.plan n job k has_job st.has_kernel st.checked st.fits i (cells_after (parts x.plan n i ++ pieces_of x.plan d)), framed_parts i)
+    framed_parts (suc i) = (
+      part_framed x.plan n job k has_job st.has_kernel st.checked st.fits i (cells_after (parts x.plan n i ++ pieces_of x.plan d)),
+      framed_parts i,
+    )
 
     jobs_fit : (j : ℕ) (it : JobPlan) → slice_get e.jobs j ≡ Some it → (q : Kernel) × (kernel_of x.plan it ≡ Some q) × JobFits x.plan it q
     jobs_fit j it h = ⊎_elim (λ l. was.fitting.jobs_fit j it l.1) (λ r. one (r.0) r.2) (get_either d.jobs (job ∷ []) j it h)
@@ -150,7 +158,8 @@ module _ (x : Outline) (small : x.plan.cells < 2 ^ 32) (s t : ScriptState) (d : 
         (get_either d.jobs (job ∷ []) j it h)
       where
         one : (i : ℕ) → j ≡ length d.jobs + i → slice_get (job ∷ []) i ≡ Some it → it.first.0 ≡ pieces_before e.jobs j
-        one zero at h = ap (λ (q : JobPlan). q.first.0) (sym (some_is h)) ∙ st.first ∙ sym (before_more d.jobs job n (omega arith)) ∙ ap (pieces_before e.jobs) (let a : n ≡ j = omega arith in a)
+        one zero at h = ap (λ (q : JobPlan). q.first.0) (sym (some_is h)) ∙ st.first ∙ sym (before_more d.jobs job n (omega arith))
+            ∙ ap (pieces_before e.jobs) (let a : n ≡ j = omega arith in a)
         one (suc i) at h = absurd (none_some h)
 
     -- it depends on jobs before it
@@ -158,7 +167,8 @@ module _ (x : Outline) (small : x.plan.cells < 2 ^ 32) (s t : ScriptState) (d : 
     deps_before = (
       st.fits.deps.0,
       λ i id lt.
-          let on = later_in (jobs_before x) deps (get_or job.deps.items i id).0 (sym (st.enrolled.deps_are (get_or job.deps.items i id).0) ∙ has_it job.deps.items i id lt) in
+          let on = later_in (jobs_before x) deps (get_or job.deps.items i id).0
+          (sym (st.enrolled.deps_are (get_or job.deps.items i id).0) ∙ has_it job.deps.items i id lt) in
           let up = (st.enrolled.deps_up (jobs_before x + (get_or job.deps.items i id).0) on.1).1 in
           let count = was.ordered.count in
           omega arith,
@@ -168,7 +178,8 @@ module _ (x : Outline) (small : x.plan.cells < 2 ^ 32) (s t : ScriptState) (d : 
     deps_fit j it h = ⊎_elim (λ l. was.fitting.deps j it l.1) (λ r. one r.0 r.1 r.2) (get_either d.jobs (job ∷ []) j it h)
       where
         one : (i : ℕ) → j ≡ length d.jobs + i → slice_get (job ∷ []) i ≡ Some it → AreJobsUpTo j it.deps.items
-        one zero at h = subst (λ (q : JobPlan). AreJobsUpTo j q.deps.items) (some_is h) (subst (λ k. AreJobsUpTo k job.deps.items) (let a : n ≡ j = omega arith in a) deps_before)
+        one zero at h = subst (λ (q : JobPlan). AreJobsUpTo j q.deps.items) (some_is h)
+            (subst (λ k. AreJobsUpTo k job.deps.items) (let a : n ≡ j = omega arith in a) deps_before)
         one (suc i) at h = absurd (none_some h)
 
     planned : IsPlanned x t e
@@ -181,9 +192,11 @@ module _ (x : Outline) (small : x.plan.cells < 2 ^ 32) (s t : ScriptState) (d : 
             ledger = subst (λ c. IsLedger (ledger_of x.plan x.starts (jobs_before x) c t)) (sym len) order.0;
             pieces = subst (λ c. AreInOrder (ledger_of x.plan x.starts (jobs_before x) c t) (segment_piece x.plan [] [] ∷ closed_pieces x.plan e)) (sym len)
                 (subst (λ ps. AreInOrder m (segment_piece x.plan [] [] ∷ ps)) (sym pieces_are) order_next);
-            parts = λ j pos le. subst (λ ps. HasPieceOf (segment_piece x.plan [] [] ∷ ps) j) (sym pieces_are) (part_over (segment_piece x.plan [] []) (parts x.plan n N ++ pieces_of x.plan d) j
+            parts = λ j pos le. subst (λ ps. HasPieceOf (segment_piece x.plan [] [] ∷ ps) j) (sym pieces_are)
+                (part_over (segment_piece x.plan [] []) (parts x.plan n N ++ pieces_of x.plan d) j
                 (⊎_elim
-                (λ at. subst (HasPieceOf (parts x.plan n N ++ pieces_of x.plan d)) (sym at) (part_there x.plan n N (pieces_of x.plan d) (some_pieces job.parallel job.cut.n job.cut.step st.fits.cut.step.0)))
+                (λ at. subst (HasPieceOf (parts x.plan n N ++ pieces_of x.plan d)) (sym at)
+                (part_there x.plan n N (pieces_of x.plan d) (some_pieces job.parallel job.cut.n job.cut.step st.fits.cut.step.0)))
                 (λ ne. parts_over x.plan n N (pieces_of x.plan d) j (was.ordered.parts j pos (omega arith)))
                 (cases_eq j (suc n))));
             framed = subst (λ ps. AreFramed (segment_piece x.plan [] [] ∷ ps)) (sym pieces_are)
@@ -195,18 +208,26 @@ module _ (x : Outline) (small : x.plan.cells < 2 ^ 32) (s t : ScriptState) (d : 
             jobs_fit = jobs_fit;
             firsts = firsts;
             deps = deps_fit;
-            starts = starts_from-one d.segments segment ∙ (λ i. was.fitting.starts i ++ number_in (starts i)) ∙ (let one : suc n ≡ 1 + n = omega arith in ap (λ c. numbers_from 1 n ++ c ∷ []) one) ∙ numbers_more 1 n ∙ ap (numbers_from 1) (sym len);
-            closed = segments_fit-one x.plan 0 d.segments segment was.fitting.closed (subst (λ k. SegmentFits x.plan k segment) (sym (jobs_started d.segments n was.fitting.starts))
-                (record { waits = subst (AreJobsUpTo n) (sym waits_were) was.fitting.waits; ops = subst (All (OpFits x.plan)) (sym ops_were) was.fitting.ops }));
+            starts = starts_from-one d.segments segment ∙ (λ i. was.fitting.starts i ++ number_in (starts i))
+                ∙ (let one : suc n ≡ 1 + n = omega arith in ap (λ c. numbers_from 1 n ++ c ∷ []) one) ∙ numbers_more 1 n ∙ ap (numbers_from 1) (sym len);
+            closed = segments_fit-one x.plan 0 d.segments segment was.fitting.closed
+                (subst (λ k. SegmentFits x.plan k segment) (sym (jobs_started d.segments n was.fitting.starts))
+                (record {
+                  waits = subst (AreJobsUpTo n) (sym waits_were) was.fitting.waits;
+                  ops = subst (All (OpFits x.plan)) (sym ops_were) was.fitting.ops;
+                }));
             waits = (tt, All-nothing _);
             ops = All-nothing (OpFits x.plan);
           };
           standing = record {
-            closed = closed_stand-one x.plan [] d.segments segment was.standing.closed (subst (λ ops. OpsStand x.plan ops (cells_after (closed_pieces x.plan d))) (sym ops_were) was.standing.ops)
+            closed = closed_stand-one x.plan [] d.segments segment was.standing.closed
+                (subst (λ ops. OpsStand x.plan ops (cells_after (closed_pieces x.plan d))) (sym ops_were) was.standing.ops)
                 (subst (λ ps. StartedStand x.plan ps segment.starts) (sym here_is) (subst (StartedStand x.plan (pieces_of x.plan d)) (sym starts)
-                (subst (λ j. PartsStand x.plan (pieces_of x.plan d) j (job_at x.plan j)) (sym down) (subst (PartsStand x.plan (pieces_of x.plan d) n) (sym has_job) st.stand))));
+                (subst (λ j. PartsStand x.plan (pieces_of x.plan d) j (job_at x.plan j)) (sym down)
+                (subst (PartsStand x.plan (pieces_of x.plan d) n) (sym has_job) st.stand))));
             ops = tt;
-            contents = λ c below alive. subst (λ ps. Holds (cells_after ps) (bind_of_container x.starts t c) (t.contents c)) (sym pieces_are) (st.held c below alive);
+            contents = λ c below alive. subst (λ ps. Holds (cells_after ps) (bind_of_container x.starts t c) (t.contents c)) (sym pieces_are)
+                (st.held c below alive);
             within = λ c live.
                 let le = was.standing.within c (live_was x s t d job params args deps known was st.enrolled c live) in
                 let a = end_is (x.starts (t.range c)) (t.contents c) in
@@ -216,21 +237,25 @@ module _ (x : Outline) (small : x.plan.cells < 2 ^ 32) (s t : ScriptState) (d : 
                 omega arith;
           };
           output = record {
-            lines = st.lines ∙ was.output.lines ∙ ap (λ l. x.begun.lines ++ l) (sym (append-nil (output_of x.plan d).lines) ∙ ap (λ (q : Output). q.lines ++ []) (sym output_is));
+            lines = st.lines ∙ was.output.lines ∙ ap (λ l. x.begun.lines ++ l)
+                (sym (append-nil (output_of x.plan d).lines) ∙ ap (λ (q : Output). q.lines ++ []) (sym output_is));
             refused = let u = st.refused in let r = was.output.refused in let q = ap (λ (q : Output). q.refused) output_is in omega arith;
             traps =
                 (let count = was.ordered.count in
                 st.traps_more
                 ∙ ap (λ ts. ts ++ map (script_trap (suc s.book.count)) traps) was.output.traps
                 ∙ append_assoc x.begun.traps (map (renumbered (jobs_before x)) (output_of x.plan d).traps) (map (script_trap (suc s.book.count)) traps)
-                ∙ ap (λ ts. x.begun.traps ++ (map (renumbered (jobs_before x)) (output_of x.plan d).traps ++ ts)) (sym (traps_renumbered (jobs_before x) n (suc s.book.count) (omega arith) traps))
+                ∙ ap (λ ts. x.begun.traps ++ (map (renumbered (jobs_before x)) (output_of x.plan d).traps ++ ts))
+                (sym (traps_renumbered (jobs_before x) n (suc s.book.count) (omega arith) traps))
                 ∙ ap (λ ts. x.begun.traps ++ ts) (sym (map-append (renumbered (jobs_before x)) (output_of x.plan d).traps (map (job_trap n) traps)))
                 ∙ ap (λ (q : Output). x.begun.traps ++ map (renumbered (jobs_before x)) q.traps) (sym output_is));
           };
         }
 
-pub started_jobs_are_planned : (x : Outline) → x.plan.cells < 2 ^ 32 → (s t : ScriptState) (d e : Draft) (segment : Segment) (job : JobPlan) (k : Kernel) (params : List Param) (args : List Arg) (deps : Jobs) (traps : List (ℕ × Trap))
-    → IsKnown s → IsPlanned x s d → IsStarted x s t d job k params args deps traps → segment.starts ≡ Some (record { 0 = suc (length d.jobs) }) → Closes d e segment (job ∷ []) [] → IsPlanned x t e
+pub started_jobs_are_planned : (x : Outline) → x.plan.cells < 2 ^ 32 → (s t : ScriptState) (d e : Draft) (segment : Segment) (job : JobPlan) (k : Kernel)
+    (params : List Param) (args : List Arg) (deps : Jobs) (traps : List (ℕ × Trap))
+    → IsKnown s → IsPlanned x s d → IsStarted x s t d job k params args deps traps → segment.starts ≡ Some (record { 0 = suc (length d.jobs) })
+    → Closes d e segment (job ∷ []) [] → IsPlanned x t e
 started_jobs_are_planned x small s t d e segment job k params args deps traps known was st starts closes =
     let is : record { segments = d.segments ++ segment ∷ []; jobs = d.jobs ++ job ∷ []; waits = []; ops = [] } ≡ e = (
     let segments = sym closes.segments in

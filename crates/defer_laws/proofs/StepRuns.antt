@@ -42,7 +42,8 @@ steps_on_contents kernel ws steps n from args = indexes
     (λ index args. execution (arguments ws index) kernel.body.statements.items steps index args)
     n from args
 
-pub words_run_by_steps : (kernel : Kernel) (binds : List Bind) (steps n from : ℕ) (cells : Cells) (args : List Contents) → IsChecked kernel → BindsFit kernel binds → StandFor binds cells args
+pub words_run_by_steps : (kernel : Kernel) (binds : List Bind) (steps n from : ℕ) (cells : Cells) (args : List Contents) → IsChecked kernel
+    → BindsFit kernel binds → StandFor binds cells args
     → AreAlike binds (at_indexes kernel binds steps n from cells) (steps_on_contents kernel (widths binds) steps n from args)
 words_run_by_steps kernel binds steps zero from cells args checked fits st = record { store = st; traps = refl }
 words_run_by_steps kernel binds steps (suc n) from cells args checked fits st =
@@ -68,8 +69,10 @@ no_length (Ref at) from to w u l = l
 no_length (Map at) from to w u l = l
 no_length (Stream at own) from to w u l = l
 
-module _ (starts : Starts) (s : ScriptState) (kernel : Kernel) (ws : List ℕ) (args : List Arg) (defer : Option (ℕ × ℕ)) (steps n limit : ℕ) (old new : Cells) (checked : IsChecked kernel)
-    (binds_fit : BindsFit kernel (binds_by starts s kernel.params.items ws args)) (args_are_fit : fit.ArgsFit s defer kernel.params.items args) (len : length ws ≡ length kernel.params.items) (un : AreUnshared s kernel.params.items args)
+module _ (starts : Starts) (s : ScriptState) (kernel : Kernel) (ws : List ℕ) (args : List Arg) (defer : Option (ℕ × ℕ)) (steps n limit : ℕ) (old new : Cells)
+    (checked : IsChecked kernel)
+    (binds_fit : BindsFit kernel (binds_by starts s kernel.params.items ws args)) (args_are_fit : fit.ArgsFit s defer kernel.params.items args)
+    (len : length ws ≡ length kernel.params.items) (un : AreUnshared s kernel.params.items args)
     (held : AllHeld starts s old) (apart : AreApartBelow starts s limit)
     (is : (w : ℕ) → w < limit → new w ≡ (at_indexes kernel (binds_by starts s kernel.params.items ws args) steps n 0 old).store w) where
   args_fit : ArgsFit s kernel.params.items ws args
@@ -78,8 +81,10 @@ module _ (starts : Starts) (s : ScriptState) (kernel : Kernel) (ws : List ℕ) (
   abbrev binds : List Bind
   binds = binds_by starts s kernel.params.items ws args
 
-  stays : (c w : ℕ) → c < s.made → s.alive c ≡ true → IsWordOf (bind_of_container starts s c) w → (IsWritten kernel.params.items binds 0 (0 + n) w → ⊥) → new w ≡ old w
-  stays c w below alive word out = is w (apart.below c w below alive word) ∙ only_written_words_change.at_many kernel binds steps n 0 old w checked binds_fit out
+  stays : (c w : ℕ) → c < s.made → s.alive c ≡ true → IsWordOf (bind_of_container starts s c) w → (IsWritten kernel.params.items binds 0 (0 + n) w → ⊥)
+      → new w ≡ old w
+  stays c w below alive word out = is w (apart.below c w below alive word)
+      ∙ only_written_words_change.at_many kernel binds steps n 0 old w checked binds_fit out
 
   -- who writes a word of a container
   writer_of : (c w : ℕ) → c < s.made → s.alive c ≡ true → IsWordOf (bind_of_container starts s c) w → (u : IsWritten kernel.params.items binds 0 (0 + n) w)
@@ -89,15 +94,18 @@ module _ (starts : Starts) (s : ScriptState) (kernel : Kernel) (ws : List ℕ) (
       let a = argument_word starts s kernel.params.items ws args u.number w u.bind args_fit u.has_bind (uses_word u.bind 0 (0 + n) w v.1) in
       (a.name, a.has, apart.apart (container_at s a.name) c w a.below below a.alive alive a.word word, v.0, v.1)
 
-  pub job_leaves : JobLeaves starts s kernel.params.items ws args old new (steps_on_contents kernel (widths binds) steps n 0 (arguments_of s kernel.params.items args)).store
+  pub job_leaves : JobLeaves starts s kernel.params.items ws args old new
+      (steps_on_contents kernel (widths binds) steps n 0 (arguments_of s kernel.params.items args)).store
   job_leaves =
       let given = arguments_stand starts s old kernel.params.items ws args defer held args_are_fit len in
       let run = words_run_by_steps kernel binds steps n 0 old (arguments_of s kernel.params.items args) checked binds_fit given in
       record {
         stand = record {
           count = run.store.count;
-          each = λ x b h. still b (at_indexes kernel binds steps n 0 old).store new (argument (steps_on_contents kernel (widths binds) steps n 0 (arguments_of s kernel.params.items args)).store x) (run.store.each x b h)
-              (λ w u. let a = argument_word starts s kernel.params.items ws args x w b args_fit h u in is w (apart.below (container_at s a.name) w a.below a.alive a.word));
+          each = λ x b h. still b (at_indexes kernel binds steps n 0 old).store new
+              (argument (steps_on_contents kernel (widths binds) steps n 0 (arguments_of s kernel.params.items args)).store x) (run.store.each x b h)
+              (λ w u. let a = argument_word starts s kernel.params.items ws args x w b args_fit h u in
+              is w (apart.below (container_at s a.name) w a.below a.alive a.word));
         };
         same = λ c w below alive word none. stays c w below alive word (λ u.
             let v = writer_of c w below alive word u in
@@ -112,7 +120,8 @@ module _ (starts : Starts) (s : ScriptState) (kernel : Kernel) (ws : List ℕ) (
             no_length b 0 (0 + n) w used (beyond (uses_word b 0 (0 + n) w used)));
       }
     where
-      fits_at : (ps : List Param) (ws : List ℕ) (as_ : List Arg) (x m : ℕ) → ArgsFit s ps ws as_ → slice_get as_ x ≡ Some (Name m) → (container_at s m < s.made) × (s.alive (container_at s m) ≡ true)
+      fits_at : (ps : List Param) (ws : List ℕ) (as_ : List Arg) (x m : ℕ) → ArgsFit s ps ws as_ → slice_get as_ x ≡ Some (Name m)
+          → (container_at s m < s.made) × (s.alive (container_at s m) ≡ true)
       fits_at [] [] [] x m f h = absurd (none_some h)
       fits_at [] [] (a ∷ as_) x m f h = absurd f
       fits_at [] (q ∷ ws) as_ x m f h = absurd f

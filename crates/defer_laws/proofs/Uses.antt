@@ -75,11 +75,13 @@ module _ (s : ScriptState) where
   abbrev pub needs_of : List Param → List Arg → ℕ × ℕ → List Need
   needs_of ps as_ defer = map (λ g. g.need) (givens s ps as_ (Some defer))
 
-  pub used_are : (ps : List Param) (as_ : List Arg) (defer : ℕ × ℕ) (c : ℕ) → uses_it (needs_of ps as_ defer) c ≡ (is_given s ps as_ c || (nat_eq c (container_at s defer.0) || false))
+  pub used_are : (ps : List Param) (as_ : List Arg) (defer : ℕ × ℕ) (c : ℕ)
+      → uses_it (needs_of ps as_ defer) c ≡ (is_given s ps as_ c || (nat_eq c (container_at s defer.0) || false))
   used_are [] as_ defer c = refl
   used_are (p ∷ ps) [] defer c = refl
   used_are (p ∷ ps) (Name n ∷ as_) defer c =
-      ap (λ b. nat_eq c (container_at s n) || b) (used_are ps as_ defer c) ∙ or_assoc (nat_eq c (container_at s n)) (is_given s ps as_ c) (nat_eq c (container_at s defer.0) || false)
+      ap (λ b. nat_eq c (container_at s n) || b) (used_are ps as_ defer c)
+      ∙ or_assoc (nat_eq c (container_at s n)) (is_given s ps as_ c) (nat_eq c (container_at s defer.0) || false)
   used_are (p ∷ ps) (Number z ∷ as_) defer c = used_are ps as_ defer c
 
   pub written_are : (ps : List Param) (as_ : List Arg) (defer : ℕ × ℕ) (c : ℕ) → writes_it (needs_of ps as_ defer) c ≡ is_written s ps as_ c
@@ -91,7 +93,8 @@ module _ (s : ScriptState) where
       λ i. turned i || more i
   written_are (p ∷ ps) (Number z ∷ as_) defer c = written_are ps as_ defer c
 
-  pub given_below : (defer : Option (ℕ × ℕ)) (ps : List Param) (as_ : List Arg) (c : ℕ) → fit.ArgsFit s defer ps as_ → is_given s ps as_ c ≡ true → (c < s.made) × (s.alive c ≡ true)
+  pub given_below : (defer : Option (ℕ × ℕ)) (ps : List Param) (as_ : List Arg) (c : ℕ) → fit.ArgsFit s defer ps as_ → is_given s ps as_ c ≡ true
+      → (c < s.made) × (s.alive c ≡ true)
   given_below defer [] as_ c f e = absurd (not_both e refl)
   given_below defer (p ∷ ps) [] c f e = absurd (not_both e refl)
   given_below defer (p ∷ ps) (Name n ∷ as_) c f e = ⊎_elim
@@ -105,14 +108,16 @@ module _ (s : ScriptState) where
   written_given (p ∷ ps) [] c e = absurd (not_both e refl)
   written_given (p ∷ ps) (a ∷ as_) c e = by (is_of s a c) (writes_to p.access) (written_given ps as_ c) e
     where
-      by : (o w : Bool) → (is_written s ps as_ c ≡ true → is_given s ps as_ c ≡ true) → ((o && w) || is_written s ps as_ c) ≡ true → (o || is_given s ps as_ c) ≡ true
+      by : (o w : Bool) → (is_written s ps as_ c ≡ true → is_given s ps as_ c ≡ true) → ((o && w) || is_written s ps as_ c) ≡ true
+          → (o || is_given s ps as_ c) ≡ true
       by true w f e = refl
       by false w f e = f e
 
   -- ---- none of them is blocked
 
   module _ (deps : Jobs) (c j : ℕ) where
-    pub read_free : (needs : List Need) → uses_it needs c ≡ true → (s.uses c).writers j ≡ true → blocking s.book s.uses deps needs j ≡ false → happens_before s.book deps j ≡ true
+    pub read_free : (needs : List Need) → uses_it needs c ≡ true → (s.uses c).writers j ≡ true → blocking s.book s.uses deps needs j ≡ false
+        → happens_before s.book deps j ≡ true
     read_free [] g w e = absurd (not_both g refl)
     read_free (n ∷ more) g w e = ⊎_elim
         (λ here.
@@ -122,7 +127,8 @@ module _ (s : ScriptState) where
         (λ there. read_free more there w (or_false_right _ _ e))
         (or_cases (nat_eq c n.container) (uses_it more c) g)
 
-    pub write_free : (needs : List Need) → writes_it needs c ≡ true → (s.uses c).users j ≡ true → blocking s.book s.uses deps needs j ≡ false → happens_before s.book deps j ≡ true
+    pub write_free : (needs : List Need) → writes_it needs c ≡ true → (s.uses c).users j ≡ true → blocking s.book s.uses deps needs j ≡ false
+        → happens_before s.book deps j ≡ true
     write_free [] g w e = absurd (not_both g refl)
     write_free (n ∷ more) g w e = ⊎_elim
         (λ here.
@@ -130,7 +136,8 @@ module _ (s : ScriptState) where
         let wr = parts.0 in
         let u : Uses = s.uses n.container in
         let used : u.users j ≡ true = subst (λ c. (s.uses c).users j ≡ true) (eqb-true c n.container parts.1) w in
-        is_before (conflicts u n.writes j) (happens_before s.book deps j) (or_right (u.writers j) (n.writes && u.users j) (λ i. wr i && used i)) (or_false_left _ _ e))
+        is_before (conflicts u n.writes j) (happens_before s.book deps j) (or_right (u.writers j) (n.writes && u.users j) (λ i. wr i && used i))
+        (or_false_left _ _ e))
         (λ there. write_free more there w (or_false_right _ _ e))
         (or_cases (n.writes && nat_eq c n.container) (writes_it more c) g)
 
@@ -153,7 +160,8 @@ module _ (s : ScriptState) where
     pub unblocked : schedule_refusal s parallel auto gs after ≡ None → (j : ℕ) → 0 < j → j ≤ s.book.count → blocking s.book s.uses deps needs j ≡ false
     unblocked unrefused j pos le = by auto (unpending s parallel auto gs after unrefused)
       where
-        by : (b : Bool) → (if b then None else pending s named needs) ≡ None → blocking s.book s.uses (if b then both named (automatic s.book s.uses named needs) else named) needs j ≡ false
+        by : (b : Bool) → (if b then None else pending s named needs) ≡ None
+            → blocking s.book s.uses (if b then both named (automatic s.book s.uses named needs) else named) needs j ≡ false
         by true h = (automatic_sets_cover s.book s.uses named needs known.book known.uses).none_left j
         by false h = subst (λ r. GreatestIsNamed s named needs r) h (greatest_blocker_is_named s named needs) j pos le
 

@@ -14,7 +14,8 @@ module _ (deps : ℕ → Jobs) where
   contains (suc n) wanted j e = contains n (wider n wanted) j (or_left (wanted j) (wanted (suc n) && deps (suc n) j) e)
 
   -- Induction over ancestors: what holds of the given jobs and, with a job, of its dependency set, holds of all ancestors.
-  pub least : (P : ℕ → Type 0) → ((j k : ℕ) → P j → deps j k ≡ true → P k) → (n : ℕ) (wanted : Jobs) → ((j : ℕ) → wanted j ≡ true → P j) → (j : ℕ) → ancestors deps n wanted j ≡ true → P j
+  pub least : (P : ℕ → Type 0) → ((j k : ℕ) → P j → deps j k ≡ true → P k) → (n : ℕ) (wanted : Jobs) → ((j : ℕ) → wanted j ≡ true → P j) → (j : ℕ)
+      → ancestors deps n wanted j ≡ true → P j
   least P closed zero wanted h j e = h j e
   least P closed (suc n) wanted h j e = least P closed n (wider n wanted) (λ k t. ⊎_elim
       (λ a. h k a)
@@ -30,11 +31,13 @@ module _ (deps : ℕ → Jobs) where
       (or_cases (wanted j) (wanted (suc n) && deps (suc n) j) (later_given n (λ i k le d. o i k (omega arith) d) (wider n wanted) j (omega arith) e))
 
   -- with each of the n jobs it has the dependency set
-  pub closes : (n : ℕ) → ((j k : ℕ) → j ≤ n → deps j k ≡ true → k < j) → (wanted : Jobs) (j k : ℕ) → j ≤ n → ancestors deps n wanted j ≡ true → deps j k ≡ true → ancestors deps n wanted k ≡ true
+  pub closes : (n : ℕ) → ((j k : ℕ) → j ≤ n → deps j k ≡ true → k < j) → (wanted : Jobs) (j k : ℕ) → j ≤ n → ancestors deps n wanted j ≡ true → deps j k ≡ true
+      → ancestors deps n wanted k ≡ true
   closes zero o wanted j k le e d = let less : k < j = o j k le d in absurd (omega arith)
   closes (suc n) o wanted j k le e d = ⊎_elim
       (λ q. contains n (wider n wanted) k (or_right (wanted k) (wanted (suc n) && deps (suc n) k)
-      (and_from (wanted (suc n)) (deps (suc n) k) (newest_wanted (subst (λ i. ancestors deps (suc n) wanted i ≡ true) q e)) (subst (λ i. deps i k ≡ true) q d))))
+      (and_from (wanted (suc n)) (deps (suc n) k) (newest_wanted (subst (λ i. ancestors deps (suc n) wanted i ≡ true) q e))
+      (subst (λ i. deps i k ≡ true) q d))))
       (λ ne. closes n (λ i m h x. o i m (omega arith) x) (wider n wanted) j k (omega arith) e d)
       (cases_eq j (suc n))
     where
@@ -54,14 +57,17 @@ ancestors_are_least deps n given o j = (
     to (older {j = i} {k = k} a d) = closes deps n (λ x y le e. (o x y e).1.1) given i k (o i k d).0 (to a) d
 
 -- more jobs, more dependencies and more that is given lead to no less
-pub grows : (deps more : ℕ → Jobs) (n m : ℕ) (given wide : Jobs) → AreOlder more m → ((j k : ℕ) → deps j k ≡ true → more j k ≡ true) → ((j : ℕ) → given j ≡ true → ancestors more m wide j ≡ true)
+pub grows : (deps more : ℕ → Jobs) (n m : ℕ) (given wide : Jobs) → AreOlder more m → ((j k : ℕ) → deps j k ≡ true → more j k ≡ true)
+    → ((j : ℕ) → given j ≡ true → ancestors more m wide j ≡ true)
     → (j : ℕ) → ancestors deps n given j ≡ true → ancestors more m wide j ≡ true
 grows deps more n m given wide o d g j e = least deps (λ i. ancestors more m wide i ≡ true)
     (λ i k t x. closes more m (λ a b le y. (o a b y).1.1) wide i k (o i k (d i k x)).0 t (d i k x)) n given g j e
 
 -- ancestors of an ancestor are ancestors
-pub through : (deps : ℕ → Jobs) (n : ℕ) → AreOlder deps n → (given : Jobs) (k : ℕ) → ancestors deps n given k ≡ true → (j : ℕ) → ancestors deps n (only k) j ≡ true → ancestors deps n given j ≡ true
-through deps n o given k a j e = grows deps deps n n (only k) given o (λ i m d. d) (λ i t. subst (λ x. ancestors deps n given x ≡ true) (sym (eqb-true i k t)) a) j e
+pub through : (deps : ℕ → Jobs) (n : ℕ) → AreOlder deps n → (given : Jobs) (k : ℕ) → ancestors deps n given k ≡ true → (j : ℕ)
+    → ancestors deps n (only k) j ≡ true → ancestors deps n given j ≡ true
+through deps n o given k a j e = grows deps deps n n (only k) given o (λ i m d. d)
+    (λ i t. subst (λ x. ancestors deps n given x ≡ true) (sym (eqb-true i k t)) a) j e
 
 -- an ancestor of a job isn't younger
 pub not_younger : (deps : ℕ → Jobs) (n : ℕ) → AreOlder deps n → (k j : ℕ) → ancestors deps n (only k) j ≡ true → j ≤ k
@@ -99,14 +105,16 @@ pub greatest_none : (set : Jobs) (n : ℕ) → greatest set n ≡ 0 → (j : ℕ
 greatest_none set n z j p le = ⊎_elim (λ t. let h = greatest_above set n j le t in absurd (omega arith)) (λ t. t) (cases_Bool (set j))
 
 -- two sets have the same greatest, where one is in the other and each of the wider has one of the other not below it
-pub greatest_same : (p q : Jobs) (n : ℕ) → ((j : ℕ) → 0 < j → j ≤ n → q j ≡ true → p j ≡ true) → ((j : ℕ) → 0 < j → j ≤ n → p j ≡ true → (k : ℕ) × (j ≤ k) × (k ≤ n) × (q k ≡ true)) → greatest q n ≡ greatest p n
+pub greatest_same : (p q : Jobs) (n : ℕ) → ((j : ℕ) → 0 < j → j ≤ n → q j ≡ true → p j ≡ true)
+    → ((j : ℕ) → 0 < j → j ≤ n → p j ≡ true → (k : ℕ) × (j ≤ k) × (k ≤ n) × (q k ≡ true)) → greatest q n ≡ greatest p n
 greatest_same p q n sub cover = ⊎_elim
     (λ z. ⊎_elim
     (λ y. z ∙ sym y)
     (λ y. let c = cover (greatest p n) (omega arith) (greatest_below p n) (greatest_in p n (omega arith)) in
     let up = greatest_above q n c.0 c.2 c.3 in let h = c.1 in absurd (omega arith))
     (cases_eq (greatest p n) 0))
-    (λ z. let low : greatest q n ≤ greatest p n = greatest_above p n (greatest q n) (greatest_below q n) (sub (greatest q n) (omega arith) (greatest_below q n) (greatest_in q n (omega arith))) in
+    (λ z. let low : greatest q n ≤ greatest p n = greatest_above p n (greatest q n) (greatest_below q n)
+    (sub (greatest q n) (omega arith) (greatest_below q n) (greatest_in q n (omega arith))) in
     let c = cover (greatest p n) (omega arith) (greatest_below p n) (greatest_in p n (omega arith)) in
     let h = c.1 in let up = greatest_above q n c.0 c.2 c.3 in omega arith)
     (cases_eq (greatest q n) 0)

@@ -12,13 +12,17 @@ use Rattle.frame_ast.specs.Laws.{AreUpTo, AreUses, IsFirstInConflict, GreatestIs
 use Rattle.frame_ast.proofs.Ancestry.{least, greatest_in, greatest_above, greatest_none}
 
 -- the first need in conflict, where one of them blocks
-first_in_conflict : (b : Book) (uses : ℕ → Uses) (after : Jobs) (needs : List Need) (j : ℕ) → blocking b uses after needs j ≡ true → IsFirstInConflict uses needs j (name_in_conflict uses needs j)
+first_in_conflict : (b : Book) (uses : ℕ → Uses) (after : Jobs) (needs : List Need) (j : ℕ) → blocking b uses after needs j ≡ true
+    → IsFirstInConflict uses needs j (name_in_conflict uses needs j)
 first_in_conflict b uses after [] j e = absurd (both_ways false refl e)
 first_in_conflict b uses after (n ∷ more) j e =
-    elim (conflicts (uses n.container) n.writes j) as (λ c. conflicts (uses n.container) n.writes j ≡ c → IsFirstInConflict uses (n ∷ more) j (if c then n.name else name_in_conflict uses more j)) [
+    elim (conflicts (uses n.container) n.writes j) as (λ c. conflicts (uses n.container) n.writes j ≡ c
+    → IsFirstInConflict uses (n ∷ more) j (if c then n.name else name_in_conflict uses more j)) [
       | true ↦ λ here. record { before = []; need = n; more = more; split = refl; named = refl; conflict = here; earlier = refl }
       | false ↦ λ here.
-          let rest = first_in_conflict b uses after more j (⊎_elim (λ t. absurd (both_ways _ here (and_parts (conflicts (uses n.container) n.writes j) (not (happens_before b after j)) t).0)) (λ t. t) (or_cases (blockers b (uses n.container) after n.writes j) (blocking b uses after more j) e)) in
+          let rest = first_in_conflict b uses after more j (⊎_elim (λ t. absurd
+          (both_ways _ here (and_parts (conflicts (uses n.container) n.writes j) (not (happens_before b after j)) t).0)) (λ t. t)
+          (or_cases (blockers b (uses n.container) after n.writes j) (blocking b uses after more j) e)) in
           record {
             before = n ∷ rest.before;
             need = rest.need;
@@ -30,7 +34,8 @@ first_in_conflict b uses after (n ∷ more) j e =
           }
     ] refl
 
-named_at : (s : ScriptState) (after : Jobs) (needs : List Need) (n : ℕ) → greatest (blocking s.book s.uses after needs) s.book.count ≡ n → GreatestIsNamed s after needs (pending_on s.uses needs n)
+named_at : (s : ScriptState) (after : Jobs) (needs : List Need) (n : ℕ) → greatest (blocking s.book s.uses after needs) s.book.count ≡ n
+    → GreatestIsNamed s after needs (pending_on s.uses needs n)
 named_at s after needs zero e = λ j low high. greatest_none (blocking s.book s.uses after needs) s.book.count e j low high
 named_at s after needs (suc m) e =
     let set : Jobs = blocking s.book s.uses after needs in
@@ -65,7 +70,8 @@ pub conflict_uses : (b : Book) (u : Uses) → AreUses b u → (writes : Bool) (j
 conflict_uses b u known writes j e =
     ⊎_elim (λ t. known.writers j t) (λ t. (and_parts writes (u.users j) t).1) (or_cases (u.writers j) (writes && u.users j) e)
 
-pub blocking_among : (b : Book) (uses : ℕ → Uses) → ((c : ℕ) → AreUses b (uses c)) → (after : Jobs) (needs : List Need) → AreUpTo b.count (blocking b uses after needs)
+pub blocking_among : (b : Book) (uses : ℕ → Uses) → ((c : ℕ) → AreUses b (uses c)) → (after : Jobs) (needs : List Need)
+    → AreUpTo b.count (blocking b uses after needs)
 blocking_among b uses known after [] j e = absurd (both_ways false refl e)
 blocking_among b uses known after (n ∷ more) j e = ⊎_elim
     (λ t. let u = uses n.container in
@@ -84,7 +90,8 @@ no_cause None None e = refl
 no_cause None (Some r) e = e
 no_cause (Some r) c e = absurd cc
 
-unblocked : (s : ScriptState) (name : ℕ) → pending s (jobs_named s []) (need_of s name true ∷ []) ≡ None → has_pending s.book (s.uses (container_at s name)) ≡ false
+unblocked : (s : ScriptState) (name : ℕ) → pending s (jobs_named s []) (need_of s name true ∷ []) ≡ None
+    → has_pending s.book (s.uses (container_at s name)) ≡ false
 unblocked s name e = false_from_ne_true (has_pending s.book u) (λ t.
     let j = some_job (λ j. u.users j && not (s.book.completed j)) s.book.count t in
     let parts = and_parts (u.users j.0) (not (s.book.completed j.0)) j.2 in
@@ -95,7 +102,8 @@ unblocked s name e = false_from_ne_true (has_pending s.book u) (λ t.
     or_left (blockers s.book u (jobs_named s []) true j.0) false (and_from (conflicts u true j.0) (not (happens_before s.book (jobs_named s []) j.0))
     (or_right (u.writers j.0) (u.users j.0) parts.0) quiet) in
     both_ways (blocking s.book s.uses (jobs_named s []) (need_of s name true ∷ []) j.0)
-    (subst (λ r. GreatestIsNamed s (jobs_named s []) (need_of s name true ∷ []) r) e (greatest_blocker_is_named s (jobs_named s []) (need_of s name true ∷ [])) j.0 j.1.0 j.1.1) blocks)
+    (subst (λ r. GreatestIsNamed s (jobs_named s []) (need_of s name true ∷ []) r) e
+    (greatest_blocker_is_named s (jobs_named s []) (need_of s name true ∷ [])) j.0 j.1.0 j.1.1) blocks)
   where
     u : Uses
     u = s.uses (container_at s name)
@@ -103,7 +111,8 @@ unblocked s name e = false_from_ne_true (has_pending s.book u) (λ t.
 pub words_come_back : WordsComeBack
 words_come_back g line s name after none e =
     let c = container_at s name in
-    and_right (nat_lt c s.made) (with_at s.alive c false c || has_pending s.book (s.uses c)) (or_from (with_at s.alive c false c) (has_pending s.book (s.uses c))
+    and_right (nat_lt c s.made) (with_at s.alive c false c || has_pending s.book (s.uses c))
+    (or_from (with_at s.alive c false c) (has_pending s.book (s.uses c))
     (cond-true (nat_eq c c) false (s.alive c) (eq-eqb c c refl))
     (unblocked s name (no_cause (disposed s (name ∷ [])) (pending s (jobs_named s []) (need_of s name true ∷ []))
     (subst (λ xs. first_some (disposed s (name ∷ []) ∷ pending s (jobs_named s xs) (need_of s name true ∷ []) ∷ []) ≡ None) none e))))

@@ -58,7 +58,8 @@ are_aliases a b c p q =
 any_aliases : (before : List Given) (b : Given) (c : ℕ) → list_any (breaks c) before ≡ true → breaks c b ≡ true → list_any (λ a. alias a b) before ≡ true
 any_aliases [] b c h q = h
 any_aliases (a ∷ more) b c h q =
-    ⊎_elim (λ p. or_left (alias a b) (list_any (λ a. alias a b) more) (are_aliases a b c p q)) (λ p. or_right (alias a b) (list_any (λ a. alias a b) more) (any_aliases more b c p q)) (or_cases (breaks c a) (list_any (breaks c) more) h)
+    ⊎_elim (λ p. or_left (alias a b) (list_any (λ a. alias a b) more) (are_aliases a b c p q))
+    (λ p. or_right (alias a b) (list_any (λ a. alias a b) more) (any_aliases more b c p q)) (or_cases (breaks c a) (list_any (breaks c) more) h)
 
 -- what a view number becomes: a list that was written before is broken no more, and any other one once at most
 abbrev Once : List Given → ScriptState → ℕ → ℕ → Type 0
@@ -68,13 +69,15 @@ step_over : (before : List Given) (g : Given) (s : ScriptState) (c v : ℕ) → 
 step_over before g s c v rest =
     (λ t. rest.0 (list_any-append (breaks c) before (g ∷ []) ∙ or_left (list_any (breaks c) before) _ t), rest.1)
 
-at_written : (before : List Given) (g : Given) (s : ScriptState) (c v : ℕ) → (is_list g.kind && g.need.writes) ≡ true → list_any (λ a. alias a g) before ≡ false → Once (before ++ g ∷ []) (view_broken g.need.container s) c v → Once before s c v
+at_written : (before : List Given) (g : Given) (s : ScriptState) (c v : ℕ) → (is_list g.kind && g.need.writes) ≡ true → list_any (λ a. alias a g) before ≡ false
+    → Once (before ++ g ∷ []) (view_broken g.need.container s) c v → Once before s c v
 at_written before g s c v is none rest =
     elim (nat_eq c g.need.container) as (λ b. nat_eq c g.need.container ≡ b → Once before s c v) [
       | true ↦ λ e.
           let same : c ≡ g.need.container = eqb-true c g.need.container e in
           let here : breaks c g ≡ true = and_from (is_list g.kind && g.need.writes) (nat_eq g.need.container c) is (eq-eqb g.need.container c (sym same)) in
-          let found : list_any (breaks c) (before ++ g ∷ []) ≡ true = list_any-append (breaks c) before (g ∷ []) ∙ or_right (list_any (breaks c) before) _ (or_left (breaks c g) false here) in
+          let found : list_any (breaks c) (before ++ g ∷ []) ≡ true = list_any-append (breaks c) before (g ∷ [])
+          ∙ or_right (list_any (breaks c) before) _ (or_left (breaks c g) false here) in
           let now : v ≡ s.view c + 1 = rest.0 found ∙ ap (λ b. if b then s.view g.need.container + 1 else s.view c) e ∙ ap (λ n. s.view n + 1) (sym same) in
           (λ t. absurd (false≢true (sym none ∙ any_aliases before g c t here)), omega arith)
       | false ↦ λ e.
@@ -87,7 +90,8 @@ broken_once : (before gs : List Given) (s : ScriptState) (c : ℕ) → first_ali
 broken_once before [] s c h = (λ e. refl, omega arith)
 broken_once before (g ∷ more) s c h =
     let parts = no_alias before g more h in
-    elim (is_list g.kind && g.need.writes) as (λ b. (is_list g.kind && g.need.writes) ≡ b → Once before s c ((all_broken more (if b then view_broken g.need.container s else s)).view c)) [
+    elim (is_list g.kind && g.need.writes) as (λ b. (is_list g.kind && g.need.writes) ≡ b
+    → Once before s c ((all_broken more (if b then view_broken g.need.container s else s)).view c)) [
       | true ↦ λ e. at_written before g s c _ e parts.0 (broken_once (before ++ g ∷ []) more (view_broken g.need.container s) c parts.1)
       | false ↦ λ e. step_over before g s c _ (broken_once (before ++ g ∷ []) more s c parts.1)
     ] refl
@@ -98,7 +102,8 @@ leave_views (p ∷ ps) [] news s = refl
 leave_views (p ∷ ps) (a ∷ as_) [] s = refl
 leave_views (p ∷ ps) (Number z ∷ as_) (new ∷ news) s = leave_views ps as_ news s
 leave_views (p ∷ ps) (Name n ∷ as_) (new ∷ news) s =
-    elim (writes_to p.access) as (λ b. (leave_all ps as_ news (if b then with_contents (container_at s n) (left_in p.kind (s.values n) new (contents_at s n)) s else s)).view ≡ s.view) [
+    elim (writes_to p.access) as (λ b. (leave_all ps as_ news (if b then with_contents (container_at s n)
+    (left_in p.kind (s.values n) new (contents_at s n)) s else s)).view ≡ s.view) [
       | true ↦ leave_views ps as_ news (with_contents (container_at s n) (left_in p.kind (s.values n) new (contents_at s n)) s)
       | false ↦ leave_views ps as_ news s
     ]
@@ -137,13 +142,16 @@ new_rises s line name life contents = record {
   at = λ c. elim (nat_eq c s.made) as (λ b. (if b then 0 else s.view c) ≤ s.view c + 1) [ true ↦ omega arith | false ↦ omega arith ];
 }
 
-accept_rises : (g : Setting) (s : ScriptState) (auto : Bool) (handle kernel : ℕ) (args : List Arg) (cut defer : Option (ℕ × ℕ)) (waive after : List ℕ) → first_alias [] (givens s (params_of g kernel) args defer) ≡ None → RisesLittle s (accept g s auto handle kernel args cut defer waive after)
+accept_rises : (g : Setting) (s : ScriptState) (auto : Bool) (handle kernel : ℕ) (args : List Arg) (cut defer : Option (ℕ × ℕ)) (waive after : List ℕ)
+    → first_alias [] (givens s (params_of g kernel) args defer) ≡ None → RisesLittle s (accept g s auto handle kernel args cut defer waive after)
 accept_rises g s auto handle kernel args cut defer waive after none =
     let params = params_of g kernel in
-    let ran = get_or g.runs kernel no_run (widths_from (is_parallel g kernel) waive 0 params) (steps_by defer) (job_length s cut defer) (arguments_of s params args) in
+    let ran = get_or g.runs kernel no_run (widths_from (is_parallel g kernel) waive 0 params) (steps_by defer) (job_length s cut defer)
+    (arguments_of s params args) in
     let left = leave_all params args ran.store s in
     record {
-      at = λ c. subst (λ f. (all_broken (givens s params args defer) left).view c ≤ f c + 1) (leave_views params args ran.store s) (broken_once [] (givens s params args defer) left c none).1;
+      at = λ c. subst (λ f. (all_broken (givens s params args defer) left).view c ≤ f c + 1) (leave_views params args ran.store s)
+          (broken_once [] (givens s params args defer) left c none).1;
     }
 
 effect_rises : (g : Setting) (line : ℕ) (s : ScriptState) (x : Order) → refusal g s x ≡ None → RisesLittle s (effect g line s x)
@@ -160,7 +168,8 @@ effect_rises g line s (Remove name at) none = rises name _ s
 effect_rises g line s (Clear name) none = rises name (Ok (cleared (contents_at s name))) s
 effect_rises g line s (SetCapacity name cap) none = record { at = (rises name (capacity_in (contents_at s name) cap) s).at }
 effect_rises g line s (Schedule job) none =
-    accept_rises g s job.value.auto job.value.handle job.value.kernel job.value.args.items job.value.cut job.value.defer job.value.waive.items job.value.after.items (no_alias_given s (is_parallel g job.value.kernel) job.value.auto _ job.value.after.items none)
+    accept_rises g s job.value.auto job.value.handle job.value.kernel job.value.args.items job.value.cut job.value.defer job.value.waive.items
+    job.value.after.items (no_alias_given s (is_parallel g job.value.kernel) job.value.auto _ job.value.after.items none)
 effect_rises g line s (Dispose name after None) none = stays s _ refl
 effect_rises g line s (Dispose name after (Some handle)) none = stays s _ refl
 effect_rises g line s x none = stays s _ refl

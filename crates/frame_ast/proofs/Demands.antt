@@ -35,7 +35,8 @@ writing_at d k h =
     let map = and_parts (writes_if (d Map)) _ ref.1 in
     by k int.0 array.0 list.0 ref.0 map.0 map.1
   where
-    by : (k : ParamKind) → writes_if (d Int) ≡ true → writes_if (d Array) ≡ true → writes_if (d KindList) ≡ true → writes_if (d Ref) ≡ true → writes_if (d Map) ≡ true → writes_if (d Stream) ≡ true → writes_if (d k) ≡ true
+    by : (k : ParamKind) → writes_if (d Int) ≡ true → writes_if (d Array) ≡ true → writes_if (d KindList) ≡ true → writes_if (d Ref) ≡ true
+        → writes_if (d Map) ≡ true → writes_if (d Stream) ≡ true → writes_if (d k) ≡ true
     by Int a b c d e f = a
     by Array a b c d e f = b
     by KindList a b c d e f = c

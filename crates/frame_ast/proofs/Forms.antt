@@ -15,7 +15,8 @@ use Rattle.frame_ast.specs.Forms.{form_of, IsKept}
 
 -- RESULTS
 
-pub then_ok : {A B : Type 0} (P : A → Type 0) (Q : B → Type 0) (r : Result A Trap) (f : A → Result B Trap) → IfOk r P → ((x : A) → P x → IfOk (f x) Q) → IfOk (then_value r f) Q
+pub then_ok : {A B : Type 0} (P : A → Type 0) (Q : B → Type 0) (r : Result A Trap) (f : A → Result B Trap) → IfOk r P → ((x : A) → P x → IfOk (f x) Q)
+    → IfOk (then_value r f) Q
 then_ok P Q (Ok x) f h go = go x h
 then_ok P Q (Err t) f h go = tt
 
@@ -46,7 +47,8 @@ pub set_at_length : (xs : List ℤ) (i v : ℤ) → IfOk (set_at xs i v) (λ ys.
 set_at_length xs i v = then_any (λ ys. length ys ≡ length xs) (place_in (length xs) i) _ (λ k. length-set xs k v)
 
 add_item_length : (cap : ℕ) (xs : List ℤ) (v : ℤ) → IfOk (add_item cap xs v) (λ ys. length ys ≤ cap)
-add_item_length cap xs v = value_if (λ ys. length ys ≤ cap) (nat_lt (length xs) cap) _ Full (λ h. let less = ltb-true (length xs) cap h in let more = length_push xs v in omega arith)
+add_item_length cap xs v = value_if (λ ys. length ys ≤ cap) (nat_lt (length xs) cap) _ Full
+    (λ h. let less = ltb-true (length xs) cap h in let more = length_push xs v in omega arith)
 
 swap_back_length : (cap : ℕ) (xs : List ℤ) (i : ℤ) → length xs ≤ cap → IfOk (swap_back xs i) (λ ys. length ys ≤ cap)
 swap_back_length cap xs i fits =
@@ -126,7 +128,8 @@ begin_index_held room es i held =
 
 write_index_held : (room : ℕ) (es : List (Option (List ℤ))) (i : ℕ) (v : ℤ) → FitRoom room es → IfOk (write_index room es i v) (AreEntries room es)
 write_index_held room es i v held =
-    then_ok (λ xs. length xs ≤ room) (AreEntries room es) (add_item room (items_of (get_or es i None)) v) _ (add_item_length room (items_of (get_or es i None)) v) (λ xs fits. set_entries room es i (Some xs) fits held)
+    then_ok (λ xs. length xs ≤ room) (AreEntries room es) (add_item room (items_of (get_or es i None)) v) _
+    (add_item_length room (items_of (get_or es i None)) v) (λ xs fits. set_entries room es i (Some xs) fits held)
 
 -- CONTENTS
 
@@ -162,14 +165,16 @@ put_kept width index i v (Pairs cap ps) held =
     then_ok (AreHeldPairs cap) (IsKept (Pairs cap ps)) (put_key cap ps i v) _ (put_key_held cap ps i v held) (λ qs h. kept_pairs cap ps qs h)
 put_kept width index i v (Entries room es) held = tt
 
-pub items_kept : (f : ℕ → List ℤ → Result (List ℤ) Trap) → ((cap : ℕ) (xs : List ℤ) → length xs ≤ cap → IfOk (f cap xs) (λ ys. length ys ≤ cap)) → (c : Contents) → IsHeld c → Keeps c (on_items f c)
+pub items_kept : (f : ℕ → List ℤ → Result (List ℤ) Trap) → ((cap : ℕ) (xs : List ℤ) → length xs ≤ cap → IfOk (f cap xs) (λ ys. length ys ≤ cap))
+    → (c : Contents) → IsHeld c → Keeps c (on_items f c)
 items_kept f fits (Cells xs) held = tt
 items_kept f fits (Single z) held = tt
 items_kept f fits (Items cap xs) held = then_ok (λ ys. length ys ≤ cap) (IsKept (Items cap xs)) (f cap xs) _ (fits cap xs held) (λ ys h. kept_items cap xs ys h)
 items_kept f fits (Pairs cap ps) held = tt
 items_kept f fits (Entries room es) held = tt
 
-pub pairs_kept : (f : ℕ → List (ℤ × ℤ) → Result (List (ℤ × ℤ)) Trap) → ((cap : ℕ) (ps : List (ℤ × ℤ)) → AreHeldPairs cap ps → IfOk (f cap ps) (AreHeldPairs cap)) → (c : Contents) → IsHeld c → Keeps c (on_pairs f c)
+pub pairs_kept : (f : ℕ → List (ℤ × ℤ) → Result (List (ℤ × ℤ)) Trap) → ((cap : ℕ) (ps : List (ℤ × ℤ)) → AreHeldPairs cap ps
+    → IfOk (f cap ps) (AreHeldPairs cap)) → (c : Contents) → IsHeld c → Keeps c (on_pairs f c)
 pairs_kept f fits (Cells xs) held = tt
 pairs_kept f fits (Single z) held = tt
 pairs_kept f fits (Items cap xs) held = tt
@@ -230,8 +235,10 @@ write_kept i v (Entries room es) held =
 pub remove_kept : (at : ℤ) (c : Contents) → IsHeld c → Keeps c (remove_in c at)
 remove_kept at (Cells xs) held = tt
 remove_kept at (Single z) held = tt
-remove_kept at (Items cap xs) held = then_ok (λ ys. length ys ≤ cap) (IsKept (Items cap xs)) (swap_back xs at) _ (swap_back_length cap xs at held) (λ ys h. kept_items cap xs ys h)
-remove_kept at (Pairs cap ps) held = then_ok (AreHeldPairs cap) (IsKept (Pairs cap ps)) (remove_key ps at) _ (remove_key_held cap ps at held) (λ qs h. kept_pairs cap ps qs h)
+remove_kept at (Items cap xs) held = then_ok (λ ys. length ys ≤ cap) (IsKept (Items cap xs)) (swap_back xs at) _ (swap_back_length cap xs at held)
+    (λ ys h. kept_items cap xs ys h)
+remove_kept at (Pairs cap ps) held = then_ok (AreHeldPairs cap) (IsKept (Pairs cap ps)) (remove_key ps at) _ (remove_key_held cap ps at held)
+    (λ qs h. kept_pairs cap ps qs h)
 remove_kept at (Entries room es) held = tt
 
 -- The words of a container follow from its form.

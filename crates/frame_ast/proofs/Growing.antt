@@ -92,7 +92,8 @@ pub part_length : (xs : List ℤ) (start len : ℕ) → start + len ≤ length x
 part_length xs start len within = simp (length-take, length-drop) (omega arith)
 
 -- as many elements as it had
-pub same_fits : (s : ScriptState) (kind : NameKind) (v : Value) (ys : List ℤ) → IsOfKind s kind v → IsHeld (s.contents (container_of v)) → length ys ≡ length (value_elements v (s.contents (container_of v))) → FitsValue v ys (s.contents (container_of v))
+pub same_fits : (s : ScriptState) (kind : NameKind) (v : Value) (ys : List ℤ) → IsOfKind s kind v → IsHeld (s.contents (container_of v))
+    → length ys ≡ length (value_elements v (s.contents (container_of v))) → FitsValue v ys (s.contents (container_of v))
 same_fits s kind Value.Dead ys h held e = tt
 same_fits s kind (Value.Whole c) ys h held e = same_number ys (s.contents c) held e
 same_fits s kind (Value.Slice c start len) ys h held e = (h.2, h.3, e ∙ part_length (elements (s.contents c)) start len h.3)
@@ -115,7 +116,8 @@ all_kept ys (Items cap xs) held h = kept_items cap xs ys h
 all_kept ys (Pairs cap ps) held h = same_kept (Pairs cap ps) held
 all_kept ys (Entries room es) held h = same_kept (Entries room es) held
 
-part_kept : (ys : List ℤ) (start len : ℕ) (c : Contents) → kind_of c ≡ ArrayName → start + len ≤ length (elements c) → length ys ≡ len → IsKept c (with_elements (take start (elements c) ++ ys ++ drop (start + len) (elements c)) c)
+part_kept : (ys : List ℤ) (start len : ℕ) (c : Contents) → kind_of c ≡ ArrayName → start + len ≤ length (elements c) → length ys ≡ len
+    → IsKept c (with_elements (take start (elements c) ++ ys ++ drop (start + len) (elements c)) c)
 part_kept ys start len (Cells xs) is within e = kept_cells xs _ (simp (length-append, length-take, length-drop) (omega arith))
 part_kept ys start len (Single z) is within e = absurd cc
 part_kept ys start len (Items cap xs) is within e = absurd cc

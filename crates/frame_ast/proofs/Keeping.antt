@@ -33,7 +33,8 @@ set_kept (a ∷ first) [] x c k h = absurd k
 set_kept (a ∷ first) (b ∷ args) zero c k h = (then_kept a b c k.0 h, k.1)
 set_kept (a ∷ first) (b ∷ args) (suc x) c k h = (k.0, set_kept first args x c k.1 h)
 
-changed_kept : (first args : List Contents) (x : ℕ) (r : Result Contents Trap) → AreKept first args → Keeps (argument args x) r → IfOk (changed args x r) (AreKept first)
+changed_kept : (first args : List Contents) (x : ℕ) (r : Result Contents Trap) → AreKept first args → Keeps (argument args x) r
+    → IfOk (changed args x r) (AreKept first)
 changed_kept first args x (Ok c) k h = set_kept first args x c k h
 changed_kept first args x (Err t) k h = tt
 
@@ -51,12 +52,14 @@ module _ (first : List Contents) where
   both_same (Err t) k = refl
 
   -- an operation that may trap, and one that doesn't
-  may_trap : (x : ℕ) (f : Contents → Result Contents Trap) → ((c : Contents) → IsHeld c → Keeps c (f c)) → (s t : List Contents) → Both s t → AlikeResults Both (changed s x (f (argument s x))) (changed t x (f (argument t x)))
+  may_trap : (x : ℕ) (f : Contents → Result Contents Trap) → ((c : Contents) → IsHeld c → Keeps c (f c)) → (s t : List Contents) → Both s t
+      → AlikeResults Both (changed s x (f (argument s x))) (changed t x (f (argument t x)))
   may_trap x f keeps s t b =
       subst (λ t. AlikeResults Both (changed s x (f (argument s x))) (changed t x (f (argument t x)))) b.0
       (both_same (changed s x (f (argument s x))) (changed_kept first s x (f (argument s x)) b.1 (keeps (argument s x) (argument_held first s x b.1))))
 
-  goes_on : (x : ℕ) (f : Contents → Contents) → ((c : Contents) → IsHeld c → IsKept c (f c)) → (s t : List Contents) → Both s t → Both (set s x (f (argument s x))) (set t x (f (argument t x)))
+  goes_on : (x : ℕ) (f : Contents → Contents) → ((c : Contents) → IsHeld c → IsKept c (f c)) → (s t : List Contents) → Both s t
+      → Both (set s x (f (argument s x))) (set t x (f (argument t x)))
   goes_on x f keeps s t b =
       (ap (λ t. set t x (f (argument t x))) b.0, set_kept first s x (f (argument s x)) b.1 (keeps (argument s x) (argument_held first s x b.1)))
 
@@ -82,12 +85,15 @@ module _ (first : List Contents) where
 
 pub jobs_keep_forms : JobsKeepForms
 jobs_keep_forms k is widths steps n args held =
-    (job_alike (Both args) k is AnyIndex (arguments widths) (arguments widths) (λ index. keeping args k.params.items widths index) steps n args args (refl, all_kept args held)).store.1
+    (job_alike (Both args) k is AnyIndex (arguments widths) (arguments widths) (λ index. keeping args k.params.items widths index) steps n args args
+    (refl, all_kept args held)).store.1
 
 -- one Execute
-pub execution_kept : (k : Kernel) → IsChecked k → (widths : List ℕ) (steps index : ℕ) (args : List Contents) → AreHeld args → AreKept args (store_after (execution (arguments widths index) k.body.statements.items steps index args))
+pub execution_kept : (k : Kernel) → IsChecked k → (widths : List ℕ) (steps index : ℕ) (args : List Contents) → AreHeld args
+    → AreKept args (store_after (execution (arguments widths index) k.body.statements.items steps index args))
 execution_kept k is widths steps index args held =
-    (execution_alike (Both args) k is AnyIndex (arguments widths index) (arguments widths index) (keeping args k.params.items widths index) steps index args args (refl, all_kept args held)).store.1
+    (execution_alike (Both args) k is AnyIndex (arguments widths index) (arguments widths index)
+    (keeping args k.params.items widths index) steps index args args (refl, all_kept args held)).store.1
 
 -- parameter by parameter
 pub argument_form : (olds news : List Contents) (x : ℕ) → AreKept olds news → form_of (argument news x) ≡ form_of (argument olds x)

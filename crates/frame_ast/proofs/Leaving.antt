@@ -41,7 +41,9 @@ arguments_held s held (p ∷ ps) (Name n ∷ as_) = (seen_held p.kind (s.values 
 arguments_held s held (p ∷ ps) (Number z ∷ as_) = (tt, arguments_held s held ps as_)
 
 -- what a job leaves of an argument keeps what the container holds then
-left_kept : (kind : ParamKind) (s : ScriptState) (k : NameKind) (v : Value) → IsOfKind s k v → IsHeld (s.contents (container_of v)) → (new : Contents) → IsKept (seen_as kind v (s.contents (container_of v))) new → (now : Contents) → IsKept (s.contents (container_of v)) now → IsKept now (left_in kind v new now)
+left_kept : (kind : ParamKind) (s : ScriptState) (k : NameKind) (v : Value) → IsOfKind s k v → IsHeld (s.contents (container_of v)) → (new : Contents)
+    → IsKept (seen_as kind v (s.contents (container_of v))) new → (now : Contents) → IsKept (s.contents (container_of v)) now
+    → IsKept now (left_in kind v new now)
 left_kept Int s k v h held new kept now after = same_kept now after.held
 left_kept KindArray s k v h held new kept now after =
     let c = s.contents (container_of v) in
@@ -59,7 +61,9 @@ with_kept old f m x kept h c =
       | false ↦ λ e. kept c
     ] refl
 
-leave_after : (ns : Names) (s : ScriptState) → HoldsKinds ns.kinds s → (defer : Option (ℕ × ℕ)) (params : List Param) (args : List Arg) (news : List Contents) → args_fit ns defer params args ≡ true → AreKept (arguments_of s params args) news → (f : ℕ → Contents) → ((c : ℕ) → IsKept (s.contents c) (f c)) → After s (leave_all params args news (record s { contents = f }))
+leave_after : (ns : Names) (s : ScriptState) → HoldsKinds ns.kinds s → (defer : Option (ℕ × ℕ)) (params : List Param) (args : List Arg) (news : List Contents)
+    → args_fit ns defer params args ≡ true → AreKept (arguments_of s params args) news → (f : ℕ → Contents) → ((c : ℕ) → IsKept (s.contents c) (f c))
+    → After s (leave_all params args news (record s { contents = f }))
 leave_after ns s k defer [] args news fits are f kept = record { made = refl; contents = kept }
 leave_after ns s k defer (p ∷ ps) [] news fits are f kept = record { made = refl; contents = kept }
 leave_after ns s k defer (p ∷ ps) (a ∷ as_) [] fits are f kept = record { made = refl; contents = kept }
@@ -69,8 +73,12 @@ leave_after ns s k defer (p ∷ ps) (Name n ∷ as_) (new ∷ news) fits are f k
     let left : Contents = left_in p.kind (s.values n) new now in
     let rest = (and_parts _ _ fits).1 in
     let used = is_used ns n _ (and_parts _ _ fits).0 in
-    let keeps : IsKept now left = left_kept p.kind s used.kind (s.values n) (k.names n used.kind used.at) (k.containers (container_at s n)) new are.0 now (kept (container_at s n)) in
-    elim (writes_to p.access) as (λ b. After s (leave_all ps as_ news (if b then record s { contents = with_at f (container_at s n) left } else record s { contents = f }))) [
+    let keeps : IsKept now left = left_kept p.kind s used.kind (s.values n) (k.names n used.kind used.at) (k.containers (container_at s n)) new are.0 now
+    (kept (container_at s n)) in
+    elim (writes_to p.access) as (λ b. After s (leave_all ps as_ news (if b then record s {
+      contents =
+          with_at f (container_at s n) left;
+    } else record s { contents = f }))) [
       | true ↦ leave_after ns s k defer ps as_ news rest are.1 (with_at f (container_at s n) left) (with_kept s.contents f (container_at s n) left kept keeps)
       | false ↦ leave_after ns s k defer ps as_ news rest are.1 f kept
     ]
@@ -78,15 +86,20 @@ leave_after ns s k defer (p ∷ ps) (Name n ∷ as_) (new ∷ news) fits are f k
 broken_after : (s : ScriptState) (gs : List Given) (t : ScriptState) → After s t → After s (all_broken gs t)
 broken_after s [] t a = a
 broken_after s (g ∷ more) t a =
-    elim (is_list g.kind && g.need.writes) as (λ b. After s (all_broken more (if b then record t { view = with_at t.view g.need.container (t.view g.need.container + 1) } else t))) [
-      | true ↦ broken_after s more (record t { view = with_at t.view g.need.container (t.view g.need.container + 1) }) (record { made = a.made; contents = a.contents })
+    elim (is_list g.kind && g.need.writes) as (λ b. After s (all_broken more
+    (if b then record t { view = with_at t.view g.need.container (t.view g.need.container + 1) } else t))) [
+      | true ↦ broken_after s more (record t { view = with_at t.view g.need.container (t.view g.need.container + 1) })
+          (record { made = a.made; contents = a.contents })
       | false ↦ broken_after s more t a
     ]
 
 -- what an accepted schedule leaves of the containers
-pub accept_after : (g : Setting) → RunsKeep g.runs → (ns : Names) (s : ScriptState) (auto : Bool) (handle kernel : ℕ) (args : List Arg) (cut defer : Option (ℕ × ℕ)) (waive after : List ℕ) → args_fit ns defer (params_of g kernel) args ≡ true → HoldsKinds ns.kinds s → After s (accept g s auto handle kernel args cut defer waive after)
+pub accept_after : (g : Setting) → RunsKeep g.runs → (ns : Names) (s : ScriptState) (auto : Bool) (handle kernel : ℕ) (args : List Arg)
+    (cut defer : Option (ℕ × ℕ)) (waive after : List ℕ) → args_fit ns defer (params_of g kernel) args ≡ true → HoldsKinds ns.kinds s
+    → After s (accept g s auto handle kernel args cut defer waive after)
 accept_after g keep ns s auto handle kernel args cut defer waive after fits k =
     let params : List Param = params_of g kernel in
     let kept = keep kernel _ _ _ (arguments_of s params args) (arguments_held s k.containers params args) in
-    let left = broken_after s (givens s params args defer) _ (leave_after ns s k defer params args _ fits kept s.contents (λ c. same_kept (s.contents c) (k.containers c))) in
+    let left = broken_after s (givens s params args defer) _ (leave_after ns s k defer params args _ fits kept s.contents
+    (λ c. same_kept (s.contents c) (k.containers c))) in
     record { made = left.made; contents = left.contents }

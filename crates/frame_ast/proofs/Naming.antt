@@ -42,11 +42,13 @@ is_used ns n kinds h = from (slice_get ns.kinds n) refl (and_parts (nat_lt n ns.
     from (Some kind) at fits = record { kind = kind; at = at; fits = fits }
 
 -- `copy` makes a name of the kind of its source
-pub copies_kind : (ns : Names) (n of : ℕ) (k : NameKind) → slice_get ns.kinds of ≡ Some k → copies ns n (slice_get ns.kinds of) ≡ true → (kind : NameKind) → slice_get ns.kinds n ≡ Some kind → kind ≡ k
+pub copies_kind : (ns : Names) (n of : ℕ) (k : NameKind) → slice_get ns.kinds of ≡ Some k → copies ns n (slice_get ns.kinds of) ≡ true → (kind : NameKind)
+    → slice_get ns.kinds n ≡ Some kind → kind ≡ k
 copies_kind ns n of k is h kind at = makes_kind ns n k (subst (λ o. copies ns n o ≡ true) is h) kind at
 
 -- the arguments of a schedule fit the parameters of its kernel
-pub args_of : (ns : Names) (k : Option Kernel) (args : List Arg) (cut defer : Option (ℕ × ℕ)) (waive after : List ℕ) → schedule_fits ns k args cut defer waive after ≡ true → args_fit ns defer (kernel_params k) args ≡ true
+pub args_of : (ns : Names) (k : Option Kernel) (args : List Arg) (cut defer : Option (ℕ × ℕ)) (waive after : List ℕ)
+    → schedule_fits ns k args cut defer waive after ≡ true → args_fit ns defer (kernel_params k) args ≡ true
 args_of ns None args cut defer waive after h = absurd (false≢true h)
 args_of ns (Some k) args cut defer waive after h = (and_parts (args_fit ns defer k.params.items args) _ (and_parts _ _ h).0).0
 
@@ -57,10 +59,19 @@ pub record FitsThere (g : Setting) (kinds : List NameKind) (x : Order) : Type 0 
   pub inside : ℕ
   pub fits : order_fits (record { kinds = kinds; made = made }) g.literals g.kernels rest inside x ≡ true
 
-pub fits_there : (g : Setting) (kinds : List NameKind) (made inside : ℕ) (xs : List Statement) (n : ℕ) (x : Statement) → statements_fit (record { kinds = kinds; made = made }) g.literals g.kernels inside xs ≡ true → slice_get xs n ≡ Some x → FitsThere g kinds x.act
+pub fits_there : (g : Setting) (kinds : List NameKind) (made inside : ℕ) (xs : List Statement) (n : ℕ) (x : Statement)
+    → statements_fit (record { kinds = kinds; made = made }) g.literals g.kernels inside xs ≡ true → slice_get xs n ≡ Some x → FitsThere g kinds x.act
 fits_there g kinds made inside [] n x fits at = absurd cc
 fits_there g kinds made inside (y ∷ ys) zero x fits at =
     let same : y ≡ x = cc in
-    subst (λ z. FitsThere g kinds z.act) same (record { made = made; rest = length ys; inside = inside; fits = (and_parts (order_fits (record { kinds = kinds; made = made }) g.literals g.kernels (length ys) inside y.act) (statements_fit (record { kinds = kinds; made = made_after made (made_by y.act) }) g.literals g.kernels (block_of y.act inside) ys) fits).0 })
+    subst (λ z. FitsThere g kinds z.act) same (record {
+      made = made;
+      rest = length ys;
+      inside = inside;
+      fits = (and_parts (order_fits (record { kinds = kinds; made = made }) g.literals g.kernels (length ys) inside y.act)
+          (statements_fit (record { kinds = kinds; made = made_after made (made_by y.act) }) g.literals g.kernels (block_of y.act inside) ys) fits).0;
+    })
 fits_there g kinds made inside (y ∷ ys) (suc n) x fits at =
-    fits_there g kinds (made_after made (made_by y.act)) (block_of y.act inside) ys n x (and_parts (order_fits (record { kinds = kinds; made = made }) g.literals g.kernels (length ys) inside y.act) (statements_fit (record { kinds = kinds; made = made_after made (made_by y.act) }) g.literals g.kernels (block_of y.act inside) ys) fits).1 at
+    fits_there g kinds (made_after made (made_by y.act)) (block_of y.act inside) ys n x
+    (and_parts (order_fits (record { kinds = kinds; made = made }) g.literals g.kernels (length ys) inside y.act)
+    (statements_fit (record { kinds = kinds; made = made_after made (made_by y.act) }) g.literals g.kernels (block_of y.act inside) ys) fits).1 at

@@ -22,7 +22,8 @@ pub record HasNoCause (s : ScriptState) (parallel : Bool) (gs : List Given) : Ty
   pub temp : first_given (λ g. is_temp (s.life g.need.container)) gs ≡ None
   pub alias : first_alias [] gs ≡ None
 
-pub no_cause_given : (s : ScriptState) (parallel auto : Bool) (gs : List Given) (after : List ℕ) → schedule_refusal s parallel auto gs after ≡ None → HasNoCause s parallel gs
+pub no_cause_given : (s : ScriptState) (parallel auto : Bool) (gs : List Given) (after : List ℕ) → schedule_refusal s parallel auto gs after ≡ None
+    → HasNoCause s parallel gs
 no_cause_given s parallel auto gs after none =
     let first = first_none (disposed s (map (λ g. g.need.name) gs)) _ none in
     let second = first_none (stale s (map (λ g. g.need.name) gs)) _ first.1 in
@@ -37,14 +38,18 @@ no_cause_given s parallel auto gs after none =
       alias = none_named Alias _ fifth.0;
     }
 
-pub no_alias_given : (s : ScriptState) (parallel auto : Bool) (gs : List Given) (after : List ℕ) → schedule_refusal s parallel auto gs after ≡ None → first_alias [] gs ≡ None
+pub no_alias_given : (s : ScriptState) (parallel auto : Bool) (gs : List Given) (after : List ℕ) → schedule_refusal s parallel auto gs after ≡ None
+    → first_alias [] gs ≡ None
 no_alias_given s parallel auto gs after none = (no_cause_given s parallel auto gs after none).alias
 
 -- no value fails a test that finds none
 pub none_given : (test : Given → Bool) (g : Given) (more : List Given) → first_given test (g ∷ more) ≡ None → (test g ≡ false) × (first_given test more ≡ None)
-none_given test g more = elim (test g) as (λ b. (if b then Some g.need.name else first_given test more) ≡ None → (b ≡ false) × (first_given test more ≡ None)) [ true ↦ λ h. absurd cc | false ↦ λ h. (refl, h) ]
+none_given test g more = elim (test g) as (λ b. (if b then Some g.need.name else first_given test more) ≡ None
+    → (b ≡ false) × (first_given test more ≡ None)) [ true ↦ λ h. absurd cc | false ↦ λ h. (refl, h) ]
 
 -- a value that is no alias of those before it
-pub no_alias : (before : List Given) (g : Given) (more : List Given) → first_alias before (g ∷ more) ≡ None → (list_any (λ a. alias a g) before ≡ false) × (first_alias (before ++ g ∷ []) more ≡ None)
+pub no_alias : (before : List Given) (g : Given) (more : List Given) → first_alias before (g ∷ more) ≡ None
+    → (list_any (λ a. alias a g) before ≡ false) × (first_alias (before ++ g ∷ []) more ≡ None)
 no_alias before g more =
-    elim (list_any (λ a. alias a g) before) as (λ b. (if b then Some g.need.name else first_alias (before ++ g ∷ []) more) ≡ None → (b ≡ false) × (first_alias (before ++ g ∷ []) more ≡ None)) [ true ↦ λ h. absurd cc | false ↦ λ h. (refl, h) ]
+    elim (list_any (λ a. alias a g) before) as (λ b. (if b then Some g.need.name else first_alias (before ++ g ∷ []) more) ≡ None
+    → (b ≡ false) × (first_alias (before ++ g ∷ []) more ≡ None)) [ true ↦ λ h. absurd cc | false ↦ λ h. (refl, h) ]

@@ -32,7 +32,8 @@ made_form s contents c below =
       | false ↦ λ e. refl
     ] refl
 
-changed_form : (name : ℕ) (r : Result Contents Trap) (s : ScriptState) (c : ℕ) → Keeps (contents_at s name) r → form_of ((changed name r s).contents c) ≡ form_of (s.contents c)
+changed_form : (name : ℕ) (r : Result Contents Trap) (s : ScriptState) (c : ℕ) → Keeps (contents_at s name) r
+    → form_of ((changed name r s).contents c) ≡ form_of (s.contents c)
 changed_form name (Ok new) s c k =
     elim (nat_eq c (container_at s name)) as (λ b. nat_eq c (container_at s name) ≡ b → form_of (if b then new else s.contents c) ≡ form_of (s.contents c)) [
       | true ↦ λ e. k.form ∙ ap (λ m. form_of (s.contents m)) (sym (eqb-true c (container_at s name) e))
@@ -53,18 +54,23 @@ views_form name s c form is = ap (λ f. form_of (f c)) (list_same (contents_at s
 
 -- `setcapacity`
 
-capacity_form : (name cap : ℕ) (held : Contents) (s : ScriptState) (c : ℕ) → kind_of held ≡ ListName → unchanged name (capacity_in held cap) ≡ None → form_of ((changed name (capacity_in held cap) s).contents c) ≡ (if nat_eq c (container_at s name) then new_list cap else form_of (s.contents c))
+capacity_form : (name cap : ℕ) (held : Contents) (s : ScriptState) (c : ℕ) → kind_of held ≡ ListName → unchanged name (capacity_in held cap) ≡ None
+    → form_of ((changed name (capacity_in held cap) s).contents c) ≡ (if nat_eq c (container_at s name) then new_list cap else form_of (s.contents c))
 capacity_form name cap (Cells xs) s c is none = absurd cc
 capacity_form name cap (Single z) s c is none = absurd cc
 capacity_form name cap (Items old xs) s c is none =
-    elim (nat_lt cap old) as (λ b. unchanged name (if b then Err Range else Ok (Items cap xs)) ≡ None → form_of ((changed name (if b then Err Range else Ok (Items cap xs)) s).contents c) ≡ (if nat_eq c (container_at s name) then new_list cap else form_of (s.contents c))) [
+    elim (nat_lt cap old) as (λ b. unchanged name (if b then Err Range else Ok (Items cap xs)) ≡ None
+    → form_of ((changed name (if b then Err Range else Ok (Items cap xs)) s).contents c) ≡
+    (if nat_eq c (container_at s name) then new_list cap else form_of (s.contents c))) [
       | true ↦ λ none. absurd cc
-      | false ↦ λ none. elim (nat_eq c (container_at s name)) as (λ b. form_of (if b then Items cap xs else s.contents c) ≡ (if b then new_list cap else form_of (s.contents c))) [ true ↦ refl | false ↦ refl ]
+      | false ↦ λ none. elim (nat_eq c (container_at s name)) as (λ b. form_of (if b then Items cap xs else s.contents c) ≡
+          (if b then new_list cap else form_of (s.contents c))) [ true ↦ refl | false ↦ refl ]
     ] none
 capacity_form name cap (Pairs size ps) s c is none = absurd cc
 capacity_form name cap (Entries room es) s c is none = absurd cc
 
-setcapacity_form : (g : Setting) (line : ℕ) (s : ScriptState) (kind : NameKind) (name cap c : ℕ) → kind ≡ ListName → IsOfKind s kind (s.values name) → refusal g s (SetCapacity name cap) ≡ None → form_of ((effect g line s (SetCapacity name cap)).contents c) ≡ form_after s (SetCapacity name cap) c
+setcapacity_form : (g : Setting) (line : ℕ) (s : ScriptState) (kind : NameKind) (name cap c : ℕ) → kind ≡ ListName → IsOfKind s kind (s.values name)
+    → refusal g s (SetCapacity name cap) ≡ None → form_of ((effect g line s (SetCapacity name cap)).contents c) ≡ form_after s (SetCapacity name cap) c
 setcapacity_form g line s kind name cap c list is none =
     let gone : Option Refused = disposed s (name ∷ []) in
     let old : Option Refused = stale s (name ∷ []) in
@@ -81,7 +87,9 @@ setcapacity_form g line s kind name cap c list is none =
 
 -- each statement
 
-effect_form : (g : Setting) → RunsKeep g.runs → (line : ℕ) (ns : Names) (rest inside : ℕ) (s : ScriptState) (x : Order) → order_fits ns g.literals g.kernels rest inside x ≡ true → refusal g s x ≡ None → HoldsKinds ns.kinds s → (c : ℕ) → c < s.made → form_of ((effect g line s x).contents c) ≡ form_after s x c
+effect_form : (g : Setting) → RunsKeep g.runs → (line : ℕ) (ns : Names) (rest inside : ℕ) (s : ScriptState) (x : Order)
+    → order_fits ns g.literals g.kernels rest inside x ≡ true → refusal g s x ≡ None → HoldsKinds ns.kinds s → (c : ℕ) → c < s.made
+    → form_of ((effect g line s x).contents c) ≡ form_after s x c
 effect_form g keep line ns rest inside s (Array name len life values) fits none k c below = made_form s _ c below
 effect_form g keep line ns rest inside s (Column name column life) fits none k c below = made_form s _ c below
 effect_form g keep line ns rest inside s (NewList name cap life) fits none k c below = made_form s _ c below
@@ -92,18 +100,23 @@ effect_form g keep line ns rest inside s (Set name at value) fits none k c below
     let used = is_used ns name (set_kinds at) fits in
     changed_form name _ s c (set_stays s used.kind (s.values name) at value (k.names name used.kind used.at) (k.containers (container_at s name)))
 effect_form g keep line ns rest inside s (Add name first second) fits none k c below =
-    views_form name (changed name (add_in (contents_at s name) first second) s) c _ (changed_form name _ s c (add_stays (contents_at s name) first second (k.containers (container_at s name))))
-effect_form g keep line ns rest inside s (Put name key value) fits none k c below = changed_form name _ s c (put_pair_kept key value (contents_at s name) (k.containers (container_at s name)))
+    views_form name (changed name (add_in (contents_at s name) first second) s) c _
+    (changed_form name _ s c (add_stays (contents_at s name) first second (k.containers (container_at s name))))
+effect_form g keep line ns rest inside s (Put name key value) fits none k c below =
+    changed_form name _ s c (put_pair_kept key value (contents_at s name) (k.containers (container_at s name)))
 effect_form g keep line ns rest inside s (Remove name at) fits none k c below =
     views_form name (changed name _ s) c _ (changed_form name _ s c (remove_kept at (contents_at s name) (k.containers (container_at s name))))
 effect_form g keep line ns rest inside s (Clear name) fits none k c below =
-    views_form name (changed name (Ok (cleared (contents_at s name))) s) c _ (changed_form name (Ok (cleared (contents_at s name))) s c (cleared_kept (contents_at s name) (k.containers (container_at s name))))
+    views_form name (changed name (Ok (cleared (contents_at s name))) s) c _
+    (changed_form name (Ok (cleared (contents_at s name))) s c (cleared_kept (contents_at s name) (k.containers (container_at s name))))
 effect_form g keep line ns rest inside s (SetCapacity name cap) fits none k c below =
     let used = is_used ns name (ListName ∷ []) (and_parts (uses ns name (ListName ∷ [])) _ fits).0 in
     setcapacity_form g line s used.kind name cap c (one_kind used.kind ListName used.fits) (k.names name used.kind used.at) none
 effect_form g keep line ns rest inside s (Schedule job) fits none k c below =
     let both = and_parts (makes ns job.value.handle HandleName) _ fits in
-    ((accept_after g keep ns s job.value.auto job.value.handle job.value.kernel job.value.args.items job.value.cut job.value.defer job.value.waive.items job.value.after.items (args_of ns (slice_get g.kernels job.value.kernel) job.value.args.items job.value.cut job.value.defer job.value.waive.items job.value.after.items both.1) k).contents c).form
+    ((accept_after g keep ns s job.value.auto job.value.handle job.value.kernel job.value.args.items job.value.cut job.value.defer job.value.waive.items
+    job.value.after.items (args_of ns (slice_get g.kernels job.value.kernel) job.value.args.items job.value.cut job.value.defer job.value.waive.items
+    job.value.after.items both.1) k).contents c).form
 effect_form g keep line ns rest inside s (Dispose name after None) fits none k c below = refl
 effect_form g keep line ns rest inside s (Dispose name after (Some handle)) fits none k c below = refl
 effect_form g keep line ns rest inside s x fits none k c below = refl
@@ -112,4 +125,5 @@ pub statements_keep_forms : StatementsKeepForms
 statements_keep_forms script is table n x at none =
     let g : Setting = setting script table in
     let fits = fits_there g is.kinds 0 0 script.statements.items n x is.fits at in
-    effect_form g (runs_keep script.kernels.items is.kernels) x.line (record { kinds = is.kinds; made = fits.made }) fits.rest fits.inside _ x.act fits.fits none (names_keep_their_kinds script is table n)
+    effect_form g (runs_keep script.kernels.items is.kernels) x.line (record { kinds = is.kinds; made = fits.made }) fits.rest fits.inside _ x.act fits.fits
+    none (names_keep_their_kinds script is table n)

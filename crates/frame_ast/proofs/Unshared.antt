@@ -43,17 +43,22 @@ apart true false false h = (λ e. absurd cc, refl)
 apart false one other_ h = (λ e. refl, refl)
 
 module _ (s : ScriptState) where
-  others : (g : Given) (rest : List Given) (ps : List Param) (as_ : List Arg) → list_any (alias g) (given_args s ps as_ ++ rest) ≡ false → (g.need.writes ≡ true → is_given s ps as_ g.need.container ≡ false) × (is_written s ps as_ g.need.container ≡ false)
+  others : (g : Given) (rest : List Given) (ps : List Param) (as_ : List Arg) → list_any (alias g) (given_args s ps as_ ++ rest) ≡ false
+      → (g.need.writes ≡ true → is_given s ps as_ g.need.container ≡ false) × (is_written s ps as_ g.need.container ≡ false)
   others g rest [] as_ h = (λ e. refl, refl)
   others g rest (p ∷ ps) [] h = (λ e. refl, refl)
   others g rest (p ∷ ps) (Number z ∷ as_) h = others g rest ps as_ h
   others g rest (p ∷ ps) (Name n ∷ as_) h =
       let parts = either_false (alias g (by_name s p n)) (list_any (alias g) (given_args s ps as_ ++ rest)) h in
       let here = apart (nat_eq g.need.container (container_at s n)) g.need.writes (writes_to p.access) parts.0 in
-      let more = others g rest ps as_ parts.1 in
-      (λ e. or_from (nat_eq g.need.container (container_at s n)) _ (here.0 e) (more.0 e), or_from (nat_eq g.need.container (container_at s n) && writes_to p.access) _ here.1 more.1)
+      let more = others g rest ps as_ parts.1 in (
+        λ e. or_from (nat_eq g.need.container (container_at s n)) _ (here.0 e) (more.0 e),
+        or_from
+            (nat_eq g.need.container (container_at s n) && writes_to p.access) _ here.1 more.1,
+      )
 
-  unshared : (before rest : List Given) (params : List Param) (args : List Arg) → first_alias before (given_args s params args ++ rest) ≡ None → AreUnshared s params args
+  unshared : (before rest : List Given) (params : List Param) (args : List Arg) → first_alias before (given_args s params args ++ rest) ≡ None
+      → AreUnshared s params args
   unshared before rest [] args h = tt
   unshared before rest (p ∷ ps) [] h = tt
   unshared before rest (p ∷ ps) (Number z ∷ as_) h =

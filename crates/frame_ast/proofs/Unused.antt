@@ -75,36 +75,45 @@ left_life (p ∷ ps) [] news s = refl
 left_life (p ∷ ps) (a ∷ as_) [] s = refl
 left_life (p ∷ ps) (Number z ∷ as_) (new ∷ news) s = left_life ps as_ news s
 left_life (p ∷ ps) (Name n ∷ as_) (new ∷ news) s =
-    elim (writes_to p.access) as (λ b. (leave_all ps as_ news (if b then with_contents (container_at s n) (left_in p.kind (s.values n) new (contents_at s n)) s else s)).life ≡ s.life) [
+    elim (writes_to p.access) as (λ b. (leave_all ps as_ news (if b then with_contents (container_at s n)
+    (left_in p.kind (s.values n) new (contents_at s n)) s else s)).life ≡ s.life) [
       | true ↦ left_life ps as_ news (with_contents (container_at s n) (left_in p.kind (s.values n) new (contents_at s n)) s)
       | false ↦ left_life ps as_ news s
     ]
 
 -- no value of the schedule is of a temp container
-not_used : (life : ℕ → Life) (gs : List Given) (c : ℕ) → is_temp (life c) ≡ true → first_given (λ g. is_temp (life g.need.container)) gs ≡ None → uses_it (map (λ g. g.need) gs) c ≡ false
+not_used : (life : ℕ → Life) (gs : List Given) (c : ℕ) → is_temp (life c) ≡ true → first_given (λ g. is_temp (life g.need.container)) gs ≡ None
+    → uses_it (map (λ g. g.need) gs) c ≡ false
 not_used life [] c temp none = refl
 not_used life (g ∷ more) c temp none =
     let parts = none_given (λ g. is_temp (life g.need.container)) g more none in
     or_from (nat_eq c g.need.container) (uses_it (map (λ g. g.need) more) c)
-    (false_from_ne_true (nat_eq c g.need.container) (λ e. absurd (false≢true (sym parts.0 ∙ subst (λ n. is_temp (life n) ≡ true) (eqb-true c g.need.container e) temp))))
+    (false_from_ne_true (nat_eq c g.need.container) (λ e. absurd (false≢true
+    (sym parts.0 ∙ subst (λ n. is_temp (life n) ≡ true) (eqb-true c g.need.container e) temp))))
     (not_used life more c temp parts.1)
 
-accept_unused : (g : Setting) (s : ScriptState) (auto : Bool) (handle kernel : ℕ) (args : List Arg) (cut defer : Option (ℕ × ℕ)) (waive after : List ℕ) → first_given (λ v. is_temp (s.life v.need.container)) (givens s (params_of g kernel) args defer) ≡ None → TempsAreUnused s → TempsAreUnused (accept g s auto handle kernel args cut defer waive after)
+accept_unused : (g : Setting) (s : ScriptState) (auto : Bool) (handle kernel : ℕ) (args : List Arg) (cut defer : Option (ℕ × ℕ)) (waive after : List ℕ)
+    → first_given (λ v. is_temp (s.life v.need.container)) (givens s (params_of g kernel) args defer) ≡ None → TempsAreUnused s
+    → TempsAreUnused (accept g s auto handle kernel args cut defer waive after)
 accept_unused g s auto handle kernel args cut defer waive after none k =
     let params = params_of g kernel in
     let gs = givens s params args defer in
-    let ran = get_or g.runs kernel no_run (widths_from (is_parallel g kernel) waive 0 params) (steps_by defer) (job_length s cut defer) (arguments_of s params args) in
-    let life : (all_broken gs (leave_all params args ran.store s)).life ≡ s.life = broken_life gs (leave_all params args ran.store s) ∙ left_life params args ran.store s in
+    let ran = get_or g.runs kernel no_run (widths_from (is_parallel g kernel) waive 0 params) (steps_by defer) (job_length s cut defer)
+    (arguments_of s params args) in
+    let life : (all_broken gs (leave_all params args ran.store s)).life ≡ s.life = broken_life gs (leave_all params args ran.store s)
+    ∙ left_life params args ran.store s in
     record {
       at = λ c j temp.
           let was : is_temp (s.life c) ≡ true = ap (λ l. is_temp (l c)) (sym life) ∙ temp in
           or_from ((s.uses c).users j) (nat_eq j (s.book.count + 1) && uses_it (map (λ v. v.need) gs) c) (k.at c j was)
-          (false_from_ne_true (nat_eq j (s.book.count + 1) && uses_it (map (λ v. v.need) gs) c) (λ e. both_ways (uses_it (map (λ v. v.need) gs) c) (not_used s.life gs c was none) (and_parts (nat_eq j (s.book.count + 1)) _ e).1));
+          (false_from_ne_true (nat_eq j (s.book.count + 1) && uses_it (map (λ v. v.need) gs) c)
+          (λ e. both_ways (uses_it (map (λ v. v.need) gs) c) (not_used s.life gs c was none) (and_parts (nat_eq j (s.book.count + 1)) _ e).1));
     }
 
 made_unused : (line name : ℕ) (life : Life) (contents : Contents) (s : ScriptState) → TempsAreUnused s → TempsAreUnused (make line name life contents s)
 made_unused line name life contents s k = record {
-  at = λ c j. elim (nat_eq c s.made) as (λ b. is_temp (if b then life else s.life c) ≡ true → (if b then unused else s.uses c).users j ≡ false) [ true ↦ λ temp. refl | false ↦ λ temp. k.at c j temp ];
+  at = λ c j. elim (nat_eq c s.made) as (λ b. is_temp (if b then life else s.life c) ≡ true
+      → (if b then unused else s.uses c).users j ≡ false) [ true ↦ λ temp. refl | false ↦ λ temp. k.at c j temp ];
 }
 
 effect_unused : (g : Setting) (line : ℕ) (s : ScriptState) (x : Order) → refusal g s x ≡ None → TempsAreUnused s → TempsAreUnused (effect g line s x)
@@ -119,14 +128,17 @@ effect_unused g line s (Add name first second) none k = alike_unused s _ (resize
 effect_unused g line s (Put name key value) none k = alike_unused s _ (changed_alike name _ s) k
 effect_unused g line s (Remove name at) none k = alike_unused s _ (resized_alike name _ s) k
 effect_unused g line s (Clear name) none k = alike_unused s _ (resized_alike name (Ok (cleared (contents_at s name))) s) k
-effect_unused g line s (SetCapacity name cap) none k = let after = resized_alike name (capacity_in (contents_at s name) cap) s in alike_unused s (effect g line s (SetCapacity name cap)) (record { life = after.life; uses = after.uses }) k
+effect_unused g line s (SetCapacity name cap) none k = let after = resized_alike name (capacity_in (contents_at s name) cap) s in
+    alike_unused s (effect g line s (SetCapacity name cap)) (record { life = after.life; uses = after.uses }) k
 effect_unused g line s (Schedule job) none k =
-    accept_unused g s job.value.auto job.value.handle job.value.kernel job.value.args.items job.value.cut job.value.defer job.value.waive.items job.value.after.items (no_cause_given s (is_parallel g job.value.kernel) job.value.auto _ job.value.after.items none).temp k
+    accept_unused g s job.value.auto job.value.handle job.value.kernel job.value.args.items job.value.cut job.value.defer job.value.waive.items
+    job.value.after.items (no_cause_given s (is_parallel g job.value.kernel) job.value.auto _ job.value.after.items none).temp k
 effect_unused g line s (Dispose name after None) none k = record { at = k.at }
 effect_unused g line s (Dispose name after (Some handle)) none k = record { at = k.at }
 effect_unused g line s x none k = record { at = k.at }
 
-decided_unused : (o : Option Refused) (g : Setting) (s : ScriptState) (x : Statement) → s.passing ≡ 0 → refusal g s x.act ≡ o → TempsAreUnused s → TempsAreUnused (decided o g s x)
+decided_unused : (o : Option Refused) (g : Setting) (s : ScriptState) (x : Statement) → s.passing ≡ 0 → refusal g s x.act ≡ o → TempsAreUnused s
+    → TempsAreUnused (decided o g s x)
 decided_unused None g s x passing h k = effect_unused g x.line s x.act h k
 decided_unused (Some r) g s x passing h k = let like = refused_like g s x r passing h in alike_unused s _ (record { life = like.life; uses = like.uses }) k
 

@@ -34,12 +34,14 @@ whole_fits s k (Value.View c number) slice view alive is = absurd (view is.0)
 whole_fits s k (Value.Handle jobs) slice view alive is = absurd (false≢true alive)
 
 -- a name of one kind alone
-one_fits : (s : ScriptState) (want k : NameKind) (v : Value) → (want ≡ kind.Slice → ⊥) → (want ≡ kind.View → ⊥) → list_any (same_kind k) (want ∷ []) ≡ true → is_alive s v ≡ true → IsOfKind s k v → IsWhole s want v
+one_fits : (s : ScriptState) (want k : NameKind) (v : Value) → (want ≡ kind.Slice → ⊥) → (want ≡ kind.View → ⊥) → list_any (same_kind k) (want ∷ []) ≡ true
+    → is_alive s v ≡ true → IsOfKind s k v → IsWhole s want v
 one_fits s want k v slice view fits alive is =
     let same : k ≡ want = one_kind k want fits in
     subst (λ j. IsWhole s j v) same (whole_fits s k v (λ e. slice (sym same ∙ e)) (λ e. view (sym same ∙ e)) alive is)
 
-whole_elements : (deferred : Bool) (c : Contents) → list_any (same_kind (kind_of c)) (kinds_for Array deferred) ≡ true → (kind_of c ≡ kind.Array) ⊎ ((deferred ≡ true) × (kind_of c ≡ kind.List))
+whole_elements : (deferred : Bool) (c : Contents) → list_any (same_kind (kind_of c)) (kinds_for Array deferred) ≡ true
+    → (kind_of c ≡ kind.Array) ⊎ ((deferred ≡ true) × (kind_of c ≡ kind.List))
 whole_elements deferred (Cells xs) h = inl refl
 whole_elements true (Single z) h = absurd (false≢true h)
 whole_elements false (Single z) h = absurd (false≢true h)
@@ -50,14 +52,17 @@ whole_elements false (Pairs cap ps) h = absurd (false≢true h)
 whole_elements true (Entries room es) h = absurd (false≢true h)
 whole_elements false (Entries room es) h = absurd (false≢true h)
 
-elements_fit : (s : ScriptState) (deferred : Bool) (k : NameKind) (v : Value) → list_any (same_kind k) (kinds_for Array deferred) ≡ true → is_alive s v ≡ true → is_stale s v ≡ false → IsOfKind s k v → HasElements s deferred v
+elements_fit : (s : ScriptState) (deferred : Bool) (k : NameKind) (v : Value) → list_any (same_kind k) (kinds_for Array deferred) ≡ true → is_alive s v ≡ true
+    → is_stale s v ≡ false → IsOfKind s k v → HasElements s deferred v
 elements_fit s deferred k Value.Dead fits alive fresh is = absurd (false≢true alive)
-elements_fit s deferred k (Value.Whole c) fits alive fresh is = whole_elements deferred (s.contents c) (subst (λ j. list_any (same_kind j) (kinds_for Array deferred) ≡ true) is.0 fits)
+elements_fit s deferred k (Value.Whole c) fits alive fresh is = whole_elements deferred (s.contents c)
+    (subst (λ j. list_any (same_kind j) (kinds_for Array deferred) ≡ true) is.0 fits)
 elements_fit s deferred k (Value.Slice c start len) fits alive fresh is = (is.2, is.3)
 elements_fit s deferred k (Value.View c number) fits alive fresh is = (is.2, eqb-true number (s.view c) (not-false (nat_eq number (s.view c)) fresh))
 elements_fit s deferred k (Value.Handle jobs) fits alive fresh is = absurd (false≢true alive)
 
-kind_fits : (s : ScriptState) (deferred : Bool) (param : ParamKind) (k : NameKind) (v : Value) → list_any (same_kind k) (kinds_for param deferred) ≡ true → is_alive s v ≡ true → is_stale s v ≡ false → IsOfKind s k v → FitsKind s deferred param v
+kind_fits : (s : ScriptState) (deferred : Bool) (param : ParamKind) (k : NameKind) (v : Value) → list_any (same_kind k) (kinds_for param deferred) ≡ true
+    → is_alive s v ≡ true → is_stale s v ≡ false → IsOfKind s k v → FitsKind s deferred param v
 kind_fits s deferred Int k v fits alive fresh is = absurd (false≢true fits)
 kind_fits s deferred Array k v fits alive fresh is = elements_fit s deferred k v fits alive fresh is
 kind_fits s deferred KindList k v fits alive fresh is = one_fits s kind.List k v (λ e. absurd cc) (λ e. absurd cc) fits alive is
@@ -65,7 +70,8 @@ kind_fits s deferred Ref k v fits alive fresh is = one_fits s kind.Reference k v
 kind_fits s deferred Map k v fits alive fresh is = one_fits s kind.Map k v (λ e. absurd cc) (λ e. absurd cc) fits alive is
 kind_fits s deferred Stream k v fits alive fresh is = one_fits s kind.Stream k v (λ e. absurd cc) (λ e. absurd cc) fits alive is
 
-lives_there : (s : ScriptState) (k : NameKind) (v : Value) → is_alive s v ≡ true → IsOfKind s k v → (container_of v < s.made) × (s.alive (container_of v) ≡ true)
+lives_there : (s : ScriptState) (k : NameKind) (v : Value) → is_alive s v ≡ true → IsOfKind s k v
+    → (container_of v < s.made) × (s.alive (container_of v) ≡ true)
 lives_there s k Value.Dead alive is = absurd (false≢true alive)
 lives_there s k (Value.Whole c) alive is = (is.1, alive)
 lives_there s k (Value.Slice c start len) alive is = (is.1, alive)
@@ -82,7 +88,8 @@ abbrev name_of : Given → ℕ
 name_of v = v.need.name
 
 module _ (ns : Names) (s : ScriptState) (holds : HoldsKinds ns.kinds s) where
-  name_fits : (deferred : Bool) (param : ParamKind) (n : ℕ) → uses ns n (kinds_for param deferred) ≡ true → dead s n ≡ false → old s n ≡ false → NameFits s deferred param n
+  name_fits : (deferred : Bool) (param : ParamKind) (n : ℕ) → uses ns n (kinds_for param deferred) ≡ true → dead s n ≡ false → old s n ≡ false
+      → NameFits s deferred param n
   name_fits deferred param n used alive fresh =
       let it = is_used ns n (kinds_for param deferred) used in
       let is = holds.names n it.kind it.at in
@@ -90,7 +97,9 @@ module _ (ns : Names) (s : ScriptState) (holds : HoldsKinds ns.kinds s) where
       let there = lives_there s it.kind (s.values n) lives is in
       record { made = there.0; alive = there.1; value = kind_fits s deferred param it.kind (s.values n) it.fits lives fresh is }
 
-  args_fit_values : (defer : Option (ℕ × ℕ)) (more : List Given) (params : List Param) (args : List Arg) → args_fit ns defer params args ≡ true → find (dead s) (map name_of (given_args s params args ++ more)) ≡ None → find (old s) (map name_of (given_args s params args ++ more)) ≡ None → ArgsFit s defer params args
+  args_fit_values : (defer : Option (ℕ × ℕ)) (more : List Given) (params : List Param) (args : List Arg) → args_fit ns defer params args ≡ true
+      → find (dead s) (map name_of (given_args s params args ++ more)) ≡ None → find (old s) (map name_of (given_args s params args ++ more)) ≡ None
+      → ArgsFit s defer params args
   args_fit_values defer more [] [] fits alive fresh = tt
   args_fit_values defer more [] (a ∷ as_) fits alive fresh = absurd (false≢true fits)
   args_fit_values defer more (p ∷ ps) [] fits alive fresh = absurd (false≢true fits)
@@ -112,32 +121,45 @@ module _ (ns : Names) (s : ScriptState) (holds : HoldsKinds ns.kinds s) where
       number_fits Stream h = absurd (false≢true h)
 
   -- what isn't found among the values isn't found at the last
-  none_last : (test : ℕ → Bool) (more : List Given) (params : List Param) (args : List Arg) → find test (map name_of (given_args s params args ++ more)) ≡ None → find test (map name_of more) ≡ None
+  none_last : (test : ℕ → Bool) (more : List Given) (params : List Param) (args : List Arg) → find test (map name_of (given_args s params args ++ more)) ≡ None
+      → find test (map name_of more) ≡ None
   none_last test more [] args h = h
   none_last test more (p ∷ ps) [] h = h
   none_last test more (p ∷ ps) (Name n ∷ as_) h = none_last test more ps as_ (none_found test n (map name_of (given_args s ps as_ ++ more)) h).1
   none_last test more (p ∷ ps) (Number z ∷ as_) h = none_last test more ps as_ h
 
-  length_fits : (k : Kernel) (defer : Option (ℕ × ℕ)) → defer_fits ns k defer ≡ true → find (dead s) (map name_of (given_length s defer)) ≡ None → find (old s) (map name_of (given_length s defer)) ≡ None → LengthFits s defer
+  length_fits : (k : Kernel) (defer : Option (ℕ × ℕ)) → defer_fits ns k defer ≡ true → find (dead s) (map name_of (given_length s defer)) ≡ None
+      → find (old s) (map name_of (given_length s defer)) ≡ None → LengthFits s defer
   length_fits k None fits alive fresh = tt
   length_fits k (Some d) fits alive fresh =
-      let used = (and_parts (uses ns d.0 (kind.List ∷ [])) (batch_fits d.1) (and_parts (uses ns d.0 (kind.List ∷ []) && batch_fits d.1) (guard_fits k) fits).0).0 in
+      let used = (and_parts (uses ns d.0 (kind.List ∷ [])) (batch_fits d.1)
+      (and_parts (uses ns d.0 (kind.List ∷ []) && batch_fits d.1) (guard_fits k) fits).0).0 in
       name_fits true KindList d.0 used (none_found (dead s) d.0 [] alive).0 (none_found (old s) d.0 [] fresh).0
 
   -- what the schedule's own fit says of the list
-  defer_of : (o : Option Kernel) (args : List Arg) (cut defer : Option (ℕ × ℕ)) (waive after : List ℕ) → schedule_fits ns o args cut defer waive after ≡ true → (k : Kernel) × (defer_fits ns k defer ≡ true)
+  defer_of : (o : Option Kernel) (args : List Arg) (cut defer : Option (ℕ × ℕ)) (waive after : List ℕ) → schedule_fits ns o args cut defer waive after ≡ true
+      → (k : Kernel) × (defer_fits ns k defer ≡ true)
   defer_of None args cut defer waive after h = absurd (false≢true h)
-  defer_of (Some k) args cut defer waive after h =
-      (k, (and_parts (cut_fits cut) (defer_fits ns k defer) (and_parts (cut_fits cut && defer_fits ns k defer) _ (and_parts (args_fit ns defer k.params.items args && _) _ h).1).0).1)
+  defer_of (Some k) args cut defer waive after h = (
+    k,
+    (and_parts (cut_fits cut) (defer_fits ns k defer) (and_parts (cut_fits cut && defer_fits ns k defer) _
+        (and_parts (args_fit ns defer k.params.items args && _) _ h).1).0).1,
+  )
 
-  pub values_fit_at : (g : Setting) (rest inside : ℕ) (x : Order) → order_fits ns g.literals g.kernels rest inside x ≡ true → refusal g s x ≡ None → FitsAsValues g s x
+  pub values_fit_at : (g : Setting) (rest inside : ℕ) (x : Order) → order_fits ns g.literals g.kernels rest inside x ≡ true → refusal g s x ≡ None
+      → FitsAsValues g s x
   values_fit_at g rest inside (Schedule job) fits none =
       let params : List Param = params_of g job.value.kernel in
       let both = and_parts (makes ns job.value.handle kind.Handle) _ fits in
-      let no_cause = no_cause_given s (is_parallel g job.value.kernel) job.value.auto (givens s params job.value.args.items job.value.defer) job.value.after.items none in
-      let last = defer_of (slice_get g.kernels job.value.kernel) job.value.args.items job.value.cut job.value.defer job.value.waive.items job.value.after.items both.1 in (
-        args_fit_values job.value.defer (given_length s job.value.defer) params job.value.args.items (args_of ns (slice_get g.kernels job.value.kernel) job.value.args.items job.value.cut job.value.defer job.value.waive.items job.value.after.items both.1) no_cause.alive no_cause.fresh,
-        length_fits last.0 job.value.defer last.1 (none_last (dead s) (given_length s job.value.defer) params job.value.args.items no_cause.alive) (none_last (old s) (given_length s job.value.defer) params job.value.args.items no_cause.fresh),
+      let no_cause = no_cause_given s (is_parallel g job.value.kernel) job.value.auto
+      (givens s params job.value.args.items job.value.defer) job.value.after.items none in
+      let last = defer_of (slice_get g.kernels job.value.kernel) job.value.args.items job.value.cut job.value.defer job.value.waive.items job.value.after.items
+      both.1 in (
+        args_fit_values job.value.defer (given_length s job.value.defer) params job.value.args.items
+            (args_of ns (slice_get g.kernels job.value.kernel) job.value.args.items job.value.cut job.value.defer job.value.waive.items job.value.after.items
+            both.1) no_cause.alive no_cause.fresh,
+        length_fits last.0 job.value.defer last.1 (none_last (dead s) (given_length s job.value.defer) params job.value.args.items no_cause.alive)
+            (none_last (old s) (given_length s job.value.defer) params job.value.args.items no_cause.fresh),
       )
   values_fit_at g rest inside x fits none = tt
 

@@ -74,7 +74,9 @@ abbrev is_refused : Given → Bool
 is_refused g = g.need.writes && is_shared g.kind
 
 module _ (ns : Names) (s : ScriptState) (defer : Option (ℕ × ℕ)) (more : List Given) where
-  widths_there : (params : List Param) (args : List Arg) (from x : ℕ) (p : Param) → args_fit ns defer params args ≡ true → IsTrue (list_all param_fits params) → first_given is_refused (given_args s params args ++ more) ≡ None → slice_get params x ≡ Some p → writes_to p.access ≡ true → 0 < width_of (widths_from true [] from params) x
+  widths_there : (params : List Param) (args : List Arg) (from x : ℕ) (p : Param) → args_fit ns defer params args ≡ true → IsTrue (list_all param_fits params)
+      → first_given is_refused (given_args s params args ++ more) ≡ None → slice_get params x ≡ Some p → writes_to p.access ≡ true
+      → 0 < width_of (widths_from true [] from params) x
   widths_there [] args from x p fits each none at w = absurd cc
   widths_there (q ∷ ps) [] from x p fits each none at w = absurd (false≢true fits)
   widths_there (q ∷ ps) (Name n ∷ as_) from zero p fits each none at w =
@@ -87,26 +89,36 @@ module _ (ns : Names) (s : ScriptState) (defer : Option (ℕ × ℕ)) (more : Li
       let writes : writes_to q.access ≡ true = subst (λ r. writes_to r.access ≡ true) (sym same) w in
       absurd (no_number q (and_parts (param_fits q) (list_all param_fits ps) each).0 writes (and_parts (is_int q.kind) (args_fit ns defer ps as_) fits).0)
   widths_there (q ∷ ps) (Name n ∷ as_) from (suc x) p fits each none at w =
-      widths_there ps as_ (from + 1) x p (and_parts (arg_fits ns defer q (Name n)) (args_fit ns defer ps as_) fits).1 (and_parts (param_fits q) (list_all param_fits ps) each).1 (none_given is_refused (by_name s q n) (given_args s ps as_ ++ more) none).1 at w
+      widths_there ps as_ (from + 1) x p (and_parts (arg_fits ns defer q (Name n)) (args_fit ns defer ps as_) fits).1
+      (and_parts (param_fits q) (list_all param_fits ps) each).1 (none_given is_refused (by_name s q n) (given_args s ps as_ ++ more) none).1 at w
   widths_there (q ∷ ps) (Number z ∷ as_) from (suc x) p fits each none at w =
-      widths_there ps as_ (from + 1) x p (and_parts (arg_fits ns defer q (Number z)) (args_fit ns defer ps as_) fits).1 (and_parts (param_fits q) (list_all param_fits ps) each).1 none at w
+      widths_there ps as_ (from + 1) x p (and_parts (arg_fits ns defer q (Number z)) (args_fit ns defer ps as_) fits).1
+      (and_parts (param_fits q) (list_all param_fits ps) each).1 none at w
 
-params_checked : (kernels : List Kernel) (k : ℕ) → ((k : ℕ) (it : Kernel) → slice_get kernels k ≡ Some it → IsChecked it) → IsTrue (list_all param_fits (kernel_params (slice_get kernels k)))
+params_checked : (kernels : List Kernel) (k : ℕ) → ((k : ℕ) (it : Kernel) → slice_get kernels k ≡ Some it → IsChecked it)
+    → IsTrue (list_all param_fits (kernel_params (slice_get kernels k)))
 params_checked kernels k checked = by (slice_get kernels k) refl
   where
     by : (o : Option Kernel) → slice_get kernels k ≡ o → IsTrue (list_all param_fits (kernel_params o))
     by None e = refl
     by (Some it) e = (checked k it e).params
 
-pub widths_at : (g : Setting) → ((k : ℕ) (it : Kernel) → slice_get g.kernels k ≡ Some it → IsChecked it) → (ns : Names) (rest inside : ℕ) (s : ScriptState) (x : Order) → order_fits ns g.literals g.kernels rest inside x ≡ true → refusal g s x ≡ None → HaveWidths g s x
+pub widths_at : (g : Setting) → ((k : ℕ) (it : Kernel) → slice_get g.kernels k ≡ Some it → IsChecked it)
+    → (ns : Names) (rest inside : ℕ) (s : ScriptState) (x : Order) → order_fits ns g.literals g.kernels rest inside x ≡ true → refusal g s x ≡ None
+    → HaveWidths g s x
 widths_at g checked ns rest inside s (Schedule job) fits none = λ x p parallel waived at w.
     let params : List Param = params_of g job.value.kernel in
     let both = and_parts (makes ns job.value.handle kind.Handle) _ fits in
-    let shared = (no_cause_given s (is_parallel g job.value.kernel) job.value.auto (givens s params job.value.args.items job.value.defer) job.value.after.items none).shared in
-    let now : first_given is_refused (givens s params job.value.args.items job.value.defer) ≡ None = subst (λ b. first_given (λ v. b && (v.need.writes && is_shared v.kind)) (givens s params job.value.args.items job.value.defer) ≡ None) parallel shared in
+    let shared = (no_cause_given s (is_parallel g job.value.kernel) job.value.auto
+    (givens s params job.value.args.items job.value.defer) job.value.after.items none).shared in
+    let now : first_given is_refused (givens s params job.value.args.items job.value.defer) ≡ None =
+    subst (λ b. first_given (λ v. b && (v.need.writes && is_shared v.kind)) (givens s params job.value.args.items job.value.defer) ≡ None) parallel
+    shared in
     subst (λ b. 0 < width_of (widths_from b job.value.waive.items 0 params) x) (sym parallel)
     (subst (λ ws. 0 < width_of (widths_from true ws 0 params) x) (sym waived)
-    (widths_there ns s job.value.defer (given_length s job.value.defer) params job.value.args.items 0 x p (args_of ns (slice_get g.kernels job.value.kernel) job.value.args.items job.value.cut job.value.defer job.value.waive.items job.value.after.items both.1) (params_checked g.kernels job.value.kernel checked) now at w))
+    (widths_there ns s job.value.defer (given_length s job.value.defer) params job.value.args.items 0 x p
+    (args_of ns (slice_get g.kernels job.value.kernel) job.value.args.items job.value.cut job.value.defer job.value.waive.items job.value.after.items
+    both.1) (params_checked g.kernels job.value.kernel checked) now at w))
 widths_at g checked ns rest inside s x fits none = tt
 
 pub written_parameters_have_widths : WrittenParametersHaveWidths

@@ -1,5 +1,9 @@
 //! A script's tree: each name is its place among the names, each kernel its place among the kernels.
 
+ghost use Rattle.std.specs.Prelude.{◌≡◌};
+ghost use Rattle.frame_ast.specs.Accepted.{is_when};
+ghost use Rattle.frame_ast.specs.Orders.{compares};
+
 use crate::kernel::Kernel;
 
 /// How long a container may live.
@@ -22,6 +26,22 @@ pub enum Sign {
     Le,
     Gt,
     Ge,
+}
+
+impl Sign {
+    /// Whether the comparison holds of a number, on the left, with a bound.
+    pub fn holds(self, number: i64, bound: i64) -> bool
+        ensures { result ≡ compares self number bound }
+    {
+        match self {
+            Sign::Eq => number == bound,
+            Sign::Ne => number != bound,
+            Sign::Lt => number < bound,
+            Sign::Le => number <= bound,
+            Sign::Gt => number > bound,
+            Sign::Ge => number >= bound,
+        }
+    }
 }
 
 /// An argument of a schedule.
@@ -191,6 +211,15 @@ pub enum Order {
         value: i64,
         count: u32,
     },
+}
+
+impl Order {
+    /// Whether it is a `when`.
+    pub fn is_when(&self) -> bool
+        ensures { result ≡ is_when self.now }
+    {
+        matches!(self, Order::When { .. })
+    }
 }
 
 /// A statement of a script.

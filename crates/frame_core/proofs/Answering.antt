@@ -19,6 +19,7 @@ pub op_cells_is : (plan : Plan) (op : Op) (old new : Cells) → new ≡ cells_or
 unfolding op_cells
 op_cells_is plan op old new e = e
 
-pub op_answer_is : (plan : Plan) (op : Op) (old : Cells) (result : Option Refusal) → result ≡ act_answer op.act (act_cells plan op.act old) → result ≡ op_answer plan op old
+pub op_answer_is : (plan : Plan) (op : Op) (old : Cells) (result : Option Refusal) → result ≡ act_answer op.act (act_cells plan op.act old)
+    → result ≡ op_answer plan op old
 unfolding op_answer
 op_answer_is plan op old result e = e

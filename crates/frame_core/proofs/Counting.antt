@@ -16,7 +16,8 @@ module _ (b c : ℕ) where
   within q = leb b q && ltb q (b + c)
 
   outside : (q : ℕ) → (q < b) ⊎ (b + c ≤ q) → within q ≡ false
-  outside q out = ⊎_elim (λ t. let p = and_parts (leb b q) (ltb q (b + c)) t in let lo = leb-true b q p.0 in let hi = ltb-true q (b + c) p.1 in ⊎_elim (λ l. absurd (omega arith)) (λ r. absurd (omega arith)) out) (λ f. f) (either_bool (within q))
+  outside q out = ⊎_elim (λ t. let p = and_parts (leb b q) (ltb q (b + c)) t in let lo = leb-true b q p.0 in let hi = ltb-true q (b + c) p.1 in
+      ⊎_elim (λ l. absurd (omega arith)) (λ r. absurd (omega arith)) out) (λ f. f) (either_bool (within q))
 
   pub inside : (q : ℕ) → b ≤ q → q < b + c → within q ≡ true
   inside q lo hi = and_from (leb b q) (ltb q (b + c)) (le-leb b q lo) (lt-ltb q (b + c) hi)
@@ -28,18 +29,21 @@ module _ (b c : ℕ) where
   some_of : (d : ℕ) → d ≤ c → tally within (b + d) ≡ d
   some_of zero le = let e : b + 0 ≡ b = omega arith in ap (tally within) e ∙ none_yet b (omega arith)
   some_of (suc d) le = let e : b + suc d ≡ suc (b + d) = omega arith in
-      ap (tally within) e ∙ (cond-true (within (b + d)) (suc (tally within (b + d))) (tally within (b + d)) (inside (b + d) (omega arith) (omega arith)) ∙ ap suc (some_of d (omega arith)))
+      ap (tally within) e ∙ (cond-true (within (b + d)) (suc (tally within (b + d))) (tally within (b + d)) (inside (b + d) (omega arith) (omega arith))
+      ∙ ap suc (some_of d (omega arith)))
 
   pub all_of : (e : ℕ) → tally within (b + c + e) ≡ c
   all_of zero = let z : b + c + 0 ≡ b + c = omega arith in ap (tally within) z ∙ some_of c (omega arith)
   all_of (suc e) = let z : b + c + suc e ≡ suc (b + c + e) = omega arith in
-      ap (tally within) z ∙ (cond-false (within (b + c + e)) (suc (tally within (b + c + e))) (tally within (b + c + e)) (outside (b + c + e) (inr (omega arith))) ∙ all_of e)
+      ap (tally within) z ∙ (cond-false (within (b + c + e)) (suc (tally within (b + c + e))) (tally within (b + c + e))
+      (outside (b + c + e) (inr (omega arith))) ∙ all_of e)
 
 -- HOW MANY DEPENDENCIES A JOB HAS
 
 no_job_above : (ids : List JobId) (n m : ℕ) → IsAbove n ids → m ≤ n → has_job ids m ≡ false
 no_job_above [] n m up le = refl
-no_job_above (id ∷ more) n m up le = ap (λ (b : Bool). b || has_job more m) (ne_eqb id.0 m (λ e. let lt = up.0 in omega arith)) ∙ no_job_above more id.0 m up.1 (let lt = up.0 in omega arith)
+no_job_above (id ∷ more) n m up le = ap (λ (b : Bool). b || has_job more m) (ne_eqb id.0 m (λ e. let lt = up.0 in omega arith))
+    ∙ no_job_above more id.0 m up.1 (let lt = up.0 in omega arith)
 
 tally_nothing : (n : ℕ) → tally (λ i. false) n ≡ 0
 tally_nothing zero = refl

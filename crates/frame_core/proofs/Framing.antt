@@ -47,7 +47,8 @@ noted_keep own (t ∷ more) a w out =
 
 noted_same : (own : ℕ) (ts : List (ℕ × Trap)) (a b : Cells) (w : ℕ) → b w ≡ a w → noted own ts b w ≡ noted own ts a w
 noted_same own [] a b w e = e
-noted_same own (t ∷ more) a b w e = λ i. cond (eqb w (own + 2)) (pos (trap_number t.1)) (cond (eqb w (own + 1)) (pos t.0) (cond (eqb w own) (pos (length more + 1)) (e i)))
+noted_same own (t ∷ more) a b w e = λ i. cond (eqb w (own + 2)) (pos (trap_number t.1))
+    (cond (eqb w (own + 1)) (pos t.0) (cond (eqb w own) (pos (length more + 1)) (e i)))
 
 with_notes_frames : (own : ℕ) (ts : List Touch) (run : Cells → Ran Cells)
     → ((a : Cells) (w : ℕ) → writes_in ts w ≡ false → (run a).store w ≡ a w)
@@ -72,8 +73,10 @@ bound_frames own i x k checked fit =
     let from = (indexes_of x i).start in
     let n = (indexes_of x i).len in
     with_notes_frames own (binds_touch x.parallel k.params.items x.binds.items from (from + n)) (part_ran x i (Some k))
-    (λ a w out. only_written_words_change.at_many k x.binds.items full_steps n from a w checked fit (λ u. not_both (written_touched x.parallel from (from + n) k.params.items x.binds.items w u) out))
-    (λ a b agree. read_words_decide.at_many k x.binds.items full_steps n from a b checked fit (λ w u. agree w (read_touched x.parallel from (from + n) k.params.items x.binds.items w u)))
+    (λ a w out. only_written_words_change.at_many k x.binds.items full_steps n from a w checked fit
+    (λ u. not_both (written_touched x.parallel from (from + n) k.params.items x.binds.items w u) out))
+    (λ a b agree. read_words_decide.at_many k x.binds.items full_steps n from a b checked fit
+    (λ w u. agree w (read_touched x.parallel from (from + n) k.params.items x.binds.items w u)))
 
 -- one job that fits its kernel
 pub parts_keep_to_touches : PartsKeepToTouches
@@ -90,14 +93,17 @@ parts_keep_to_touches plan j i x k h e checked fits =
 module _ (plan : Plan) (jobs : AreJobsFitting plan) where
   -- without a kernel nothing runs
   by_kernel : (j i : ℕ) (x : JobPlan) → job_at plan j ≡ Some x → (k : Option Kernel) → kernel_of plan x ≡ k
-      → Frames (own_touch (own_word plan j i) ∷ binds_touch x.parallel (params_in k) x.binds.items (indexes_of x i).start ((indexes_of x i).start + (indexes_of x i).len))
+      → Frames (own_touch (own_word plan j i) ∷ binds_touch x.parallel (params_in k) x.binds.items (indexes_of x i).start
+      ((indexes_of x i).start + (indexes_of x i).len))
       (λ cells. with_notes (own_word plan j i) (part_ran x i k cells))
   by_kernel j i x h None e =
-      with_notes_frames (own_word plan j i) (binds_touch x.parallel [] x.binds.items (indexes_of x i).start ((indexes_of x i).start + (indexes_of x i).len)) (part_ran x i None)
+      with_notes_frames (own_word plan j i) (binds_touch x.parallel [] x.binds.items (indexes_of x i).start ((indexes_of x i).start + (indexes_of x i).len))
+      (part_ran x i None)
       (λ a w out. refl) (λ a b agree. (refl, λ w e. e))
   by_kernel j i x h (Some k) e = bound_frames (own_word plan j i) i x k (jobs.checked x.kernel k e) (jobs.fits j x k h e).binds
 
-  job_frames : (j i : ℕ) (o : Option JobPlan) → job_at plan j ≡ o → Frames (part_touches plan j i o) (λ cells. with_notes (own_word plan j i) (job_ran plan i o cells))
+  job_frames : (j i : ℕ) (o : Option JobPlan) → job_at plan j ≡ o → Frames (part_touches plan j i o)
+      (λ cells. with_notes (own_word plan j i) (job_ran plan i o cells))
   job_frames j i None e = record { kept = λ a w out. refl; same = λ a b agree w e. e }
   job_frames j i (Some x) e = by_kernel j i x e (kernel_of plan x) refl
 
@@ -118,8 +124,10 @@ module _ (plan : Plan) (small : plan.cells < 2 ^ 32) (ops : AreOpsFitting plan) 
       let last : List Touch = cond (is_last plan k) (all_own_words plan ∷ []) [] in
       let fit = fit_in k (segment_at plan k) refl in
       record {
-        kept = λ a w out. ops_keep plan small os a w fit (or_false_left (writes_in (ops_touch os) w) (writes_in last w) (sym (writes_append (ops_touch os) last w) ∙ out));
-        same = λ a b agree. ops_same plan small os a b fit (λ w r. agree w (reads_append (ops_touch os) last w ∙ or_left (reads_in (ops_touch os) w) (reads_in last w) r));
+        kept = λ a w out. ops_keep plan small os a w fit (or_false_left (writes_in (ops_touch os) w) (writes_in last w)
+            (sym (writes_append (ops_touch os) last w) ∙ out));
+        same = λ a b agree. ops_same plan small os a b fit (λ w r. agree w
+            (reads_append (ops_touch os) last w ∙ or_left (reads_in (ops_touch os) w) (reads_in last w) r));
       }
 
 -- each piece keeps to its footprint, from whatever cells

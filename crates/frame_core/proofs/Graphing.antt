@@ -30,7 +30,8 @@ part_is (Some (OfScript k)) j t = absurd (not_both t refl)
 part_is (Some (OfJob d i)) j t = (i, ap (λ k. Some (OfJob k i)) (eqb-true d j t))
 
 -- the two pieces of which one precedes the other
-both_are : (plan : Plan) (o u : Option Piece) → precedes_at plan o u ≡ true → (x : Piece) × (y : Piece) × (o ≡ Some x) × (u ≡ Some y) × (is_predecessor plan x y ≡ true)
+both_are : (plan : Plan) (o u : Option Piece) → precedes_at plan o u ≡ true
+    → (x : Piece) × (y : Piece) × (o ≡ Some x) × (u ≡ Some y) × (is_predecessor plan x y ≡ true)
 both_are plan None None t = absurd (not_both t refl)
 both_are plan None (Some y) t = absurd (not_both t refl)
 both_are plan (Some x) None t = absurd (not_both t refl)
@@ -82,7 +83,8 @@ module _ (plan : Plan) (order : AreInOrder plan) (has_pieces : (j : ℕ) (x : Jo
       let p = place_of plan (OfJob j 0) in
       (p, place_below plan order.starts (OfJob j 0) piece, has_part p j 0 (at_place plan order.starts (OfJob j 0) piece))
 
-  predecessor_is : (q p : ℕ) (x y : Piece) → piece_at plan q ≡ Some x → piece_at plan p ≡ Some y → is_predecessor plan x y ≡ true → IsPredecessor (jobs_of plan) q p
+  predecessor_is : (q p : ℕ) (x y : Piece) → piece_at plan q ≡ Some x → piece_at plan p ≡ Some y → is_predecessor plan x y ≡ true
+      → IsPredecessor (jobs_of plan) q p
   unfolding jobs_of
   predecessor_is q p (OfScript l) (OfScript k) a b t =
       let next : suc l ≡ k = eqb-true (suc l) k t in
@@ -99,7 +101,8 @@ module _ (plan : Plan) (order : AreInOrder plan) (has_pieces : (j : ℕ) (x : Jo
       (and_from (ltb d jobs) (has_job (deps_in (job_at plan j)) (suc d)) (lt-ltb d jobs (part_below q d h a)) t)
       (get_below (script_order plan) q (OfJob d h) a) (has_part q d h a)
 
-  each_is : (p : ℕ) (x : Piece) → piece_at plan p ≡ Some x → ((k : ℕ) × (k < segments) × (p ≡ segment_place plan.jobs.items plan.segments.items k)) ⊎ ((j : ℕ) × (j < jobs) × (is_part_of (piece_at plan p) j ≡ true))
+  each_is : (p : ℕ) (x : Piece) → piece_at plan p ≡ Some x → ((k : ℕ) × (k < segments) × (p ≡ segment_place plan.jobs.items plan.segments.items k))
+      ⊎ ((j : ℕ) × (j < jobs) × (is_part_of (piece_at plan p) j ≡ true))
   each_is p (OfScript k) e = let s = segment_is p k e in inl (k, s.0, s.1)
   each_is p (OfJob j i) e = inr (j, part_below p j i e, has_part p j i e)
 
@@ -115,7 +118,8 @@ module _ (plan : Plan) (order : AreInOrder plan) (has_pieces : (j : ℕ) (x : Jo
   }
 
   -- a piece of each of the four kinds precedes
-  precedes_there : (q p : ℕ) (x y : Piece) → piece_at plan q ≡ Some x → piece_at plan p ≡ Some y → is_predecessor plan x y ≡ true → precedes_at plan (piece_at plan q) (piece_at plan p) ≡ true
+  precedes_there : (q p : ℕ) (x y : Piece) → piece_at plan q ≡ Some x → piece_at plan p ≡ Some y → is_predecessor plan x y ≡ true
+      → precedes_at plan (piece_at plan q) (piece_at plan p) ≡ true
   precedes_there q p x y a b t = ap (λ o. precedes_at plan o (piece_at plan p)) a ∙ (ap (precedes_at plan (Some x)) b ∙ t)
 
   pub precedes_it : (q p : ℕ) → IsPredecessor (jobs_of plan) q p → (graph_of plan).precedes q p ≡ true
@@ -123,13 +127,15 @@ module _ (plan : Plan) (order : AreInOrder plan) (has_pieces : (j : ℕ) (x : Jo
   precedes_it q p (starts j lt of at) =
       let y = part_is (piece_at plan p) j of in
       let s = starter_of plan j in
-      precedes_there q p (OfScript s) (OfJob j y.0) (ap (piece_at plan) at ∙ segment_there s (starter_below plan order.starts j lt)) y.1 (starter_starts plan order.starts j lt)
+      precedes_there q p (OfScript s) (OfJob j y.0) (ap (piece_at plan) at ∙ segment_there s (starter_below plan order.starts j lt)) y.1
+      (starter_starts plan order.starts j lt)
   precedes_it q p (feeds d j ld lt of dep low part) =
       let x = part_is (piece_at plan q) d part in
       let y = part_is (piece_at plan p) j of in
       precedes_there q p (OfJob d x.0) (OfJob j y.0) x.1 y.1 (and_parts (ltb d jobs) (has_job (deps_in (job_at plan j)) (suc d)) dep).1
   precedes_it q p (comes_before k lt at before) =
-      precedes_there q p (OfScript k) (OfScript (suc k)) (ap (piece_at plan) before ∙ segment_there k (omega arith)) (ap (piece_at plan) at ∙ segment_there (suc k) lt) (eq-eqb (suc k) (suc k) refl)
+      precedes_there q p (OfScript k) (OfScript (suc k)) (ap (piece_at plan) before ∙ segment_there k (omega arith))
+      (ap (piece_at plan) at ∙ segment_there (suc k) lt) (eq-eqb (suc k) (suc k) refl)
   precedes_it q p (is_awaited d k ld lt at waits low part) =
       let x = part_is (piece_at plan q) d part in
       precedes_there q p (OfJob d x.0) (OfScript k) x.1 (ap (piece_at plan) at ∙ segment_there k lt) waits

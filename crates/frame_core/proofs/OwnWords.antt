@@ -37,7 +37,8 @@ told own [] c e = e
 told own (t ∷ more) c e =
     let one : Cells = with_cell c own (pos (length more + 1)) in
     let two : Cells = with_cell one (own + 1) (pos t.0) in (
-      with_cell-other two (own + 2) (pos (trap_number t.1)) own (omega arith) ∙ (with_cell-other one (own + 1) (pos t.0) own (omega arith) ∙ with_cell-same c own (pos (length more + 1))),
+      with_cell-other two (own + 2) (pos (trap_number t.1)) own (omega arith)
+          ∙ (with_cell-other one (own + 1) (pos t.0) own (omega arith) ∙ with_cell-same c own (pos (length more + 1))),
       with_cell-other two (own + 2) (pos (trap_number t.1)) (own + 1) (omega arith) ∙ with_cell-same one (own + 1) (pos t.0),
       with_cell-same two (own + 2) (pos (trap_number t.1)),
     )
@@ -77,12 +78,15 @@ within : (b : Bool) (n step i m : ℕ) → n ≤ m
     → let span = cond b (piece_of n step i) (record { start = 0; len = n }) in ((span.start + span.len ≤ m) ⊎ (span.len ≡ 0)) × (span.len ≤ m)
 within true n step i m le =
     let a = i * step in
-    let b = (i + 1) * step in
-    (elim (cases_lt n a) [ inl lt ↦ inr (omega arith) | inr ge ↦ (let up = mul-le-mul_right {m = i} {n = i + 1} step (omega arith) in inl (omega arith)) ], omega arith)
+    let b = (i + 1) * step in (
+      elim (cases_lt n a) [ inl lt ↦ inr (omega arith) | inr ge ↦ (let up = mul-le-mul_right {m = i} {n = i + 1} step (omega arith) in inl (omega arith)) ],
+      omega arith,
+    )
 within false n step i m le = (inl (omega arith), omega arith)
 
 module _ (plan : Plan) (well : IsWellOrderedPlan plan) where
-  few_traps : (j i : ℕ) (x : JobPlan) (o : Option Kernel) (c : Cells) → job_at plan j ≡ Some x → kernel_of plan x ≡ o → (length (part_ran x i o c).traps ≤ MOST_INDEXES) × AreIndexesBelow MOST_INDEXES (part_ran x i o c).traps
+  few_traps : (j i : ℕ) (x : JobPlan) (o : Option Kernel) (c : Cells) → job_at plan j ≡ Some x → kernel_of plan x ≡ o
+      → (length (part_ran x i o c).traps ≤ MOST_INDEXES) × AreIndexesBelow MOST_INDEXES (part_ran x i o c).traps
   few_traps j i x None c hx hk = (omega arith, tt)
   few_traps j i x (Some k) c hx hk =
       let n = (well.jobs.fits j x k hx hk).cut.indexes in
@@ -98,12 +102,14 @@ module _ (plan : Plan) (well : IsWellOrderedPlan plan) where
             w.0,
       )
 
-  few_run : (j i : ℕ) (o : Option JobPlan) (c : Cells) → job_at plan j ≡ o → (length (job_ran plan i o c).traps ≤ MOST_INDEXES) × AreIndexesBelow MOST_INDEXES (job_ran plan i o c).traps
+  few_run : (j i : ℕ) (o : Option JobPlan) (c : Cells) → job_at plan j ≡ o
+      → (length (job_ran plan i o c).traps ≤ MOST_INDEXES) × AreIndexesBelow MOST_INDEXES (job_ran plan i o c).traps
   few_run j i None c e = (omega arith, tt)
   few_run j i (Some x) c e = few_traps j i x (kernel_of plan x) c e refl
 
   -- a job's indexes leave what isn't a container's
-  part_keeps : (j i : ℕ) (x : JobPlan) (o : Option Kernel) (c : Cells) (w : ℕ) → job_at plan j ≡ Some x → kernel_of plan x ≡ o → plan.cells ≤ w → (part_ran x i o c).store w ≡ c w
+  part_keeps : (j i : ℕ) (x : JobPlan) (o : Option Kernel) (c : Cells) (w : ℕ) → job_at plan j ≡ Some x → kernel_of plan x ≡ o → plan.cells ≤ w
+      → (part_ran x i o c).store w ≡ c w
   part_keeps j i x None c w hx hk le = refl
   part_keeps j i x (Some k) c w hx hk le =
       let fits = well.jobs.fits j x k hx hk in
@@ -112,7 +118,8 @@ module _ (plan : Plan) (well : IsWellOrderedPlan plan) where
       only_written_words_change.at_many k x.binds.items full_steps n from c w (well.jobs.checked x.kernel k hk) fits.binds
       (λ u.
       let ts = Rattle.frame_core.specs.Touches.binds_touch x.parallel k.params.items x.binds.items from (from + n) in
-      let lt = read_below plan.cells ts w (binds_below plan.cells x.parallel k.params.items x.binds.items from (from + n) fits.within) (writes_read ts w (written_touched x.parallel from (from + n) k.params.items x.binds.items w u)) in
+      let lt = read_below plan.cells ts w (binds_below plan.cells x.parallel k.params.items x.binds.items from (from + n) fits.within)
+      (writes_read ts w (written_touched x.parallel from (from + n) k.params.items x.binds.items w u)) in
       omega arith)
 
   run_keeps : (j i : ℕ) (o : Option JobPlan) (c : Cells) (w : ℕ) → job_at plan j ≡ o → plan.cells ≤ w → (job_ran plan i o c).store w ≡ c w
@@ -138,7 +145,8 @@ module _ (plan : Plan) (well : IsWellOrderedPlan plan) where
         let same : number_of plan (OfJob d h) ≡ number_of plan (OfJob j i) = omega arith in
         sym ((pieces_are_named plan well).number (OfJob d h) p).1 ∙ (ap (piece_numbered plan) same ∙ ((pieces_are_named plan well).number (OfJob j i) is).1)
 
-    piece_misses : (x : Piece) (w : ℕ) → IsPieceOf plan x → (x ≡ OfJob j i → ⊥) → own ≤ w → w < own + 3 → (b : Bool) → writes_in (touches plan x) w ≡ b → b ≡ false
+    piece_misses : (x : Piece) (w : ℕ) → IsPieceOf plan x → (x ≡ OfJob j i → ⊥) → own ≤ w → w < own + 3 → (b : Bool) → writes_in (touches plan x) w ≡ b
+        → b ≡ false
     piece_misses x w h ne lo hi false e = refl
     piece_misses x w h ne lo hi true e = ⊎_elim
         (λ l. absurd (omega arith))
@@ -165,7 +173,8 @@ module _ (plan : Plan) (well : IsWellOrderedPlan plan) where
     after (suc d) w le lo hi =
         let e : suc (q + suc d) ≡ suc (suc (q + d)) = omega arith in
         ap (λ n. cells_before g n w) e
-        ∙ ((graph_ordered plan well).writes_only (suc (q + d)) w (omega arith) (misses (suc (q + d)) w (λ e. omega arith) lo hi) ∙ after d w (omega arith) lo hi)
+        ∙ ((graph_ordered plan well).writes_only (suc (q + d)) w (omega arith) (misses (suc (q + d)) w (λ e. omega arith) lo hi)
+        ∙ after d w (omega arith) lo hi)
 
     stands : slice_get (script_order plan) q ≡ Some (OfJob j i)
     stands = (pieces_are_named plan well).place (OfJob j i) is

@@ -54,14 +54,22 @@ module _ (plan : Plan) (well : IsWellOrderedPlan plan) (j i : ℕ) (x : JobPlan)
   pub few : (span : Span) → span.start + span.len ≤ x.cut.n → span.start + span.len < 2 ^ 32
   few span le = let n = (well.jobs.fits j x k hx hk).cut.indexes in omega arith
 
-  pub may_read : (readable : ℕ → Bool) → MayReadIn (touches plan (OfJob j i)) readable → (w : ℕ) → IsRead k.params.items x.binds.items from to w → IsTrue (readable w)
-  may_read readable may w h = may w (ap (λ (ts : List Touch). reads_in ts w) touches_are ∙ or_right (has_word own w) (reads_in (binds_touch x.parallel k.params.items x.binds.items from to) w) (read_touched x.parallel from to k.params.items x.binds.items w h))
+  pub may_read : (readable : ℕ → Bool) → MayReadIn (touches plan (OfJob j i)) readable → (w : ℕ) → IsRead k.params.items x.binds.items from to w
+      → IsTrue (readable w)
+  may_read readable may w h = may w (ap (λ (ts : List Touch). reads_in ts w) touches_are
+      ∙ or_right (has_word own w) (reads_in (binds_touch x.parallel k.params.items x.binds.items from to) w)
+      (read_touched x.parallel from to k.params.items x.binds.items w h))
 
-  pub may_write : (writable : ℕ → Bool) → MayWriteIn (touches plan (OfJob j i)) writable → (w : ℕ) → IsWritten k.params.items x.binds.items from to w → IsTrue (writable w)
-  may_write writable may w h = may w (ap (λ (ts : List Touch). writes_in ts w) touches_are ∙ or_right (has_word own w) (writes_in (binds_touch x.parallel k.params.items x.binds.items from to) w) (written_touched x.parallel from to k.params.items x.binds.items w h))
+  pub may_write : (writable : ℕ → Bool) → MayWriteIn (touches plan (OfJob j i)) writable → (w : ℕ) → IsWritten k.params.items x.binds.items from to w
+      → IsTrue (writable w)
+  may_write writable may w h = may w (ap (λ (ts : List Touch). writes_in ts w) touches_are
+      ∙ or_right (has_word own w) (writes_in (binds_touch x.parallel k.params.items x.binds.items from to) w)
+      (written_touched x.parallel from to k.params.items x.binds.items w h))
 
-  pub may_note : (writable : ℕ → Bool) → MayWriteIn (touches plan (OfJob j i)) writable → (w : ℕ) → own_word plan j i ≤ w → w < own_word plan j i + 3 → IsTrue (writable w)
-  may_note writable may w lo hi = may w (ap (λ (ts : List Touch). writes_in ts w) touches_are ∙ or_left (has_word own w) (writes_in (binds_touch x.parallel k.params.items x.binds.items from to) w) (has_it own w lo hi))
+  pub may_note : (writable : ℕ → Bool) → MayWriteIn (touches plan (OfJob j i)) writable → (w : ℕ) → own_word plan j i ≤ w → w < own_word plan j i + 3
+      → IsTrue (writable w)
+  may_note writable may w lo hi = may w (ap (λ (ts : List Touch). writes_in ts w) touches_are
+      ∙ or_left (has_word own w) (writes_in (binds_touch x.parallel k.params.items x.binds.items from to) w) (has_it own w lo hi))
 
   pub own_is : x.first.0 ≡ pieces_before plan.jobs.items j
   own_is = well.order.firsts j x hx
@@ -74,27 +82,35 @@ module _ (plan : Plan) (well : IsWellOrderedPlan plan) (j i : ℕ) (x : JobPlan)
       let words = well.sized.words_are in
       omega arith
 
-  pub cells_are : (c : Cells) → piece_cells plan (OfJob j i) c ≡ noted (own_word plan j i) (at_indexes k x.binds.items full_steps (indexes_of x i).len from c).traps (at_indexes k x.binds.items full_steps (indexes_of x i).len from c).store
+  pub cells_are : (c : Cells) → piece_cells plan (OfJob j i) c ≡ noted (own_word plan j i)
+      (at_indexes k x.binds.items full_steps (indexes_of x i).len from c).traps (at_indexes k x.binds.items full_steps (indexes_of x i).len from c).store
   unfolding piece_cells part_run
-  cells_are c = ap (λ (o : Option JobPlan). with_notes (own_word plan j i) (job_ran plan i o c)) hx ∙ ap (λ (o : Option Kernel). with_notes (own_word plan j i) (part_ran x i o c)) hk
+  cells_are c = ap (λ (o : Option JobPlan). with_notes (own_word plan j i) (job_ran plan i o c)) hx
+      ∙ ap (λ (o : Option Kernel). with_notes (own_word plan j i) (part_ran x i o c)) hk
 
   -- the same, of binds and a span that are those of the piece
   module _ (bs : List Bind) (span : Span) (eb : bs ≡ x.binds.items) (es : span ≡ indexes_of x i) where
     pub fit_as : BindsFit k bs
     fit_as = subst (λ (b : List Bind). BindsFit k b) (sym eb) fit
 
-    pub may_read_as : (readable : ℕ → Bool) → MayReadIn (touches plan (OfJob j i)) readable → (w : ℕ) → IsRead k.params.items bs span.start (span.start + span.len) w → IsTrue (readable w)
+    pub may_read_as : (readable : ℕ → Bool) → MayReadIn (touches plan (OfJob j i)) readable → (w : ℕ)
+        → IsRead k.params.items bs span.start (span.start + span.len) w → IsTrue (readable w)
     may_read_as readable may w h =
-        may_read readable may w (subst (λ (s : Span). IsRead k.params.items x.binds.items s.start (s.start + s.len) w) es (subst (λ (b : List Bind). IsRead k.params.items b span.start (span.start + span.len) w) eb h))
+        may_read readable may w (subst (λ (s : Span). IsRead k.params.items x.binds.items s.start (s.start + s.len) w) es
+        (subst (λ (b : List Bind). IsRead k.params.items b span.start (span.start + span.len) w) eb h))
 
-    pub may_write_as : (writable : ℕ → Bool) → MayWriteIn (touches plan (OfJob j i)) writable → (w : ℕ) → IsWritten k.params.items bs span.start (span.start + span.len) w → IsTrue (writable w)
+    pub may_write_as : (writable : ℕ → Bool) → MayWriteIn (touches plan (OfJob j i)) writable → (w : ℕ)
+        → IsWritten k.params.items bs span.start (span.start + span.len) w → IsTrue (writable w)
     may_write_as writable may w h =
-        may_write writable may w (subst (λ (s : Span). IsWritten k.params.items x.binds.items s.start (s.start + s.len) w) es (subst (λ (b : List Bind). IsWritten k.params.items b span.start (span.start + span.len) w) eb h))
+        may_write writable may w (subst (λ (s : Span). IsWritten k.params.items x.binds.items s.start (s.start + s.len) w) es
+        (subst (λ (b : List Bind). IsWritten k.params.items b span.start (span.start + span.len) w) eb h))
 
     ran_as : (old : Cells) → at_indexes k bs full_steps span.len span.start old ≡ at_indexes k x.binds.items full_steps (indexes_of x i).len from old
-    ran_as old = ap (λ (b : List Bind). at_indexes k b full_steps span.len span.start old) eb ∙ ap (λ (s : Span). at_indexes k x.binds.items full_steps s.len s.start old) es
+    ran_as old = ap (λ (b : List Bind). at_indexes k b full_steps span.len span.start old) eb
+        ∙ ap (λ (s : Span). at_indexes k x.binds.items full_steps s.len s.start old) es
 
-    pub cells_as : (old mid new : Cells) (notes : Notes) (at : ℕ) → at ≡ own_word plan j i → mid ≡ (at_indexes k bs full_steps span.len span.start old).store → IsNoteOf (at_indexes k bs full_steps span.len span.start old).traps notes
+    pub cells_as : (old mid new : Cells) (notes : Notes) (at : ℕ) → at ≡ own_word plan j i → mid ≡ (at_indexes k bs full_steps span.len span.start old).store
+        → IsNoteOf (at_indexes k bs full_steps span.len span.start old).traps notes
         → ((traps : List (ℕ × Trap)) → IsNoteOf traps notes → new ≡ noted at traps mid) → new ≡ piece_cells plan (OfJob j i) old
     cells_as old mid new notes at own_at m n e =
         let ran = at_indexes k bs full_steps span.len span.start old in
@@ -111,13 +127,15 @@ pub record HasJob (plan : Plan) (j i : ℕ) (x : JobPlan) : Type 0 where
   pub job : job_at plan j ≡ Some x
   pub below : i < pieces_of x
 
-pub job_of_piece : (plan : Plan) (j i : ℕ) (x : JobPlan) → IsPieceOf plan (OfJob j i) → x ≡ Rattle.std.proofs.Common.get_or plan.jobs.items j x → HasJob plan j i x
+pub job_of_piece : (plan : Plan) (j i : ℕ) (x : JobPlan) → IsPieceOf plan (OfJob j i) → x ≡ Rattle.std.proofs.Common.get_or plan.jobs.items j x
+    → HasJob plan j i x
 job_of_piece plan j i x p e =
     let lt = get_below plan.jobs.items j p.0 p.1 in
     let there : job_at plan j ≡ Some x = slice_get_read plan.jobs.items (length plan.jobs.items) j x refl lt e in
     record { job = there; below = subst (λ (y : JobPlan). i < pieces_of y) (some_is (sym p.1 ∙ there)) p.2 }
 
-pub kernel_there : (plan : Plan) (j : ℕ) (x : JobPlan) (k : Kernel) → IsWellOrderedPlan plan → job_at plan j ≡ Some x → k ≡ Rattle.std.proofs.Common.get_or plan.kernels.items x.kernel k → kernel_of plan x ≡ Some k
+pub kernel_there : (plan : Plan) (j : ℕ) (x : JobPlan) (k : Kernel) → IsWellOrderedPlan plan → job_at plan j ≡ Some x
+    → k ≡ Rattle.std.proofs.Common.get_or plan.kernels.items x.kernel k → kernel_of plan x ≡ Some k
 kernel_there plan j x k well hx e = slice_get_read plan.kernels.items (length plan.kernels.items) x.kernel k refl (well.jobs.has_kernel j x hx) e
 
 -- the piece that a number below that of all pieces of jobs names
@@ -126,7 +144,8 @@ pub record Finds (plan : Plan) (p j : ℕ) (x : JobPlan) : Type 0 where
   pub below : p - x.first.0 < pieces_of x
   pub is : piece_numbered plan p ≡ OfJob j (p - x.first.0)
 
-pub finds : (plan : Plan) (p j : ℕ) (x : JobPlan) → IsWellOrderedPlan plan → j < length plan.jobs.items → pieces_before plan.jobs.items j ≤ p → p < pieces_before plan.jobs.items (j + 1)
+pub finds : (plan : Plan) (p j : ℕ) (x : JobPlan) → IsWellOrderedPlan plan → j < length plan.jobs.items → pieces_before plan.jobs.items j ≤ p
+    → p < pieces_before plan.jobs.items (j + 1)
     → x ≡ Rattle.std.proofs.Common.get_or plan.jobs.items j x → Finds plan p j x
 finds plan p j x well lt lo hi e =
     let there : job_at plan j ≡ Some x = slice_get_read plan.jobs.items (length plan.jobs.items) j x refl lt e in

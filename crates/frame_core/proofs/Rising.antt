@@ -59,7 +59,9 @@ module _ {S : Type 0} (ex : ℕ → S → Outcome S) (j : ℕ) where
 
   in_span : (high n index : ℕ) (s : S) → index + n ≤ high → AllIn (InSpan j index high) (traps n index s)
   in_span high zero index s le = tt
-  in_span high (suc n) index s le = then (trap_after (ex index s)) (all_so (InSpan j (index + 1) high) (InSpan j index high) (traps n (index + 1) (store_after (ex index s))) (λ t h. let lo = h.1 in (h.0, omega arith, h.2)) (in_span high n (index + 1) (store_after (ex index s)) (omega arith)))
+  in_span high (suc n) index s le = then (trap_after (ex index s)) (all_so (InSpan j (index + 1) high) (InSpan j index high)
+      (traps n (index + 1) (store_after (ex index s))) (λ t h. let lo = h.1 in (h.0, omega arith, h.2))
+      (in_span high n (index + 1) (store_after (ex index s)) (omega arith)))
     where
       then : (o : Option Trap) → AllIn (InSpan j index high) (traps n (index + 1) (store_after (ex index s)))
           → AllIn (InSpan j index high) (map (job_trap j) (trap_at index o ++ (indexes ex n (index + 1) (store_after (ex index s))).traps))
@@ -68,9 +70,11 @@ module _ {S : Type 0} (ex : ℕ → S → Outcome S) (j : ℕ) where
 
   rising : (n index : ℕ) (s : S) → IsRising (traps n index s)
   rising zero index s = tt
-  rising (suc n) index s = then (trap_after (ex index s)) (in_span (index + 1 + n) n (index + 1) (store_after (ex index s)) (omega arith)) (rising n (index + 1) (store_after (ex index s)))
+  rising (suc n) index s = then (trap_after (ex index s)) (in_span (index + 1 + n) n (index + 1) (store_after (ex index s)) (omega arith))
+      (rising n (index + 1) (store_after (ex index s)))
     where
-      then : (o : Option Trap) → AllIn (InSpan j (index + 1) (index + 1 + n)) (traps n (index + 1) (store_after (ex index s))) → IsRising (traps n (index + 1) (store_after (ex index s)))
+      then : (o : Option Trap) → AllIn (InSpan j (index + 1) (index + 1 + n)) (traps n (index + 1) (store_after (ex index s)))
+          → IsRising (traps n (index + 1) (store_after (ex index s)))
           → IsRising (map (job_trap j) (trap_at index o ++ (indexes ex n (index + 1) (store_after (ex index s))).traps))
       then None h r = r
       then (Some t) h r = (
@@ -86,7 +90,8 @@ abbrev width : JobPlan → ℕ
 width x = cond x.parallel x.cut.step x.cut.n
 
 edges : (b : Bool) (n step i : ℕ) → i < cond b (count_of n step) 1
-    → let span = cond b (piece_of n step i) (record { start = 0; len = n }) in (i * cond b step n ≤ span.start) × (span.start + span.len ≤ suc i * cond b step n)
+    → let span = cond b (piece_of n step i) (record { start = 0; len = n }) in
+    (i * cond b step n ≤ span.start) × (span.start + span.len ≤ suc i * cond b step n)
 edges true n step i lt =
     let next : suc i * step ≡ i * step + step = grind arith in
     let up : (i + 1) * step ≡ i * step + step = grind arith in
@@ -102,10 +107,12 @@ module _ (plan : Plan) (j : ℕ) (x : JobPlan) (hx : job_at plan j ≡ Some x) w
   ran_rises i None c = tt
   ran_rises i (Some k) c = rising (λ index cells. at_index k x.binds.items full_steps index cells) j (indexes_of x i).len (indexes_of x i).start c
 
-  ran_within : (i : ℕ) (o : Option Kernel) (c : Cells) → AllIn (InSpan j (indexes_of x i).start ((indexes_of x i).start + (indexes_of x i).len)) (map (job_trap j) (part_ran x i o c).traps)
+  ran_within : (i : ℕ) (o : Option Kernel) (c : Cells) → AllIn (InSpan j (indexes_of x i).start ((indexes_of x i).start + (indexes_of x i).len))
+      (map (job_trap j) (part_ran x i o c).traps)
   ran_within i None c = tt
   ran_within i (Some k) c =
-      in_span (λ index cells. at_index k x.binds.items full_steps index cells) j ((indexes_of x i).start + (indexes_of x i).len) (indexes_of x i).len (indexes_of x i).start c (omega arith)
+      in_span (λ index cells. at_index k x.binds.items full_steps index cells) j ((indexes_of x i).start + (indexes_of x i).len) (indexes_of x i).len
+      (indexes_of x i).start c (omega arith)
 
   -- the traps of a piece, as the run of its job
   part_is : (i : ℕ) → part_traps plan j i ≡ map (job_trap j) (part_ran x i (kernel_of plan x) (before_piece plan (OfJob j i))).traps
@@ -122,8 +129,10 @@ module _ (plan : Plan) (j : ℕ) (x : JobPlan) (hx : job_at plan j ≡ Some x) w
       let hi = e.1 in
       let span = indexes_of x i in
       subst (AllIn (InSpan j (i * width x) (suc i * width x))) (sym (part_is i))
-      (all_so (InSpan j span.start (span.start + span.len)) (InSpan j (i * width x) (suc i * width x)) (map (job_trap j) (part_ran x i (kernel_of plan x) (before_piece plan (OfJob j i))).traps)
-      (λ t h. let a = h.1 in let b = h.2 in (h.0, omega (arith, a, lo), omega (arith, b, hi))) (ran_within i (kernel_of plan x) (before_piece plan (OfJob j i))))
+      (all_so (InSpan j span.start (span.start + span.len)) (InSpan j (i * width x) (suc i * width x))
+      (map (job_trap j) (part_ran x i (kernel_of plan x) (before_piece plan (OfJob j i))).traps)
+      (λ t h. let a = h.1 in let b = h.2 in (h.0, omega (arith, a, lo), omega (arith, b, hi)))
+      (ran_within i (kernel_of plan x) (before_piece plan (OfJob j i))))
 
   parts_rise : (i : ℕ) → i ≤ pieces_of x → IsRising (parts_traps plan j i) × AllIn (IsBelow j (i * width x)) (parts_traps plan j i)
   parts_rise zero le = (tt, tt)
@@ -149,7 +158,8 @@ module _ (plan : Plan) where
   jobs_rise (suc j) le =
       let x = has_plan plan j (omega arith) in
       let old = jobs_rise j (omega arith) in
-      let parts = subst (λ n. IsRising (parts_traps plan j n) × AllIn (IsBelow j (pieces_of x.0 * width x.0)) (parts_traps plan j n)) (ap pieces_in (sym x.1)) (parts_rise plan j x.0 x.1 (pieces_of x.0) (omega arith)) in
+      let parts = subst (λ n. IsRising (parts_traps plan j n) × AllIn (IsBelow j (pieces_of x.0 * width x.0)) (parts_traps plan j n)) (ap pieces_in (sym x.1))
+      (parts_rise plan j x.0 x.1 (pieces_of x.0) (omega arith)) in
       let all = parts_traps plan j (pieces_in (job_at plan j)) in (
         rising_append (IsUpTo j) (IsBelow j (pieces_of x.0 * width x.0)) (jobs_traps plan j) all
             (λ t u p q. let b = q.0 in inl (omega (arith, p, b))) old.0 old.1 parts.0 parts.1,

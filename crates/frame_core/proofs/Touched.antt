@@ -67,7 +67,8 @@ owned_by count (suc n) from to k lo hi =
     let below : k < count = omega arith in
     (below, (omega arith, omega arith))
 
-owned_is : (start size count width from to w : ℕ) → 0 < size → has_word (owned start size count width from to) w ≡ true → IsOwned start size count width from to w
+owned_is : (start size count width from to w : ℕ) → 0 < size → has_word (owned start size count width from to) w ≡ true
+    → IsOwned start size count width from to w
 owned_is start size count width from to w pos e =
     let b = it_has (owned start size count width from to) w e in
     let from_word = b.0 in
@@ -76,7 +77,8 @@ owned_is start size count width from to w pos e =
     let low = p.low in
     let high = p.high in
     let next : suc p.place * size ≡ p.place * size + size = grind arith in
-    let after : min count (from * width) ≤ p.place = (let lt : min count (from * width) < suc p.place = times_less size (min count (from * width)) (suc p.place) (omega arith) in omega arith) in
+    let after : min count (from * width) ≤ p.place = (let lt : min count (from * width) < suc p.place =
+    times_less size (min count (from * width)) (suc p.place) (omega arith) in omega arith) in
     let before : p.place < end_place count width to = times_less size p.place (end_place count width to) (omega arith) in
     let o = owned_by count width from to p.place after before in
     record { place = p.place; within = o.0; owned = o.1; low = omega arith; high = omega arith }
@@ -93,7 +95,9 @@ element_is start len width from to w e =
 used_is : (b : Bind) (from to w : ℕ) → reads_in (used true b from to) w ≡ true → Uses b from to w ⊎ IsLength b w
 used_is (Int z) from to w e = absurd (not_both e refl)
 used_is (Array at own) from to w e = inl (element_is at.start at.len own from to w (or_none _ e))
-used_is (View at own) from to w e = ⊎_elim (λ u. inl (element_is (at.start + 1) at.cap own from to w u)) (λ u. inr (let b = it_has (record { from = at.start; end = at.start + 1; written = false }) w (or_none _ u) in let lo = b.0 in let hi = b.1 in omega arith)) (or_cases _ _ e)
+used_is (View at own) from to w e = ⊎_elim (λ u. inl (element_is (at.start + 1) at.cap own from to w u))
+    (λ u. inr (let b = it_has (record { from = at.start; end = at.start + 1; written = false }) w (or_none _ u) in let lo = b.0 in let hi = b.1 in omega arith))
+    (or_cases _ _ e)
 used_is (WholeList at) from to w e = let b = it_has (whole (WholeList at) true) w (or_none _ e) in inl (record { from = b.0; below = b.1 })
 used_is (Ref at) from to w e = let b = it_has (whole (Ref at) true) w (or_none _ e) in inl (record { from = b.0; below = b.1 })
 used_is (Map at) from to w e = let b = it_has (whole (Map at) true) w (or_none _ e) in inl (record { from = b.0; below = b.1 })
@@ -132,7 +136,14 @@ all_reads [] bs from to w e = absurd (not_both e refl)
 all_reads (p ∷ ps) [] from to w e = absurd (not_both e refl)
 all_reads (p ∷ ps) (b ∷ bs) from to w e = ⊎_elim
     (λ u. record { number = 0; param = p; bind = b; has_param = refl; has_bind = refl; reads = through_reads p b from to w u })
-    (λ u. let r = all_reads ps bs from to w u in record { number = suc r.number; param = r.param; bind = r.bind; has_param = r.has_param; has_bind = r.has_bind; reads = r.reads })
+    (λ u. let r = all_reads ps bs from to w u in record {
+      number = suc r.number;
+      param = r.param;
+      bind = r.bind;
+      has_param = r.has_param;
+      has_bind = r.has_bind;
+      reads = r.reads;
+    })
     (or_cases _ _ (sym (reads_append (through true p b from to) (binds_touch true ps bs from to) w) ∙ e))
 
 all_writes : (ps : List Param) (bs : List Bind) (from to w : ℕ) → writes_in (binds_touch true ps bs from to) w ≡ true → IsWritten ps bs from to w
@@ -140,7 +151,14 @@ all_writes [] bs from to w e = absurd (not_both e refl)
 all_writes (p ∷ ps) [] from to w e = absurd (not_both e refl)
 all_writes (p ∷ ps) (b ∷ bs) from to w e = ⊎_elim
     (λ u. record { number = 0; param = p; bind = b; has_param = refl; has_bind = refl; writes = through_writes p b from to w u })
-    (λ u. let r = all_writes ps bs from to w u in record { number = suc r.number; param = r.param; bind = r.bind; has_param = r.has_param; has_bind = r.has_bind; writes = r.writes })
+    (λ u. let r = all_writes ps bs from to w u in record {
+      number = suc r.number;
+      param = r.param;
+      bind = r.bind;
+      has_param = r.has_param;
+      has_bind = r.has_bind;
+      writes = r.writes;
+    })
     (or_cases _ _ (sym (writes_append (through true p b from to) (binds_touch true ps bs from to) w) ∙ e))
 
 -- in any job: words of the bind
@@ -150,10 +168,13 @@ element_word start len width from to w e = let u = element_is start len width fr
 
 used_word : (parallel : Bool) (b : Bind) (from to w : ℕ) → reads_in (used parallel b from to) w ≡ true → IsWordOf b w
 used_word parallel (Int z) from to w e = absurd (not_both e refl)
-used_word parallel (Array at own) from to w e = let u = element_word at.start at.len (width_in parallel own) from to w (or_none _ e) in record { from = u.0; below = u.1 }
+used_word parallel (Array at own) from to w e = let u = element_word at.start at.len (width_in parallel own) from to w (or_none _ e) in
+    record { from = u.0; below = u.1 }
 used_word parallel (View at own) from to w e = ⊎_elim
-    (λ u. let v = element_word (at.start + 1) at.cap (width_in parallel own) from to w u in let lo = v.0 in let hi = v.1 in record { from = omega arith; below = omega arith })
-    (λ u. let v = it_has (record { from = at.start; end = at.start + 1; written = false }) w (or_none _ u) in let lo = v.0 in let hi = v.1 in record { from = omega arith; below = omega arith })
+    (λ u. let v = element_word (at.start + 1) at.cap (width_in parallel own) from to w u in let lo = v.0 in let hi = v.1 in
+    record { from = omega arith; below = omega arith })
+    (λ u. let v = it_has (record { from = at.start; end = at.start + 1; written = false }) w (or_none _ u) in let lo = v.0 in let hi = v.1 in
+    record { from = omega arith; below = omega arith })
     (or_cases _ _ e)
 used_word parallel (WholeList at) from to w e = let b = it_has (whole (WholeList at) true) w (or_none _ e) in record { from = b.0; below = b.1 }
 used_word parallel (Ref at) from to w e = let b = it_has (whole (Ref at) true) w (or_none _ e) in record { from = b.0; below = b.1 }
@@ -174,7 +195,14 @@ bound_by parallel [] bs from to w e = absurd (not_both e refl)
 bound_by parallel (p ∷ ps) [] from to w e = absurd (not_both e refl)
 bound_by parallel (p ∷ ps) (b ∷ bs) from to w e = ⊎_elim
     (λ u. record { number = 0; param = p; bind = b; has_param = refl; has_bind = refl; word = here (is_read p.access) u })
-    (λ u. let r = bound_by parallel ps bs from to w u in record { number = suc r.number; param = r.param; bind = r.bind; has_param = r.has_param; has_bind = r.has_bind; word = r.word })
+    (λ u. let r = bound_by parallel ps bs from to w u in record {
+      number = suc r.number;
+      param = r.param;
+      bind = r.bind;
+      has_param = r.has_param;
+      has_bind = r.has_bind;
+      word = r.word;
+    })
     (or_cases _ _ (sym (reads_append (through parallel p b from to) (binds_touch parallel ps bs from to) w) ∙ e))
   where
     here : (r : Bool) → reads_in (if r then whole b false ∷ [] else used parallel b from to) w ≡ true → IsWordOf b w
@@ -186,15 +214,31 @@ writes_if Read e = sym e
 writes_if Write e = refl
 writes_if Both e = refl
 
-bound_written : (parallel : Bool) (ps : List Param) (bs : List Bind) (from to w : ℕ) → writes_in (binds_touch parallel ps bs from to) w ≡ true → IsBoundToWrite ps bs w
+bound_written : (parallel : Bool) (ps : List Param) (bs : List Bind) (from to w : ℕ) → writes_in (binds_touch parallel ps bs from to) w ≡ true
+    → IsBoundToWrite ps bs w
 bound_written parallel [] bs from to w e = absurd (not_both e refl)
 bound_written parallel (p ∷ ps) [] from to w e = absurd (not_both e refl)
 bound_written parallel (p ∷ ps) (b ∷ bs) from to w e = ⊎_elim
-    (λ u. let h = here (is_read p.access) refl u in record { bound = record { number = 0; param = p; bind = b; has_param = refl; has_bind = refl; word = h.0 }; writes = writes_if p.access h.1 })
-    (λ u. let r = bound_written parallel ps bs from to w u in record { bound = record { number = suc r.bound.number; param = r.bound.param; bind = r.bound.bind; has_param = r.bound.has_param; has_bind = r.bound.has_bind; word = r.bound.word }; writes = r.writes })
+    (λ u. let h = here (is_read p.access) refl u in record {
+      bound = record { number = 0; param = p; bind = b; has_param = refl; has_bind = refl; word = h.0 };
+      writes = writes_if p.access h.1;
+    })
+    (λ u. let r = bound_written parallel ps bs from to w u in record {
+      bound =
+          record {
+            number = suc r.bound.number;
+            param = r.bound.param;
+            bind = r.bound.bind;
+            has_param = r.bound.has_param;
+            has_bind = r.bound.has_bind;
+            word = r.bound.word;
+          };
+      writes = r.writes;
+    })
     (or_cases _ _ (sym (writes_append (through parallel p b from to) (binds_touch parallel ps bs from to) w) ∙ e))
   where
-    here : (r : Bool) → is_read p.access ≡ r → writes_in (if r then whole b false ∷ [] else used parallel b from to) w ≡ true → IsWordOf b w × (is_read p.access ≡ false)
+    here : (r : Bool) → is_read p.access ≡ r → writes_in (if r then whole b false ∷ [] else used parallel b from to) w ≡ true
+        → IsWordOf b w × (is_read p.access ≡ false)
     here true f e = absurd (not_both e refl)
     here false f e = (used_word parallel b from to w (writes_read (used parallel b from to) w e), f)
 

@@ -7,9 +7,9 @@
 //! A piece has three names, which give one another (`laws::pieces_are_named`): calls take its number, the laws of the
 //! merge its place in script order, and definitions what it is of ([`Piece`]).
 //!
-//! [`touches`] alone takes memory. [`apply_op`] is one match. [`run_piece`] finds its job by halving, and beside the run
-//! of the kernel it writes three words where an index trapped, and none else. A lease tests nothing: what a piece may
-//! touch is known before.
+//! [`touches`] alone takes memory. [`apply_op`] is one match. [`run_piece`] finds its job by halving, and beside the
+//! run of the kernel it writes three words where an index trapped, and none else. A lease tests nothing: what a piece
+//! may touch is known before.
 //!
 //! A script reaches this crate as a plan alone, and that the plan is well ordered is a condition of the calls. `specs/`
 //! says what a plan means, in this order: `Names` and `Pieces` (what its numbers name, script order, places), `Touches`

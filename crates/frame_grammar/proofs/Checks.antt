@@ -190,12 +190,14 @@ pub lower : (r : Production) → weight (body_of r) < rank_of (head_of r)
 lower r = ltb-true _ _ (and_right _ (is_lower r) (and_right (ends_right r) _ (and_right (begins_right r) _ (rules_pass r))))
 
 -- What the checks of a part show.
-own_step : (n : Nonterminal) (s : TokenKind × Production) (k : TokenKind) (r : Production) (b : Bool) (o : Option Production) → same_part (head_of s.1) n ≡ true →
+own_step : (n : Nonterminal) (s : TokenKind × Production) (k : TokenKind) (r : Production) (b : Bool) (o : Option Production)
+    → same_part (head_of s.1) n ≡ true →
     (o ≡ Some r → head_of r ≡ n) → cond b (Some s.1) o ≡ Some r → head_of r ≡ n
 own_step n s k r true o e ih h = let same : s.1 ≡ r = cc in subst (λ q. head_of q ≡ n) same (same_true the_part tt (head_of s.1) n e)
 own_step n s k r false o e ih h = ih h
 
-own_found : (n : Nonterminal) (starts : List (TokenKind × Production)) → own_rules n starts ≡ true → (k : TokenKind) (r : Production) → found starts k ≡ Some r → head_of r ≡ n
+own_found : (n : Nonterminal) (starts : List (TokenKind × Production)) → own_rules n starts ≡ true → (k : TokenKind) (r : Production) → found starts k ≡ Some r
+    → head_of r ≡ n
 own_found n [] e k r h = cc
 own_found n (s ∷ starts) e k r h = own_step n s k r (same_kind s.0 k) (found starts k) (and_left _ _ e) (own_found n starts (and_right _ _ e) k r) h
 
@@ -218,15 +220,18 @@ parts_rest : (n : Nonterminal) → (implies (is_nullable_of n) (list_all (has_ki
     && (same_part (head_of (short_of n)) n && is_below (height_of n) (body_of (short_of n)))) ≡ true
 parts_rest n = and_right (own_default n (default_of n)) _ (and_right (own_rules n (choices_of n)) _ (parts_pass n))
 
-found_step : (bars : List TokenKind) (s : TokenKind × Production) (k : TokenKind) (b : Bool) (o : Option Production) → same_kind s.0 k ≡ b → has_kind bars s.0 ≡ true →
+found_step : (bars : List TokenKind) (s : TokenKind × Production) (k : TokenKind) (b : Bool) (o : Option Production) → same_kind s.0 k ≡ b
+    → has_kind bars s.0 ≡ true →
     has_kind bars k ≡ false → o ≡ None → cond b (Some s.1) o ≡ None
 found_step bars s k true o e has hasn't ih = let same = same_kind_true s.0 k e in let h = subst (λ x. has_kind bars x ≡ true) same has in cc
 found_step bars s k false o e has hasn't ih = ih
 
-found_none : (bars : List TokenKind) (starts : List (TokenKind × Production)) → list_all (has_kind bars) (tokens_of starts) ≡ true → (k : TokenKind) → has_kind bars k ≡ false →
+found_none : (bars : List TokenKind) (starts : List (TokenKind × Production)) → list_all (has_kind bars) (tokens_of starts) ≡ true → (k : TokenKind)
+    → has_kind bars k ≡ false →
     found starts k ≡ None
 found_none bars [] e k h = refl
-found_none bars (s ∷ starts) e k h = found_step bars s k (same_kind s.0 k) (found starts k) refl (and_left _ _ e) h (found_none bars starts (and_right _ _ e) k h)
+found_none bars (s ∷ starts) e k h = found_step bars s k (same_kind s.0 k) (found starts k) refl (and_left _ _ e) h
+    (found_none bars starts (and_right _ _ e) k h)
 
 -- Before a terminal that may follow it, a part that may be empty goes on by its default rule.
 pub follows : (n : Nonterminal) (k : TokenKind) → is_nullable_of n ≡ true → has_kind (barred_of n) k ≡ false → predicted n k ≡ default_of n
@@ -245,7 +250,8 @@ pub record Spells (n : ℕ) (ss : List Symbol) : Type 0 where
   pub tokens : List TokenKind
   pub derives : Derives n events ss tokens
 
-spells_each : (h : ℕ) → ((n : ℕ) (p : Nonterminal) → height_of p < h → Spells n (symbol.Nonterminal p ∷ [])) → (n : ℕ) (ss : List Symbol) → is_below h ss ≡ true → Spells n ss
+spells_each : (h : ℕ) → ((n : ℕ) (p : Nonterminal) → height_of p < h → Spells n (symbol.Nonterminal p ∷ [])) → (n : ℕ) (ss : List Symbol) → is_below h ss ≡ true
+    → Spells n ss
 spells_each h part n [] e = record { events = []; tokens = []; derives = nothing }
 spells_each h part n (symbol.Terminal k ∷ ss) e =
     let s = spells_each h part (suc n) ss e in record { events = s.events; tokens = k ∷ s.tokens; derives = terminal k s.derives }
@@ -271,7 +277,12 @@ spells_part zero n p lt = absurd (omega arith)
 spells_part (suc h) n p lt =
     let below = below_more (height_of p) h (body_of (short_of p)) (omega arith) (short_below p) in
     let s = spells_each h (spells_part h) n (body_of (short_of p)) below in
-    record { events = s.events; tokens = s.tokens; derives = expanded (short_of p) (short_own p) (subst (λ xs. Derives n s.events xs s.tokens) (sym (append-nil (body_of (short_of p)))) s.derives) }
+    record {
+      events = s.events;
+      tokens = s.tokens;
+      derives = expanded (short_of p) (short_own p)
+          (subst (λ xs. Derives n s.events xs s.tokens) (sym (append-nil (body_of (short_of p)))) s.derives);
+    }
 
 -- Each list of symbols makes something.
 pub spelled : (n : ℕ) (ss : List Symbol) → Spells n ss

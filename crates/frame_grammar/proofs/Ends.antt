@@ -48,7 +48,8 @@ closes-append (x ∷ []) t ss = refl
 closes-append (x ∷ y ∷ xs) t ss = closes-append (y ∷ xs) t ss
 
 -- Expanding keeps the symbols closed.
-pub closes-expanded : (p : Production) (n : Nonterminal) (ss : List Symbol) → head_of p ≡ n → closes (symbol.Nonterminal n ∷ ss) ≡ true → closes (body_of p ++ ss) ≡ true
+pub closes-expanded : (p : Production) (n : Nonterminal) (ss : List Symbol) → head_of p ≡ n → closes (symbol.Nonterminal n ∷ ss) ≡ true
+    → closes (body_of p ++ ss) ≡ true
 closes-expanded p n [] h e = ap closes (append-nil (body_of p)) ∙ body_closes p n h e
 closes-expanded p n (t ∷ ss) h e = closes-append (body_of p) t ss ∙ e
 
@@ -149,7 +150,8 @@ nothing_left (expanded p h d) e = cc
 more_last : (k : TokenKind) (ks : List TokenKind) → not (is_end k) ≡ true → IsLast ks → IsLast (k ∷ ks)
 more_last k ks e l = record { front = k ∷ l.front; is = ap (λ x. k ∷ x) l.is; free = both e l.free }
 
-end_derived : {n : ℕ} {es : List Event} {ss : List Symbol} {ks : List TokenKind} → Derives n es ss ks → (xs : List Symbol) → ss ≡ xs ++ symbol.Terminal End ∷ [] →
+end_derived : {n : ℕ} {es : List Event} {ss : List Symbol} {ks : List TokenKind} → Derives n es ss ks → (xs : List Symbol)
+    → ss ≡ xs ++ symbol.Terminal End ∷ [] →
     endless xs ≡ true → IsLast ks
 end_derived nothing [] e h = cc
 end_derived nothing (x ∷ xs) e h = cc
@@ -222,7 +224,8 @@ pub file_is_ended : (es : List Event) (ks : List TokenKind) → IsSentence File 
 file_is_ended es ks sentence = let l = file_ends es ks sentence in (l.front, l.is)
 
 -- Where no token in front of the last is the end, the one file that the tokens begin with is all of them.
-pub file_is_all : (front : List TokenKind) (n : ℕ) (events : List Event) → All (λ k. k ≢ End) front → IsOnlySentence File (front ++ End ∷ []) n events → n ≡ length (front ++ End ∷ [])
+pub file_is_all : (front : List TokenKind) (n : ℕ) (events : List Event) → All (λ k. k ≢ End) front → IsOnlySentence File (front ++ End ∷ []) n events
+    → n ≡ length (front ++ End ∷ [])
 file_is_all front n events free found =
     let tokens = front ++ End ∷ [] in
     let ended = file_is_ended events (take n tokens) found.sentence in
@@ -231,6 +234,7 @@ file_is_all front n events free found =
     ⊎_elim
     (λ inside.
     let same = get_or-take n tokens (length ended.0) End (omega (arith, size, length-take n tokens, length-append ended.0 (End ∷ []), found.within)) in
-    absurd (All-get_or (λ k. k ≢ End) front (length ended.0) End inside free (sym (get_or-append front (End ∷ []) End (length ended.0) inside) ∙ sym same ∙ here)))
+    absurd (All-get_or (λ k. k ≢ End) front (length ended.0) End inside free
+    (sym (get_or-append front (End ∷ []) End (length ended.0) inside) ∙ sym same ∙ here)))
     (λ past. omega (arith, size, length-take n tokens, length-append ended.0 (End ∷ []), length-append front (End ∷ []), found.within))
     (cases_lt (length ended.0) (length front))

@@ -26,14 +26,16 @@ use Rattle.frame_grammar.proofs.Steps.{leads_start, goes_on_by, smaller}
 -- what an expression goes on by before any token: its first operand, and at each level what may follow there
 abbrev pub expression_levels : List Symbol
 expression_levels =
-    symbol.Nonterminal nonterminal.Unary ∷ symbol.Nonterminal nonterminal.MoreTerm ∷ symbol.Nonterminal nonterminal.MoreSum ∷ symbol.Nonterminal nonterminal.Compared
+    symbol.Nonterminal nonterminal.Unary ∷ symbol.Nonterminal nonterminal.MoreTerm ∷ symbol.Nonterminal nonterminal.MoreSum
+    ∷ symbol.Nonterminal nonterminal.Compared
     ∷ symbol.Nonterminal nonterminal.MoreAnd ∷ symbol.Nonterminal nonterminal.MoreOr ∷ []
 
 levels_smaller : (ss : List Symbol) → weight (expression_levels ++ ss) < weight (symbol.Nonterminal nonterminal.Expression ∷ ss)
 unfolding rank_of is_nullable_of
 levels_smaller ss = omega arith
 
-pub levels : (ahead : TokenKind) (place : ℕ) (done : List Event) (ss : List Symbol) → Goes ahead place done (symbol.Nonterminal nonterminal.Expression ∷ ss) done (expression_levels ++ ss)
+pub levels : (ahead : TokenKind) (place : ℕ) (done : List Event) (ss : List Symbol)
+    → Goes ahead place done (symbol.Nonterminal nonterminal.Expression ∷ ss) done (expression_levels ++ ss)
 unfolding body_of choices_of default_of
 levels ahead place done ss =
     let ss0 = symbol.Nonterminal nonterminal.Expression ∷ ss in
@@ -49,7 +51,8 @@ levels ahead place done ss =
     (led.reached, led.closed, levels_smaller ss)
 
 -- a term goes on to its first factor and what may follow that
-term_smaller : (ss : List Symbol) → weight (symbol.Nonterminal nonterminal.Unary ∷ symbol.Nonterminal nonterminal.MoreTerm ∷ ss) < weight (symbol.Nonterminal nonterminal.Term ∷ ss)
+term_smaller : (ss : List Symbol) → weight (symbol.Nonterminal nonterminal.Unary ∷ symbol.Nonterminal nonterminal.MoreTerm ∷ ss) < weight
+    (symbol.Nonterminal nonterminal.Term ∷ ss)
 unfolding rank_of is_nullable_of
 term_smaller ss = omega arith
 
@@ -63,7 +66,8 @@ term_begins ahead place done ss =
 
 -- What follows at each level
 
-goes_go : (ahead : TokenKind) (place : ℕ) (done : List Event) (ss ss' ss'' : List Symbol) → Goes ahead place done ss done ss' → Goes ahead place done ss' done ss'' → Goes ahead place done ss done ss''
+goes_go : (ahead : TokenKind) (place : ℕ) (done : List Event) (ss ss' ss'' : List Symbol) → Goes ahead place done ss done ss'
+    → Goes ahead place done ss' done ss'' → Goes ahead place done ss done ss''
 goes_go ahead place done ss ss' ss'' first then = (
   λ start read at. then.0 start read (first.0 start read at),
   λ e. then.1 (first.1 e),
@@ -74,7 +78,8 @@ goes_go ahead place done ss ss' ss'' first then = (
 abbrev pub above_sum : List Symbol → List Symbol
 above_sum ss = symbol.Nonterminal nonterminal.Compared ∷ symbol.Nonterminal nonterminal.MoreAnd ∷ symbol.Nonterminal nonterminal.MoreOr ∷ ss
 
-factor_part : (part_taken : Option Coming) (ahead : TokenKind) (place : ℕ) (done : List Event) (ss : List Symbol) (done' : List Event) (ss' : List Symbol) → multiplies ahead ≡ false →
+factor_part : (part_taken : Option Coming) (ahead : TokenKind) (place : ℕ) (done : List Event) (ss : List Symbol) (done' : List Event) (ss' : List Symbol)
+    → multiplies ahead ≡ false →
     IsPart part_taken ahead place after_term done ss done' ss' → IsPart part_taken ahead place (symbols_of waiting.AfterFactor) done ss done' ss'
 factor_part (Some c) ahead place done ss done' ss' none part = (
   λ start read at. part.0 start read ((no_factor ahead place done (after_term ++ ss) none).0 start read at),
@@ -88,7 +93,8 @@ factor_part None ahead place done ss done' ss' none part =
     )
 
 -- a factor that no operator of its term follows goes on as its term does
-pub part_of_factor : {E : Type 0} (result : Result (Option Coming) E) (ahead : TokenKind) (place : ℕ) (done : List Event) (ss : List Symbol) (done' : List Event) (ss' : List Symbol) →
+pub part_of_factor : {E : Type 0} (result : Result (Option Coming) E) (ahead : TokenKind) (place : ℕ) (done : List Event) (ss : List Symbol)
+    (done' : List Event) (ss' : List Symbol) →
     multiplies ahead ≡ false → IfOk result (λ part_taken. IsPart part_taken ahead place after_term done ss done' ss') →
     IfOk result (λ part_taken. IsPart part_taken ahead place (symbols_of waiting.AfterFactor) done ss done' ss')
 part_of_factor (Ok part_taken) ahead place done ss done' ss' none part = factor_part part_taken ahead place done ss done' ss' none part
@@ -103,7 +109,8 @@ not_or kind.OrOr e = cc
 not_or _ e = refl
 
 -- no operator follows a term
-pub nothing_follows : (k : TokenKind) (place : ℕ) (done : List Event) (ss : List Symbol) → adds k ≡ false → joins k ≡ false → Goes k place done (after_term ++ ss) done ss
+pub nothing_follows : (k : TokenKind) (place : ℕ) (done : List Event) (ss : List Symbol) → adds k ≡ false → joins k ≡ false
+    → Goes k place done (after_term ++ ss) done ss
 nothing_follows k place done ss sum above =
     let apart = or_parts (compares k) (is_and_or k) above in
     let behind_and = symbol.Nonterminal nonterminal.MoreOr ∷ ss in

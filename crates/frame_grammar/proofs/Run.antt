@@ -18,14 +18,16 @@ use Rattle.frame_grammar.proofs.Theory.{Starts-append, IsClear-append}
 use Rattle.frame_grammar.proofs.Checks.{begins, begins_first, ends, ends_nullable, fine, own, follows, spelled}
 
 -- What derives tokens begins with the first of them.
-starts_expanded : (p : Production) (n : Nonterminal) (ss : List Symbol) (k : TokenKind) → head_of p ≡ n → Starts (body_of p ++ ss) k → Starts (symbol.Nonterminal n ∷ ss) k
+starts_expanded : (p : Production) (n : Nonterminal) (ss : List Symbol) (k : TokenKind) → head_of p ≡ n → Starts (body_of p ++ ss) k
+    → Starts (symbol.Nonterminal n ∷ ss) k
 starts_expanded p n ss k h s =
     elim (Starts-append (body_of p) ss k s) [
       | inl b ↦ inl (subst (λ m. has_kind (firsts_of m) k ≡ true) h (begins_first p k b))
       | inr b ↦ inr (subst (λ m. is_nullable_of m ≡ true) h (ends_nullable p b.0), b.1)
     ]
 
-pub Starts-first : {n : ℕ} {es : List Event} {ss : List Symbol} {ks : List TokenKind} (k : TokenKind) (js : List TokenKind) → Derives n es ss ks → ks ≡ k ∷ js → Starts ss k
+pub Starts-first : {n : ℕ} {es : List Event} {ss : List Symbol} {ks : List TokenKind} (k : TokenKind) (js : List TokenKind) → Derives n es ss ks → ks ≡ k ∷ js
+    → Starts ss k
 Starts-first k js nothing e = cc
 Starts-first k js (terminal j d) e = cc
 Starts-first k js (action a d) e = Starts-first k js d e
@@ -37,7 +39,8 @@ pub record GoesOn (place : ℕ) (n : Nonterminal) (es : List Event) (ss : List S
   pub own : head_of production ≡ n
   pub derives : Derives place es (body_of production ++ ss) ks
 
-pub goes_on : {place : ℕ} {es : List Event} {n : Nonterminal} {ss : List Symbol} {ks : List TokenKind} → Derives place es (symbol.Nonterminal n ∷ ss) ks → GoesOn place n es ss ks
+pub goes_on : {place : ℕ} {es : List Event} {n : Nonterminal} {ss : List Symbol} {ks : List TokenKind} → Derives place es (symbol.Nonterminal n ∷ ss) ks
+    → GoesOn place n es ss ks
 goes_on (expanded p h d) = record { production = p; own = h; derives = d }
 
 pub terminal_first : {n : ℕ} {es : List Event} {j : TokenKind} {ss : List Symbol} {ks : List TokenKind} → Derives n es (symbol.Terminal j ∷ ss) ks →
@@ -51,7 +54,8 @@ action_first (action {events = rest} a d) = (rest, refl, d)
 pub reached_start : (start : Nonterminal) → IsReached start 0 [] [] (symbol.Nonterminal start ∷ [])
 reached_start start = record { sound = λ es ks d. d; complete = λ es ks d. (es, refl, d); clear = (λ k s. absurd s, tt) }
 
-pub reached_at : (start : Nonterminal) (ahead : TokenKind) (n : ℕ) (done : List Event) (read : List TokenKind) (ss : List Symbol) → IsReached start n done read ss → IsReachedAt start ahead n done read ss
+pub reached_at : (start : Nonterminal) (ahead : TokenKind) (n : ℕ) (done : List Event) (read : List TokenKind) (ss : List Symbol)
+    → IsReached start n done read ss → IsReachedAt start ahead n done read ss
 reached_at start ahead n done read ss r = record { sound = r.sound; complete = λ es ks e. r.complete es ks; clear = r.clear }
 
 -- Before the ahead token only one production can go on.
@@ -67,7 +71,8 @@ only_production k n p place es ss (j ∷ js) clear f h d =
           ∙ subst (λ m. default_of m ≡ Some p) h (ends p b.0)
     ]
 
-pub expand : (start : Nonterminal) (ahead : TokenKind) (place : ℕ) (n : Nonterminal) (p : Production) (done : List Event) (read : List TokenKind) (ss : List Symbol) → predicted n ahead ≡ Some p →
+pub expand : (start : Nonterminal) (ahead : TokenKind) (place : ℕ) (n : Nonterminal) (p : Production) (done : List Event) (read : List TokenKind)
+    (ss : List Symbol) → predicted n ahead ≡ Some p →
     IsReachedAt start ahead place done read (symbol.Nonterminal n ∷ ss) → IsReachedAt start ahead place done read (body_of p ++ ss)
 expand start ahead place n p done read ss e at = record {
   sound = λ es ks d. at.sound es ks (expanded p (own n ahead p e) d);
@@ -76,7 +81,8 @@ expand start ahead place n p done read ss e at = record {
       (subst (λ m. (k : TokenKind) → Starts ss k → has_kind (barred_of m) k ≡ false) (sym (own n ahead p e)) at.clear.0) at.clear.1;
 }
   where
-    more : (es : List Event) (ks : List TokenKind) → first_of ks ≡ Some ahead → (rest : List Event) × (es ≡ done ++ rest) × Derives place rest (symbol.Nonterminal n ∷ ss) ks →
+    more : (es : List Event) (ks : List TokenKind) → first_of ks ≡ Some ahead
+        → (rest : List Event) × (es ≡ done ++ rest) × Derives place rest (symbol.Nonterminal n ∷ ss) ks →
         (rest : List Event) × (es ≡ done ++ rest) × Derives place rest (body_of p ++ ss) ks
     more es ks f d =
         let g = goes_on d.2 in
@@ -138,7 +144,8 @@ only_here start n done read at es ks sentence =
 pub IsStuck : TokenKind → ℕ → List Symbol → Type 0
 IsStuck ahead n ss = (es : List Event) (ks : List TokenKind) → first_of ks ≡ Some ahead → Derives n es ss ks → ⊥
 
-pub refuses : (start : Nonterminal) (ahead : TokenKind) (n : ℕ) (done : List Event) (read : List TokenKind) (ss : List Symbol) → IsReachedAt start ahead n done read ss → IsStuck ahead n ss →
+pub refuses : (start : Nonterminal) (ahead : TokenKind) (n : ℕ) (done : List Event) (read : List TokenKind) (ss : List Symbol)
+    → IsReachedAt start ahead n done read ss → IsStuck ahead n ss →
     (es : List Event) (ks : List TokenKind) → first_of ks ≡ Some ahead → IsSentence start es (read ++ ks) → ⊥
 unfolding IsStuck
 refuses start ahead n done read ss at stuck es ks f sentence = let p = at.complete es ks f sentence in stuck p.0 ks f p.2
@@ -156,7 +163,8 @@ stuck_terminal ahead n j ss differs es ks f d =
     let same : j ≡ ahead = cc in
     differs same
 
-pub stuck_nonterminal : (ahead : TokenKind) (place : ℕ) (n : Nonterminal) (ss : List Symbol) → IsClear (symbol.Nonterminal n ∷ ss) → predicted n ahead ≡ None → IsStuck ahead place (symbol.Nonterminal n ∷ ss)
+pub stuck_nonterminal : (ahead : TokenKind) (place : ℕ) (n : Nonterminal) (ss : List Symbol) → IsClear (symbol.Nonterminal n ∷ ss) → predicted n ahead ≡ None
+    → IsStuck ahead place (symbol.Nonterminal n ∷ ss)
 unfolding IsStuck
 stuck_nonterminal ahead place n ss clear e es ks f d =
     let g = goes_on d in

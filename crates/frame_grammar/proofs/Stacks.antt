@@ -22,19 +22,23 @@ pub behind : (items items' put : List Waiting) → items' ≡ items ++ put → s
 behind items items' put e = ap standing e ∙ ap all_symbols (reverse-append items put) ∙ all_symbols-append (reverse put) (reverse items)
 
 -- the last item is on top of the stack
-pub top : (items rest : List Waiting) (o : Option Waiting) (w : Waiting) → items ≡ rest ++ option_to_list o → o ≡ Some w → standing items ≡ symbols_of w ++ standing rest
+pub top : (items rest : List Waiting) (o : Option Waiting) (w : Waiting) → items ≡ rest ++ option_to_list o → o ≡ Some w
+    → standing items ≡ symbols_of w ++ standing rest
 top items rest o w e h = ap standing (e ∙ ap (λ x. rest ++ option_to_list x) h) ∙ ap all_symbols (reverse-append rest (w ∷ []))
 
 -- and which of them it is
-pub top_is : (items rest : List Waiting) (o : Option Waiting) (w w' : Waiting) → items ≡ rest ++ option_to_list o → o ≡ Some w → w ≡ w' → standing items ≡ symbols_of w' ++ standing rest
+pub top_is : (items rest : List Waiting) (o : Option Waiting) (w w' : Waiting) → items ≡ rest ++ option_to_list o → o ≡ Some w → w ≡ w'
+    → standing items ≡ symbols_of w' ++ standing rest
 top_is items rest o w w' e h same = top items rest o w e h ∙ ap (λ x. symbols_of x ++ standing rest) same
 
-pub last_on_top : (items : List Waiting) (w : Waiting) → slice_get items (length items - 1) ≡ Some w → standing items ≡ symbols_of w ++ standing (take (length items - 1) items)
+pub last_on_top : (items : List Waiting) (w : Waiting) → slice_get items (length items - 1) ≡ Some w
+    → standing items ≡ symbols_of w ++ standing (take (length items - 1) items)
 last_on_top items w e =
     let within = slice_get_within items (length items - 1) w e in
     let value = get_or_from_slice_get items (length items - 1) w w e in
     let whole : items ≡ take (length items - 1) items ++ w ∷ [] =
-    sym (take_all (length items - 1 + 1) items (omega (arith, within))) ∙ take_more items (length items - 1) w within ∙ ap (λ x. take (length items - 1) items ++ x ∷ []) value in
+    sym (take_all (length items - 1 + 1) items (omega (arith, within))) ∙ take_more items (length items - 1) w within
+    ∙ ap (λ x. take (length items - 1) items ++ x ∷ []) value in
     ap standing whole ∙ ap all_symbols (reverse-append (take (length items - 1) items) (w ∷ []))
 
 pub no_top : (items : List Waiting) (n : ℕ) (o : Option Waiting) → length items ≡ n → (0 < n → is_some o ≡ true) →
@@ -81,7 +85,8 @@ pushed has_lines items items' rest rest' all s e h w =
     ap (λ xs. xs ++ map alone before) h ∙ append_assoc items (map alone last) (map alone before)
     ∙ ap (λ xs. items ++ xs) (sym (map-append alone last before) ∙ sym (ap (map alone) split)) ∙ w
 
-without_top : (items left : List Waiting) (n : ℕ) (o : Option Waiting) (first : Waiting) (others : List Waiting) → items ≡ left ++ option_to_list o → length items ≡ n →
+without_top : (items left : List Waiting) (n : ℕ) (o : Option Waiting) (first : Waiting) (others : List Waiting) → items ≡ left ++ option_to_list o
+    → length items ≡ n →
     (0 < n → is_some o ≡ true) → reverse items ≡ first ∷ others → reverse left ≡ others
 without_top items left n (Some w) first others split size some turned =
     ap (drop 1) (sym (ap reverse split ∙ reverse-append left (w ∷ [])) ∙ turned)
@@ -95,7 +100,8 @@ pub popped : (old items left : List Waiting) (p : Production) (n : ℕ) (o : Opt
     (0 < n → is_some o ≡ true) → standing left ≡ others ++ standing old
 popped old items left p n o first others e is split size some =
     let turned : reverse items ≡ alone first ∷ map alone others ++ reverse old =
-    ap reverse e ∙ reverse-append old (map alone (reverse (body_of p))) ∙ ap (λ ws. ws ++ reverse old) (map-reverse (body_of p)) ∙ ap (λ ss. map alone ss ++ reverse old) is in
+    ap reverse e ∙ reverse-append old (map alone (reverse (body_of p))) ∙ ap (λ ws. ws ++ reverse old) (map-reverse (body_of p))
+    ∙ ap (λ ss. map alone ss ++ reverse old) is in
     let gone = without_top items left n o (alone first) (map alone others ++ reverse old) split size some turned in
     ap all_symbols gone ∙ all_symbols-append (map alone others) (reverse old) ∙ ap (λ ss. ss ++ standing old) (alone-symbols others)
 

@@ -23,7 +23,8 @@ same_some : {p q : Production} → Some p ≡ Some q → p ≡ q
 same_some e = cc
 
 -- a statement's production begins with the token by which it is found
-begins : (k : TokenKind) (p q : Production) → Some p ≡ Some q → body_of p ≡ symbol.Terminal k ∷ drop 1 (body_of p) → body_of q ≡ symbol.Terminal k ∷ drop 1 (body_of q)
+begins : (k : TokenKind) (p q : Production) → Some p ≡ Some q → body_of p ≡ symbol.Terminal k ∷ drop 1 (body_of p)
+    → body_of q ≡ symbol.Terminal k ∷ drop 1 (body_of q)
 begins k p q e is = subst (λ r. body_of r ≡ symbol.Terminal k ∷ drop 1 (body_of r)) (same_some e) is
 
 pub statement_begins : (k : TokenKind) (p : Production) → predicted nonterminal.Statement k ≡ Some p → body_of p ≡ symbol.Terminal k ∷ drop 1 (body_of p)
@@ -55,7 +56,8 @@ statement_begins kind.When p e = begins kind.When production.WhenStatement p e r
 statement_begins _ p e = cc
 
 -- it is an item then
-statement_is_item : (k : TokenKind) (p : Production) → predicted nonterminal.Statement k ≡ Some p → predicted nonterminal.Items k ≡ Some production.ItemsStatement
+statement_is_item : (k : TokenKind) (p : Production) → predicted nonterminal.Statement k ≡ Some p
+    → predicted nonterminal.Items k ≡ Some production.ItemsStatement
 unfolding choices_of default_of same_kind
 statement_is_item kind.Array p e = refl
 statement_is_item kind.Column p e = refl
@@ -83,14 +85,16 @@ statement_is_item kind.Repeat p e = refl
 statement_is_item kind.When p e = refl
 statement_is_item _ p e = cc
 
-statement_led : (k : TokenKind) (p : Production) (place : ℕ) (done0 done : List Event) (ss0 ss rest : List Symbol) → predicted nonterminal.Statement k ≡ Some p →
+statement_led : (k : TokenKind) (p : Production) (place : ℕ) (done0 done : List Event) (ss0 ss rest : List Symbol)
+    → predicted nonterminal.Statement k ≡ Some p →
     Leads k place done0 ss0 done (symbol.Nonterminal nonterminal.Statement ∷ ss) → rest ≡ drop 1 (body_of p) ++ ss → Takes k place done0 ss0 done rest
 statement_led k p place done0 done ss0 ss rest e led is =
     let body = goes_on_by k place done0 done ss0 ss nonterminal.Statement p led e in
     let first = subst (λ xs. Leads k place done0 ss0 done (xs ++ ss)) (statement_begins k p e) body in
     subst (λ xs. Takes k place done0 ss0 done xs) (sym is) (takes k place done0 done ss0 (drop 1 (body_of p) ++ ss) first)
 
-pub statement_taken : (k : TokenKind) (p : Production) (place : ℕ) (done : List Event) (ss rest : List Symbol) → predicted nonterminal.Statement k ≡ Some p → rest ≡ drop 1 (body_of p) ++ ss →
+pub statement_taken : (k : TokenKind) (p : Production) (place : ℕ) (done : List Event) (ss rest : List Symbol) → predicted nonterminal.Statement k ≡ Some p
+    → rest ≡ drop 1 (body_of p) ++ ss →
     Takes k place done (symbol.Nonterminal nonterminal.Statement ∷ ss) done rest
 statement_taken k p place done ss rest e is =
     let ss0 = symbol.Nonterminal nonterminal.Statement ∷ ss in
@@ -109,7 +113,8 @@ item_taken k p place done ss rest e is =
 
 -- Line ends between items
 
-pub line_after_item : (place : ℕ) (done : List Event) (ss : List Symbol) → Takes kind.Line place done (symbol.Nonterminal nonterminal.AfterItem ∷ ss) done (symbol.Nonterminal nonterminal.Items ∷ ss)
+pub line_after_item : (place : ℕ) (done : List Event) (ss : List Symbol) → Takes kind.Line place done (symbol.Nonterminal nonterminal.AfterItem ∷ ss) done
+    (symbol.Nonterminal nonterminal.Items ∷ ss)
 unfolding body_of choices_of default_of same_kind
 line_after_item place done ss =
     let ss0 = symbol.Nonterminal nonterminal.AfterItem ∷ ss in
@@ -121,7 +126,8 @@ unfolding choices_of default_of same_kind
 items_end kind.Line e = cc
 items_end _ e = refl
 
-pub no_item : (k : TokenKind) (place : ℕ) (done : List Event) (ss : List Symbol) → sameb the_kind k kind.Line ≡ false → Goes k place done (symbol.Nonterminal nonterminal.AfterItem ∷ ss) done ss
+pub no_item : (k : TokenKind) (place : ℕ) (done : List Event) (ss : List Symbol) → sameb the_kind k kind.Line ≡ false
+    → Goes k place done (symbol.Nonterminal nonterminal.AfterItem ∷ ss) done ss
 unfolding body_of
 no_item k place done ss e = leaves k place done ss nonterminal.AfterItem production.AfterItemEnd (items_end k e) refl
 
@@ -138,7 +144,8 @@ plain place done ss =
     takes kind.Number place done (done ++ record { action = action.Number; place = place } ∷ []) ss0 rest noted
 
 pub minus : (place : ℕ) (done : List Event) (ss : List Symbol) → Takes kind.Minus place done (symbol.Nonterminal nonterminal.Signed ∷ ss)
-    (done ++ record { action = action.Operator; place = place } ∷ []) (symbol.Action action.Number ∷ symbol.Terminal kind.Number ∷ symbol.Action action.MinusNumber ∷ ss)
+    (done ++ record { action = action.Operator; place = place } ∷ []) (symbol.Action action.Number ∷ symbol.Terminal kind.Number
+    ∷ symbol.Action action.MinusNumber ∷ ss)
 unfolding body_of choices_of default_of same_kind
 minus place done ss =
     let ss0 = symbol.Nonterminal nonterminal.Signed ∷ ss in
@@ -167,7 +174,8 @@ life_none kind.TempJob e = cc
 life_none kind.Persistent e = cc
 life_none _ e = refl
 
-pub no_life : (k : TokenKind) (place : ℕ) (done : List Event) (ss : List Symbol) → tells_life k ≡ false → Goes k place done (symbol.Nonterminal nonterminal.Life ∷ ss)
+pub no_life : (k : TokenKind) (place : ℕ) (done : List Event) (ss : List Symbol) → tells_life k ≡ false
+    → Goes k place done (symbol.Nonterminal nonterminal.Life ∷ ss)
     (done ++ record { action = action.LifeNone; place = place } ∷ []) ss
 unfolding body_of
 no_life k place done ss e =
@@ -183,7 +191,8 @@ unfolding choices_of default_of same_kind
 values_none kind.Assign e = cc
 values_none _ e = refl
 
-pub no_values : (k : TokenKind) (place : ℕ) (done : List Event) (ss : List Symbol) → sameb the_kind k kind.Assign ≡ false → Goes k place done (symbol.Nonterminal nonterminal.ArrayValues ∷ ss)
+pub no_values : (k : TokenKind) (place : ℕ) (done : List Event) (ss : List Symbol) → sameb the_kind k kind.Assign ≡ false
+    → Goes k place done (symbol.Nonterminal nonterminal.ArrayValues ∷ ss)
     (done ++ record { action = action.NoValues; place = place } ∷ []) ss
 unfolding body_of
 no_values k place done ss e =

@@ -23,12 +23,14 @@ use Rattle.frame_grammar.proofs.Checks.{spelled, ends_nullable, lower, own}
 use Rattle.frame_grammar.proofs.Run.{expand, act, shift, viable, finished, only_here, refuses, stuck_empty, stuck_terminal, stuck_nonterminal, reached_start, reached_at}
 use Rattle.frame_grammar.proofs.Ends.{closes-expanded, closes-action, closes-terminal, derives_some, start_closes, end_is_last}
 
-pub found-here : (xs : List (TokenKind × Production)) (i : ℕ) (d : TokenKind × Production) (k : TokenKind) → i < length xs → sameb the_type (get_or xs i d).0 k ≡ true →
+pub found-here : (xs : List (TokenKind × Production)) (i : ℕ) (d : TokenKind × Production) (k : TokenKind) → i < length xs
+    → sameb the_type (get_or xs i d).0 k ≡ true →
     found (drop i xs) k ≡ Some (get_or xs i d).1
 unfolding same_kind
 found-here xs i d k h e = rw (drop-cons xs i d h) (ap (λ b. cond b (Some (get_or xs i d).1) (found (drop (suc i) xs) k)) e)
 
-pub found-later : (xs : List (TokenKind × Production)) (i : ℕ) (d : TokenKind × Production) (k : TokenKind) → i < length xs → sameb the_type (get_or xs i d).0 k ≡ false →
+pub found-later : (xs : List (TokenKind × Production)) (i : ℕ) (d : TokenKind × Production) (k : TokenKind) → i < length xs
+    → sameb the_type (get_or xs i d).0 k ≡ false →
     found (drop i xs) k ≡ found (drop (i + 1) xs) k
 unfolding same_kind
 found-later xs i d k h e = rw (add-one, drop-cons xs i d h) (ap (λ b. cond b (Some (get_or xs i d).1) (found (drop (suc i) xs) k)) e)
@@ -61,32 +63,38 @@ pub record Leads (ahead : TokenKind) (place : ℕ) (done0 : List Event) (ss0 : L
 pub leads_start : (ahead : TokenKind) (place : ℕ) (done : List Event) (ss : List Symbol) → Leads ahead place done ss done ss
 leads_start ahead place done ss = record { reached = λ start read at. at; closed = λ e. e }
 
-pub taken : (ahead : TokenKind) (place : ℕ) (done0 done : List Event) (ss0 ss : List Symbol) (j : TokenKind) (b : Bool) → Leads ahead place done0 ss0 done (symbol.Terminal j ∷ ss) →
+pub taken : (ahead : TokenKind) (place : ℕ) (done0 done : List Event) (ss0 ss : List Symbol) (j : TokenKind) (b : Bool)
+    → Leads ahead place done0 ss0 done (symbol.Terminal j ∷ ss) →
     (b ≡ true → j ≡ ahead) → (b ≡ false → j ≡ ahead → ⊥) → MatchBool b (Takes ahead place done0 ss0 done ss) (Stops ahead place done0 ss0)
 taken ahead place done0 done ss0 ss j true leads same differs = (
-  λ start read at. shift start ahead place done read ss (subst (λ k. IsReachedAt start ahead place done read (symbol.Terminal k ∷ ss)) (same refl) (leads.reached start read at)),
+  λ start read at. shift start ahead place done read ss (subst (λ k. IsReachedAt start ahead place done read (symbol.Terminal k ∷ ss)) (same refl)
+      (leads.reached start read at)),
   λ e. closes-terminal j ss (leads.closed e),
 )
 taken ahead place done0 done ss0 ss j false leads same differs =
     λ start read at. refuses start ahead place done read (symbol.Terminal j ∷ ss) (leads.reached start read at) (stuck_terminal ahead place j ss (differs refl))
 
-pub stops_empty : (ahead : TokenKind) (place : ℕ) (done0 done : List Event) (ss0 : List Symbol) → Leads ahead place done0 ss0 done [] → Stops ahead place done0 ss0
+pub stops_empty : (ahead : TokenKind) (place : ℕ) (done0 done : List Event) (ss0 : List Symbol) → Leads ahead place done0 ss0 done []
+    → Stops ahead place done0 ss0
 stops_empty ahead place done0 done ss0 leads start read at = refuses start ahead place done read [] (leads.reached start read at) (stuck_empty ahead place)
 
-pub stops_at : (ahead : TokenKind) (place : ℕ) (done0 done : List Event) (ss0 ss : List Symbol) (n : Nonterminal) → Leads ahead place done0 ss0 done (symbol.Nonterminal n ∷ ss) →
+pub stops_at : (ahead : TokenKind) (place : ℕ) (done0 done : List Event) (ss0 ss : List Symbol) (n : Nonterminal)
+    → Leads ahead place done0 ss0 done (symbol.Nonterminal n ∷ ss) →
     predicted n ahead ≡ None → Stops ahead place done0 ss0
 stops_at ahead place done0 done ss0 ss n leads e start read at =
     let here = leads.reached start read at in
     refuses start ahead place done read (symbol.Nonterminal n ∷ ss) here (stuck_nonterminal ahead place n ss here.clear e)
 
-pub goes_on_by : (ahead : TokenKind) (place : ℕ) (done0 done : List Event) (ss0 ss : List Symbol) (n : Nonterminal) (p : Production) → Leads ahead place done0 ss0 done (symbol.Nonterminal n ∷ ss) →
+pub goes_on_by : (ahead : TokenKind) (place : ℕ) (done0 done : List Event) (ss0 ss : List Symbol) (n : Nonterminal) (p : Production)
+    → Leads ahead place done0 ss0 done (symbol.Nonterminal n ∷ ss) →
     predicted n ahead ≡ Some p → Leads ahead place done0 ss0 done (body_of p ++ ss)
 goes_on_by ahead place done0 done ss0 ss n p leads e = record {
   reached = λ start read at. expand start ahead place n p done read ss e (leads.reached start read at);
   closed = λ c. closes-expanded p n ss (own n ahead p e) (leads.closed c);
 }
 
-pub acts : (ahead : TokenKind) (place : ℕ) (done0 done : List Event) (ss0 ss : List Symbol) (a : Action) → Leads ahead place done0 ss0 done (symbol.Action a ∷ ss) →
+pub acts : (ahead : TokenKind) (place : ℕ) (done0 done : List Event) (ss0 ss : List Symbol) (a : Action)
+    → Leads ahead place done0 ss0 done (symbol.Action a ∷ ss) →
     Leads ahead place done0 ss0 (done ++ record { action = a; place = place } ∷ []) ss
 acts ahead place done0 done ss0 ss a leads = record {
   reached = λ start read at. act start ahead place a done read ss (leads.reached start read at);
@@ -99,7 +107,8 @@ after_less n w b true e h = rw (e refl) (omega arith)
 after_less n w b false e h = omega arith
 
 -- each production takes a step down
-pub smaller : (ahead : TokenKind) (n : Nonterminal) (p : Production) (ss : List Symbol) → predicted n ahead ≡ Some p → weight (body_of p ++ ss) < weight (symbol.Nonterminal n ∷ ss)
+pub smaller : (ahead : TokenKind) (n : Nonterminal) (p : Production) (ss : List Symbol) → predicted n ahead ≡ Some p
+    → weight (body_of p ++ ss) < weight (symbol.Nonterminal n ∷ ss)
 smaller ahead n p ss e =
     let h = own n ahead p e in
     rw (weight-append (body_of p) ss)
@@ -112,7 +121,8 @@ pub less_by_action : (a : Action) (ss : List Symbol) → weight ss < weight (sym
 less_by_action a ss = omega arith
 
 -- a closed stack wants another token
-no_sentence : (start : Nonterminal) (place : ℕ) (done : List Event) (read : List TokenKind) (ss : List Symbol) → IsReached start place done read ss → closes ss ≡ true →
+no_sentence : (start : Nonterminal) (place : ℕ) (done : List Event) (read : List TokenKind) (ss : List Symbol) → IsReached start place done read ss
+    → closes ss ≡ true →
     (es : List Event) → IsSentence start es read → ⊥
 no_sentence start place done read ss at closed es sentence =
     let d = at.complete es [] (subst (IsSentence start es) (sym (append-nil read)) sentence) in
@@ -124,17 +134,20 @@ between_start start tokens is_start = record {
   closed = start_closes start is_start;
   none = λ m es low sentence.
       let zero_is : m ≡ 0 = omega arith in
-      no_sentence start 0 [] [] (symbol.Nonterminal start ∷ []) (reached_start start) (start_closes start is_start) es (subst (λ n. IsSentence start es (take n tokens)) zero_is sentence);
+      no_sentence start 0 [] [] (symbol.Nonterminal start ∷ []) (reached_start start) (start_closes start is_start) es
+      (subst (λ n. IsSentence start es (take n tokens)) zero_is sentence);
 }
 
-reached_more : (start : Nonterminal) (tokens : List TokenKind) (place : ℕ) (d : TokenKind) (done done' : List Event) (ss ss' : List Symbol) → place < length tokens → Between start tokens place done ss →
+reached_more : (start : Nonterminal) (tokens : List TokenKind) (place : ℕ) (d : TokenKind) (done done' : List Event) (ss ss' : List Symbol)
+    → place < length tokens → Between start tokens place done ss →
     Takes (get_or tokens place d) place done ss done' ss' → IsReached start (place + 1) done' (take (place + 1) tokens) ss'
 reached_more start tokens place d done done' ss ss' lt at step =
     subst (λ ks. IsReached start (place + 1) done' ks ss') (sym (take_more tokens place d lt))
     (step.0 start (take place tokens) (reached_at start (get_or tokens place d) place done (take place tokens) ss at.reached))
 
 -- After a token, where the stack isn't empty.
-pub between_more : (start : Nonterminal) (tokens : List TokenKind) (place : ℕ) (d : TokenKind) (done done' : List Event) (ss ss' : List Symbol) → place < length tokens → Between start tokens place done ss →
+pub between_more : (start : Nonterminal) (tokens : List TokenKind) (place : ℕ) (d : TokenKind) (done done' : List Event) (ss ss' : List Symbol)
+    → place < length tokens → Between start tokens place done ss →
     Takes (get_or tokens place d) place done ss done' ss' → (ss' ≡ [] → ⊥) → Between start tokens (place + 1) done' ss'
 between_more start tokens place d done done' ss ss' lt at step some =
     let here = reached_more start tokens place d done done' ss ss' lt at step in
@@ -158,10 +171,12 @@ take-from n m tokens low =
     sym (ap (λ k. take k tokens) sum) ∙ take-add n (m - n) tokens
 
 -- After a token, where the stack is empty.
-pub finds : (start : Nonterminal) (tokens : List TokenKind) (place : ℕ) (d : TokenKind) (done done' : List Event) (ss ss' : List Symbol) → place < length tokens → Between start tokens place done ss →
+pub finds : (start : Nonterminal) (tokens : List TokenKind) (place : ℕ) (d : TokenKind) (done done' : List Event) (ss ss' : List Symbol) → place < length tokens
+    → Between start tokens place done ss →
     Takes (get_or tokens place d) place done ss done' ss' → ss' ≡ [] → IsOnlySentence start tokens (place + 1) done'
 finds start tokens place d done done' ss ss' lt at step empty =
-    let here = subst (λ xs. IsReached start (place + 1) done' (take (place + 1) tokens) xs) empty (reached_more start tokens place d done done' ss ss' lt at step) in
+    let here = subst (λ xs. IsReached start (place + 1) done' (take (place + 1) tokens) xs) empty
+    (reached_more start tokens place d done done' ss ss' lt at step) in
     record {
       within = omega arith;
       sentence = finished start (place + 1) done' (take (place + 1) tokens) here;
@@ -170,19 +185,23 @@ finds start tokens place d done done' ss ss' lt at step empty =
           (λ below. absurd (at.none m es (omega arith) sentence))
           (λ above.
           let rest = take (m - (place + 1)) (drop (place + 1) tokens) in
-          let only = only_here start (place + 1) done' (take (place + 1) tokens) here es rest (subst (IsSentence start es) (take-from (place + 1) m tokens above) sentence) in
+          let only = only_here start (place + 1) done' (take (place + 1) tokens) here es rest
+          (subst (IsSentence start es) (take-from (place + 1) m tokens above) sentence) in
           let short : length rest ≡ 0 = ap length only.0 in
           (omega (arith, short, length-take (m - (place + 1)) (drop (place + 1) tokens), length-drop (place + 1) tokens), only.1))
           (cases_lt m (place + 1));
     }
 
 -- Where the token ahead can't be taken.
-pub fault_at : (start : Nonterminal) (tokens : List TokenKind) (place : ℕ) (d : TokenKind) (done : List Event) (ss : List Symbol) → place < length tokens → Between start tokens place done ss →
+pub fault_at : (start : Nonterminal) (tokens : List TokenKind) (place : ℕ) (d : TokenKind) (done : List Event) (ss : List Symbol) → place < length tokens
+    → Between start tokens place done ss →
     Stops (get_or tokens place d) place done ss → IsFault start tokens place
 fault_at start tokens place d done ss lt at step =
     let not_viable : IsViable start (take (place + 1) tokens) → ⊥ = λ v.
-    step start (take place tokens) (reached_at start (get_or tokens place d) place done (take place tokens) ss at.reached) v.1 (get_or tokens place d ∷ v.0) refl
-    (subst (λ ks. IsSentence start v.1 ks) (ap (λ ks. ks ++ v.0) (take_more tokens place d lt) ∙ append_assoc (take place tokens) (get_or tokens place d ∷ []) v.0) v.2) in
+    step start (take place tokens) (reached_at start (get_or tokens place d) place done (take place tokens) ss at.reached) v.1
+    (get_or tokens place d ∷ v.0) refl
+    (subst (λ ks. IsSentence start v.1 ks) (ap (λ ks. ks ++ v.0) (take_more tokens place d lt)
+    ∙ append_assoc (take place tokens) (get_or tokens place d ∷ []) v.0) v.2) in
     record {
       within = lt;
       before = viable start place done (take place tokens) ss at.reached;
@@ -190,16 +209,23 @@ fault_at start tokens place d done ss lt at step =
       none = λ m es within sentence.
           ⊎_elim
           (λ below. at.none m es (omega arith) sentence)
-          (λ above. not_viable (take (m - (place + 1)) (drop (place + 1) tokens), es, subst (IsSentence start es) (take-from (place + 1) m tokens above) sentence))
+          (λ above. not_viable (
+            take (m - (place + 1)) (drop (place + 1) tokens),
+            es,
+            subst (IsSentence start es)
+                (take-from (place + 1) m tokens above) sentence,
+          ))
           (cases_lt m (place + 1));
     }
 
 -- Behind the last token the stack would want another, but nothing follows an end.
-pub never_left : (start : Nonterminal) (tokens : List TokenKind) (place : ℕ) (done : List Event) (ss : List Symbol) → IsStart start → IsEnded tokens → length tokens ≤ place → Between start tokens place done ss → ⊥
+pub never_left : (start : Nonterminal) (tokens : List TokenKind) (place : ℕ) (done : List Event) (ss : List Symbol) → IsStart start → IsEnded tokens
+    → length tokens ≤ place → Between start tokens place done ss → ⊥
 never_left start tokens place done ss is_start ended past at =
     let s = spelled place ss in
     let whole = take_all place tokens past in
     let sentence = at.reached.sound s.events s.tokens s.derives in
-    let joined : take place tokens ++ s.tokens ≡ ended.0 ++ (End ∷ s.tokens) = ap (λ x. x ++ s.tokens) (whole ∙ ended.1) ∙ append_assoc ended.0 (End ∷ []) s.tokens in
+    let joined : take place tokens ++ s.tokens ≡ ended.0 ++ (End ∷ s.tokens) = ap (λ x. x ++ s.tokens) (whole ∙ ended.1)
+    ∙ append_assoc ended.0 (End ∷ []) s.tokens in
     let none = end_is_last start (done ++ s.events) ended.0 s.tokens is_start (subst (IsSentence start (done ++ s.events)) joined sentence) in
     derives_some s.derives at.closed none

@@ -28,33 +28,38 @@ use Rattle.frame_grammar.proofs.Run.{shift}
 use Rattle.frame_grammar.proofs.Ends.{closes-terminal}
 
 -- the token ahead is on top of the stack
-pub takes : (ahead : TokenKind) (place : ℕ) (done0 done : List Event) (ss0 ss : List Symbol) → Leads ahead place done0 ss0 done (symbol.Terminal ahead ∷ ss) → Takes ahead place done0 ss0 done ss
+pub takes : (ahead : TokenKind) (place : ℕ) (done0 done : List Event) (ss0 ss : List Symbol) → Leads ahead place done0 ss0 done (symbol.Terminal ahead ∷ ss)
+    → Takes ahead place done0 ss0 done ss
 takes ahead place done0 done ss0 ss leads = (
   λ start read at. shift start ahead place done read ss (leads.reached start read at),
   λ e. closes-terminal ahead ss (leads.closed e),
 )
 
 -- what was led to takes the token
-pub leads_take : (ahead : TokenKind) (place : ℕ) (done0 done done' : List Event) (ss0 ss ss' : List Symbol) → Leads ahead place done0 ss0 done ss → Takes ahead place done ss done' ss' → Takes ahead place done0 ss0 done' ss'
+pub leads_take : (ahead : TokenKind) (place : ℕ) (done0 done done' : List Event) (ss0 ss ss' : List Symbol) → Leads ahead place done0 ss0 done ss
+    → Takes ahead place done ss done' ss' → Takes ahead place done0 ss0 done' ss'
 leads_take ahead place done0 done done' ss0 ss ss' leads step = (
   λ start read at. step.0 start read (leads.reached start read at),
   λ e. step.1 (leads.closed e),
 )
 
 -- what was led to goes on
-pub leads_go : (ahead : TokenKind) (place : ℕ) (done0 done done' : List Event) (ss0 ss ss' : List Symbol) → Leads ahead place done0 ss0 done ss → Goes ahead place done ss done' ss' → Leads ahead place done0 ss0 done' ss'
+pub leads_go : (ahead : TokenKind) (place : ℕ) (done0 done done' : List Event) (ss0 ss ss' : List Symbol) → Leads ahead place done0 ss0 done ss
+    → Goes ahead place done ss done' ss' → Leads ahead place done0 ss0 done' ss'
 leads_go ahead place done0 done done' ss0 ss ss' leads step = record {
   reached = λ start read at. step.0 start read (leads.reached start read at);
   closed = λ e. step.1 (leads.closed e);
 }
 
 -- what was led to is a part of an expression, which takes the token or goes on
-pub part_takes : (part_taken : Option Coming) (c : Coming) (ahead : TokenKind) (place : ℕ) (done0 done done' : List Event) (ss0 part ss ss' : List Symbol) → part_taken ≡ Some c →
+pub part_takes : (part_taken : Option Coming) (c : Coming) (ahead : TokenKind) (place : ℕ) (done0 done done' : List Event) (ss0 part ss ss' : List Symbol)
+    → part_taken ≡ Some c →
     IsPart part_taken ahead place part done ss done' ss' → Leads ahead place done0 ss0 done (part ++ ss) → Takes ahead place done0 ss0 done' (to_come c ++ ss')
 part_takes part_taken c ahead place done0 done done' ss0 part ss ss' e step leads =
     leads_take ahead place done0 done done' ss0 (part ++ ss) (to_come c ++ ss') leads (subst (λ o. IsPart o ahead place part done ss done' ss') e step)
 
-pub part_goes : (part_taken : Option Coming) (ahead : TokenKind) (place : ℕ) (done0 done done' : List Event) (ss0 part ss ss' : List Symbol) → ((c : Coming) → part_taken ≡ Some c → ⊥) →
+pub part_goes : (part_taken : Option Coming) (ahead : TokenKind) (place : ℕ) (done0 done done' : List Event) (ss0 part ss ss' : List Symbol)
+    → ((c : Coming) → part_taken ≡ Some c → ⊥) →
     IsPart part_taken ahead place part done ss done' ss' → Leads ahead place done0 ss0 done (part ++ ss) → Leads ahead place done0 ss0 done' ss'
 part_goes (Some c) ahead place done0 done done' ss0 part ss ss' none step leads = absurd (none c refl)
 part_goes None ahead place done0 done done' ss0 part ss ss' none step leads = leads_go ahead place done0 done done' ss0 (part ++ ss) ss' leads step
@@ -78,17 +83,20 @@ told_going k place done done1 done1' ss ss1 ss1' same_events same_stack step =
     (subst (λ x. Goes k place done ss done1' x) (sym same_stack) step)
 
 -- The nonterminal goes on by a production that derives nothing.
-pub leaves : (ahead : TokenKind) (place : ℕ) (done : List Event) (ss : List Symbol) (n : Nonterminal) (p : Production) → predicted n ahead ≡ Some p → body_of p ≡ [] →
+pub leaves : (ahead : TokenKind) (place : ℕ) (done : List Event) (ss : List Symbol) (n : Nonterminal) (p : Production) → predicted n ahead ≡ Some p
+    → body_of p ≡ [] →
     Goes ahead place done (symbol.Nonterminal n ∷ ss) done ss
 leaves ahead place done ss n p e empty =
     let ss0 = symbol.Nonterminal n ∷ ss in
-    let led = subst (λ body. Leads ahead place done ss0 done (body ++ ss)) empty (goes_on_by ahead place done done ss0 ss n p (leads_start ahead place done ss0) e) in
+    let led = subst (λ body. Leads ahead place done ss0 done (body ++ ss)) empty
+    (goes_on_by ahead place done done ss0 ss n p (leads_start ahead place done ss0) e) in
     let less = subst (λ body. weight (body ++ ss) < weight ss0) empty (smaller ahead n p ss e) in
     (led.reached, led.closed, less)
 
 -- Line ends in kernels
 
-pub line_end : (place : ℕ) (done : List Event) (ss : List Symbol) → Takes kind.Line place done (symbol.Nonterminal nonterminal.Lines ∷ ss) done (symbol.Nonterminal nonterminal.Lines ∷ ss)
+pub line_end : (place : ℕ) (done : List Event) (ss : List Symbol) → Takes kind.Line place done (symbol.Nonterminal nonterminal.Lines ∷ ss) done
+    (symbol.Nonterminal nonterminal.Lines ∷ ss)
 unfolding body_of choices_of default_of same_kind
 line_end place done ss =
     let ss0 = symbol.Nonterminal nonterminal.Lines ∷ ss in
@@ -100,7 +108,8 @@ unfolding choices_of default_of same_kind
 lines_end kind.Line e = cc
 lines_end _ e = refl
 
-pub no_line_end : (k : TokenKind) (place : ℕ) (done : List Event) (ss : List Symbol) → sameb the_kind k kind.Line ≡ false → Goes k place done (symbol.Nonterminal nonterminal.Lines ∷ ss) done ss
+pub no_line_end : (k : TokenKind) (place : ℕ) (done : List Event) (ss : List Symbol) → sameb the_kind k kind.Line ≡ false
+    → Goes k place done (symbol.Nonterminal nonterminal.Lines ∷ ss) done ss
 unfolding body_of
 no_line_end k place done ss e = leaves k place done ss nonterminal.Lines production.LinesEnd (lines_end k e) refl
 
@@ -117,12 +126,15 @@ first_false true e = cc
 first_false false e = refl
 
 -- a line end before what waits behind line ends is taken
-pub line_taken_before : (w : Waiting) (k : TokenKind) (place : ℕ) (done : List Event) (ss : List Symbol) → takes_line w k ≡ true → Takes k place done (symbols_of w ++ ss) done (symbols_of w ++ ss)
+pub line_taken_before : (w : Waiting) (k : TokenKind) (place : ℕ) (done : List Event) (ss : List Symbol) → takes_line w k ≡ true
+    → Takes k place done (symbols_of w ++ ss) done (symbols_of w ++ ss)
 line_taken_before (waiting.LinedNonterminal n) k place done ss e =
-    subst (λ x. Takes x place done (symbols_of (waiting.LinedNonterminal n) ++ ss) done (symbols_of (waiting.LinedNonterminal n) ++ ss)) (sym (ends_line-is k (and_parts (ends_line k) true e).0))
+    subst (λ x. Takes x place done (symbols_of (waiting.LinedNonterminal n) ++ ss) done (symbols_of (waiting.LinedNonterminal n) ++ ss))
+    (sym (ends_line-is k (and_parts (ends_line k) true e).0))
     (line_end place done (symbol.Nonterminal n ∷ ss))
 line_taken_before (waiting.LinedAction a) k place done ss e =
-    subst (λ x. Takes x place done (symbols_of (waiting.LinedAction a) ++ ss) done (symbols_of (waiting.LinedAction a) ++ ss)) (sym (ends_line-is k (and_parts (ends_line k) true e).0))
+    subst (λ x. Takes x place done (symbols_of (waiting.LinedAction a) ++ ss) done (symbols_of (waiting.LinedAction a) ++ ss))
+    (sym (ends_line-is k (and_parts (ends_line k) true e).0))
     (line_end place done (symbol.Action a ∷ ss))
 line_taken_before (waiting.Terminal j) k place done ss e = let no = (and_parts (ends_line k) false e).1 in cc
 line_taken_before (waiting.Nonterminal n) k place done ss e = let no = (and_parts (ends_line k) false e).1 in cc
@@ -136,8 +148,10 @@ pub record LeadsNearer (k : TokenKind) (place : ℕ) (done0 : List Event) (ss0 :
   pub nearer : weight ss' ≤ weight ss
 
 -- any other token goes past the line ends
-pub past_lines : (w one lined : Waiting) (s : Symbol) (k : TokenKind) (place : ℕ) (done0 done : List Event) (ss0 ss : List Symbol) → symbols_of one ≡ s ∷ [] → symbols_of lined ≡ symbol.Nonterminal nonterminal.Lines ∷ s ∷ [] →
-    is_lined lined ≡ true → (w ≡ one) ⊎ (w ≡ lined) → takes_line w k ≡ false → Leads k place done0 ss0 done (symbols_of w ++ ss) → LeadsNearer k place done0 ss0 done (symbols_of w ++ ss) (s ∷ ss)
+pub past_lines : (w one lined : Waiting) (s : Symbol) (k : TokenKind) (place : ℕ) (done0 done : List Event) (ss0 ss : List Symbol) → symbols_of one ≡ s ∷ []
+    → symbols_of lined ≡ symbol.Nonterminal nonterminal.Lines ∷ s ∷ [] →
+    is_lined lined ≡ true → (w ≡ one) ⊎ (w ≡ lined) → takes_line w k ≡ false → Leads k place done0 ss0 done (symbols_of w ++ ss)
+    → LeadsNearer k place done0 ss0 done (symbols_of w ++ ss) (s ∷ ss)
 past_lines w one lined s k place done0 done ss0 ss one_is lined_is has_lines which not_line leads =
     ⊎_elim
     (λ e.
@@ -149,7 +163,8 @@ past_lines w one lined s k place done0 done ss0 ss one_is lined_is has_lines whi
     let other = first_false (ends_line k) test in
     let step = no_line_end k place done (s ∷ ss) (ends_line-not k other) in
     record {
-      leads = leads_go k place done0 done done ss0 (symbol.Nonterminal nonterminal.Lines ∷ s ∷ ss) (s ∷ ss) (subst (Leads k place done0 ss0 done) whole leads) step;
+      leads = leads_go k place done0 done done ss0 (symbol.Nonterminal nonterminal.Lines ∷ s ∷ ss) (s ∷ ss)
+          (subst (Leads k place done0 ss0 done) whole leads) step;
       nearer = subst (λ xs. weight (s ∷ ss) ≤ weight xs) (sym whole) (let less = step.2 in omega (arith, less));
     })
     which
@@ -158,11 +173,13 @@ past_lines w one lined s k place done0 done ss0 ss one_is lined_is has_lines whi
 
 pub assignment : (place : ℕ) (done : List Event) (ss : List Symbol) → Takes kind.Name place done (symbol.Nonterminal nonterminal.Statements ∷ ss)
     ((done ++ record { action = action.StartStatement; place = place } ∷ []) ++ record { action = action.Name; place = place } ∷ [])
-    (symbol.Nonterminal nonterminal.Lines ∷ symbol.Nonterminal nonterminal.Target ∷ symbol.Terminal kind.Semicolon ∷ symbol.Nonterminal nonterminal.Lines ∷ symbol.Nonterminal nonterminal.Statements ∷ ss)
+    (symbol.Nonterminal nonterminal.Lines ∷ symbol.Nonterminal nonterminal.Target ∷ symbol.Terminal kind.Semicolon ∷ symbol.Nonterminal nonterminal.Lines
+    ∷ symbol.Nonterminal nonterminal.Statements ∷ ss)
 unfolding body_of choices_of default_of same_kind
 assignment place done ss =
     let ss0 = symbol.Nonterminal nonterminal.Statements ∷ ss in
-    let rest = symbol.Nonterminal nonterminal.Lines ∷ symbol.Nonterminal nonterminal.Target ∷ symbol.Terminal kind.Semicolon ∷ symbol.Nonterminal nonterminal.Lines ∷ ss0 in
+    let rest = symbol.Nonterminal nonterminal.Lines ∷ symbol.Nonterminal nonterminal.Target ∷ symbol.Terminal kind.Semicolon
+    ∷ symbol.Nonterminal nonterminal.Lines ∷ ss0 in
     let started = done ++ record { action = action.StartStatement; place = place } ∷ [] in
     let more = goes_on_by kind.Name place done done ss0 ss nonterminal.Statements production.StatementsMore (leads_start kind.Name place done ss0) refl in
     let start = acts kind.Name place done done ss0 (symbol.Nonterminal nonterminal.KernelStatement ∷ ss0) action.StartStatement more in
@@ -184,8 +201,10 @@ pub placed : (place : ℕ) (done : List Event) (ss : List Symbol) → Takes kind
 unfolding body_of choices_of default_of same_kind
 placed place done ss =
     let ss0 = symbol.Nonterminal nonterminal.Target ∷ ss in
-    let value = symbol.Terminal kind.Assign ∷ symbol.Nonterminal nonterminal.Lines ∷ symbol.Nonterminal nonterminal.Expression ∷ symbol.Action action.SetPlace ∷ ss in
-    let rest = symbol.Nonterminal nonterminal.Lines ∷ symbol.Nonterminal nonterminal.Expression ∷ symbol.Terminal kind.CloseBracket ∷ symbol.Nonterminal nonterminal.Lines ∷ value in
+    let value = symbol.Terminal kind.Assign ∷ symbol.Nonterminal nonterminal.Lines ∷ symbol.Nonterminal nonterminal.Expression ∷ symbol.Action action.SetPlace
+    ∷ ss in
+    let rest = symbol.Nonterminal nonterminal.Lines ∷ symbol.Nonterminal nonterminal.Expression ∷ symbol.Terminal kind.CloseBracket
+    ∷ symbol.Nonterminal nonterminal.Lines ∷ value in
     takes kind.OpenBracket place done done ss0 rest
     (goes_on_by kind.OpenBracket place done done ss0 ss nonterminal.Target production.TargetPlace (leads_start kind.OpenBracket place done ss0) refl)
 
@@ -214,11 +233,13 @@ index place done ss =
     takes kind.Index place done (done ++ record { action = action.StartAtom; place = place } ∷ []) ss0 rest noted
 
 pub parens : (place : ℕ) (done : List Event) (ss : List Symbol) → Takes kind.OpenParen place done (symbol.Nonterminal nonterminal.Unary ∷ ss) done
-    (symbol.Nonterminal nonterminal.Lines ∷ symbol.Nonterminal nonterminal.Expression ∷ symbol.Terminal kind.CloseParen ∷ symbol.Nonterminal nonterminal.Lines ∷ ss)
+    (symbol.Nonterminal nonterminal.Lines ∷ symbol.Nonterminal nonterminal.Expression ∷ symbol.Terminal kind.CloseParen ∷ symbol.Nonterminal nonterminal.Lines
+    ∷ ss)
 unfolding body_of choices_of default_of same_kind
 parens place done ss =
     let ss0 = symbol.Nonterminal nonterminal.Unary ∷ ss in
-    let rest = symbol.Nonterminal nonterminal.Lines ∷ symbol.Nonterminal nonterminal.Expression ∷ symbol.Terminal kind.CloseParen ∷ symbol.Nonterminal nonterminal.Lines ∷ ss in
+    let rest = symbol.Nonterminal nonterminal.Lines ∷ symbol.Nonterminal nonterminal.Expression ∷ symbol.Terminal kind.CloseParen
+    ∷ symbol.Nonterminal nonterminal.Lines ∷ ss in
     let atom = goes_on_by kind.OpenParen place done done ss0 ss nonterminal.Unary production.UnaryAtom (leads_start kind.OpenParen place done ss0) refl in
     takes kind.OpenParen place done done ss0 rest (goes_on_by kind.OpenParen place done done ss0 ss nonterminal.Atom production.AtomParens atom refl)
 
@@ -237,11 +258,13 @@ name place done ss =
     takes kind.Name place done (started ++ record { action = action.Name; place = place } ∷ []) ss0 rest noted
 
 pub bracket : (place : ℕ) (done : List Event) (ss : List Symbol) → Takes kind.OpenBracket place done (symbol.Nonterminal nonterminal.Place ∷ ss) done
-    (symbol.Nonterminal nonterminal.Lines ∷ symbol.Nonterminal nonterminal.Expression ∷ symbol.Terminal kind.CloseBracket ∷ symbol.Nonterminal nonterminal.Lines ∷ symbol.Action action.PlaceAtom ∷ ss)
+    (symbol.Nonterminal nonterminal.Lines ∷ symbol.Nonterminal nonterminal.Expression ∷ symbol.Terminal kind.CloseBracket ∷ symbol.Nonterminal nonterminal.Lines
+    ∷ symbol.Action action.PlaceAtom ∷ ss)
 unfolding body_of choices_of default_of same_kind
 bracket place done ss =
     let ss0 = symbol.Nonterminal nonterminal.Place ∷ ss in
-    let rest = symbol.Nonterminal nonterminal.Lines ∷ symbol.Nonterminal nonterminal.Expression ∷ symbol.Terminal kind.CloseBracket ∷ symbol.Nonterminal nonterminal.Lines ∷ symbol.Action action.PlaceAtom ∷ ss in
+    let rest = symbol.Nonterminal nonterminal.Lines ∷ symbol.Nonterminal nonterminal.Expression ∷ symbol.Terminal kind.CloseBracket
+    ∷ symbol.Nonterminal nonterminal.Lines ∷ symbol.Action action.PlaceAtom ∷ ss in
     takes kind.OpenBracket place done done ss0 rest
     (goes_on_by kind.OpenBracket place done done ss0 ss nonterminal.Place production.PlaceSome (leads_start kind.OpenBracket place done ss0) refl)
 
@@ -250,7 +273,8 @@ unfolding choices_of default_of same_kind
 place_none kind.OpenBracket e = cc
 place_none _ e = refl
 
-pub no_bracket : (k : TokenKind) (place : ℕ) (done : List Event) (ss : List Symbol) → sameb the_kind k kind.OpenBracket ≡ false → Goes k place done (symbol.Nonterminal nonterminal.Place ∷ ss)
+pub no_bracket : (k : TokenKind) (place : ℕ) (done : List Event) (ss : List Symbol) → sameb the_kind k kind.OpenBracket ≡ false
+    → Goes k place done (symbol.Nonterminal nonterminal.Place ∷ ss)
     (done ++ record { action = action.NameAtom; place = place } ∷ []) ss
 unfolding body_of
 no_bracket k place done ss e =
@@ -265,16 +289,20 @@ no_bracket k place done ss e =
 
 -- the operator is noted, and taken
 operator : (k : TokenKind) (place : ℕ) (done : List Event) (n : Nonterminal) (p : Production) (ss rest : List Symbol) → predicted n k ≡ Some p →
-    body_of p ++ ss ≡ symbol.Action action.Operator ∷ symbol.Terminal k ∷ rest → Takes k place done (symbol.Nonterminal n ∷ ss) (done ++ record { action = action.Operator; place = place } ∷ []) rest
+    body_of p ++ ss ≡ symbol.Action action.Operator ∷ symbol.Terminal k ∷ rest
+    → Takes k place done (symbol.Nonterminal n ∷ ss) (done ++ record { action = action.Operator; place = place } ∷ []) rest
 operator k place done n p ss rest e body =
     let ss0 = symbol.Nonterminal n ∷ ss in
     let led = subst (λ xs. Leads k place done ss0 done xs) body (goes_on_by k place done done ss0 ss n p (leads_start k place done ss0) e) in
-    takes k place done (done ++ record { action = action.Operator; place = place } ∷ []) ss0 rest (acts k place done done ss0 (symbol.Terminal k ∷ rest) action.Operator led)
+    takes k place done (done ++ record { action = action.Operator; place = place } ∷ []) ss0 rest
+    (acts k place done done ss0 (symbol.Terminal k ∷ rest) action.Operator led)
 
 abbrev pub factor_ahead : List Symbol → List Symbol
-factor_ahead ss = symbol.Nonterminal nonterminal.Lines ∷ symbol.Nonterminal nonterminal.Unary ∷ symbol.Action action.Binary ∷ symbol.Nonterminal nonterminal.MoreTerm ∷ ss
+factor_ahead ss = symbol.Nonterminal nonterminal.Lines ∷ symbol.Nonterminal nonterminal.Unary ∷ symbol.Action action.Binary
+    ∷ symbol.Nonterminal nonterminal.MoreTerm ∷ ss
 
-pub factor : (k : TokenKind) (place : ℕ) (done : List Event) (ss : List Symbol) → multiplies k ≡ true → Takes k place done (symbol.Nonterminal nonterminal.MoreTerm ∷ ss)
+pub factor : (k : TokenKind) (place : ℕ) (done : List Event) (ss : List Symbol) → multiplies k ≡ true
+    → Takes k place done (symbol.Nonterminal nonterminal.MoreTerm ∷ ss)
     (done ++ record { action = action.Operator; place = place } ∷ []) (factor_ahead ss)
 unfolding body_of choices_of default_of same_kind
 factor kind.Star place done ss e = operator kind.Star place done nonterminal.MoreTerm production.MoreTermTimes ss (factor_ahead ss) refl refl
@@ -289,12 +317,14 @@ term_ends kind.Slash e = cc
 term_ends kind.Percent e = cc
 term_ends _ e = refl
 
-pub no_factor : (k : TokenKind) (place : ℕ) (done : List Event) (ss : List Symbol) → multiplies k ≡ false → Goes k place done (symbol.Nonterminal nonterminal.MoreTerm ∷ ss) done ss
+pub no_factor : (k : TokenKind) (place : ℕ) (done : List Event) (ss : List Symbol) → multiplies k ≡ false
+    → Goes k place done (symbol.Nonterminal nonterminal.MoreTerm ∷ ss) done ss
 unfolding body_of
 no_factor k place done ss e = leaves k place done ss nonterminal.MoreTerm production.MoreTermEnd (term_ends k e) refl
 
 abbrev pub term_ahead : List Symbol → List Symbol
-term_ahead ss = symbol.Nonterminal nonterminal.Lines ∷ symbol.Nonterminal nonterminal.Term ∷ symbol.Action action.Binary ∷ symbol.Nonterminal nonterminal.MoreSum ∷ ss
+term_ahead ss = symbol.Nonterminal nonterminal.Lines ∷ symbol.Nonterminal nonterminal.Term ∷ symbol.Action action.Binary
+    ∷ symbol.Nonterminal nonterminal.MoreSum ∷ ss
 
 pub term : (k : TokenKind) (place : ℕ) (done : List Event) (ss : List Symbol) → adds k ≡ true → Takes k place done (symbol.Nonterminal nonterminal.MoreSum ∷ ss)
     (done ++ record { action = action.Operator; place = place } ∷ []) (term_ahead ss)
@@ -309,7 +339,8 @@ sum_ends kind.Plus e = cc
 sum_ends kind.Minus e = cc
 sum_ends _ e = refl
 
-pub no_term : (k : TokenKind) (place : ℕ) (done : List Event) (ss : List Symbol) → adds k ≡ false → Goes k place done (symbol.Nonterminal nonterminal.MoreSum ∷ ss) done ss
+pub no_term : (k : TokenKind) (place : ℕ) (done : List Event) (ss : List Symbol) → adds k ≡ false
+    → Goes k place done (symbol.Nonterminal nonterminal.MoreSum ∷ ss) done ss
 unfolding body_of
 no_term k place done ss e = leaves k place done ss nonterminal.MoreSum production.MoreSumEnd (sum_ends k e) refl
 
@@ -323,7 +354,8 @@ compared_none kind.Greater e = cc
 compared_none kind.GreaterEqual e = cc
 compared_none _ e = refl
 
-pub no_comparison : (k : TokenKind) (place : ℕ) (done : List Event) (ss : List Symbol) → compares k ≡ false → Goes k place done (symbol.Nonterminal nonterminal.Compared ∷ ss) done ss
+pub no_comparison : (k : TokenKind) (place : ℕ) (done : List Event) (ss : List Symbol) → compares k ≡ false
+    → Goes k place done (symbol.Nonterminal nonterminal.Compared ∷ ss) done ss
 unfolding body_of
 no_comparison k place done ss e = leaves k place done ss nonterminal.Compared production.ComparedNone (compared_none k e) refl
 
@@ -332,7 +364,8 @@ unfolding choices_of default_of same_kind
 and_ends kind.AndAnd e = cc
 and_ends _ e = refl
 
-pub no_and : (k : TokenKind) (place : ℕ) (done : List Event) (ss : List Symbol) → sameb the_kind k kind.AndAnd ≡ false → Goes k place done (symbol.Nonterminal nonterminal.MoreAnd ∷ ss) done ss
+pub no_and : (k : TokenKind) (place : ℕ) (done : List Event) (ss : List Symbol) → sameb the_kind k kind.AndAnd ≡ false
+    → Goes k place done (symbol.Nonterminal nonterminal.MoreAnd ∷ ss) done ss
 unfolding body_of
 no_and k place done ss e = leaves k place done ss nonterminal.MoreAnd production.MoreAndEnd (and_ends k e) refl
 
@@ -341,7 +374,8 @@ unfolding choices_of default_of same_kind
 or_ends kind.OrOr e = cc
 or_ends _ e = refl
 
-pub no_or : (k : TokenKind) (place : ℕ) (done : List Event) (ss : List Symbol) → sameb the_kind k kind.OrOr ≡ false → Goes k place done (symbol.Nonterminal nonterminal.MoreOr ∷ ss) done ss
+pub no_or : (k : TokenKind) (place : ℕ) (done : List Event) (ss : List Symbol) → sameb the_kind k kind.OrOr ≡ false
+    → Goes k place done (symbol.Nonterminal nonterminal.MoreOr ∷ ss) done ss
 unfolding body_of
 no_or k place done ss e = leaves k place done ss nonterminal.MoreOr production.MoreOrEnd (or_ends k e) refl
 

@@ -22,7 +22,8 @@ use Rattle.frame_grammar.proofs.Steps.{between_more, finds, fault_at}
 
 -- the same in the words of whoever asks
 pub part_taken : (value value0 next : Value) (k k0 : TokenKind) (place : ℕ) (done done1 done1' : List Event) → value ≡ value0 → k ≡ k0 → done1 ≡ done1' →
-    ((ss : List Symbol) → Takes k0 place done (in_values value0 ss) done1' (in_values next ss)) → (ss : List Symbol) → Takes k place done (in_values value ss) done1 (in_values next ss)
+    ((ss : List Symbol) → Takes k0 place done (in_values value0 ss) done1' (in_values next ss)) → (ss : List Symbol)
+    → Takes k place done (in_values value ss) done1 (in_values next ss)
 part_taken value value0 next k k0 place done done1 done1' same_value same_kind same_events step ss =
     subst (λ v. Takes k place done (in_values v ss) done1 (in_values next ss)) (sym same_value)
     (subst (λ x. Takes x place done (in_values value0 ss) done1 (in_values next ss)) (sym same_kind)
@@ -66,7 +67,8 @@ unfolding body_of choices_of default_of same_kind
 sign_after place done ss = taken_at_once kind.Minus place (in_values Negative ss) (record { events = _; stack = _ }) refl done
 
 -- the same behind a value that is whole with an action
-pub next_taken : {E : Type 0} (result : Result (Option Value) E) (value : Value) (a : Action) (k : TokenKind) (place : ℕ) (done done' : List Event) (stack rest : List Symbol) →
+pub next_taken : {E : Type 0} (result : Result (Option Value) E) (value : Value) (a : Action) (k : TokenKind) (place : ℕ) (done done' : List Event)
+    (stack rest : List Symbol) →
     rest_of value ≡ symbol.Action a ∷ [] → stack ≡ symbol.Nonterminal MoreValues ∷ rest →
     IfOk result (λ next. MatchOption next (done' ≡ done) (λ next. (ss : List Symbol) → Takes k place done (in_values value ss) done' (in_values next ss))) →
     IfOk result (λ next. MatchOption next (done' ≡ done)
@@ -81,7 +83,8 @@ next_taken (Ok (Some next)) value a k place done done' stack rest whole top h = 
 next_taken (Err e) value a k place done done' stack rest whole top h = h
 
 -- no value yet
-pub no_values : (tokens : List TokenKind) (place : ℕ) (value : Value) (done : List Event) → place ≤ length tokens → TakesValues tokens place place value value done done
+pub no_values : (tokens : List TokenKind) (place : ℕ) (value : Value) (done : List Event) → place ≤ length tokens
+    → TakesValues tokens place place value value done done
 no_values tokens place value done within = record { on = omega arith; within = within; between = λ start ss at. at }
 
 some_values : (value : Value) (ss : List Symbol) → in_values value ss ≡ [] → ⊥
@@ -90,7 +93,8 @@ some_values Plain ss e = cc
 some_values Negative ss e = cc
 
 -- one more token
-pub more_values : (tokens : List TokenKind) (from place : ℕ) (d k : TokenKind) (first value next : Value) (done0 done done' : List Event) → place < length tokens → get_or tokens place d ≡ k →
+pub more_values : (tokens : List TokenKind) (from place : ℕ) (d k : TokenKind) (first value next : Value) (done0 done done' : List Event)
+    → place < length tokens → get_or tokens place d ≡ k →
     TakesValues tokens from place first value done0 done → ((ss : List Symbol) → Takes k place done (in_values value ss) done' (in_values next ss)) →
     TakesValues tokens from (place + 1) first next done0 done'
 more_values tokens from place d k first value next done0 done done' low kind before step = record {
@@ -102,12 +106,14 @@ more_values tokens from place d k first value next done0 done done' low kind bef
 }
 
 -- a token that no sentence has there
-pub stops_from : (tokens : List TokenKind) (place : ℕ) (d k : TokenKind) (done : List Event) (ss : List Symbol) → place < length tokens → get_or tokens place d ≡ k →
+pub stops_from : (tokens : List TokenKind) (place : ℕ) (d k : TokenKind) (done : List Event) (ss : List Symbol) → place < length tokens
+    → get_or tokens place d ≡ k →
     Stops k place done ss → StopsFrom tokens place done ss
 stops_from tokens place d k done ss low kind step start at = fault_at start tokens place d done ss low at (subst (λ x. Stops x place done ss) (sym kind) step)
 
 -- a token that is taken by itself
-pub token_from : (tokens : List TokenKind) (place : ℕ) (d k : TokenKind) (done done' : List Event) (ss ss' : List Symbol) → place < length tokens → get_or tokens place d ≡ k →
+pub token_from : (tokens : List TokenKind) (place : ℕ) (d k : TokenKind) (done done' : List Event) (ss ss' : List Symbol) → place < length tokens
+    → get_or tokens place d ≡ k →
     Takes k place done ss done' ss' → TakesFrom tokens place (place + 1) done ss done' ss'
 token_from tokens place d k done done' ss ss' low kind step =
     let here = subst (λ x. Takes x place done ss done' ss') (sym kind) step in
@@ -119,7 +125,8 @@ token_from tokens place d k done done' ss ss' low kind step =
     }
 
 -- a token of a value, and those of the values after it
-pub values_from : (tokens : List TokenKind) (place next : ℕ) (d k : TokenKind) (first last : Value) (done done1 done' : List Event) (ss stack stack' rest : List Symbol) →
+pub values_from : (tokens : List TokenKind) (place next : ℕ) (d k : TokenKind) (first last : Value) (done done1 done' : List Event)
+    (ss stack stack' rest : List Symbol) →
     place < length tokens → get_or tokens place d ≡ k → stack ≡ symbol.Nonterminal MoreValues ∷ rest → Takes k place done ss done1 (in_values first rest) →
     TakesValues tokens (place + 1) next first last done1 done' → stack' ≡ rest_of last ++ stack → TakesFrom tokens place next done ss done' stack'
 values_from tokens place next d k first last done done1 done' ss stack stack' rest low kind top step values put =
@@ -130,5 +137,6 @@ values_from tokens place next d k first last done done1 done' ss stack stack' re
       ended = λ start at empty. absurd (some_values last rest (sym whole ∙ empty));
       more = λ start at full. subst (Between start tokens next done') (sym whole)
           (values.between start rest
-          (between_more start tokens place d done done1 ss (in_values first rest) low at (subst (λ x. Takes x place done ss done1 (in_values first rest)) (sym kind) step) (some_values first rest)));
+          (between_more start tokens place d done done1 ss (in_values first rest) low at
+          (subst (λ x. Takes x place done ss done1 (in_values first rest)) (sym kind) step) (some_values first rest)));
     }

@@ -80,7 +80,8 @@ fn take_operator(
 // Goes through all levels, since no token decides between them.
 pub fn expression(stack: &mut Vec<Waiting>) -> Result<Step, AllocError>
     ensures { IfOk result (λ step. (ahead : TokenKind) (place : ℕ) (done : List Event) →
-        IsStep step ahead place nonterminal.Expression done (standing stack.old.items) done (standing stack.new.items)) }
+        IsStep step ahead place nonterminal.Expression done (standing stack.old.items)
+        done (standing stack.new.items)) }
 {
     put(stack, &[Waiting::AfterFactor, Nonterminal(N::Unary)])?;
     Ok(Step::WentOn)
@@ -176,7 +177,8 @@ pub fn after_term(
     place: u32,
 ) -> Result<Option<Coming>, AllocError>
     requires { place < 2 ^ 25 }
-    ensures { IfOk result (λ coming. IsPart coming ahead place (symbols_of waiting.AfterTerm) (events_of events.old.items)
+    ensures { IfOk result (λ coming. IsPart coming ahead place (symbols_of waiting.AfterTerm)
+        (events_of events.old.items)
         (standing stack.old.items) (events_of events.new.items) (standing stack.new.items)) }
 {
     if adds(ahead) {

@@ -14,8 +14,6 @@ mod stack;
 mod statements;
 mod symbols;
 mod table;
-#[cfg(test)]
-mod tests;
 mod token_at;
 mod values;
 mod waiting;

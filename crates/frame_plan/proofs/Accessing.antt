@@ -63,11 +63,13 @@ module _ (s : ScriptState) (name : ℕ) (writes : Bool) where
       if not alive then Some (record { cause = Disposed; name = name })
       else (if old then Some (record { cause = StaleView; name = name }) else p)
 
-  access_is : access s name (need_of s name writes) [] ≡ decide (is_alive s (s.values name)) (is_stale s (s.values name)) (pending s nobody (need_of s name writes ∷ []))
+  access_is : access s name (need_of s name writes) [] ≡ decide (is_alive s (s.values name)) (is_stale s (s.values name))
+      (pending s nobody (need_of s name writes ∷ []))
   unfolding first_some
   access_is = by (is_alive s (s.values name)) (is_stale s (s.values name)) (pending s nobody (need_of s name writes ∷ []))
     where
-      by : (a o : Bool) (p : Option Refused) → first_some (option_map (refused Disposed) (cond (not a) (Some name) None) ∷ option_map (refused StaleView) (cond o (Some name) None) ∷ p ∷ []) ≡ decide a o p
+      by : (a o : Bool) (p : Option Refused) → first_some (option_map (refused Disposed) (cond (not a) (Some name) None)
+          ∷ option_map (refused StaleView) (cond o (Some name) None) ∷ p ∷ []) ≡ decide a o p
       by false o p = refl
       by true true p = refl
       by true false None = refl
@@ -87,7 +89,8 @@ module _ (s : ScriptState) (name : ℕ) (writes : Bool) where
 
   pending_is : pending s nobody (need_of s name writes ∷ []) ≡ refused_as (cause_of (checks.pending_on (job_numbered job))) name
   pending_is =
-      ap (pending_on s.uses (need_of s name writes ∷ [])) (λ i. greatest (λ j. or_none (blockers s.book (s.uses (container_at s name)) nobody writes j) i) s.book.count)
+      ap (pending_on s.uses (need_of s name writes ∷ [])) (λ i. greatest (λ j. or_none (blockers s.book (s.uses (container_at s name)) nobody writes j) i)
+      s.book.count)
       ∙ by job refl
     where
       by : (n : ℕ) → job ≡ n → pending_on s.uses (need_of s name writes ∷ []) n ≡ refused_as (cause_of (checks.pending_on (job_numbered n))) name
@@ -95,7 +98,8 @@ module _ (s : ScriptState) (name : ℕ) (writes : Bool) where
       by (suc n) e =
           let in_set = greatest_in (blockers s.book (s.uses (container_at s name)) nobody writes) s.book.count (omega arith) in
           let conflict : conflicts (s.uses (container_at s name)) writes (suc n) ≡ true =
-          subst (λ k. conflicts (s.uses (container_at s name)) writes k ≡ true) e (and_first (conflicts (s.uses (container_at s name)) writes job) (not (happens_before s.book nobody job)) in_set) in
+          subst (λ k. conflicts (s.uses (container_at s name)) writes k ≡ true) e
+          (and_first (conflicts (s.uses (container_at s name)) writes job) (not (happens_before s.book nobody job)) in_set) in
           ap (λ b. Some (record { cause = Pending (record { 0 = suc n }); name = cond b name 0 })) conflict
 
   pub is_disposed : is_alive s (s.values name) ≡ false → Some (record { cause = Disposed; name = name }) ≡ access s name (need_of s name writes) []
@@ -108,12 +112,14 @@ module _ (s : ScriptState) (name : ℕ) (writes : Bool) where
 
   pub gone_by : (answer : Option Refusal) → refused_as answer name ≡ access s name (need_of s name writes) [] → says answer ≡ not (is_alive s (s.values name))
   gone_by answer e =
-      by answer (is_alive s (s.values name)) (is_stale s (s.values name)) job (e ∙ access_is ∙ ap (decide (is_alive s (s.values name)) (is_stale s (s.values name))) pending_is)
+      by answer (is_alive s (s.values name)) (is_stale s (s.values name)) job
+      (e ∙ access_is ∙ ap (decide (is_alive s (s.values name)) (is_stale s (s.values name))) pending_is)
     where
       cause : {a b : Refused} → Some a ≡ Some b → a.cause ≡ b.cause
       cause e = ap (λ (r : Refused). r.cause) (some_is e)
 
-      by : (answer : Option Refusal) (a o : Bool) (m : ℕ) → refused_as answer name ≡ decide a o (refused_as (cause_of (checks.pending_on (job_numbered m))) name) → says answer ≡ not a
+      by : (answer : Option Refusal) (a o : Bool) (m : ℕ) → refused_as answer name ≡ decide a o
+          (refused_as (cause_of (checks.pending_on (job_numbered m))) name) → says answer ≡ not a
       by None false o m e = absurd (none_some e)
       by None true o m e = refl
       by (Some c) false o m e = ap is_gone (cause e)
@@ -124,7 +130,8 @@ module _ (s : ScriptState) (name : ℕ) (writes : Bool) where
   -- an access breaks no views
   pub breaks_none : (r : Refused) → access s name (need_of s name writes) [] ≡ Some r → breaks_views r.cause ≡ false
   breaks_none r e =
-      by (is_alive s (s.values name)) (is_stale s (s.values name)) job (sym (ap (decide (is_alive s (s.values name)) (is_stale s (s.values name))) pending_is) ∙ sym access_is ∙ e)
+      by (is_alive s (s.values name)) (is_stale s (s.values name)) job (sym (ap (decide (is_alive s (s.values name)) (is_stale s (s.values name))) pending_is)
+      ∙ sym access_is ∙ e)
     where
       cause : {a b : Refused} → Some a ≡ Some b → a.cause ≡ b.cause
       cause e = ap (λ (r : Refused). r.cause) (some_is e)
@@ -135,8 +142,10 @@ module _ (s : ScriptState) (name : ℕ) (writes : Bool) where
       by true false zero e = absurd (none_some e)
       by true false (suc m) e = ap breaks_views (sym (cause e))
 
-  module _ (p : Planner) (g : Setting) (begun : ScriptState) (n : ℕ) (found : List ℕ) (st : Stands p g begun n s found) (c : ℕ) (it : Container) (has : slice_get p.containers.items c ≡ Some it) (view : Option ℕ)
-      (alive_is : is_alive s (s.values name) ≡ s.alive c) (stale_is : is_stale s (s.values name) ≡ checks.is_stale view (s.view c)) (at : container_at s name ≡ c)
+  module _ (p : Planner) (g : Setting) (begun : ScriptState) (n : ℕ) (found : List ℕ) (st : Stands p g begun n s found) (c : ℕ) (it : Container)
+      (has : slice_get p.containers.items c ≡ Some it) (view : Option ℕ)
+      (alive_is : is_alive s (s.values name) ≡ s.alive c) (stale_is : is_stale s (s.values name) ≡ checks.is_stale view (s.view c))
+      (at : container_at s name ≡ c)
       (r : Result (Unit {0}) Blocked) (a : IsAnswer (state_of p.safety it.slot.0) (tag_of it view) p.jobs nobody writes r) where
     answered : refused_as (cause_of (result_err r)) name ≡ access s name (need_of s name writes) []
     answered = by (s.alive c) refl
@@ -150,7 +159,8 @@ module _ (s : ScriptState) (name : ℕ) (writes : Bool) where
         shape false = refl
 
         ends : (o : Bool) → s.alive c ≡ true → o ≡ is_stale s (s.values name)
-            → refused_as (cause_of (if o then Some Broken else checks.pending_on (job_numbered (blocker s.book (s.uses c) nobody writes)))) name ≡ access s name (need_of s name writes) []
+            → refused_as (cause_of (if o then Some Broken else checks.pending_on (job_numbered (blocker s.book (s.uses c) nobody writes)))) name ≡ access s name
+            (need_of s name writes) []
         ends o alive e =
             shape o
             ∙ ap (λ k. decide true o (refused_as (cause_of (checks.pending_on (job_numbered (blocker s.book (s.uses k) nobody writes)))) name)) (sym at)
@@ -169,22 +179,28 @@ module _ (s : ScriptState) (name : ℕ) (writes : Bool) where
             let current = kept.alive ∙ alive in
             let p0 : Option Blocked = checks.pending_on (job_numbered (blocker s.book (s.uses c) nobody writes)) in
             ap (λ o. refused_as (cause_of o) name) told
-            ∙ ap (λ b. refused_as (cause_of (if not b then Some NotLive else (if checks.is_stale view (state_of p.safety it.slot.0).view then Some Broken else p0))) name) current
+            ∙ ap (λ b. refused_as (cause_of (if not b then Some NotLive else (if checks.is_stale view
+            (state_of p.safety it.slot.0).view then Some Broken else p0))) name) current
             ∙ ap (λ v. refused_as (cause_of (if checks.is_stale view v then Some Broken else p0)) name) (kept.view alive)
             ∙ ends (checks.is_stale view (s.view c)) alive (sym stale_is)
 
 -- by what the name stands for
-module _ (p : Planner) (g : Setting) (begun : ScriptState) (n : ℕ) (s : ScriptState) (found : List ℕ) (st : Stands p g begun n s found) (name : ℕ) (writes : Bool) where
-  some_tag : (c : ℕ) (view : Option ℕ) (tag : Tag) → tag_in p.containers.items c view ≡ Some tag → (it : Container) × (slice_get p.containers.items c ≡ Some it) × (tag ≡ tag_of it view)
+module _ (p : Planner) (g : Setting) (begun : ScriptState) (n : ℕ) (s : ScriptState) (found : List ℕ) (st : Stands p g begun n s found) (name : ℕ)
+    (writes : Bool) where
+  some_tag : (c : ℕ) (view : Option ℕ) (tag : Tag) → tag_in p.containers.items c view ≡ Some tag
+      → (it : Container) × (slice_get p.containers.items c ≡ Some it) × (tag ≡ tag_of it view)
   some_tag c view tag e = by (slice_get p.containers.items c) refl e
     where
-      by : (o : Option Container) → slice_get p.containers.items c ≡ o → tag_by view o ≡ Some tag → (it : Container) × (slice_get p.containers.items c ≡ Some it) × (tag ≡ tag_of it view)
+      by : (o : Option Container) → slice_get p.containers.items c ≡ o → tag_by view o ≡ Some tag
+          → (it : Container) × (slice_get p.containers.items c ≡ Some it) × (tag ≡ tag_of it view)
       by None f e = absurd (none_some e)
       by (Some it) f e = (it, f, sym (some_is e))
 
   -- where the name stands for a container, the answer is the cause
-  pub tag_answers : (v : Value) → slice_get p.values.items name ≡ Some v → (tag : Tag) → tag_for p.containers.items v ≡ Some tag → (r : Result (Unit {0}) Blocked)
-      → IsAnswer (state_of p.safety tag.slot.0) tag p.jobs nobody writes r → refused_as (cause_of (result_err r)) name ≡ access s name (need_of s name writes) []
+  pub tag_answers : (v : Value) → slice_get p.values.items name ≡ Some v → (tag : Tag) → tag_for p.containers.items v ≡ Some tag
+      → (r : Result (Unit {0}) Blocked)
+      → IsAnswer (state_of p.safety tag.slot.0) tag p.jobs nobody writes r
+      → refused_as (cause_of (result_err r)) name ≡ access s name (need_of s name writes) []
   tag_answers Dead h tag e r a = absurd (none_some e)
   tag_answers (Whole c) h tag e r a =
       let v = st.names.are name (Whole c) h in
@@ -204,7 +220,8 @@ module _ (p : Planner) (g : Setting) (begun : ScriptState) (n : ℕ) (s : Script
   tag_answers (Handles k) h tag e r a = absurd (none_some e)
 
   -- and where it stands for none, it is disposed
-  pub no_tag : (v : Value) → slice_get p.values.items name ≡ Some v → tag_for p.containers.items v ≡ None → Some (record { cause = Disposed; name = name }) ≡ access s name (need_of s name writes) []
+  pub no_tag : (v : Value) → slice_get p.values.items name ≡ Some v → tag_for p.containers.items v ≡ None
+      → Some (record { cause = Disposed; name = name }) ≡ access s name (need_of s name writes) []
   no_tag v h e = is_disposed s name writes (ap (is_alive s) (sym (st.names.are name v h)) ∙ by v h e)
     where
       gone : (c : ℕ) (view : Option ℕ) → c < length p.containers.items → tag_in p.containers.items c view ≡ None → ⊥

@@ -1,20 +1,24 @@
 -- A statement of a script that a planner stands before, and the planner after it.
-use Rattle.std.proofs.Common.{◌≡◌, ℕ, zero, suc, ◌≤◌, ℤ, List, [], ◌∷◌, ◌++◌, length, None, Some, Result, Ok, Err, refl, sym, ap, subst, ◌∙◌, arith}
+use Rattle.std.proofs.Common.{◌≡◌, ℕ, zero, suc, ◌<◌, ◌≤◌, ⊎_elim, false, ℤ, List, [], ◌∷◌, ◌++◌, length, None, Some, Result, Ok, Err, refl, sym, ap, subst, ◌∙◌, arith}
 use Rattle.std.specs.Prelude.{IfErr, IsErrAnd, slice_get}
+use Rattle.std.proofs.lemmas.Bool.{cases_eq}
 use Rattle.frame_ast.specs.declared.script.Order.{Order}
 use Rattle.frame_ast.specs.declared.script.Order.TheVariants.{When}
 use Rattle.frame_ast.specs.declared.script.Script.{Script}
 use Rattle.frame_ast.specs.declared.script.Sign.{Sign}
 use Rattle.frame_ast.specs.declared.script.Statement.{Statement}
+use Rattle.frame_ast.specs.Accepted.{is_when}
 use Rattle.frame_ast.specs.Checks.{refusal}
 use Rattle.frame_ast.specs.Orders.{Table, setting}
 use Rattle.frame_ast.specs.States.{ScriptState}
+use Rattle.frame_core.proofs.Small.{some_is, not_both}
 use Rattle.frame_plan.specs.declared.state.PlanFault.{PlanFault}
 use Rattle.frame_plan.specs.declared.state.Planner.{Planner}
 use Rattle.frame_plan.specs.Growth.{Grows}
-use Rattle.frame_plan.specs.Runs.{IsActingTest, IsAtStatement, IsFurther, HasPassed, StopsAt, FailsAtPlace}
+use Rattle.frame_plan.specs.Runs.{IsActingTest, NoneActs, IsAtStatement, IsFurther, HasPassed, StopsAt, GoesPast, FailsAtPlace}
 use Rattle.frame_plan.specs.Stands.{Stands}
 use Rattle.frame_plan.specs.Steps.{state_at, state_after, StandsAt, HasStepped, AtStatement, IsStep, IsBefore, IsReady, GoesOn, GoesOnIn, GoesOnWith, FailsBy, FailsIn, FailsWith, PassesLimit}
+use Rattle.frame_plan.specs.Tests.{IsRefused}
 use Rattle.frame_plan.proofs.Reaching.{next_state}
 
 -- the statement, with its form written out
@@ -24,11 +28,13 @@ written x a = record { line = x.line; act = a }
 is_written : (x : Statement) (a : Order) → x.act ≡ a → x ≡ written x a
 is_written x a e = λ i. record { line = x.line; act = e i }
 
-module _ (script : Script) (table : Table) (p : Planner) (x : Statement) (at : IsAtStatement script table p x) (acts : p.passing ≡ 0) (a : Order) (is : x.act ≡ a) where
+module _ (script : Script) (table : Table) (p : Planner) (x : Statement) (at : IsAtStatement script table p x) (acts : p.passing ≡ 0) (a : Order)
+    (is : x.act ≡ a) where
   here : (n : ℕ) → slice_get script.statements.items n ≡ Some x → slice_get script.statements.items n ≡ Some (written x a)
   here n e = e ∙ ap Some (is_written x a is)
 
-  step : (begun : ScriptState) (n : ℕ) (found : List ℕ) → slice_get script.statements.items n ≡ Some x → StandsAt p script table begun n found → IsStep script table n (written x a)
+  step : (begun : ScriptState) (n : ℕ) (found : List ℕ) → slice_get script.statements.items n ≡ Some x → StandsAt p script table begun n found
+      → IsStep script table n (written x a)
   step begun n found e st = record { accepted = at.accepted; here = here n e; acts = sym st.numbers.passing ∙ acts }
 
   pub before : IsBefore script p (written x a)
@@ -44,7 +50,8 @@ module _ (script : Script) (table : Table) (p : Planner) (x : Statement) (at : I
     next begun n found e r = record {
       more = r.more;
       stands = subst (λ s. Stands q (setting script table) begun (suc n) s (found ++ r.more)) (next_state script table n (written x a) (here n e)) r.stands;
-      grows = λ starts same. subst (λ y. Grows (setting script table) (state_at script table n) y starts begun.book.count p q) (sym (is_written x a is)) (r.grows starts same);
+      grows = λ starts same. subst (λ y. Grows (setting script table) (state_at script table n) y starts begun.book.count p q) (sym (is_written x a is))
+          (r.grows starts same);
     }
 
     pub passed : GoesOn p q (written x a) → HasPassed script table p q x
@@ -57,7 +64,8 @@ module _ (script : Script) (table : Table) (p : Planner) (x : Statement) (at : I
     passed_with h begun n found e st = next begun n found e (h script begun n found (step begun n found e st) st)
 
   module _ (fault : PlanFault) where
-    limit : (n : ℕ) → slice_get script.statements.items n ≡ Some x → PassesLimit fault (state_after script table n (written x a)) → PassesLimit fault (state_at script table (suc n))
+    limit : (n : ℕ) → slice_get script.statements.items n ≡ Some x → PassesLimit fault (state_after script table n (written x a))
+        → PassesLimit fault (state_at script table (suc n))
     limit n e h = subst (PassesLimit fault) (next_state script table n (written x a) (here n e)) h
 
     pub fails : FailsBy fault p (written x a) → FailsAtPlace script table fault p x
@@ -74,12 +82,55 @@ if_err (Ok x) f h = tt
 if_err (Err e) f h = f e h
 
 -- a `when` that isn't refused
-pub test_stops : (script : Script) (table : Table) (p : Planner) (x : Statement) (at : IsAtStatement script table p x) (acts : p.passing ≡ 0) (name : ℕ) (sign : Sign) (value : ℤ) (count : ℕ) (is : x.act ≡ When name sign value count)
-    → AtStatement p (written x (When name sign value count)) (λ script table begun n found. refusal (setting script table) (state_at script table n) (When name sign value count) ≡ None)
+pub test_stops : (script : Script) (table : Table) (p : Planner) (x : Statement) (at : IsAtStatement script table p x) (acts : p.passing ≡ 0) (name : ℕ)
+    (sign : Sign) (value : ℤ) (count : ℕ) (is : x.act ≡ When name sign value count)
+    → AtStatement p (written x (When name sign value count)) (λ script table begun n found. refusal (setting script table) (state_at script table n)
+    (When name sign value count) ≡ None)
     → StopsAt script table p x
 test_stops script table p x at acts name sign value count is h begun n found here_is st =
     subst (IsActingTest (setting script table) (state_at script table n)) (sym is)
     (sym st.numbers.passing ∙ acts, h script table begun n found (step script table p x at acts (When name sign value count) is begun n found here_is st) st)
+
+-- a statement that is passed by, and what is no `when`
+pub passes_by : (script : Script) (table : Table) (p : Planner) (x : Statement) → 0 < p.passing → GoesPast script table p x
+passes_by script table p x some begun n found here st acts = by x.act acts
+  where
+    by : (a : Order) → IsActingTest (setting script table) (state_at script table n) a → ⊥
+    by (When name sign value count) h = (let same = st.numbers.passing in let none = h.0 in absurd (omega arith))
+    by a h = h
+
+pub other_past : (script : Script) (table : Table) (p : Planner) (x : Statement) → is_when x.act ≡ false → GoesPast script table p x
+other_past script table p x other begun n found here st acts = by x.act other acts
+  where
+    by : (a : Order) → is_when a ≡ false → IsActingTest (setting script table) (state_at script table n) a → ⊥
+    by (When name sign value count) e h = not_both refl e
+    by a e h = h
+
+-- a `when` that is refused
+pub test_past : (script : Script) (table : Table) (p : Planner) (x : Statement)
+    → (at : IsAtStatement script table p x) (acts : p.passing ≡ 0)
+    → (name : ℕ) (sign : Sign) (value : ℤ) (count : ℕ) (is : x.act ≡ When name sign value count)
+    → IsRefused p (written x (When name sign value count))
+    → GoesPast script table p x
+test_past script table p x at acts name sign value count is h begun n found here_is st test =
+    h script table begun n found (step script table p x at acts (When name sign value count) is begun n found here_is st) st
+    (subst (IsActingTest (setting script table) (state_at script table n)) is test).1
+
+-- one statement more is no test that acts
+pub one_past : (script : Script) (table : Table) (p : Planner) (begun : ScriptState) (from at n : ℕ) (found : List ℕ) (x y : Statement)
+    → slice_get script.statements.items at ≡ Some x
+    → StandsAt p script table begun at found
+    → GoesPast script table p x
+    → NoneActs script table from at
+    → from ≤ n → n ≤ at → slice_get script.statements.items n ≡ Some y
+    → IsActingTest (setting script table) (state_at script table n) y.act → ⊥
+one_past script table p begun from at n found x y here st past none low le there acts = ⊎_elim
+    (λ (e : n ≡ at). (let same : y ≡ x = some_is (sym there ∙ ap (slice_get script.statements.items) e ∙ here) in
+    past begun at found here st
+    (subst (λ k. IsActingTest (setting script table) (state_at script table k) x.act) e
+    (subst (λ (z : Statement). IsActingTest (setting script table) (state_at script table n) z.act) same acts))))
+    (λ ne. none n y low (omega arith) there acts)
+    (cases_eq n at)
 
 pub err_is : {T E : Type 0} (r : Result T E) (e : E) (P : E → Type 0) → IsErrAnd r (λ f. f ≡ e) → P e → IfErr r P
 err_is (Ok x) e P h p = tt

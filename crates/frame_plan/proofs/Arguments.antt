@@ -67,14 +67,16 @@ module _ (s : ScriptState) where
   whole_array width start (Pairs cap ps) h = refl
   whole_array width start (Entries room es) h = absurd cc
 
-  pub view_array : (width start number c : ℕ) (k : Contents) → kind_of k ≡ kind.List → as_array width (bind_for (states.View c number) start k) ≡ array_for width (states.View c number) start k
+  pub view_array : (width start number c : ℕ) (k : Contents) → kind_of k ≡ kind.List
+      → as_array width (bind_for (states.View c number) start k) ≡ array_for width (states.View c number) start k
   view_array width start number c (Elements xs) h = refl
   view_array width start number c (Single z) h = absurd cc
   view_array width start number c (Items cap xs) h = refl
   view_array width start number c (Pairs cap ps) h = refl
   view_array width start number c (Entries room es) h = absurd cc
 
-  array_is : (width start : ℕ) (v : states.Value) → FitsKind s false ArrayKind v → as_array width (bind_for v start (s.contents (container_of v))) ≡ array_for width v start (s.contents (container_of v))
+  array_is : (width start : ℕ) (v : states.Value) → FitsKind s false ArrayKind v
+      → as_array width (bind_for v start (s.contents (container_of v))) ≡ array_for width v start (s.contents (container_of v))
   array_is width start states.Dead h = absurd h
   array_is width start (states.Whole c) h = whole_array width start (s.contents c) (⊎_elim (λ a. a) (λ d. absurd (not_both d.0 refl)) h)
   array_is width start (states.Slice c from len) h = refl
@@ -102,12 +104,15 @@ module _ (s : ScriptState) where
   kind_is ListKind width start v h = whole_is kind.List start v (s.contents (container_of v)) h
   kind_is RefKind width start v h = whole_is kind.Reference start v (s.contents (container_of v)) h
   kind_is MapKind width start v h = whole_is kind.Map start v (s.contents (container_of v)) h
-  kind_is StreamKind width start v h = ap (as_stream width) (whole_is kind.Stream start v (s.contents (container_of v)) h) ∙ stream_is width start (s.contents (container_of v))
+  kind_is StreamKind width start v h = ap (as_stream width) (whole_is kind.Stream start v (s.contents (container_of v)) h)
+      ∙ stream_is width start (s.contents (container_of v))
 
 -- ---- all arguments
 
-module _ (p : Planner) (g : Setting) (begun : ScriptState) (n : ℕ) (s : ScriptState) (found : List ℕ) (st : Stands p g begun n s found) (x : Outline) (a : Agrees p g begun found x) where
-  arg_is : (q : Param) (width : ℕ) (arg : Arg) → Rattle.frame_plan.specs.Uses.IsNameBelow (length p.values.items) arg → ArgFits s None q arg → job_bind p q.kind width arg ≡ bind_by x.starts s q width arg
+module _ (p : Planner) (g : Setting) (begun : ScriptState) (n : ℕ) (s : ScriptState) (found : List ℕ) (st : Stands p g begun n s found) (x : Outline)
+    (a : Agrees p g begun found x) where
+  arg_is : (q : Param) (width : ℕ) (arg : Arg) → Rattle.frame_plan.specs.Uses.IsNameBelow (length p.values.items) arg → ArgFits s None q arg
+      → job_bind p q.kind width arg ≡ bind_by x.starts s q width arg
   arg_is q width (Number z) below fit = refl
   arg_is q width (Name m) below fit =
       let v = some_at p.values.items m below in
@@ -116,7 +121,8 @@ module _ (p : Planner) (g : Setting) (begun : ScriptState) (n : ℕ) (s : Script
       ∙ ap (as_kind q.kind width) (binds_at p g begun n s found st x a m v.0 v.1 usable)
       ∙ kind_is s q.kind width (start_at x.starts s m) (s.values m) fit.value
 
-  pub args_are : (parallel : Bool) (waive : List ℕ) (y : ℕ) (qs : List Param) (args : List Arg) → EachBelow (length p.values.items) args → ArgsFit s None qs args
+  pub args_are : (parallel : Bool) (waive : List ℕ) (y : ℕ) (qs : List Param) (args : List Arg) → EachBelow (length p.values.items) args
+      → ArgsFit s None qs args
       → job_binds p parallel waive y qs args ≡ binds_by x.starts s qs (widths_from parallel waive y qs) args
   args_are parallel waive y [] args below fit = refl
   args_are parallel waive y (q ∷ qs) [] below fit = absurd fit
@@ -127,7 +133,8 @@ module _ (p : Planner) (g : Setting) (begun : ScriptState) (n : ℕ) (s : Script
 
 -- ---- parameters that are the same
 
-pub same_job_binds : (p : Planner) (parallel : Bool) (waive : List ℕ) (y : ℕ) (ps qs : List Param) (args : List Arg) → Pairwise SameParam ps qs → job_binds p parallel waive y ps args ≡ job_binds p parallel waive y qs args
+pub same_job_binds : (p : Planner) (parallel : Bool) (waive : List ℕ) (y : ℕ) (ps qs : List Param) (args : List Arg) → Pairwise SameParam ps qs
+    → job_binds p parallel waive y ps args ≡ job_binds p parallel waive y qs args
 same_job_binds p parallel waive y [] [] args same = refl
 same_job_binds p parallel waive y [] (r ∷ qs) args same = absurd same
 same_job_binds p parallel waive y (q ∷ ps) [] args same = absurd same
@@ -147,7 +154,8 @@ same_args_fit s (q ∷ ps) (r ∷ qs) [] same fit = absurd fit
 same_args_fit s (q ∷ ps) (r ∷ qs) (Name m ∷ args) same fit = (subst (λ k. NameFits s false k m) same.0.kind fit.0, same_args_fit s ps qs args same.1 fit.1)
 same_args_fit s (q ∷ ps) (r ∷ qs) (Number z ∷ args) same fit = (sym same.0.kind ∙ fit.0, same_args_fit s ps qs args same.1 fit.1)
 
-pub same_widths : (parallel : Bool) (waive : List ℕ) (y : ℕ) (ps qs : List Param) → Pairwise SameParam ps qs → widths_from parallel waive y ps ≡ widths_from parallel waive y qs
+pub same_widths : (parallel : Bool) (waive : List ℕ) (y : ℕ) (ps qs : List Param) → Pairwise SameParam ps qs
+    → widths_from parallel waive y ps ≡ widths_from parallel waive y qs
 same_widths parallel waive y [] [] same = refl
 same_widths parallel waive y [] (r ∷ qs) same = absurd same
 same_widths parallel waive y (q ∷ ps) [] same = absurd same
@@ -159,7 +167,8 @@ same_widths parallel waive y (q ∷ ps) (r ∷ qs) same =
     λ i. width_at parallel waive y (record r { kind = kinds i; access = access i; by = by i }) ∷ more i
 
 -- a parameter of the second has one of the first
-pub same_at : (ps qs : List Param) (n : ℕ) (r : Param) → Pairwise SameParam ps qs → slice_get qs n ≡ Some r → (q : Param) × (slice_get ps n ≡ Some q) × (q.access ≡ r.access)
+pub same_at : (ps qs : List Param) (n : ℕ) (r : Param) → Pairwise SameParam ps qs → slice_get qs n ≡ Some r
+    → (q : Param) × (slice_get ps n ≡ Some q) × (q.access ≡ r.access)
 same_at [] [] n r same h = absurd (none_some h)
 same_at [] (z ∷ qs) n r same h = absurd same
 same_at (q ∷ ps) [] n r same h = absurd same

@@ -56,7 +56,8 @@ use Rattle.frame_plan.proofs.Regrowing.{with_capacity, capacity_is, regrown_stan
 
 -- THE CAUSES OF A USE, and those after them
 
-pub access_some : (s : ScriptState) (name : ℕ) (need : Need) (more : List (Option Refused)) (r : Refused) → access s name need [] ≡ Some r → access s name need more ≡ Some r
+pub access_some : (s : ScriptState) (name : ℕ) (need : Need) (more : List (Option Refused)) (r : Refused) → access s name need [] ≡ Some r
+    → access s name need more ≡ Some r
 unfolding first_some
 access_some s name need more r = by (disposed s (name ∷ [])) (stale s (name ∷ [])) (pending s Rattle.frame_ast.specs.Jobs.nobody (need ∷ []))
   where
@@ -66,7 +67,8 @@ access_some s name need more r = by (disposed s (name ∷ [])) (stale s (name �
     by None None (Some c) e = e
     by None None None e = absurd (none_some e)
 
-pub access_none : (s : ScriptState) (name : ℕ) (need : Need) (more : List (Option Refused)) → access s name need [] ≡ None → access s name need more ≡ first_some more
+pub access_none : (s : ScriptState) (name : ℕ) (need : Need) (more : List (Option Refused)) → access s name need [] ≡ None
+    → access s name need more ≡ first_some more
 unfolding first_some
 access_none s name need more = by (disposed s (name ∷ [])) (stale s (name ∷ [])) (pending s Rattle.frame_ast.specs.Jobs.nobody (need ∷ []))
   where
@@ -131,7 +133,8 @@ module _ (script : Script) (table : Table) (begun : ScriptState) (n line name ca
     pub contents : s.contents c ≡ Items old xs
     pub alive : s.alive c ≡ true
 
-  list_of_value : (v : Value) → slice_get p.values.items name ≡ Some v → value_for p.handles.items v ≡ s.values name → IsOfKind s ListName (value_for p.handles.items v) → is_alive s (value_for p.handles.items v) ≡ true → HasList
+  list_of_value : (v : Value) → slice_get p.values.items name ≡ Some v → value_for p.handles.items v ≡ s.values name
+      → IsOfKind s ListName (value_for p.handles.items v) → is_alive s (value_for p.handles.items v) ≡ true → HasList
   list_of_value Dead h e of alive = absurd (not_both alive refl)
   list_of_value (Whole c) h e of alive =
       let it = there p.containers.items c (let lt = of.1 in let m = st.containers.made in omega arith) in
@@ -156,7 +159,8 @@ module _ (script : Script) (table : Table) (begun : ScriptState) (n line name ca
   whole_is e = cc
 
   -- as the code reads it
-  abbrev pub list_read : access s name (need_of s name true) [] ≡ None → (v : Value) (number : ℕ) (it : Container) → slice_get p.values.items name ≡ Some v → v ≡ Whole number
+  abbrev pub list_read : access s name (need_of s name true) [] ≡ None → (v : Value) (number : ℕ) (it : Container) → slice_get p.values.items name ≡ Some v
+      → v ≡ Whole number
       → slice_get p.containers.items number ≡ Some it → HasList
   list_read none v number it value is has =
       let l = has_list none in
@@ -176,7 +180,8 @@ module _ (script : Script) (table : Table) (begun : ScriptState) (n line name ca
   pub is_whole : access s name (need_of s name true) [] ≡ None → (v : Value) → slice_get p.values.items name ≡ Some v → IsWhole v
   is_whole none v value = let l = has_list none in subst IsWhole (some_is (sym l.value ∙ value)) tt
 
-  pub whole_below : access s name (need_of s name true) [] ≡ None → (v : Value) (number : ℕ) → slice_get p.values.items name ≡ Some v → v ≡ Whole number → number < length p.containers.items
+  pub whole_below : access s name (need_of s name true) [] ≡ None → (v : Value) (number : ℕ) → slice_get p.values.items name ≡ Some v → v ≡ Whole number
+      → number < length p.containers.items
   whole_below none v number value is = st.names.there name (Whole number) (value ∙ ap Some is)
 
   -- the use isn't refused
@@ -191,7 +196,8 @@ module _ (script : Script) (table : Table) (begun : ScriptState) (n line name ca
   name_read v e = read_some p.values name v (within p g begun n s found st name named.below) e
 
   -- the list, where the code read the name and the container
-  module _ (answer : Option Refusal) (not : (r : Refusal) → answer ≡ Some r → ⊥) (may : MayUse p name true answer) (v : Value) (v_is : v ≡ get_or p.values.items name v) where
+  module _ (answer : Option Refusal) (not : (r : Refusal) → answer ≡ Some r → ⊥) (may : MayUse p name true answer) (v : Value)
+      (v_is : v ≡ get_or p.values.items name v) where
     pub read_whole : IsWhole v
     read_whole = is_whole (unblocked answer may not) v (name_read v v_is)
 
@@ -238,7 +244,8 @@ module _ (script : Script) (table : Table) (begun : ScriptState) (n line name ca
 
   -- REFUSED, OR NOT
 
-  pub fits_live : (full : Bool) (words : ℕ) → words ≡ cap + 1 → (IsTrue full ↔ (MOST_LIVE_WORDS < live_words_of p.store + words)) → full ≡ false → live_words s + (cap + 1) ≤ MOST_LIVE_WORDS
+  pub fits_live : (full : Bool) (words : ℕ) → words ≡ cap + 1 → (IsTrue full ↔ (MOST_LIVE_WORDS < live_words_of p.store + words)) → full ≡ false
+      → live_words s + (cap + 1) ≤ MOST_LIVE_WORDS
   fits_live full words e decides is = ⊎_elim
       (λ lt. absurd (not_both (decides.1 lt) is))
       (λ le. let k = st.numbers.live_words in omega arith)
@@ -294,10 +301,12 @@ module _ (script : Script) (table : Table) (begun : ScriptState) (n line name ca
             let k = st.numbers.created in
             omega arith
 
-        pub capacity_goes_on : (q : Planner) (at : ListAt) → l.it.bind ≡ WholeList at → p.created + (cap + 1) ≤ MOST_CREATED_WORDS → IsMoved p q line name l.c l.it at cap
+        pub capacity_goes_on : (q : Planner) (at : ListAt) → l.it.bind ≡ WholeList at → p.created + (cap + 1) ≤ MOST_CREATED_WORDS
+            → IsMoved p q line name l.c l.it at cap
             → HasStepped script table begun n found p q x
         capacity_goes_on q at was small m =
-            range_steps script table begun n found x step p q st (cap + 1) m.span (record { line = line; name = name; act = Move (record { start = at.start; len = at.cap + 1 }) m.span })
+            range_steps script table begun n found x step p q st (cap + 1) m.span
+            (record { line = line; name = name; act = Move (record { start = at.start; len = at.cap + 1 }) m.span })
             (record { fit = m.regrown.fit; len = m.regrown.len_is; peak = m.regrown.peak })
             (record {
               ops = m.ops;
@@ -373,15 +382,18 @@ module _ (script : Script) (table : Table) (begun : ScriptState) (n line name ca
             here : d ≡ l.c → (state_of q.safety it.slot.0).view ≡ t.view d
             here e =
                 let same : it ≡ l.it = some_is (sym has ∙ ap (slice_get p.containers.items) e ∙ l.has) in
-                let up : (state_of q.safety l.it.slot.0).view ≡ (state_of p.safety l.it.slot.0).view + 1 = ap (λ (z : Planner). (state_of z.safety l.it.slot.0).view) i.rest ∙ ap (λ (z : SlotState). z.view) broken.slot_is in
+                let up : (state_of q.safety l.it.slot.0).view ≡ (state_of p.safety l.it.slot.0).view + 1 =
+                ap (λ (z : Planner). (state_of z.safety l.it.slot.0).view) i.rest ∙ ap (λ (z : SlotState). z.view) broken.slot_is in
                 let was = (st.containers.each l.c l.it l.has).view l.alive in
                 let new = like.broken l.c breaks_it in
                 ap (λ (z : Container). (state_of q.safety z.slot.0).view) same ∙ up ∙ ap (λ v. v + 1) was ∙ sym new ∙ ap t.view (sym e)
 
             other : d ≢ l.c → (state_of q.safety it.slot.0).view ≡ t.view d
             other ne =
-                let below : (e : ℕ) (j : Container) → slice_get p.containers.items e ≡ Some j → e < s.made = (λ e j h. let lt = get_below p.containers.items e j h in let m = st.containers.made in omega arith) in
-                let apart : it.slot.0 ≢ l.it.slot.0 = (λ e. ne (st.containers.once d l.c it l.it has l.has (alive_is_live s d (below d it has) alive) (alive_is_live s l.c (below l.c l.it l.has) l.alive) e)) in
+                let below : (e : ℕ) (j : Container) → slice_get p.containers.items e ≡ Some j
+                → e < s.made = (λ e j h. let lt = get_below p.containers.items e j h in let m = st.containers.made in omega arith) in
+                let apart : it.slot.0 ≢ l.it.slot.0 = (λ e. ne (st.containers.once d l.c it l.it has l.has (alive_is_live s d (below d it has) alive)
+                (alive_is_live s l.c (below l.c l.it l.has) l.alive) e)) in
                 ap (λ (z : Planner). (state_of z.safety it.slot.0).view) i.rest ∙ ap (λ (z : SlotState). z.view) (broken.others it.slot.0 apart)
                 ∙ kept.view alive ∙ sym (like.views d (breaks d (ne_eqb d (container_at s name) (λ e. ne (e ∙ l.c_is)))))
 
@@ -403,8 +415,10 @@ module _ (script : Script) (table : Table) (begun : ScriptState) (n line name ca
         pub low_goes_on : HasStepped script table begun n found p q y
         low_goes_on =
             refused_steps script table begun n found p q y step
-            (refused_stands p q g begun n s found y (refused PastRange name) st step.acts (refused_low lt) named.below restates i.ops (known_after script table n y step)
+            (refused_stands p q g begun n s found y (refused PastRange name) st step.acts (refused_low lt) named.below restates i.ops
+            (known_after script table n y step)
             (subst (λ (z : Planner). AreNames z.values.items z.handles.items (length p.containers.items) t) (sym i.rest)
             (same_names p.values.items p.handles.items (length p.containers.items) s t (λ j m. like.values m refl j) st.names)))
-            (quiet_restated p q s t restates (given_one p.plan.ops.items q.plan.ops.items (record { line = line; name = name; act = Say PastRange }) i.ops refl))
+            (quiet_restated p q s t restates (given_one p.plan.ops.items q.plan.ops.items
+            (record { line = line; name = name; act = Say PastRange }) i.ops refl))
             (refused PastRange name) (refused_low lt)

@@ -18,15 +18,15 @@ use Rattle.plan_laws.specs.Drafts.{Draft}
 use Rattle.plan_laws.specs.Ledgers.{later}
 use Rattle.frame_plan.specs.declared.sections.SectionBook.{SectionBook}
 use Rattle.frame_plan.specs.declared.state.Planner.{Planner}
-use Rattle.frame_plan.specs.Growth.{given_from, given_in, span_by, greatest_end, waits_in, deps_after, StartAs}
-use Rattle.frame_plan.specs.Layouts.{spans_between, greatest_end_at, carried_spans, HasRanges, HasGrown}
+use Rattle.frame_plan.specs.Growth.{given_from, given_in, span_by, greatest_end, waits_in, waits_of, unless_none, deps_after, StartAs}
+use Rattle.frame_plan.specs.Layouts.{spans_between, greatest_end_at, carried_spans, completed_between, HasRanges, HasGrown}
 use Rattle.frame_plan.specs.Resuming.{IsResumed}
 use Rattle.frame_plan.specs.Runs.{IsActingTest, IsStop}
 use Rattle.frame_plan.specs.Sections.{IsBetween, IsOutcome, AreLeft}
 use Rattle.frame_plan.specs.Steps.{state_at}
 use Rattle.frame_plan.proofs.Handing.{first_later}
-use Rattle.frame_plan.proofs.Laying.{no_spans, ranges_more, span_here, spans_more}
-use Rattle.frame_plan.proofs.Quiet.{IsPlain, plain_awaits, plain_schedules, plain_span, plain_takes}
+use Rattle.frame_plan.proofs.Laying.{completed_more, no_spans, none_so_far, ranges_more, span_here, spans_more}
+use Rattle.frame_plan.proofs.Quiet.{IsPlain, none_newly, plain_awaits, plain_schedules, plain_span, plain_takes}
 use Rattle.frame_plan.proofs.Reaching.{next_state}
 use Rattle.frame_plan.proofs.Resuming.{outcome_is, peak_is, q_is, test_acts}
 
@@ -36,7 +36,14 @@ plain_test g s a h = absurd h
 
 module _ (script : Script) (table : Table) (book : SectionBook) (n : ℕ) (carried : Cells) (len : ℕ) (b : IsBetween book script table n carried len)
     (kernels : List Kernel) (q : Planner) (mem : List ℤ) (left : AreLeft mem carried len) (r : IsResumed kernels book.planner q mem) where
-  resumed_is : q ≡ record b.old { jobs_before = q.jobs_before; plan = record book.planner.plan { kernels = q.plan.kernels; literals = q.plan.literals; ops = q.plan.ops } }
+  resumed_is : q ≡ record b.old {
+    jobs_before = q.jobs_before;
+    plan = record book.planner.plan {
+      kernels = q.plan.kernels;
+      literals = q.plan.literals;
+      ops = q.plan.ops;
+    };
+  }
   resumed_is = q_is script table book n carried len b kernels q mem left r
 
   module _ (x : Statement) (here : slice_get script.statements.items n ≡ Some x) (held : Bool) (out : IsOutcome script table n (Some held)) (k : ℕ) where
@@ -53,7 +60,8 @@ module _ (script : Script) (table : Table) (book : SectionBook) (n : ℕ) (carri
     book_is : (state_at script table (suc n)).book ≡ (state_at script table n).book
     book_is =
         ap (λ (t : ScriptState). t.book)
-        (sym (next_state script table n x here) ∙ test_acts (setting script table) (state_at script table n) x held x.act refl x_acts (outcome_is script table n x held out here))
+        (sym (next_state script table n x here) ∙ test_acts (setting script table) (state_at script table n) x held x.act refl x_acts
+        (outcome_is script table n x held out here))
 
     no_later : (j : ℕ) → 0 < j → later (state_at script table n).book.count (state_at script table n).book.completed j ≡ false
     no_later j pos = by (nat_lt 0 j) ((state_at script table n).book.completed ((state_at script table n).book.count + j)) refl
@@ -75,6 +83,14 @@ module _ (script : Script) (table : Table) (book : SectionBook) (n : ℕ) (carri
           spans_more script table starts n n (omega arith)
           ∙ (let a = no_spans script table starts n in let c = span_here script table starts n x here ∙ no_span in λ i. a i ++ c i)
 
+      none_completed : completed_between script table n (suc n) ≡ []
+      none_completed =
+          completed_more script table starts n n (omega arith)
+          ∙ (let a = none_so_far script table starts n in
+          let c = none_newly (state_at script table n).book.count (state_at script table n) (state_at script table (suc n))
+          (ap (λ (e : Book). e.completed) book_is) in
+          λ i. a i ++ unless_none (c i))
+
       carried_is : (m : ℕ) → 0 < m → record { start = 0; len = greatest_end_at script table starts m } ∷ [] ≡ carried_spans script table starts m
       carried_is zero pos = absurd (omega arith)
       carried_is (suc m) pos = refl
@@ -86,11 +102,13 @@ module _ (script : Script) (table : Table) (book : SectionBook) (n : ℕ) (carri
       grown_again = record {
         ranges = ranges_more script table starts b.old (record q { passing = k }) n x here was
             (plain_takes (setting script table) starts (state_at script table n) x.act (state_at script table n).passing plain.0)
-            (peak_now ∙ (let e : peak_of b.old.store ≡ max (peak_of b.old.store) 0 = omega arith in e) ∙ ap (λ l. max (peak_of b.old.store) (greatest_end l)) (sym no_span));
+            (peak_now ∙ (let e : peak_of b.old.store ≡ max (peak_of b.old.store) 0 = omega arith in e)
+            ∙ ap (λ l. max (peak_of b.old.store) (greatest_end l)) (sym no_span));
         spans = (let segments = ap (λ (p : Planner). p.plan.segments.items) resumed_is ∙ ap (λ (d : Draft). d.segments) b.emptied.draft in
             λ i. given_from (segments i) ++ given_in (r.ops i))
             ∙ (let e = peak_is script table book n carried len b ∙ was.peak in λ i. record { start = 0; len = e i } ∷ [])
-            ∙ carried_is n (first_later script table b.accepted n (subst (IsStop (setting script table) (state_at script table n)) (sym b.here) b.acts) (subst IsSome (sym b.here) refl))
+            ∙ carried_is n (first_later script table b.accepted n (subst (IsStop (setting script table) (state_at script table n)) (sym b.here) b.acts)
+            (subst IsSome (sym b.here) refl))
             ∙ sym (append-nil (carried_spans script table starts n))
             ∙ ap (λ l. carried_spans script table starts n ++ l) (sym none_between);
         jobs = λ m y low high there.
@@ -101,7 +119,8 @@ module _ (script : Script) (table : Table) (book : SectionBook) (n : ℕ) (carri
             let s = state_at script table m in
             let y_plain = subst (λ (z : Statement). IsPlain g z.act) y_is plain in
             record {
-              job = plain_schedules g starts before s (deps_after g s y) q.plan.kernels.items (slice_get q.plan.jobs.items (s.book.count - before)) y.act s.passing y_plain.1;
+              job = plain_schedules g starts before s (deps_after g s y) q.plan.kernels.items
+                  (slice_get q.plan.jobs.items (s.book.count - before)) y.act s.passing y_plain.1;
               after = plain_awaits g before s q.plan.segments.items y.act s.passing y_plain.1;
             };
         waited = λ j pos.
@@ -110,6 +129,11 @@ module _ (script : Script) (table : Table) (book : SectionBook) (n : ℕ) (carri
             λ i. has_job (waits_in (segments i) ++ waits i) j)
             ∙ sym (no_later j pos)
             ∙ ap (λ (e : Book). later (state_at script table n).book.count e.completed j) (sym book_is);
+        waits =
+            (let segments = ap (λ (p : Planner). p.plan.segments.items) resumed_is ∙ ap (λ (d : Draft). d.segments) b.emptied.draft in
+            let waits = ap (λ (p : Planner). p.plan.waits.items) resumed_is ∙ ap (λ (d : Draft). d.waits) b.emptied.draft in
+            λ i. waits_of (segments i) ++ unless_none (waits i))
+            ∙ sym none_completed;
       }
 
   pub growing_on : (held : Bool) (x : Statement) (k : ℕ) → slice_get script.statements.items book.at ≡ Some x → IsOutcome script table n (Some held)

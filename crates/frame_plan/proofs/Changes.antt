@@ -78,7 +78,8 @@ same_bind c d e start = sym (bind_of_form start c) ∙ ap (bind_of start) e ∙ 
 
 -- ---- refusals
 
-more_some : (a b c : Option Refused) (more : List (Option Refused)) (r : Refused) → first_some (a ∷ b ∷ c ∷ []) ≡ Some r → first_some (a ∷ b ∷ c ∷ more) ≡ Some r
+more_some : (a b c : Option Refused) (more : List (Option Refused)) (r : Refused) → first_some (a ∷ b ∷ c ∷ []) ≡ Some r
+    → first_some (a ∷ b ∷ c ∷ more) ≡ Some r
 unfolding first_some
 more_some (Some x) b c more r e = e
 more_some None (Some y) c more r e = e
@@ -149,7 +150,8 @@ list_view (Entries room es) b k s u same is = no_list b k s u same is
 
 changed_broken : (name : ℕ) (r : Result Contents Trap) (s : ScriptState) → is_list_now (contents_at s name) ≡ is_list_now (contents_at (changed name r s) name)
     → IsViewBroken s (views_broken name (changed name r s)) (container_at s name) (is_list_now (contents_at s name))
-changed_broken name (Ok c) s same = list_view (contents_at (changed name (Ok c) s) name) (is_list_now (contents_at s name)) (container_at s name) s (changed name (Ok c) s) refl same
+changed_broken name (Ok c) s same = list_view (contents_at (changed name (Ok c) s) name) (is_list_now (contents_at s name)) (container_at s name) s
+    (changed name (Ok c) s) refl same
 changed_broken name (Err t) s same = list_view (contents_at s name) (is_list_now (contents_at s name)) (container_at s name) s s refl same
 
 -- a list has the form of one
@@ -191,7 +193,8 @@ module _ (x : Statement) (name : ℕ) (kinds : List NameKind) (w : IsWrite x.act
       let s = state_at r.0 b.table b.n in
       (within p g b.begun b.n s b.found b.stands name (name_below r.0 b.table b.n b.step), are_there p g b.begun b.n s b.found b.stands)
 
-  pub write_refused : (p q : Planner) (cause : Refusal) → MayUse p name true (Some cause) → IsPushed p q (record { line = x.line; name = name; act = Say cause }) → GoesOn p q x
+  pub write_refused : (p q : Planner) (cause : Refusal) → MayUse p name true (Some cause)
+      → IsPushed p q (record { line = x.line; name = name; act = Say cause }) → GoesOn p q x
   write_refused p q cause may i script table begun n found step st =
       let g = setting script table in
       let s = state_at script table n in
@@ -224,7 +227,8 @@ planned_on x name kinds w operation plans p m v at script table begun n found st
     let writable = accepted_names_are_writable script step.accepted table n x step.here name kinds w.by y a.names none in
     plans y g s (draft_of p) (draft_of m) a.small st.known (st.planned y a) step.acts writable
     (adds_op p m _ (changed_fields p m p.values p.handles p.safety p.passing m.plan.ops i.rest)
-    (i.ops ∙ ap (λ b. p.plan.ops.items ++ record { line = x.line; name = name; act = operation b } ∷ []) (is ∙ binds_at p g begun n s found st y a name v value writable.usable)))
+    (i.ops ∙ ap (λ b. p.plan.ops.items ++ record { line = x.line; name = name; act = operation b } ∷ [])
+    (is ∙ binds_at p g begun n s found st y a name v value writable.usable)))
 
 -- ---- the state after it, whether the contents allow it or not
 
@@ -234,7 +238,8 @@ pub record IsAfter (s t : ScriptState) : Type 0 where
   pub values : t.values ≡ s.values
   pub form : (c start : ℕ) → c < s.made → bind_of start (t.contents c) ≡ bind_of start (s.contents c)
 
-module _ (x : Statement) (name : ℕ) (kinds : List NameKind) (w : IsWrite x.act name kinds) (script : Script) (table : Table) (n : ℕ) (step : IsStep script table n x) where
+module _ (x : Statement) (name : ℕ) (kinds : List NameKind) (w : IsWrite x.act name kinds) (script : Script) (table : Table) (n : ℕ)
+    (step : IsStep script table n x) where
   abbrev g : Setting
   g = setting script table
 
@@ -261,7 +266,8 @@ module _ (x : Statement) (name : ℕ) (kinds : List NameKind) (w : IsWrite x.act
   }
 
   -- by whether it is refused
-  decided_by : (P : ScriptState → Type 0) → (refusal g s x.act ≡ None → P (effect g x.line s x.act)) → ((r : Refused) → refusal g s x.act ≡ Some r → P (act g s x)) → P (act g s x)
+  decided_by : (P : ScriptState → Type 0) → (refusal g s x.act ≡ None → P (effect g x.line s x.act))
+      → ((r : Refused) → refusal g s x.act ≡ Some r → P (act g s x)) → P (act g s x)
   decided_by P goes is_refused = by (refusal g s x.act) refl
     where
       by : (o : Option Refused) → refusal g s x.act ≡ o → P (act g s x)
@@ -272,12 +278,14 @@ module _ (x : Statement) (name : ℕ) (kinds : List NameKind) (w : IsWrite x.act
   like r e = refused_changes_little g s x r step.acts e
 
   -- where it breaks no views
-  module _ (little : IsLittle s (effect g x.line s x.act)) (calm : (effect g x.line s x.act).view ≡ s.view) (resizes_none : (c : ℕ) → resizes x.act s c ≡ false) where
+  module _ (little : IsLittle s (effect g x.line s x.act)) (calm : (effect g x.line s x.act).view ≡ s.view)
+      (resizes_none : (c : ℕ) → resizes x.act s c ≡ false) where
     after_calm : IsAfter s (act g s x)
     after_calm = decided_by (IsAfter s) (λ none. after_accepted none little) (λ r e. after_refused r (like r e))
 
     view_calm : (act g s x).view ≡ s.view
-    view_calm = decided_by (λ t. t.view ≡ s.view) (λ none. calm) (λ r e i c. (like r e).views c (unbroken (breaks_views r.cause) (resizes x.act s c) (is_list_now (s.contents c)) (resizes_none c)) i)
+    view_calm = decided_by (λ t. t.view ≡ s.view) (λ none. calm) (λ r e i c. (like r e).views c
+        (unbroken (breaks_views r.cause) (resizes x.act s c) (is_list_now (s.contents c)) (resizes_none c)) i)
       where
         unbroken : (a b l : Bool) → b ≡ false → (a && (b && l)) ≡ false
         unbroken true true l e = absurd (not_both refl e)
@@ -291,7 +299,8 @@ module _ (x : Statement) (name : ℕ) (kinds : List NameKind) (w : IsWrite x.act
       (below : container_at s name < s.made) where
     after_broken : IsAfter s (act g s x)
     after_broken = decided_by (IsAfter s)
-        (λ none. after_accepted none (subst (IsLittle s) (sym is) (list_little (contents_at (changed name change s) name) (container_at (changed name change s) name) s (changed name change s) (changed_little name change s))))
+        (λ none. after_accepted none (subst (IsLittle s) (sym is) (list_little (contents_at (changed name change s) name)
+        (container_at (changed name change s) name) s (changed name change s) (changed_little name change s))))
         (λ r e. after_refused r (like r e))
 
     -- what is a list was one before
@@ -299,16 +308,19 @@ module _ (x : Statement) (name : ℕ) (kinds : List NameKind) (w : IsWrite x.act
     stays_list none =
         let c = container_at s name in
         let u = changed name change s in
-        let same : (effect g x.line s x.act).contents ≡ u.contents = ap (λ (z : ScriptState). z.contents) is ∙ broken_contents (contents_at u name) (container_at u name) u in
+        let same : (effect g x.line s x.act).contents ≡ u.contents = ap (λ (z : ScriptState). z.contents) is
+        ∙ broken_contents (contents_at u name) (container_at u name) u in
         let at : contents_at u name ≡ u.contents c = ap (λ f. u.contents (states.container_of (f name))) (changed_little name change s).values in
         sym (form_list (s.contents c)) ∙ ap is_list_now (sym (accepted_form none c below)) ∙ form_list ((effect g x.line s x.act).contents c)
         ∙ ap (λ f. is_list_now (f c)) same ∙ ap is_list_now (sym at)
 
     view_broken_now : IsViewBroken s (act g s x) (container_at s name) (is_list_now (contents_at s name))
     view_broken_now = decided_by (λ t. IsViewBroken s t (container_at s name) (is_list_now (contents_at s name)))
-        (λ none. subst (λ t. IsViewBroken s t (container_at s name) (is_list_now (contents_at s name))) (sym is) (changed_broken name change s (stays_list none)))
+        (λ none. subst (λ t. IsViewBroken s t (container_at s name) (is_list_now (contents_at s name))) (sym is)
+        (changed_broken name change s (stays_list none)))
         (λ r e. record {
-          here = λ list. (like r e).broken (container_at s name) (all_so (breaks_views r.cause) _ _ (breaks r e list) (resizes_it r e (container_at s name) ∙ eq-eqb (container_at s name) (container_at s name) refl) list);
+          here = λ list. (like r e).broken (container_at s name) (all_so (breaks_views r.cause) _ _ (breaks r e list)
+              (resizes_it r e (container_at s name) ∙ eq-eqb (container_at s name) (container_at s name) refl) list);
           others = λ c either. (like r e).views c (not_so (breaks_views r.cause) c r e either);
         })
       where
@@ -320,7 +332,8 @@ module _ (x : Statement) (name : ℕ) (kinds : List NameKind) (w : IsWrite x.act
         none_so true false l e = refl
         none_so false b l e = refl
 
-        not_so : (a : Bool) (c : ℕ) (r : Refused) (e : refusal g s x.act ≡ Some r) → (c ≢ container_at s name) ⊎ (is_list_now (contents_at s name) ≡ false) → (a && (resizes x.act s c && is_list_now (s.contents c))) ≡ false
+        not_so : (a : Bool) (c : ℕ) (r : Refused) (e : refusal g s x.act ≡ Some r) → (c ≢ container_at s name) ⊎ (is_list_now (contents_at s name) ≡ false)
+            → (a && (resizes x.act s c && is_list_now (s.contents c))) ≡ false
         not_so a c r e either = none_so a (resizes x.act s c) (is_list_now (s.contents c)) (λ t.
             let same = eqb-true c (container_at s name) (sym (resizes_it r e c) ∙ t) in
             ⊎_elim (λ ne. absurd (ne same)) (λ f. ap (λ k. is_list_now (s.contents k)) same ∙ f) either)
@@ -348,12 +361,16 @@ pub record IsResize (x : Order) (name : ℕ) (kinds : List NameKind) : Type 0 wh
   pub whole : (k : NameKind) → list_any (same_kind k) kinds ≡ true → (k ≡ kind.Slice → ⊥) × (k ≡ kind.View → ⊥)
   pub change : ScriptState → Result Contents Trap
   pub is : (g : Setting) (s : ScriptState) (line : ℕ) → effect g line s x ≡ views_broken name (changed name (change s) s)
-  pub resizes_it : (g : Setting) (s : ScriptState) (r : Refused) → access s name (need_of s name true) [] ≡ None → refusal g s x ≡ Some r → (c : ℕ) → resizes x s c ≡ nat_eq c (container_at s name)
-  pub breaks : (g : Setting) (s : ScriptState) (r : Refused) → access s name (need_of s name true) [] ≡ None → refusal g s x ≡ Some r → is_list_now (contents_at s name) ≡ true → breaks_views r.cause ≡ true
+  pub resizes_it : (g : Setting) (s : ScriptState) (r : Refused) → access s name (need_of s name true) [] ≡ None → refusal g s x ≡ Some r → (c : ℕ)
+      → resizes x s c ≡ nat_eq c (container_at s name)
+  pub breaks : (g : Setting) (s : ScriptState) (r : Refused) → access s name (need_of s name true) [] ≡ None → refusal g s x ≡ Some r
+      → is_list_now (contents_at s name) ≡ true → breaks_views r.cause ≡ true
 
 -- what its name stands for where nothing blocks it
-module _ (x : Statement) (name : ℕ) (kinds : List NameKind) (z : IsResize x.act name kinds) (p : Planner) (v : Value) (h : slice_get p.values.items name ≡ Some v)
-    (script : Script) (table : Table) (begun : ScriptState) (n : ℕ) (found : List ℕ) (step : IsStep script table n x) (st : Stands p (setting script table) begun n (state_at script table n) found)
+module _ (x : Statement) (name : ℕ) (kinds : List NameKind) (z : IsResize x.act name kinds) (p : Planner) (v : Value)
+    (h : slice_get p.values.items name ≡ Some v)
+    (script : Script) (table : Table) (begun : ScriptState) (n : ℕ) (found : List ℕ) (step : IsStep script table n x)
+    (st : Stands p (setting script table) begun n (state_at script table n) found)
     (none : access (state_at script table n) name (need_of (state_at script table n) name true) [] ≡ None) where
   abbrev before : ScriptState
   before = state_at script table n
@@ -412,8 +429,10 @@ module _ (x : Statement) (name : ℕ) (kinds : List NameKind) (z : IsResize x.ac
         own : (state_of p.safety it.slot.0).view ≡ before.view c
         own = (st.containers.each c it has).view alive
 
-        by_slot : (b : Bool) → is_list_now (before.contents whole.c) ≡ b → (state_of q.safety it.slot.0).view ≡ (with_break (if b then Some whole.it.slot else None) it.slot.0 (state_of p.safety it.slot.0)).view
-        by_slot b f = ap (λ (y : SlotState). y.view) (states_are it.slot.0 ∙ ap (λ o. with_break o it.slot.0 (state_of p.safety it.slot.0)) (slot ∙ ap (λ b. if b then Some whole.it.slot else None) f))
+        by_slot : (b : Bool) → is_list_now (before.contents whole.c) ≡ b → (state_of q.safety it.slot.0).view ≡
+            (with_break (if b then Some whole.it.slot else None) it.slot.0 (state_of p.safety it.slot.0)).view
+        by_slot b f = ap (λ (y : SlotState). y.view) (states_are it.slot.0
+            ∙ ap (λ o. with_break o it.slot.0 (state_of p.safety it.slot.0)) (slot ∙ ap (λ b. if b then Some whole.it.slot else None) f))
 
         same_list : is_list_now (contents_at before name) ≡ is_list_now (before.contents whole.c)
         same_list = ap (λ k. is_list_now (before.contents k)) at
@@ -438,10 +457,12 @@ module _ (x : Statement) (name : ℕ) (kinds : List NameKind) (z : IsResize x.ac
             it_is_not : c ≢ whole.c → (with_break (Some whole.it.slot) it.slot.0 (state_of p.safety it.slot.0)).view ≡ after.view c
             it_is_not ne =
                 let made : c < before.made = let lt = get_below p.containers.items c it has in let e = st.containers.made in omega arith in
-                let made_too : whole.c < before.made = let lt = get_below p.containers.items whole.c whole.it whole.has in let e = st.containers.made in omega arith in
+                let made_too : whole.c < before.made = let lt = get_below p.containers.items whole.c whole.it whole.has in let e = st.containers.made in
+                omega arith in
                 let live = alive_is_live before c made alive in
                 let live_too = alive_is_live before whole.c made_too whole.alive in
-                let miss : nat_eq it.slot.0 whole.it.slot.0 ≡ false = ne_eqb it.slot.0 whole.it.slot.0 (λ s. ne (st.containers.once c whole.c it whole.it has whole.has live live_too s)) in
+                let miss : nat_eq it.slot.0 whole.it.slot.0 ≡ false = ne_eqb it.slot.0 whole.it.slot.0
+                (λ s. ne (st.containers.once c whole.c it whole.it has whole.has live live_too s)) in
                 let old = state_of p.safety it.slot.0 in
                 ap (λ b. (if b then record old { view = old.view + 1 } else old).view) miss
                 ∙ own ∙ sym (broken.others c (inl (λ s. ne (s ∙ at))))
@@ -460,7 +481,8 @@ module _ (x : Statement) (name : ℕ) (kinds : List NameKind) (z : IsResize x.ac
           handles = omega arith;
           ops = one_op_more p.plan.ops.items q.plan.ops.items op (ap (λ (k : Planner). k.plan.ops.items) is ∙ i.ops);
           form = a.form;
-          slots = λ k. states_are k ∙ views_only (list_slot p.containers.items v) k (state_of p.safety k) ∙ ap (λ (y : SlotState). record (state_of p.safety k) { view = y.view }) (sym (states_are k));
+          slots = λ k. states_are k ∙ views_only (list_slot p.containers.items v) k (state_of p.safety k)
+              ∙ ap (λ (y : SlotState). record (state_of p.safety k) { view = y.view }) (sym (states_are k));
           views = views_are;
         }
 
@@ -476,8 +498,10 @@ pub record IsCalm (x : Order) : Type 0 where
   view : (g : Setting) (line : ℕ) (s : ScriptState) → (effect g line s x).view ≡ s.view
   sizes : (s : ScriptState) (c : ℕ) → resizes x s c ≡ false
 
-module _ (x : Statement) (name : ℕ) (kinds : List NameKind) (operation : Bind → Act) (plans : Plans x name kinds operation) (gives : (b : Bind) → given_by (operation b) ≡ []) where
-  pub write_on : (w : IsWrite x.act name kinds) → IsCalm x.act → (p q : Planner) (v : Value) (at : Bind) → MayUse p name true None → slice_get p.values.items name ≡ Some v → at ≡ bind_by p.containers.items v
+module _ (x : Statement) (name : ℕ) (kinds : List NameKind) (operation : Bind → Act) (plans : Plans x name kinds operation)
+    (gives : (b : Bind) → given_by (operation b) ≡ []) where
+  pub write_on : (w : IsWrite x.act name kinds) → IsCalm x.act → (p q : Planner) (v : Value) (at : Bind) → MayUse p name true None
+      → slice_get p.values.items name ≡ Some v → at ≡ bind_by p.containers.items v
       → IsPushed p q (record { line = x.line; name = name; act = operation at }) → GoesOn p q x
   write_on w calm p q v at may value is i script table begun n found step st =
       let g = setting script table in
@@ -497,7 +521,8 @@ module _ (x : Statement) (name : ℕ) (kinds : List NameKind) (operation : Bind 
       (w.plain g) (ap (λ (u : ScriptState). u.book.completed) restates.state)
 
   -- one that breaks those of a list
-  pub resize_on : (z : IsResize x.act name kinds) (p m q : Planner) (v : Value) (at : Bind) → MayUse p name true None → slice_get p.values.items name ≡ Some v → at ≡ bind_by p.containers.items v
+  pub resize_on : (z : IsResize x.act name kinds) (p m q : Planner) (v : Value) (at : Bind) → MayUse p name true None → slice_get p.values.items name ≡ Some v
+      → at ≡ bind_by p.containers.items v
       → IsPushed p m (record { line = x.line; name = name; act = operation at }) → IsBroken m q v → GoesOn p q x
   resize_on z p m q v at may value is i e script table begun n found step st =
       let g = setting script table in
@@ -510,13 +535,15 @@ module _ (x : Statement) (name : ℕ) (kinds : List NameKind) (operation : Bind 
       (restated p q g begun n s t found st restates
       (known_after script table n x step)
       (subst (λ (k : Planner). AreNames k.values.items k.handles.items (length p.containers.items) t) (sym e.rest)
-      (pushed_names p m _ (length p.containers.items) s t i (broken_values x name kinds z p v value script table begun n found step st none m q _ i e) st.names))
+      (pushed_names p m _ (length p.containers.items) s t i (broken_values x name kinds z p v value script table begun n found step st none m q _ i e)
+      st.names))
       (λ y a. subst (λ k. IsPlanned y t (draft_of k)) (sym e.rest)
       (planned_on x name kinds z.write operation plans p m v at script table begun n found step st may value is i y a)))
       (quiet_restated p q s t restates (given_one p.plan.ops.items q.plan.ops.items op (ap (λ (k : Planner). k.plan.ops.items) e.rest ∙ i.ops) (gives at)))
       (z.write.plain g) (ap (λ (u : ScriptState). u.book.completed) restates.state)
 
-pub resize_breakable : (x : Statement) (name : ℕ) (kinds : List NameKind) (z : IsResize x.act name kinds) (p m : Planner) (op : Op) (v : Value) → IsReady p x → MayUse p name true None → slice_get p.values.items name ≡ Some v
+pub resize_breakable : (x : Statement) (name : ℕ) (kinds : List NameKind) (z : IsResize x.act name kinds) (p m : Planner) (op : Op) (v : Value) → IsReady p x
+    → MayUse p name true None → slice_get p.values.items name ≡ Some v
     → IsPushed p m op → IsBreakable m.safety (list_slot m.containers.items v)
 resize_breakable x name kinds z p m op v r may value i =
     let b = r.1 in
@@ -544,7 +571,8 @@ set_calm name at value = record {
   sizes = λ s c. refl;
 }
 
-pub set_plans : (line name : ℕ) (at : Option ℤ) (value : ℤ) → Plans (record { line = line; act = order.Set name at value }) name (set_kinds at) (λ b. Set b (unwrap_or at (pos 0)) value)
+pub set_plans : (line name : ℕ) (at : Option ℤ) (value : ℤ) → Plans (record { line = line; act = order.Set name at value }) name (set_kinds at)
+    (λ b. Set b (unwrap_or at (pos 0)) value)
 set_plans line name at value y g s d e small known planned pass writable adds =
     sets_are_planned at value y g s (record { line = line; act = order.Set name at value }) name d e small known planned pass writable refl adds
 
@@ -576,10 +604,12 @@ add_gives first (Some second) b = refl
 
 -- what a change of a list's size is refused by
 
-cause_in : (name : ℕ) (t : Trap) (r : Refused) → Some (record { cause = refusal_of t; name = name }) ≡ Some r → breaks_views (refusal_of t) ≡ breaks_views r.cause
+cause_in : (name : ℕ) (t : Trap) (r : Refused) → Some (record { cause = refusal_of t; name = name }) ≡ Some r
+    → breaks_views (refusal_of t) ≡ breaks_views r.cause
 cause_in name t r e = ap (λ (r : Refused). breaks_views r.cause) (some_is e)
 
-add_breaks : (c : Contents) (first : ℤ) (second : Option ℤ) (name : ℕ) (r : Refused) → unchanged name (add_in c first second) ≡ Some r → is_list_now c ≡ true → breaks_views r.cause ≡ true
+add_breaks : (c : Contents) (first : ℤ) (second : Option ℤ) (name : ℕ) (r : Refused) → unchanged name (add_in c first second) ≡ Some r → is_list_now c ≡ true
+    → breaks_views r.cause ≡ true
 add_breaks (Elements xs) first second name r e list = absurd (not_both list refl)
 add_breaks (Single v) first second name r e list = absurd (not_both list refl)
 add_breaks (Pairs cap ps) first second name r e list = absurd (not_both list refl)
@@ -587,7 +617,8 @@ add_breaks (Entries room es) first second name r e list = absurd (not_both list 
 add_breaks (Items cap xs) first (Some second) name r e list = sym (cause_in name Range r e)
 add_breaks (Items cap xs) first None name r e list = by (nat_lt (length xs) cap) e
   where
-    by : (b : Bool) → unchanged name (then_value (if b then Ok (xs ++ first ∷ []) else Err Full) (λ ys. Ok (Items cap ys))) ≡ Some r → breaks_views r.cause ≡ true
+    by : (b : Bool) → unchanged name (then_value (if b then Ok (xs ++ first ∷ []) else Err Full) (λ ys. Ok (Items cap ys))) ≡ Some r
+        → breaks_views r.cause ≡ true
     by true e = absurd (none_some e)
     by false e = sym (cause_in name Full r e)
 
@@ -602,15 +633,18 @@ remove_breaks (Entries room es) i name r e list = absurd (not_both list refl)
 remove_breaks (Items cap xs) (negsuc k) name r e list = sym (cause_in name Range r e)
 remove_breaks (Items cap xs) (pos k) name r e list = by (nat_lt k (length xs)) e
   where
-    by : (b : Bool) → unchanged name (then_value (then_value (if b then Ok k else Err Range) (swapped xs)) (λ ys. Ok (Items cap ys))) ≡ Some r → breaks_views r.cause ≡ true
+    by : (b : Bool) → unchanged name (then_value (then_value (if b then Ok k else Err Range) (swapped xs)) (λ ys. Ok (Items cap ys))) ≡ Some r
+        → breaks_views r.cause ≡ true
     by true e = absurd (none_some e)
     by false e = sym (cause_in name Range r e)
 
 -- by the contents alone, where nothing blocks it
-by_contents : (s : ScriptState) (name : ℕ) (o : Option Refused) → access s name (need_of s name true) [] ≡ None → access s name (need_of s name true) (o ∷ []) ≡ o
+by_contents : (s : ScriptState) (name : ℕ) (o : Option Refused) → access s name (need_of s name true) [] ≡ None
+    → access s name (need_of s name true) (o ∷ []) ≡ o
 by_contents s name o none = access_none s name (o ∷ []) none ∙ first_one o
 
-excluded : (kinds : List NameKind) → (list_any (same_kind kind.Slice) kinds ≡ false) × (list_any (same_kind kind.View) kinds ≡ false) → (k : NameKind) → list_any (same_kind k) kinds ≡ true → (k ≡ kind.Slice → ⊥) × (k ≡ kind.View → ⊥)
+excluded : (kinds : List NameKind) → (list_any (same_kind kind.Slice) kinds ≡ false) × (list_any (same_kind kind.View) kinds ≡ false) → (k : NameKind)
+    → list_any (same_kind k) kinds ≡ true → (k ≡ kind.Slice → ⊥) × (k ≡ kind.View → ⊥)
 excluded kinds no_ k is =
     (λ e. not_both (subst (λ k. list_any (same_kind k) kinds ≡ true) e is) no_.0, λ e. not_both (subst (λ k. list_any (same_kind k) kinds ≡ true) e is) no_.1)
 
@@ -633,10 +667,12 @@ add_resize name first second = record {
   change = λ s. add_in (contents_at s name) first second;
   is = λ g s line. refl;
   resizes_it = λ g s r none e c. refl;
-  breaks = λ g s r none e list. add_breaks (contents_at s name) first second name r (sym (by_contents s name (unchanged name (add_in (contents_at s name) first second)) none) ∙ e) list;
+  breaks = λ g s r none e list. add_breaks (contents_at s name) first second name r
+      (sym (by_contents s name (unchanged name (add_in (contents_at s name) first second)) none) ∙ e) list;
 }
 
-pub add_plans : (line name : ℕ) (first : ℤ) (second : Option ℤ) → Plans (record { line = line; act = order.Add name first second }) name (add_kinds second) (add_act first second)
+pub add_plans : (line name : ℕ) (first : ℤ) (second : Option ℤ) → Plans (record { line = line; act = order.Add name first second }) name (add_kinds second)
+    (add_act first second)
 add_plans line name first second y g s d e small known planned pass writable adds =
     adds_are_planned first second y g s (record { line = line; act = order.Add name first second }) name d e small known planned pass writable refl adds
 
@@ -655,7 +691,8 @@ remove_resize name at = record {
   change = λ s. remove_in (contents_at s name) at;
   is = λ g s line. refl;
   resizes_it = λ g s r none e c. refl;
-  breaks = λ g s r none e list. remove_breaks (contents_at s name) at name r (sym (by_contents s name (unchanged name (remove_in (contents_at s name) at)) none) ∙ e) list;
+  breaks = λ g s r none e list. remove_breaks (contents_at s name) at name r
+      (sym (by_contents s name (unchanged name (remove_in (contents_at s name) at)) none) ∙ e) list;
 }
 
 pub remove_plans : (line name : ℕ) (at : ℤ) → Plans (record { line = line; act = order.Remove name at }) name REMOVABLE (λ b. Remove b at)

@@ -59,7 +59,8 @@ not_before b uses after needs j h = by (happens_before b after j) refl
 
 -- ---- options
 
-pub as_first : (o : Option Cause) (r : Option Refused) → as_refused o ≡ r → (next : Option Cause) (more : List (Option Refused)) → (r ≡ None → as_refused next ≡ first_some more) → as_refused (or_next o next) ≡ first_some (r ∷ more)
+pub as_first : (o : Option Cause) (r : Option Refused) → as_refused o ≡ r → (next : Option Cause) (more : List (Option Refused))
+    → (r ≡ None → as_refused next ≡ first_some more) → as_refused (or_next o next) ≡ first_some (r ∷ more)
 unfolding first_some
 as_first None None e next more h = h refl
 as_first None (Some r) e next more h = absurd cc
@@ -115,7 +116,8 @@ module _ (p : Planner) (s : ScriptState) (after : Jobs) where
         ap (λ b. as_refused (if b then Some (record { refusal = cause; name = u.name }) else first_with cause test us)) e
         ∙ by (is g)
       where
-        by : (b : Bool) → as_refused (if b then Some (record { refusal = cause; name = u.name }) else first_with cause test us) ≡ option_map (refused cause) (if b then Some g.need.name else first_given is gs)
+        by : (b : Bool) → as_refused (if b then Some (record { refusal = cause; name = u.name }) else first_with cause test us) ≡ option_map (refused cause)
+            (if b then Some g.need.name else first_given is gs)
         by true = λ i. Some (refused cause (named i))
         by false = rest
 
@@ -128,7 +130,8 @@ module _ (p : Planner) (s : ScriptState) (after : Jobs) where
     first_is each (u ∷ us) (g ∷ gs) m = first_step u us g gs (λ i. (m.0.given i).need.name) (each u g m.0) (first_is each us gs m.1)
 
     -- of those whose containers are alive
-    pub first_alive : ((u : NamedUse) (g : Given) → IsMeant p s after u g → is_alive s (s.values g.need.name) ≡ true → test u ≡ is g) → (us : List NamedUse) (gs : List Given) → AreMeant p s after us gs → AreAlive s gs
+    pub first_alive : ((u : NamedUse) (g : Given) → IsMeant p s after u g → is_alive s (s.values g.need.name) ≡ true → test u ≡ is g)
+        → (us : List NamedUse) (gs : List Given) → AreMeant p s after us gs → AreAlive s gs
         → as_refused (first_with cause test us) ≡ option_map (refused cause) (first_given is gs)
     first_alive each [] [] m a = refl
     first_alive each [] (g ∷ gs) m a = absurd m
@@ -149,10 +152,12 @@ module _ (p : Planner) (s : ScriptState) (after : Jobs) where
       by true true n = refl
       by true false n = (unblocked n).0
 
-  pub stale_is : (u : NamedUse) (g : Given) → IsMeant p s after u g → is_alive s (s.values g.need.name) ≡ true → has_cause false StaleView u ≡ is_stale s (s.values g.need.name)
+  pub stale_is : (u : NamedUse) (g : Given) → IsMeant p s after u g → is_alive s (s.values g.need.name) ≡ true
+      → has_cause false StaleView u ≡ is_stale s (s.values g.need.name)
   stale_is u g m alive =
       ap blocked_as_stale m.blocked
-      ∙ ap (λ a. blocked_as_stale (if not a then Some NotLive else (if is_stale s (s.values g.need.name) then Some Broken else checks.pending_on (job_numbered (blocker s.book (s.uses g.need.container) after g.need.writes))))) alive
+      ∙ ap (λ a. blocked_as_stale (if not a then Some NotLive else (if is_stale s (s.values g.need.name) then Some Broken else checks.pending_on
+      (job_numbered (blocker s.book (s.uses g.need.container) after g.need.writes))))) alive
       ∙ by (is_stale s (s.values g.need.name)) (blocker s.book (s.uses g.need.container) after g.need.writes)
     where
       by : (o : Bool) (n : ℕ) → blocked_as_stale (if o then Some Broken else checks.pending_on (job_numbered n)) ≡ o
@@ -184,8 +189,10 @@ module _ (p : Planner) (s : ScriptState) (after : Jobs) where
           both [] = refl
           both (x ∷ xs) = ap (λ ys. given_of x ∷ ys) (both xs)
 
-      by : (map given_of (before ++ u ∷ []) ≡ done ++ g ∷ [] → as_refused (alias_after (before ++ u ∷ []) us) ≡ option_map (refused Alias) (first_alias (done ++ g ∷ []) gs)) → (b : Bool)
-          → as_refused (if b then Some (record { refusal = Alias; name = u.name }) else alias_after (before ++ u ∷ []) us) ≡ option_map (refused Alias) (if b then Some g.need.name else first_alias (done ++ g ∷ []) gs)
+      by : (map given_of (before ++ u ∷ []) ≡ done ++ g ∷ [] → as_refused (alias_after (before ++ u ∷ []) us) ≡ option_map (refused Alias)
+          (first_alias (done ++ g ∷ []) gs)) → (b : Bool)
+          → as_refused (if b then Some (record { refusal = Alias; name = u.name }) else alias_after (before ++ u ∷ []) us) ≡ option_map (refused Alias)
+          (if b then Some g.need.name else first_alias (done ++ g ∷ []) gs)
       by rest true = λ i. Some (refused Alias (m.0.given i).need.name)
       by rest false = rest more
 
@@ -195,7 +202,8 @@ module _ (p : Planner) (s : ScriptState) (after : Jobs) where
       → blocker_number u.blocked ≡ blocker s.book (s.uses g.need.container) after g.need.writes
   blocker_is u g m alive fresh =
       ap blocker_number m.blocked
-      ∙ (λ i. blocker_number (if not (alive i) then Some NotLive else (if fresh i then Some Broken else checks.pending_on (job_numbered (blocker s.book (s.uses g.need.container) after g.need.writes)))))
+      ∙ (λ i. blocker_number (if not (alive i) then Some NotLive else (if fresh i then Some Broken else checks.pending_on
+      (job_numbered (blocker s.book (s.uses g.need.container) after g.need.writes)))))
       ∙ by (blocker s.book (s.uses g.need.container) after g.need.writes)
     where
       by : (n : ℕ) → blocker_number (checks.pending_on (job_numbered n)) ≡ n
@@ -205,7 +213,8 @@ module _ (p : Planner) (s : ScriptState) (after : Jobs) where
   abbrev pub needs_of : List Given → List Need
   needs_of gs = map (λ g. g.need) gs
 
-  number_is : (us : List NamedUse) (gs : List Given) → AreMeant p s after us gs → AreAlive s gs → AreFresh s gs → greatest_blocker us ≡ greatest (blocking s.book s.uses after (needs_of gs)) s.book.count
+  number_is : (us : List NamedUse) (gs : List Given) → AreMeant p s after us gs → AreAlive s gs → AreFresh s gs
+      → greatest_blocker us ≡ greatest (blocking s.book s.uses after (needs_of gs)) s.book.count
   number_is [] [] m a f = sym (greatest_nobody s.book.count)
   number_is [] (g ∷ gs) m a f = absurd m
   number_is (u ∷ us) [] m a f = absurd m
@@ -247,7 +256,8 @@ module _ (p : Planner) (s : ScriptState) (after : Jobs) where
         ap (λ t. as_refused (if t then Some (record { refusal = cause; name = u.name }) else first_with cause (has_cause false cause) us)) test
         ∙ by (λ e. first_in us gs m.1 a.1 f.1 e) (conflicts (s.uses g.need.container) g.need.writes (suc j)) test
       where
-        by : (greatest_blocker us ≡ suc j → as_refused (first_with cause (has_cause false cause) us) ≡ Some (refused cause (name_in_conflict s.uses (needs_of gs) (suc j)))) → (t : Bool) → nat_eq (blocker_number u.blocked) (suc j) ≡ t
+        by : (greatest_blocker us ≡ suc j → as_refused (first_with cause (has_cause false cause) us) ≡ Some
+            (refused cause (name_in_conflict s.uses (needs_of gs) (suc j)))) → (t : Bool) → nat_eq (blocker_number u.blocked) (suc j) ≡ t
             → as_refused (if t then Some (record { refusal = cause; name = u.name }) else first_with cause (has_cause false cause) us)
             ≡ Some (refused cause (if t then g.need.name else name_in_conflict s.uses (needs_of gs) (suc j)))
         by rest true h = λ i. Some (refused cause (m.0.given i).need.name)
@@ -255,7 +265,8 @@ module _ (p : Planner) (s : ScriptState) (after : Jobs) where
             let ne : blocker_number u.blocked ≢ suc j = λ same. not_both (eq-eqb (blocker_number u.blocked) (suc j) same) h in
             rest (omega arith)
 
-  pub pending_is : (us : List NamedUse) (gs : List Given) → AreMeant p s after us gs → AreAlive s gs → AreFresh s gs → as_refused (pending_of us) ≡ pending s after (needs_of gs)
+  pub pending_is : (us : List NamedUse) (gs : List Given) → AreMeant p s after us gs → AreAlive s gs → AreFresh s gs
+      → as_refused (pending_of us) ≡ pending s after (needs_of gs)
   pending_is us gs m a f = by (greatest_blocker us) refl ∙ ap (pending_on s.uses (needs_of gs)) (number_is us gs m a f)
     where
       by : (n : ℕ) → greatest_blocker us ≡ n → as_refused (causes.pending_on us n) ≡ pending_on s.uses (needs_of gs) n
@@ -278,11 +289,13 @@ module _ (p : Planner) (s : ScriptState) (after : Jobs) where
       as_first _ _ (first_alive StaleView (has_cause parallel StaleView) (λ g. is_stale s (s.values g.need.name)) stale_is us gs m alive
       ∙ ap (option_map (refused StaleView)) (found_given (λ n. is_stale s (s.values n)) gs)) _ _ (λ none.
       let fresh = all_fresh s gs (none_named StaleView _ none) in
-      as_first _ _ (first_is NotParallel (has_cause parallel NotParallel) (λ g. parallel && (g.need.writes && is_shared g.kind)) (λ u g m. λ i. parallel && ((m.given i).need.writes && is_shared (m.given i).kind)) us gs m) _ _ (λ none.
+      as_first _ _ (first_is NotParallel (has_cause parallel NotParallel) (λ g. parallel && (g.need.writes && is_shared g.kind))
+      (λ u g m. λ i. parallel && ((m.given i).need.writes && is_shared (m.given i).kind)) us gs m) _ _ (λ none.
       as_first _ _ (first_alive TempInJob (has_cause parallel TempInJob) (λ g. is_temp (s.life g.need.container)) (λ u g m. m.temp) us gs m alive) _ _ (λ none.
       as_first _ _ (alias_is [] us [] gs refl m) _ _ (λ none.
       as_last _ _ (by auto alive fresh))))))
     where
-      by : (b : Bool) → AreAlive s gs → AreFresh s gs → as_refused (if b then None else pending_of us) ≡ (if b then None else pending s (jobs_named s names) (needs_of gs))
+      by : (b : Bool) → AreAlive s gs → AreFresh s gs → as_refused (if b then None else pending_of us) ≡
+          (if b then None else pending s (jobs_named s names) (needs_of gs))
       by true a f = refl
       by false a f = pending_is us gs m a f ∙ ap (λ jobs. pending s jobs (needs_of gs)) named

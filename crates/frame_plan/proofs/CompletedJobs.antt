@@ -23,7 +23,8 @@ use Rattle.frame_core.specs.Ordered.{IsAbove}
 use Rattle.frame_core.proofs.Small.{not_both, either_bool}
 use Rattle.plan_laws.specs.Planned.{AreJobsUpTo}
 use Rattle.frame_plan.specs.declared.state.Planner.{Planner}
-use Rattle.frame_plan.specs.Completions.{rising_jobs, newly_of, IsClosed, AreCompleted}
+use Rattle.frame_plan.specs.Completions.{newly_of, IsClosed, AreCompleted}
+use Rattle.frame_plan.specs.Growth.{rising_jobs}
 use Rattle.frame_plan.specs.Stands.{IsHeldFor, AreContainers}
 use Rattle.frame_plan.proofs.Ending.{ended}
 use Rattle.frame_plan.proofs.Settling.{AreBetween, are_ended, none_pending, all_done}
@@ -116,11 +117,13 @@ module _ (set : Jobs) where
 
   are_below : (n : ℕ) → AreBelow n (rising_jobs set n)
   are_below zero = tt
-  are_below (suc n) = below_append (suc n) (rising_jobs set n) (if set (suc n) then record { 0 = suc n } ∷ [] else []) (below_more n (suc n) (rising_jobs set n) (omega arith) (are_below n)) (one_below n (set (suc n)))
+  are_below (suc n) = below_append (suc n) (rising_jobs set n) (if set (suc n) then record { 0 = suc n } ∷ [] else [])
+      (below_more n (suc n) (rising_jobs set n) (omega arith) (are_below n)) (one_below n (set (suc n)))
 
   are_above : (n : ℕ) → IsAbove 0 (rising_jobs set n)
   are_above zero = tt
-  are_above (suc n) = above_append 0 n (rising_jobs set n) (if set (suc n) then record { 0 = suc n } ∷ [] else []) (omega arith) (are_above n) (are_below n) (one_above n (set (suc n)))
+  are_above (suc n) = above_append 0 n (rising_jobs set n) (if set (suc n) then record { 0 = suc n } ∷ [] else []) (omega arith) (are_above n) (are_below n)
+      (one_above n (set (suc n)))
 
   each_below : (n : ℕ) (ids : List JobId) → AreBelow n ids → All (λ (id : JobId). id.0 ≤ n) ids
   each_below n [] b k d lt = absurd (omega arith)
@@ -136,7 +139,8 @@ module _ (set : Jobs) (at : ℕ) where
   next_is : rising_jobs set (at + 1) ≡ rising_jobs set (suc at)
   next_is = (let e : at + 1 ≡ suc at = omega arith in ap (rising_jobs set) e)
 
-  pub one_more : (ids new : List JobId) → ids ≡ rising_jobs set at → set (suc at) ≡ true → new ≡ ids ++ record { 0 = at + 1 } ∷ [] → new ≡ rising_jobs set (at + 1)
+  pub one_more : (ids new : List JobId) → ids ≡ rising_jobs set at → set (suc at) ≡ true → new ≡ ids ++ record { 0 = at + 1 } ∷ []
+      → new ≡ rising_jobs set (at + 1)
   one_more ids new was is more =
       more
       ∙ (let e : at + 1 ≡ suc at = omega arith in let id : ℕ → JobId = λ n. record { 0 = n } in λ i. was i ++ id (e i) ∷ [])
@@ -152,7 +156,8 @@ pub none_to : (set : Jobs) (m n : ℕ) → m ≤ n → ((k : ℕ) → m < k → 
 none_to set m zero le none = let z : 0 ≡ m = omega arith in ap (rising_jobs set) z
 none_to set m (suc n) le none = ⊎_elim
     (λ same. ap (rising_jobs set) (sym same))
-    (λ less. sym (none_more set n (rising_jobs set n) refl (none (suc n) (omega arith) (omega arith)) ∙ (let e : n + 1 ≡ suc n = omega arith in ap (rising_jobs set) e))
+    (λ less. sym (none_more set n (rising_jobs set n) refl (none (suc n) (omega arith) (omega arith))
+    ∙ (let e : n + 1 ≡ suc n = omega arith in ap (rising_jobs set) e))
     ∙ none_to set m n (omega arith) (λ k low high. none k low (omega arith)))
     (cases_eq m (suc n))
 
@@ -196,7 +201,8 @@ is_empty v e = by v.items (let len = v.ok.0 in let none = eqb-true (vec_len v) 0
 pub newly_set : (b : Book) (p : Planner) (handle all : Jobs) → ((k : ℕ) → all k ≡ ancestors_in b handle k) → (ids : List JobId)
     → ids ≡ rising_jobs (newly_of b p.jobs_before all) (count_of p.jobs - p.jobs_before)
     → ids ≡ rising_jobs (newly_of b p.jobs_before (ancestors_in b handle)) (count_of p.jobs - p.jobs_before)
-newly_set b p handle all same ids e = e ∙ (let path : all ≡ ancestors_in b handle = λ i k. same k i in ap (λ f. rising_jobs (newly_of b p.jobs_before f) (count_of p.jobs - p.jobs_before)) path)
+newly_set b p handle all same ids e = e ∙ (let path : all ≡ ancestors_in b handle = λ i k. same k i in
+    ap (λ f. rising_jobs (newly_of b p.jobs_before f) (count_of p.jobs - p.jobs_before)) path)
 
 pub closed_after : (old : Planner) (jobs : JobBook) (store : SlotStore) (new : Planner) (handle : Jobs) (newly : List JobId)
     → ((b : Book) → StandsFor old.jobs b → newly ≡ rising_jobs (newly_of b old.jobs_before (ancestors_in b handle)) (count_of old.jobs - old.jobs_before))
@@ -222,7 +228,8 @@ closed_after old jobs store new handle newly are book places used peak closed =
 
 -- ---- the containers
 
-module _ (p q : Planner) (s : ScriptState) (found : List ℕ) (handle : Jobs) (was : AreContainers p s found) (known : IsKnown s) (up : AreUpTo s.book.count handle)
+module _ (p q : Planner) (s : ScriptState) (found : List ℕ) (handle : Jobs) (was : AreContainers p s found) (known : IsKnown s)
+    (up : AreUpTo s.book.count handle)
     (containers : q.containers ≡ p.containers) (names : length q.values.items ≡ length p.values.items) (safety : q.safety ≡ p.safety)
     (places : (k : ℕ) → place_of q.store k ≡ settled (with_completed s.book handle) (place_of p.store k)) where
   abbrev book : Book
@@ -251,7 +258,8 @@ module _ (p q : Planner) (s : ScriptState) (found : List ℕ) (handle : Jobs) (w
     used = λ k u. u;
     rising = λ k. omega arith;
     low = was.versions;
-    current = λ k tag e. ap (λ (b : Rattle.safety_handle.specs.declared.book.SafetyBook.SafetyBook). Rattle.safety_handle.specs.Checks.is_current (state_of b k) tag) safety ∙ e;
+    current = λ k tag e. ap (λ (b : Rattle.safety_handle.specs.declared.book.SafetyBook.SafetyBook). Rattle.safety_handle.specs.Checks.is_current
+        (state_of b k) tag) safety ∙ e;
     stays = λ c it has a. (refl, ap (λ (b : Rattle.safety_handle.specs.declared.book.SafetyBook.SafetyBook). state_of b it.slot.0) safety);
     ended = λ c it has a d. absurd (not_both a d);
     held = λ c it has d live. (still_held (place_of p.store it.slot.0).state c ((was.each c it has).held d live), refl);

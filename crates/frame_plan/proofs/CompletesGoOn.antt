@@ -32,8 +32,8 @@ use Rattle.plan_laws.proofs.Disposing.{others_are_planned}
 use Rattle.frame_plan.specs.declared.state.Planner.{Planner}
 use Rattle.frame_plan.specs.declared.state.Value.{Value}
 use Rattle.frame_plan.specs.Accesses.{AreThere, jobs_of_value}
-use Rattle.frame_plan.specs.Completions.{rising_jobs, newly_of, IsClosed, AreCompleted}
-use Rattle.frame_plan.specs.Growth.{given_so_far, waits_so_far, HasWaited}
+use Rattle.frame_plan.specs.Completions.{newly_of, IsClosed, AreCompleted}
+use Rattle.frame_plan.specs.Growth.{given_so_far, waits_so_far, HasWaited, rising_jobs, unless_none, waits_by, newly_in, newly_completed}
 use Rattle.frame_plan.specs.Stands.{AreNames, AreContainers, AreTemps, AreTempJobs, Agrees, Stands, draft_of}
 use Rattle.frame_plan.specs.Steps.{state_at, IsStep, StandsAt, HasStepped, GoesOn, IsReady}
 use Rattle.frame_plan.proofs.Accessing.{are_there}
@@ -43,7 +43,7 @@ use Rattle.frame_plan.proofs.DisposalsGoOn.{as_continued, value_jobs}
 use Rattle.frame_plan.proofs.Holding.{store_users}
 use Rattle.frame_plan.proofs.Naming.{same_names}
 use Rattle.frame_plan.proofs.Outlining.{jobs_are}
-use Rattle.frame_plan.proofs.Quiet.{IsPlain, IsStill, given_closed, still_steps, waits_closed}
+use Rattle.frame_plan.proofs.Quiet.{IsPlain, IsStill, each_closed, given_closed, still_steps, waits_closed}
 use Rattle.frame_plan.proofs.Reaching.{known_after, fits_at, used_below, within}
 use Rattle.frame_plan.proofs.Restating.{accepted_state}
 
@@ -52,7 +52,8 @@ ops_more [] x = omega arith
 ops_more (y ∷ ys) x = let more = ops_more ys x in omega arith
 
 -- ---- what completing needs
-module _ (p : Planner) (script : Script) (table : Table) (begun : ScriptState) (n : ℕ) (s : ScriptState) (found : List ℕ) (st : Stands p (setting script table) begun n s found) where
+module _ (p : Planner) (script : Script) (table : Table) (begun : ScriptState) (n : ℕ) (s : ScriptState) (found : List ℕ)
+    (st : Stands p (setting script table) begun n s found) where
   jobs_count : count_of p.jobs ≡ s.book.count
   jobs_count = st.jobs.count
 
@@ -63,7 +64,8 @@ module _ (p : Planner) (script : Script) (table : Table) (begun : ScriptState) (
   section_jobs = let are = jobs_are p script table begun n s found st in let before = st.numbers.before in let c = jobs_count in omega arith
 
   pub users_known : (k : ℕ) → AreUpTo (count_of p.jobs) (users_of (place_of p.store k).state)
-  users_known k = subst (λ m. AreUpTo m (users_of (place_of p.store k).state)) (sym jobs_count) (store_users p s found st.containers st.known.book st.known.uses k)
+  users_known k = subst (λ m. AreUpTo m (users_of (place_of p.store k).state)) (sym jobs_count)
+      (store_users p s found st.containers st.known.book st.known.uses k)
 
 -- ---- jobs are completed
 module _ (script : Script) (table : Table) (begun : ScriptState) (n : ℕ) (found : List ℕ) (x : Statement) (step : IsStep script table n x)
@@ -182,6 +184,23 @@ module _ (script : Script) (table : Table) (begun : ScriptState) (n : ℕ) (foun
         lines = refl;
       }) was
 
+  -- what is newly completed, as the states say it
+  newly_now : c.newly ≡ newly_completed begun.book.count s t
+  newly_now =
+      newly_is
+      ∙ (let before = st.numbers.before in
+      let count = jobs_count p script table begun n s found st in
+      λ i. rising_jobs (newly_of s.book (before i) (ancestors_in s.book handle)) (count i - before i))
+      ∙ (let path : newly_of s.book begun.book.count (ancestors_in s.book handle) ≡ newly_in begun.book.count s t =
+      λ i j. by (s.book.completed (begun.book.count + j)) (ancestors_in s.book handle (begun.book.count + j)) i in
+      ap (λ set. rising_jobs set (s.book.count - begun.book.count)) path)
+    where
+      by : (done now : Bool) → (now && not done) ≡ ((done || now) && not done)
+      by true true = refl
+      by true false = refl
+      by false true = refl
+      by false false = refl
+
   Fields : Type 0
   Fields = (q ≡ record p {
     values = q.values;
@@ -196,7 +215,8 @@ module _ (script : Script) (table : Table) (begun : ScriptState) (n : ℕ) (foun
   })
 
   -- what each way of going on gives
-  module _ (r : Planner) (rest : q ≡ r) (values : r.values ≡ p.values) (handles : r.handles ≡ p.handles) (temps : r.temps ≡ p.temps) (overdue : r.overdue ≡ p.overdue)
+  module _ (r : Planner) (rest : q ≡ r) (values : r.values ≡ p.values) (handles : r.handles ≡ p.handles) (temps : r.temps ≡ p.temps)
+      (overdue : r.overdue ≡ p.overdue)
       (frame : r.frame ≡ p.frame) (safety : r.safety ≡ p.safety) (containers : r.containers ≡ p.containers)
       (fields : r ≡ record p {
         values = r.values;
@@ -215,6 +235,7 @@ module _ (script : Script) (table : Table) (begun : ScriptState) (n : ℕ) (foun
       (segments_later : List Segment)
       (segments_are : q.plan.segments.items ≡ p.plan.segments.items ++ segments_later)
       (waits : waits_so_far q ≡ waits_so_far p ++ c.newly)
+      (each : waits_by q ≡ waits_by p ++ unless_none c.newly)
       (is : act g s x ≡ t)
       (plain : IsPlain g x.act)
       (planned : (y : Outline) → Agrees p g begun found y → IsPlanned y t (draft_of q)) where
@@ -259,6 +280,7 @@ module _ (script : Script) (table : Table) (begun : ScriptState) (n : ℕ) (foun
       segments_later = segments_later;
       segments_are = segments_are;
       waited = λ h. subst (λ u. HasWaited begun.book.count u q) (sym is) (waited waits h);
+      waits = each ∙ ap (λ ids. waits_by p ++ unless_none ids) (newly_now ∙ ap (newly_completed begun.book.count s) (sym is));
     }
 
     onward : HasStepped script table begun n found p q x
@@ -275,7 +297,12 @@ module _ (script : Script) (table : Table) (begun : ScriptState) (n : ℕ) (foun
   pub completes_on : act g s x ≡ t → IsPlain g x.act → HasStepped script table begun n found p q x
   completes_on is plain = ⊎_elim
       (λ i.
-      let r : Planner = record p { jobs = q.jobs; store = q.store; plan = record p.plan { segments = q.plan.segments; waits = q.plan.waits; ops = q.plan.ops } } in
+      let r : Planner = record p {
+        jobs = q.jobs;
+        store = q.store;
+        plan =
+            record p.plan { segments = q.plan.segments; waits = q.plan.waits; ops = q.plan.ops };
+      } in
       let segments = ap length i.segments in
       let one = length-append p.plan.segments.items (i.segment ∷ []) in
       let counted = ap ops_count i.segments ∙ ops_more p.plan.segments.items i.segment in
@@ -285,6 +312,7 @@ module _ (script : Script) (table : Table) (begun : ScriptState) (n : ℕ) (foun
       (given_closed p.plan.segments.items q.plan.segments.items i.segment p.plan.ops.items q.plan.ops.items i.segments i.ops_were i.ops)
       (i.segment ∷ []) i.segments
       (waits_closed p.plan.segments.items q.plan.segments.items i.segment p.plan.waits.items q.plan.waits.items c.newly i.segments i.waits_were i.waits)
+      (each_closed p.plan.segments.items q.plan.segments.items i.segment p.plan.waits.items q.plan.waits.items c.newly i.segments i.waits_were i.waits)
       is plain (λ y a. closed_planned y a i))
       (λ (i : (c.newly ≡ []) × (q ≡ record p { jobs = q.jobs; store = q.store })).
       let r : Planner = record p { jobs = q.jobs; store = q.store } in
@@ -293,6 +321,7 @@ module _ (script : Script) (table : Table) (begun : ScriptState) (n : ℕ) (foun
       onward r i.1 refl refl refl refl refl refl refl refl (omega arith) (omega arith) (ap given_so_far i.1)
       [] (ap (λ (k : Planner). k.plan.segments.items) i.1 ∙ sym (append-nil p.plan.segments.items))
       (ap waits_so_far i.1 ∙ sym (append-nil (waits_so_far p)) ∙ ap (λ l. waits_so_far p ++ l) (sym i.0))
+      (ap waits_by i.1 ∙ sym (append-nil (waits_by p)) ∙ ap (λ ids. waits_by p ++ unless_none ids) (sym i.0))
       is plain
       (λ y a. subst (λ (k : Planner). IsPlanned y t (draft_of k)) (sym i.1) (open_planned y a i.0)))
       c.segment
@@ -317,13 +346,15 @@ module _ (p : Planner) (name : ℕ) where
       let s = state_at ready.0 b.table b.n in
       let fits = fits_at ready.0 b.table b.n (statement line) b.step in
       record {
-        name_in = within p g b.begun b.n s b.found b.stands name (used_below ready.0 b.table b.n (statement line) b.step fits.made name (kind.Handle ∷ []) fits.fits);
+        name_in = within p g b.begun b.n s b.found b.stands name (used_below ready.0 b.table b.n (statement line) b.step fits.made name
+            (kind.Handle ∷ []) fits.fits);
         there = are_there p g b.begun b.n s b.found b.stands;
         before = section_low p ready.0 b.table b.begun b.n s b.found b.stands;
         users = users_known p ready.0 b.table b.begun b.n s b.found b.stands;
         jobs = λ v h j e.
             subst (λ m. (0 < j) × (j ≤ m)) (sym b.stands.jobs.count)
-            (b.stands.known.handles name j (sym (ap (λ w. states.jobs_of w j) (b.stands.names.are name v h)) ∙ sym (value_jobs p.values.items p.handles.items (length p.containers.items) s b.stands.names v j) ∙ e));
+            (b.stands.known.handles name j (sym (ap (λ w. states.jobs_of w j) (b.stands.names.are name v h))
+            ∙ sym (value_jobs p.values.items p.handles.items (length p.containers.items) s b.stands.names v j) ∙ e));
       }
 
   pub complete_goes : (q : Planner) (jobs : Handle) (v : Value) → slice_get p.values.items name ≡ Some v → jobs_of jobs ≡ jobs_of_value p.handles.items v

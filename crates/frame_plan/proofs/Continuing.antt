@@ -57,7 +57,8 @@ pub record IsContinued (p q : Planner) (s t : ScriptState) (found : List ℕ) : 
   pub containers : AreContainers q t found
 
 module _ (p : Planner) (g : Setting) (begun : ScriptState) (n : ℕ) (s : ScriptState) (found : List ℕ) (st : Stands p g begun n s found)
-    (values : Vec Value Global) (handles : Vec Handle Global) (temps : Vec ℕ Global) (overdue frame : ℕ) (jobs : JobBook) (safety : SafetyBook) (store : SlotStore)
+    (values : Vec Value Global) (handles : Vec Handle Global) (temps : Vec ℕ Global) (overdue frame : ℕ) (jobs : JobBook) (safety : SafetyBook)
+    (store : SlotStore)
     (segments : Vec Segment Global) (waits : Vec JobId Global) (ops : Vec Op Global)
     (alive : ℕ → Bool) (book : Book) (framed : ℕ) (named : ℕ → states.Value) (lines : List ℕ) where
   abbrev q : Planner
@@ -80,7 +81,16 @@ module _ (p : Planner) (g : Setting) (begun : ScriptState) (n : ℕ) (s : Script
   copy_kept k place c = record { old = c.old; new = c.new; is_old = c.is_old; is_new = c.is_new; same = c.same }
 
   guard_kept : (k place : ℕ) → IsGuardedCopy p g k place → IsGuardedCopy q g k place
-  guard_kept k place c = record { old = c.old; new = c.new; is_old = c.is_old; is_new = c.is_new; guarded = c.guarded; contents = c.contents; words = c.words; footprint = c.footprint }
+  guard_kept k place c = record {
+    old = c.old;
+    new = c.new;
+    is_old = c.is_old;
+    is_new = c.is_new;
+    guarded = c.guarded;
+    contents = c.contents;
+    words = c.words;
+    footprint = c.footprint;
+  }
 
   stands : IsContinued p q s t found → IsKnown t → AreNames values.items handles.items (length p.containers.items) t
       → ((x : Outline) → Agrees p g begun found x → IsPlanned x t (draft_of q)) → Stands q g begun (suc n) t found
@@ -155,7 +165,8 @@ continued p q g begun n s t found st r known names planned =
     let as_t : ScriptState = changed s t.alive t.book t.frame t.values t.lines in
     subst (λ k. Stands k g begun (suc n) t found) (sym r.planner)
     (subst (λ u. Stands as_q g begun (suc n) u found) (sym r.state)
-    (stands p g begun n s found st q.values q.handles q.temps q.overdue q.frame q.jobs q.safety q.store q.plan.segments q.plan.waits q.plan.ops t.alive t.book t.frame t.values t.lines
+    (stands p g begun n s found st q.values q.handles q.temps q.overdue q.frame q.jobs q.safety q.store q.plan.segments q.plan.waits q.plan.ops t.alive t.book
+    t.frame t.values t.lines
     (subst (λ u. IsContinued p as_q s u found) r.state (subst (λ k. IsContinued p k s t found) r.planner r))
     (subst IsKnown r.state known)
     (subst (AreNames q.values.items q.handles.items (length p.containers.items)) r.state names)

@@ -56,7 +56,15 @@ module _ (g : Setting) (s : ScriptState) (home : Box NewJob Global) (asked : New
   h = record g { kernels = slice_set g.kernels asked.kernel new }
 
   abbrev pub o : Schedule
-  o = record { auto = asked.auto; handle = asked.handle; kernel = asked.kernel; args = asked.args.items; cut = asked.cut; waive = asked.waive.items; after = asked.after.items }
+  o = record {
+    auto = asked.auto;
+    handle = asked.handle;
+    kernel = asked.kernel;
+    args = asked.args.items;
+    cut = asked.cut;
+    waive = asked.waive.items;
+    after = asked.after.items;
+  }
 
   abbrev order : Order
   order = Scheduled (in_box home (undeferred asked))
@@ -78,7 +86,8 @@ module _ (g : Setting) (s : ScriptState) (home : Box NewJob Global) (asked : New
   new_widths : Widths old.params.items old.parallel → Widths new.params.items new.parallel
   new_widths w n r par none at wr =
       let q = same_at old.params.items new.params.items n r same.params at in
-      subst (λ ws. 0 < width_of ws n) (same_widths old.parallel asked.waive.items 0 old.params.items new.params.items same.params ∙ ap (λ b. widths_from b asked.waive.items 0 new.params.items) same.parallel)
+      subst (λ ws. 0 < width_of ws n) (same_widths old.parallel asked.waive.items 0 old.params.items new.params.items same.params
+      ∙ ap (λ b. widths_from b asked.waive.items 0 new.params.items) same.parallel)
       (w n q.0 (same.parallel ∙ par) none q.1 (ap writes_to q.2 ∙ wr))
 
   pub new_is_accepted : IsAcceptedSchedule g s o → IsAcceptedSchedule h s o
@@ -86,7 +95,8 @@ module _ (g : Setting) (s : ScriptState) (home : Box NewJob Global) (asked : New
     runs = a.runs ∙ same_runs g.kernels h.kernels pairs;
     unrefused = sym (same_refusal g h.kernels pairs s order) ∙ a.unrefused;
     args_fit = subst (λ k. ArgsFit s None (kernel_params k) asked.args.items) (sym has_new)
-        (same_args_fit s old.params.items new.params.items asked.args.items same.params (subst (λ k. ArgsFit s None (kernel_params k) asked.args.items) is_old a.args_fit));
+        (same_args_fit s old.params.items new.params.items asked.args.items same.params
+        (subst (λ k. ArgsFit s None (kernel_params k) asked.args.items) is_old a.args_fit));
     widths = subst (λ k. Widths (kernel_params k) (kernel_parallel k)) (sym has_new)
         (new_widths (subst (λ k. Widths (kernel_params k) (kernel_parallel k)) is_old a.widths));
     forms = λ c lt. ap (λ (t : ScriptState). form_of (t.contents c)) (sym new_accepted) ∙ a.forms c lt;

@@ -35,7 +35,8 @@ used_more [] l c = by (nat_eq c l.need.container)
     by : (b : Bool) → (b || false) ≡ b
     by true = refl
     by false = refl
-used_more (g ∷ gs) l c = ap (λ b. nat_eq c g.need.container || b) (used_more gs l c) ∙ by (nat_eq c g.need.container) (uses_it (needs gs) c) (nat_eq c l.need.container)
+used_more (g ∷ gs) l c = ap (λ b. nat_eq c g.need.container || b) (used_more gs l c)
+    ∙ by (nat_eq c g.need.container) (uses_it (needs gs) c) (nat_eq c l.need.container)
   where
     by : (a b d : Bool) → (a || (b || d)) ≡ ((a || b) || d)
     by true b d = refl
@@ -51,13 +52,15 @@ apart_more [] l a none un = (λ c here w. absurd (not_both w none), λ c here. r
 apart_more (g ∷ gs) l a none un =
     let first = or_false_left (nat_eq l.need.container g.need.container) (uses_it (needs gs) l.need.container) un in
     let rest = or_false_right (nat_eq l.need.container g.need.container) (uses_it (needs gs) l.need.container) un in
-    let other : (c : ℕ) → nat_eq c g.need.container ≡ true → nat_eq c l.need.container ≡ false = λ c here. differ c (nat_eq c l.need.container) refl here first in (
+    let other : (c : ℕ) → nat_eq c g.need.container ≡ true → nat_eq c l.need.container ≡ false =
+    λ c here. differ c (nat_eq c l.need.container) refl here first in (
       λ c here w. used_more gs l c ∙ (λ i. a.0 c here w i || other c here i),
       λ c here. written_more gs l c none ∙ a.1 c here,
       apart_more gs l a.2 none rest,
     )
   where
-    differ : (c : ℕ) (b : Bool) → nat_eq c l.need.container ≡ b → nat_eq c g.need.container ≡ true → nat_eq l.need.container g.need.container ≡ false → b ≡ false
+    differ : (c : ℕ) (b : Bool) → nat_eq c l.need.container ≡ b → nat_eq c g.need.container ≡ true → nat_eq l.need.container g.need.container ≡ false
+        → b ≡ false
     differ c true e here first =
         let same : l.need.container ≡ g.need.container = sym (eqb-true c l.need.container e) ∙ eqb-true c g.need.container here in
         absurd (not_both (eq-eqb l.need.container g.need.container same) first)
@@ -100,7 +103,8 @@ module _ (gs : List Given) (l : Given) (none : l.need.writes ≡ false) where
   }
 
   -- what blocks none of all blocks none of these
-  pub noted_open : (b : Book) (uses : ℕ → Uses) (deps : Jobs) (j : ℕ) → blocking b uses deps (needs all) j ≡ false → blocking b uses deps (needs (noted_givens gs l)) j ≡ false
+  pub noted_open : (b : Book) (uses : ℕ → Uses) (deps : Jobs) (j : ℕ) → blocking b uses deps (needs all) j ≡ false
+      → blocking b uses deps (needs (noted_givens gs l)) j ≡ false
   noted_open b uses deps j e = by (uses_it (needs gs) l.need.container)
     where
       first : (gs : List Given) → blocking b uses deps (needs (gs ++ l ∷ [])) j ≡ false → blocking b uses deps (needs gs) j ≡ false
@@ -135,7 +139,8 @@ module _ (gs : List Given) (l : Given) (none : l.need.writes ≡ false) where
 
 -- ---- the uses are these values
 
-module _ (p : Planner) (s : ScriptState) (after : Jobs) (us : List NamedUse) (ps : List Param) (as_ : List Arg) (m : AreMeant p s after us (given_args s ps as_))
+module _ (p : Planner) (s : ScriptState) (after : Jobs) (us : List NamedUse) (ps : List Param) (as_ : List Arg)
+    (m : AreMeant p s after us (given_args s ps as_))
     (u : NamedUse) (list batch : ℕ) (is : IsMeant p s after u (plain (length_value s list)))
     (parallel auto : Bool) (names : List ℕ) (unrefused : schedule_refusal s parallel auto (givens s ps as_ (Some (list, batch))) names ≡ None) where
   abbrev gs : List Given
@@ -181,7 +186,8 @@ module _ (p : Planner) (s : ScriptState) (after : Jobs) (us : List NamedUse) (ps
   noted_apart = by (uses_it (needs gs) l.need.container) refl
     where
       args : AreApart gs
-      args = args_apart s ps as_ (written_arguments_are_unshared s ps as_ (Some (list, batch)) (no_cause_given s parallel auto (gs ++ l ∷ []) names unrefused).alias)
+      args = args_apart s ps as_ (written_arguments_are_unshared s ps as_ (Some (list, batch))
+          (no_cause_given s parallel auto (gs ++ l ∷ []) names unrefused).alias)
 
       by : (b : Bool) → uses_it (needs gs) l.need.container ≡ b → AreApart (if b then gs else gs ++ plain l ∷ [])
       by true e = args

@@ -51,14 +51,16 @@ module _ (s : ScriptState) (d : Bool) where
   deferred_contents MapKind v h = fits_contents s MapKind v h
   deferred_contents StreamKind v h = fits_contents s StreamKind v h
 
-  whole_elements : (width start : ℕ) (c : Contents) → (kind_of c ≡ kind.Array) ⊎ ((d ≡ true) × (kind_of c ≡ kind.List)) → as_array width (bind_of start c) ≡ array_for width (states.Whole 0) start c
+  whole_elements : (width start : ℕ) (c : Contents) → (kind_of c ≡ kind.Array) ⊎ ((d ≡ true) × (kind_of c ≡ kind.List))
+      → as_array width (bind_of start c) ≡ array_for width (states.Whole 0) start c
   whole_elements width start (Elements xs) h = refl
   whole_elements width start (Single z) h = ⊎_elim (λ e. absurd cc) (λ (u : (d ≡ true) × (kind.Reference ≡ kind.List)). let e = u.1 in absurd cc) h
   whole_elements width start (Items cap xs) h = refl
   whole_elements width start (Pairs cap ps) h = refl
   whole_elements width start (Entries room es) h = ⊎_elim (λ e. absurd cc) (λ (u : (d ≡ true) × (kind.Stream ≡ kind.List)). let e = u.1 in absurd cc) h
 
-  deferred_array : (width start : ℕ) (v : states.Value) → FitsKind s d ArrayKind v → as_array width (bind_for v start (s.contents (container_of v))) ≡ array_for width v start (s.contents (container_of v))
+  deferred_array : (width start : ℕ) (v : states.Value) → FitsKind s d ArrayKind v
+      → as_array width (bind_for v start (s.contents (container_of v))) ≡ array_for width v start (s.contents (container_of v))
   deferred_array width start states.Dead h = absurd h
   deferred_array width start (states.Whole c) h = whole_elements width start (s.contents c) h
   deferred_array width start (states.Slice c from len) h = refl
@@ -78,7 +80,8 @@ module _ (s : ScriptState) (d : Bool) where
 
 module _ (p : Planner) (g : Setting) (begun : ScriptState) (n : ℕ) (s : ScriptState) (found : List ℕ) (st : Stands p g begun n s found) where
   module _ (x : Outline) (a : Agrees p g begun found x) (defer : Option (ℕ × ℕ)) where
-    deferred_arg : (q : Param) (width : ℕ) (arg : Arg) → IsNameBelow (length p.values.items) arg → ArgFits s defer q arg → job_bind p q.kind width arg ≡ bind_by x.starts s q width arg
+    deferred_arg : (q : Param) (width : ℕ) (arg : Arg) → IsNameBelow (length p.values.items) arg → ArgFits s defer q arg
+        → job_bind p q.kind width arg ≡ bind_by x.starts s q width arg
     deferred_arg q width (Number z) below fit = refl
     deferred_arg q width (Name m) below fit =
         let v = some_at p.values.items m below in
@@ -87,7 +90,8 @@ module _ (p : Planner) (g : Setting) (begun : ScriptState) (n : ℕ) (s : Script
         ∙ ap (as_kind q.kind width) (binds_at p g begun n s found st x a m v.0 v.1 usable)
         ∙ deferred_kind s (is_deferred defer m) q.kind width (start_at x.starts s m) (s.values m) fit.value
 
-    pub deferred_args : (parallel : Bool) (waive : List ℕ) (y : ℕ) (qs : List Param) (args : List Arg) → EachBelow (length p.values.items) args → ArgsFit s defer qs args
+    pub deferred_args : (parallel : Bool) (waive : List ℕ) (y : ℕ) (qs : List Param) (args : List Arg) → EachBelow (length p.values.items) args
+        → ArgsFit s defer qs args
         → job_binds p parallel waive y qs args ≡ binds_by x.starts s qs (widths_from parallel waive y qs) args
     deferred_args parallel waive y [] args below fit = refl
     deferred_args parallel waive y (q ∷ qs) [] below fit = absurd fit
@@ -106,7 +110,8 @@ module _ (p : Planner) (g : Setting) (begun : ScriptState) (n : ℕ) (s : Script
     pub range : s.range (container_at s list) < length found
     pub cap : at.cap ≡ capacity_of (contents_at s list)
 
-  list_words : (start : ℕ) (c : Contents) → kind_of c ≡ kind.List → (at : ListAt) × (bind_of start c ≡ WholeList at) × (at.start ≡ start) × (at.cap ≡ capacity_of c)
+  list_words : (start : ℕ) (c : Contents) → kind_of c ≡ kind.List → (at : ListAt) × (bind_of start c ≡ WholeList at) × (at.start ≡ start)
+      × (at.cap ≡ capacity_of c)
   list_words start (Elements xs) h = absurd cc
   list_words start (Single z) h = absurd cc
   list_words start (Items cap xs) h = (record { start = start; cap = cap }, refl, refl, refl)
@@ -118,7 +123,8 @@ module _ (p : Planner) (g : Setting) (begun : ScriptState) (n : ℕ) (s : Script
     Found w v = (at : ListAt) × (bind_of_container p.containers.items v ≡ WholeList at) × (at.start ≡ get_or found (s.range (container_of w)) 0)
         × (s.range (container_of w) < length found) × (at.cap ≡ capacity_of (s.contents (container_of w)))
 
-    list_value : (v : Value) → IsThere (length p.containers.items) (length p.handles.items) v → IsWhole s kind.List (value_for p.handles.items v) → Found (value_for p.handles.items v) v
+    list_value : (v : Value) → IsThere (length p.containers.items) (length p.handles.items) v → IsWhole s kind.List (value_for p.handles.items v)
+        → Found (value_for p.handles.items v) v
     list_value Dead there h = absurd h
     list_value (Whole c) there h =
         let it = some_at p.containers.items c there in

@@ -44,7 +44,8 @@ last_alias gs l = if list_any (λ a. alias a l) gs then Some l.need.name else No
 
 alias_last : (before gs : List Given) (l : Given) → first_alias before (gs ++ l ∷ []) ≡ or_name (first_alias before gs) (last_alias (before ++ gs) l)
 alias_last before [] l = ap (λ gs. last_alias gs l) (sym (append-nil before))
-alias_last before (g ∷ gs) l = by (alias_last (before ++ g ∷ []) gs l ∙ ap (λ all. or_name (first_alias (before ++ g ∷ []) gs) (last_alias all l)) (append_assoc before (g ∷ []) gs)) (list_any (λ a. alias a g) before)
+alias_last before (g ∷ gs) l = by (alias_last (before ++ g ∷ []) gs l ∙ ap (λ all. or_name (first_alias (before ++ g ∷ []) gs) (last_alias all l))
+    (append_assoc before (g ∷ []) gs)) (list_any (λ a. alias a g) before)
   where
     by : first_alias (before ++ g ∷ []) (gs ++ l ∷ []) ≡ or_name (first_alias (before ++ g ∷ []) gs) (last_alias (before ++ (g ∷ gs)) l) → (b : Bool)
         → (if b then Some g.need.name else first_alias (before ++ g ∷ []) (gs ++ l ∷ []))
@@ -52,13 +53,15 @@ alias_last before (g ∷ gs) l = by (alias_last (before ++ g ∷ []) gs l ∙ ap
     by e true = refl
     by e false = e
 
-joined : (o next : Option Cause) (a b : Option ℕ) → as_refused o ≡ option_map (refused Alias) a → as_refused next ≡ option_map (refused Alias) b → as_refused (or_next o next) ≡ option_map (refused Alias) (or_name a b)
+joined : (o next : Option Cause) (a b : Option ℕ) → as_refused o ≡ option_map (refused Alias) a → as_refused next ≡ option_map (refused Alias) b
+    → as_refused (or_next o next) ≡ option_map (refused Alias) (or_name a b)
 joined None next None b e f = f
 joined None next (Some n) b e f = absurd cc
 joined (Some c) next None b e f = absurd cc
 joined (Some c) next (Some n) b e f = e
 
-module _ (p : Planner) (s : ScriptState) (after : Jobs) (us : List NamedUse) (gs : List Given) (m : AreMeant p s after us gs) (u : NamedUse) (n : ℕ) (is : IsMeant p s after u (plain (length_value s n))) where
+module _ (p : Planner) (s : ScriptState) (after : Jobs) (us : List NamedUse) (gs : List Given) (m : AreMeant p s after us gs) (u : NamedUse) (n : ℕ)
+    (is : IsMeant p s after u (plain (length_value s n))) where
   abbrev l : Given
   l = length_value s n
 
@@ -72,7 +75,8 @@ module _ (p : Planner) (s : ScriptState) (after : Jobs) (us : List NamedUse) (gs
   length_is : length_given u ≡ l
   length_is = λ i. record (is.given i) { is_length = true }
 
-  any_same : (us : List NamedUse) (gs : List Given) → AreMeant p s after us gs → list_any (λ a. alias (given_of a) (length_given u)) us ≡ list_any (λ a. alias a l) gs
+  any_same : (us : List NamedUse) (gs : List Given) → AreMeant p s after us gs
+      → list_any (λ a. alias (given_of a) (length_given u)) us ≡ list_any (λ a. alias a l) gs
   any_same [] [] m = refl
   any_same [] (g ∷ gs) m = absurd m
   any_same (x ∷ us) [] m = absurd m
@@ -83,7 +87,8 @@ module _ (p : Planner) (s : ScriptState) (after : Jobs) (us : List NamedUse) (gs
       ap (λ b. as_refused (if b then Some (record { refusal = Alias; name = u.name }) else None)) (any_same us gs m)
       ∙ by (list_any (λ a. alias a l) gs)
     where
-      by : (b : Bool) → as_refused (if b then Some (record { refusal = Alias; name = u.name }) else None) ≡ option_map (refused Alias) (if b then Some l.need.name else None)
+      by : (b : Bool) → as_refused (if b then Some (record { refusal = Alias; name = u.name }) else None) ≡ option_map (refused Alias)
+          (if b then Some l.need.name else None)
       by true = λ i. Some (refused Alias (is.given i).need.name)
       by false = refl
 
@@ -98,22 +103,27 @@ module _ (p : Planner) (s : ScriptState) (after : Jobs) (us : List NamedUse) (gs
       → as_refused (deferred_refusal us u parallel auto) ≡ schedule_refusal s parallel auto (gs ++ l ∷ []) names
   deferred_refusal_is parallel auto names named =
       let are = names_same gs l in
-      as_first _ _ (first_is p s after Disposed (has_cause parallel Disposed) (λ g. not (is_alive s (s.values g.need.name))) (disposed_is p s after) (with_length us u) all meant
+      as_first _ _ (first_is p s after Disposed (has_cause parallel Disposed) (λ g. not (is_alive s (s.values g.need.name))) (disposed_is p s after)
+      (with_length us u) all meant
       ∙ ap (option_map (refused Disposed)) (found_given (λ n. not (is_alive s (s.values n))) all)
       ∙ ap (λ ns. option_map (refused Disposed) (find (λ n. not (is_alive s (s.values n))) ns)) are) _ _ (λ none.
       let alive = all_alive s all (ap (find (λ n. not (is_alive s (s.values n)))) are ∙ none_named Disposed _ none) in
-      as_first _ _ (first_alive p s after StaleView (has_cause parallel StaleView) (λ g. is_stale s (s.values g.need.name)) (stale_is p s after) (with_length us u) all meant alive
+      as_first _ _ (first_alive p s after StaleView (has_cause parallel StaleView) (λ g. is_stale s (s.values g.need.name)) (stale_is p s after)
+      (with_length us u) all meant alive
       ∙ ap (option_map (refused StaleView)) (found_given (λ n. is_stale s (s.values n)) all)
       ∙ ap (λ ns. option_map (refused StaleView) (find (λ n. is_stale s (s.values n)) ns)) are) _ _ (λ none.
       let fresh = all_fresh s all (ap (find (λ n. is_stale s (s.values n))) are ∙ none_named StaleView _ none) in
-      as_first _ _ (first_is p s after NotParallel (has_cause parallel NotParallel) (λ g. parallel && (g.need.writes && is_shared g.kind)) (λ u g m. λ i. parallel && ((m.given i).need.writes && is_shared (m.given i).kind)) (with_length us u) all meant
+      as_first _ _ (first_is p s after NotParallel (has_cause parallel NotParallel) (λ g. parallel && (g.need.writes && is_shared g.kind))
+      (λ u g m. λ i. parallel && ((m.given i).need.writes && is_shared (m.given i).kind)) (with_length us u) all meant
       ∙ ap (option_map (refused NotParallel)) (first_same (λ g. parallel && (g.need.writes && is_shared g.kind)) gs l refl)) _ _ (λ none.
-      as_first _ _ (first_alive p s after TempInJob (has_cause parallel TempInJob) (λ g. is_temp (s.life g.need.container)) (λ u g m. m.temp) (with_length us u) all meant alive
+      as_first _ _ (first_alive p s after TempInJob (has_cause parallel TempInJob) (λ g. is_temp (s.life g.need.container)) (λ u g m. m.temp)
+      (with_length us u) all meant alive
       ∙ ap (option_map (refused TempInJob)) (first_same (λ g. is_temp (s.life g.need.container)) gs l refl)) _ _ (λ none.
       as_first _ _ deferred_alias_is _ _ (λ none.
       as_last _ _ (by auto alive fresh))))))
     where
-      by : (b : Bool) → AreAlive s all → AreFresh s all → as_refused (if b then None else pending_of (with_length us u)) ≡ (if b then None else pending s (jobs_named s names) (map (λ g. g.need) (gs ++ l ∷ [])))
+      by : (b : Bool) → AreAlive s all → AreFresh s all → as_refused (if b then None else pending_of (with_length us u)) ≡
+          (if b then None else pending s (jobs_named s names) (map (λ g. g.need) (gs ++ l ∷ [])))
       by true a f = refl
       by false a f =
           pending_is p s after (with_length us u) all meant a f

@@ -28,7 +28,11 @@ module _ (p : Planner) (g : Setting) (begun : ScriptState) (m : ℕ) (s : Script
       let k = means p g begun m s found st after is.value (st.names.there n is.value is.has) in
       let at : number_of_value is.value ≡ container_at s n = k.container ∙ ap container_of v in
       record {
-        given = λ i. record { need = record { name = is.named i; container = (is.container ∙ at) i; writes = writes_to (is.access i) }; kind = is.kind i; is_length = false };
+        given = λ i. record {
+          need = record { name = is.named i; container = (is.container ∙ at) i; writes = writes_to (is.access i) };
+          kind = is.kind i;
+          is_length = false;
+        };
         container_is = refl;
         blocked =
             k.blocked false u.blocked (subst (λ o. IsBlockedBy p after o false u.blocked) is.tag is.blocked)

@@ -25,7 +25,8 @@ use Rattle.frame_plan.proofs.Meaning.{AreMeant}
 use Rattle.frame_plan.proofs.Notes.{needs}
 
 -- the jobs that are kept are known
-kept_up : (b : Book) (l : Latest) (u : Uses) → AreUses b u → StandForUses b l u → (writes : Bool) (j : ℕ) → conflicting_in l writes j ≡ true → (0 < j) × (j ≤ b.count)
+kept_up : (b : Book) (l : Latest) (u : Uses) → AreUses b u → StandForUses b l u → (writes : Bool) (j : ℕ) → conflicting_in l writes j ≡ true
+    → (0 < j) × (j ≤ b.count)
 kept_up b l u are st writes j h =
     let parts = and_parts (nat_lt 0 j) (nat_eq j l.writer || (writes && l.readers j)) h in
     let low = greatest_below u.writers b.count in
@@ -62,7 +63,8 @@ module _ (p : Planner) (g : Setting) (begun : ScriptState) (n : ℕ) (s : Script
       subst (λ o. AreNeeds s.book s.uses p.safety (tags_by o u.access (tags_of us)) (h.need ∷ needs gs)) (sym k.2.1) (need, needs_are us gs m.1 a.1)
 
   -- the dependency set is that of the script
-  pub deps_are : (auto : Bool) (us : List NamedUse) (gs : List Given) → AreMeant p s after us gs → AreAlive s gs → (deps : Jobs) → AreDeps auto after p.jobs p.safety (tags_of us) deps
+  pub deps_are : (auto : Bool) (us : List NamedUse) (gs : List Given) → AreMeant p s after us gs → AreAlive s gs → (deps : Jobs)
+      → AreDeps auto after p.jobs p.safety (tags_of us) deps
       → deps ≡ (if auto then both after (automatic s.book s.uses after (needs gs)) else after)
   deps_are false us gs m a deps d = d
   deps_are true us gs m a deps d =

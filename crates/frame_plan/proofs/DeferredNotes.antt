@@ -14,23 +14,27 @@ pub may_last : (job : ℕ) (us : List NamedUse) (u : NamedUse) (states : ℕ →
 may_last job [] u states h = h.0
 may_last job (x ∷ us) u states h = may_last job us u (noted job x states) (h.1 job)
 
-pub noted_last : (job : ℕ) (us : List NamedUse) (u : NamedUse) (states : ℕ → SlotState) → noted_all job (us ++ u ∷ []) states ≡ noted job u (noted_all job us states)
+pub noted_last : (job : ℕ) (us : List NamedUse) (u : NamedUse) (states : ℕ → SlotState)
+    → noted_all job (us ++ u ∷ []) states ≡ noted job u (noted_all job us states)
 noted_last job [] u states = refl
 noted_last job (x ∷ us) u states = noted_last job us u (noted job x states)
 
-pub may_args : (b : Bool) (us : List NamedUse) (u : NamedUse) (states : ℕ → SlotState) → MayNoteAll (if b then us else with_length us u) states → MayNoteAll us states
+pub may_args : (b : Bool) (us : List NamedUse) (u : NamedUse) (states : ℕ → SlotState) → MayNoteAll (if b then us else with_length us u) states
+    → MayNoteAll us states
 may_args true us u states h = h
 may_args false us u states h = may_first us u states h
 
 -- where no argument is of the list
 
-module _ (job : ℕ) (us : List NamedUse) (u : NamedUse) (states next : ℕ → SlotState) (b : Bool) (is : b ≡ false) (so_far : (k : ℕ) → next k ≡ noted_all job us states k) where
+module _ (job : ℕ) (us : List NamedUse) (u : NamedUse) (states next : ℕ → SlotState) (b : Bool) (is : b ≡ false)
+    (so_far : (k : ℕ) → next k ≡ noted_all job us states k) where
   pub may_list : MayNoteAll (if b then us else with_length us u) states → MayNote u next
   may_list h =
       let may = subst (λ b. MayNoteAll (if b then us else with_length us u) states) is h in
       subst (λ (f : ℕ → SlotState). MayNote u f) (λ i k. sym (so_far k) i) (may_last job us u states may)
 
-  pub noted_list : (last : ℕ → SlotState) → ((k : ℕ) → last k ≡ noted job u next k) → (k : ℕ) → last k ≡ noted_all job (if b then us else with_length us u) states k
+  pub noted_list : (last : ℕ → SlotState) → ((k : ℕ) → last k ≡ noted job u next k) → (k : ℕ)
+      → last k ≡ noted_all job (if b then us else with_length us u) states k
   noted_list last h k =
       h k
       ∙ ap (λ (f : ℕ → SlotState). noted job u f k) (λ i k. so_far k i)

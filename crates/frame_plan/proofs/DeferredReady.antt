@@ -49,7 +49,8 @@ use Rattle.frame_plan.proofs.Restating.{accepted_state, said_nobody}
 use Rattle.frame_plan.proofs.ScheduleText.{all_below, each_lower}
 use Rattle.frame_ast.specs.declared.script.NewJob.{NewJob}
 
-module _ (script : Script) (table : Table) (begun : ScriptState) (n : ℕ) (found : List ℕ) (line : ℕ) (home : Box NewJob Global) (asked : NewJob) (list batch : ℕ) where
+module _ (script : Script) (table : Table) (begun : ScriptState) (n : ℕ) (found : List ℕ) (line : ℕ) (home : Box NewJob Global) (asked : NewJob)
+    (list batch : ℕ) where
   abbrev g : Setting
   g = setting script table
 
@@ -79,7 +80,8 @@ module _ (script : Script) (table : Table) (begun : ScriptState) (n : ℕ) (foun
     after_below names e = subst (λ ns. (k d : ℕ) → k < length ns → get_or ns k d < vec_len p.values) (sym e)
         (λ k d lt. let low = the_text.after_below k d lt in let e = values_long in omega arith)
 
-    pub each_arg : (given : List Arg) (params : List Param) (source : Kernel) → given ≡ asked.args.items → params ≡ source.params.items → slice_get script.kernels.items asked.kernel ≡ Some source → length given ≡ length params
+    pub each_arg : (given : List Arg) (params : List Param) (source : Kernel) → given ≡ asked.args.items → params ≡ source.params.items
+        → slice_get script.kernels.items asked.kernel ≡ Some source → length given ≡ length params
     each_arg given params source e f at =
         ap length e ∙ the_text.each ∙ ap (λ (k : Kernel). length k.params.items) (some_is (sym the_text.has ∙ at)) ∙ sym (ap length f)
 
@@ -88,7 +90,8 @@ module _ (script : Script) (table : Table) (begun : ScriptState) (n : ℕ) (foun
 
     pub args_below : (given : List Arg) → given ≡ asked.args.items → All (IsNameBelow (vec_len p.values)) given
     args_below given e = subst (All (IsNameBelow (vec_len p.values))) (sym e)
-        (all_below (vec_len p.values) asked.args.items (each_lower (length g.names) (vec_len p.values) (let e = values_long in omega arith) asked.args.items the_text.below))
+        (all_below (vec_len p.values) asked.args.items (each_lower (length g.names) (vec_len p.values)
+        (let e = values_long in omega arith) asked.args.items the_text.below))
 
     pub handles_few : vec_len p.handles < 2 ^ 32
     handles_few = let few = st.numbers.handles_few in let lt = statements_few script table n x step in let len = p.handles.ok.0 in omega arith
@@ -107,11 +110,13 @@ module _ (script : Script) (table : Table) (begun : ScriptState) (n : ℕ) (foun
 
     -- ---- the named jobs
 
-    module _ (named : Handle) (names : List ℕ) (names_are : names ≡ asked.after.items) (are : (j : ℕ) → jobs_of named j ≡ jobs_by p.handles.items p.values.items names j) where
+    module _ (named : Handle) (names : List ℕ) (names_are : names ≡ asked.after.items)
+        (are : (j : ℕ) → jobs_of named j ≡ jobs_by p.handles.items p.values.items names j) where
       pub named_is : jobs_of named ≡ jobs_named s asked.after.items
       named_is = λ i j.
           (are j
-          ∙ jobs_are p s (length p.containers.items) st.names names (λ k d lt. let b = after_below names names_are k d lt in let len = p.values.ok.0 in omega arith) j
+          ∙ jobs_are p s (length p.containers.items) st.names names (λ k d lt. let b = after_below names names_are k d lt in let len = p.values.ok.0 in
+          omega arith) j
           ∙ ap (λ ns. jobs_named s ns j) names_are) i
 
       pub named_up : AreUpTo (count_of p.jobs) (jobs_of named)
@@ -121,11 +126,14 @@ module _ (script : Script) (table : Table) (begun : ScriptState) (n : ℕ) (foun
 
       -- ---- the uses
 
-      module _ (source : Kernel) (at : slice_get script.kernels.items asked.kernel ≡ Some source) (params : List Param) (params_are : params ≡ source.params.items) (given : List Arg) (given_is : given ≡ asked.args.items)
-          (uses : List NamedUse) (are_uses : ForNames (IsUse p (jobs_of named)) params given uses) (length_use : NamedUse) (is_length : IsLengthUse p (jobs_of named) list length_use) where
+      module _ (source : Kernel) (at : slice_get script.kernels.items asked.kernel ≡ Some source) (params : List Param)
+          (params_are : params ≡ source.params.items) (given : List Arg) (given_is : given ≡ asked.args.items)
+          (uses : List NamedUse) (are_uses : ForNames (IsUse p (jobs_of named)) params given uses) (length_use : NamedUse)
+          (is_length : IsLengthUse p (jobs_of named) list length_use) where
         in_text : ForNames (IsUse p (jobs_of named)) the_text.source.params.items asked.args.items uses
         in_text =
-            subst (λ qs. ForNames (IsUse p (jobs_of named)) qs asked.args.items uses) (params_are ∙ ap (λ (k : Kernel). k.params.items) (some_is (sym at ∙ the_text.has)))
+            subst (λ qs. ForNames (IsUse p (jobs_of named)) qs asked.args.items uses)
+            (params_are ∙ ap (λ (k : Kernel). k.params.items) (some_is (sym at ∙ the_text.has)))
             (subst (λ as_. ForNames (IsUse p (jobs_of named)) params as_ uses) given_is are_uses)
 
         module _ (parallel : Bool) (parallel_is : parallel ≡ source.parallel) where
@@ -133,14 +141,18 @@ module _ (script : Script) (table : Table) (begun : ScriptState) (n : ℕ) (foun
           refusal_as =
               deferred_refusal_is p s (jobs_of named) uses (given_args s the_text.source.params.items asked.args.items)
               (Rattle.frame_plan.proofs.Meaning.uses_meant p g begun n s found st (jobs_of named) the_text.source.params.items asked.args.items uses in_text)
-              length_use list (Rattle.frame_plan.proofs.DeferredMeaning.length_meant p g begun n s found st (jobs_of named) list length_use is_length) parallel asked.auto asked.after.items named_is
+              length_use list (Rattle.frame_plan.proofs.DeferredMeaning.length_meant p g begun n s found st (jobs_of named) list length_use is_length) parallel
+              asked.auto asked.after.items named_is
               ∙ (λ i. schedule_refusal s (same_parallel i) asked.auto (same_givens i) asked.after.items)
             where
               same_parallel : parallel ≡ is_parallel g asked.kernel
               same_parallel = parallel_is ∙ ap kernel_parallel (sym at)
 
-              same_givens : given_args s the_text.source.params.items asked.args.items ++ length_value s list ∷ [] ≡ Rattle.frame_ast.specs.Schedules.givens s (Rattle.frame_ast.specs.Orders.params_of g asked.kernel) asked.args.items (Some (list, batch))
-              same_givens = sym (ap (λ k. given_args s (Rattle.frame_ast.specs.Orders.kernel_params k) asked.args.items ++ length_value s list ∷ []) the_text.has)
+              same_givens : given_args s the_text.source.params.items asked.args.items ++ length_value s list
+                  ∷ [] ≡ Rattle.frame_ast.specs.Schedules.givens s (Rattle.frame_ast.specs.Orders.params_of g asked.kernel) asked.args.items
+                  (Some (list, batch))
+              same_givens = sym (ap (λ k. given_args s (Rattle.frame_ast.specs.Orders.kernel_params k) asked.args.items ++ length_value s list
+                  ∷ []) the_text.has)
 
           -- refused
           pub refused_on : (cause : Cause) → Some cause ≡ deferred_refusal uses length_use parallel asked.auto → (q : Planner)
@@ -160,32 +172,40 @@ module _ (script : Script) (table : Table) (begun : ScriptState) (n : ℕ) (foun
             none = sym refusal_as ∙ ap as_refused (sym open_)
 
             pub may_note_all : MayNoteAll (noted_uses uses length_use) (state_of p.safety)
-            may_note_all = started.may_note_all script table begun n found line home asked list batch step the_text p st uses length_use (jobs_of named) named_is in_text is_length none
+            may_note_all = started.may_note_all script table begun n found line home asked list batch step the_text p st uses length_use
+                (jobs_of named) named_is in_text is_length none
 
             pub list_named : Rattle.frame_plan.specs.Deferring.IsListName p list
-            list_named = started.list_named script table begun n found line home asked list batch step the_text p st uses length_use (jobs_of named) named_is in_text is_length none
+            list_named = started.list_named script table begun n found line home asked list batch step the_text p st uses length_use
+                (jobs_of named) named_is in_text is_length none
 
             pub conflicts_up : AreUpTo (count_of p.jobs) (conflicting_with p.safety (tags_of (with_length uses length_use)))
             conflicts_up j h =
                 let needs = waiting.needs_are p g begun n s found st (jobs_of named) (with_length uses length_use) _
-                (started.meant_all script table begun n found line home asked list batch step the_text p st uses length_use (jobs_of named) named_is in_text is_length none)
-                (started.alive_all script table begun n found line home asked list batch step the_text p st uses length_use (jobs_of named) named_is in_text is_length none) in
+                (started.meant_all script table begun n found line home asked list batch step the_text p st uses length_use
+                (jobs_of named) named_is in_text is_length none)
+                (started.alive_all script table begun n found line home asked list batch step the_text p st uses length_use
+                (jobs_of named) named_is in_text is_length none) in
                 let up = waiting.needs_up s.book s.uses st.known.uses p.safety (tags_of (with_length uses length_use)) _ needs j h in
                 let e = count_is in (up.0, omega arith)
 
             module _ (deps : Jobs) (are_deps : AreDeps asked.auto (jobs_of named) p.jobs p.safety (tags_of (with_length uses length_use)) deps) where
               waits : deps ≡ Rattle.defer_laws.specs.Deferring.deps_of g s (started.o script table begun n found line home asked list batch)
-              waits = started.waits_are script table begun n found line home asked list batch step the_text p st uses length_use (jobs_of named) named_is in_text is_length none deps are_deps
+              waits = started.waits_are script table begun n found line home asked list batch step the_text p st uses length_use
+                  (jobs_of named) named_is in_text is_length none deps are_deps
 
               pub deps_up : AreUpTo (count_of p.jobs) deps
               deps_up j h =
-                  let up = started.waited_up script table begun n found line home asked list batch step the_text p st uses length_use (jobs_of named) named_is in_text is_length none j (sym (ap (λ f. f j) waits) ∙ h) in
+                  let up = started.waited_up script table begun n found line home asked list batch step the_text p st uses length_use
+                  (jobs_of named) named_is in_text is_length none j (sym (ap (λ f. f j) waits) ∙ h) in
                   let e = count_is in (up.0, omega arith)
 
-              pub accepted_on : (q : Planner) (waived : List ℕ) → waived ≡ asked.waive.items → IsDeferredStart script p q asked.handle asked.kernel given list batch waived (noted_uses uses length_use) deps
+              pub accepted_on : (q : Planner) (waived : List ℕ) → waived ≡ asked.waive.items
+                  → IsDeferredStart script p q asked.handle asked.kernel given list batch waived (noted_uses uses length_use) deps
                   → HasStepped script table begun n found p q x
               accepted_on q waived w d =
-                  started.deferred_on script table begun n found line home asked list batch step the_text p st uses length_use (jobs_of named) named_is in_text is_length none q deps waits
+                  started.deferred_on script table begun n found line home asked list batch step the_text p st uses length_use
+                  (jobs_of named) named_is in_text is_length none q deps waits
                   (subst (λ ws. IsDeferredStart script p q asked.handle asked.kernel asked.args.items list batch ws (noted_uses uses length_use) deps) w
                   (subst (λ as_. IsDeferredStart script p q asked.handle asked.kernel as_ list batch waived (noted_uses uses length_use) deps) given_is d))
 
@@ -195,6 +215,7 @@ module _ (script : Script) (table : Table) (begun : ScriptState) (n : ℕ) (foun
             fails TooManyJobs h =
                 let e = count_is in
                 let is = accepted_state g s x step.acts none in
-                let books : (state_after script table n x).book.count ≡ suc s.book.count = ap (λ (u : ScriptState). u.book.count) (is ∙ accepted_is g s (started.o script table begun n found line home asked list batch)) in
+                let books : (state_after script table n x).book.count ≡ suc s.book.count =
+                ap (λ (u : ScriptState). u.book.count) (is ∙ accepted_is g s (started.o script table begun n found line home asked list batch)) in
                 omega arith
             fails Words h = absurd h

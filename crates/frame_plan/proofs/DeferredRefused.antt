@@ -28,7 +28,8 @@ pub named_more : (m : ℕ) (us : List NamedUse) (u : NamedUse) → AreNamed m us
 named_more m [] u are lt = (lt, tt)
 named_more m (x ∷ us) u are lt = (are.0, named_more m us u are.1 lt)
 
-pub uses_named : (p : Planner) (after : Jobs) (m : ℕ) (ps : List Param) (args : List Arg) (us : List NamedUse) → ForNames (IsUse p after) ps args us → EachBelow m args → AreNamed m us
+pub uses_named : (p : Planner) (after : Jobs) (m : ℕ) (ps : List Param) (args : List Arg) (us : List NamedUse) → ForNames (IsUse p after) ps args us
+    → EachBelow m args → AreNamed m us
 uses_named p after m [] args us e below = subst (AreNamed m) (sym e) tt
 uses_named p after m (q ∷ ps) [] us e below = subst (AreNamed m) (sym e) tt
 uses_named p after m (q ∷ ps) (Number z ∷ args) us h below = uses_named p after m ps args us h below.1
@@ -46,7 +47,8 @@ module _ (m : ℕ) where
   first_named refusal test [] are = none_named
   first_named refusal test (u ∷ us) are = by (first_named refusal test us are.1) (test u)
     where
-      by : IsNamed (first_with refusal test us) → (b : Bool) → IsNamed (if b then Some (record { refusal = refusal; name = u.name }) else first_with refusal test us)
+      by : IsNamed (first_with refusal test us) → (b : Bool) → IsNamed (if b then Some
+          (record { refusal = refusal; name = u.name }) else first_with refusal test us)
       by rest true c e = subst (λ (c : Cause). c.name < m) (some_is e) are.0
       by rest false c e = rest c e
 
@@ -54,7 +56,8 @@ module _ (m : ℕ) where
   alias_named before [] are = none_named
   alias_named before (u ∷ us) are = by (alias_named (before ++ u ∷ []) us are.1) (list_any (λ a. alias (given_of a) (given_of u)) before)
     where
-      by : IsNamed (alias_after (before ++ u ∷ []) us) → (b : Bool) → IsNamed (if b then Some (record { refusal = Alias; name = u.name }) else alias_after (before ++ u ∷ []) us)
+      by : IsNamed (alias_after (before ++ u ∷ []) us) → (b : Bool) → IsNamed
+          (if b then Some (record { refusal = Alias; name = u.name }) else alias_after (before ++ u ∷ []) us)
       by rest true c e = subst (λ (c : Cause). c.name < m) (some_is e) are.0
       by rest false c e = rest c e
 

@@ -14,7 +14,8 @@ use Rattle.frame_plan.proofs.Scheduled.{leave_all_is, broken_left}
 
 abbrev stored : Setting → ScriptState → Deferred → List Contents
 stored g s o =
-    (get_or g.runs o.kernel no_run (widths_from (is_parallel g o.kernel) o.waive 0 (params_of g o.kernel)) deferred_steps (job_length s o.cut (Some o.defer)) (arguments_of s (params_of g o.kernel) o.args)).store
+    (get_or g.runs o.kernel no_run (widths_from (is_parallel g o.kernel) o.waive 0 (params_of g o.kernel)) deferred_steps (job_length s o.cut (Some o.defer))
+    (arguments_of s (params_of g o.kernel) o.args)).store
 
 -- the contents that a job leaves
 abbrev pub left : Setting → ScriptState → Deferred → ScriptState

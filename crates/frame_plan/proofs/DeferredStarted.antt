@@ -74,7 +74,8 @@ use Rattle.frame_plan.proofs.ScheduleText.{each_lower}
 use Rattle.frame_plan.proofs.Slots.{noted_live, noted_version, noted_folded, may_note}
 use Rattle.frame_ast.specs.declared.script.NewJob.{NewJob}
 
-module _ (script : Script) (table : Table) (begun : ScriptState) (n : ℕ) (found : List ℕ) (line : ℕ) (home : Box NewJob Global) (asked : NewJob) (list batch : ℕ) where
+module _ (script : Script) (table : Table) (begun : ScriptState) (n : ℕ) (found : List ℕ) (line : ℕ) (home : Box NewJob Global) (asked : NewJob)
+    (list batch : ℕ) where
   abbrev g : Setting
   g = setting script table
 
@@ -85,14 +86,25 @@ module _ (script : Script) (table : Table) (begun : ScriptState) (n : ℕ) (foun
   x = text.x script table n line home asked list batch
 
   abbrev pub o : Deferred
-  o = record { auto = asked.auto; handle = asked.handle; kernel = asked.kernel; args = asked.args.items; cut = None; defer = (list, batch); waive = asked.waive.items; after = asked.after.items }
+  o = record {
+    auto = asked.auto;
+    handle = asked.handle;
+    kernel = asked.kernel;
+    args = asked.args.items;
+    cut = None;
+    defer = (list, batch);
+    waive = asked.waive.items;
+    after = asked.after.items;
+  }
 
   abbrev t : ScriptState
   t = accepted g s o
 
-  module _ (step : IsStep script table n x) (is_text : IsDeferredText script table n line home asked list batch step) (p : Planner) (st : StandsAt p script table begun n found)
+  module _ (step : IsStep script table n x) (is_text : IsDeferredText script table n line home asked list batch step) (p : Planner)
+      (st : StandsAt p script table begun n found)
       (uses : List NamedUse) (length_use : NamedUse) (named : Jobs) (named_is : named ≡ jobs_named s asked.after.items)
-      (are : ForNames (IsUse p named) is_text.source.params.items asked.args.items uses) (is : IsLengthUse p named list length_use) (none : refusal g s x.act ≡ None) where
+      (are : ForNames (IsUse p named) is_text.source.params.items asked.args.items uses) (is : IsLengthUse p named list length_use)
+      (none : refusal g s x.act ≡ None) where
     deferred_is : IsDeferredOf g s x o
     deferred_is = deferred_schedules_are_accepted script step.accepted table n x o step.here refl none
 
@@ -129,13 +141,16 @@ module _ (script : Script) (table : Table) (begun : ScriptState) (n : ℕ) (foun
     ng = noted_givens gs l
 
     meant : AreMeant p s named noted ng
-    meant = noting.noted_meant p s named uses ps asked.args.items meant_args length_use list batch meant_length (is_parallel g asked.kernel) asked.auto asked.after.items unrefused
+    meant = noting.noted_meant p s named uses ps asked.args.items meant_args length_use list batch meant_length
+        (is_parallel g asked.kernel) asked.auto asked.after.items unrefused
 
     alive : AreAlive s ng
-    alive = noting.noted_alive p s named uses ps asked.args.items meant_args length_use list batch meant_length (is_parallel g asked.kernel) asked.auto asked.after.items unrefused
+    alive = noting.noted_alive p s named uses ps asked.args.items meant_args length_use list batch meant_length
+        (is_parallel g asked.kernel) asked.auto asked.after.items unrefused
 
     apart : AreApart ng
-    apart = noting.noted_apart p s named uses ps asked.args.items meant_args length_use list batch meant_length (is_parallel g asked.kernel) asked.auto asked.after.items unrefused
+    apart = noting.noted_apart p s named uses ps asked.args.items meant_args length_use list batch meant_length
+        (is_parallel g asked.kernel) asked.auto asked.after.items unrefused
 
     views_few : (c : ℕ) → s.view c < MOST_STATEMENTS
     views_few c =
@@ -184,9 +199,11 @@ module _ (script : Script) (table : Table) (begun : ScriptState) (n : ℕ) (foun
     meant_all = meant_more p s named uses gs length_use (plain l) meant_args meant_length
 
     pub alive_all : AreAlive s all
-    alive_all = noting.all_alive_here p s named uses ps asked.args.items meant_args length_use list batch meant_length (is_parallel g asked.kernel) asked.auto asked.after.items unrefused
+    alive_all = noting.all_alive_here p s named uses ps asked.args.items meant_args length_use list batch meant_length
+        (is_parallel g asked.kernel) asked.auto asked.after.items unrefused
 
-    pub waits_are : (deps : Jobs) → Rattle.frame_plan.specs.Starting.AreDeps asked.auto named p.jobs p.safety (Rattle.frame_plan.specs.Uses.tags_of (with_length uses length_use)) deps → deps ≡ waited
+    pub waits_are : (deps : Jobs) → Rattle.frame_plan.specs.Starting.AreDeps asked.auto named p.jobs p.safety
+        (Rattle.frame_plan.specs.Uses.tags_of (with_length uses length_use)) deps → deps ≡ waited
     waits_are deps d =
         waiting.deps_are p g begun n s found st named asked.auto (with_length uses length_use) all meant_all alive_all deps d
         ∙ ap (λ ns. if asked.auto then both named (automatic s.book s.uses named ns) else named) (needs_same gs l ∙ ap needs (sym gives_are))
@@ -208,11 +225,17 @@ module _ (script : Script) (table : Table) (begun : ScriptState) (n : ℕ) (foun
 
     -- ---- the planner afterwards
 
-    module _ (q : Planner) (deps : Jobs) (deps_is : deps ≡ waited) (d : IsDeferredStart script p q asked.handle asked.kernel asked.args.items list batch asked.waive.items noted deps) where
+    module _ (q : Planner) (deps : Jobs) (deps_is : deps ≡ waited) (d : IsDeferredStart script p q asked.handle asked.kernel asked.args.items list batch
+        asked.waive.items noted deps) where
       kept : (d.after.kernels ≡ p.kernels) × (d.after.plan.kernels ≡ p.plan.kernels) × (d.after.guards ≡ p.guards)
       kept = (ap (λ (k : Planner). k.kernels) d.rest, ap (λ (k : Planner). k.plan.kernels) d.rest, ap (λ (k : Planner). k.guards) d.rest)
 
-      middle_of : d.middle ≡ record p { jobs = d.after.jobs; safety = d.after.safety; guards = d.middle.guards; plan = record p.plan { kernels = d.middle.plan.kernels } }
+      middle_of : d.middle ≡ record p {
+        jobs = d.after.jobs;
+        safety = d.after.safety;
+        guards = d.middle.guards;
+        plan = record p.plan { kernels = d.middle.plan.kernels };
+      }
       middle_of =
           places.middle_is script g refl p d.after d.middle asked.kernel d.job.kernel st.kernels kept d.guarded d.source d.is_source
           ∙ ap (λ (k : Planner). record k { guards = d.middle.guards; plan = record k.plan { kernels = d.middle.plan.kernels } }) d.rest
@@ -288,8 +311,10 @@ module _ (script : Script) (table : Table) (begun : ScriptState) (n : ℕ) (foun
 
       names_now : IsNamed s as_t asked.handle (states.Handle (only (count_of p.jobs + 1)))
       names_now = record {
-        here = ap (λ f. f asked.handle) (ap (λ (u : ScriptState). u.values) (accepted_is g s o)) ∙ at_here s.values asked.handle (states.Handle (only (s.book.count + 1))) ∙ ap (λ k. states.Handle (only (k + 1))) (sym count_is);
-        others = λ m ne. ap (λ f. f m) (ap (λ (u : ScriptState). u.values) (accepted_is g s o)) ∙ at_other s.values asked.handle (states.Handle (only (s.book.count + 1))) m ne;
+        here = ap (λ f. f asked.handle) (ap (λ (u : ScriptState). u.values) (accepted_is g s o))
+            ∙ at_here s.values asked.handle (states.Handle (only (s.book.count + 1))) ∙ ap (λ k. states.Handle (only (k + 1))) (sym count_is);
+        others = λ m ne. ap (λ f. f m) (ap (λ (u : ScriptState). u.values) (accepted_is g s o))
+            ∙ at_other s.values asked.handle (states.Handle (only (s.book.count + 1))) m ne;
       }
 
       -- slots
@@ -303,8 +328,10 @@ module _ (script : Script) (table : Table) (begun : ScriptState) (n : ℕ) (foun
       safety_is : (k : ℕ) → state_of d.after.safety k ≡ noted_all job_number noted (state_of p.safety) k
       safety_is k = d.safety k ∙ ap (λ j. noted_all j noted (state_of p.safety) k) number_is
 
-      slot_is : (c : ℕ) (it : Container) → slice_get p.containers.items c ≡ Some it → s.alive c ≡ true → state_of d.after.safety it.slot.0 ≡ folded job_number c ng (state_of p.safety it.slot.0)
-      slot_is c it has is_alive = safety_is it.slot.0 ∙ noted_folded p s found named st.containers job_number noted ng meant alive c it has is_alive (state_of p.safety)
+      slot_is : (c : ℕ) (it : Container) → slice_get p.containers.items c ≡ Some it → s.alive c ≡ true
+          → state_of d.after.safety it.slot.0 ≡ folded job_number c ng (state_of p.safety it.slot.0)
+      slot_is c it has is_alive = safety_is it.slot.0 ∙ noted_folded p s found named st.containers job_number noted ng meant alive c it has is_alive
+          (state_of p.safety)
 
       uses_are : with_uses s.uses job_number (needs ng) ≡ t.uses
       uses_are =
@@ -313,16 +340,20 @@ module _ (script : Script) (table : Table) (begun : ScriptState) (n : ℕ) (foun
           ∙ (let e : job_number ≡ s.book.count + 1 = omega arith in ap (λ j. with_uses s.uses j (needs (uses_of g s o))) e)
           ∙ sym (ap (λ (u : ScriptState). u.uses) (accepted_is g s o))
 
-      stand : (c : ℕ) (it : Container) → slice_get p.containers.items c ≡ Some it → s.alive c ≡ true → StandForUses (with_job s.book waited) (state_of d.after.safety it.slot.0).latest (t.uses c)
+      stand : (c : ℕ) (it : Container) → slice_get p.containers.items c ≡ Some it → s.alive c ≡ true
+          → StandForUses (with_job s.book waited) (state_of d.after.safety it.slot.0).latest (t.uses c)
       stand c it has is_alive =
           subst (λ (us : ℕ → Uses). StandForUses (with_job s.book waited) (state_of d.after.safety it.slot.0).latest (us c)) uses_are
-          (subst (λ (x : SlotState). StandForUses (with_job s.book waited) x.latest (with_uses s.uses job_number (needs ng) c)) (sym (slot_is c it has is_alive))
-          (folded_stands s.book st.known.book s.uses st.known.uses waited waited_up ng apart open_ c (state_of p.safety it.slot.0) ((st.containers.each c it has).uses is_alive)))
+          (subst (λ (x : SlotState). StandForUses (with_job s.book waited) x.latest (with_uses s.uses job_number (needs ng) c))
+          (sym (slot_is c it has is_alive))
+          (folded_stands s.book st.known.book s.uses st.known.uses waited waited_up ng apart open_ c (state_of p.safety it.slot.0)
+          ((st.containers.each c it has).uses is_alive)))
 
       views : (c : ℕ) (it : Container) → slice_get p.containers.items c ≡ Some it → s.alive c ≡ true → (state_of d.after.safety it.slot.0).view ≡ t.view c
       views c it has is_alive =
           ap (λ (x : SlotState). x.view) (slot_is c it has is_alive)
-          ∙ folded_view job_number c ng (state_of p.safety it.slot.0) (left g s o) ((st.containers.each c it has).view is_alive ∙ ap (λ f. f c) (sym (left_view g s o)))
+          ∙ folded_view job_number c ng (state_of p.safety it.slot.0) (left g s o)
+          ((st.containers.each c it has).view is_alive ∙ ap (λ f. f c) (sym (left_view g s o)))
           ∙ ap (λ (u : ScriptState). u.view c) (noting.noted_broken gs l refl (left g s o))
           ∙ ap (λ hs. (all_broken hs (left g s o)).view c) (sym gives_are)
 
@@ -334,11 +365,13 @@ module _ (script : Script) (table : Table) (begun : ScriptState) (n : ℕ) (foun
           by false e = refl
 
       -- what stands for the uses of a container that was disposed stands for them still
-      dead_stands : (c : ℕ) (latest : Latest) → s.alive c ≡ false → StandForUses s.book latest (s.uses c) → StandForUses (with_job s.book waited) latest (t.uses c)
+      dead_stands : (c : ℕ) (latest : Latest) → s.alive c ≡ false → StandForUses s.book latest (s.uses c)
+          → StandForUses (with_job s.book waited) latest (t.uses c)
       dead_stands c latest dead h =
           let state : SlotState = record { live = false; version = 0; view = 0; latest = latest } in
           subst (λ (us : ℕ → Uses). StandForUses (with_job s.book waited) latest (us c)) uses_are
-          (subst (λ (x : SlotState). StandForUses (with_job s.book waited) x.latest (with_uses s.uses job_number (needs ng) c)) (folded_unused job_number c ng state (unused_now c dead))
+          (subst (λ (x : SlotState). StandForUses (with_job s.book waited) x.latest (with_uses s.uses job_number (needs ng) c))
+          (folded_unused job_number c ng state (unused_now c dead))
           (folded_stands s.book st.known.book s.uses st.known.uses waited waited_up ng apart open_ c state h))
 
       unused : (c : ℕ) → s.alive c ≡ false → (j : ℕ) → (t.uses c).users j ≡ (s.uses c).users j
@@ -390,8 +423,10 @@ module _ (script : Script) (table : Table) (begun : ScriptState) (n : ℕ) (foun
       binds_are y a = d.binds ∙ (λ i. args_now i ++ word_at (start_now i) ∷ [])
         where
           args_now : job_binds p d.source.parallel asked.waive.items 0 d.source.params.items asked.args.items
-              ≡ Rattle.plan_laws.specs.Binds.binds_by y.starts s d.source.params.items (Rattle.frame_ast.specs.Schedules.widths_from d.source.parallel asked.waive.items 0 d.source.params.items) asked.args.items
-          args_now = arguments.deferred_args p g begun n s found st y a (Some (list, batch)) d.source.parallel asked.waive.items 0 d.source.params.items asked.args.items
+              ≡ Rattle.plan_laws.specs.Binds.binds_by y.starts s d.source.params.items
+              (Rattle.frame_ast.specs.Schedules.widths_from d.source.parallel asked.waive.items 0 d.source.params.items) asked.args.items
+          args_now = arguments.deferred_args p g begun n s found st y a (Some (list, batch)) d.source.parallel asked.waive.items 0 d.source.params.items
+              asked.args.items
               (each_lower (length g.names) (length p.values.items) (let e = st.each in omega arith) asked.args.items is_text.below)
               (subst (λ k. Rattle.frame_ast.specs.Fitting.ArgsFit s (Some (list, batch)) (kernel_params k) asked.args.items) d.is_source accepted_as.args_fit)
 
@@ -406,7 +441,8 @@ module _ (script : Script) (table : Table) (begun : ScriptState) (n : ℕ) (foun
         agrees = record {
           begins = a.begins;
           names = a.names;
-          kernels = places.kernels_later script g refl p d.after d.middle asked.kernel d.job.kernel st.kernels kept d.guarded d.source d.is_source y.plan.kernels.items a.kernels;
+          kernels = places.kernels_later script g refl p d.after d.middle asked.kernel d.job.kernel st.kernels kept d.guarded d.source d.is_source
+              y.plan.kernels.items a.kernels;
           literals = a.literals;
           jobs = (d.job ∷ a.jobs.0, later_jobs ∙ append_assoc p.plan.jobs.items (d.job ∷ []) a.jobs.0);
           starts = a.starts;
@@ -429,7 +465,8 @@ module _ (script : Script) (table : Table) (begun : ScriptState) (n : ℕ) (foun
           jobs_are = later_jobs;
           has_kernel =
               ap (λ xs. slice_get xs d.job.kernel) a.kernels.1
-              ∙ get_before d.middle.plan.kernels.items a.kernels.0 d.job.kernel (get_below d.middle.plan.kernels.items d.job.kernel has_guard.copy has_guard.here)
+              ∙ get_before d.middle.plan.kernels.items a.kernels.0 d.job.kernel
+              (get_below d.middle.plan.kernels.items d.job.kernel has_guard.copy has_guard.here)
               ∙ has_guard.here;
           guarded = has_guard.guards.guarded;
           guards = has_guard.guards.words;
@@ -453,7 +490,8 @@ module _ (script : Script) (table : Table) (begun : ScriptState) (n : ℕ) (foun
 
         planned : IsPlanned y as_t (draft_of as_q)
         planned = subst (λ u. IsPlanned y u (draft_of as_q)) t_is
-            (deferred_schedules_are_planned y g s o d.source has_guard.copy (draft_of p) (draft_of as_q) d.started.segment d.job a.small st.known before accepted_as d.is_source job_is
+            (deferred_schedules_are_planned y g s o d.source has_guard.copy (draft_of p)
+            (draft_of as_q) d.started.segment d.job a.small st.known before accepted_as d.is_source job_is
             starts_next closes)
 
       -- ---- it stands
@@ -475,7 +513,8 @@ module _ (script : Script) (table : Table) (begun : ScriptState) (n : ℕ) (foun
         unused = unused;
         held = dead_stands;
         book = subst (λ (j : Jobs). StandsFor d.after.jobs (with_job s.book j)) deps_is (d.jobs s.book st.jobs);
-        kernels_are = places.kernels_stand script g refl p d.after d.middle asked.kernel d.job.kernel st.kernels kept d.guarded d.source d.is_source as_q refl refl refl;
+        kernels_are = places.kernels_stand script g refl p d.after d.middle asked.kernel d.job.kernel st.kernels kept d.guarded d.source d.is_source as_q refl
+            refl refl;
         copies_few = places.copies_few script g refl p d.after d.middle asked.kernel d.job.kernel st.kernels kept d.guarded d.source d.is_source;
         segments_are = segments_are;
         ops_were = d.started.ops_were ∙ ap (λ (k : Planner). k.plan.ops.items) middle_of;
@@ -515,14 +554,16 @@ module _ (script : Script) (table : Table) (begun : ScriptState) (n : ℕ) (foun
         waits = ap (λ (k : Planner). k.plan.waits.items) q_is ∙ d.started.waits;
         ops = ap (λ (k : Planner). k.plan.ops.items) q_is ∙ d.started.ops;
         jobs = ap (λ (k : Planner). k.plan.jobs.items) q_is ∙ jobs_are;
-        kernels = places.kernels_later script g refl p d.after d.middle asked.kernel d.job.kernel st.kernels kept d.guarded d.source d.is_source q.plan.kernels.items
+        kernels = places.kernels_later script g refl p d.after d.middle asked.kernel d.job.kernel st.kernels kept d.guarded d.source d.is_source
+            q.plan.kernels.items
             ([], kernels_now ∙ sym (append-nil d.middle.plan.kernels.items));
         book = ap (λ (u : ScriptState). u.book) (after_is ∙ t_is);
         job_is = deferred_job;
       }
 
       pub deferred_on : HasStepped script table begun n found p q x
-      deferred_on = growing.stepped script table begun n found line home (by_list asked None (list, batch)) p q step none st d.started.segment d.job waited has_started
+      deferred_on = growing.stepped script table begun n found line home (by_list asked None (list, batch)) p q step none st d.started.segment d.job waited
+          has_started
           (subst (λ u. Stands q g begun (suc n) u found) (sym (after_is ∙ t_is))
           (subst (λ k. Stands k g begun (suc n) as_t found) (sym q_is)
           (newly.with_job_stands p g begun n s found st q.values q.handles d.after.jobs d.after.safety p.kernels d.middle.guards d.middle.plan.kernels

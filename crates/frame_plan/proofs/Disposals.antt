@@ -37,7 +37,8 @@ pub disposed_first : (s : ScriptState) (name : ℕ) (p : Option Refused)
 unfolding first_some
 disposed_first s name p = by (is_alive s (s.values name)) p
   where
-    by : (a : Bool) (p : Option Refused) → first_some (option_map (refused Disposed) (cond (not a) (Some name) None) ∷ p ∷ []) ≡ (if not a then Some (record { cause = Disposed; name = name }) else p)
+    by : (a : Bool) (p : Option Refused) → first_some (option_map (refused Disposed) (cond (not a) (Some name) None) ∷ p ∷ []) ≡
+        (if not a then Some (record { cause = Disposed; name = name }) else p)
     by false p = refl
     by true None = refl
     by true (Some r) = refl
@@ -65,7 +66,8 @@ module _ (s : ScriptState) (name : ℕ) (after : Jobs) where
 
   pending_is : pending s after (need_of s name true ∷ []) ≡ refused_as (cause_of (checks.pending_on (job_numbered job))) name
   pending_is =
-      ap (pending_on s.uses (need_of s name true ∷ [])) (λ i. greatest (λ j. or_none (blockers s.book (s.uses (container_at s name)) after true j) i) s.book.count)
+      ap (pending_on s.uses (need_of s name true ∷ [])) (λ i. greatest (λ j. or_none (blockers s.book (s.uses (container_at s name)) after true j) i)
+      s.book.count)
       ∙ by job refl
     where
       by : (n : ℕ) → job ≡ n → pending_on s.uses (need_of s name true ∷ []) n ≡ refused_as (cause_of (checks.pending_on (job_numbered n))) name
@@ -73,7 +75,8 @@ module _ (s : ScriptState) (name : ℕ) (after : Jobs) where
       by (suc n) e =
           let in_set = greatest_in (blockers s.book (s.uses (container_at s name)) after true) s.book.count (omega arith) in
           let conflict : conflicts (s.uses (container_at s name)) true (suc n) ≡ true =
-          subst (λ k. conflicts (s.uses (container_at s name)) true k ≡ true) e (and_first (conflicts (s.uses (container_at s name)) true job) (not (happens_before s.book after job)) in_set) in
+          subst (λ k. conflicts (s.uses (container_at s name)) true k ≡ true) e
+          (and_first (conflicts (s.uses (container_at s name)) true job) (not (happens_before s.book after job)) in_set) in
           ap (λ b. Some (record { cause = Pending (record { 0 = suc n }); name = cond b name 0 })) conflict
 
   pub dead_disposal : is_alive s (s.values name) ≡ false → Some (record { cause = Disposed; name = name }) ≡ disposal s name after
@@ -83,7 +86,8 @@ module _ (s : ScriptState) (name : ℕ) (after : Jobs) where
   pub disposed_alive : disposal s name after ≡ None → is_alive s (s.values name) ≡ true
   disposed_alive e = ⊎_elim (λ a. a) (λ d. absurd (none_some (sym e ∙ sym (dead_disposal d)))) (either_bool (is_alive s (s.values name)))
 
-  module _ (p : Planner) (g : Setting) (begun : ScriptState) (n : ℕ) (found : List ℕ) (st : Stands p g begun n s found) (c : ℕ) (it : Container) (has : slice_get p.containers.items c ≡ Some it)
+  module _ (p : Planner) (g : Setting) (begun : ScriptState) (n : ℕ) (found : List ℕ) (st : Stands p g begun n s found) (c : ℕ) (it : Container)
+      (has : slice_get p.containers.items c ≡ Some it)
       (alive_is : is_alive s (s.values name) ≡ s.alive c) (at : container_at s name ≡ c)
       (r : Result (Unit {0}) Blocked) (a : IsAnswer (state_of p.safety it.slot.0) (tag_of it None) p.jobs after true r) where
     kept : IsContainer p s found c it
@@ -152,7 +156,8 @@ pub tagged : (o : Option Container) (tag : Tag) → Some tag ≡ tag_by None o �
 tagged None tag e = absurd (none_some (sym e))
 tagged (Some it) tag e = (it, refl, some_is e)
 
-pub no_container : (p : Planner) (name : ℕ) (after : Jobs) (v : Value) → slice_get p.values.items name ≡ Some v → number_of v ≡ None → IsDisposable p name after (Err Disposed)
+pub no_container : (p : Planner) (name : ℕ) (after : Jobs) (v : Value) → slice_get p.values.items name ≡ Some v → number_of v ≡ None
+    → IsDisposable p name after (Err Disposed)
 no_container p name after v h none g begun n s found st =
     (dead_disposal s name after (ap (is_alive s) (sym (st.names.are name v h)) ∙ no_number s p.handles.items v none), tt)
 
@@ -162,7 +167,8 @@ module _ (p : Planner) (name : ℕ) (after : Jobs) (v : Value) (c : ℕ) (h : sl
   one : (it : Container) × (slice_get p.containers.items c ≡ Some it) × (tag ≡ tag_of it None)
   one = tagged (slice_get p.containers.items c) tag tag_is
 
-  cause_is : (g : Setting) (begun : ScriptState) (n : ℕ) (s : ScriptState) (found : List ℕ) → Stands p g begun n s found → refused_as (cause_of (result_err r)) name ≡ disposal s name after
+  cause_is : (g : Setting) (begun : ScriptState) (n : ℕ) (s : ScriptState) (found : List ℕ) → Stands p g begun n s found
+      → refused_as (cause_of (result_err r)) name ≡ disposal s name after
   cause_is g begun n s found st =
       let v_is = st.names.are name v h in
       answered s name after p g begun n found st c one.0 one.1

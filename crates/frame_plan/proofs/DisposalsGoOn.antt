@@ -115,7 +115,8 @@ module _ (p : Planner) (g : Setting) (begun : ScriptState) (n : ℕ) (s : Script
     can_hold = subst (CanHold p) (sym one.1) (
       ends,
       (subst (λ m. AreUpTo m (latest_users (state_of p.safety one.0.slot.0).latest)) count_is
-          (λ j e. (st.known.uses c).users j (latest_are_users s.book (state_of p.safety one.0.slot.0).latest (s.uses c) (st.known.uses c) ((st.containers.each c one.0 one.1).uses alive) j e))),
+          (λ j e. (st.known.uses c).users j (latest_are_users s.book (state_of p.safety one.0.slot.0).latest (s.uses c) (st.known.uses c)
+          ((st.containers.each c one.0 one.1).uses alive) j e))),
       (λ k. subst (λ m. AreUpTo m (users_of (place_of p.store k).state)) count_is (store_users p s found st.containers st.known.book st.known.uses k)),
     )
 
@@ -130,10 +131,12 @@ some_hold p None e = absurd e
 some_hold p (Some it) e = (it, refl)
 
 pub can_end_there : (p : Planner) (k : ℕ) → CanEnd p (slice_get p.containers.items k) → k < vec_len p.containers
-can_end_there p k e = let one = some_end p (slice_get p.containers.items k) e in let lt = get_below p.containers.items k one.0 one.1 in let len = p.containers.ok.0 in omega arith
+can_end_there p k e = let one = some_end p (slice_get p.containers.items k) e in let lt = get_below p.containers.items k one.0 one.1 in
+    let len = p.containers.ok.0 in omega arith
 
 pub can_hold_there : (p : Planner) (k : ℕ) → CanHold p (slice_get p.containers.items k) → k < vec_len p.containers
-can_hold_there p k e = let one = some_hold p (slice_get p.containers.items k) e in let lt = get_below p.containers.items k one.0 one.1 in let len = p.containers.ok.0 in omega arith
+can_hold_there p k e = let one = some_hold p (slice_get p.containers.items k) e in let lt = get_below p.containers.items k one.0 one.1 in
+    let len = p.containers.ok.0 in omega arith
 
 pub container_is : (v : Vec Container Global) (k : ℕ) (it : Container) → k < vec_len v → it ≡ get_or v.items k it → slice_get v.items k ≡ Some it
 container_is v k it lt e = read_some v k it lt e
@@ -213,7 +216,8 @@ module _ (script : Script) (table : Table) (begun : ScriptState) (n : ℕ) (foun
     fits = fits_at script table n x step
 
     no_after : after.items ≡ []
-    no_after = empty after.items (eqb-true (length after.items) 0 (and_parts (uses (record { kinds = step.accepted.kinds; made = fits.made }) name DISPOSABLE) (nat_eq (length after.items) 0) fits.fits).1)
+    no_after = empty after.items (eqb-true (length after.items) 0 (and_parts (uses (record { kinds = step.accepted.kinds; made = fits.made }) name DISPOSABLE)
+        (nat_eq (length after.items) 0) fits.fits).1)
       where
         empty : (xs : List ℕ) → length xs ≡ 0 → xs ≡ []
         empty [] e = refl
@@ -229,7 +233,8 @@ module _ (script : Script) (table : Table) (begun : ScriptState) (n : ℕ) (foun
     refusal_is : refusal g s x.act ≡ disposal s name nobody
     refusal_is = ap (disposal s name) named_nobody
 
-    pub plain_refused : (q : Planner) (cause : Refusal) → Answers p s name nobody (Err cause) → IsPushed p q (record { line = line; name = name; act = Say cause })
+    pub plain_refused : (q : Planner) (cause : Refusal) → Answers p s name nobody (Err cause)
+        → IsPushed p q (record { line = line; name = name; act = Say cause })
         → HasStepped script table begun n found p q x
     plain_refused q cause a i =
         said script table begun n found x step (record { cause = cause; name = name }) p st (refusal_is ∙ sym a.0) plain_below q refl refl (inr (λ c. refl)) i
@@ -249,7 +254,8 @@ module _ (script : Script) (table : Table) (begun : ScriptState) (n : ℕ) (foun
         t = dispose name s
 
         no_users : has_pending s.book (s.uses (container_at s name)) ≡ false
-        no_users = by (nat_lt (container_at s name) s.made) (with_at s.alive (container_at s name) false (container_at s name)) (has_pending s.book (s.uses (container_at s name))) below
+        no_users = by (nat_lt (container_at s name) s.made) (with_at s.alive (container_at s name) false (container_at s name))
+            (has_pending s.book (s.uses (container_at s name))) below
             (words_come_back g line s name after no_after unrefused)
           where
             below : nat_lt (container_at s name) s.made ≡ true
@@ -278,9 +284,11 @@ module _ (script : Script) (table : Table) (begun : ScriptState) (n : ℕ) (foun
           peak = i.peak;
           slots = i.used;
           segments = (let e = ap (λ (k : Planner). length k.plan.segments.items) i.rest in omega arith);
-          ops = (let e = ap (λ (k : Planner). ops_count k.plan.segments.items + length k.plan.ops.items) i.rest in let o = ap (λ (k : Planner). k.overdue) i.rest in omega arith);
+          ops = (let e = ap (λ (k : Planner). ops_count k.plan.segments.items + length k.plan.ops.items) i.rest in
+              let o = ap (λ (k : Planner). k.overdue) i.rest in omega arith);
           temps = subst (λ (k : Planner). AreTemps k.temps.items t) (sym i.rest)
-              (same_temps p.temps.items s (with_at s.alive (container_at s name) false) s.book s.values s.lines (λ c a. (fallen s (container_at s name) c a).1) st.temps);
+              (same_temps p.temps.items s (with_at s.alive (container_at s name) false) s.book s.values s.lines
+              (λ c a. (fallen s (container_at s name) c a).1) st.temps);
           tempjobs = subst (λ (k : Planner). AreTempJobs p.tempjobs.items k.overdue t) (sym i.rest)
               (same_tempjobs p.tempjobs.items p.overdue s (with_at s.alive (container_at s name) false) s.book s.values s.lines st.tempjobs);
           jobs = subst (λ (k : Planner). StandsFor k.jobs s.book) (sym i.rest) st.jobs;
@@ -295,7 +303,8 @@ module _ (script : Script) (table : Table) (begun : ScriptState) (n : ℕ) (foun
             (subst (λ (k : Planner). AreNames k.values.items k.handles.items (length p.containers.items) t) (sym i.rest)
             (same_names p.values.items p.handles.items (length p.containers.items) s t refl st.names))
             (λ y b. subst (λ (k : Planner). IsPlanned y t (draft_of k)) (sym i.rest) (disposals_are_planned y s name (draft_of p) st.known (st.planned y b)))))
-            (quiet_continued p q s t found goes (ap given_so_far i.rest) (ap (λ (k : Planner). k.plan.segments) i.rest) (ap (λ (k : Planner). k.plan.waits) i.rest))
+            (quiet_continued p q s t found goes (ap given_so_far i.rest) (ap (λ (k : Planner). k.plan.segments) i.rest)
+            (ap (λ (k : Planner). k.plan.waits) i.rest))
             (refl, tt) (ap (λ (u : ScriptState). u.book.completed) is)
 
 -- the same as the code asks and answers
@@ -303,7 +312,8 @@ module _ (p : Planner) (line name : ℕ) where
   abbrev plain : Vec ℕ Global → Statement
   plain after = record { line = line; act = Dispose name after None }
 
-  pub plain_ready : (after : Vec ℕ Global) → IsReady p (plain after) → (name < vec_len p.values) × AreThere (vec_len p.containers) (vec_len p.handles) p.values.items
+  pub plain_ready : (after : Vec ℕ Global) → IsReady p (plain after) → (name < vec_len p.values)
+      × AreThere (vec_len p.containers) (vec_len p.handles) p.values.items
   plain_ready after ready =
       let b = ready.1 in
       let g = setting ready.0 b.table in
@@ -318,7 +328,8 @@ module _ (p : Planner) (line name : ℕ) where
       plain_can_end ready.0 b.table b.begun b.n b.found line name after b.step p b.stands c
       (answer (setting ready.0 b.table) b.begun b.n (state_at ready.0 b.table b.n) b.found b.stands)
 
-  pub plain_says : (q : Planner) (cause : Refusal) → IsDisposable p name nobody (Err cause) → IsPushed p q (record { line = line; name = name; act = Say cause })
+  pub plain_says : (q : Planner) (cause : Refusal) → IsDisposable p name nobody (Err cause)
+      → IsPushed p q (record { line = line; name = name; act = Say cause })
       → (after : Vec ℕ Global) → GoesOn p q (plain after)
   plain_says q cause answer i after script table begun n found step st =
       plain_refused script table begun n found line name after step p st q cause (answer (setting script table) begun n (state_at script table n) found st) i

@@ -107,7 +107,8 @@ module _ (p q : Planner) (s : ScriptState) (found : List ℕ) (alive : ℕ → B
 
     -- the version of one that is alive
     version_is : s.alive c ≡ true → (place_of p.store it.slot.0).version ≡ it.version.0
-    version_is a = eqb-true (place_of p.store it.slot.0).version it.version.0 (and_parts (is_taken (place_of p.store it.slot.0).state) (nat_eq (place_of p.store it.slot.0).version it.version.0) (k.taken ∙ a)).1
+    version_is a = eqb-true (place_of p.store it.slot.0).version it.version.0
+        (and_parts (is_taken (place_of p.store it.slot.0).state) (nat_eq (place_of p.store it.slot.0).version it.version.0) (k.taken ∙ a)).1
 
     older : t.alive c ≡ false → it.version.0 < (place_of q.store it.slot.0).version
     older dead = ⊎_elim
@@ -146,7 +147,8 @@ module _ (p q : Planner) (s : ScriptState) (found : List ℕ) (alive : ℕ → B
           (λ d. (e.held c it has d live).1 ∙ k.span (live_falls c live));
       taken = by_alive
           (λ a. ap (λ (z : Place). is_taken z.state && nat_eq z.version it.version.0) (e.stays c it has a).0 ∙ k.taken ∙ was_alive a ∙ sym a)
-          (λ d. (let less = older d in ap (λ b. is_taken (place_of q.store it.slot.0).state && b) (ne_eqb (place_of q.store it.slot.0).version it.version.0 (λ h. omega arith)))
+          (λ d. (let less = older d in ap (λ b. is_taken (place_of q.store it.slot.0).state && b)
+          (ne_eqb (place_of q.store it.slot.0).version it.version.0 (λ h. omega arith)))
           ∙ and_false (is_taken (place_of q.store it.slot.0).state) ∙ sym d);
       older = older;
       low = k.low;
@@ -231,7 +233,8 @@ module _ (p : Planner) (s : ScriptState) (found : List ℕ) (is : AreContainers 
   owners : AreOwnedBy p.store.places.items s slot
   owners = record {
     used = λ c lt live. let it = one_of c lt in ap (λ k. in_use (place_of p.store k).state) (slot_is c it.0 it.1) ∙ (is.each c it.0 it.1).in_use live;
-    len = λ c lt live. let it = one_of c lt in ap (λ k. (place_of p.store k).span.len) (slot_is c it.0 it.1) ∙ ap (λ (z : Span). z.len) ((is.each c it.0 it.1).span live);
+    len = λ c lt live. let it = one_of c lt in ap (λ k. (place_of p.store k).span.len) (slot_is c it.0 it.1)
+        ∙ ap (λ (z : Span). z.len) ((is.each c it.0 it.1).span live);
     once = λ c d lc ld live_c live_d same.
         let i = one_of c lc in
         let j = one_of d ld in

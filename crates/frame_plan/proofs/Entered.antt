@@ -15,21 +15,38 @@ use Rattle.frame_plan.specs.declared.state.Planner.{Planner}
 use Rattle.frame_plan.specs.Accesses.{IsPushed, IsRenamed}
 use Rattle.frame_plan.specs.Making.{HasLife, IsEntered, and_if}
 
-module _ (old a b new : Planner) (line name : ℕ) (life : Life) (t : Taken) (literal : Option ℕ) (it : Container) (safety : SafetyBook) (containers : Vec Container Global) (number : ℕ)
-    (number_is : number ≡ length old.containers.items) (noted : HasLife (record old { safety = safety; containers = containers }) a life number) (named : IsRenamed a b name (Whole number))
+module _ (old a b new : Planner) (line name : ℕ) (life : Life) (t : Taken) (literal : Option ℕ) (it : Container) (safety : SafetyBook)
+    (containers : Vec Container Global) (number : ℕ)
+    (number_is : number ≡ length old.containers.items) (noted : HasLife (record old { safety = safety; containers = containers }) a life number)
+    (named : IsRenamed a b name (Whole number))
     (pushed : IsPushed b new (record { line = line; name = name; act = Fill t.span literal })) where
   -- the planner before the operation
   named_is : b ≡ record old { safety = safety; containers = containers; values = b.values; temps = a.temps; tempjobs = a.tempjobs }
   named_is = named.rest ∙ ap (λ (z : Planner). record z { values = b.values }) noted.rest
 
   abbrev but : Planner → Planner
-  but z = record old { safety = z.safety; containers = z.containers; values = z.values; temps = z.temps; tempjobs = z.tempjobs; plan = record old.plan { ops = z.plan.ops } }
+  but z = record old {
+    safety = z.safety;
+    containers = z.containers;
+    values = z.values;
+    temps = z.temps;
+    tempjobs = z.tempjobs;
+    plan = record old.plan { ops = z.plan.ops };
+  }
 
-  new_is : new ≡ record old { safety = safety; containers = containers; values = b.values; temps = a.temps; tempjobs = a.tempjobs; plan = record old.plan { ops = new.plan.ops } }
+  new_is : new ≡ record old {
+    safety = safety;
+    containers = containers;
+    values = b.values;
+    temps = a.temps;
+    tempjobs = a.tempjobs;
+    plan = record old.plan { ops = new.plan.ops };
+  }
   new_is = pushed.rest ∙ ap (λ (z : Planner). record z { plan = record z.plan { ops = new.plan.ops } }) named_is
 
   pub entered : it.slot ≡ t.slot → it.version ≡ t.version → it.life ≡ life → it.frame ≡ old.frame → it.name ≡ name → it.line ≡ line
-      → state_of safety t.slot.0 ≡ fresh t.version.0 → ((k : ℕ) → k ≢ t.slot.0 → state_of safety k ≡ state_of old.safety k) → containers.items ≡ old.containers.items ++ it ∷ []
+      → state_of safety t.slot.0 ≡ fresh t.version.0 → ((k : ℕ) → k ≢ t.slot.0 → state_of safety k ≡ state_of old.safety k)
+      → containers.items ≡ old.containers.items ++ it ∷ []
       → IsEntered old new line name life t it.bind literal
   entered slot version life_is frame name_is line_is enrolled others held = record {
     it = it;

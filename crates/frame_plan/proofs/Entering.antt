@@ -230,19 +230,24 @@ module _ (p : Planner) (g : Setting) (begun : ScriptState) (n : ℕ) (s : Script
           (k.making.0 ∙ ap (λ (z : Making). z.frame) m, k.making.1 ∙ ap (λ (z : Making). z.name) m, k.making.2 ∙ ap (λ (z : Making). z.line) m));
       named = (let k = k.named in let e = values_long in omega arith);
       alive = by_slot
-          (λ e. ap (λ n. is_current (state_of safety n) (tag_of i None)) e ∙ ap (λ z. is_current z (tag_of i None)) made.enrolled ∙ not_version e ∙ sym (old_alive ∙ same_dead e))
+          (λ e. ap (λ n. is_current (state_of safety n) (tag_of i None)) e ∙ ap (λ z. is_current z (tag_of i None)) made.enrolled ∙ not_version e
+          ∙ sym (old_alive ∙ same_dead e))
           (λ n. ap (λ z. is_current z (tag_of i None)) (made.others i.slot.0 n) ∙ k.alive ∙ sym old_alive);
       uses = λ e. let a = sym old_alive ∙ e in
-          subst (λ (z : SlotState). StandForUses s.book z.latest (u.uses c)) (sym (state_at_alive a)) (subst (StandForUses s.book (state_of p.safety i.slot.0).latest) (sym old_uses) (k.uses a));
+          subst (λ (z : SlotState). StandForUses s.book z.latest (u.uses c)) (sym (state_at_alive a))
+          (subst (StandForUses s.book (state_of p.safety i.slot.0).latest) (sym old_uses) (k.uses a));
       view = λ e. let a = sym old_alive ∙ e in ap (λ (z : SlotState). z.view) (state_at_alive a) ∙ k.view a ∙ sym (at_other s.view s.made 0 c ne);
       in_use = λ e. ap (λ (z : Place). in_use z.state) (place_at_live e) ∙ k.in_use (live_of e);
-      span = λ e. ap (λ (z : Place). z.span) (place_at_live e) ∙ k.span (live_of e) ∙ (let a = sym start_same in let b = sym old_contents in λ j. record { start = a j; len = words_of (b j) });
+      span = λ e. ap (λ (z : Place). z.span) (place_at_live e) ∙ k.span (live_of e)
+          ∙ (let a = sym start_same in let b = sym old_contents in λ j. record { start = a j; len = words_of (b j) });
       taken = by_slot
-          (λ e. ap (λ n. is_taken (place_of store n).state && nat_eq (place_of store n).version i.version.0) e ∙ ap (λ (z : Place). is_taken z.state && nat_eq z.version i.version.0) place_new ∙ not_version e ∙ sym (old_alive ∙ same_dead e))
+          (λ e. ap (λ n. is_taken (place_of store n).state && nat_eq (place_of store n).version i.version.0) e
+          ∙ ap (λ (z : Place). is_taken z.state && nat_eq z.version i.version.0) place_new ∙ not_version e ∙ sym (old_alive ∙ same_dead e))
           (λ n. ap (λ (z : Place). is_taken z.state && nat_eq z.version i.version.0) (place_old i.slot.0 n) ∙ k.taken ∙ sym old_alive);
       older = λ e. by_slot
           (λ h. let less = k.older (same_dead h) in
-          let now : (place_of store i.slot.0).version ≡ (place_of p.store i.slot.0).version = ap (λ n. (place_of store n).version) h ∙ ap (λ (z : Place). z.version) place_new ∙ w.version ∙ ap (λ n. (place_of p.store n).version) (sym h) in
+          let now : (place_of store i.slot.0).version ≡ (place_of p.store i.slot.0).version = ap (λ n. (place_of store n).version) h
+          ∙ ap (λ (z : Place). z.version) place_new ∙ w.version ∙ ap (λ n. (place_of p.store n).version) (sym h) in
           omega arith)
           (λ n. let less = k.older (sym old_alive ∙ e) in let now = ap (λ (z : Place). z.version) (place_old i.slot.0 n) in omega arith);
       low = k.low;
@@ -258,7 +263,8 @@ module _ (p : Planner) (g : Setting) (begun : ScriptState) (n : ℕ) (s : Script
   -- THE NEW CONTAINER
 
   there_is : slice_get containers.items s.made ≡ Some it
-  there_is = ap (λ cs. slice_get cs s.made) made.containers_are ∙ ap (slice_get (p.containers.items ++ it ∷ [])) (sym length_is) ∙ get_last p.containers.items it
+  there_is = ap (λ cs. slice_get cs s.made) made.containers_are ∙ ap (slice_get (p.containers.items ++ it ∷ [])) (sym length_is)
+      ∙ get_last p.containers.items it
 
   no_writer : (n : ℕ) → greatest (λ j. false) n ≡ 0
   no_writer zero = refl
@@ -290,8 +296,12 @@ module _ (p : Planner) (g : Setting) (begun : ScriptState) (n : ℕ) (s : Script
     bind = made.bind ∙ (let a = sym start_new in let b = sym contents_new in λ j. bind_of (a j) (b j));
     range = (let e = at_here s.range s.made s.takes in omega arith);
     life = made.life_is ∙ sym (at_here s.life s.made life);
-    making = (let m = sym making_new in
-        (made.frame_is ∙ st.numbers.frame ∙ ap (λ (z : Making). z.frame) m, made.name_is ∙ ap (λ (z : Making). z.name) m, made.line_is ∙ ap (λ (z : Making). z.line) m));
+    making = (let m = sym making_new in (
+      made.frame_is ∙ st.numbers.frame ∙ ap (λ (z : Making). z.frame) m,
+      made.name_is ∙ ap (λ (z : Making). z.name) m,
+      made.line_is
+          ∙ ap (λ (z : Making). z.line) m,
+    ));
     named = (let e = made.name_is in let l = values_long in let h = st.each in omega arith);
     alive = ap (λ z. is_current z (tag_of it None)) state_new ∙ eq-eqb t.version.0 it.version.0 (sym version_at) ∙ sym alive_new;
     uses = λ e. subst (λ (z : SlotState). StandForUses s.book z.latest (u.uses s.made)) (sym state_new)
@@ -299,25 +309,29 @@ module _ (p : Planner) (g : Setting) (begun : ScriptState) (n : ℕ) (s : Script
         (record { writer = sym (no_writer s.book.count); readers = λ j. refl; settled = λ j h lt. absurd (not_both h refl) }));
     view = λ e. ap (λ (z : SlotState). z.view) state_new ∙ sym (at_here s.view s.made 0);
     in_use = λ e. ap (λ (z : Place). in_use z.state) place_is;
-    span = λ e. ap (λ (z : Place). z.span) place_is ∙ (let a = sym start_new in let b = sym contents_new in let l = w.len_is in λ j. record { start = a j; len = (l ∙ ap words_of b) j });
+    span = λ e. ap (λ (z : Place). z.span) place_is ∙ (let a = sym start_new in let b = sym contents_new in let l = w.len_is in
+        λ j. record { start = a j; len = (l ∙ ap words_of b) j });
     taken = ap (λ (z : Place). is_taken z.state && nat_eq z.version it.version.0) place_is ∙ eq-eqb t.version.0 it.version.0 (sym version_at) ∙ sym alive_new;
     older = λ e. absurd (not_both alive_new e);
     low = (let e = version_at in let v = w.version in let l = st.containers.versions t.slot.0 in omega arith);
     held = λ e live. absurd (not_both alive_new e);
   }
 
-  which : (c : ℕ) (i : Container) → slice_get containers.items c ≡ Some i → ((slice_get p.containers.items c ≡ Some i) × (c < s.made)) ⊎ ((c ≡ s.made) × (it ≡ i))
+  which : (c : ℕ) (i : Container) → slice_get containers.items c ≡ Some i
+      → ((slice_get p.containers.items c ≡ Some i) × (c < s.made)) ⊎ ((c ≡ s.made) × (it ≡ i))
   which c i h = ⊎_elim
       (λ l. inl (l.1, (let lt = l.0 in let m = length_is in omega arith)))
       (λ r. one r.0 r.1 r.2)
       (get_either p.containers.items (it ∷ []) c i (ap (λ cs. slice_get cs c) (sym made.containers_are) ∙ h))
     where
-      one : (n : ℕ) → c ≡ length p.containers.items + n → slice_get (it ∷ []) n ≡ Some i → ((slice_get p.containers.items c ≡ Some i) × (c < s.made)) ⊎ ((c ≡ s.made) × (it ≡ i))
+      one : (n : ℕ) → c ≡ length p.containers.items + n → slice_get (it ∷ []) n ≡ Some i
+          → ((slice_get p.containers.items c ≡ Some i) × (c < s.made)) ⊎ ((c ≡ s.made) × (it ≡ i))
       one zero e h = inr ((let m = length_is in omega arith), some_is h)
       one (suc n) e h = absurd (none_some h)
 
   kept : (c : ℕ) (i : Container) → slice_get containers.items c ≡ Some i → IsContainer q u found' c i
-  kept c i h = ⊎_elim (λ o. old_kept c i o.0 o.1) (λ n. subst (IsContainer q u found' c) n.1 (subst (λ c. IsContainer q u found' c it) (sym n.0) new_kept)) (which c i h)
+  kept c i h = ⊎_elim (λ o. old_kept c i o.0 o.1) (λ n. subst (IsContainer q u found' c) n.1 (subst (λ c. IsContainer q u found' c it) (sym n.0) new_kept))
+      (which c i h)
 
   owned : (slot : ℕ) → in_use (place_of store slot).state ≡ true → IsOwned q u slot
   owned slot e = ⊎_elim
@@ -328,27 +342,33 @@ module _ (p : Planner) (g : Setting) (begun : ScriptState) (n : ℕ) (s : Script
       record {
         container = o.container;
         it = o.it;
-        has = ap (λ cs. slice_get cs o.container) made.containers_are ∙ get_before p.containers.items (it ∷ []) o.container (let m = length_is in omega arith) ∙ o.has;
+        has = ap (λ cs. slice_get cs o.container) made.containers_are ∙ get_before p.containers.items (it ∷ []) o.container (let m = length_is in omega arith)
+            ∙ o.has;
         slot_is = o.slot_is;
         live = old_live o.container (λ h. omega arith) ∙ o.live;
       })
       (cases_eq slot t.slot.0)
 
-  once : (c e : ℕ) (i j : Container) → slice_get containers.items c ≡ Some i → slice_get containers.items e ≡ Some j → is_live u c ≡ true → is_live u e ≡ true → i.slot.0 ≡ j.slot.0 → c ≡ e
+  once : (c e : ℕ) (i j : Container) → slice_get containers.items c ≡ Some i → slice_get containers.items e ≡ Some j → is_live u c ≡ true → is_live u e ≡ true
+      → i.slot.0 ≡ j.slot.0 → c ≡ e
   once c e i j hc he lc le same = ⊎_elim
       (λ oc. ⊎_elim
-      (λ oe. st.containers.once c e i j oc.0 oe.0 (sym (old_live c (λ h. let lt = oc.1 in omega arith)) ∙ lc) (sym (old_live e (λ h. let lt = oe.1 in omega arith)) ∙ le) same)
-      (λ ne. absurd (other_slot c i oc.0 (sym (old_live c (λ h. let lt = oc.1 in omega arith)) ∙ lc) (same ∙ ap (λ (z : Container). z.slot.0) (sym ne.1) ∙ slot_at)))
+      (λ oe. st.containers.once c e i j oc.0 oe.0 (sym (old_live c (λ h. let lt = oc.1 in omega arith)) ∙ lc)
+      (sym (old_live e (λ h. let lt = oe.1 in omega arith)) ∙ le) same)
+      (λ ne. absurd (other_slot c i oc.0 (sym (old_live c (λ h. let lt = oc.1 in omega arith)) ∙ lc)
+      (same ∙ ap (λ (z : Container). z.slot.0) (sym ne.1) ∙ slot_at)))
       (which e j he))
       (λ nc. ⊎_elim
-      (λ oe. absurd (other_slot e j oe.0 (sym (old_live e (λ h. let lt = oe.1 in omega arith)) ∙ le) (sym same ∙ ap (λ (z : Container). z.slot.0) (sym nc.1) ∙ slot_at)))
+      (λ oe. absurd (other_slot e j oe.0 (sym (old_live e (λ h. let lt = oe.1 in omega arith)) ∙ le)
+      (sym same ∙ ap (λ (z : Container). z.slot.0) (sym nc.1) ∙ slot_at)))
       (λ ne. nc.0 ∙ sym ne.0)
       (which e j he))
       (which c i hc)
 
   versions : (slot : ℕ) → (place_of store slot).version ≤ u.made
   versions slot = ⊎_elim
-      (λ here. let e = ap (λ k. (place_of store k).version) here in let v = ap (λ (z : Place). z.version) place_new in let o = w.version in let l = st.containers.versions t.slot.0 in omega arith)
+      (λ here. let e = ap (λ k. (place_of store k).version) here in let v = ap (λ (z : Place). z.version) place_new in let o = w.version in
+      let l = st.containers.versions t.slot.0 in omega arith)
       (λ ne. let e = ap (λ (z : Place). z.version) (place_old slot ne) in let l = st.containers.versions slot in omega arith)
       (cases_eq slot t.slot.0)
 
@@ -385,7 +405,8 @@ module _ (p : Planner) (g : Setting) (begun : ScriptState) (n : ℕ) (s : Script
 
   named : (m : ℕ) (v : Value) → slice_get values.items m ≡ Some v → value_for p.handles.items v ≡ u.values m
   named m v h = ⊎_elim
-      (λ new. ap (value_for p.handles.items) new.1 ∙ ap states.Whole length_is ∙ sym (ap (with_at s.values name (states.Whole s.made)) new.0 ∙ at_here s.values name (states.Whole s.made)))
+      (λ new. ap (value_for p.handles.items) new.1 ∙ ap states.Whole length_is
+      ∙ sym (ap (with_at s.values name (states.Whole s.made)) new.0 ∙ at_here s.values name (states.Whole s.made)))
       (λ old. st.names.are m v old.1 ∙ sym (at_other s.values name (states.Whole s.made) m old.0))
       (value_at m v h)
 
@@ -464,7 +485,8 @@ module _ (p : Planner) (g : Setting) (begun : ScriptState) (n : ℕ) (s : Script
         (λ new. (
           length p.tempjobs.items,
           ap (λ ts. slice_get ts (length p.tempjobs.items)) tempjobs_now
-              ∙ and_last (is_tempjob life) p.tempjobs.items s.made (ap is_tempjob (sym life_new) ∙ ap (λ d. is_tempjob (u.life d)) (sym new) ∙ temp) ∙ ap Some (sym new),
+              ∙ and_last (is_tempjob life) p.tempjobs.items s.made (ap is_tempjob (sym life_new) ∙ ap (λ d. is_tempjob (u.life d)) (sym new) ∙ temp)
+              ∙ ap Some (sym new),
         ))
         (λ ne. let k = st.tempjobs.all c (omega arith) (ap is_tempjob (sym (life_old c ne)) ∙ temp) in
         (k.0, ap (λ ts. slice_get ts k.0) tempjobs_now ∙ and_before (is_tempjob life) p.tempjobs.items s.made k.0 c k.1))
@@ -552,9 +574,11 @@ module _ (p : Planner) (g : Setting) (begun : ScriptState) (n : ℕ) (s : Script
         created_few = (let l = made.small in let e = made.created_is in let f = k.created in omega arith);
         peak_low = (let l = k.peak_low in let e = w.peak in let b = w.low in omega arith);
         slots_few = (let l = k.slots_few in let e = w.used in omega arith);
-        ops_few = (let l = k.ops_few in let e = ap length made.ops_are ∙ one_more p.plan.ops.items (record { line = line; name = name; act = Fill t.span literal }) in omega arith);
+        ops_few = (let l = k.ops_few in let e = ap length made.ops_are ∙ one_more p.plan.ops.items
+            (record { line = line; name = name; act = Fill t.span literal }) in omega arith);
         segments_few = (let l = k.segments_few in omega arith);
-        literals_few = (let l = k.literals_few in let e = ap length made.literals_are ∙ length-append p.plan.literals.items made.literals_more in let o = made.literals_one in omega arith);
+        literals_few = (let l = k.literals_few in let e = ap length made.literals_are ∙ length-append p.plan.literals.items made.literals_more in
+            let o = made.literals_one in omega arith);
         kernels_few = (let l = k.kernels_few in omega arith);
         handles_few = (let l = k.handles_few in omega arith);
       }
@@ -566,7 +590,11 @@ module _ (p : Planner) (g : Setting) (begun : ScriptState) (n : ℕ) (s : Script
     begins = a.begins;
     names = a.names;
     kernels = a.kernels;
-    literals = (made.literals_more ++ a.literals.0, a.literals.1 ∙ ap (λ l. l ++ a.literals.0) made.literals_are ∙ append_assoc p.plan.literals.items made.literals_more a.literals.0);
+    literals = (
+      made.literals_more ++ a.literals.0,
+      a.literals.1 ∙ ap (λ l. l ++ a.literals.0) made.literals_are
+          ∙ append_assoc p.plan.literals.items made.literals_more a.literals.0,
+    );
     jobs = a.jobs;
     starts = λ k lt. a.starts k (let e = one_more found t.span.start in omega arith) ∙ get_old found t.span.start k lt;
     cells = (let le = a.cells in let e = w.peak in omega arith);
@@ -577,27 +605,37 @@ module _ (p : Planner) (g : Setting) (begun : ScriptState) (n : ℕ) (s : Script
     planned : (x : Outline) → Agrees q g begun found' x → IsPlanned x u (draft_of q)
     planned x a =
         let b = agrees_back x a in
-        let start : x.starts s.takes ≡ t.span.start = a.starts s.takes (let e = one_more found t.span.start in let k = st.takes in omega arith) ∙ get_new found t.span.start s.takes (sym st.takes) in
+        let start : x.starts s.takes ≡ t.span.start = a.starts s.takes (let e = one_more found t.span.start in let k = st.takes in omega arith)
+        ∙ get_new found t.span.start s.takes (sym st.takes) in
         let span : t.span ≡ next_span x s contents = (let st = sym start in let ln = w.len_is in λ i. record { start = st i; len = ln i }) in
         let f = fills x a in
         let alike : is_live_word p.store ≡ ranges.is_live_word x.starts s = (λ i w. live_words_are_alike p g begun n s found x.starts st b.starts w i) in
         let shown : name < length x.plan.names.items = (let e = ap length b.names in let l = long (λ v. string_bytes v) x.plan.names.items in omega arith) in
         containers_are_planned x b.small s line name life contents literal name (draft_of p) (draft_of q) (st.planned x b)
-        (subst (λ live. IsFirstFit live (words_of contents) (x.starts s.takes)) alike (subst (IsFirstFit (is_live_word p.store) (words_of contents)) (sym start) w.fit))
+        (subst (λ live. IsFirstFit live (words_of contents) (x.starts s.takes)) alike
+        (subst (IsFirstFit (is_live_word p.store) (words_of contents)) (sym start) w.fit))
         (let le = a.cells in let e = w.peak in omega arith)
         (subst (λ sp. IsLiteral x.plan sp literal) span f.0) (subst (λ sp. FillsAs x.plan sp literal contents) span f.1) shown
-        (record { segments = refl; jobs = refl; waits = refl; ops = made.ops_are ∙ ap (λ sp. p.plan.ops.items ++ record { line = line; name = name; act = Fill sp literal } ∷ []) span })
+        (record {
+          segments = refl;
+          jobs = refl;
+          waits = refl;
+          ops = made.ops_are
+              ∙ ap (λ sp. p.plan.ops.items ++ record { line = line; name = name; act = Fill sp literal } ∷ []) span;
+        })
 
     pub made_stands : Stands q g begun (suc n) u found'
     made_stands = record {
       known = record {
         book = st.known.book;
         handles = λ m. ⊎_elim
-            (λ e. subst (λ v. AreUpTo s.book.count (states.jobs_of v)) (sym (ap (with_at s.values name (states.Whole s.made)) e ∙ at_here s.values name (states.Whole s.made))) (λ j h. absurd (not_both h refl)))
+            (λ e. subst (λ v. AreUpTo s.book.count (states.jobs_of v)) (sym
+            (ap (with_at s.values name (states.Whole s.made)) e ∙ at_here s.values name (states.Whole s.made))) (λ j h. absurd (not_both h refl)))
             (λ ne. subst (λ v. AreUpTo s.book.count (states.jobs_of v)) (sym (at_other s.values name (states.Whole s.made) m ne)) (st.known.handles m))
             (cases_eq m name);
         uses = λ c. ⊎_elim
-            (λ e. subst (AreUses s.book) (sym (ap u.uses e ∙ at_here s.uses s.made unused)) (record { users = λ j h. absurd (not_both h refl); writers = λ j h. absurd (not_both h refl) }))
+            (λ e. subst (AreUses s.book) (sym (ap u.uses e ∙ at_here s.uses s.made unused))
+            (record { users = λ j h. absurd (not_both h refl); writers = λ j h. absurd (not_both h refl) }))
             (λ ne. subst (AreUses s.book) (sym (at_other s.uses s.made unused c ne)) (st.known.uses c))
             (cases_eq c s.made);
       };

@@ -2,7 +2,8 @@
 use Rattle.std.proofs.Common.{◌≡◌, ℕ, zero, suc, ◌+◌, ◌<◌, ◌≤◌, ℤ, List, [], ◌∷◌, length, take, refl, ap, ◌∙◌, arith}
 use Rattle.job_base.specs.Cells.{cells_of, cell_list}
 
-taken_from : (xs : List ℤ) (cells : ℕ → ℤ) (start n : ℕ) → n ≤ length xs → ((k : ℕ) → k < n → cells_of xs k ≡ cells (start + k)) → take n xs ≡ cell_list cells start n
+taken_from : (xs : List ℤ) (cells : ℕ → ℤ) (start n : ℕ) → n ≤ length xs → ((k : ℕ) → k < n → cells_of xs k ≡ cells (start + k))
+    → take n xs ≡ cell_list cells start n
 taken_from xs cells start zero le same = refl
 taken_from [] cells start (suc n) le same = absurd (omega arith)
 taken_from (x ∷ xs) cells start (suc n) le same =

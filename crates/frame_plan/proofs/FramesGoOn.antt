@@ -59,7 +59,8 @@ none_over p s found is = record {
 }
 
 module _ (old p q : Planner) (s : ScriptState) (found : List ℕ) (k c : ℕ) (it : Container) (temps : AreTemps old.temps.items s) (unused : AreUnused s)
-    (at : slice_get old.temps.items k ≡ Some c) (has : slice_get p.containers.items c ≡ Some it) (so : AreOverSoFar old p s found k) (over : IsOver p q c it) where
+    (at : slice_get old.temps.items k ≡ Some c) (has : slice_get p.containers.items c ≡ Some it) (so : AreOverSoFar old p s found k)
+    (over : IsOver p q c it) where
   kept_is : is_kept p it ≡ so.alive c
   kept_is = (so.containers.each c it has).taken
 
@@ -101,8 +102,10 @@ module _ (old p q : Planner) (s : ScriptState) (found : List ℕ) (k c : ℕ) (i
       })
       over)
 
-module _ (old p q : Planner) (s : ScriptState) (found : List ℕ) (at : ℕ) (temps : AreTemps old.temps.items s) (so : AreOverSoFar old p s found at) (all : length old.temps.items ≤ at)
-    (containers : q.containers ≡ p.containers) (names : length q.values.items ≡ length p.values.items) (store : q.store ≡ p.store) (safety : q.safety ≡ p.safety) where
+module _ (old p q : Planner) (s : ScriptState) (found : List ℕ) (at : ℕ) (temps : AreTemps old.temps.items s) (so : AreOverSoFar old p s found at)
+    (all : length old.temps.items ≤ at)
+    (containers : q.containers ≡ p.containers) (names : length q.values.items ≡ length p.values.items) (store : q.store ≡ p.store)
+    (safety : q.safety ≡ p.safety) where
   same : (c : ℕ) → c < s.made → stays s c ≡ so.alive c
   same c lt = ⊎_elim
       (λ a. (λ i. so.falls c a i && not (is_temp (s.life c))) ∙ ap not (not_temp a) ∙ sym a)
@@ -136,7 +139,8 @@ over_none p = record { rest = refl; used = omega arith; peak = refl; so_far = λ
 
 module _ (p m : Planner) (at : ℕ) (so : OverSoFar p m at) where
   -- what is read of the lists
-  pub next_read : All (λ c. c < vec_len p.containers) p.temps.items → at < vec_len p.temps → (c : ℕ) → c ≡ get_or m.temps.items at c → (it : Container) → it ≡ get_or m.containers.items c it
+  pub next_read : All (λ c. c < vec_len p.containers) p.temps.items → at < vec_len p.temps → (c : ℕ) → c ≡ get_or m.temps.items at c → (it : Container)
+      → it ≡ get_or m.containers.items c it
       → (slice_get m.temps.items at ≡ Some c) × (slice_get m.containers.items c ≡ Some it)
   next_read numbers lt c e it f =
       let temps = ap (λ (k : Planner). k.temps) so.rest in
@@ -148,14 +152,17 @@ module _ (p m : Planner) (at : ℕ) (so : OverSoFar p m at) where
       let lengths = ap (λ (v : Vec ℕ Global). vec_len v) temps in
       (read_some m.temps at c (omega arith) e, read_some m.containers c it (omega arith) f)
 
-  pub over_more : (q : Planner) (c : ℕ) (it : Container) → slice_get m.temps.items at ≡ Some c → slice_get m.containers.items c ≡ Some it → IsOver m q c it → OverSoFar p q (at + 1)
+  pub over_more : (q : Planner) (c : ℕ) (it : Container) → slice_get m.temps.items at ≡ Some c → slice_get m.containers.items c ≡ Some it → IsOver m q c it
+      → OverSoFar p q (at + 1)
   over_more q c it here has over = record {
     rest = ⊎_elim (λ o. subst (λ z. z ≡ record p { safety = z.safety; store = z.store }) (sym o.1) so.rest)
         (λ o. o.1.rest ∙ ap {A = Planner} {B = Planner} (λ k. record k { safety = q.safety; store = q.store }) so.rest) over;
-    used = ⊎_elim (λ o. (let u = so.used in let e = ap (λ (k : Planner). slots_in_use k.store) o.1 in omega arith)) (λ o. (let u = so.used in let v = o.1.used in omega arith)) over;
+    used = ⊎_elim (λ o. (let u = so.used in let e = ap (λ (k : Planner). slots_in_use k.store) o.1 in omega arith))
+        (λ o. (let u = so.used in let v = o.1.used in omega arith)) over;
     peak = ⊎_elim (λ o. ap (λ (k : Planner). peak_of k.store) o.1 ∙ so.peak) (λ o. o.1.peak ∙ so.peak) over;
     so_far = λ s found is temps unused.
-        one_over p m q s found at c it temps unused (ap (λ (k : Planner). slice_get k.temps.items at) (sym so.rest) ∙ here) has (so.so_far s found is temps unused) over;
+        one_over p m q s found at c it temps unused (ap (λ (k : Planner). slice_get k.temps.items at) (sym so.rest) ∙ here) has
+        (so.so_far s found is temps unused) over;
   }
 
   pub over_all : (q : Planner) → vec_len p.temps ≤ at → q ≡ record m { temps = q.temps } → q.temps.items ≡ [] → AreOver p q
@@ -163,12 +170,14 @@ module _ (p m : Planner) (at : ℕ) (so : OverSoFar p m at) where
     containers = λ s found is temps unused.
         all_over p m q s found at temps (so.so_far s found is temps unused)
         (let len = p.temps.ok.0 in omega arith)
-        (ap (λ (k : Planner). k.containers) last) (ap (λ (k : Planner). length k.values.items) last) (ap (λ (k : Planner). k.store) last) (ap (λ (k : Planner). k.safety) last);
+        (ap (λ (k : Planner). k.containers) last) (ap (λ (k : Planner). length k.values.items) last) (ap (λ (k : Planner). k.store) last)
+        (ap (λ (k : Planner). k.safety) last);
     used = (let u = so.used in let e = ap (λ (k : Planner). slots_in_use k.store) last in omega arith);
     peak = ap (λ (k : Planner). peak_of k.store) last ∙ so.peak;
     temps = none;
     rest = (let by_p = last ∙ ap {A = Planner} {B = Planner} (λ k. record k { temps = q.temps }) so.rest in
-        by_p ∙ (let a = sym (ap (λ (k : Planner). k.safety) by_p) in let b = sym (ap (λ (k : Planner). k.store) by_p) in λ i. record p { temps = q.temps; safety = a i; store = b i }));
+        by_p ∙ (let a = sym (ap (λ (k : Planner). k.safety) by_p) in let b = sym (ap (λ (k : Planner). k.store) by_p) in
+        λ i. record p { temps = q.temps; safety = a i; store = b i }));
   }
 
 -- ---- what the code needs
@@ -209,13 +218,15 @@ module _ (p : Planner) (line : ℕ) where
       }
 
 -- the place of one that is due can go on
-pub place_fits : (p m : Planner) (line : ℕ) → IsReady p (statement p line) → AreReportedSoFar p m line → (it : Container) → IsDue m it → m.overdue + 1 < 4294967296
+pub place_fits : (p m : Planner) (line : ℕ) → IsReady p (statement p line) → AreReportedSoFar p m line → (it : Container) → IsDue m it
+    → m.overdue + 1 < 4294967296
 place_fits p m line ready so it due =
     (frame_ready p line ready).places m.overdue due.number (ap (λ (k : Planner). slice_get k.tempjobs.items m.overdue) (sym so.rest) ∙ due.at)
 
 -- ---- a frame
 module _ (p r m q : Planner) (line : ℕ) (reported : AreReported p r line) (over : AreOver r m) (last : q ≡ record m { frame = m.frame + 1 })
-    (script : Script) (table : Table) (begun : ScriptState) (n : ℕ) (found : List ℕ) (step : IsStep script table n (statement p line)) (st : StandsAt p script table begun n found) where
+    (script : Script) (table : Table) (begun : ScriptState) (n : ℕ) (found : List ℕ) (step : IsStep script table n (statement p line))
+    (st : StandsAt p script table begun n found) where
   abbrev x : Statement
   x = statement p line
 
@@ -279,9 +290,11 @@ module _ (p r m q : Planner) (line : ℕ) (reported : AreReported p r line) (ove
     values = ap (λ (k : Planner). length k.values.items) is_q;
     handles = (let e = ap (λ (k : Planner). length k.handles.items) is_q in omega arith);
     peak = ap (λ (k : Planner). peak_of k.store) is_q ∙ over.peak ∙ ap (λ (k : Planner). peak_of k.store) reported.rest;
-    slots = (let u = over.used in let a = ap (λ (k : Planner). slots_in_use k.store) is_q in let b = ap (λ (k : Planner). slots_in_use k.store) reported.rest in omega arith);
+    slots = (let u = over.used in let a = ap (λ (k : Planner). slots_in_use k.store) is_q in let b = ap (λ (k : Planner). slots_in_use k.store) reported.rest in
+        omega arith);
     segments = (let e = ap (λ (k : Planner). length k.plan.segments.items) is_q in omega arith);
-    ops = (let e = ap (λ (k : Planner). ops_count k.plan.segments.items) is_q in let f = ap (λ (k : Planner). length k.plan.ops.items) is_q in let o = ap (λ (k : Planner). k.overdue) is_q in
+    ops = (let e = ap (λ (k : Planner). ops_count k.plan.segments.items) is_q in let f = ap (λ (k : Planner). length k.plan.ops.items) is_q in
+        let o = ap (λ (k : Planner). k.overdue) is_q in
         let count = reported.count in omega arith);
     temps = subst (λ ts. AreTemps ts t) (sym (ap (λ (k : Planner). k.temps.items) is_q ∙ over.temps)) no_temps;
     tempjobs = subst (λ o. AreTempJobs p.tempjobs.items o t) (sym (ap (λ (k : Planner). k.overdue) is_q)) tempjobs;
@@ -323,7 +336,8 @@ module _ (p r m q : Planner) (line : ℕ) (reported : AreReported p r line) (ove
       ap given_so_far is_q
       ∙ ap (λ ops. given_from p.plan.segments.items ++ given_in ops) said.0
       ∙ ap (λ l. given_from p.plan.segments.items ++ l)
-      (given_more p.plan.ops.items (report_ops s line s.made) ∙ ap (λ l. given_in p.plan.ops.items ++ l) (none_reported s.made) ∙ append-nil (given_in p.plan.ops.items))
+      (given_more p.plan.ops.items (report_ops s line s.made) ∙ ap (λ l. given_in p.plan.ops.items ++ l) (none_reported s.made)
+      ∙ append-nil (given_in p.plan.ops.items))
 
   pub frame_on : HasStepped script table begun n found p q x
   frame_on =

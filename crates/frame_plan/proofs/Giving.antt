@@ -116,7 +116,8 @@ module _ (p q : Planner) (s : ScriptState) (found : List ℕ) (c0 : ℕ) (was : 
         (λ here. absurd (not_both u (ap (λ n. in_use (place_of q.store n).state) here ∙ ap (λ (z : Place). in_use z.state) place_here)))
         (λ ne. ap (λ (z : Place). in_use z.state) (sym (place_other k ne)) ∙ u);
     rising = λ k. by_slot k
-        (λ here. let a = ap (λ n. (place_of q.store n).version) here ∙ ap (λ (z : Place). z.version) place_here in let b = ap (λ n. (place_of p.store n).version) here in omega arith)
+        (λ here. let a = ap (λ n. (place_of q.store n).version) here ∙ ap (λ (z : Place). z.version) place_here in
+        let b = ap (λ n. (place_of p.store n).version) here in omega arith)
         (λ ne. let a = ap (λ (z : Place). z.version) (place_other k ne) in omega arith);
     low = λ k. by_slot k
         (λ here. let a = ap (λ n. (place_of q.store n).version) here ∙ ap (λ (z : Place). z.version) place_here in
@@ -131,7 +132,8 @@ module _ (p q : Planner) (s : ScriptState) (found : List ℕ) (c0 : ℕ) (was : 
         let e = only_it c a d in
         let same = ap (λ (z : Container). z.slot.0) (same_one p q s found c0 i.it was i.has alive0 c it has e) in (
           ap (λ n. is_current (state_of q.safety n) (tag_of it None)) same ∙ released p q s found c0 i.it was i.has alive0 i.released (tag_of it None),
-          (let v = ap (λ n. (place_of q.store n).version) same ∙ ap (λ (z : Place). z.version) place_here in let w = ap (λ n. (place_of p.store n).version) same in omega arith),
+          (let v = ap (λ n. (place_of q.store n).version) same ∙ ap (λ (z : Place). z.version) place_here in
+              let w = ap (λ n. (place_of p.store n).version) same in omega arith),
         );
     held = λ c it has d live.
         let ne_c = not_it c live in

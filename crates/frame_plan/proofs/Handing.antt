@@ -26,6 +26,7 @@ use Rattle.frame_plan.specs.declared.sections.SectionBook.{SectionBook}
 use Rattle.frame_plan.specs.declared.state.PlanFault.{PlanFault}
 use Rattle.frame_plan.specs.declared.state.PlanFault.TheVariants.{NoMemory}
 use Rattle.frame_plan.specs.declared.state.Planner.{Planner}
+use Rattle.frame_plan.specs.Growth.{first_jobs, unless_none}
 use Rattle.frame_plan.specs.Layouts.{starts_by, IsLaidOut}
 use Rattle.frame_plan.specs.Names.{AreNamesOf}
 use Rattle.frame_plan.specs.References.{IsOfTest, IsTestFor}
@@ -48,8 +49,10 @@ not_test g s a h = absurd h
 pub names_handed : (script : Script) (given taken : List (String Global)) → taken ≡ given → AreNamesOf script given → AreNamesOf script taken
 names_handed script given taken e names = subst (AreNamesOf script) (sym e) names
 
-module _ (script : Script) (table : Table) (from : ℕ) (book : SectionBook) (ready : IsPlannedFrom book script table from) (new : Planner) (plan : Plan) (test : Option Test)
-    (finished : IsFinished script book.planner plan) (emptied : IsEmptied book.planner new) (tests : IsTestFor book.planner (slice_get script.statements.items book.at) test) (names : AreNamesOf script plan.names.items) where
+module _ (script : Script) (table : Table) (from : ℕ) (book : SectionBook) (ready : IsPlannedFrom book script table from) (new : Planner) (plan : Plan)
+    (test : Option Test)
+    (finished : IsFinished script book.planner plan) (emptied : IsEmptied book.planner new)
+    (tests : IsTestFor book.planner (slice_get script.statements.items book.at) test) (names : AreNamesOf script plan.names.items) where
   abbrev s : ScriptState
   s = state_at script table book.at
 
@@ -78,29 +81,42 @@ module _ (script : Script) (table : Table) (from : ℕ) (book : SectionBook) (re
         jobs = scheduled_later script table starts from book.at
             p.kernels.items [] plan.kernels.items p.jobs.items [] plan.jobs.items p.segments.items finished.segments_later plan.segments.items
             (finished.kernels ∙ sym (append-nil p.kernels.items)) (finished.jobs ∙ sym (append-nil p.jobs.items)) finished.segments h.jobs;
+        waits = finished.waits
+            ∙ (let a = h.waits in let b = ap length (sym finished.jobs) in λ i. a i ++ unless_none (first_jobs (b i)));
         contents = done.contents;
       }
 
-  test_of : (x : Statement) → slice_get script.statements.items book.at ≡ Some x → (t : Test) (a : Order) → x.act ≡ a → IsActingTest (setting script table) s a → IsOfTest book.planner t a → IsTestOf (setting script table) s (cells_after plan) t a
+  test_of : (x : Statement) → slice_get script.statements.items book.at ≡ Some x → (t : Test) (a : Order) → x.act ≡ a → IsActingTest (setting script table) s a
+      → IsOfTest book.planner t a → IsTestOf (setting script table) s (cells_after plan) t a
   test_of x here t (When name sign value count) is acts of =
-      let step : IsStep script table book.at x = record { accepted = ready.accepted; here = here; acts = acts.0 } in
-      (acts.0, acts.1, of.0, of.1, reference_held script table book.planner (state_at script table from) book.at ready.found x ready.stands step name sign value count is acts.1 (cells_after plan) t.at done.contents of.2)
+      let step : IsStep script table book.at x = record { accepted = ready.accepted; here = here; acts = acts.0 } in (
+        acts.0,
+        acts.1,
+        of.0,
+        of.1,
+        reference_held script table book.planner
+            (state_at script table from) book.at ready.found x ready.stands step name sign value count is acts.1 (cells_after plan) t.at done.contents of.2,
+      )
   test_of x here t a is acts of = absurd acts
 
-  ends : (o : Option Statement) → slice_get script.statements.items book.at ≡ o → IsStop (setting script table) s o → (t : Option Test) → IsTestFor book.planner o t → EndsBy (setting script table) s (cells_after plan) o t
+  ends : (o : Option Statement) → slice_get script.statements.items book.at ≡ o → IsStop (setting script table) s o → (t : Option Test)
+      → IsTestFor book.planner o t → EndsBy (setting script table) s (cells_after plan) o t
   ends None e stop None h = tt
   ends None e stop (Some t) h = absurd h
   ends (Some x) e stop None h = absurd h
   ends (Some x) e stop (Some t) h = test_of x e t x.act refl stop h
 
-  inside_of : (x : Statement) → slice_get script.statements.items book.at ≡ Some x → (t : Test) (a : Order) → x.act ≡ a → IsActingTest (setting script table) s a → IsOfTest book.planner t a → t.at.start < plan.cells
+  inside_of : (x : Statement) → slice_get script.statements.items book.at ≡ Some x → (t : Test) (a : Order) → x.act ≡ a
+      → IsActingTest (setting script table) s a → IsOfTest book.planner t a → t.at.start < plan.cells
   inside_of x here t (When name sign value count) is acts of =
       let step : IsStep script table book.at x = record { accepted = ready.accepted; here = here; acts = acts.0 } in
-      reference_inside script table book.planner (state_at script table from) book.at ready.found x ready.stands step name sign value count is acts.1 plan.cells t.at
+      reference_inside script table book.planner (state_at script table from) book.at ready.found x ready.stands step name sign value count is acts.1 plan.cells
+      t.at
       (finished.within table (state_at script table from) book.at ready.found ready.inside ready.stands) of.2
   inside_of x here t a is acts of = absurd acts
 
-  inside : (o : Option Statement) → slice_get script.statements.items book.at ≡ o → IsStop (setting script table) s o → (t : Test) → IsTestFor book.planner o (Some t) → t.at.start < plan.cells
+  inside : (o : Option Statement) → slice_get script.statements.items book.at ≡ o → IsStop (setting script table) s o → (t : Test)
+      → IsTestFor book.planner o (Some t) → t.at.start < plan.cells
   inside None e stop t h = absurd h
   inside (Some x) e stop t h = inside_of x e t x.act refl stop h
 
@@ -109,7 +125,8 @@ module _ (script : Script) (table : Table) (from : ℕ) (book : SectionBook) (re
   there_too None (Some t) h some = absurd h
   there_too (Some x) t h some = refl
 
-  between : (o : Option Statement) → slice_get script.statements.items book.at ≡ o → IsStop (setting script table) s o → IsSome o → IsBetween after script table book.at (cells_after plan) plan.cells
+  between : (o : Option Statement) → slice_get script.statements.items book.at ≡ o → IsStop (setting script table) s o → IsSome o
+      → IsBetween after script table book.at (cells_after plan) plan.cells
   between None e stop some = absurd (not_both some refl)
   between (Some x) e stop some = record {
     accepted = ready.accepted;
@@ -137,6 +154,7 @@ module _ (script : Script) (table : Table) (from : ℕ) (book : SectionBook) (re
     to = book.at;
     is_section = record {
       rising = (ready.rising, ready.inside);
+      between = ready.between;
       well_ordered = done.well_ordered;
       names = names;
       jobs_before = ready.stands.numbers.before;
@@ -146,7 +164,8 @@ module _ (script : Script) (table : Table) (from : ℕ) (book : SectionBook) (re
       laid_out = laid_out;
       test = ends (slice_get script.statements.items book.at) refl ready.stops test tests;
     };
-    inside = λ t e. inside (slice_get script.statements.items book.at) refl ready.stops t (subst (IsTestFor book.planner (slice_get script.statements.items book.at)) e tests);
+    inside = λ t e. inside (slice_get script.statements.items book.at) refl ready.stops t
+        (subst (IsTestFor book.planner (slice_get script.statements.items book.at)) e tests);
     kernels = record {
       old = book.planner;
       places = ap (λ (k : Planner). k.kernels) emptied.rest;
@@ -170,17 +189,22 @@ IsAsked script table =
     ⊎ (list_any (λ (x : Statement). is_when x.act) script.statements.items ≡ false)
 
 pub limit_is : (script : Script) (table : Table) (b : Bool) → list_any (λ (x : Statement). is_when x.act) script.statements.items ≡ b
-    → limit_of (setting script table) script.statements.items ≡ (if b then limit_by_text (setting script table) script.statements.items 0 0 else limit_by_run (setting script table) script.statements.items at_start)
-limit_is script table b e = ap (λ b. if b then limit_by_text (setting script table) script.statements.items 0 0 else limit_by_run (setting script table) script.statements.items at_start) e
+    → limit_of (setting script table) script.statements.items ≡ (if b then limit_by_text (setting script table) script.statements.items 0 0 else limit_by_run
+    (setting script table) script.statements.items at_start)
+limit_is script table b e = ap (λ b. if b then limit_by_text (setting script table) script.statements.items 0 0 else limit_by_run
+    (setting script table) script.statements.items at_start) e
 
-pub limit_fails : (script : Script) (table : Table) (fault : PlanFault) → IsAsked script table → PassesOnce fault script table → (fault ≡ NoMemory) ⊎ (limit_of (setting script table) script.statements.items ≡ limit_told fault)
+pub limit_fails : (script : Script) (table : Table) (fault : PlanFault) → IsAsked script table → PassesOnce fault script table
+    → (fault ≡ NoMemory) ⊎ (limit_of (setting script table) script.statements.items ≡ limit_told fault)
 limit_fails script table fault (inl h) p = inl (text_passes_none script table fault h.1 p)
 limit_fails script table fault (inr none) p = ⊎_elim inl (λ e. inr (limit_is script table false none ∙ e)) (script_run_passes script table fault p)
 
 -- without a `when` a section ends at the script's end
-pub no_test : (xs : List Statement) (n : ℕ) (x : Statement) → list_any (λ (x : Statement). is_when x.act) xs ≡ false → slice_get xs n ≡ Some x → is_when x.act ≡ false
+pub no_test : (xs : List Statement) (n : ℕ) (x : Statement) → list_any (λ (x : Statement). is_when x.act) xs ≡ false → slice_get xs n ≡ Some x
+    → is_when x.act ≡ false
 no_test [] n x none e = absurd (none_some e)
-no_test (y ∷ more) zero x none e = subst (λ (k : Statement). is_when k.act ≡ false) (some_is e) (or_false_left (is_when y.act) (list_any (λ (x : Statement). is_when x.act) more) none)
+no_test (y ∷ more) zero x none e = subst (λ (k : Statement). is_when k.act ≡ false) (some_is e)
+    (or_false_left (is_when y.act) (list_any (λ (x : Statement). is_when x.act) more) none)
 no_test (y ∷ more) (suc n) x none e = no_test more n x (or_false_right (is_when y.act) (list_any (λ (x : Statement). is_when x.act) more) none) e
 
 take_all : (xs : List Statement) (n : ℕ) → slice_get xs n ≡ None → take n xs ≡ xs
@@ -189,25 +213,32 @@ take_all [] (suc n) e = refl
 take_all (x ∷ xs) zero e = absurd (none_some (sym e))
 take_all (x ∷ xs) (suc n) e = ap (λ l. x ∷ l) (take_all xs n e)
 
-pub whole_run : (script : Script) (table : Table) (n : ℕ) → list_any (λ (x : Statement). is_when x.act) script.statements.items ≡ false → IsStop (setting script table) (state_at script table n) (slice_get script.statements.items n) → take n script.statements.items ≡ script.statements.items
+pub whole_run : (script : Script) (table : Table) (n : ℕ) → list_any (λ (x : Statement). is_when x.act) script.statements.items ≡ false
+    → IsStop (setting script table) (state_at script table n) (slice_get script.statements.items n) → take n script.statements.items ≡ script.statements.items
 whole_run script table n none stop = by (slice_get script.statements.items n) refl stop
   where
-    by : (o : Option Statement) → slice_get script.statements.items n ≡ o → IsStop (setting script table) (state_at script table n) o → take n script.statements.items ≡ script.statements.items
+    by : (o : Option Statement) → slice_get script.statements.items n ≡ o → IsStop (setting script table) (state_at script table n) o
+        → take n script.statements.items ≡ script.statements.items
     by None e stop = take_all script.statements.items n e
     by (Some x) e stop = absurd (not_both (not_test (setting script table) (state_at script table n) x.act stop) (no_test script.statements.items n x none e))
 
-pub limit_none : (script : Script) (table : Table) (n : ℕ) → IsAsked script table → IsStop (setting script table) (state_at script table n) (slice_get script.statements.items n) → IsWithin (state_at script table n) → limit_of (setting script table) script.statements.items ≡ None
+pub limit_none : (script : Script) (table : Table) (n : ℕ) → IsAsked script table
+    → IsStop (setting script table) (state_at script table n) (slice_get script.statements.items n) → IsWithin (state_at script table n)
+    → limit_of (setting script table) script.statements.items ≡ None
 limit_none script table n (inl h) stop w = limit_is script table true h.0 ∙ h.1
 limit_none script table n (inr none) stop w =
     limit_is script table false none
-    ∙ run_none (setting script table) script.statements.items at_start (subst (λ xs. IsWithin (act_all (setting script table) xs at_start)) (whole_run script table n none stop) w)
+    ∙ run_none (setting script table) script.statements.items at_start (subst (λ xs. IsWithin (act_all (setting script table) xs at_start))
+    (whole_run script table n none stop) w)
 
 -- the first statement isn't a test that acts
-pub first_later : (script : Script) (table : Table) → IsAccepted script → (n : ℕ) → IsStop (setting script table) (state_at script table n) (slice_get script.statements.items n) → IsSome (slice_get script.statements.items n) → 0 < n
+pub first_later : (script : Script) (table : Table) → IsAccepted script → (n : ℕ)
+    → IsStop (setting script table) (state_at script table n) (slice_get script.statements.items n) → IsSome (slice_get script.statements.items n) → 0 < n
 first_later script table accepted (suc n) stop some = omega arith
 first_later script table accepted zero stop some = by (slice_get script.statements.items 0) refl stop some
   where
-    no : (x : Statement) → slice_get script.statements.items 0 ≡ Some x → (a : Order) → x.act ≡ a → IsActingTest (setting script table) (state_at script table 0) a → 0 < 0
+    no : (x : Statement) → slice_get script.statements.items 0 ≡ Some x → (a : Order) → x.act ≡ a
+        → IsActingTest (setting script table) (state_at script table 0) a → 0 < 0
     no x e (When name sign value count) is h = absurd (first_is_none script table accepted x e name sign value count is)
     no x e a is h = absurd h
 
@@ -228,25 +259,32 @@ same_numbers (t ∷ ts) =
     let z : 0 + t.job ≡ t.job = omega arith in
     λ i. record t { job = z i } ∷ same_numbers ts i
 
-pub plan_is : (script : Script) (table : Table) (book : SectionBook) (section : Section) → list_any (λ (x : Statement). is_when x.act) script.statements.items ≡ false → IsNext book script table 0 section → IsPlanOf script table section.plan
+pub plan_is : (script : Script) (table : Table) (book : SectionBook) (section : Section)
+    → list_any (λ (x : Statement). is_when x.act) script.statements.items ≡ false → IsNext book script table 0 section → IsPlanOf script table section.plan
 plan_is script table book section none n =
     let o = n.is_section in
     let whole : take n.to script.statements.items ≡ script.statements.items = all (slice_get script.statements.items n.to) refl section.test o.test in
-    let last : state_at script table n.to ≡ act_all (setting script table) script.statements.items at_start = ap (λ xs. act_all (setting script table) xs at_start) whole in
+    let last : state_at script table n.to ≡ act_all (setting script table) script.statements.items at_start =
+    ap (λ xs. act_all (setting script table) xs at_start) whole in
     record {
       well_ordered = o.well_ordered;
       lines = sym (ap (λ (s : ScriptState). s.lines) last) ∙ o.lines;
-      refused = sym (ap (λ (s : ScriptState). s.refused) last) ∙ o.refused ∙ (let z : 0 + plan_refused section.plan ≡ plan_refused section.plan = omega arith in z);
-      traps = sym (ap (λ (s : ScriptState). s.traps) last) ∙ o.traps ∙ ap (λ k. map (renumbered k) (plan_traps section.plan)) o.jobs_before ∙ same_numbers (plan_traps section.plan);
+      refused = sym (ap (λ (s : ScriptState). s.refused) last) ∙ o.refused
+          ∙ (let z : 0 + plan_refused section.plan ≡ plan_refused section.plan = omega arith in z);
+      traps = sym (ap (λ (s : ScriptState). s.traps) last) ∙ o.traps ∙ ap (λ k. map (renumbered k) (plan_traps section.plan)) o.jobs_before
+          ∙ same_numbers (plan_traps section.plan);
       laid_out = subst (λ k. IsLaidOut script table 0 k section.plan)
           (let e = ap length whole in let few = taken_long n.to script.statements.items in let le = o.rising.1 in omega arith) o.laid_out;
     }
   where
-    is_test : (x : Statement) (t : Test) (a : Order) → IsTestOf (setting script table) (state_at script table n.to) (cells_after section.plan) t a → is_when a ≡ true
+    is_test : (x : Statement) (t : Test) (a : Order) → IsTestOf (setting script table) (state_at script table n.to) (cells_after section.plan) t a
+        → is_when a ≡ true
     is_test x t (When name sign value count) h = refl
     is_test x t a h = absurd h
 
-    all : (o : Option Statement) → slice_get script.statements.items n.to ≡ o → (t : Option Test) → EndsBy (setting script table) (state_at script table n.to) (cells_after section.plan) o t → take n.to script.statements.items ≡ script.statements.items
+    all : (o : Option Statement) → slice_get script.statements.items n.to ≡ o → (t : Option Test)
+        → EndsBy (setting script table) (state_at script table n.to) (cells_after section.plan) o t
+        → take n.to script.statements.items ≡ script.statements.items
     all None e t h = take_all script.statements.items n.to e
     all (Some x) e None h = absurd h
     all (Some x) e (Some t) h = absurd (not_both (is_test x t x.act h) (no_test script.statements.items n.to x none e))

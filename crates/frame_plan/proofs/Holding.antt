@@ -28,7 +28,8 @@ taken_used Taken e = refl
 taken_used (Held users) e = refl
 
 -- ---- those for whom ranges are held are jobs of the book
-module _ (p : Planner) (s : ScriptState) (found : List ℕ) (was : AreContainers p s found) (known : IsBook s.book) (uses : (c : ℕ) → AreUses s.book (s.uses c)) where
+module _ (p : Planner) (s : ScriptState) (found : List ℕ) (was : AreContainers p s found) (known : IsBook s.book)
+    (uses : (c : ℕ) → AreUses s.book (s.uses c)) where
   as_it_is : AreBetween p p s (changed s s.alive s.book s.frame s.values s.lines) (place_of p.store)
   as_it_is = record {
     used = λ k u. u;
@@ -82,10 +83,12 @@ module _ (p q : Planner) (s : ScriptState) (found : List ℕ) (c0 : ℕ) (was : 
         (λ here. ap (λ n. in_use (place_of p.store n).state) here ∙ taken_used (place_of p.store slot0).state (taken0 p q s found c0 i.it was i.has alive0))
         (λ ne. ap (λ (z : Place). in_use z.state) (sym (mid_other k ne)) ∙ u);
     rising = λ k. by_slot k
-        (λ here. let a = ap (λ n. (mid n).version) here ∙ ap (λ (z : Place). z.version) mid_here in let b = ap (λ n. (place_of p.store n).version) here in omega arith)
+        (λ here. let a = ap (λ n. (mid n).version) here ∙ ap (λ (z : Place). z.version) mid_here in let b = ap (λ n. (place_of p.store n).version) here in
+        omega arith)
         (λ ne. let a = ap (λ (z : Place). z.version) (mid_other k ne) in omega arith);
     low = λ k. by_slot k
-        (λ here. let a = ap (λ n. (mid n).version) here ∙ ap (λ (z : Place). z.version) mid_here in let le = version_low p q s found c0 i.it was i.has alive0 in omega arith)
+        (λ here. let a = ap (λ n. (mid n).version) here ∙ ap (λ (z : Place). z.version) mid_here in let le = version_low p q s found c0 i.it was i.has alive0 in
+        omega arith)
         (λ ne. let a = ap (λ (z : Place). z.version) (mid_other k ne) in let le = was.versions k in omega arith);
     current = current p q s found c0 i.it was i.has alive0 i.released;
     stays = λ c it has a.
@@ -95,7 +98,8 @@ module _ (p q : Planner) (s : ScriptState) (found : List ℕ) (c0 : ℕ) (was : 
     ended = λ c it has a d.
         let same = ap (λ (z : Container). z.slot.0) (same_one p q s found c0 i.it was i.has alive0 c it has (only_it c a d)) in (
           ap (λ n. is_current (state_of q.safety n) (tag_of it None)) same ∙ released p q s found c0 i.it was i.has alive0 i.released (tag_of it None),
-          (let v = ap (λ n. (mid n).version) same ∙ ap (λ (z : Place). z.version) mid_here in let w = ap (λ n. (place_of p.store n).version) same in omega arith),
+          (let v = ap (λ n. (mid n).version) same ∙ ap (λ (z : Place). z.version) mid_here in let w = ap (λ n. (place_of p.store n).version) same in
+              omega arith),
         );
     held = λ c it has d live. ⊎_elim
         (λ e. let same = ap (λ (z : Container). z.slot.0) (same_one p q s found c0 i.it was i.has alive0 c it has e) in (

@@ -93,11 +93,13 @@ module _ (script : Script) (table : Table) (begun : ScriptState) (n : ℕ) (foun
     later = omega arith;
     next = omega arith;
     values = ap length e.values ∙ set_long m.values.items handle (Handles e.place) ∙ ap (λ (k : Planner). length k.values.items) i.rest;
-    handles = (let more = (handles_more m q (length p.containers.items) s t handle jobs was_named e named).1 in let h = ap (λ (k : Planner). length k.handles.items) i.rest in omega arith);
+    handles = (let more = (handles_more m q (length p.containers.items) s t handle jobs was_named e named).1 in
+        let h = ap (λ (k : Planner). length k.handles.items) i.rest in omega arith);
     peak = ap (λ (k : Planner). peak_of k.store) is_q ∙ i.peak;
     slots = (let u = i.used in let h = ap (λ (k : Planner). slots_in_use k.store) is_q in omega arith);
     segments = (let h = ap (λ (k : Planner). length k.plan.segments.items) is_q in omega arith);
-    ops = (let h = ap (λ (k : Planner). ops_count k.plan.segments.items + length k.plan.ops.items) is_q in let o = ap (λ (k : Planner). k.overdue) is_q in omega arith);
+    ops = (let h = ap (λ (k : Planner). ops_count k.plan.segments.items + length k.plan.ops.items) is_q in let o = ap (λ (k : Planner). k.overdue) is_q in
+        omega arith);
     temps = subst (λ (k : Planner). AreTemps k.temps.items t) (sym is_q)
         (same_temps p.temps.items s (with_at s.alive c0 false) s.book t.values s.lines (λ c a. (fallen s c0 c a).1) st.temps);
     tempjobs = subst (λ (k : Planner). AreTempJobs p.tempjobs.items k.overdue t) (sym is_q)
@@ -127,9 +129,11 @@ module _ (script : Script) (table : Table) (begun : ScriptState) (n : ℕ) (foun
 all_below : (kinds : List NameKind) (made most : ℕ) (names : List ℕ) → all_used (record { kinds = kinds; made = made }) names ≡ true
     → ((n : ℕ) → uses (record { kinds = kinds; made = made }) n (kind.Handle ∷ []) ≡ true → n < most) → All (λ n. n < most) names
 all_below kinds made most [] h f k d lt = absurd (omega arith)
-all_below kinds made most (n ∷ more) h f zero d lt = f n (and_parts (uses (record { kinds = kinds; made = made }) n (kind.Handle ∷ [])) (all_used (record { kinds = kinds; made = made }) more) h).0
+all_below kinds made most (n ∷ more) h f zero d lt = f n (and_parts (uses (record { kinds = kinds; made = made }) n (kind.Handle ∷ []))
+    (all_used (record { kinds = kinds; made = made }) more) h).0
 all_below kinds made most (n ∷ more) h f (suc k) d lt =
-    all_below kinds made most more (and_parts (uses (record { kinds = kinds; made = made }) n (kind.Handle ∷ [])) (all_used (record { kinds = kinds; made = made }) more) h).1 f k d (omega arith)
+    all_below kinds made most more (and_parts (uses (record { kinds = kinds; made = made }) n (kind.Handle ∷ []))
+    (all_used (record { kinds = kinds; made = made }) more) h).1 f k d (omega arith)
 
 module _ (script : Script) (table : Table) (begun : ScriptState) (n : ℕ) (found : List ℕ) (line name : ℕ) (after : Vec ℕ Global) (handle : ℕ) where
   abbrev x_after : Statement
@@ -155,13 +159,16 @@ module _ (script : Script) (table : Table) (begun : ScriptState) (n : ℕ) (foun
     halves = and_parts (uses ns name DISPOSABLE && nat_le 1 (length after.items)) (makes ns handle kind.Handle && all_used ns after.items) fits.fits
 
     pub name_below : name < length g'.names
-    name_below = used_below script table n x_after step fits.made name DISPOSABLE (and_parts (uses ns name DISPOSABLE) (nat_le 1 (length after.items)) halves.0).0
+    name_below = used_below script table n x_after step fits.made name DISPOSABLE
+        (and_parts (uses ns name DISPOSABLE) (nat_le 1 (length after.items)) halves.0).0
 
     pub handle_below : handle < length g'.names
-    handle_below = made_below script table n x_after step fits.made handle kind.Handle (and_parts (makes ns handle kind.Handle) (all_used ns after.items) halves.1).0
+    handle_below = made_below script table n x_after step fits.made handle kind.Handle
+        (and_parts (makes ns handle kind.Handle) (all_used ns after.items) halves.1).0
 
     pub after_below : All (λ k. k < length p.values.items) after.items
-    after_below = all_below step.accepted.kinds fits.made (length p.values.items) after.items (and_parts (makes ns handle kind.Handle) (all_used ns after.items) halves.1).1
+    after_below = all_below step.accepted.kinds fits.made (length p.values.items) after.items
+        (and_parts (makes ns handle kind.Handle) (all_used ns after.items) halves.1).1
         (λ k h. let lt = used_below script table n x_after step fits.made k (kind.Handle ∷ []) h in let e = st.each in omega arith)
 
     module _ (jobs : Jobs) (are : (j : ℕ) → jobs j ≡ jobs_by p.handles.items p.values.items after.items j) where
@@ -169,15 +176,18 @@ module _ (script : Script) (table : Table) (begun : ScriptState) (n : ℕ) (foun
       jobs_are = λ i j. (are j ∙ all_named p.values.items p.handles.items (length p.containers.items) s' st.names after.items after_below j) i
 
       pub jobs_known : AreUpTo (count_of p.jobs) jobs
-      jobs_known = subst (AreUpTo (count_of p.jobs)) (sym jobs_are) (subst (λ k. AreUpTo k (jobs_named s' after.items)) (sym st.jobs.count) (named_among s' st.known after.items))
+      jobs_known = subst (AreUpTo (count_of p.jobs)) (sym jobs_are) (subst (λ k. AreUpTo k (jobs_named s' after.items)) (sym st.jobs.count)
+          (named_among s' st.known after.items))
 
       refusal_is : refusal g' s' x_after.act ≡ disposal s' name jobs
       refusal_is = ap (disposal s' name) (sym jobs_are)
 
-      pub after_refused : (m q : Planner) (cause : Refusal) → Answers p s' name jobs (Err cause) → IsPushed p m (record { line = line; name = name; act = Say cause })
+      pub after_refused : (m q : Planner) (cause : Refusal) → Answers p s' name jobs (Err cause)
+          → IsPushed p m (record { line = line; name = name; act = Say cause })
           → HasHandle m q handle nobody → HasStepped script table begun n found p q x_after
       after_refused m q cause a i e =
-          said_nobody script table begun n found x_after step (record { cause = cause; name = name }) p st (refusal_is ∙ sym a.0) name_below m q handle refl refl refl (inr (λ c. refl)) i e
+          said_nobody script table begun n found x_after step (record { cause = cause; name = name }) p st
+          (refusal_is ∙ sym a.0) name_below m q handle refl refl refl (inr (λ c. refl)) i e
 
       module _ (c : ℕ) (a : Answers p s' name jobs (Ok c)) where
         unrefused : refusal g' s' x_after.act ≡ None
@@ -187,7 +197,8 @@ module _ (script : Script) (table : Table) (begun : ScriptState) (n : ℕ) (foun
         is_alive' = alive_container s' (s'.values name) (disposed_alive s' name jobs (sym a.0))
 
         pub after_can_hold : CanHold p (slice_get p.containers.items c)
-        after_can_hold = can_hold p g' begun n s' found st (let few = statements_few script table n x_after step in omega arith) c a.1.1 (ap s'.alive (sym a.1.0) ∙ is_alive')
+        after_can_hold = can_hold p g' begun n s' found st (let few = statements_few script table n x_after step in omega arith) c a.1.1
+            (ap s'.alive (sym a.1.0) ∙ is_alive')
 
         pub after_held : (m q : Planner) → IsHeldBack p m c → HasHandle m q handle jobs → HasStepped script table begun n found p q x_after
         after_held m q i e =
@@ -206,7 +217,8 @@ module _ (p : Planner) (line name : ℕ) (after : Vec ℕ Global) (handle : ℕ)
     pub few : vec_len p.handles < 2 ^ 32
     pub after_in : All (λ k. k < vec_len p.values) after.items
     pub jobs : (jobs : Jobs) → ((j : ℕ) → jobs j ≡ jobs_by p.handles.items p.values.items after.items j) → AreUpTo (count_of p.jobs) jobs
-    pub holds : (jobs : Jobs) → ((j : ℕ) → jobs j ≡ jobs_by p.handles.items p.values.items after.items j) → (c : ℕ) → IsDisposable p name jobs (Ok c) → CanHold p (slice_get p.containers.items c)
+    pub holds : (jobs : Jobs) → ((j : ℕ) → jobs j ≡ jobs_by p.handles.items p.values.items after.items j) → (c : ℕ) → IsDisposable p name jobs (Ok c)
+        → CanHold p (slice_get p.containers.items c)
 
   pub after_ready : IsReady p statement → CanDispose
   after_ready ready =
@@ -215,20 +227,27 @@ module _ (p : Planner) (line name : ℕ) (after : Vec ℕ Global) (handle : ℕ)
       let s = state_at ready.0 b.table b.n in
       record {
         name_in = within p g b.begun b.n s b.found b.stands name (name_below ready.0 b.table b.begun b.n b.found line name after handle b.step p b.stands);
-        handle_in = within p g b.begun b.n s b.found b.stands handle (handle_below ready.0 b.table b.begun b.n b.found line name after handle b.step p b.stands);
+        handle_in = within p g b.begun b.n s b.found b.stands handle (handle_below ready.0 b.table b.begun b.n b.found line name after handle b.step p
+            b.stands);
         there = are_there p g b.begun b.n s b.found b.stands;
-        few = (let few = b.stands.numbers.handles_few in let most = statements_few ready.0 b.table b.n statement b.step in let len = p.handles.ok.0 in omega arith);
-        after_in = subst (λ most. All (λ k. k < most) after.items) (sym p.values.ok.0) (after_below ready.0 b.table b.begun b.n b.found line name after handle b.step p b.stands);
+        few = (let few = b.stands.numbers.handles_few in let most = statements_few ready.0 b.table b.n statement b.step in let len = p.handles.ok.0 in
+            omega arith);
+        after_in = subst (λ most. All (λ k. k < most) after.items) (sym p.values.ok.0)
+            (after_below ready.0 b.table b.begun b.n b.found line name after handle b.step p b.stands);
         jobs = jobs_known ready.0 b.table b.begun b.n b.found line name after handle b.step p b.stands;
-        holds = λ js are c answer. after_can_hold ready.0 b.table b.begun b.n b.found line name after handle b.step p b.stands js are c (answer g b.begun b.n s b.found b.stands);
+        holds = λ js are c answer. after_can_hold ready.0 b.table b.begun b.n b.found line name after handle b.step p b.stands js are c
+            (answer g b.begun b.n s b.found b.stands);
       }
 
   pub after_says : (m q : Planner) (jobs : Jobs) → ((j : ℕ) → jobs j ≡ jobs_by p.handles.items p.values.items after.items j) → (cause : Refusal)
-      → IsDisposable p name jobs (Err cause) → IsPushed p m (record { line = line; name = name; act = Say cause }) → HasHandle m q handle nobody → GoesOn p q statement
+      → IsDisposable p name jobs (Err cause) → IsPushed p m (record { line = line; name = name; act = Say cause }) → HasHandle m q handle nobody
+      → GoesOn p q statement
   after_says m q jobs are cause answer i e script table begun n found step st =
-      after_refused script table begun n found line name after handle step p st jobs are m q cause (answer (setting script table) begun n (state_at script table n) found st) i e
+      after_refused script table begun n found line name after handle step p st jobs are m q cause
+      (answer (setting script table) begun n (state_at script table n) found st) i e
 
   pub after_goes : (m q : Planner) (jobs : Jobs) → ((j : ℕ) → jobs j ≡ jobs_by p.handles.items p.values.items after.items j) → (c : ℕ)
       → IsDisposable p name jobs (Ok c) → IsHeldBack p m c → HasHandle m q handle jobs → GoesOn p q statement
   after_goes m q jobs are c answer i e script table begun n found step st =
-      after_held script table begun n found line name after handle step p st jobs are c (answer (setting script table) begun n (state_at script table n) found st) m q i e
+      after_held script table begun n found line name after handle step p st jobs are c
+      (answer (setting script table) begun n (state_at script table n) found st) m q i e

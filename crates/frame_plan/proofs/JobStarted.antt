@@ -66,11 +66,15 @@ use Rattle.frame_ast.specs.declared.script.NewJob.{NewJob}
 -- ---- the kernel's copy
 
 module _ (script : Script) (g : Setting) (is_g : g.kernels ≡ script.kernels.items) (p after middle : Planner) (kernel place : ℕ) (ks : AreKernels p g)
-    (kept : (after.kernels ≡ p.kernels) × (after.plan.kernels ≡ p.plan.kernels) × (after.guards ≡ p.guards)) (copied : IsCopied script after middle kernel place)
+    (kept : (after.kernels ≡ p.kernels) × (after.plan.kernels ≡ p.plan.kernels) × (after.guards ≡ p.guards))
+    (copied : IsCopied script after middle kernel place)
     (source : Kernel) (has_source : slice_get script.kernels.items kernel ≡ Some source) (checked : IsChecked source) where
   middle_is : middle ≡ record after { kernels = middle.kernels; plan = record after.plan { kernels = middle.plan.kernels } }
   middle_is = ⊎_elim
-      (λ l. let e : middle ≡ after = l.1 in e ∙ ap (λ (m : Planner). record after { kernels = m.kernels; plan = record after.plan { kernels = m.plan.kernels } }) (sym e))
+      (λ l. let e : middle ≡ after = l.1 in e ∙ ap (λ (m : Planner). record after {
+        kernels = m.kernels;
+        plan = record after.plan { kernels = m.plan.kernels };
+      }) (sym e))
       (λ r. r.rest)
       copied
 
@@ -101,7 +105,8 @@ module _ (script : Script) (g : Setting) (is_g : g.kernels ≡ script.kernels.it
         copy = r.copy;
         here =
             ap (λ xs. slice_get xs place) r.copies
-            ∙ (let e : place ≡ length after.plan.kernels.items + 0 = (let l = r.last in omega arith) in ap (slice_get (after.plan.kernels.items ++ r.copy ∷ [])) e)
+            ∙ (let e : place ≡ length after.plan.kernels.items + 0 = (let l = r.last in omega arith) in
+            ap (slice_get (after.plan.kernels.items ++ r.copy ∷ [])) e)
             ∙ get_behind after.plan.kernels.items (r.copy ∷ []) 0;
         same = subst (λ (k : Kernel). SameKernel k r.copy) (some_is (sym r.is_source ∙ has_source)) r.same;
       })
@@ -109,18 +114,25 @@ module _ (script : Script) (g : Setting) (is_g : g.kernels ≡ script.kernels.it
 
   copies_few : length middle.plan.kernels.items ≤ suc (length p.plan.kernels.items)
   copies_few = ⊎_elim
-      (λ l. let e : length middle.plan.kernels.items ≡ length p.plan.kernels.items = ap (λ (m : Planner). length m.plan.kernels.items) l.1 ∙ ap (λ (v : Vec Kernel Global). length v.items) kept.1 in omega arith)
+      (λ l. let e : length middle.plan.kernels.items ≡ length p.plan.kernels.items = ap (λ (m : Planner). length m.plan.kernels.items) l.1
+      ∙ ap (λ (v : Vec Kernel Global). length v.items) kept.1 in omega arith)
       (λ r.
-      let e : length middle.plan.kernels.items ≡ length after.plan.kernels.items + 1 = ap length r.copies ∙ length-append after.plan.kernels.items (r.copy ∷ []) in
+      let e : length middle.plan.kernels.items ≡ length after.plan.kernels.items + 1 = ap length r.copies
+      ∙ length-append after.plan.kernels.items (r.copy ∷ []) in
       let f : length after.plan.kernels.items ≡ length p.plan.kernels.items = ap (λ (v : Vec Kernel Global). length v.items) kept.1 in
       omega arith)
       copied
 
   -- what a whole plan has after them, it has after those so far
-  kernels_later : (all : List Kernel) → (rest : List Kernel) × (all ≡ middle.plan.kernels.items ++ rest) → (rest : List Kernel) × (all ≡ p.plan.kernels.items ++ rest)
+  kernels_later : (all : List Kernel) → (rest : List Kernel) × (all ≡ middle.plan.kernels.items ++ rest)
+      → (rest : List Kernel) × (all ≡ p.plan.kernels.items ++ rest)
   kernels_later all r = ⊎_elim
       (λ l. (r.0, r.1 ∙ ap (λ (m : Planner). m.plan.kernels.items ++ r.0) l.1 ∙ ap (λ (v : Vec Kernel Global). v.items ++ r.0) kept.1))
-      (λ a. (a.copy ∷ r.0, r.1 ∙ ap (λ xs. xs ++ r.0) a.copies ∙ append_assoc after.plan.kernels.items (a.copy ∷ []) r.0 ∙ ap (λ (v : Vec Kernel Global). v.items ++ a.copy ∷ r.0) kept.1))
+      (λ a. (
+        a.copy ∷ r.0,
+        r.1 ∙ ap (λ xs. xs ++ r.0) a.copies ∙ append_assoc after.plan.kernels.items (a.copy ∷ []) r.0
+            ∙ ap (λ (v : Vec Kernel Global). v.items ++ a.copy ∷ r.0) kept.1,
+      ))
       copied
 
   -- of a planner that has them
@@ -131,7 +143,16 @@ module _ (script : Script) (g : Setting) (is_g : g.kernels ≡ script.kernels.it
     copies = λ k at h. copy_at k at (ap (λ (v : Vec (Option ℕ) Global). slice_get v.items k) (sym kernels) ∙ h);
     guards = λ k at h.
         let c = ks.guards k at (ap (λ (v : Vec (Option ℕ) Global). slice_get v.items k) (sym guards) ∙ h) in
-        record { old = c.old; new = c.new; is_old = c.is_old; is_new = there at c.new (grown at c.new c.is_new); guarded = c.guarded; contents = c.contents; words = c.words; footprint = c.footprint };
+        record {
+          old = c.old;
+          new = c.new;
+          is_old = c.is_old;
+          is_new = there at c.new (grown at c.new c.is_new);
+          guarded = c.guarded;
+          contents = c.contents;
+          words = c.words;
+          footprint = c.footprint;
+        };
     checked = λ at k h. all_checked at k (ap (λ (v : Vec Kernel Global). slice_get v.items at) (sym copies) ∙ h);
   }
     where
@@ -145,14 +166,27 @@ module _ (script : Script) (g : Setting) (is_g : g.kernels ≡ script.kernels.it
           copied
 
       old_copy : (k at : ℕ) → slice_get p.kernels.items k ≡ Some (Some at) → IsCopy q g k at
-      old_copy k at h = (let c = ks.copies k at h in record { old = c.old; new = c.new; is_old = c.is_old; is_new = there at c.new (grown at c.new c.is_new); same = c.same })
+      old_copy k at h = (let c = ks.copies k at h in record {
+        old = c.old;
+        new = c.new;
+        is_old = c.is_old;
+        is_new = there at c.new (grown at c.new c.is_new);
+        same = c.same;
+      })
 
       new_copy : IsCopy q g kernel place
-      new_copy = (let c = has_copy in record { old = source; new = c.copy; is_old = ap (λ ks. slice_get ks kernel) is_g ∙ has_source; is_new = there place c.copy c.here; same = c.same })
+      new_copy = (let c = has_copy in record {
+        old = source;
+        new = c.copy;
+        is_old = ap (λ ks. slice_get ks kernel) is_g ∙ has_source;
+        is_new = there place c.copy c.here;
+        same = c.same;
+      })
 
       copy_at : (k at : ℕ) → slice_get middle.kernels.items k ≡ Some (Some at) → IsCopy q g k at
       copy_at k at h = ⊎_elim
-          (λ l. old_copy k at (ap (λ (v : Vec (Option ℕ) Global). slice_get v.items k) (sym kept.0) ∙ ap (λ (m : Planner). slice_get m.kernels.items k) (sym l.1) ∙ h))
+          (λ l. old_copy k at (ap (λ (v : Vec (Option ℕ) Global). slice_get v.items k) (sym kept.0)
+          ∙ ap (λ (m : Planner). slice_get m.kernels.items k) (sym l.1) ∙ h))
           (λ r. ⊎_elim
           (λ e. subst (λ k. IsCopy q g k at) (sym e.0) (subst (λ at. IsCopy q g kernel at) (sym (some_is e.1)) new_copy))
           (λ e. old_copy k at (ap (λ (v : Vec (Option ℕ) Global). slice_get v.items k) (sym kept.0) ∙ e.1))
@@ -161,7 +195,8 @@ module _ (script : Script) (g : Setting) (is_g : g.kernels ≡ script.kernels.it
 
       all_checked : (at : ℕ) (k : Kernel) → slice_get middle.plan.kernels.items at ≡ Some k → IsChecked k
       all_checked at k h = ⊎_elim
-          (λ l. ks.checked at k (ap (λ (v : Vec Kernel Global). slice_get v.items at) (sym kept.1) ∙ ap (λ (m : Planner). slice_get m.plan.kernels.items at) (sym l.1) ∙ h))
+          (λ l. ks.checked at k (ap (λ (v : Vec Kernel Global). slice_get v.items at) (sym kept.1)
+          ∙ ap (λ (m : Planner). slice_get m.plan.kernels.items at) (sym l.1) ∙ h))
           (λ r. ⊎_elim
           (λ e. ks.checked at k (ap (λ (v : Vec Kernel Global). slice_get v.items at) (sym kept.1) ∙ e.1))
           (λ e. last r e.0 e.2)
@@ -169,7 +204,8 @@ module _ (script : Script) (g : Setting) (is_g : g.kernels ≡ script.kernels.it
           copied
         where
           last : (r : IsCopiedAnew script after middle kernel place) (i : ℕ) → slice_get (r.copy ∷ []) i ≡ Some k → IsChecked k
-          last r zero e = subst IsChecked (some_is e) (same_kernels_are_checked source r.copy (subst (λ (k : Kernel). SameKernel k r.copy) (some_is (sym r.is_source ∙ has_source)) r.same) checked)
+          last r zero e = subst IsChecked (some_is e) (same_kernels_are_checked source r.copy
+              (subst (λ (k : Kernel). SameKernel k r.copy) (some_is (sym r.is_source ∙ has_source)) r.same) checked)
           last r (suc i) e = absurd (none_some e)
 
 -- ---- the job
@@ -185,13 +221,22 @@ module _ (script : Script) (table : Table) (begun : ScriptState) (n : ℕ) (foun
   x = Rattle.frame_plan.proofs.ScheduleText.x script table n line home asked
 
   abbrev pub o : Schedule
-  o = record { auto = asked.auto; handle = asked.handle; kernel = asked.kernel; args = asked.args.items; cut = asked.cut; waive = asked.waive.items; after = asked.after.items }
+  o = record {
+    auto = asked.auto;
+    handle = asked.handle;
+    kernel = asked.kernel;
+    args = asked.args.items;
+    cut = asked.cut;
+    waive = asked.waive.items;
+    after = asked.after.items;
+  }
 
   abbrev t : ScriptState
   t = accepted g s o
 
   module _ (step : IsStep script table n x) (text : IsText script table n line home asked step) (p : Planner) (st : StandsAt p script table begun n found)
-      (uses : List NamedUse) (named : Jobs) (are : ForNames (IsUse p named) text.source.params.items asked.args.items uses) (none : refusal g s x.act ≡ None) where
+      (uses : List NamedUse) (named : Jobs) (are : ForNames (IsUse p named) text.source.params.items asked.args.items uses)
+      (none : refusal g s x.act ≡ None) where
     accepted_as : IsAcceptedSchedule g s o
     accepted_as = (schedules_are_accepted script step.accepted table n x o step.here refl none).is_accepted
 
@@ -208,10 +253,12 @@ module _ (script : Script) (table : Table) (begun : ScriptState) (n : ℕ) (foun
     meant = uses_meant p g begun n s found st named ps asked.args.items uses are
 
     pub alive : AreAlive s gs
-    alive = subst (AreAlive s) gives_are (all_alive s _ (no_cause_given s (is_parallel g asked.kernel) asked.auto (givens s (params_of g asked.kernel) asked.args.items None) asked.after.items none).alive)
+    alive = subst (AreAlive s) gives_are (all_alive s _ (no_cause_given s (is_parallel g asked.kernel) asked.auto
+        (givens s (params_of g asked.kernel) asked.args.items None) asked.after.items none).alive)
 
     apart : AreApart gs
-    apart = args_apart s ps asked.args.items (written_arguments_are_unshared s ps asked.args.items None (subst (λ gs. Rattle.frame_ast.specs.Schedules.first_alias [] gs ≡ None) (ap (λ k. given_args s (kernel_params k) asked.args.items ++ []) text.has)
+    apart = args_apart s ps asked.args.items (written_arguments_are_unshared s ps asked.args.items None
+        (subst (λ gs. Rattle.frame_ast.specs.Schedules.first_alias [] gs ≡ None) (ap (λ k. given_args s (kernel_params k) asked.args.items ++ []) text.has)
         (no_cause_given s (is_parallel g asked.kernel) asked.auto (givens s (params_of g asked.kernel) asked.args.items None) asked.after.items none).alias))
 
     few : (c : ℕ) → s.view c < MOST_STATEMENTS
@@ -225,7 +272,8 @@ module _ (script : Script) (table : Table) (begun : ScriptState) (n : ℕ) (foun
     pub may_note_all : Rattle.frame_plan.specs.Noting.MayNoteAll uses (state_of p.safety)
     may_note_all = Rattle.frame_plan.proofs.Slots.may_note p s found named st.containers uses gs meant alive apart (state_of p.safety)
         (λ c it has is_alive. let k = st.containers.each c it has in (
-          (Rattle.std.proofs.lemmas.Bool.and_parts (state_of p.safety it.slot.0).live (nat_eq (state_of p.safety it.slot.0).version it.version.0) (k.alive ∙ is_alive)).0,
+          (Rattle.std.proofs.lemmas.Bool.and_parts (state_of p.safety it.slot.0).live (nat_eq (state_of p.safety it.slot.0).version it.version.0)
+              (k.alive ∙ is_alive)).0,
           λ w. subst (λ v. v < MOST_STATEMENTS) (sym (k.view is_alive)) (few c),
         ))
 
@@ -242,7 +290,8 @@ module _ (script : Script) (table : Table) (begun : ScriptState) (n : ℕ) (foun
     abbrev waited : Jobs
     waited = deps_of g s o
 
-    unpended : (if asked.auto then None else Rattle.frame_ast.specs.Refusals.pending s (jobs_named s asked.after.items) (needs (givens s (params_of g asked.kernel) asked.args.items None))) ≡ None
+    unpended : (if asked.auto then None else Rattle.frame_ast.specs.Refusals.pending s (jobs_named s asked.after.items)
+        (needs (givens s (params_of g asked.kernel) asked.args.items None))) ≡ None
     unpended = unpending s (is_parallel g asked.kernel) asked.auto (givens s (params_of g asked.kernel) asked.args.items None) asked.after.items none
 
     open_ : (j : ℕ) → 0 < j → j ≤ s.book.count → blocking s.book s.uses waited (needs gs) j ≡ false
@@ -252,7 +301,8 @@ module _ (script : Script) (table : Table) (begun : ScriptState) (n : ℕ) (foun
     pub waited_up : AreUpTo s.book.count waited
     waited_up = deps_up s st.known asked.auto asked.after.items (needs (givens s (params_of g asked.kernel) asked.args.items None)) unpended
 
-    module _ (new : Planner) (deps : Jobs) (deps_are : deps ≡ waited) (is : IsScheduled script p new asked.handle asked.kernel asked.args.items asked.cut asked.waive.items uses deps) where
+    module _ (new : Planner) (deps : Jobs) (deps_are : deps ≡ waited) (is : IsScheduled script p new asked.handle asked.kernel asked.args.items asked.cut
+        asked.waive.items uses deps) where
       abbrev middle : Planner
       middle = is.middle
 
@@ -326,19 +376,22 @@ module _ (script : Script) (table : Table) (begun : ScriptState) (n : ℕ) (foun
 
       named_at : IsNamed s t asked.handle (states.Handle (only (count_of p.jobs + 1)))
       named_at = record {
-        here = ap (λ b. if b then states.Handle (only (s.book.count + 1)) else s.values asked.handle) (eq-eqb asked.handle asked.handle refl) ∙ ap (λ k. states.Handle (only k)) (sym number_is);
+        here = ap (λ b. if b then states.Handle (only (s.book.count + 1)) else s.values asked.handle) (eq-eqb asked.handle asked.handle refl)
+            ∙ ap (λ k. states.Handle (only k)) (sym number_is);
         others = λ m ne. ap (λ b. if b then states.Handle (only (s.book.count + 1)) else s.values m) (ne_eqb m asked.handle ne);
       }
 
       -- the safety book
 
-      noted_of : (c : ℕ) (it : Container) → slice_get p.containers.items c ≡ Some it → s.alive c ≡ true → state_of is.after.safety it.slot.0 ≡ folded (suc s.book.count) c gs (state_of p.safety it.slot.0)
+      noted_of : (c : ℕ) (it : Container) → slice_get p.containers.items c ≡ Some it → s.alive c ≡ true
+          → state_of is.after.safety it.slot.0 ≡ folded (suc s.book.count) c gs (state_of p.safety it.slot.0)
       noted_of c it has is_alive =
           is.safety it.slot.0
           ∙ ap (λ k. noted_all k uses (state_of p.safety) it.slot.0) number
           ∙ noted_folded p s found named st.containers (suc s.book.count) uses gs meant alive c it has is_alive (state_of p.safety)
 
-      stand : (c : ℕ) (it : Container) → slice_get p.containers.items c ≡ Some it → s.alive c ≡ true → StandForUses (with_job s.book waited) (state_of is.after.safety it.slot.0).latest (t.uses c)
+      stand : (c : ℕ) (it : Container) → slice_get p.containers.items c ≡ Some it → s.alive c ≡ true
+          → StandForUses (with_job s.book waited) (state_of is.after.safety it.slot.0).latest (t.uses c)
       stand c it has is_alive =
           let k = st.containers.each c it has in
           let one : suc s.book.count ≡ s.book.count + 1 = omega arith in
@@ -410,7 +463,8 @@ module _ (script : Script) (table : Table) (begun : ScriptState) (n : ℕ) (foun
       agrees_back y a = record {
         begins = a.begins;
         names = a.names;
-        kernels = kernels_later script g refl p is.after middle asked.kernel is.job.kernel st.kernels kept is.copied text.source text.has text.checked y.plan.kernels.items a.kernels;
+        kernels = kernels_later script g refl p is.after middle asked.kernel is.job.kernel st.kernels kept is.copied text.source text.has text.checked
+            y.plan.kernels.items a.kernels;
         literals = a.literals;
         jobs = (is.job ∷ a.jobs.0, a.jobs.1 ∙ ap (λ js. js ++ a.jobs.0) jobs_are ∙ append_assoc p.plan.jobs.items (is.job ∷ []) a.jobs.0);
         starts = a.starts;
@@ -431,7 +485,8 @@ module _ (script : Script) (table : Table) (begun : ScriptState) (n : ℕ) (foun
           let was = st.planned y back in
           let before : p.jobs_before ≡ jobs_before y = st.numbers.before ∙ ap (λ (b : ScriptState). b.book.count) (sym a.begins) in
           let waits : deps ≡ deps_of h s o = deps_are ∙ copying.new_deps g s home asked text.source copy.copy text.has below copy.same in
-          let fit = same_args_fit s ps copy.copy.params.items asked.args.items copy.same.params (subst (λ k. ArgsFit s None (kernel_params k) asked.args.items) text.has accepted_as.args_fit) in
+          let fit = same_args_fit s ps copy.copy.params.items asked.args.items copy.same.params
+          (subst (λ k. ArgsFit s None (kernel_params k) asked.args.items) text.has accepted_as.args_fit) in
           let names_below = each_lower (length g.names) (length p.values.items) (let e = st.each in omega arith) asked.args.items text.below in
           let parallel = copy.same.parallel in
           record {
@@ -449,7 +504,8 @@ module _ (script : Script) (table : Table) (begun : ScriptState) (n : ℕ) (foun
                 ∙ same_job_binds p text.source.parallel asked.waive.items 0 ps copy.copy.params.items asked.args.items copy.same.params
                 ∙ ap (λ b. Rattle.frame_plan.specs.JobBinds.job_binds p b asked.waive.items 0 copy.copy.params.items asked.args.items) parallel
                 ∙ args_are p g begun n s found st y back copy.copy.parallel asked.waive.items 0 copy.copy.params.items asked.args.items names_below fit;
-            indexes = is.cut_by.indexes ∙ indexes_are s text.source.parallel asked.cut text.one ∙ ap (λ b. Rattle.frame_ast.specs.JobRuns.executes b (Rattle.frame_ast.specs.Orders.job_length s asked.cut None)) parallel;
+            indexes = is.cut_by.indexes ∙ indexes_are s text.source.parallel asked.cut text.one
+                ∙ ap (λ b. Rattle.frame_ast.specs.JobRuns.executes b (Rattle.frame_ast.specs.Orders.job_length s asked.cut None)) parallel;
             cut = record { step = is.cut_by.steps; pieces = is.cut_by.pieces; indexes = is.cut_by.few };
             one = λ seq.
                 let none = no_cut text.source.parallel asked.cut text.one (parallel ∙ seq) in
@@ -462,7 +518,8 @@ module _ (script : Script) (table : Table) (begun : ScriptState) (n : ℕ) (foun
                   let le = is.later_are.within.1 k d lt in
                   let count = was.ordered.count in
                   let known = st.jobs.count in
-                  let long : length y.plan.jobs.items ≡ length p.plan.jobs.items + length back.jobs.0 = ap length back.jobs.1 ∙ length-append p.plan.jobs.items back.jobs.0 in
+                  let long : length y.plan.jobs.items ≡ length p.plan.jobs.items + length back.jobs.0 = ap length back.jobs.1
+                  ∙ length-append p.plan.jobs.items back.jobs.0 in
                   omega arith,
             );
             deps_are = λ j. is.later_are.are j ∙ (λ i. later (before i) (waits i) j);
@@ -490,11 +547,13 @@ module _ (script : Script) (table : Table) (begun : ScriptState) (n : ℕ) (foun
           let same : length ended.handles.items ≡ length p.handles.items = ap (λ (k : Planner). length k.handles.items) ended_as in
           omega arith
 
-      with_job_is : newly.IsWithJob p g begun n s found st new.values new.handles is.after.jobs is.after.safety middle.kernels p.guards middle.plan.kernels ended.plan.segments ended.plan.jobs ended.plan.waits ended.plan.ops ended.plan.pieces
+      with_job_is : newly.IsWithJob p g begun n s found st new.values new.handles is.after.jobs is.after.safety middle.kernels p.guards middle.plan.kernels
+          ended.plan.segments ended.plan.jobs ended.plan.waits ended.plan.ops ended.plan.pieces
           t.values t.contents t.view t.uses waited t.traps is.started.segment is.job
       with_job_is = record {
         known = subst IsKnown acted (known_after script table n x step);
-        named = subst (AreNames new.values.items new.handles.items (length p.containers.items)) (accepted_is g s o) (handle_names ended new (length p.containers.items) s t asked.handle (only (count_of p.jobs + 1)) was is.named named_at);
+        named = subst (AreNames new.values.items new.handles.items (length p.containers.items)) (accepted_is g s o)
+            (handle_names ended new (length p.containers.items) s t asked.handle (only (count_of p.jobs + 1)) was is.named named_at);
         values_long = ap length is.named.values ∙ set_long ended.values.items asked.handle _ ∙ ap (λ (k : Planner). length k.values.items) ended_as;
         handles_few = grown_handles;
         form = λ c start lt. bind_by_form start (t.contents c) (s.contents c) (accepted_as.forms c lt);
@@ -505,7 +564,8 @@ module _ (script : Script) (table : Table) (begun : ScriptState) (n : ℕ) (foun
         unused = unused;
         held = held;
         book = subst (λ d. StandsFor is.after.jobs (with_job s.book d)) deps_are (is.jobs s.book st.jobs);
-        kernels_are = kernels_stand script g refl p is.after middle asked.kernel is.job.kernel st.kernels kept is.copied text.source text.has text.checked q refl refl refl;
+        kernels_are = kernels_stand script g refl p is.after middle asked.kernel is.job.kernel st.kernels kept is.copied text.source text.has text.checked q
+            refl refl refl;
         copies_few = copies_few script g refl p is.after middle asked.kernel is.job.kernel st.kernels kept is.copied text.source text.has text.checked;
         segments_are = segments_are;
         ops_were = ops_were;
@@ -525,7 +585,8 @@ module _ (script : Script) (table : Table) (begun : ScriptState) (n : ℕ) (foun
         binds_now =
             is.binds
             ∙ ap (λ (k : Kernel). Rattle.frame_plan.specs.JobBinds.job_binds p k.parallel asked.waive.items 0 k.params.items asked.args.items) source_same
-            ∙ args_are p g begun n s found st (growing.outline_by p script table begun n s found st starts) (growing.agrees_by p script table begun n s found st starts as_found)
+            ∙ args_are p g begun n s found st (growing.outline_by p script table begun n s found st starts)
+            (growing.agrees_by p script table begun n s found st starts as_found)
             text.source.parallel asked.waive.items 0 ps asked.args.items
             (each_lower (length g.names) (length p.values.items) (let e = st.each in omega arith) asked.args.items text.below)
             (subst (λ k. ArgsFit s None (kernel_params k) asked.args.items) text.has accepted_as.args_fit)
@@ -554,7 +615,8 @@ module _ (script : Script) (table : Table) (begun : ScriptState) (n : ℕ) (foun
         waits = ap (λ (k : Planner). k.plan.waits.items) new_as ∙ is.started.waits;
         ops = ap (λ (k : Planner). k.plan.ops.items) new_as ∙ is.started.ops;
         jobs = ap (λ (k : Planner). k.plan.jobs.items) new_as ∙ jobs_are;
-        kernels = kernels_later script g refl p is.after middle asked.kernel is.job.kernel st.kernels kept is.copied text.source text.has text.checked new.plan.kernels.items
+        kernels = kernels_later script g refl p is.after middle asked.kernel is.job.kernel st.kernels kept is.copied text.source text.has text.checked
+            new.plan.kernels.items
             ([], kernels_now ∙ sym (append-nil middle.plan.kernels.items));
         book = ap (λ (u : ScriptState). u.book) acted;
         job_is = job_is;
@@ -564,5 +626,6 @@ module _ (script : Script) (table : Table) (begun : ScriptState) (n : ℕ) (foun
       goes_on = growing.stepped script table begun n found line home (undeferred asked) p new step none st is.started.segment is.job waited has_started
           (subst (λ u. Stands new g begun (suc n) u found) (sym acted)
           (subst (λ k. Stands k g begun (suc n) as_t found) (sym new_as)
-          (newly.with_job_stands p g begun n s found st new.values new.handles is.after.jobs is.after.safety middle.kernels p.guards middle.plan.kernels ended.plan.segments ended.plan.jobs ended.plan.waits ended.plan.ops ended.plan.pieces
+          (newly.with_job_stands p g begun n s found st new.values new.handles is.after.jobs is.after.safety middle.kernels p.guards middle.plan.kernels
+          ended.plan.segments ended.plan.jobs ended.plan.waits ended.plan.ops ended.plan.pieces
           t.values t.contents t.view t.uses waited t.traps is.started.segment is.job with_job_is)))

@@ -31,11 +31,13 @@ has_more (i ∷ ids) n j = ap (λ b. nat_eq i.0 j || b) (has_more ids n j) ∙ o
     or_again true b c = refl
     or_again false b c = refl
 
-above_more : (ids : List JobId) (low n m : ℕ) → IsAbove low ids → ((k : ℕ) (d : JobId) → k < length ids → (get_or ids k d).0 ≤ n) → n < m → low ≤ n → IsAbove low (ids ++ id m ∷ [])
+above_more : (ids : List JobId) (low n m : ℕ) → IsAbove low ids → ((k : ℕ) (d : JobId) → k < length ids → (get_or ids k d).0 ≤ n) → n < m → low ≤ n
+    → IsAbove low (ids ++ id m ∷ [])
 above_more [] low n m a all lt le = (let x : low < m = omega arith in (x, tt))
 above_more (i ∷ ids) low n m a all lt le = (a.0, above_more ids i.0 n m a.1 (λ k d h. all (suc k) d (omega arith)) lt (all 0 i (omega arith)))
 
-all_more : (ids : List JobId) (n m : ℕ) → ((k : ℕ) (d : JobId) → k < length ids → (get_or ids k d).0 ≤ n) → n ≤ m → (k : ℕ) (d : JobId) → k < length (ids ++ id m ∷ []) → (get_or (ids ++ id m ∷ []) k d).0 ≤ m
+all_more : (ids : List JobId) (n m : ℕ) → ((k : ℕ) (d : JobId) → k < length ids → (get_or ids k d).0 ≤ n) → n ≤ m → (k : ℕ) (d : JobId)
+    → k < length (ids ++ id m ∷ []) → (get_or (ids ++ id m ∷ []) k d).0 ≤ m
 all_more [] n m all le zero d lt = omega arith
 all_more [] n m all le (suc k) d lt = absurd (omega arith)
 all_more (i ∷ ids) n m all le zero d lt = let h = all 0 i (omega arith) in omega arith
@@ -76,7 +78,8 @@ next_number before n j jobs le b is = by (nat_le (before + j) n) refl (nat_eq (n
     and_none true = refl
     and_none false = refl
 
-    by : (x : Bool) → nat_le (before + j) n ≡ x → (y : Bool) → nat_eq (n + 1 - before) j ≡ y → ((x && later before jobs j) || (b && y)) ≡ (nat_le (before + j) (n + 1) && later before jobs j)
+    by : (x : Bool) → nat_le (before + j) n ≡ x → (y : Bool) → nat_eq (n + 1 - before) j ≡ y
+        → ((x && later before jobs j) || (b && y)) ≡ (nat_le (before + j) (n + 1) && later before jobs j)
     by true e true f =
         let low = leb-true (before + j) n e in
         let same = eqb-true (n + 1 - before) j f in
@@ -107,7 +110,8 @@ next_number before n j jobs le b is = by (nat_le (before + j) n) refl (nat_eq (n
             let high = leb-false (before + j) n e in
             absurd (not_both (eq-eqb (n + 1 - before) j (omega arith)) f)
 
-pub number_taken : (before n : ℕ) (jobs : Jobs) (ids new : List JobId) → before ≤ n → AreSoFar before n jobs ids → jobs (n + 1) ≡ true → new ≡ ids ++ id (n + 1 - before) ∷ [] → AreSoFar before (n + 1) jobs new
+pub number_taken : (before n : ℕ) (jobs : Jobs) (ids new : List JobId) → before ≤ n → AreSoFar before n jobs ids → jobs (n + 1) ≡ true
+    → new ≡ ids ++ id (n + 1 - before) ∷ [] → AreSoFar before (n + 1) jobs new
 number_taken before n jobs ids new le so is e =
     let m = n + 1 - before in
     let lt : n - before < m = omega arith in
@@ -116,7 +120,8 @@ number_taken before n jobs ids new le so is e =
       λ j. has_more ids m j ∙ ap (λ b. b || nat_eq m j) (so.1 j) ∙ next_number before n j jobs le true (sym is),
     )
 
-pub number_passed : (before n : ℕ) (jobs : Jobs) (ids : List JobId) → before ≤ n → AreSoFar before n jobs ids → jobs (n + 1) ≡ false → AreSoFar before (n + 1) jobs ids
+pub number_passed : (before n : ℕ) (jobs : Jobs) (ids : List JobId) → before ≤ n → AreSoFar before n jobs ids → jobs (n + 1) ≡ false
+    → AreSoFar before (n + 1) jobs ids
 number_passed before n jobs ids le so is = (
   (so.0.0, λ k d h. let low = so.0.1 k d h in omega arith),
   λ j. so.1 j ∙ sym (or_none (nat_le (before + j) n && later before jobs j)) ∙ next_number before n j jobs le false (sym is),

@@ -22,8 +22,8 @@ use Rattle.frame_core.specs.declared.plan.JobPlan.{JobPlan}
 use Rattle.frame_core.specs.declared.plan.Segment.{Segment}
 use Rattle.frame_core.proofs.Small.{some_is, none_some, get_before, get_below}
 use Rattle.frame_plan.specs.declared.state.Planner.{Planner}
-use Rattle.frame_plan.specs.Growth.{span_by, greatest_end, StartAs, HasJobOf, IsJobOf, Schedules, SchedulesUnless, deps_after, Awaits, AwaitsUnless, IsStartedAfter, HasWaited, Grows}
-use Rattle.frame_plan.specs.Layouts.{span_of, spans_at, spans_between, carried_spans, HasItsJob, AreScheduled, HasRanges, HasGrown}
+use Rattle.frame_plan.specs.Growth.{span_by, greatest_end, StartAs, HasJobOf, IsJobOf, Schedules, SchedulesUnless, deps_after, Awaits, AwaitsUnless, IsStartedAfter, HasWaited, unless_none, newly_completed, Grows}
+use Rattle.frame_plan.specs.Layouts.{span_of, spans_at, spans_between, carried_spans, completed_at, completed_between, HasItsJob, AreScheduled, HasRanges, HasGrown}
 use Rattle.frame_plan.specs.Runs.{IsFurther, HasGone}
 use Rattle.frame_plan.specs.Steps.{state_at, StandsAt}
 use Rattle.frame_plan.proofs.Reaching.{next_state}
@@ -60,12 +60,28 @@ module _ (script : Script) (table : Table) (starts : Starts) where
       → spans_at script table starts n ≡ span_by g starts (at_place n) (at_place n).passing x.act
   span_here n x here = ap (span_of g starts (at_place n)) here
 
-  pub spans_more : (from n : ℕ) → from ≤ n → spans_between script table starts from (suc n) ≡ spans_between script table starts from n ++ spans_at script table starts n
+  pub spans_more : (from n : ℕ) → from ≤ n → spans_between script table starts from (suc n) ≡ spans_between script table starts from n
+      ++ spans_at script table starts n
   spans_more from n le = ap (λ b. if b then spans_between script table starts from n ++ spans_at script table starts n else []) (le-leb from n le)
 
   pub no_spans : (from : ℕ) → spans_between script table starts from from ≡ []
   no_spans zero = refl
   no_spans (suc n) = ap (λ b. if b then spans_between script table starts (suc n) n ++ spans_at script table starts n else []) (above n)
+    where
+      above : (n : ℕ) → nat_le (suc n) n ≡ false
+      above n = grind arith
+
+  -- so of what is newly completed
+
+  pub completed_more : (from n : ℕ) → from ≤ n
+      → completed_between script table from (suc n) ≡ completed_between script table from n ++ unless_none (completed_at script table from n)
+  completed_more from n le =
+      ap (λ b. if b then completed_between script table from n ++ unless_none (completed_at script table from n) else []) (le-leb from n le)
+
+  pub none_so_far : (from : ℕ) → completed_between script table from from ≡ []
+  none_so_far zero = refl
+  none_so_far (suc n) =
+      ap (λ b. if b then completed_between script table (suc n) n ++ unless_none (completed_at script table (suc n) n) else []) (above n)
     where
       above : (n : ℕ) → nat_le (suc n) n ≡ false
       above n = grind arith
@@ -86,8 +102,10 @@ module _ (script : Script) (table : Table) (starts : Starts) where
 
   -- ---- jobs: those so far stay, with their kernels and segments
 
-  job_later : (before : ℕ) (s : ScriptState) (deps : Jobs) (kernel : ℕ) (args : List Arg) (cut defer : Option (ℕ × ℕ)) (waive : List ℕ) (kernels more : List Kernel) (job : JobPlan)
-      → IsJobOf g starts before s deps kernel args cut defer waive kernels job → IsJobOf g starts before s deps kernel args cut defer waive (kernels ++ more) job
+  job_later : (before : ℕ) (s : ScriptState) (deps : Jobs) (kernel : ℕ) (args : List Arg) (cut defer : Option (ℕ × ℕ)) (waive : List ℕ)
+      (kernels more : List Kernel) (job : JobPlan)
+      → IsJobOf g starts before s deps kernel args cut defer waive kernels job
+      → IsJobOf g starts before s deps kernel args cut defer waive (kernels ++ more) job
   job_later before s deps kernel args cut defer waive kernels more job j = record {
     source = j.source;
     is_source = j.is_source;
@@ -101,7 +119,8 @@ module _ (script : Script) (table : Table) (starts : Starts) where
     deps = j.deps;
   }
 
-  has_later : (before : ℕ) (s : ScriptState) (deps : Jobs) (kernel : ℕ) (args : List Arg) (cut defer : Option (ℕ × ℕ)) (waive : List ℕ) (kernels more : List Kernel) (jobs later : List JobPlan) (k : ℕ)
+  has_later : (before : ℕ) (s : ScriptState) (deps : Jobs) (kernel : ℕ) (args : List Arg) (cut defer : Option (ℕ × ℕ)) (waive : List ℕ)
+      (kernels more : List Kernel) (jobs later : List JobPlan) (k : ℕ)
       → HasJobOf g starts before s deps kernel args cut defer waive kernels (slice_get jobs k)
       → HasJobOf g starts before s deps kernel args cut defer waive (kernels ++ more) (slice_get (jobs ++ later) k)
   has_later before s deps kernel args cut defer waive kernels more jobs later k = by (slice_get jobs k) refl
@@ -113,7 +132,8 @@ module _ (script : Script) (table : Table) (starts : Starts) where
           subst (HasJobOf g starts before s deps kernel args cut defer waive (kernels ++ more)) (sym (get_front jobs later k job e))
           (job_later before s deps kernel args cut defer waive kernels more job h)
 
-  started_later : (segments more : List Segment) (number before : ℕ) (completed : Jobs) → IsStartedAfter segments number before completed → IsStartedAfter (segments ++ more) number before completed
+  started_later : (segments more : List Segment) (number before : ℕ) (completed : Jobs) → IsStartedAfter segments number before completed
+      → IsStartedAfter (segments ++ more) number before completed
   started_later segments more number before completed h = record {
     earlier = h.earlier;
     segment = h.segment;
@@ -187,6 +207,9 @@ module _ (script : Script) (table : Table) (starts : Starts) where
             grows.kernels_are grows.jobs_are grows.segments_are h.jobs m y low (omega arith) there)
             (cases_eq m n);
         waited = subst (λ s. HasWaited before s q) (next_state script table n x here) (grows.waited h.waited);
+        waits = grows.waits
+            ∙ (let a = h.waits in let b = next_state script table n x here in λ i. a i ++ unless_none (newly_completed before (at_place n) (b i)))
+            ∙ sym (completed_more from n le);
       }
 
 -- ---- the loop over statements

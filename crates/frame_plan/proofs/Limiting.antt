@@ -26,7 +26,8 @@ above_true a b lt = grind arith
 
 pub passed_none : (jobs words : ℕ) → jobs ≤ MOST_JOBS → words ≤ MOST_CREATED_WORDS → passed jobs words ≡ None
 unfolding first_some
-passed_none jobs words few less = by (nat_lt MOST_JOBS jobs) (nat_lt MOST_CREATED_WORDS words) (below_false MOST_JOBS jobs few) (below_false MOST_CREATED_WORDS words less)
+passed_none jobs words few less = by (nat_lt MOST_JOBS jobs) (nat_lt MOST_CREATED_WORDS words) (below_false MOST_JOBS jobs few)
+    (below_false MOST_CREATED_WORDS words less)
   where
     by : (a b : Bool) → a ≡ false → b ≡ false → first_some (some_if a TooManyJobs ∷ some_if b TooManyWords ∷ []) ≡ None
     by true b e f = absurd cc
@@ -43,7 +44,8 @@ passed_jobs jobs words many = by (nat_lt MOST_JOBS jobs) (above_true MOST_JOBS j
 
 passed_words : (jobs words : ℕ) → jobs ≤ MOST_JOBS → MOST_CREATED_WORDS < words → passed jobs words ≡ Some TooManyWords
 unfolding first_some
-passed_words jobs words few many = by (nat_lt MOST_JOBS jobs) (nat_lt MOST_CREATED_WORDS words) (below_false MOST_JOBS jobs few) (above_true MOST_CREATED_WORDS words many)
+passed_words jobs words few many = by (nat_lt MOST_JOBS jobs) (nat_lt MOST_CREATED_WORDS words) (below_false MOST_JOBS jobs few)
+    (above_true MOST_CREATED_WORDS words many)
   where
     by : (a b : Bool) → a ≡ false → b ≡ true → first_some (some_if a TooManyJobs ∷ some_if b TooManyWords ∷ []) ≡ Some TooManyWords
     by true b e f = absurd cc
@@ -94,20 +96,26 @@ pub text_within : (g : Setting) (xs : List Statement) (s : ScriptState) (jobs wo
 text_within g xs s jobs words zero none few less most all = record { jobs = omega arith; words = omega arith }
 text_within g [] s jobs words (suc n) none few less most all = record { jobs = omega arith; words = omega arith }
 text_within g (x ∷ more) s jobs words (suc n) none few less most all =
-    let both = both_none (passed (jobs + job_of x.act) (words + words_by g x.act)) (limit_by_text g more (jobs + job_of x.act) (words + words_by g x.act)) none in
+    let both = both_none (passed (jobs + job_of x.act) (words + words_by g x.act))
+    (limit_by_text g more (jobs + job_of x.act) (words + words_by g x.act)) none in
     let within = passed_within (jobs + job_of x.act) (words + words_by g x.act) both.0 in
     let t = act_takes g s x in
     let jobs_to = t.jobs_to in
     let words_to = t.words_to in
     text_within g more (act g s x) (jobs + job_of x.act) (words + words_by g x.act) n both.1 (omega arith) (omega arith) within.0 within.1
 
-pub script_text_within : (script : Script) (table : Table) (n : ℕ) → limit_by_text (setting script table) script.statements.items 0 0 ≡ None → IsWithin (state_at script table n)
-script_text_within script table n none = text_within (setting script table) script.statements.items at_start 0 0 n none (omega arith) (omega arith) (omega arith) (omega arith)
+pub script_text_within : (script : Script) (table : Table) (n : ℕ) → limit_by_text (setting script table) script.statements.items 0 0 ≡ None
+    → IsWithin (state_at script table n)
+script_text_within script table n none = text_within (setting script table) script.statements.items at_start 0 0 n none (omega arith) (omega arith)
+    (omega arith) (omega arith)
 
 -- a run of such a script passes no limit
-pub text_passes_none : (script : Script) (table : Table) (fault : PlanFault) → limit_by_text (setting script table) script.statements.items 0 0 ≡ None → PassesOnce fault script table → fault ≡ NoMemory
-text_passes_none script table Jobs none p = let w = script_text_within script table (suc p.n) none in let few = w.jobs in let many : MOST_JOBS < (state_at script table (suc p.n)).book.count = p.passes in absurd (omega arith)
-text_passes_none script table Words none p = let w = script_text_within script table (suc p.n) none in let few = w.words in let many : MOST_CREATED_WORDS < (state_at script table (suc p.n)).created = p.passes in absurd (omega arith)
+pub text_passes_none : (script : Script) (table : Table) (fault : PlanFault) → limit_by_text (setting script table) script.statements.items 0 0 ≡ None
+    → PassesOnce fault script table → fault ≡ NoMemory
+text_passes_none script table Jobs none p = let w = script_text_within script table (suc p.n) none in let few = w.jobs in
+    let many : MOST_JOBS < (state_at script table (suc p.n)).book.count = p.passes in absurd (omega arith)
+text_passes_none script table Words none p = let w = script_text_within script table (suc p.n) none in let few = w.words in
+    let many : MOST_CREATED_WORDS < (state_at script table (suc p.n)).created = p.passes in absurd (omega arith)
 text_passes_none script table NoMemory none p = refl
 
 -- ---- by a run
@@ -128,11 +136,13 @@ pub run_none : (g : Setting) (xs : List Statement) (s : ScriptState) → IsWithi
 run_none g [] s w = refl
 run_none g (x ∷ more) s w =
     let here = all_grow g more (act g s x) w in
-    first_is (passed (act g s x).book.count (act g s x).created) (limit_by_run g more (act g s x)) (passed_none (act g s x).book.count (act g s x).created here.jobs here.words)
+    first_is (passed (act g s x).book.count (act g s x).created) (limit_by_run g more (act g s x))
+    (passed_none (act g s x).book.count (act g s x).created here.jobs here.words)
     ∙ run_none g more (act g s x) w
 
 -- the limit that a statement passes after a state within the limits
-passed_at : (g : Setting) (s : ScriptState) (x : Statement) (fault : PlanFault) → IsWithin s → PassesLimit fault (act g s x) → (fault ≡ NoMemory) ⊎ (passed (act g s x).book.count (act g s x).created ≡ limit_told fault)
+passed_at : (g : Setting) (s : ScriptState) (x : Statement) (fault : PlanFault) → IsWithin s → PassesLimit fault (act g s x)
+    → (fault ≡ NoMemory) ⊎ (passed (act g s x).book.count (act g s x).created ≡ limit_told fault)
 passed_at g s x NoMemory w p = inl refl
 passed_at g s x Jobs w p = inr (passed_jobs (act g s x).book.count (act g s x).created p)
 passed_at g s x Words w p =
@@ -142,28 +152,34 @@ passed_at g s x Words w p =
     let jobs_to = t.jobs_to in
     let words_to = t.words_to in
     let many : MOST_CREATED_WORDS < (act g s x).created = p in
-    inr (passed_words (act g s x).book.count (act g s x).created (⊎_elim (λ (e : job_of x.act ≡ 0). let none = e in omega arith) (λ (e : words_by g x.act ≡ 0). let none = e in absurd (omega arith)) (one_of g x.act)) p)
+    inr (passed_words (act g s x).book.count (act g s x).created (⊎_elim (λ (e : job_of x.act ≡ 0). let none = e in omega arith)
+    (λ (e : words_by g x.act ≡ 0). let none = e in absurd (omega arith)) (one_of g x.act)) p)
 
-some_limit : (fault : PlanFault) (o p : Option Limit) → (fault ≡ NoMemory) ⊎ (o ≡ limit_told fault) → (fault ≡ NoMemory) ⊎ (first_some (o ∷ p ∷ []) ≡ limit_told fault)
+some_limit : (fault : PlanFault) (o p : Option Limit) → (fault ≡ NoMemory) ⊎ (o ≡ limit_told fault)
+    → (fault ≡ NoMemory) ⊎ (first_some (o ∷ p ∷ []) ≡ limit_told fault)
 some_limit Jobs o p h = ⊎_elim inl (λ e. inr (first_told o p TooManyJobs e)) h
 some_limit Words o p h = ⊎_elim inl (λ e. inr (first_told o p TooManyWords e)) h
 some_limit NoMemory o p h = inl refl
 
-run_passes : (g : Setting) (xs : List Statement) (s : ScriptState) (n : ℕ) (fault : PlanFault) → n < length xs → IsWithin (act_all g (take n xs) s) → PassesLimit fault (act_all g (take (suc n) xs) s)
+run_passes : (g : Setting) (xs : List Statement) (s : ScriptState) (n : ℕ) (fault : PlanFault) → n < length xs → IsWithin (act_all g (take n xs) s)
+    → PassesLimit fault (act_all g (take (suc n) xs) s)
     → (fault ≡ NoMemory) ⊎ (limit_by_run g xs s ≡ limit_told fault)
 run_passes g [] s n fault lt w p = absurd (omega arith)
 run_passes g (x ∷ more) s zero fault lt w p = some_limit fault _ (limit_by_run g more (act g s x)) (passed_at g s x fault w p)
 run_passes g (x ∷ more) s (suc n) fault lt w p =
     let here = all_grow g (take n more) (act g s x) w in
-    ⊎_elim inl (λ e. inr (first_is (passed (act g s x).book.count (act g s x).created) (limit_by_run g more (act g s x)) (passed_none (act g s x).book.count (act g s x).created here.jobs here.words) ∙ e))
+    ⊎_elim inl (λ e. inr (first_is (passed (act g s x).book.count (act g s x).created) (limit_by_run g more (act g s x))
+    (passed_none (act g s x).book.count (act g s x).created here.jobs here.words) ∙ e))
     (run_passes g more (act g s x) n fault (omega arith) w p)
 
-pub script_run_passes : (script : Script) (table : Table) (fault : PlanFault) → PassesOnce fault script table → (fault ≡ NoMemory) ⊎ (limit_by_run (setting script table) script.statements.items at_start ≡ limit_told fault)
+pub script_run_passes : (script : Script) (table : Table) (fault : PlanFault) → PassesOnce fault script table
+    → (fault ≡ NoMemory) ⊎ (limit_by_run (setting script table) script.statements.items at_start ≡ limit_told fault)
 script_run_passes script table fault p = run_passes (setting script table) script.statements.items at_start p.n fault p.here p.within p.passes
 
 -- ---- the text, statement by statement
 
-module _ (g : Setting) (xs : List Statement) (i : ℕ) (x : Statement) (jobs words j w : ℕ) (lt : i < length xs) (is : x ≡ get_or xs i x) (j_is : j ≡ job_of x.act) (w_is : w ≡ words_by g x.act) where
+module _ (g : Setting) (xs : List Statement) (i : ℕ) (x : Statement) (jobs words j w : ℕ) (lt : i < length xs) (is : x ≡ get_or xs i x)
+    (j_is : j ≡ job_of x.act) (w_is : w ≡ words_by g x.act) where
   next : limit_by_text g (drop i xs) jobs words ≡ first_some (passed (jobs + j) (words + w) ∷ limit_by_text g (drop (i + 1) xs) (jobs + j) (words + w) ∷ [])
   next =
       let one : i + 1 ≡ suc i = omega arith in
@@ -172,10 +188,14 @@ module _ (g : Setting) (xs : List Statement) (i : ℕ) (x : Statement) (jobs wor
       ∙ (λ k. first_some (passed (jobs + sym j_is k) (words + sym w_is k) ∷ limit_by_text g (drop (i + 1) xs) (jobs + sym j_is k) (words + sym w_is k) ∷ []))
 
   pub text_jobs : MOST_JOBS < jobs + j → limit_by_text g (drop i xs) jobs words ≡ Some TooManyJobs
-  text_jobs many = next ∙ first_told (passed (jobs + j) (words + w)) (limit_by_text g (drop (i + 1) xs) (jobs + j) (words + w)) TooManyJobs (passed_jobs (jobs + j) (words + w) many)
+  text_jobs many = next ∙ first_told (passed (jobs + j) (words + w)) (limit_by_text g (drop (i + 1) xs) (jobs + j) (words + w)) TooManyJobs
+      (passed_jobs (jobs + j) (words + w) many)
 
   pub text_words : jobs + j ≤ MOST_JOBS → MOST_CREATED_WORDS < words + w → limit_by_text g (drop i xs) jobs words ≡ Some TooManyWords
-  text_words few many = next ∙ first_told (passed (jobs + j) (words + w)) (limit_by_text g (drop (i + 1) xs) (jobs + j) (words + w)) TooManyWords (passed_words (jobs + j) (words + w) few many)
+  text_words few many = next ∙ first_told (passed (jobs + j) (words + w)) (limit_by_text g (drop (i + 1) xs) (jobs + j) (words + w)) TooManyWords
+      (passed_words (jobs + j) (words + w) few many)
 
-  pub text_on : jobs + j ≤ MOST_JOBS → words + w ≤ MOST_CREATED_WORDS → limit_by_text g (drop (i + 1) xs) (jobs + j) (words + w) ≡ limit_by_text g (drop i xs) jobs words
-  text_on few less = sym (next ∙ first_is (passed (jobs + j) (words + w)) (limit_by_text g (drop (i + 1) xs) (jobs + j) (words + w)) (passed_none (jobs + j) (words + w) few less))
+  pub text_on : jobs + j ≤ MOST_JOBS → words + w ≤ MOST_CREATED_WORDS → limit_by_text g (drop (i + 1) xs) (jobs + j) (words + w) ≡ limit_by_text g
+      (drop i xs) jobs words
+  text_on few less = sym (next ∙ first_is (passed (jobs + j) (words + w)) (limit_by_text g (drop (i + 1) xs) (jobs + j) (words + w))
+      (passed_none (jobs + j) (words + w) few less))

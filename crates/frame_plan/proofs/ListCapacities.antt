@@ -70,7 +70,8 @@ broken_made (Entries room es) c s = refl
 resized_made : (name : ℕ) (r : Result Contents Trap) (s : ScriptState) → (views_broken name (changed name r s)).made ≡ s.made
 resized_made name r s = broken_made (contents_at (changed name r s) name) (container_at (changed name r s) name) (changed name r s) ∙ changed_made name r s
 
-effect_makes : (g : Setting) → RunsKeep g.runs → (line : ℕ) (ns : Names) (rest inside : ℕ) (s : ScriptState) (x : Order) → order_fits ns g.literals g.kernels rest inside x ≡ true → HoldsKinds ns.kinds s → Makes s (effect g line s x)
+effect_makes : (g : Setting) → RunsKeep g.runs → (line : ℕ) (ns : Names) (rest inside : ℕ) (s : ScriptState) (x : Order)
+    → order_fits ns g.literals g.kernels rest inside x ≡ true → HoldsKinds ns.kinds s → Makes s (effect g line s x)
 effect_makes g keep line ns rest inside s (Array name len life values) fits k = inr (refl, at_made s.contents s.made _ (array_small g len values))
 effect_makes g keep line ns rest inside s (Column name column life) fits k = inr (refl, at_made s.contents s.made _ (omega arith))
 effect_makes g keep line ns rest inside s (NewList name cap life) fits k =
@@ -86,7 +87,9 @@ effect_makes g keep line ns rest inside s (Clear name) fits k = inl (resized_mad
 effect_makes g keep line ns rest inside s (SetCapacity name cap) fits k = inl (resized_made name (capacity_in (contents_at s name) cap) s)
 effect_makes g keep line ns rest inside s (Schedule job) fits k =
     let both = and_parts (makes ns job.value.handle kind.Handle) _ fits in
-    inl (accept_after g keep ns s job.value.auto job.value.handle job.value.kernel job.value.args.items job.value.cut job.value.defer job.value.waive.items job.value.after.items (args_of ns (slice_get g.kernels job.value.kernel) job.value.args.items job.value.cut job.value.defer job.value.waive.items job.value.after.items both.1) k).made
+    inl (accept_after g keep ns s job.value.auto job.value.handle job.value.kernel job.value.args.items job.value.cut job.value.defer job.value.waive.items
+    job.value.after.items (args_of ns (slice_get g.kernels job.value.kernel) job.value.args.items job.value.cut job.value.defer job.value.waive.items
+    job.value.after.items both.1) k).made
 effect_makes g keep line ns rest inside s (Dispose name after None) fits k = inl refl
 effect_makes g keep line ns rest inside s (Dispose name after (Some handle)) fits k = inl refl
 effect_makes g keep line ns rest inside s x fits k = inl refl
@@ -123,8 +126,10 @@ module _ (script : Script) (is : IsAccepted script) (table : Table) where
         let h = after_small s small c lt ns g fits.rest fits.inside x.act fits.fits in omega arith in
         ⊎_elim
         (λ (e : t.made ≡ s.made). old (omega arith))
-        (λ (u : (t.made ≡ s.made + 1) × IsSmall (t.contents s.made)). ⊎_elim old (λ le. let same : s.made ≡ c = (let e = u.0 in omega arith) in subst (λ c. IsSmall (t.contents c)) same u.1) (cases_lt c s.made))
-        (effect_makes g (runs_keep script.kernels.items is.kernels) x.line ns fits.rest fits.inside s x.act fits.fits (names_keep_their_kinds script is table n))
+        (λ (u : (t.made ≡ s.made + 1) × IsSmall (t.contents s.made)). ⊎_elim old
+        (λ le. let same : s.made ≡ c = (let e = u.0 in omega arith) in subst (λ c. IsSmall (t.contents c)) same u.1) (cases_lt c s.made))
+        (effect_makes g (runs_keep script.kernels.items is.kernels) x.line ns fits.rest fits.inside s x.act fits.fits
+        (names_keep_their_kinds script is table n))
 
     act_small : AreSmall (act g s x)
     act_small = passing s.passing refl

@@ -26,7 +26,8 @@ array_given : (g : Setting) (len : ℕ) (values : Option ℕ) → IsGiven (optio
 array_given g len None = ap (λ n. Elements (replicate n (pos 0))) (length-replicate len (pos 0))
 array_given g len (Some n) = refl
 
-literal_long : (literals : List (List ℤ)) (n len : ℕ) → has_length len (slice_get literals n) ≡ true → (n < length literals) × (length (get_or literals n []) ≡ len)
+literal_long : (literals : List (List ℤ)) (n len : ℕ) → has_length len (slice_get literals n) ≡ true
+    → (n < length literals) × (length (get_or literals n []) ≡ len)
 literal_long [] n len e = absurd cc
 literal_long (x ∷ xs) zero len e = (omega arith, eqb-true (length x) len e)
 literal_long (x ∷ xs) (suc n) len e = let h = literal_long xs n len e in let lt = h.0 in (omega arith, h.1)
@@ -48,10 +49,12 @@ module _ (script : Script) (table : Table) (n line name len : ℕ) (life : Life)
   abbrev x : Statement
   x = record { line = line; act = Array name len life values }
 
-  fits : (makes (record { kinds = step.accepted.kinds; made = (fits_at script table n x step).made }) name kind.Array ≡ true) × (literal_fits g.literals len values ≡ true)
+  fits : (makes (record { kinds = step.accepted.kinds; made = (fits_at script table n x step).made }) name kind.Array ≡ true)
+      × (literal_fits g.literals len values ≡ true)
   fits =
       let f = fits_at script table n x step in
-      let a = and_parts (makes (record { kinds = step.accepted.kinds; made = f.made }) name kind.Array) (up_to MOST_ELEMENTS len && literal_fits g.literals len values) f.fits in
+      let a = and_parts (makes (record { kinds = step.accepted.kinds; made = f.made }) name kind.Array)
+      (up_to MOST_ELEMENTS len && literal_fits g.literals len values) f.fits in
       (a.0, (and_parts (up_to MOST_ELEMENTS len) (literal_fits g.literals len values) a.1).1)
 
   pub array_makes : Makes g x name life (new_array g len values)
@@ -93,7 +96,8 @@ column_given (Some xs) = refl
 
 module _ (script : Script) (table : Table) (n line name : ℕ) (column : Vec ℕ Global) (life : Life)
     (step : IsStep script table n (record { line = line; act = Column name column life })) where
-  pub column_makes : Makes (setting script table) (record { line = line; act = Column name column life }) name life (new_column (setting script table) column.items)
+  pub column_makes : Makes (setting script table) (record { line = line; act = Column name column life }) name life
+      (new_column (setting script table) column.items)
   column_makes =
       let x : Statement = record { line = line; act = Column name column life } in
       let f = fits_at script table n x step in
@@ -106,7 +110,8 @@ module _ (script : Script) (table : Table) (n line name : ℕ) (column : Vec ℕ
         takes = refl;
         job = tt;
         below = made_below script table n x step f.made name kind.Array
-            (and_parts (makes (record { kinds = step.accepted.kinds; made = f.made }) name kind.Array) (up_to MOST_COLUMN_BYTES (length column.items)) f.fits).0;
+            (and_parts (makes (record { kinds = step.accepted.kinds; made = f.made }) name kind.Array)
+            (up_to MOST_COLUMN_BYTES (length column.items)) f.fits).0;
       }
 
   pub column_is_given : (values : Option (List ℤ)) → values ≡ table column.items → IsGiven values (new_column (setting script table) column.items)
@@ -128,7 +133,8 @@ module _ (script : Script) (table : Table) (n line name cap : ℕ) (life : Life)
         passed = refl;
         takes = refl;
         job = tt;
-        below = made_below script table n x step f.made name kind.List (and_parts (makes (record { kinds = step.accepted.kinds; made = f.made }) name kind.List) (up_to MOST_ELEMENTS cap) f.fits).0;
+        below = made_below script table n x step f.made name kind.List (and_parts (makes (record { kinds = step.accepted.kinds; made = f.made }) name kind.List)
+            (up_to MOST_ELEMENTS cap) f.fits).0;
       }
 
 -- REFERENCES
@@ -170,7 +176,8 @@ module _ (script : Script) (table : Table) (n line name cap : ℕ) (life : Life)
         passed = refl;
         takes = refl;
         job = tt;
-        below = made_below script table n x step f.made name kind.Map (and_parts (makes (record { kinds = step.accepted.kinds; made = f.made }) name kind.Map) (up_to MOST_PAIRS cap) f.fits).0;
+        below = made_below script table n x step f.made name kind.Map (and_parts (makes (record { kinds = step.accepted.kinds; made = f.made }) name kind.Map)
+            (up_to MOST_PAIRS cap) f.fits).0;
       }
 
 -- STREAMS
@@ -196,5 +203,6 @@ module _ (script : Script) (table : Table) (n line name count room : ℕ) (life 
         takes = refl;
         job = tt;
         below = made_below script table n x step f.made name kind.Stream
-            (and_parts (makes (record { kinds = step.accepted.kinds; made = f.made }) name kind.Stream) (up_to MOST_STREAM_INDEXES count && up_to MOST_STREAM_ITEMS room) f.fits).0;
+            (and_parts (makes (record { kinds = step.accepted.kinds; made = f.made }) name kind.Stream)
+            (up_to MOST_STREAM_INDEXES count && up_to MOST_STREAM_ITEMS room) f.fits).0;
       }

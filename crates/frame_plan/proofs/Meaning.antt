@@ -72,7 +72,8 @@ module _ (p : Planner) (g : Setting) (begun : ScriptState) (m : ℕ) (s : Script
     kept : IsContainer p s found c it
     kept = st.containers.each c it has
 
-    answered : (r : Result (Unit {0}) Blocked) → IsAnswer (state_of p.safety it.slot.0) (tag_of it view) p.jobs after writes r → result_err r ≡ reason (s.alive c) (checks.is_stale view (s.view c))
+    answered : (r : Result (Unit {0}) Blocked) → IsAnswer (state_of p.safety it.slot.0) (tag_of it view) p.jobs after writes r
+        → result_err r ≡ reason (s.alive c) (checks.is_stale view (s.view c))
     answered r a = by (s.alive c) refl
       where
         by : (b : Bool) → s.alive c ≡ b → result_err r ≡ reason (s.alive c) (checks.is_stale view (s.view c))
@@ -84,7 +85,8 @@ module _ (p : Planner) (g : Setting) (begun : ScriptState) (m : ℕ) (s : Script
             ∙ ap (λ b. reason b (checks.is_stale view (state_of p.safety it.slot.0).view)) (kept.alive)
             ∙ ap (λ v. reason (s.alive c) (checks.is_stale view v)) (kept.view alive)
 
-    blocked_for : (o : Option Container) → o ≡ Some it → (b : Option Blocked) → IsBlockedBy p after (tag_by view o) writes b → b ≡ reason (s.alive c) (checks.is_stale view (s.view c))
+    blocked_for : (o : Option Container) → o ≡ Some it → (b : Option Blocked) → IsBlockedBy p after (tag_by view o) writes b
+        → b ≡ reason (s.alive c) (checks.is_stale view (s.view c))
     blocked_for None e b h = absurd (none_some e)
     blocked_for (Some other) e b h =
         h.2 ∙ answered h.0 (subst (λ (x : Container). IsAnswer (state_of p.safety x.slot.0) (tag_of x view) p.jobs after writes h.0) (some_is e) h.1)
@@ -94,7 +96,8 @@ module _ (p : Planner) (g : Setting) (begun : ScriptState) (m : ℕ) (s : Script
   pub record MeansValue (v : Value) : Type 0 where
     pub container : number_of_value v ≡ container_of (value_for p.handles.items v)
     pub temp : is_alive s (value_for p.handles.items v) ≡ true → is_temp_in p.containers.items v ≡ is_temp (s.life (number_of_value v))
-    pub blocked : (writes : Bool) (b : Option Blocked) → IsBlockedBy p after (tag_for p.containers.items v) writes b → b ≡ refused_value (value_for p.handles.items v) writes
+    pub blocked : (writes : Bool) (b : Option Blocked) → IsBlockedBy p after (tag_for p.containers.items v) writes b
+        → b ≡ refused_value (value_for p.handles.items v) writes
     pub known_by : is_alive s (value_for p.handles.items v) ≡ true → (it : Container)
         × (slice_get p.containers.items (number_of_value v) ≡ Some it)
         × ((tag : Tag) × (tag_for p.containers.items v ≡ Some tag) × (tag.slot ≡ it.slot))
@@ -103,7 +106,8 @@ module _ (p : Planner) (g : Setting) (begun : ScriptState) (m : ℕ) (s : Script
   life_is : (c : ℕ) (it : Container) → slice_get p.containers.items c ≡ Some it → is_temp_by (slice_get p.containers.items c) ≡ is_temp (s.life c)
   life_is c it has = ap is_temp_by has ∙ ap is_temp (st.containers.each c it has).life
 
-  pub tag_is : (c : ℕ) (it : Container) (view : Option ℕ) → slice_get p.containers.items c ≡ Some it → (tag : Tag) × (tag_in p.containers.items c view ≡ Some tag) × (tag.slot ≡ it.slot)
+  pub tag_is : (c : ℕ) (it : Container) (view : Option ℕ) → slice_get p.containers.items c ≡ Some it
+      → (tag : Tag) × (tag_in p.containers.items c view ≡ Some tag) × (tag.slot ≡ it.slot)
   tag_is c it view has = (tag_of it view, ap (tag_by view) has, refl)
 
   pub means : (v : Value) → IsThere (length p.containers.items) (length p.handles.items) v → MeansValue v
@@ -142,13 +146,18 @@ module _ (p : Planner) (g : Setting) (begun : ScriptState) (m : ℕ) (s : Script
         known_by = λ a. absurd (not_both a (ap (is_alive s) e));
       }
 
-  use_meant : (q : Param) (n : ℕ) (u : NamedUse) → IsUse p after q n u → IsMeant p s after u (record { need = need_of s n (writes_to q.access); kind = q.kind; is_length = false })
+  use_meant : (q : Param) (n : ℕ) (u : NamedUse) → IsUse p after q n u → IsMeant p s after u
+      (record { need = need_of s n (writes_to q.access); kind = q.kind; is_length = false })
   use_meant q n u is =
       let v = st.names.are n is.value is.has in
       let m = means is.value (st.names.there n is.value is.has) in
       let at : number_of_value is.value ≡ container_at s n = m.container ∙ ap container_of v in
       record {
-        given = λ i. record { need = record { name = is.named i; container = (is.container ∙ at) i; writes = writes_to (is.access i) }; kind = is.kind i; is_length = false };
+        given = λ i. record {
+          need = record { name = is.named i; container = (is.container ∙ at) i; writes = writes_to (is.access i) };
+          kind = is.kind i;
+          is_length = false;
+        };
         container_is = refl;
         blocked =
             m.blocked (writes_to u.access) u.blocked (subst (λ o. IsBlockedBy p after o (writes_to u.access) u.blocked) is.tag is.blocked)

@@ -13,14 +13,17 @@ use Rattle.frame_plan.specs.declared.state.Planner.{Planner}
 use Rattle.frame_plan.specs.Accesses.{IsPushed}
 use Rattle.frame_plan.specs.Capacity.{HasRegrown, HasBroken, IsMoved}
 
-module _ (old new : Planner) (line name number : ℕ) (it : Container) (at : ListAt) (cap : ℕ) (span : Span) (now : Container) (store : SlotStore) (safety : SafetyBook) (containers : Vec Container Global)
+module _ (old new : Planner) (line name number : ℕ) (it : Container) (at : ListAt) (cap : ℕ) (span : Span) (now : Container) (store : SlotStore)
+    (safety : SafetyBook) (containers : Vec Container Global)
     (created : ℕ) (pushed : IsPushed (record old { store = store; safety = safety; containers = containers; created = created }) new
     (record { line = line; name = name; act = Move (record { start = at.start; len = at.cap + 1 }) span })) where
   abbrev but_list : Planner → Planner
   but_list z = record old { store = z.store; safety = z.safety; containers = z.containers; created = z.created; plan = record old.plan { ops = z.plan.ops } }
 
-  pub moved : now.bind ≡ WholeList (record { start = span.start; cap = cap }) → now.slot ≡ it.slot → now.version ≡ it.version → now.life ≡ it.life → now.frame ≡ it.frame → now.name ≡ it.name
-      → now.line ≡ it.line → HasRegrown old.store store it.slot.0 (cap + 1) span → HasBroken old.safety safety it.slot.0 → containers.items ≡ slice_set old.containers.items number now
+  pub moved : now.bind ≡ WholeList (record { start = span.start; cap = cap }) → now.slot ≡ it.slot → now.version ≡ it.version → now.life ≡ it.life
+      → now.frame ≡ it.frame → now.name ≡ it.name
+      → now.line ≡ it.line → HasRegrown old.store store it.slot.0 (cap + 1) span → HasBroken old.safety safety it.slot.0
+      → containers.items ≡ slice_set old.containers.items number now
       → created ≡ old.created + (cap + 1) → IsMoved old new line name number it at cap
   moved bind slot version life frame name_is line_is regrown broken set more = record {
     span = span;

@@ -17,7 +17,8 @@ use Rattle.frame_plan.specs.Stands.{jobs_at, value_for, IsThere, AreNames}
 use Rattle.frame_plan.specs.Accesses.{HasHandle, jobs_by, jobs_for, jobs_of_value}
 
 -- a place of a list that was set
-pub set_either : {A : Type 0} (xs : List A) (n : ℕ) (y : A) (k : ℕ) (z : A) → slice_get (slice_set xs n y) k ≡ Some z → ((k ≡ n) × (z ≡ y)) ⊎ ((k ≢ n) × (slice_get xs k ≡ Some z))
+pub set_either : {A : Type 0} (xs : List A) (n : ℕ) (y : A) (k : ℕ) (z : A) → slice_get (slice_set xs n y) k ≡ Some z
+    → ((k ≡ n) × (z ≡ y)) ⊎ ((k ≢ n) × (slice_get xs k ≡ Some z))
 set_either [] n y k z e = absurd (none_some e)
 set_either (x ∷ xs) zero y zero z e = inl (refl, sym (some_is e))
 set_either (x ∷ xs) zero y (suc k) z e = inr (λ h. omega arith, e)
@@ -49,7 +50,8 @@ get_other (x ∷ xs) (suc n) y (suc k) ne = get_other xs n y k (λ e. ne (ap suc
 -- ---- the handles of names
 
 -- a name has a place
-pub own_place : (old : Planner) (handles : Vec Handle Global) (name place : ℕ) (h : Handle) → slice_get old.values.items name ≡ Some (Handles place) → place < length old.handles.items
+pub own_place : (old : Planner) (handles : Vec Handle Global) (name place : ℕ) (h : Handle) → slice_get old.values.items name ≡ Some (Handles place)
+    → place < length old.handles.items
     → handles.items ≡ slice_set old.handles.items place h → HasHandle old (record old { handles = handles }) name (jobs_of h)
 own_place old handles name place h is lt set = record {
   place = place;
@@ -62,7 +64,8 @@ own_place old handles name place h is lt set = record {
 
 -- or gets one
 pub new_place : (old : Planner) (values : Vec Value Global) (handles : Vec Handle Global) (name place : ℕ) (h : Handle) → place ≡ length old.handles.items
-    → handles.items ≡ old.handles.items ++ h ∷ [] → values.items ≡ slice_set old.values.items name (Handles place) → HasHandle old (record old { values = values; handles = handles }) name (jobs_of h)
+    → handles.items ≡ old.handles.items ++ h ∷ [] → values.items ≡ slice_set old.values.items name (Handles place)
+    → HasHandle old (record old { values = values; handles = handles }) name (jobs_of h)
 new_place old values handles name place h is pushed set = record {
   place = place;
   values = set;
@@ -73,10 +76,12 @@ new_place old values handles name place h is pushed set = record {
 }
   where
     at_end : slice_get (old.handles.items ++ h ∷ []) place ≡ Some h
-    at_end = (let e : place ≡ length old.handles.items + 0 = omega arith in ap (slice_get (old.handles.items ++ h ∷ [])) e) ∙ get_behind old.handles.items (h ∷ []) 0
+    at_end = (let e : place ≡ length old.handles.items + 0 = omega arith in ap (slice_get (old.handles.items ++ h ∷ [])) e)
+        ∙ get_behind old.handles.items (h ∷ []) 0
 
 -- the jobs of some names, and of one more
-jobs_both : (handles : List Handle) (values : List Value) (xs : List ℕ) (n : ℕ) (j : ℕ) → jobs_by handles values (xs ++ n ∷ []) j ≡ (jobs_by handles values xs j || jobs_for handles (slice_get values n) j)
+jobs_both : (handles : List Handle) (values : List Value) (xs : List ℕ) (n : ℕ) (j : ℕ)
+    → jobs_by handles values (xs ++ n ∷ []) j ≡ (jobs_by handles values xs j || jobs_for handles (slice_get values n) j)
 jobs_both handles values [] n j = or_none (jobs_for handles (slice_get values n) j)
   where
     or_none : (b : Bool) → (b || false) ≡ b
@@ -92,7 +97,8 @@ jobs_both handles values (x ∷ xs) n j =
 
 pub jobs_more : (handles : List Handle) (values : List Value) (names : List ℕ) (i n d : ℕ) (v : Value) (all more jobs : Handle)
     → ((j : ℕ) → jobs_of all j ≡ jobs_by handles values (take i names) j) → i < length names → get_or names i d ≡ n → slice_get values n ≡ Some v
-    → jobs_of jobs ≡ jobs_of_value handles v → jobs_of more ≡ both (jobs_of all) (jobs_of jobs) → (j : ℕ) → jobs_of more j ≡ jobs_by handles values (take (i + 1) names) j
+    → jobs_of jobs ≡ jobs_of_value handles v → jobs_of more ≡ both (jobs_of all) (jobs_of jobs) → (j : ℕ)
+    → jobs_of more j ≡ jobs_by handles values (take (i + 1) names) j
 jobs_more handles values names i n d v all more jobs so_far lt is read job joined j =
     let next : i + 1 ≡ suc i = omega arith in
     let split : take (i + 1) names ≡ take i names ++ n ∷ [] = ap (λ k. take k names) next ∙ take-suc names i d lt ∙ ap (λ m. take i names ++ m ∷ []) is in
@@ -108,7 +114,8 @@ pub record IsNamed (s t : ScriptState) (name : ℕ) (v : states.Value) : Type 0 
   pub others : (m : ℕ) → m ≢ name → t.values m ≡ s.values m
 
 -- no name changed
-pub same_names : (values : List Value) (handles : List Handle) (made : ℕ) (s t : ScriptState) → t.values ≡ s.values → AreNames values handles made s → AreNames values handles made t
+pub same_names : (values : List Value) (handles : List Handle) (made : ℕ) (s t : ScriptState) → t.values ≡ s.values → AreNames values handles made s
+    → AreNames values handles made t
 same_names values handles made s t e a = record { are = λ n v h. a.are n v h ∙ ap (λ f. f n) (sym e); there = a.there; apart = a.apart }
 
 -- one stands for no jobs now
@@ -151,7 +158,8 @@ module _ (p q : Planner) (made : ℕ) (s t : ScriptState) (name : ℕ) (jobs : J
       (λ r. (let e = r.0 in let f = r.1 in omega arith, let e = r.0 in let f = r.1 in omega arith))
       has.own
 
-  which_one : (n : ℕ) (u : Value) → slice_get q.values.items n ≡ Some u → ((n ≡ name) × (u ≡ Handles has.place)) ⊎ ((n ≢ name) × (slice_get p.values.items n ≡ Some u))
+  which_one : (n : ℕ) (u : Value) → slice_get q.values.items n ≡ Some u → ((n ≡ name) × (u ≡ Handles has.place))
+      ⊎ ((n ≢ name) × (slice_get p.values.items n ≡ Some u))
   which_one n u h = set_either p.values.items name (Handles has.place) n u (ap (λ vs. slice_get vs n) (sym has.values) ∙ h)
 
   -- another name's place is another one
@@ -175,7 +183,8 @@ module _ (p q : Planner) (made : ℕ) (s t : ScriptState) (name : ℕ) (jobs : J
   more (View c number) h = h
   more (Handles k) h = let le = handles_more.0 in omega arith
 
-  one_place : (n k : ℕ) → slice_get q.values.items n ≡ Some (Handles k) → ((n ≡ name) × (k ≡ has.place)) ⊎ ((n ≢ name) × (slice_get p.values.items n ≡ Some (Handles k)))
+  one_place : (n k : ℕ) → slice_get q.values.items n ≡ Some (Handles k) → ((n ≡ name) × (k ≡ has.place))
+      ⊎ ((n ≢ name) × (slice_get p.values.items n ≡ Some (Handles k)))
   one_place n k h = ⊎_elim (λ l. inl (l.0, same l.1)) (λ r. inr r) (which_one n (Handles k) h)
     where
       same : {k j : ℕ} → Handles k ≡ Handles j → k ≡ j

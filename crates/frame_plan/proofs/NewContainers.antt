@@ -107,7 +107,8 @@ as_many_names p q r len t xs literal took has name lt = subst (λ (z : Planner).
 
 pub as_many_containers : (p q r : Planner) (len : ℕ) (t : Taken) (xs : Option (List ℤ)) (literal : Option ℕ) → HasTaken p q len t → HasLiteralOf q r xs literal
     → vec_len p.containers < 2 ^ 32 → vec_len r.containers < 2 ^ 32
-as_many_containers p q r len t xs literal took has lt = subst (λ (z : Planner). vec_len z.containers < 2 ^ 32) (sym (taken_with p q r len t xs literal took has)) lt
+as_many_containers p q r len t xs literal took has lt = subst (λ (z : Planner). vec_len z.containers < 2 ^ 32)
+    (sym (taken_with p q r len t xs literal took has)) lt
 
 pub as_many_literals : (p q : Planner) (len : ℕ) (t : Taken) → HasTaken p q len t → vec_len p.plan.literals < 2 ^ 32 → vec_len q.plan.literals < 2 ^ 32
 as_many_literals p q len t took lt = subst (λ (z : Planner). vec_len z.plan.literals < 2 ^ 32) (sym took.rest) lt
@@ -169,7 +170,8 @@ module _ (script : Script) (table : Table) (begun : ScriptState) (n : ℕ) (x : 
       (makes.refusal_is s ∙ is_full s (words_of c) name (let k = st.numbers.live_words in omega arith)) makes.below
       l.said q name makes.made makes.lost makes.passed (inl refl) l.says l.renames
 
-  module _ (q r u : Planner) (t : Taken) (len : ℕ) (len_is : len ≡ words_of c) (took : HasTaken p q len t) (bind : Bind) (bind_is : bind ≡ bind_of t.span.start c)
+  module _ (q r u : Planner) (t : Taken) (len : ℕ) (len_is : len ≡ words_of c) (took : HasTaken p q len t) (bind : Bind)
+      (bind_is : bind ≡ bind_of t.span.start c)
       (xs : Option (List ℤ)) (given : IsGiven xs c) (literal : Option ℕ) (has : HasLiteralOf q r xs literal)
       (entered : IsEntered r u x.line name life t bind literal) where
     before : r ≡ record p { store = q.store; created = q.created; plan = record p.plan { literals = r.plan.literals } }
@@ -227,7 +229,8 @@ module _ (script : Script) (table : Table) (begun : ScriptState) (n : ℕ) (x : 
       containers_are = entered.containers ∙ ap (λ (z : Planner). z.containers.items ++ entered.it ∷ []) before;
       values_are = entered.values ∙ ap (λ (z : Planner). slice_set z.values.items name (Whole (length z.containers.items))) before;
       temps_are = entered.temps ∙ ap (λ (z : Planner). and_if (Rattle.frame_ast.specs.Refusals.is_temp life) z.temps.items (length z.containers.items)) before;
-      tempjobs_are = entered.tempjobs ∙ ap (λ (z : Planner). and_if (Rattle.frame_ast.specs.Effects.is_tempjob life) z.tempjobs.items (length z.containers.items)) before;
+      tempjobs_are = entered.tempjobs ∙ ap (λ (z : Planner). and_if (Rattle.frame_ast.specs.Effects.is_tempjob life) z.tempjobs.items
+          (length z.containers.items)) before;
       literals_more = more.0;
       literals_are = more.1;
       literals_one = more.2;
@@ -276,5 +279,6 @@ module _ (script : Script) (table : Table) (begun : ScriptState) (n : ℕ) (x : 
         (accepted few_words) makes.takes makes.job (ap (λ (z : ScriptState). z.book.completed) (acted few_words))
         (subst (λ z. Stands u g begun (suc n) z (found ++ t.span.start ∷ [])) (sym (acted few_words))
         (subst (λ z. Stands z g begun (suc n) (make x.line name life c s) (found ++ t.span.start ∷ [])) (sym after)
-        (made_stands p g begun n s found x.line name life c literal t entered.it q.store u.safety u.containers u.values u.temps u.tempjobs q.created r.plan.literals u.plan.ops st makes.below made_is
+        (made_stands p g begun n s found x.line name life c literal t entered.it q.store u.safety u.containers u.values u.temps u.tempjobs q.created
+        r.plan.literals u.plan.ops st makes.below made_is
         (λ y a. literal_is y a.literals.0 a.literals.1 xs literal given has))))

@@ -42,7 +42,8 @@ ops_more [] y = omega arith
 ops_more (x ∷ xs) y = let e = ops_more xs y in omega arith
 
 module _ (p : Planner) (g : Setting) (begun : ScriptState) (n : ℕ) (s : ScriptState) (found : List ℕ) (st : Stands p g begun n s found)
-    (values : Vec Value Global) (handles : Vec Handle Global) (jobs : JobBook) (safety : SafetyBook) (kernels guards : Vec (Option ℕ) Global) (copies : Vec Kernel Global)
+    (values : Vec Value Global) (handles : Vec Handle Global) (jobs : JobBook) (safety : SafetyBook) (kernels guards : Vec (Option ℕ) Global)
+    (copies : Vec Kernel Global)
     (segments : Vec Segment Global) (plan_jobs : Vec JobPlan Global) (waits : Vec JobId Global) (ops : Vec Op Global) (pieces : ℕ)
     (names : ℕ → states.Value) (contents : ℕ → Contents) (view : ℕ → ℕ) (uses : ℕ → Uses) (deps : Jobs) (traps : List JobTrap) where
   abbrev pub q : Planner
@@ -68,7 +69,8 @@ module _ (p : Planner) (g : Setting) (begun : ScriptState) (n : ℕ) (s : Script
     pub form : (c start : ℕ) → c < s.made → bind_of start (contents c) ≡ bind_of start (s.contents c)
     pub lives : (k : ℕ) → (state_of safety k).live ≡ (state_of p.safety k).live
     pub versions : (k : ℕ) → (state_of safety k).version ≡ (state_of p.safety k).version
-    pub stand : (c : ℕ) (it : Container) → slice_get p.containers.items c ≡ Some it → s.alive c ≡ true → StandForUses (with_job s.book deps) (state_of safety it.slot.0).latest (uses c)
+    pub stand : (c : ℕ) (it : Container) → slice_get p.containers.items c ≡ Some it → s.alive c ≡ true
+        → StandForUses (with_job s.book deps) (state_of safety it.slot.0).latest (uses c)
     pub views : (c : ℕ) (it : Container) → slice_get p.containers.items c ≡ Some it → s.alive c ≡ true → (state_of safety it.slot.0).view ≡ view c
     pub unused : (c : ℕ) → s.alive c ≡ false → (j : ℕ) → (uses c).users j ≡ (s.uses c).users j
     pub held : (c : ℕ) (l : Latest) → s.alive c ≡ false → StandForUses s.book l (s.uses c) → StandForUses (with_job s.book deps) l (uses c)
@@ -89,7 +91,8 @@ module _ (p : Planner) (g : Setting) (begun : ScriptState) (n : ℕ) (s : Script
         let set : Jobs = λ j. (s.uses c).users j && not (s.book.completed j) in
         let same : (λ j. (uses c).users j && not (s.book.completed j)) ≡ set = λ i j. is.unused c dead j i && not (s.book.completed j) in
         ap (λ f. not (nat_eq (greatest f (suc count)) 0)) same
-        ∙ ap (λ b. not (nat_eq (if b && not (s.book.completed (suc count)) then suc count else greatest set count) 0)) (none ((s.uses c).users (suc count)) refl)
+        ∙ ap (λ b. not (nat_eq (if b && not (s.book.completed (suc count)) then suc count else greatest set count) 0))
+        (none ((s.uses c).users (suc count)) refl)
       where
         none : (b : Bool) → (s.uses c).users (suc s.book.count) ≡ b → b ≡ false
         none true e = let up = ((st.known.uses c).users (suc s.book.count) e).1 in absurd (omega arith)
@@ -99,7 +102,8 @@ module _ (p : Planner) (g : Setting) (begun : ScriptState) (n : ℕ) (s : Script
     live_same c = by (s.alive c) refl
       where
         by : (b : Bool) → s.alive c ≡ b → is_live t c ≡ is_live s c
-        by true e = (λ i. nat_lt c s.made && (e i || has_pending (with_job s.book deps) (uses c))) ∙ sym (λ i. nat_lt c s.made && (e i || has_pending s.book (s.uses c)))
+        by true e = (λ i. nat_lt c s.made && (e i || has_pending (with_job s.book deps) (uses c)))
+            ∙ sym (λ i. nat_lt c s.made && (e i || has_pending s.book (s.uses c)))
         by false e = ap (λ b. nat_lt c s.made && (s.alive c || b)) (pending_same c e)
 
     was_live : (c : ℕ) → is_live t c ≡ true → is_live s c ≡ true
@@ -130,7 +134,12 @@ module _ (p : Planner) (g : Setting) (begun : ScriptState) (n : ℕ) (s : Script
           taken = k.taken;
           older = k.older;
           low = k.low;
-          held = λ dead e. (let h = k.held dead (was_live c e) in record { held = h.held; latest = h.latest; stands = is.held c h.latest dead h.stands; users = h.users });
+          held = λ dead e. (let h = k.held dead (was_live c e) in record {
+            held = h.held;
+            latest = h.latest;
+            stands = is.held c h.latest dead h.stands;
+            users = h.users;
+          });
         }
 
     owned_kept : (slot : ℕ) → IsOwned p s slot → IsOwned q t slot
@@ -153,7 +162,8 @@ module _ (p : Planner) (g : Setting) (begun : ScriptState) (n : ℕ) (s : Script
         let ops_long : ops_count segments.items ≡ ops_count p.plan.segments.items + length p.plan.ops.items =
         ap ops_count is.segments_are ∙ ops_more p.plan.segments.items segment ∙ ap (λ os. ops_count p.plan.segments.items + length os) is.ops_were in
         let no_ops : length ops.items ≡ 0 = ap length is.ops_are in
-        let more_segments : length segments.items ≡ length p.plan.segments.items + 1 = ap length is.segments_are ∙ length-append p.plan.segments.items (segment ∷ []) in
+        let more_segments : length segments.items ≡ length p.plan.segments.items + 1 = ap length is.segments_are
+        ∙ length-append p.plan.segments.items (segment ∷ []) in
         record {
           known = is.known;
           numbers = record {

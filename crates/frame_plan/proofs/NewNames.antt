@@ -55,7 +55,8 @@ use Rattle.frame_plan.proofs.Restating.{accepted_on, calm, changed_fields, said_
 named : (s : ScriptState) (name : ℕ) (v : states.Value) → IsNamed s (with_name name v s) name v
 named s name v = record { here = at_here s.values name v; others = λ m ne. at_other s.values name v m ne }
 
-module _ (script : Script) (table : Table) (begun : ScriptState) (n : ℕ) (found : List ℕ) (x : Statement) (step : IsStep script table n x) (p q : Planner) (name : ℕ) where
+module _ (script : Script) (table : Table) (begun : ScriptState) (n : ℕ) (found : List ℕ) (x : Statement) (step : IsStep script table n x) (p q : Planner)
+    (name : ℕ) where
   abbrev g : Setting
   g = setting script table
 
@@ -76,7 +77,14 @@ module _ (script : Script) (table : Table) (begun : ScriptState) (n : ℕ) (foun
         accepted_on script table begun n found x step p q st none plain (ap (λ (k : Planner). given_in k.plan.ops.items) e.rest)
         (calm p q g begun n s t found st
         (changed_fields p q q.values p.handles p.safety p.passing p.plan.ops e.rest)
-        (subst (λ (u : ScriptState). u ≡ record s { values = u.values; contents = u.contents; view = u.view; refused = u.refused; passing = u.passing; lines = u.lines }) (sym is) refl)
+        (subst (λ (u : ScriptState). u ≡ record s {
+          values = u.values;
+          contents = u.contents;
+          view = u.view;
+          refused = u.refused;
+          passing = u.passing;
+          lines = u.lines;
+        }) (sym is) refl)
         (ap (λ (k : Planner). k.safety) e.rest) (ap (λ (u : ScriptState). u.view) is) (ap (λ (u : ScriptState). u.contents) is)
         (ap (λ (k : Planner). k.passing) e.rest ∙ st.numbers.passing ∙ sym (ap (λ (u : ScriptState). u.passing) is))
         (ap length e.values ∙ set_long p.values.items name v) (let l = ap length handles in omega arith) (let l = ap length ops in omega arith))
@@ -85,7 +93,17 @@ module _ (script : Script) (table : Table) (begun : ScriptState) (n : ℕ) (foun
         (subst (λ u. IsNamed s u name w) (sym is) (named s name w))))
         (λ y a. subst (λ u. IsPlanned y u (draft_of q)) (sym is)
         (subst (λ k. IsPlanned y (with_name name w s) (draft_of k)) (sym e.rest)
-        (others_are_planned y s (with_name name w s) _ (record { made = refl; contents = refl; alive = refl; uses = refl; range = refl; book = refl; traps = refl; refused = refl; lines = refl }) (st.planned y a))))
+        (others_are_planned y s (with_name name w s) _ (record {
+          made = refl;
+          contents = refl;
+          alive = refl;
+          uses = refl;
+          range = refl;
+          book = refl;
+          traps = refl;
+          refused = refl;
+          lines = refl;
+        }) (st.planned y a))))
 
     -- with some jobs
     pub handle_on : (jobs : Jobs) → effect g x.line s x.act ≡ with_name name (states.Handle jobs) s → HasHandle p q name jobs → Onward
@@ -96,7 +114,14 @@ module _ (script : Script) (table : Table) (begun : ScriptState) (n : ℕ) (foun
         accepted_on script table begun n found x step p q st none plain (ap (λ (k : Planner). given_in k.plan.ops.items) e.rest)
         (calm p q g begun n s t found st
         (changed_fields p q q.values q.handles p.safety p.passing p.plan.ops e.rest)
-        (subst (λ (u : ScriptState). u ≡ record s { values = u.values; contents = u.contents; view = u.view; refused = u.refused; passing = u.passing; lines = u.lines }) (sym is) refl)
+        (subst (λ (u : ScriptState). u ≡ record s {
+          values = u.values;
+          contents = u.contents;
+          view = u.view;
+          refused = u.refused;
+          passing = u.passing;
+          lines = u.lines;
+        }) (sym is) refl)
         (ap (λ (k : Planner). k.safety) e.rest) (ap (λ (u : ScriptState). u.view) is) (ap (λ (u : ScriptState). u.contents) is)
         (ap (λ (k : Planner). k.passing) e.rest ∙ st.numbers.passing ∙ sym (ap (λ (u : ScriptState). u.passing) is))
         (ap length e.values ∙ set_long p.values.items name (Handles e.place))
@@ -104,10 +129,13 @@ module _ (script : Script) (table : Table) (begun : ScriptState) (n : ℕ) (foun
         (handle_names p q (length p.containers.items) s t name jobs st.names e is_named)
         (λ y a. subst (λ u. IsPlanned y u (draft_of q)) (sym is)
         (subst (λ k. IsPlanned y (with_name name (states.Handle jobs) s) (draft_of k)) (sym e.rest)
-        (others_are_planned y s (with_name name (states.Handle jobs) s) _ (record { made = refl; contents = refl; alive = refl; uses = refl; range = refl; book = refl; traps = refl; refused = refl; lines = refl }) (st.planned y a))))
+        (others_are_planned y s (with_name name (states.Handle jobs) s) _
+        (record { made = refl; contents = refl; alive = refl; uses = refl; range = refl; book = refl; traps = refl; refused = refl; lines = refl })
+        (st.planned y a))))
 
 -- a name of a container is no handle
-container_no_jobs : (s : ScriptState) (k : NameKind) (handles : List Handle) (v : Value) (j : ℕ) → IsOfKind s k (value_for handles v) → (k ≡ kind.Handle → ⊥) → j < length handles → v ≡ Handles j → ⊥
+container_no_jobs : (s : ScriptState) (k : NameKind) (handles : List Handle) (v : Value) (j : ℕ) → IsOfKind s k (value_for handles v) → (k ≡ kind.Handle → ⊥)
+    → j < length handles → v ≡ Handles j → ⊥
 container_no_jobs s k handles v j h other lt e =
     let at : (o : Option Handle) × (slice_get handles j ≡ o) = (slice_get handles j, refl) in
     by (slice_get handles j) (there handles j lt) (subst (λ v. IsOfKind s k (value_for handles v)) e h)
@@ -186,7 +214,8 @@ counted : (s : ScriptState) (n c : ℕ) → c < n → is_live s c ≡ true → w
 counted s zero c lt live = absurd (omega arith)
 counted s (suc n) c lt live = ⊎_elim
     (λ e.
-    let here : cond (is_live s n) (words_of (s.contents n)) 0 ≡ words_of (s.contents n) = ap (λ b. cond b (words_of (s.contents n)) 0) (subst (λ k. is_live s k ≡ true) e live) in
+    let here : cond (is_live s n) (words_of (s.contents n)) 0 ≡ words_of (s.contents n) =
+    ap (λ b. cond b (words_of (s.contents n)) 0) (subst (λ k. is_live s k ≡ true) e live) in
     let same : words_of (s.contents c) ≡ words_of (s.contents n) = ap (λ k. words_of (s.contents k)) e in
     omega arith)
     (λ ne. let le = counted s n c (omega arith) live in omega arith)
@@ -239,8 +268,10 @@ module _ (p : Planner) (g : Setting) (begun : ScriptState) (n : ℕ) (s : Script
   abbrev IsSliceable : NameKind → Type 0
   IsSliceable k = (k ≡ kind.Array) ⊎ (k ≡ kind.Slice)
 
-  elements_long : (k : NameKind) (v : Value) → IsSliceable k → IsOfKind s k (value_for p.handles.items v) → is_alive s (value_for p.handles.items v) ≡ true → IsThere (length p.containers.items) (length p.handles.items) v
-      → length_in (bind_by p.containers.items v) ≡ Some (length (value_elements (value_for p.handles.items v) (s.contents (states.container_of (value_for p.handles.items v)))))
+  elements_long : (k : NameKind) (v : Value) → IsSliceable k → IsOfKind s k (value_for p.handles.items v) → is_alive s (value_for p.handles.items v) ≡ true
+      → IsThere (length p.containers.items) (length p.handles.items) v
+      → length_in (bind_by p.containers.items v) ≡ Some (length (value_elements (value_for p.handles.items v)
+      (s.contents (states.container_of (value_for p.handles.items v)))))
   elements_long k Dead either h alive lt = absurd (not_both alive refl)
   elements_long k (Whole c) either h alive lt =
       let b = bind_read c (λ b. b) lt in
@@ -257,7 +288,8 @@ module _ (p : Planner) (g : Setting) (begun : ScriptState) (n : ℕ) (s : Script
       by (Some q) e = not_both e refl
 
   -- a part of it
-  part_there : (k : NameKind) (v : Value) (start len : ℕ) → start ≤ 1048576 → IsOfKind s k (value_for p.handles.items v) → is_alive s (value_for p.handles.items v) ≡ true
+  part_there : (k : NameKind) (v : Value) (start len : ℕ) → start ≤ 1048576 → IsOfKind s k (value_for p.handles.items v)
+      → is_alive s (value_for p.handles.items v) ≡ true
       → start + len ≤ length (value_elements (value_for p.handles.items v) (s.contents (states.container_of (value_for p.handles.items v))))
       → IsThere (length p.containers.items) (length p.handles.items) v
       → IsThere (length p.containers.items) (length p.handles.items) (part_by v start len)
@@ -363,7 +395,8 @@ module _ (line name of start len : ℕ) where
       }
 
   -- the length of its source
-  module _ (p : Planner) (script : Script) (table : Table) (begun : ScriptState) (n : ℕ) (found : List ℕ) (step : IsStep script table n slice) (st : Stands p (setting script table) begun n (state_at script table n) found)
+  module _ (p : Planner) (script : Script) (table : Table) (begun : ScriptState) (n : ℕ) (found : List ℕ) (step : IsStep script table n slice)
+      (st : Stands p (setting script table) begun n (state_at script table n) found)
       (v : Value) (h : slice_get p.values.items of ≡ Some v) (alive : is_alive (state_at script table n) ((state_at script table n).values of) ≡ true) where
     abbrev now : ScriptState
     now = state_at script table n
@@ -382,10 +415,12 @@ module _ (line name of start len : ℕ) where
 
     pub source_long : length_in (bind_by p.containers.items v) ≡ Some (length (value_elements (now.values of) (contents_at now of)))
     source_long =
-        elements_long p (setting script table) begun n now found st used.kind v (two_kinds used.kind kind.Array kind.Slice used.fits) held alive_for (st.names.there of v h)
+        elements_long p (setting script table) begun n now found st used.kind v (two_kinds used.kind kind.Array kind.Slice used.fits) held alive_for
+        (st.names.there of v h)
         ∙ ap (λ v. Some (length (value_elements v (now.contents (states.container_of v))))) stands
 
-    pub source_part : start + len ≤ length (value_elements (now.values of) (contents_at now of)) → IsThere (length p.containers.items) (length p.handles.items) (part_by v start len)
+    pub source_part : start + len ≤ length (value_elements (now.values of) (contents_at now of))
+        → IsThere (length p.containers.items) (length p.handles.items) (part_by v start len)
     source_part fits =
         part_there p (setting script table) begun n now found st used.kind v start len (slice_used script table n step).start_few held alive_for
         (subst (λ v. start + len ≤ length (value_elements v (now.contents (states.container_of v)))) (sym stands) fits) (st.names.there of v h)
@@ -397,7 +432,8 @@ module _ (line name of start len : ℕ) where
       let s = state_at script table n in
       sym (slice_decided g s ∙ ap (λ a. decide a (fits_in s)) (dead_by s of b (gone g begun n s found st) is))
 
-  pub slice_long : (p : Planner) (b : Bool) → IsGone p of b → b ≡ false → (v : Value) → slice_get p.values.items of ≡ Some v → (l : ℕ) → length_in (bind_by p.containers.items v) ≡ Some l → l < start + len
+  pub slice_long : (p : Planner) (b : Bool) → IsGone p of b → b ≡ false → (v : Value) → slice_get p.values.items of ≡ Some v → (l : ℕ)
+      → length_in (bind_by p.containers.items v) ≡ Some l → l < start + len
       → IsRefusal p slice of (Some PastRange)
   slice_long p b gone is v h l at lt script table begun n found step st =
       let g = setting script table in
@@ -407,7 +443,8 @@ module _ (line name of start len : ℕ) where
       let past : fits_in s ≡ false = grind arith in
       sym (slice_decided g s ∙ ap (λ a. decide a (fits_in s)) alive ∙ ap (decide true) past)
 
-  pub slice_fits : (p : Planner) (b : Bool) → IsGone p of b → b ≡ false → (v : Value) → slice_get p.values.items of ≡ Some v → (l : ℕ) → length_in (bind_by p.containers.items v) ≡ Some l → start + len ≤ l
+  pub slice_fits : (p : Planner) (b : Bool) → IsGone p of b → b ≡ false → (v : Value) → slice_get p.values.items of ≡ Some v → (l : ℕ)
+      → length_in (bind_by p.containers.items v) ≡ Some l → start + len ≤ l
       → IsRefusal p slice of None
   slice_fits p b gone is v h l at le script table begun n found step st =
       let g = setting script table in
@@ -418,7 +455,8 @@ module _ (line name of start len : ℕ) where
       sym (slice_decided g s ∙ ap (λ a. decide a (fits_in s)) alive ∙ ap (decide true) fits)
 
   -- and so its source has a length where it isn't gone
-  pub source_has : (p : Planner) → IsReady p slice → (b : Bool) → IsGone p of b → b ≡ false → (v : Value) → slice_get p.values.items of ≡ Some v → (l : ℕ) × (length_in (bind_by p.containers.items v) ≡ Some l)
+  pub source_has : (p : Planner) → IsReady p slice → (b : Bool) → IsGone p of b → b ≡ false → (v : Value) → slice_get p.values.items of ≡ Some v
+      → (l : ℕ) × (length_in (bind_by p.containers.items v) ≡ Some l)
   source_has p r b gone is v h =
       let i = r.1 in
       let g = setting r.0 i.table in
@@ -427,7 +465,8 @@ module _ (line name of start len : ℕ) where
       (length (value_elements (s.values of) (contents_at s of)), source_long p r.0 i.table i.begun i.n i.found i.step i.stands v h alive)
 
   -- and it goes on
-  pub slice_refused : (p m q : Planner) (cause : Refusal) → IsRefusal p slice of (Some cause) → IsPushed p m (record { line = line; name = of; act = Say cause }) → IsRenamed m q name Dead → GoesOn p q slice
+  pub slice_refused : (p m q : Planner) (cause : Refusal) → IsRefusal p slice of (Some cause)
+      → IsPushed p m (record { line = line; name = of; act = Say cause }) → IsRenamed m q name Dead → GoesOn p q slice
   slice_refused p m q cause is i e script table begun n found step st =
       let u = slice_used script table n step in
       said_dead script table begun n found slice step (record { cause = cause; name = of }) p st (sym (is script table begun n found step st))
@@ -438,7 +477,8 @@ module _ (line name of start len : ℕ) where
   accepted true false e = absurd (none_some (sym e))
   accepted true true e = (refl, refl)
 
-  pub slice_taken : (p q : Planner) (v : Value) → IsRefusal p slice of None → slice_get p.values.items of ≡ Some v → IsRenamed p q name (part_by v start len) → GoesOn p q slice
+  pub slice_taken : (p q : Planner) (v : Value) → IsRefusal p slice of None → slice_get p.values.items of ≡ Some v → IsRenamed p q name (part_by v start len)
+      → GoesOn p q slice
   slice_taken p q v is h e script table begun n found step st =
       let g = setting script table in
       let s = state_at script table n in
@@ -459,7 +499,8 @@ pub record IsWholeAt (p : Planner) (s : ScriptState) (v : Value) : Type 0 where
   pub has : slice_get p.containers.items c ≡ Some it
   pub alive : s.alive c ≡ true
 
-pub whole_at : (p : Planner) (s : ScriptState) (k : NameKind) (v : Value) → (k ≡ kind.Slice → ⊥) → (k ≡ kind.View → ⊥) → IsOfKind s k (value_for p.handles.items v) → is_alive s (value_for p.handles.items v) ≡ true
+pub whole_at : (p : Planner) (s : ScriptState) (k : NameKind) (v : Value) → (k ≡ kind.Slice → ⊥) → (k ≡ kind.View → ⊥)
+    → IsOfKind s k (value_for p.handles.items v) → is_alive s (value_for p.handles.items v) ≡ true
     → IsThere (length p.containers.items) (length p.handles.items) v → IsWholeAt p s v
 whole_at p s k Dead no_slice no_view h alive lt = absurd (not_both alive refl)
 whole_at p s k (Whole c) no_slice no_view h alive lt = let t = there p.containers.items c lt in record { c = c; it = t.0; is = refl; has = t.1; alive = alive }
@@ -515,7 +556,8 @@ module _ (line name of : ℕ) where
         there = are_there p g b.begun b.n s b.found b.stands;
       }
 
-  module _ (p : Planner) (script : Script) (table : Table) (begun : ScriptState) (n : ℕ) (found : List ℕ) (step : IsStep script table n viewing) (st : Stands p (setting script table) begun n (state_at script table n) found)
+  module _ (p : Planner) (script : Script) (table : Table) (begun : ScriptState) (n : ℕ) (found : List ℕ) (step : IsStep script table n viewing)
+      (st : Stands p (setting script table) begun n (state_at script table n) found)
       (v : Value) (h : slice_get p.values.items of ≡ Some v) (alive : is_alive (state_at script table n) ((state_at script table n).values of) ≡ true) where
     list_source : IsWholeAt p (state_at script table n) v
     list_source =
@@ -528,7 +570,8 @@ module _ (line name of : ℕ) where
         (subst (IsOfKind s used.kind) (sym stands) ((holds_kinds script table n viewing step).names of used.kind used.at))
         (ap (is_alive s) stands ∙ alive) (st.names.there of v h)
 
-  pub view_source : (p : Planner) → IsReady p viewing → (b : Bool) → IsGone p of b → b ≡ false → (v : Value) → slice_get p.values.items of ≡ Some v → IsWholeAlive p.safety p.containers.items v
+  pub view_source : (p : Planner) → IsReady p viewing → (b : Bool) → IsGone p of b → b ≡ false → (v : Value) → slice_get p.values.items of ≡ Some v
+      → IsWholeAlive p.safety p.containers.items v
   view_source p r b gone is v h =
       let i = r.1 in
       let s = state_at r.0 i.table i.n in
@@ -538,7 +581,8 @@ module _ (line name of : ℕ) where
       let live = (and_parts slot.live _ ((i.stands.containers.each l.c l.it l.has).alive ∙ l.alive)).0 in
       subst (IsWholeAlive p.safety p.containers.items) (sym l.is) (subst (IsLiveSlot p.safety) (sym l.has) live)
 
-  pub view_refused : (p m q : Planner) (b : Bool) → IsGone p of b → b ≡ true → IsPushed p m (record { line = line; name = of; act = Say Disposed }) → IsRenamed m q name Dead → GoesOn p q viewing
+  pub view_refused : (p m q : Planner) (b : Bool) → IsGone p of b → b ≡ true → IsPushed p m (record { line = line; name = of; act = Say Disposed })
+      → IsRenamed m q name Dead → GoesOn p q viewing
   view_refused p m q b gone is i e script table begun n found step st =
       let g = setting script table in
       let s = state_at script table n in
@@ -547,7 +591,8 @@ module _ (line name of : ℕ) where
       (view_decided g s ∙ ap unless_alive (dead_by s of b (gone g begun n s found st) is))
       (used_below script table n viewing step u.made of (kind.List ∷ []) u.uses_it) m q name refl refl refl (inr (λ c. refl)) i e
 
-  pub viewed : (p q : Planner) (b : Bool) → IsGone p of b → b ≡ false → (v : Value) → slice_get p.values.items of ≡ Some v → IsRenamed p q name (view_by p.safety p.containers.items v) → GoesOn p q viewing
+  pub viewed : (p q : Planner) (b : Bool) → IsGone p of b → b ≡ false → (v : Value) → slice_get p.values.items of ≡ Some v
+      → IsRenamed p q name (view_by p.safety p.containers.items v) → GoesOn p q viewing
   viewed p q b gone is v h e script table begun n found step st =
       let g = setting script table in
       let s = state_at script table n in
@@ -557,7 +602,8 @@ module _ (line name of : ℕ) where
       let now : view_by p.safety p.containers.items v ≡ View l.c (s.view l.c) =
       ap (view_by p.safety p.containers.items) l.is ∙ ap (λ o. view_of l.c (view_number p.safety o)) l.has ∙ ap (View l.c) (k.view l.alive) in
       let at : l.c ≡ container_at s of = ap states.container_of (sym (ap (value_for p.handles.items) l.is) ∙ st.names.are of v h) in
-      renamed_on script table begun n found viewing step p q name st (view_decided g s ∙ ap unless_alive a) (refl, tt) (View l.c (s.view l.c)) (states.View (container_at s of) (s.view (container_at s of))) refl
+      renamed_on script table begun n found viewing step p q name st (view_decided g s ∙ ap unless_alive a) (refl, tt) (View l.c (s.view l.c))
+      (states.View (container_at s of) (s.view (container_at s of))) refl
       (subst (IsRenamed p q name) now e) (get_below p.containers.items l.c l.it l.has) (λ k e. absurd cc) (ap (λ c. states.View c (s.view c)) at)
 
 -- ---- `combine`
@@ -573,7 +619,8 @@ jobs_value handles (Handles k) = by (slice_get handles k)
     by None = refl
     by (Some h) = refl
 
-pub jobs_are : (p : Planner) (s : ScriptState) (made : ℕ) → AreNames p.values.items p.handles.items made s → (names : List ℕ) → ((k d : ℕ) → k < length names → get_or names k d < length p.values.items) → (j : ℕ)
+pub jobs_are : (p : Planner) (s : ScriptState) (made : ℕ) → AreNames p.values.items p.handles.items made s → (names : List ℕ)
+    → ((k d : ℕ) → k < length names → get_or names k d < length p.values.items) → (j : ℕ)
     → jobs_by p.handles.items p.values.items names j ≡ jobs_named s names j
 jobs_are p s made are [] below j = refl
 jobs_are p s made are (x ∷ xs) below j =
@@ -581,7 +628,8 @@ jobs_are p s made are (x ∷ xs) below j =
     let here = ap (λ o. jobs_for p.handles.items o j) t.1 ∙ ap (λ f. f j) (jobs_value p.handles.items t.0) ∙ ap (λ v. states.jobs_of v j) (are.are x t.0 t.1) in
     λ i. here i || jobs_are p s made are xs (λ k d lt. below (suc k) d (omega arith)) j i
 
-all_below : (ns : Names) (m : ℕ) → ((n : ℕ) → uses ns n (kind.Handle ∷ []) ≡ true → n < m) → (names : List ℕ) → all_used ns names ≡ true → (k d : ℕ) → k < length names → get_or names k d < m
+all_below : (ns : Names) (m : ℕ) → ((n : ℕ) → uses ns n (kind.Handle ∷ []) ≡ true → n < m) → (names : List ℕ) → all_used ns names ≡ true → (k d : ℕ)
+    → k < length names → get_or names k d < m
 all_below ns m below [] is k d lt = absurd (omega arith)
 all_below ns m below (x ∷ xs) is zero d lt = below x (and_parts (uses ns x (kind.Handle ∷ [])) (all_used ns xs) is).0
 all_below ns m below (x ∷ xs) is (suc k) d lt = all_below ns m below xs (and_parts (uses ns x (kind.Handle ∷ [])) (all_used ns xs) is).1 k d (omega arith)
@@ -603,7 +651,8 @@ module _ (line name : ℕ) (of : Vec ℕ Global) where
       record {
         made = f.made;
         makes_it = both.0;
-        below = all_below ns (length (setting script table).names) (λ m is. used_below script table n combining step f.made m (kind.Handle ∷ []) is) of.items both.1;
+        below = all_below ns (length (setting script table).names) (λ m is. used_below script table n combining step f.made m (kind.Handle ∷ []) is) of.items
+            both.1;
       }
 
   pub record IsCombineReady (p : Planner) : Type 0 where
@@ -622,10 +671,12 @@ module _ (line name : ℕ) (of : Vec ℕ Global) where
         of_in = λ k d lt. within p g b.begun b.n s b.found b.stands (get_or of.items k d) (u.below k d lt);
         name_in = within p g b.begun b.n s b.found b.stands name (made_below r.0 b.table b.n combining b.step u.made name kind.Handle u.makes_it);
         there = are_there p g b.begun b.n s b.found b.stands;
-        few = (let le = b.stands.numbers.handles_few in let lt = statements_few r.0 b.table b.n combining b.step in let len = p.handles.ok.0 in let most : MOST_STATEMENTS ≤ 1048576 = omega arith in omega arith);
+        few = (let le = b.stands.numbers.handles_few in let lt = statements_few r.0 b.table b.n combining b.step in let len = p.handles.ok.0 in
+            let most : MOST_STATEMENTS ≤ 1048576 = omega arith in omega arith);
       }
 
-  pub combined : (p q : Planner) (jobs : Handle) → ((j : ℕ) → jobs_of jobs j ≡ jobs_by p.handles.items p.values.items of.items j) → HasHandle p q name (jobs_of jobs) → GoesOn p q combining
+  pub combined : (p q : Planner) (jobs : Handle) → ((j : ℕ) → jobs_of jobs j ≡ jobs_by p.handles.items p.values.items of.items j)
+      → HasHandle p q name (jobs_of jobs) → GoesOn p q combining
   combined p q jobs are e script table begun n found step st =
       let g = setting script table in
       let s = state_at script table n in

@@ -53,7 +53,8 @@ module _ (job c : ℕ) where
   pub folded_view : (gs : List Given) (st : SlotState) (s : ScriptState) → st.view ≡ s.view c → (folded gs st).view ≡ (all_broken gs s).view c
   folded_view [] st s e = e
   folded_view (g ∷ gs) st s e =
-      folded_view gs (if nat_eq c g.need.container then given_state g st else st) (if is_list g.kind && g.need.writes then view_broken g.need.container s else s)
+      folded_view gs (if nat_eq c g.need.container then given_state g st else st)
+      (if is_list g.kind && g.need.writes then view_broken g.need.container s else s)
       (by (nat_eq c g.need.container) refl (is_list g.kind && g.need.writes))
     where
       with_view : Bool → SlotState
@@ -98,7 +99,8 @@ module _ (job c : ℕ) where
       rest = or_false_right (g.need.writes && nat_eq c g.need.container) (writes_it (needs gs) c) e
 
       reads : nat_eq c g.need.container ≡ true → g.need.writes ≡ false
-      reads h = first g.need.writes (ap (λ b. g.need.writes && b) (sym h) ∙ or_false_left (g.need.writes && nat_eq c g.need.container) (writes_it (needs gs) c) e)
+      reads h = first g.need.writes (ap (λ b. g.need.writes && b) (sym h)
+          ∙ or_false_left (g.need.writes && nat_eq c g.need.container) (writes_it (needs gs) c) e)
         where
           first : (w : Bool) → (w && true) ≡ false → w ≡ false
           first true h = absurd cc
@@ -110,11 +112,13 @@ module _ (job c : ℕ) where
       twice false false true = refl
       twice false false false = refl
 
-      by : ((st : SlotState) → writes_it (needs gs) c ≡ false → IsRead (uses_it (needs gs) c) st.latest (folded gs st).latest) → (x : Bool) → nat_eq c g.need.container ≡ x → IsRead (x || uses_it (needs gs) c) st.latest (folded gs (if x then given_state g st else st)).latest
+      by : ((st : SlotState) → writes_it (needs gs) c ≡ false → IsRead (uses_it (needs gs) c) st.latest (folded gs st).latest) → (x : Bool)
+          → nat_eq c g.need.container ≡ x → IsRead (x || uses_it (needs gs) c) st.latest (folded gs (if x then given_state g st else st)).latest
       by step false h = step st rest
       by step true h =
           let more = step (given_state g st) rest in
-          let read : (given_state g st).latest ≡ noted_read st.latest job = ap (λ w. if w then noted_write st.latest job else noted_read st.latest job) (reads h) in
+          let read : (given_state g st).latest ≡ noted_read st.latest job =
+          ap (λ w. if w then noted_write st.latest job else noted_read st.latest job) (reads h) in
           record {
             writer = more.writer ∙ ap (λ (l : Latest). l.writer) read;
             readers = λ j.
@@ -167,7 +171,8 @@ args_apart s ps as_ u = go ps as_ u
     go (p ∷ ps) (Number z ∷ as_) u = go ps as_ u.1
 
 -- the last writer is that job
-folded_written : (job c : ℕ) (gs : List Given) (st : SlotState) → AreApart gs → writes_it (needs gs) c ≡ true → (folded job c gs st).latest ≡ noted_write st.latest job
+folded_written : (job c : ℕ) (gs : List Given) (st : SlotState) → AreApart gs → writes_it (needs gs) c ≡ true
+    → (folded job c gs st).latest ≡ noted_write st.latest job
 folded_written job c [] st a e = absurd (not_both e refl)
 folded_written job c (g ∷ gs) st a e = by (folded_written job c gs st a.2) (nat_eq c g.need.container) refl g.need.writes refl
   where
@@ -176,13 +181,16 @@ folded_written job c (g ∷ gs) st a e = by (folded_written job c gs st a.2) (na
         ap (λ (x : SlotState). x.latest) (folded_unused job c gs (given_state job c g st) (a.0 c h w))
         ∙ ap (λ w. if w then noted_write st.latest job else noted_read st.latest job) w
     here false w h =
-        absurd (not_both (⊎_elim (λ x. absurd (not_both (and_parts g.need.writes (nat_eq c g.need.container) x).0 w)) (λ x. x) (or_cases (g.need.writes && nat_eq c g.need.container) (writes_it (needs gs) c) e)) (a.1 c h))
+        absurd (not_both (⊎_elim (λ x. absurd (not_both (and_parts g.need.writes (nat_eq c g.need.container) x).0 w)) (λ x. x)
+        (or_cases (g.need.writes && nat_eq c g.need.container) (writes_it (needs gs) c) e)) (a.1 c h))
 
-    by : (writes_it (needs gs) c ≡ true → (folded job c gs st).latest ≡ noted_write st.latest job) → (x : Bool) → nat_eq c g.need.container ≡ x → (w : Bool) → g.need.writes ≡ w → (folded job c gs (if x then given_state job c g st else st)).latest ≡ noted_write st.latest job
+    by : (writes_it (needs gs) c ≡ true → (folded job c gs st).latest ≡ noted_write st.latest job) → (x : Bool) → nat_eq c g.need.container ≡ x → (w : Bool)
+        → g.need.writes ≡ w → (folded job c gs (if x then given_state job c g st else st)).latest ≡ noted_write st.latest job
     by rest true h w is = here w is h
     by rest false h w is =
         rest
-        (⊎_elim (λ x. absurd (not_both (and_parts g.need.writes (nat_eq c g.need.container) x).1 h)) (λ x. x) (or_cases (g.need.writes && nat_eq c g.need.container) (writes_it (needs gs) c) e))
+        (⊎_elim (λ x. absurd (not_both (and_parts g.need.writes (nat_eq c g.need.container) x).1 h)) (λ x. x)
+        (or_cases (g.need.writes && nat_eq c g.need.container) (writes_it (needs gs) c) e))
 
 -- ---- what isn't blocked
 
@@ -209,7 +217,8 @@ module _ (b : Book) (uses : ℕ → Uses) (deps : Jobs) (c j : ℕ) where
   weaker false true h false false e k = refl
   weaker false false h u v e k = e
 
-  free : (gs : List Given) (w : Bool) → (if w then writes_it (needs gs) c else uses_it (needs gs) c) ≡ true → blocking b uses deps (needs gs) j ≡ false → of w ≡ false
+  free : (gs : List Given) (w : Bool) → (if w then writes_it (needs gs) c else uses_it (needs gs) c) ≡ true → blocking b uses deps (needs gs) j ≡ false
+      → of w ≡ false
   free [] true e h = absurd (not_both e refl)
   free [] false e h = absurd (not_both e refl)
   free (g ∷ gs) true e h = ⊎_elim
@@ -225,7 +234,8 @@ module _ (b : Book) (uses : ℕ → Uses) (deps : Jobs) (c j : ℕ) where
       let first = or_false_left (blockers b (uses g.need.container) deps g.need.writes j) (blocking b uses deps (needs gs) j) h in
       let at = eqb-true c g.need.container x in
       subst (λ k. blockers b (uses k) deps false j ≡ false) (sym at)
-      (weaker false g.need.writes (not (happens_before b deps j)) ((uses g.need.container).users j) ((uses g.need.container).writers j) first (λ w. absurd (not_both w refl))))
+      (weaker false g.need.writes (not (happens_before b deps j)) ((uses g.need.container).users j) ((uses g.need.container).writers j) first
+      (λ w. absurd (not_both w refl))))
       (λ x. free gs false x (or_false_right (blockers b (uses g.need.container) deps g.need.writes j) (blocking b uses deps (needs gs) j) h))
       (or_cases (nat_eq c g.need.container) (uses_it (needs gs) c) e)
 
@@ -239,8 +249,10 @@ written_used (g ∷ gs) c e = ⊎_elim
 
 -- ---- the book stands for the uses of all containers
 
-module _ (b : Book) (known : IsBook b) (uses : ℕ → Uses) (are : (c : ℕ) → AreUses b (uses c)) (deps : Jobs) (up : AreUpTo b.count deps) (gs : List Given) (apart : AreApart gs)
-    (open_ : (j : ℕ) → 0 < j → j ≤ b.count → blocking b uses deps (needs gs) j ≡ false) (c : ℕ) (st : SlotState) (stands : StandForUses b st.latest (uses c)) where
+module _ (b : Book) (known : IsBook b) (uses : ℕ → Uses) (are : (c : ℕ) → AreUses b (uses c)) (deps : Jobs) (up : AreUpTo b.count deps) (gs : List Given)
+    (apart : AreApart gs)
+    (open_ : (j : ℕ) → 0 < j → j ≤ b.count → blocking b uses deps (needs gs) j ≡ false) (c : ℕ) (st : SlotState)
+    (stands : StandForUses b st.latest (uses c)) where
   abbrev job : ℕ
   job = suc b.count
 
@@ -256,7 +268,8 @@ module _ (b : Book) (known : IsBook b) (uses : ℕ → Uses) (are : (c : ℕ) �
   pub folded_stands : StandForUses (with_job b deps) (folded job c gs st).latest (with_uses uses job (needs gs) c)
   folded_stands = by (writes_it (needs gs) c) refl (uses_it (needs gs) c) refl
     where
-      by : (w : Bool) → writes_it (needs gs) c ≡ w → (u : Bool) → uses_it (needs gs) c ≡ u → StandForUses (with_job b deps) (folded job c gs st).latest (with_uses uses job (needs gs) c)
+      by : (w : Bool) → writes_it (needs gs) c ≡ w → (u : Bool) → uses_it (needs gs) c ≡ u
+          → StandForUses (with_job b deps) (folded job c gs st).latest (with_uses uses job (needs gs) c)
       by true w u is =
           let used : uses_it (needs gs) c ≡ true = written_used gs c w in
           subst (λ (us : Uses). StandForUses (with_job b deps) (folded job c gs st).latest us) (λ i. uses_after (sym used i) (sym w i))
@@ -277,12 +290,16 @@ module _ (b : Book) (known : IsBook b) (uses : ℕ → Uses) (are : (c : ℕ) �
           (unused_stands b st.latest (uses c) known (are c) stands deps up))
 
 -- of a container that the schedule doesn't use, what stood for its uses still does
-pub unused_stand : (b : Book) → IsBook b → (uses : ℕ → Uses) → ((c : ℕ) → AreUses b (uses c)) → (deps : Jobs) → AreUpTo b.count deps → (gs : List Given) (c : ℕ) (l : Latest) → uses_it (needs gs) c ≡ false
+pub unused_stand : (b : Book) → IsBook b → (uses : ℕ → Uses) → ((c : ℕ) → AreUses b (uses c)) → (deps : Jobs) → AreUpTo b.count deps
+    → (gs : List Given) (c : ℕ) (l : Latest) → uses_it (needs gs) c ≡ false
     → StandForUses b l (uses c) → StandForUses (with_job b deps) l (with_uses uses (suc b.count) (needs gs) c)
 unused_stand b known uses are deps up gs c l unused stands =
     let unwritten = by (writes_it (needs gs) c) refl in
     subst (λ (us : Uses). StandForUses (with_job b deps) l us)
-    (λ i. record { users = λ j. (uses c).users j || (nat_eq j (suc b.count) && sym unused i); writers = λ j. (uses c).writers j || (nat_eq j (suc b.count) && sym unwritten i) })
+    (λ i. record {
+      users = λ j. (uses c).users j || (nat_eq j (suc b.count) && sym unused i);
+      writers = λ j. (uses c).writers j || (nat_eq j (suc b.count) && sym unwritten i);
+    })
     (unused_stands b l (uses c) known (are c) stands deps up)
   where
     by : (w : Bool) → writes_it (needs gs) c ≡ w → writes_it (needs gs) c ≡ false

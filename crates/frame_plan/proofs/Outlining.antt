@@ -9,7 +9,8 @@ use Rattle.plan_laws.specs.Planned.{Outline}
 use Rattle.frame_plan.specs.declared.state.Planner.{Planner}
 use Rattle.frame_plan.specs.Stands.{Agrees, Stands}
 
-module _ (p : Planner) (script : Script) (table : Table) (begun : ScriptState) (n : ℕ) (s : ScriptState) (found : List ℕ) (st : Stands p (setting script table) begun n s found) where
+module _ (p : Planner) (script : Script) (table : Table) (begun : ScriptState) (n : ℕ) (s : ScriptState) (found : List ℕ)
+    (st : Stands p (setting script table) begun n s found) where
   pub outline : Outline
   outline = record {
     plan = record {

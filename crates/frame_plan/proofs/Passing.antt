@@ -26,10 +26,21 @@ repassed p g begun n s found st k =
     (calm p q g begun n s t found st refl refl refl refl refl refl refl (omega arith) (omega arith))
     known
     (same_names p.values.items p.handles.items (length p.containers.items) s t refl st.names)
-    (λ x a. others_are_planned x s t (draft_of p) (record { made = refl; contents = refl; alive = refl; uses = refl; range = refl; book = refl; traps = refl; refused = refl; lines = refl }) (st.planned x a))
+    (λ x a. others_are_planned x s t (draft_of p) (record {
+      made = refl;
+      contents = refl;
+      alive = refl;
+      uses = refl;
+      range = refl;
+      book = refl;
+      traps = refl;
+      refused = refl;
+      lines = refl;
+    }) (st.planned x a))
 
 -- a statement that is passed by
-pub passed_by : (script : Script) (table : Table) (p : Planner) (x : Statement) → 0 < p.passing → HasPassed script table p (record p { passing = p.passing - 1 }) x
+pub passed_by : (script : Script) (table : Table) (p : Planner) (x : Statement) → 0 < p.passing
+    → HasPassed script table p (record p { passing = p.passing - 1 }) x
 passed_by script table p x some begun n found here st =
     let g = setting script table in
     let s = state_at script table n in

@@ -36,7 +36,8 @@ module _ (line name : ℕ) where
       let below = used_below r.0 b.table b.n print b.step f.made name CONTAINERS f.fits in
       (within p g b.begun b.n s b.found b.stands name below, are_there p g b.begun b.n s b.found b.stands)
 
-  pub print_refused : (p q : Planner) (cause : Refusal) → MayUse p name false (Some cause) → IsPushed p q (record { line = line; name = name; act = Say cause }) → GoesOn p q print
+  pub print_refused : (p q : Planner) (cause : Refusal) → MayUse p name false (Some cause) → IsPushed p q (record { line = line; name = name; act = Say cause })
+      → GoesOn p q print
   print_refused p q cause may i script table begun n found step st =
       let g = setting script table in
       let f = fits_at script table n print step in
@@ -44,7 +45,8 @@ module _ (line name : ℕ) where
       (sym (may g begun n (state_at script table n) found st))
       (used_below script table n print step f.made name CONTAINERS f.fits) q refl refl (inr (λ c. refl)) i
 
-  pub print_shown : (p q : Planner) (v : Value) (at : Bind) → MayUse p name false None → slice_get p.values.items name ≡ Some v → at ≡ bind_by p.containers.items v
+  pub print_shown : (p q : Planner) (v : Value) (at : Bind) → MayUse p name false None → slice_get p.values.items name ≡ Some v
+      → at ≡ bind_by p.containers.items v
       → IsPushed p q (record { line = line; name = name; act = Print at }) → GoesOn p q print
   print_shown p q v at may value is i script table begun n found step st =
       let g = setting script table in
@@ -60,5 +62,7 @@ module _ (line name : ℕ) where
       (given_one p.plan.ops.items q.plan.ops.items op i.ops refl)
       restates
       (pushed_names p q op _ s t i refl st.names)
-      (λ y a. prints_are_planned y g s line name (draft_of p) (draft_of q) a.small st.known (st.planned y a) none u (name_short g y name a.names below) (name_is g y name a.names)
-      (adds_op p q _ restates.planner (i.ops ∙ ap (λ b. p.plan.ops.items ++ record { line = line; name = name; act = Print b } ∷ []) (is ∙ binds_at p g begun n s found st y a name v value u))))
+      (λ y a. prints_are_planned y g s line name (draft_of p) (draft_of q) a.small st.known (st.planned y a) none u (name_short g y name a.names below)
+      (name_is g y name a.names)
+      (adds_op p q _ restates.planner (i.ops ∙ ap (λ b. p.plan.ops.items ++ record { line = line; name = name; act = Print b } ∷ [])
+      (is ∙ binds_at p g begun n s found st y a name v value u))))

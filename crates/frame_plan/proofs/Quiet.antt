@@ -1,8 +1,8 @@
 -- A statement that gives no range and schedules no job: the plan grows by neither.
 --
 -- Such are all that are refused, those that are passed by, and those of which `IsPlain` holds.
-use Rattle.std.proofs.Common.{◌≡◌, ℕ, zero, suc, ◌-◌, List, [], ◌∷◌, ◌++◌, Option, None, Some, refl, sym, ap, subst, ◌∙◌, arith, append-nil}
-use Rattle.std.specs.Prelude.{max, slice_get}
+use Rattle.std.proofs.Common.{◌≡◌, ℕ, zero, suc, ◌+◌, ◌-◌, Bool, true, false, ◌&&◌, not, List, [], ◌∷◌, ◌++◌, Option, None, Some, refl, sym, ap, subst, ◌∙◌, arith, append-nil}
+use Rattle.std.specs.Prelude.{if◌then◌else◌, max, slice_get}
 use Rattle.std.proofs.lemmas.List.{append_assoc}
 use Rattle.job_base.specs.declared.JobId.{JobId}
 use Rattle.frame_ast.specs.declared.kernel.Kernel.{Kernel}
@@ -25,7 +25,7 @@ use Rattle.frame_core.specs.declared.plan.Segment.{Segment}
 use Rattle.frame_core.specs.Names.{has_job}
 use Rattle.plan_laws.specs.Ledgers.{later}
 use Rattle.frame_plan.specs.declared.state.Planner.{Planner}
-use Rattle.frame_plan.specs.Growth.{given_by, given_in, given_from, given_so_far, span_at, span_unless, span_by, greatest_end, waits_in, Schedules, SchedulesUnless, deps_after, Awaits, AwaitsUnless, HasWaited, Grows, IsQuiet}
+use Rattle.frame_plan.specs.Growth.{given_by, given_in, given_from, given_so_far, span_at, span_unless, span_by, greatest_end, waits_in, Schedules, SchedulesUnless, deps_after, Awaits, AwaitsUnless, HasWaited, rising_jobs, unless_none, waits_of, waits_by, newly_in, newly_completed, Grows, IsQuiet}
 use Rattle.frame_plan.specs.Stands.{Stands}
 use Rattle.frame_plan.specs.Steps.{state_at, state_after, IsStep, HasStepped}
 
@@ -54,7 +54,8 @@ given_closed xs ys x ops now e were none =
     ∙ ap (λ l. given_from xs ++ l) (append-nil (given_in x.ops.items) ∙ ap given_in were)
 
 -- segments that are finished give what was given
-pub given_finished : (xs ys : List Segment) (last final : Segment) (ops : List Op) → ys ≡ (xs ++ last ∷ []) ++ final ∷ [] → last.ops.items ≡ ops → final.ops.items ≡ []
+pub given_finished : (xs ys : List Segment) (last final : Segment) (ops : List Op) → ys ≡ (xs ++ last ∷ []) ++ final ∷ [] → last.ops.items ≡ ops
+    → final.ops.items ≡ []
     → given_from ys ≡ given_from xs ++ given_in ops
 given_finished xs ys last final ops e were none =
     ap given_from e
@@ -72,6 +73,50 @@ pub waits_closed : (xs ys : List Segment) (x : Segment) (waits now after : List 
 waits_closed xs ys x waits now after e were is =
     (λ i. waits_in (e i) ++ is i)
     ∙ ap (λ l. l ++ after) (waits_later xs (x ∷ []) ∙ ap (λ l. waits_in xs ++ l) (append-nil x.waits.items ∙ were))
+
+-- what each segment waits for, for itself
+
+pub each_later : (xs ys : List Segment) → waits_of (xs ++ ys) ≡ waits_of xs ++ waits_of ys
+each_later [] ys = refl
+each_later (x ∷ xs) ys =
+    ap (λ l. unless_none x.waits.items ++ l) (each_later xs ys) ∙ sym (append_assoc (unless_none x.waits.items) (waits_of xs) (waits_of ys))
+
+-- a segment that is closed waits for what it waited for
+pub each_closed : (xs ys : List Segment) (x : Segment) (waits now after : List JobId) → ys ≡ xs ++ x ∷ [] → x.waits.items ≡ waits → now ≡ after
+    → waits_of ys ++ unless_none now ≡ (waits_of xs ++ unless_none waits) ++ unless_none after
+each_closed xs ys x waits now after e were is =
+    (λ i. waits_of (e i) ++ unless_none (is i))
+    ∙ ap (λ l. l ++ unless_none after)
+    (each_later xs (x ∷ []) ∙ ap (λ l. waits_of xs ++ l) (append-nil (unless_none x.waits.items) ∙ ap unless_none were))
+
+-- and so do segments that are finished
+pub waits_finished : (xs ys : List Segment) (last final : Segment) (waits : List JobId) → ys ≡ (xs ++ last ∷ []) ++ final ∷ [] → last.waits.items ≡ waits
+    → waits_of ys ≡ (waits_of xs ++ unless_none waits) ++ unless_none final.waits.items
+waits_finished xs ys last final waits e were =
+    ap waits_of e
+    ∙ each_later (xs ++ last ∷ []) (final ∷ [])
+    ∙ ap (λ l. waits_of (xs ++ last ∷ []) ++ l) (append-nil (unless_none final.waits.items))
+    ∙ each_closed xs (xs ++ last ∷ []) last waits final.waits.items final.waits.items refl were refl
+
+none_rising : (set : Jobs) → ((j : ℕ) → set j ≡ false) → (n : ℕ) → rising_jobs set n ≡ []
+none_rising set none zero = refl
+none_rising set none (suc n) = (let a = none_rising set none n in let b = none (suc n) in λ i. a i ++ (if b i then record { 0 = suc n } ∷ [] else []))
+
+-- where no more is completed, nothing is newly completed
+pub none_newly : (before : ℕ) (s t : ScriptState) → t.book.completed ≡ s.book.completed → newly_completed before s t ≡ []
+none_newly before s t same =
+    none_rising (newly_in before s t)
+    (λ j. ap (λ (set : Jobs). set (before + j) && not (s.book.completed (before + j))) same ∙ by (s.book.completed (before + j)))
+    (s.book.count - before)
+  where
+    by : (b : Bool) → (b && not b) ≡ false
+    by true = refl
+    by false = refl
+
+-- and so no segment more waits for anything
+pub waits_stay : (before : ℕ) (s t : ScriptState) (all : List (List JobId)) → t.book.completed ≡ s.book.completed
+    → all ≡ all ++ unless_none (newly_completed before s t)
+waits_stay before s t all same = sym (append-nil all) ∙ ap (λ ids. all ++ unless_none ids) (sym (none_newly before s t same))
 
 -- WHO ADDS NOTHING
 
@@ -146,6 +191,7 @@ pub record IsStill (g : Setting) (s : ScriptState) (x : Statement) (before : ℕ
   pub segments_later : List Segment
   pub segments_are : new.plan.segments.items ≡ old.plan.segments.items ++ segments_later
   pub waited : HasWaited before s old → HasWaited before (act g s x) new
+  pub waits : waits_by new ≡ waits_by old ++ unless_none (newly_completed before s (act g s x))
 
 pub quiet_still : (g : Setting) (s : ScriptState) (x : Statement) (before : ℕ) (old new : Planner) → IsQuiet old new
     → (act g s x).book.completed ≡ s.book.completed → IsStill g s x before old new
@@ -160,6 +206,8 @@ quiet_still g s x before old new quiet completed = record {
       (let a = quiet.segments in let b = quiet.waits in λ i. has_job (waits_in (a i) ++ b i) j)
       ∙ h j pos
       ∙ ap (λ jobs. later before jobs j) (sym completed);
+  waits = (let a = quiet.segments in let b = quiet.waits in λ i. waits_of (a i) ++ unless_none (b i))
+      ∙ waits_stay before s (act g s x) (waits_by old) completed;
 }
 
 module _ (g : Setting) (s : ScriptState) (x : Statement) (starts : Starts) (before : ℕ) (old new : Planner) (still : IsStill g s x before old new) where
@@ -184,6 +232,7 @@ module _ (g : Setting) (s : ScriptState) (x : Statement) (starts : Starts) (befo
     schedules = schedules;
     waited = still.waited;
     awaited = λ h. awaits;
+    waits = still.waits;
   }
 
   pub plain_grows : IsPlain g x.act → Grows g s x starts before old new

@@ -9,17 +9,18 @@ use Rattle.frame_ast.specs.Checks.{refusal}
 use Rattle.frame_ast.specs.Orders.{Table, Setting, setting}
 use Rattle.frame_ast.specs.Ranges as ranges
 use Rattle.frame_ast.specs.Ranges.{Starts, IsFirstFit, IsTaken, Takes, TakesUnless, takes_words}
+use Rattle.frame_ast.specs.Scripts.{act}
 use Rattle.frame_ast.specs.States.{ScriptState}
 use Rattle.slot_store.specs.Stores.{peak_of, is_live_word}
 use Rattle.frame_core.specs.declared.plan.Op.{Op}
 use Rattle.frame_core.specs.Names.{has_job}
 use Rattle.plan_laws.specs.Ledgers.{later}
 use Rattle.frame_plan.specs.declared.state.Planner.{Planner}
-use Rattle.frame_plan.specs.Growth.{given_by, given_in, given_from, given_so_far, span_at, span_unless, span_by, greatest_end, waits_in, deps_after, StartAs, Grows}
+use Rattle.frame_plan.specs.Growth.{given_by, given_in, given_from, given_so_far, span_at, span_unless, span_by, greatest_end, waits_in, deps_after, StartAs, unless_none, waits_of, waits_by, Grows}
 use Rattle.frame_plan.specs.Stands.{Stands}
 use Rattle.frame_plan.specs.Steps.{state_at, state_after, IsStep, StandsAt, HasStepped}
 use Rattle.frame_plan.proofs.Entering.{get_new, get_old, one_more}
-use Rattle.frame_plan.proofs.Quiet.{IsNoSchedule, given_more, plain_awaits, plain_schedules}
+use Rattle.frame_plan.proofs.Quiet.{IsNoSchedule, given_more, plain_awaits, plain_schedules, waits_stay}
 use Rattle.frame_plan.proofs.Storing.{live_words_are_alike}
 
 -- The plan does one operation more, and nothing else.
@@ -39,7 +40,8 @@ pub record HasFound (p q : Planner) (words : ℕ) (span : Span) : Type 0 where
 module _ (script : Script) (table : Table) (begun : ScriptState) (n : ℕ) (found : List ℕ) (x : Statement) (step : IsStep script table n x)
     (p q : Planner) (st : StandsAt p script table begun n found) (words : ℕ) (span : Span) (op : Op) (has : HasFound p q words span) (more : HasOneMore p q op)
     (gives : given_by op.act ≡ span ∷ [])
-    (none : refusal (setting script table) (state_at script table n) x.act ≡ None) (takes : takes_words (setting script table) x.act ≡ Some words) (job : IsNoSchedule x.act)
+    (none : refusal (setting script table) (state_at script table n) x.act ≡ None) (takes : takes_words (setting script table) x.act ≡ Some words)
+    (job : IsNoSchedule x.act)
     (completed : (state_after script table n x).book.completed ≡ (state_at script table n).book.completed) where
   abbrev g : Setting
   g = setting script table
@@ -99,9 +101,11 @@ module _ (script : Script) (table : Table) (begun : ScriptState) (n : ℕ) (foun
           jobs_are = (let e = more.jobs in λ i. (e i).items) ∙ sym (append-nil p.plan.jobs.items);
           kernels_later = [];
           kernels_are = (let e = more.kernels in λ i. (e i).items) ∙ sym (append-nil p.plan.kernels.items);
-          schedules = plain_schedules g starts before s (deps_after g s x) q.plan.kernels.items (slice_get q.plan.jobs.items (s.book.count - before)) x.act s.passing job;
+          schedules = plain_schedules g starts before s (deps_after g s x) q.plan.kernels.items
+              (slice_get q.plan.jobs.items (s.book.count - before)) x.act s.passing job;
           waited = λ h j pos. (λ i. has_job (waits_in (segments i).items ++ (waits i).items) j) ∙ h j pos ∙ ap (λ jobs. later before jobs j) (sym completed);
           awaited = λ h. plain_awaits g before s q.plan.segments.items x.act s.passing job;
+          waits = (λ i. waits_of (segments i).items ++ unless_none (waits i).items) ∙ waits_stay before s (act g s x) (waits_by p) completed;
         }
 
   pub range_steps : Stands q g begun (suc n) (state_after script table n x) (found ++ span.start ∷ []) → HasStepped script table begun n found p q x

@@ -48,19 +48,25 @@ dead_handle : (s : ScriptState) (o : Option Handle) → is_alive s (jobs_at o) �
 dead_handle s None e = not_both e refl
 dead_handle s (Some h) e = not_both e refl
 
-module _ (script : Script) (table : Table) (p : Planner) (begun : ScriptState) (n : ℕ) (found : List ℕ) (x : Statement) (st : StandsAt p script table begun n found) (step : IsStep script table n x)
-    (name : ℕ) (sign : Sign) (value : ℤ) (count : ℕ) (is : x.act ≡ When name sign value count) (none : refusal (setting script table) (state_at script table n) (When name sign value count) ≡ None) where
+module _ (script : Script) (table : Table) (p : Planner) (begun : ScriptState) (n : ℕ) (found : List ℕ) (x : Statement)
+    (st : StandsAt p script table begun n found) (step : IsStep script table n x)
+    (name : ℕ) (sign : Sign) (value : ℤ) (count : ℕ) (is : x.act ≡ When name sign value count)
+    (none : refusal (setting script table) (state_at script table n) (When name sign value count) ≡ None) where
   s : ScriptState
   s = state_at script table n
 
   alive : is_alive (state_at script table n) ((state_at script table n).values name) ≡ true
   alive = lives (state_at script table n) name (first_none (disposed (state_at script table n) (name ∷ [])) (busy (state_at script table n) name ∷ []) none).0
 
-  is_fit : order_fits (record { kinds = step.accepted.kinds; made = (fits_at script table n x step).made }) (setting script table).literals (setting script table).kernels (fits_at script table n x step).rest (fits_at script table n x step).inside (When name sign value count) ≡ true
-  is_fit = subst (λ a. order_fits (record { kinds = step.accepted.kinds; made = (fits_at script table n x step).made }) (setting script table).literals (setting script table).kernels (fits_at script table n x step).rest (fits_at script table n x step).inside a ≡ true) is (fits_at script table n x step).fits
+  is_fit : order_fits (record { kinds = step.accepted.kinds; made = (fits_at script table n x step).made }) (setting script table).literals
+      (setting script table).kernels (fits_at script table n x step).rest (fits_at script table n x step).inside (When name sign value count) ≡ true
+  is_fit = subst (λ a. order_fits (record { kinds = step.accepted.kinds; made = (fits_at script table n x step).made }) (setting script table).literals
+      (setting script table).kernels (fits_at script table n x step).rest (fits_at script table n x step).inside a ≡ true) is
+      (fits_at script table n x step).fits
 
   is_use : uses (record { kinds = step.accepted.kinds; made = (fits_at script table n x step).made }) name (RefName ∷ []) ≡ true
-  is_use = (and_parts (uses (record { kinds = step.accepted.kinds; made = (fits_at script table n x step).made }) name (RefName ∷ [])) (nat_le count (fits_at script table n x step).rest && nat_eq (fits_at script table n x step).inside 0) is_fit).0
+  is_use = (and_parts (uses (record { kinds = step.accepted.kinds; made = (fits_at script table n x step).made }) name (RefName ∷ []))
+      (nat_le count (fits_at script table n x step).rest && nat_eq (fits_at script table n x step).inside 0) is_fit).0
 
   pub name_below : name < length (setting script table).names
   name_below = used_below script table n x step (fits_at script table n x step).made name (RefName ∷ []) is_use
@@ -68,14 +74,16 @@ module _ (script : Script) (table : Table) (p : Planner) (begun : ScriptState) (
   of_kind : IsOfKind (state_at script table n) RefName ((state_at script table n).values name)
   of_kind =
       let u = is_used (record { kinds = step.accepted.kinds; made = (fits_at script table n x step).made }) name (RefName ∷ []) is_use in
-      subst (λ k. IsOfKind (state_at script table n) k ((state_at script table n).values name)) (one_kind u.kind RefName u.fits) ((holds_kinds script table n x step).names name u.kind u.at)
+      subst (λ k. IsOfKind (state_at script table n) k ((state_at script table n).values name)) (one_kind u.kind RefName u.fits)
+      ((holds_kinds script table n x step).names name u.kind u.at)
 
   pub reference : (at : RefAt) × IsReferenceOf p name at
   reference =
       let v = there p.values.items name (let lt = name_below in let e = st.each in omega arith) in
       by v.0 v.1 (st.names.are name v.0 v.1) (st.names.there name v.0 v.1)
     where
-      by : (v : Value) → slice_get p.values.items name ≡ Some v → value_for p.handles.items v ≡ (state_at script table n).values name → IsThere (length p.containers.items) (length p.handles.items) v → (at : RefAt) × IsReferenceOf p name at
+      by : (v : Value) → slice_get p.values.items name ≡ Some v → value_for p.handles.items v ≡ (state_at script table n).values name
+          → IsThere (length p.containers.items) (length p.handles.items) v → (at : RefAt) × IsReferenceOf p name at
       by Dead e f h = absurd (not_both alive (ap (is_alive (state_at script table n)) (sym f)))
       by (Whole c) e f h =
           let it = there p.containers.items c h in
@@ -95,13 +103,16 @@ module _ (script : Script) (table : Table) (p : Planner) (begun : ScriptState) (
       by (View c number) e f h = let k = subst (IsOfKind (state_at script table n) RefName) (sym f) of_kind in let bad = k.0 in absurd cc
       by (Jobs k) e f h = absurd (dead_handle (state_at script table n) (slice_get p.handles.items k) (ap (is_alive (state_at script table n)) f ∙ alive))
 
-  pub reference_held : (cells : Memory) (at : RefAt) → AllHeld (λ k. get_or found k 0) (state_at script table n) cells → IsReferenceOf p name at → Holds cells (Ref at) (contents_at (state_at script table n) name)
+  pub reference_held : (cells : Memory) (at : RefAt) → AllHeld (λ k. get_or found k 0) (state_at script table n) cells → IsReferenceOf p name at
+      → Holds cells (Ref at) (contents_at (state_at script table n) name)
   reference_held cells at held r =
       let v : states.Whole r.container ≡ (state_at script table n).values name = st.names.are name (Whole r.container) r.value in
-      let below : r.container < (state_at script table n).made = (let lt = get_below p.containers.items r.container r.it r.has in let e = st.containers.made in omega arith) in
+      let below : r.container < (state_at script table n).made = (let lt = get_below p.containers.items r.container r.it r.has in let e = st.containers.made in
+      omega arith) in
       let on : (state_at script table n).alive r.container ≡ true = ap (is_alive (state_at script table n)) v ∙ alive in
       let con = st.containers.each r.container r.it r.has in
-      let same : bind_of (get_or found ((state_at script table n).range r.container) 0) ((state_at script table n).contents r.container) ≡ Ref at = sym con.bind ∙ r.bind in
+      let same : bind_of (get_or found ((state_at script table n).range r.container) 0) ((state_at script table n).contents r.container) ≡ Ref at = sym con.bind
+      ∙ r.bind in
       subst (λ w. Holds cells (Ref at) ((state_at script table n).contents (container_of w))) v
       (subst (λ b. Holds cells b ((state_at script table n).contents r.container)) same (held r.container below on))
 
@@ -109,22 +120,27 @@ module _ (script : Script) (table : Table) (p : Planner) (begun : ScriptState) (
   pub reference_inside : (last : ℕ) (at : RefAt) → AreWithin last found (state_at script table n) → IsReferenceOf p name at → at.start < last
   reference_inside last at within r =
       let v : states.Whole r.container ≡ (state_at script table n).values name = st.names.are name (Whole r.container) r.value in
-      let below : r.container < (state_at script table n).made = (let lt = get_below p.containers.items r.container r.it r.has in let e = st.containers.made in omega arith) in
+      let below : r.container < (state_at script table n).made = (let lt = get_below p.containers.items r.container r.it r.has in let e = st.containers.made in
+      omega arith) in
       let on : (state_at script table n).alive r.container ≡ true = ap (is_alive (state_at script table n)) v ∙ alive in
       let con = st.containers.each r.container r.it r.has in
-      let same : bind_of (get_or found ((state_at script table n).range r.container) 0) ((state_at script table n).contents r.container) ≡ Ref at = sym con.bind ∙ r.bind in
+      let same : bind_of (get_or found ((state_at script table n).range r.container) 0) ((state_at script table n).contents r.container) ≡ Ref at = sym con.bind
+      ∙ r.bind in
       let le = subst (λ b. end_of b ≤ last) same (within r.container (alive_is_live (state_at script table n) r.container below on)) in
       omega arith
 
 -- the first statement is no test
-pub first_is_none : (script : Script) (table : Table) → IsAccepted script → (x : Statement) → slice_get script.statements.items 0 ≡ Some x → (name : ℕ) (sign : Sign) (value : ℤ) (count : ℕ) → x.act ≡ When name sign value count → ⊥
+pub first_is_none : (script : Script) (table : Table) → IsAccepted script → (x : Statement) → slice_get script.statements.items 0 ≡ Some x
+    → (name : ℕ) (sign : Sign) (value : ℤ) (count : ℕ) → x.act ≡ When name sign value count → ⊥
 first_is_none script table accepted x e name sign value count is = by script.statements.items e accepted.fits
   where
-    by : (xs : List Statement) → slice_get xs 0 ≡ Some x → statements_fit (record { kinds = accepted.kinds; made = 0 }) (setting script table).literals script.kernels.items 0 xs ≡ true → ⊥
+    by : (xs : List Statement) → slice_get xs 0 ≡ Some x → statements_fit (record { kinds = accepted.kinds; made = 0 })
+        (setting script table).literals script.kernels.items 0 xs ≡ true → ⊥
     by [] e fits = none_some e
     by (y ∷ more) e fits =
         let here = (and_parts _ _ fits).0 in
-        let as_when = subst (λ a. order_fits (record { kinds = accepted.kinds; made = 0 }) (setting script table).literals script.kernels.items (length more) 0 a ≡ true) (ap (λ (k : Statement). k.act) (some_is e) ∙ is) here in
+        let as_when = subst (λ a. order_fits (record { kinds = accepted.kinds; made = 0 }) (setting script table).literals script.kernels.items
+        (length more) 0 a ≡ true) (ap (λ (k : Statement). k.act) (some_is e) ∙ is) here in
         let used = (and_parts _ _ as_when).0 in
         let less : nat_lt name 0 ≡ true = (and_parts _ _ used).0 in
         let lt : name < 0 = grind arith in

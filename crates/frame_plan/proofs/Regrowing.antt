@@ -58,7 +58,8 @@ pub capacity_is : (g : Setting) (line : ℕ) (s : ScriptState) (name cap old : �
 capacity_is g line s name cap old xs is le =
     let c : ℕ = container_at s name in
     let test : nat_lt cap old ≡ false = grind arith in
-    let fits : capacity_in (contents_at s name) cap ≡ Ok (Items cap xs) = ap (λ k. capacity_in k cap) is ∙ ap (λ b. if b then Err Range else Ok (Items cap xs)) test in
+    let fits : capacity_in (contents_at s name) cap ≡ Ok (Items cap xs) = ap (λ k. capacity_in k cap) is
+    ∙ ap (λ b. if b then Err Range else Ok (Items cap xs)) test in
     ap (λ r. regrown name cap (views_broken name (changed name r s))) fits
     ∙ ap (λ k. regrown name cap (list_broken k c (with_contents c (Items cap xs) s))) (at_here s.contents c (Items cap xs))
 
@@ -117,7 +118,8 @@ module _ (p : Planner) (g : Setting) (begun : ScriptState) (n : ℕ) (s : Script
   place_old j ne = rg.places j ∙ ap (λ b. cond b (taken (place_of p.store it.slot.0).version span) (place_of p.store j)) (ne_eqb j it.slot.0 ne)
 
   place_new : place_of store it.slot.0 ≡ taken (place_of p.store it.slot.0).version span
-  place_new = rg.places it.slot.0 ∙ ap (λ b. cond b (taken (place_of p.store it.slot.0).version span) (place_of p.store it.slot.0)) (eq-eqb it.slot.0 it.slot.0 refl)
+  place_new = rg.places it.slot.0 ∙ ap (λ b. cond b (taken (place_of p.store it.slot.0).version span) (place_of p.store it.slot.0))
+      (eq-eqb it.slot.0 it.slot.0 refl)
 
   was_taken : (is_taken (place_of p.store it.slot.0).state ≡ true) × (nat_eq (place_of p.store it.slot.0).version it.version.0 ≡ true)
   was_taken = and_parts (is_taken (place_of p.store it.slot.0).state) (nat_eq (place_of p.store it.slot.0).version it.version.0) (k.taken ∙ alive)
@@ -127,7 +129,8 @@ module _ (p : Planner) (g : Setting) (begun : ScriptState) (n : ℕ) (s : Script
   by_slot {A} here there j = ⊎_elim (λ e. subst A (sym e) here) (there j) (cases_eq j it.slot.0)
 
   version_same : (j : ℕ) → (place_of store j).version ≡ (place_of p.store j).version
-  version_same = by_slot {A = λ j. (place_of store j).version ≡ (place_of p.store j).version} (ap (λ (z : Place). z.version) place_new) (λ j ne. ap (λ (z : Place). z.version) (place_old j ne))
+  version_same = by_slot {A = λ j. (place_of store j).version ≡ (place_of p.store j).version} (ap (λ (z : Place). z.version) place_new)
+      (λ j ne. ap (λ (z : Place). z.version) (place_old j ne))
 
   taken_same : (j : ℕ) → is_taken (place_of store j).state ≡ is_taken (place_of p.store j).state
   taken_same = by_slot {A = λ j. is_taken (place_of store j).state ≡ is_taken (place_of p.store j).state}
@@ -141,10 +144,12 @@ module _ (p : Planner) (g : Setting) (begun : ScriptState) (n : ℕ) (s : Script
   bumped z = record z { view = z.view + 1 }
 
   live_same : (j : ℕ) → (state_of safety j).live ≡ (state_of p.safety j).live
-  live_same = by_slot {A = λ j. (state_of safety j).live ≡ (state_of p.safety j).live} (ap (λ (z : SlotState). z.live) made.safety_is.slot_is) (λ j ne. ap (λ (z : SlotState). z.live) (made.safety_is.others j ne))
+  live_same = by_slot {A = λ j. (state_of safety j).live ≡ (state_of p.safety j).live} (ap (λ (z : SlotState). z.live) made.safety_is.slot_is)
+      (λ j ne. ap (λ (z : SlotState). z.live) (made.safety_is.others j ne))
 
   numbered_same : (j : ℕ) → (state_of safety j).version ≡ (state_of p.safety j).version
-  numbered_same = by_slot {A = λ j. (state_of safety j).version ≡ (state_of p.safety j).version} (ap (λ (z : SlotState). z.version) made.safety_is.slot_is) (λ j ne. ap (λ (z : SlotState). z.version) (made.safety_is.others j ne))
+  numbered_same = by_slot {A = λ j. (state_of safety j).version ≡ (state_of p.safety j).version} (ap (λ (z : SlotState). z.version) made.safety_is.slot_is)
+      (λ j ne. ap (λ (z : SlotState). z.version) (made.safety_is.others j ne))
 
   current_same : (i : Container) → is_current (state_of safety i.slot.0) (tag_of i None) ≡ is_current (state_of p.safety i.slot.0) (tag_of i None)
   current_same i = let a = live_same i.slot.0 in let b = numbered_same i.slot.0 in λ j. a j && nat_eq (b j) i.version.0
@@ -171,7 +176,8 @@ module _ (p : Planner) (g : Setting) (begun : ScriptState) (n : ℕ) (s : Script
     place_same l = place_old i.slot.0 (other_slot l)
 
     state_same : s.alive d ≡ true → state_of safety i.slot.0 ≡ state_of p.safety i.slot.0
-    state_same a = made.safety_is.others i.slot.0 (other_slot (alive_is_live s d (let lt = get_below p.containers.items d i has in let e = st.containers.made in omega arith) a))
+    state_same a = made.safety_is.others i.slot.0 (other_slot (alive_is_live s d
+        (let lt = get_below p.containers.items d i has in let e = st.containers.made in omega arith) a))
 
     other_kept : IsContainer q w found' d i
     other_kept = record {
@@ -184,7 +190,8 @@ module _ (p : Planner) (g : Setting) (begun : ScriptState) (n : ℕ) (s : Script
       uses = λ a. subst (λ (z : SlotState). StandForUses s.book z.latest (s.uses d)) (sym (state_same a)) (o.uses a);
       view = λ a. ap (λ (z : SlotState). z.view) (state_same a) ∙ o.view a ∙ sym (at_other s.view c (s.view c + 1) d ne);
       in_use = λ l. in_use_same i.slot.0 ∙ o.in_use l;
-      span = λ l. ap (λ (z : Place). z.span) (place_same l) ∙ o.span l ∙ (let a = sym start_same in let b = sym contents_same in λ j. record { start = a j; len = words_of (b j) });
+      span = λ l. ap (λ (z : Place). z.span) (place_same l) ∙ o.span l ∙ (let a = sym start_same in let b = sym contents_same in
+          λ j. record { start = a j; len = words_of (b j) });
       taken = (let a = taken_same i.slot.0 in let b = version_same i.slot.0 in λ j. a j && nat_eq (b j) i.version.0) ∙ o.taken;
       older = λ a. let less = o.older a in let e = version_same i.slot.0 in omega arith;
       low = o.low;
@@ -228,7 +235,8 @@ module _ (p : Planner) (g : Setting) (begun : ScriptState) (n : ℕ) (s : Script
     uses = λ a. subst (λ (z : SlotState). StandForUses s.book z.latest (s.uses c)) (sym state_new) (k.uses a);
     view = λ a. ap (λ (z : SlotState). z.view) state_new ∙ ap (λ m. m + 1) (k.view alive) ∙ sym (at_here s.view c (s.view c + 1));
     in_use = λ l. ap (λ (z : Place). in_use z.state) place_is;
-    span = λ l. ap (λ (z : Place). z.span) place_is ∙ (let a = sym start_new in let b = sym contents_new in let e = rg.len_is in λ j. record { start = a j; len = (e ∙ ap words_of b) j });
+    span = λ l. ap (λ (z : Place). z.span) place_is ∙ (let a = sym start_new in let b = sym contents_new in let e = rg.len_is in
+        λ j. record { start = a j; len = (e ∙ ap words_of b) j });
     taken = (let v = version_at in let z = place_is in λ j. is_taken (z j).state && nat_eq (z j).version (v j)) ∙ was_taken.1 ∙ sym alive;
     older = λ e. absurd (not_both alive e);
     low = (let e = version_at in let l = k.low in omega arith);
@@ -238,7 +246,8 @@ module _ (p : Planner) (g : Setting) (begun : ScriptState) (n : ℕ) (s : Script
   -- ALL OF THEM
 
   which : (d : ℕ) (i : Container) → slice_get containers.items d ≡ Some i → ((d ≡ c) × (now ≡ i)) ⊎ ((d ≢ c) × (slice_get p.containers.items d ≡ Some i))
-  which d i h = ⊎_elim (λ a. inl (a.0, sym a.1)) (λ b. inr b) (set_either p.containers.items c now d i (ap (λ cs. slice_get cs d) (sym made.containers_are) ∙ h))
+  which d i h = ⊎_elim (λ a. inl (a.0, sym a.1)) (λ b. inr b) (set_either p.containers.items c now d i
+      (ap (λ cs. slice_get cs d) (sym made.containers_are) ∙ h))
 
   kept : (d : ℕ) (i : Container) → slice_get containers.items d ≡ Some i → IsContainer q w found' d i
   kept d i h = ⊎_elim
@@ -260,7 +269,8 @@ module _ (p : Planner) (g : Setting) (begun : ScriptState) (n : ℕ) (s : Script
       (λ a. record {
         container = o.container;
         it = now;
-        has = ap (λ cs. slice_get cs o.container) made.containers_are ∙ ap (slice_get (slice_set p.containers.items c now)) a ∙ get_set p.containers.items c now (get_below p.containers.items c it made.has);
+        has = ap (λ cs. slice_get cs o.container) made.containers_are ∙ ap (slice_get (slice_set p.containers.items c now)) a
+            ∙ get_set p.containers.items c now (get_below p.containers.items c it made.has);
         slot_is = slot_at ∙ ap (λ (z : Container). z.slot.0) (some_is (sym made.has ∙ ap (slice_get p.containers.items) (sym a) ∙ o.has)) ∙ o.slot_is;
         live = o.live;
       })
@@ -273,7 +283,8 @@ module _ (p : Planner) (g : Setting) (begun : ScriptState) (n : ℕ) (s : Script
       })
       (cases_eq o.container c)
 
-  once : (d e : ℕ) (i j : Container) → slice_get containers.items d ≡ Some i → slice_get containers.items e ≡ Some j → is_live w d ≡ true → is_live w e ≡ true → i.slot.0 ≡ j.slot.0 → d ≡ e
+  once : (d e : ℕ) (i j : Container) → slice_get containers.items d ≡ Some i → slice_get containers.items e ≡ Some j → is_live w d ≡ true → is_live w e ≡ true
+      → i.slot.0 ≡ j.slot.0 → d ≡ e
   once d e i j hd he ld le same =
       let a = old_of d i hd in
       let b = old_of e j he in
@@ -393,7 +404,8 @@ module _ (p : Planner) (g : Setting) (begun : ScriptState) (n : ℕ) (s : Script
         created_few = (let l = made.small in let e = made.created_is in let f = k.created in omega arith);
         peak_low = (let l = k.peak_low in let e = rg.peak in let b = rg.low in omega arith);
         slots_few = (let l = k.slots_few in let e = rg.used in omega arith);
-        ops_few = (let l = k.ops_few in let e = ap length made.ops_are ∙ one_more p.plan.ops.items (record { line = line; name = name; act = Move (record { start = made.at.start; len = made.at.cap + 1 }) span }) in omega arith);
+        ops_few = (let l = k.ops_few in let e = ap length made.ops_are ∙ one_more p.plan.ops.items
+            (record { line = line; name = name; act = Move (record { start = made.at.start; len = made.at.cap + 1 }) span }) in omega arith);
         segments_few = (let l = k.segments_few in omega arith);
         literals_few = (let l = k.literals_few in omega arith);
         kernels_few = (let l = k.kernels_few in omega arith);
@@ -424,8 +436,10 @@ module _ (p : Planner) (g : Setting) (begun : ScriptState) (n : ℕ) (s : Script
   planned : refusal g s (SetCapacity name cap) ≡ None → (x : Outline) → Agrees q g begun found' x → IsPlanned x w (draft_of q)
   planned none x a =
       let b = agrees_back x a in
-      let start : x.starts s.takes ≡ span.start = a.starts s.takes (let e = one_more found span.start in let k = st.takes in omega arith) ∙ get_new found span.start s.takes (sym st.takes) in
-      let was : x.starts (s.range (container_at s name)) ≡ get_or found (s.range c) 0 = ap (λ d. x.starts (s.range d)) c_is ∙ b.starts (s.range c) (let r = k.range in let l = st.takes in omega arith) in
+      let start : x.starts s.takes ≡ span.start = a.starts s.takes (let e = one_more found span.start in let k = st.takes in omega arith)
+      ∙ get_new found span.start s.takes (sym st.takes) in
+      let was : x.starts (s.range (container_at s name)) ≡ get_or found (s.range c) 0 = ap (λ d. x.starts (s.range d)) c_is
+      ∙ b.starts (s.range c) (let r = k.range in let l = st.takes in omega arith) in
       let alike : is_live_word p.store ≡ ranges.is_live_word x.starts s = (λ i v. live_words_are_alike p g begun n s found x.starts st b.starts v i) in
       let shown : name < length x.plan.names.items = (let e = ap length b.names in let l = long (λ v. string_bytes v) x.plan.names.items in omega arith) in
       let from : span_at made.at.start (made.at.cap + 1) ≡ span_at (x.starts (s.range (container_at s name))) (old + 1) =
@@ -438,7 +452,13 @@ module _ (p : Planner) (g : Setting) (begun : ScriptState) (n : ℕ) (s : Script
       (subst (λ f. IsFirstFit f (cap + 1) (x.starts s.takes)) alike (subst (IsFirstFit (is_live_word p.store) (cap + 1)) (sym start) rg.fit))
       (let l = a.cells in let e = rg.peak in omega arith)
       shown
-      (record { segments = refl; jobs = refl; waits = refl; ops = made.ops_are ∙ (λ i. p.plan.ops.items ++ record { line = line; name = name; act = Move (from i) (to i) } ∷ []) }))
+      (record {
+        segments = refl;
+        jobs = refl;
+        waits = refl;
+        ops = made.ops_are
+            ∙ (λ i. p.plan.ops.items ++ record { line = line; name = name; act = Move (from i) (to i) } ∷ []);
+      }))
 
   pub regrown_stands : refusal g s (SetCapacity name cap) ≡ None → Stands q g begun (suc n) w found'
   regrown_stands none = record {

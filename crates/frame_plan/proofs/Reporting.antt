@@ -83,7 +83,8 @@ module _ (p : Planner) (line : ℕ) (g : Setting) (begun : ScriptState) (n : ℕ
   not_due : (d : ℕ) → d < s.made → ((j : ℕ) → slice_get jobs j ≡ Some d → (s.making d).frame + 4 ≢ s.frame + 1) → is_overdue s d ≡ false
   not_due d lt other = ⊎_elim
       (λ e. let at = st.tempjobs.all d lt e in
-      ap (λ b. is_tempjob (s.life d) && (s.alive d && b)) (ne_eqb ((s.making d).frame + 4) (s.frame + 1) (other at.0 at.1)) ∙ none (is_tempjob (s.life d)) (s.alive d))
+      ap (λ b. is_tempjob (s.life d) && (s.alive d && b)) (ne_eqb ((s.making d).frame + 4) (s.frame + 1) (other at.0 at.1))
+      ∙ none (is_tempjob (s.life d)) (s.alive d))
       (λ e. ap (λ b. b && (s.alive d && nat_eq ((s.making d).frame + 4) (s.frame + 1))) e)
       (either_bool (is_tempjob (s.life d)))
     where
@@ -114,7 +115,8 @@ module _ (p : Planner) (line : ℕ) (g : Setting) (begun : ScriptState) (n : ℕ
   }
 
   -- one more is seen
-  module _ (k : ℕ) (ops : List Op) (so : IsSoFar p line s k ops) (c : ℕ) (it : Container) (at : slice_get jobs k ≡ Some c) (has : slice_get p.containers.items c ≡ Some it)
+  module _ (k : ℕ) (ops : List Op) (so : IsSoFar p line s k ops) (c : ℕ) (it : Container) (at : slice_get jobs k ≡ Some c)
+      (has : slice_get p.containers.items c ≡ Some it)
       (old : it.frame + 3 ≤ s.frame) where
     kept : IsContainer p s found c it
     kept = st.containers.each c it has
@@ -138,10 +140,12 @@ module _ (p : Planner) (line : ℕ) (g : Setting) (begun : ScriptState) (n : ℕ
     op_is : record { line = line; name = it.name; act = Report it.line } ≡ report_op s line c
     op_is = (let name = kept.making.1 in let made = kept.making.2 in λ i. record { line = line; name = name i; act = Report (made i) })
 
-    here : report_ops s line (suc c) ≡ report_ops s line (bound k) ++ (if is_kept p it then record { line = line; name = it.name; act = Report it.line } ∷ [] else [])
+    here : report_ops s line (suc c) ≡ report_ops s line (bound k) ++ (if is_kept p it then record { line = line; name = it.name; act = Report it.line }
+        ∷ [] else [])
     here =
         (let b = overdue_is in let o = sym op_is in λ i. report_ops s line c ++ (if b i then o i ∷ [] else []))
-        ∙ ap (λ m. report_ops s line m ++ (if is_kept p it then record { line = line; name = it.name; act = Report it.line } ∷ [] else [])) (sym (get_some jobs k c s.made at))
+        ∙ ap (λ m. report_ops s line m ++ (if is_kept p it then record { line = line; name = it.name; act = Report it.line } ∷ [] else []))
+        (sym (get_some jobs k c s.made at))
 
     next_low : suc c ≤ bound (suc k)
     next_low = below_bound (suc k) k c (omega arith) at
@@ -156,11 +160,13 @@ module _ (p : Planner) (line : ℕ) (g : Setting) (begun : ScriptState) (n : ℕ
         (cases_eq k j))
         (cases_lt j k)))
 
-    pub goes_on : (new : List Op) → new ≡ ops ++ (if is_kept p it then record { line = line; name = it.name; act = Report it.line } ∷ [] else []) → IsSoFar p line s (k + 1) new
+    pub goes_on : (new : List Op) → new ≡ ops ++ (if is_kept p it then record { line = line; name = it.name; act = Report it.line } ∷ [] else [])
+        → IsSoFar p line s (k + 1) new
     goes_on new is = (let e : suc k ≡ k + 1 = omega arith in subst (λ m. IsSoFar p line s m new) e (record {
       said = is
           ∙ ap (λ o. o ++ (if is_kept p it then record { line = line; name = it.name; act = Report it.line } ∷ [] else [])) so.said
-          ∙ append_assoc p.plan.ops.items (report_ops s line (bound k)) (if is_kept p it then record { line = line; name = it.name; act = Report it.line } ∷ [] else [])
+          ∙ append_assoc p.plan.ops.items (report_ops s line (bound k)) (if is_kept p it then record { line = line; name = it.name; act = Report it.line }
+          ∷ [] else [])
           ∙ ap (λ o. p.plan.ops.items ++ o) (sym (next_is ∙ here));
       within = (let lt = get_below jobs k c at in omega arith);
       from = (let le = so.from in omega arith);
@@ -172,7 +178,8 @@ module _ (p : Planner) (line : ℕ) (g : Setting) (begun : ScriptState) (n : ℕ
 
   -- none is left
   module _ (k : ℕ) (ops : List Op) (so : IsSoFar p line s k ops)
-      (last : (length jobs ≤ k) ⊎ ((c : ℕ) × (it : Container) × (slice_get jobs k ≡ Some c) × (slice_get p.containers.items c ≡ Some it) × (s.frame < it.frame + 3))) where
+      (last : (length jobs ≤ k) ⊎ ((c : ℕ) × (it : Container) × (slice_get jobs k ≡ Some c) × (slice_get p.containers.items c ≡ Some it)
+      × (s.frame < it.frame + 3))) where
     ahead : (j d : ℕ) → k ≤ j → slice_get jobs j ≡ Some d → s.frame + 1 < (s.making d).frame + 4
     ahead j d le h = ⊎_elim
         (λ past. let lt = get_below jobs j d h in absurd (omega arith))
@@ -224,7 +231,8 @@ module _ (p m : Planner) (line : ℕ) (so : AreReportedSoFar p m line) where
   frame_same : m.frame ≡ p.frame
   frame_same = ap (λ (k : Planner). k.frame) so.rest
 
-  pub reported_more : (r q : Planner) (it : Container) → IsDue m it → IsReported m r line it → q ≡ record r { overdue = r.overdue + 1 } → AreReportedSoFar p q line
+  pub reported_more : (r q : Planner) (it : Container) → IsDue m it → IsReported m r line it → q ≡ record r { overdue = r.overdue + 1 }
+      → AreReportedSoFar p q line
   reported_more r q it due one last =
       let again : q ≡ record m { overdue = m.overdue + 1; plan = record m.plan { ops = r.plan.ops } } =
       last ∙ ap {A = Planner} {B = Planner} (λ k. record k { overdue = k.overdue + 1 }) one.rest in
@@ -233,9 +241,11 @@ module _ (p m : Planner) (line : ℕ) (so : AreReportedSoFar p m line) where
       let overdue = ap (λ (k : Planner). k.overdue) again in
       let ops = ap (λ (k : Planner). k.plan.ops.items) again in
       let kept = ap (λ (k : Planner). is_kept k it) so.rest in
-      let longer = ap length one.ops ∙ length-append m.plan.ops.items (if is_kept m it then record { line = line; name = it.name; act = Report it.line } ∷ [] else []) in
+      let longer = ap length one.ops ∙ length-append m.plan.ops.items (if is_kept m it then record { line = line; name = it.name; act = Report it.line }
+      ∷ [] else []) in
       record {
-        rest = as_p ∙ (let a = sym (ap (λ (k : Planner). k.overdue) as_p) in let b = sym (ap (λ (k : Planner). k.plan.ops) as_p) in λ i. record p { overdue = a i; plan = record p.plan { ops = b i } });
+        rest = as_p ∙ (let a = sym (ap (λ (k : Planner). k.overdue) as_p) in let b = sym (ap (λ (k : Planner). k.plan.ops) as_p) in
+            λ i. record p { overdue = a i; plan = record p.plan { ops = b i } });
         count = (let c = so.count in let l = ap length ops in let few = at_most_one (is_kept m it) in omega arith);
         so_far = λ g begun n s found st.
             subst (λ o. IsSoFar p line s o q.plan.ops.items) (sym overdue)
@@ -253,7 +263,8 @@ module _ (p m : Planner) (line : ℕ) (so : AreReportedSoFar p m line) where
   reported_all last = record {
     ops = λ g begun n s found st.
         let so_now = so.so_far g begun n s found st in
-        let end : (length p.tempjobs.items ≤ m.overdue) ⊎ ((c : ℕ) × (it : Container) × (slice_get p.tempjobs.items m.overdue ≡ Some c) × (slice_get p.containers.items c ≡ Some it) × (s.frame < it.frame + 3)) = ⊎_elim
+        let end : (length p.tempjobs.items ≤ m.overdue) ⊎ ((c : ℕ) × (it : Container) × (slice_get p.tempjobs.items m.overdue ≡ Some c)
+        × (slice_get p.containers.items c ≡ Some it) × (s.frame < it.frame + 3)) = ⊎_elim
         (λ past. inl (let l = ap length tempjobs_are in omega arith))
         (λ (y : IsYoung m). inr (
           y.number,
@@ -262,8 +273,10 @@ module _ (p m : Planner) (line : ℕ) (so : AreReportedSoFar p m line) where
           ap (λ xs. slice_get xs y.number) (sym containers_are) ∙ y.has,
           (let young = y.young in let same = frame_same in let f = st.numbers.frame in omega arith),
         ))
-        last in
-        (ends_said p line g begun n s found st m.overdue m.plan.ops.items so_now end, ends_seen p line g begun n s found st m.overdue m.plan.ops.items so_now end);
+        last in (
+          ends_said p line g begun n s found st m.overdue m.plan.ops.items so_now end,
+          ends_seen p line g begun n s found st m.overdue m.plan.ops.items so_now end,
+        );
     count = so.count;
     rest = so.rest;
   }

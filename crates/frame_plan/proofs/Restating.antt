@@ -134,14 +134,32 @@ module _ (p : Planner) (g : Setting) (begun : ScriptState) (n : ℕ) (s : Script
   copy_kept k place c = record { old = c.old; new = c.new; is_old = c.is_old; is_new = c.is_new; same = c.same }
 
   guard_kept : (k place : ℕ) → IsGuardedCopy p g k place → IsGuardedCopy q g k place
-  guard_kept k place c = record { old = c.old; new = c.new; is_old = c.is_old; is_new = c.is_new; guarded = c.guarded; contents = c.contents; words = c.words; footprint = c.footprint }
+  guard_kept k place c = record {
+    old = c.old;
+    new = c.new;
+    is_old = c.is_old;
+    is_new = c.is_new;
+    guarded = c.guarded;
+    contents = c.contents;
+    words = c.words;
+    footprint = c.footprint;
+  }
 
   live_kept : (m : ℕ) → m ≤ s.made → states.live_below t m ≡ states.live_below s m
   live_kept zero le = refl
   live_kept (suc m) le = λ i. live_kept m (omega arith) i + cond (is_live s m) (words m (omega arith) i) 0
 
   agrees_back : (x : Outline) → Agrees q g begun found x → Agrees p g begun found x
-  agrees_back x a = record { begins = a.begins; names = a.names; kernels = a.kernels; literals = a.literals; jobs = a.jobs; starts = a.starts; cells = a.cells; small = a.small }
+  agrees_back x a = record {
+    begins = a.begins;
+    names = a.names;
+    kernels = a.kernels;
+    literals = a.literals;
+    jobs = a.jobs;
+    starts = a.starts;
+    cells = a.cells;
+    small = a.small;
+  }
 
   stands : IsKnown t → AreNames values.items handles.items (length p.containers.items) t
       → ((x : Outline) → Agrees p g begun found x → IsPlanned x t (draft_of q)) → Stands q g begun (suc n) t found
@@ -199,7 +217,13 @@ pub restated : (p q : Planner) (g : Setting) (begun : ScriptState) (n : ℕ) (s 
     → ((x : Outline) → Agrees p g begun found x → IsPlanned x t (draft_of q))
     → Stands q g begun (suc n) t found
 restated p q g begun n s t found st r known named planned =
-    let as_q : Planner = record p { values = q.values; handles = q.handles; safety = q.safety; passing = q.passing; plan = record p.plan { ops = q.plan.ops } } in
+    let as_q : Planner = record p {
+      values = q.values;
+      handles = q.handles;
+      safety = q.safety;
+      passing = q.passing;
+      plan = record p.plan { ops = q.plan.ops };
+    } in
     let as_t : ScriptState = record s { values = t.values; contents = t.contents; view = t.view; refused = t.refused; passing = t.passing; lines = t.lines } in
     subst (λ k. Stands k g begun (suc n) t found) (sym r.planner)
     (subst (λ u. Stands as_q g begun (suc n) u found) (sym r.state)
@@ -230,7 +254,13 @@ pub changed_fields : (p q : Planner) (values : Vec Value Global) (handles : Vec 
     → q ≡ record p { values = values; handles = handles; safety = safety; passing = passing; plan = record p.plan { ops = ops } }
     → q ≡ record p { values = q.values; handles = q.handles; safety = q.safety; passing = q.passing; plan = record p.plan { ops = q.plan.ops } }
 changed_fields p q values handles safety passing ops e =
-    let f : Planner → Planner = λ k. record p { values = k.values; handles = k.handles; safety = k.safety; passing = k.passing; plan = record p.plan { ops = k.plan.ops } } in
+    let f : Planner → Planner = λ k. record p {
+      values = k.values;
+      handles = k.handles;
+      safety = k.safety;
+      passing = k.passing;
+      plan = record p.plan { ops = k.plan.ops };
+    } in
     e ∙ ap f (sym e)
 
 -- where the safety book, view numbers and contents are as they were
@@ -262,7 +292,8 @@ calm p q g begun n s t found st planner state safety view contents passing value
 pub name_is : (g : Setting) (x : Outline) (n : ℕ) → map (λ v. string_bytes v) x.plan.names.items ≡ g.names → name_of x.plan n ≡ name_text g n
 name_is g x n e = ap (λ ns. get_or ns n []) e
 
-pub name_short : (g : Setting) (x : Outline) (n : ℕ) → map (λ v. string_bytes v) x.plan.names.items ≡ g.names → n < length g.names → n < length x.plan.names.items
+pub name_short : (g : Setting) (x : Outline) (n : ℕ) → map (λ v. string_bytes v) x.plan.names.items ≡ g.names → n < length g.names
+    → n < length x.plan.names.items
 name_short g x n e lt = let l = ap length e in let f = long (λ v. string_bytes v) x.plan.names.items in omega arith
 
 -- the draft does one operation more
@@ -284,7 +315,8 @@ one_op_more ops new op e = let l = ap length e in let m = length-append ops (op 
 pub pushed_in : (p q : Planner) (op : Op) (n : ℕ) → IsPushed p q op → n < vec_len p.values → n < vec_len q.values
 pushed_in p q op n i lt = subst (λ (k : Planner). n < vec_len k.values) (sym i.rest) lt
 
-pub pushed_there : (p q : Planner) (op : Op) (v : Value) → IsPushed p q op → IsThere (vec_len p.containers) (vec_len p.handles) v → IsThere (vec_len q.containers) (vec_len q.handles) v
+pub pushed_there : (p q : Planner) (op : Op) (v : Value) → IsPushed p q op → IsThere (vec_len p.containers) (vec_len p.handles) v
+    → IsThere (vec_len q.containers) (vec_len q.handles) v
 pushed_there p q op v i h = subst (λ (k : Planner). IsThere (vec_len k.containers) (vec_len k.handles) v) (sym i.rest) h
 
 -- ---- a refused statement
@@ -356,7 +388,8 @@ refused_stands p q g begun n s found x r st pass refused below restates ops know
     (name_short g x_ r.name a.names below) (name_is g x_ r.name a.names) (adds_op p q (say_op x r) restates.planner ops))
 
 -- what it makes of names
-like_named : (g : Setting) (x : Statement) (r : Refused) (s t : ScriptState) (name : ℕ) (v : states.Value) → IsLikeBefore g x r s t → made_by x.act ≡ Some name → lost_value x.act ≡ v → IsNamed s t name v
+like_named : (g : Setting) (x : Statement) (r : Refused) (s t : ScriptState) (name : ℕ) (v : states.Value) → IsLikeBefore g x r s t → made_by x.act ≡ Some name
+    → lost_value x.act ≡ v → IsNamed s t name v
 like_named g x r s t name v h made lost = record {
   here = h.lost name (subst (λ o. is_name o name ≡ true) (sym made) (eq-eqb name name refl)) ∙ lost;
   others = λ m ne. h.values m (subst (λ o. is_name o m ≡ false) (sym made) (differ m ne));
@@ -391,7 +424,8 @@ module _ (script : Script) (table : Table) (begun : ScriptState) (n : ℕ) (foun
     abbrev Onward : Planner → Type 0
     Onward q = HasStepped script table begun n found p q x
 
-    onward : (q : Planner) → IsRestated p q s (act g s x) → q.plan.ops.items ≡ p.plan.ops.items ++ say_op x r ∷ [] → AreNames q.values.items q.handles.items (length p.containers.items) (act g s x) → Onward q
+    onward : (q : Planner) → IsRestated p q s (act g s x) → q.plan.ops.items ≡ p.plan.ops.items ++ say_op x r ∷ []
+        → AreNames q.values.items q.handles.items (length p.containers.items) (act g s x) → Onward q
     onward q restates ops named =
         refused_steps script table begun n found p q x step
         (refused_stands p q g begun n s found x r st step.acts refused below restates ops (known_after script table n x step) named)
@@ -399,7 +433,8 @@ module _ (script : Script) (table : Table) (begun : ScriptState) (n : ℕ) (foun
         r refused
 
     -- nothing but the line, and how many statements are passed by
-    pub said_passing : (m q : Planner) (passing : ℕ) → made_by x.act ≡ None → passed_with x.act ≡ passing → BreaksNone r x.act s → IsPushed p m (say_op x r) → q ≡ record m { passing = passing } → Onward q
+    pub said_passing : (m q : Planner) (passing : ℕ) → made_by x.act ≡ None → passed_with x.act ≡ passing → BreaksNone r x.act s → IsPushed p m (say_op x r)
+        → q ≡ record m { passing = passing } → Onward q
     said_passing m q passing unnamed passed none i e =
         let is = e ∙ ap (λ (k : Planner). record k { passing = passing }) i.rest in
         let planner = changed_fields p q p.values p.handles p.safety passing m.plan.ops is in
@@ -407,7 +442,8 @@ module _ (script : Script) (table : Table) (begun : ScriptState) (n : ℕ) (foun
         let handles = ap (λ (k : Planner). k.handles.items) is in
         let ops = ap (λ (k : Planner). k.plan.ops.items) is ∙ i.ops in
         onward q
-        (calm p q g begun n s (act g s x) found st planner (like_state g x r s (act g s x) like) (ap (λ (k : Planner). k.safety) is) (like_views g x r s (act g s x) like none) like.contents
+        (calm p q g begun n s (act g s x) found st planner (like_state g x r s (act g s x) like) (ap (λ (k : Planner). k.safety) is)
+        (like_views g x r s (act g s x) like none) like.contents
         (ap (λ (k : Planner). k.passing) is ∙ sym (like.passing ∙ passed))
         (ap length values) (let l = ap length handles in omega arith) (one_op_more p.plan.ops.items q.plan.ops.items (say_op x r) ops))
         ops
@@ -431,16 +467,20 @@ module _ (script : Script) (table : Table) (begun : ScriptState) (n : ℕ) (foun
         let handles = ap (λ (k : Planner). k.handles.items) is in
         let ops = ap (λ (k : Planner). k.plan.ops.items) is ∙ i.ops in
         onward q
-        (calm p q g begun n s (act g s x) found st planner (like_state g x r s (act g s x) like) (ap (λ (k : Planner). k.safety) is) (like_views g x r s (act g s x) like none) like.contents
+        (calm p q g begun n s (act g s x) found st planner (like_state g x r s (act g s x) like) (ap (λ (k : Planner). k.safety) is)
+        (like_views g x r s (act g s x) like none) like.contents
         (ap (λ (k : Planner). k.passing) is ∙ st.numbers.passing ∙ step.acts ∙ sym (like.passing ∙ passed))
-        (ap length values ∙ set_long p.values.items name Dead) (let l = ap length handles in omega arith) (one_op_more p.plan.ops.items q.plan.ops.items (say_op x r) ops))
+        (ap length values ∙ set_long p.values.items name Dead) (let l = ap length handles in omega arith)
+        (one_op_more p.plan.ops.items q.plan.ops.items (say_op x r) ops))
         ops
         (subst (λ hs. AreNames q.values.items hs (length p.containers.items) (act g s x)) (sym handles)
-        (renamed_names p.values.items q.values.items p.handles.items (length p.containers.items) s (act g s x) name Dead states.Dead st.names values tt (λ k e. absurd cc) refl
+        (renamed_names p.values.items q.values.items p.handles.items (length p.containers.items) s (act g s x) name Dead states.Dead st.names values tt
+        (λ k e. absurd cc) refl
         (like_named g x r s (act g s x) name states.Dead like made lost)))
 
     -- a name that it would have made has no jobs
-    pub said_nobody : (m q : Planner) (name : ℕ) → made_by x.act ≡ Some name → lost_value x.act ≡ states.Handle nobody → passed_with x.act ≡ 0 → BreaksNone r x.act s
+    pub said_nobody : (m q : Planner) (name : ℕ) → made_by x.act ≡ Some name → lost_value x.act ≡ states.Handle nobody → passed_with x.act ≡ 0
+        → BreaksNone r x.act s
         → IsPushed p m (say_op x r) → HasHandle m q name nobody → Onward q
     said_nobody m q name made lost passed none i e =
         let was = subst (λ (k : Planner). AreNames k.values.items k.handles.items (length p.containers.items) s) (sym i.rest) st.names in
@@ -451,7 +491,8 @@ module _ (script : Script) (table : Table) (begun : ScriptState) (n : ℕ) (foun
         let grown = (handles_more m q (length p.containers.items) s (act g s x) name nobody was e named).1 in
         let as_many = ap (λ (k : Planner). length k.handles.items) i.rest in
         onward q
-        (calm p q g begun n s (act g s x) found st planner (like_state g x r s (act g s x) like) (ap (λ (k : Planner). k.safety) is) (like_views g x r s (act g s x) like none) like.contents
+        (calm p q g begun n s (act g s x) found st planner (like_state g x r s (act g s x) like) (ap (λ (k : Planner). k.safety) is)
+        (like_views g x r s (act g s x) like none) like.contents
         (ap (λ (k : Planner). k.passing) is ∙ st.numbers.passing ∙ step.acts ∙ sym (like.passing ∙ passed))
         (ap length e.values ∙ set_long m.values.items name (Handles e.place) ∙ ap (λ (k : Planner). length k.values.items) i.rest)
         (omega arith)
@@ -484,10 +525,12 @@ pushed_restates p q op g begun n s t found st i state passing view form =
       ops = one_op_more p.plan.ops.items q.plan.ops.items op i.ops;
       form = form;
       slots = λ k. ap (λ b. record (state_of b k) { view = (state_of q.safety k).view }) (ap (λ (k : Planner). k.safety) i.rest);
-      views = λ c it h alive. ap (λ (k : Planner). (state_of k.safety it.slot.0).view) i.rest ∙ (st.containers.each c it h).view alive ∙ ap (λ f. f c) (sym view);
+      views = λ c it h alive. ap (λ (k : Planner). (state_of k.safety it.slot.0).view) i.rest ∙ (st.containers.each c it h).view alive
+          ∙ ap (λ f. f c) (sym view);
     }
 
-pub pushed_names : (p q : Planner) (op : Op) (made : ℕ) (s t : ScriptState) → IsPushed p q op → t.values ≡ s.values → AreNames p.values.items p.handles.items made s → AreNames q.values.items q.handles.items made t
+pub pushed_names : (p q : Planner) (op : Op) (made : ℕ) (s t : ScriptState) → IsPushed p q op → t.values ≡ s.values
+    → AreNames p.values.items p.handles.items made s → AreNames q.values.items q.handles.items made t
 pushed_names p q op made s t i values was =
     subst (λ (k : Planner). AreNames k.values.items k.handles.items made t) (sym i.rest) (same_names p.values.items p.handles.items made s t values was)
 

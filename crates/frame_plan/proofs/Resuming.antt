@@ -87,7 +87,8 @@ all_completed g s (When name sign value count) acts j pos le =
     is_true false e = absurd cc
 all_completed g s a acts j pos le = absurd acts
 
-names_there : (script : Script) (table : Table) (old : Planner) (begun : ScriptState) (n : ℕ) (found : List ℕ) (x : Statement) → StandsAt old script table begun n found → IsAccepted script → slice_get script.statements.items n ≡ Some x
+names_there : (script : Script) (table : Table) (old : Planner) (begun : ScriptState) (n : ℕ) (found : List ℕ) (x : Statement)
+    → StandsAt old script table begun n found → IsAccepted script → slice_get script.statements.items n ≡ Some x
     → (a : Order) → x.act ≡ a → IsActingTest (setting script table) (state_at script table n) a → 0 < length (setting script table).names
 names_there script table old begun n found x st accepted here (When name sign value count) is acts =
     let lt = name_below script table old begun n found x st (record { accepted = accepted; here = here; acts = acts.0 }) name sign value count is acts.1 in
@@ -96,8 +97,10 @@ names_there script table old begun n found x st accepted here a is acts = absurd
 
 -- ---- the planner
 
-module _ (script : Script) (table : Table) (old : Planner) (begun : ScriptState) (n : ℕ) (found : List ℕ) (x : Statement) (st : StandsAt old script table begun n found)
-    (accepted : IsAccepted script) (here : slice_get script.statements.items n ≡ Some x) (acts : IsActingTest (setting script table) (state_at script table n) x.act)
+module _ (script : Script) (table : Table) (old : Planner) (begun : ScriptState) (n : ℕ) (found : List ℕ) (x : Statement)
+    (st : StandsAt old script table begun n found)
+    (accepted : IsAccepted script) (here : slice_get script.statements.items n ≡ Some x)
+    (acts : IsActingTest (setting script table) (state_at script table n) x.act)
     (carried : Cells) (held : AllHeld (λ k. get_or found k 0) (state_at script table n) carried)
     (before : ℕ) (w : Written)
     (before_is : before ≡ (state_at script table n).book.count)
@@ -176,7 +179,8 @@ module _ (script : Script) (table : Table) (old : Planner) (begun : ScriptState)
         let l = a.literals in
         ap (λ xs. get_or (map (λ (v : Vec ℤ Global). v.items) xs) 0 []) l.1 ∙ first (w.literals.items) l.0 literals
       where
-        first : (xs later : List (Vec ℤ Global)) → map (λ v. v.items) xs ≡ cell_list carried 0 len ∷ [] → get_or (map (λ (v : Vec ℤ Global). v.items) (xs ++ later)) 0 [] ≡ cell_list carried 0 len
+        first : (xs later : List (Vec ℤ Global)) → map (λ v. v.items) xs ≡ cell_list carried 0 len ∷ []
+            → get_or (map (λ (v : Vec ℤ Global). v.items) (xs ++ later)) 0 [] ≡ cell_list carried 0 len
         first [] later e = absurd cc
         first (z ∷ xs) later e = ap (λ l. get_or l 0 []) e
 
@@ -191,7 +195,8 @@ module _ (script : Script) (table : Table) (old : Planner) (begun : ScriptState)
           are = literal_is;
           apart = apart;
         })
-        (let e = ap length a.names in let m = long (λ v. string_bytes v) y.plan.names.items in let lt = names_there script table old begun n found x st accepted here x.act refl acts in omega arith)
+        (let e = ap length a.names in let m = long (λ v. string_bytes v) y.plan.names.items in
+        let lt = names_there script table old begun n found x st accepted here x.act refl acts in omega arith)
         (record { segments = segments; jobs = jobs; waits = waits; ops = ops })
 
     planned : IsPlanned y s (draft_of q)
@@ -242,16 +247,19 @@ module _ (script : Script) (table : Table) (old : Planner) (begun : ScriptState)
 
 -- ---- the test acts
 
-pub test_acts : (g : Setting) (s : ScriptState) (x : Statement) (held : Bool) (a : Order) → x.act ≡ a → IsActingTest g s a → held ≡ outcome_of s a → act g s x ≡ record s { passing = passed_after held a }
+pub test_acts : (g : Setting) (s : ScriptState) (x : Statement) (held : Bool) (a : Order) → x.act ≡ a → IsActingTest g s a → held ≡ outcome_of s a
+    → act g s x ≡ record s { passing = passed_after held a }
 test_acts g s x held (When name sign value count) is acts out =
-    accepted_state g s x acts.0 (ap (refusal g s) is ∙ acts.1) ∙ ap (effect g x.line s) is ∙ ap (λ b. record s { passing = if b then 0 else count }) (sym out) ∙ ap (λ k. record s { passing = k }) (by held)
+    accepted_state g s x acts.0 (ap (refusal g s) is ∙ acts.1) ∙ ap (effect g x.line s) is ∙ ap (λ b. record s { passing = if b then 0 else count }) (sym out)
+    ∙ ap (λ k. record s { passing = k }) (by held)
   where
     by : (b : Bool) → (if b then 0 else count) ≡ passed_after b (When name sign value count)
     by true = refl
     by false = refl
 test_acts g s x held a is acts out = absurd acts
 
-pub outcome_is : (script : Script) (table : Table) (n : ℕ) (x : Statement) (held : Bool) → IsOutcome script table n (Some held) → slice_get script.statements.items n ≡ Some x → held ≡ outcome_of (state_at script table n) x.act
+pub outcome_is : (script : Script) (table : Table) (n : ℕ) (x : Statement) (held : Bool) → IsOutcome script table n (Some held)
+    → slice_get script.statements.items n ≡ Some x → held ≡ outcome_of (state_at script table n) x.act
 outcome_is script table zero x held h e = absurd (none_some (sym h))
 outcome_is script table (suc n) x held h e = some_is h ∙ ap (outcome_by (state_at script table (suc n))) e
 
@@ -271,10 +279,27 @@ module _ (script : Script) (table : Table) (book : SectionBook) (n : ℕ) (carri
   module _ (kernels : List Kernel) (q : Planner) (mem : List ℤ) (left : AreLeft mem carried len) (r : IsResumed kernels book.planner q mem) where
     -- the planner of the section before, with another plan
     abbrev again : Planner
-    again = record b.old { jobs_before = q.jobs_before; plan = record book.planner.plan { kernels = q.plan.kernels; literals = q.plan.literals; ops = q.plan.ops } }
+    again = record b.old {
+      jobs_before = q.jobs_before;
+      plan = record book.planner.plan {
+        kernels = q.plan.kernels;
+        literals = q.plan.literals;
+        ops = q.plan.ops;
+      };
+    }
 
-    pub q_is : q ≡ record b.old { jobs_before = q.jobs_before; plan = record book.planner.plan { kernels = q.plan.kernels; literals = q.plan.literals; ops = q.plan.ops } }
-    q_is = r.rest ∙ ap (λ (k : Planner). record k { jobs_before = q.jobs_before; plan = record book.planner.plan { kernels = q.plan.kernels; literals = q.plan.literals; ops = q.plan.ops } }) b.emptied.rest
+    pub q_is : q ≡ record b.old {
+      jobs_before = q.jobs_before;
+      plan = record book.planner.plan {
+        kernels = q.plan.kernels;
+        literals = q.plan.literals;
+        ops = q.plan.ops;
+      };
+    }
+    q_is = r.rest ∙ ap (λ (k : Planner). record k {
+      jobs_before = q.jobs_before;
+      plan = record book.planner.plan { kernels = q.plan.kernels; literals = q.plan.literals; ops = q.plan.ops };
+    }) b.emptied.rest
 
     same_cells : cell_list (cells_of mem) 0 (peak_of book.planner.store) ≡ cell_list carried 0 (peak_of b.old.store)
     same_cells =
@@ -311,7 +336,8 @@ module _ (script : Script) (table : Table) (book : SectionBook) (n : ℕ) (carri
     stands_again : AreKernelsOf book script table kernels → StandsAt q script table (state_at script table n) n b.found
     stands_again ks =
         subst (λ p. StandsAt p script table (state_at script table n) n b.found) (sym q_is)
-        (stands_resumed script table b.old b.begun n b.found b.test b.stood b.accepted b.here b.acts carried b.held q.jobs_before (record book.planner.plan { kernels = q.plan.kernels; literals = q.plan.literals; ops = q.plan.ops })
+        (stands_resumed script table b.old b.begun n b.found b.test b.stood b.accepted b.here b.acts carried b.held q.jobs_before
+        (record book.planner.plan { kernels = q.plan.kernels; literals = q.plan.literals; ops = q.plan.ops })
         (r.before ∙ ap (λ (k : Planner). count_of k.jobs) b.emptied.rest ∙ b.stood.jobs.count)
         (ap (λ (d : Draft). d.segments) b.emptied.draft)
         (ap (λ (d : Draft). d.jobs) b.emptied.draft)
@@ -322,15 +348,19 @@ module _ (script : Script) (table : Table) (book : SectionBook) (n : ℕ) (carri
         (kernels_again ks)
         (let e = ap length r.kernels_are in let few = ks.few in let at = b.at in omega arith))
 
-    pub resumed_on : AreKernelsOf book script table kernels → (held : Bool) (x : Statement) → slice_get script.statements.items n ≡ Some x → IsOutcome script table n (Some held) → StandsAt (record q { passing = passed_after held x.act }) script table (state_at script table n) (suc n) b.found
+    pub resumed_on : AreKernelsOf book script table kernels → (held : Bool) (x : Statement) → slice_get script.statements.items n ≡ Some x
+        → IsOutcome script table n (Some held) → StandsAt (record q { passing = passed_after held x.act }) script table (state_at script table n)
+        (suc n) b.found
     resumed_on ks held x here out =
         let same : b.test ≡ x = some_is (sym b.here ∙ here) in
         let acts = subst (λ (y : Statement). IsActingTest (setting script table) (state_at script table n) y.act) same b.acts in
         let now = test_acts (setting script table) (state_at script table n) x held x.act refl acts (outcome_is script table n x held out here) in
-        subst (λ t. Stands (record q { passing = passed_after held x.act }) (setting script table) (state_at script table n) (suc n) t b.found) (sym now ∙ next_state script table n x here)
+        subst (λ t. Stands (record q { passing = passed_after held x.act }) (setting script table) (state_at script table n) (suc n) t b.found)
+        (sym now ∙ next_state script table n x here)
         (repassed q (setting script table) (state_at script table n) n (state_at script table n) b.found (stands_again ks) (passed_after held x.act))
 
-    pub standing_on : AreKernelsOf book script table kernels → (held : Bool) (x : Statement) (k : ℕ) → slice_get script.statements.items book.at ≡ Some x → IsOutcome script table n (Some held) → k ≡ passed_after held x.act
+    pub standing_on : AreKernelsOf book script table kernels → (held : Bool) (x : Statement) (k : ℕ) → slice_get script.statements.items book.at ≡ Some x
+        → IsOutcome script table n (Some held) → k ≡ passed_after held x.act
         → StandsAt (record q { passing = k }) script table (state_at script table n) (book.at + 1) b.found
     standing_on ks held x k there_is out is =
         let here : slice_get script.statements.items n ≡ Some x = ap (slice_get script.statements.items) (sym b.at) ∙ there_is in
@@ -343,7 +373,8 @@ module _ (script : Script) (table : Table) (book : SectionBook) (n : ℕ) (carri
       let some = some_test script.statements.items n b.test b.here (not_test (setting script table) (state_at script table n) b.test.act b.acts) in
       text_passes_none script table fault (sym (limit_is script table true some) ∙ b.within) p
     where
-      some_test : (xs : List Statement) (n : ℕ) (x : Statement) → slice_get xs n ≡ Some x → is_when x.act ≡ true → list_any (λ (x : Statement). is_when x.act) xs ≡ true
+      some_test : (xs : List Statement) (n : ℕ) (x : Statement) → slice_get xs n ≡ Some x → is_when x.act ≡ true
+          → list_any (λ (x : Statement). is_when x.act) xs ≡ true
       some_test xs n x e is = by (list_any (λ (x : Statement). is_when x.act) xs) refl
         where
           by : (c : Bool) → list_any (λ (x : Statement). is_when x.act) xs ≡ c → list_any (λ (x : Statement). is_when x.act) xs ≡ true

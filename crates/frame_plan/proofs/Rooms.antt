@@ -20,7 +20,8 @@ use Rattle.frame_plan.proofs.Outlining.{outline, agrees, jobs_are}
 few_parts : (n step : ℕ) → 1 ≤ step → n ≤ MOST_PIECES * step → pieces_in n step ≤ MOST_PIECES
 few_parts n step pos le = ⊎_elim
     (λ z. let one : pieces_in n step ≡ 1 = ap (λ k. pieces_in k step) z in omega arith)
-    (λ ne. subst (λ k. k ≤ MOST_PIECES) (sym (cond-false (nat_eq n 0) 1 (div_ceil n step) (ne_eqb n 0 ne))) (under (div_ceil n step) (div_ceil_times n step pos).1))
+    (λ ne. subst (λ k. k ≤ MOST_PIECES) (sym (cond-false (nat_eq n 0) 1 (div_ceil n step) (ne_eqb n 0 ne)))
+    (under (div_ceil n step) (div_ceil_times n step pos).1))
     (cases_eq n 0)
   where
     under : (k : ℕ) → k * step < n + step → k ≤ MOST_PIECES
@@ -30,14 +31,16 @@ job_few : (parallel : Bool) (n step : ℕ) → 1 ≤ step → n ≤ MOST_PIECES 
 job_few true n step pos le = few_parts n step pos le
 job_few false n step pos le = omega arith
 
-all_few : (jobs : List JobPlan) → ((j : ℕ) (job : JobPlan) → slice_get jobs j ≡ Some job → pieces_of job ≤ MOST_PIECES) → pieces_before jobs (length jobs) ≤ MOST_PIECES * length jobs
+all_few : (jobs : List JobPlan) → ((j : ℕ) (job : JobPlan) → slice_get jobs j ≡ Some job → pieces_of job ≤ MOST_PIECES)
+    → pieces_before jobs (length jobs) ≤ MOST_PIECES * length jobs
 all_few [] each = omega arith
 all_few (x ∷ more) each =
     let here = each 0 x refl in
     let rest = all_few more (λ j job at. each (suc j) job at) in
     omega arith
 
-module _ (script : Script) (table : Table) (p : Planner) (begun : ScriptState) (n : ℕ) (s : ScriptState) (found : List ℕ) (st : Stands p (setting script table) begun n s found) where
+module _ (script : Script) (table : Table) (p : Planner) (begun : ScriptState) (n : ℕ) (s : ScriptState) (found : List ℕ)
+    (st : Stands p (setting script table) begun n s found) where
   planned : IsPlanned (outline p script table begun n s found st) s (draft_of p)
   planned = st.planned (outline p script table begun n s found st) (agrees p script table begun n s found st)
 
@@ -46,7 +49,8 @@ module _ (script : Script) (table : Table) (p : Planner) (begun : ScriptState) (
 
   pub few_pieces : p.plan.pieces ≤ 64 * 4096
   few_pieces =
-      let each = all_few p.plan.jobs.items (λ j job at. let f = planned.fitting.jobs_fit j job at in job_few job.parallel job.cut.n job.cut.step f.2.cut.step.0 f.2.cut.pieces) in
+      let each = all_few p.plan.jobs.items (λ j job at. let f = planned.fitting.jobs_fit j job at in
+      job_few job.parallel job.cut.n job.cut.step f.2.cut.step.0 f.2.cut.pieces) in
       let e = st.numbers.pieces in let c = counted in let room = p.jobs.room.0 in omega arith
 
   pub jobs_after : p.jobs_before ≤ count_of p.jobs

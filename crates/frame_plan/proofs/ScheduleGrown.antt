@@ -21,11 +21,11 @@ use Rattle.slot_store.specs.Stores.{peak_of}
 use Rattle.plan_laws.specs.Ledgers.{later}
 use Rattle.plan_laws.specs.Planned.{Outline}
 use Rattle.frame_plan.specs.declared.state.Planner.{Planner}
-use Rattle.frame_plan.specs.Growth.{given_so_far, greatest_end, StartAs, IsJobOf, HasJobOf, Schedules, SchedulesUnless, deps_after, is_none, waits_in, HasWaited, IsStartedAfter, Awaits, AwaitsUnless, Grows}
+use Rattle.frame_plan.specs.Growth.{given_so_far, greatest_end, StartAs, IsJobOf, HasJobOf, Schedules, SchedulesUnless, deps_after, is_none, waits_in, HasWaited, IsStartedAfter, Awaits, AwaitsUnless, unless_none, waits_by, newly_completed, Grows}
 use Rattle.frame_plan.specs.Stands.{Agrees, Stands}
 use Rattle.frame_plan.specs.Steps.{state_at, IsStep, StandsAt, HasStepped}
 use Rattle.frame_plan.proofs.Outlining as outlining
-use Rattle.frame_plan.proofs.Quiet.{given_closed, plain_span, plain_takes, waits_closed}
+use Rattle.frame_plan.proofs.Quiet.{each_closed, given_closed, plain_span, plain_takes, waits_closed, waits_stay}
 use Rattle.frame_ast.specs.declared.script.NewJob.{NewJob}
 use Rattle.frame_plan.specs.Starting.{in_box}
 
@@ -46,7 +46,8 @@ none_waived [] e = refl
 none_waived (x ∷ xs) e = absurd cc
 
 -- Starts that agree with those found so far give a whole plan that goes on from the plan so far.
-module _ (p : Planner) (script : Script) (table : Table) (begun : ScriptState) (n : ℕ) (s : ScriptState) (found : List ℕ) (st : Stands p (setting script table) begun n s found) (starts : Starts) where
+module _ (p : Planner) (script : Script) (table : Table) (begun : ScriptState) (n : ℕ) (s : ScriptState) (found : List ℕ)
+    (st : Stands p (setting script table) begun n s found) (starts : Starts) where
   abbrev pub outline_by : Outline
   outline_by = record (outlining.outline p script table begun n s found st) { starts = starts }
 
@@ -93,7 +94,8 @@ module _ (script : Script) (table : Table) (begun : ScriptState) (n : ℕ) (foun
           → StartAs starts found
           → IsJobOf g starts begun.book.count s waited asked.kernel asked.args.items asked.cut asked.defer asked.waive.items new.plan.kernels.items job
 
-    module _ (step : IsStep script table n x) (none : refusal g s x.act ≡ None) (st : StandsAt p script table begun n found) (segment : Segment) (job : JobPlan) (waited : Jobs) (is : HasStarted segment job waited) where
+    module _ (step : IsStep script table n x) (none : refusal g s x.act ≡ None) (st : StandsAt p script table begun n found) (segment : Segment) (job : JobPlan)
+        (waited : Jobs) (is : HasStarted segment job waited) where
       spans_stay : given_so_far new ≡ given_so_far p
       spans_stay =
           given_closed p.plan.segments.items new.plan.segments.items segment p.plan.ops.items new.plan.ops.items is.segments is.ops_were is.ops
@@ -112,14 +114,19 @@ module _ (script : Script) (table : Table) (begun : ScriptState) (n : ℕ) (foun
           → HasJobOf g starts begun.book.count s (deps_after g s x) asked.kernel asked.args.items asked.cut asked.defer asked.waive.items new.plan.kernels.items
           (slice_get new.plan.jobs.items (s.book.count - begun.book.count))
       job_there starts h =
-          subst (λ o. HasJobOf g starts begun.book.count s (deps_after g s x) asked.kernel asked.args.items asked.cut asked.defer asked.waive.items new.plan.kernels.items o) (sym at_place)
-          (subst (λ set. IsJobOf g starts begun.book.count s set asked.kernel asked.args.items asked.cut asked.defer asked.waive.items new.plan.kernels.items job) (sym set_is) (is.job_is starts h))
+          subst (λ o. HasJobOf g starts begun.book.count s (deps_after g s x) asked.kernel asked.args.items asked.cut asked.defer asked.waive.items
+          new.plan.kernels.items o) (sym at_place)
+          (subst (λ set. IsJobOf g starts begun.book.count s set asked.kernel asked.args.items asked.cut asked.defer asked.waive.items new.plan.kernels.items
+          job) (sym set_is) (is.job_is starts h))
 
       schedules : (starts : Starts) → StartAs starts found
-          → Schedules g starts begun.book.count s (deps_after g s x) s.passing x.act new.plan.kernels.items (slice_get new.plan.jobs.items (s.book.count - begun.book.count))
+          → Schedules g starts begun.book.count s (deps_after g s x) s.passing x.act new.plan.kernels.items
+          (slice_get new.plan.jobs.items (s.book.count - begun.book.count))
       schedules starts h =
-          subst (λ passing. Schedules g starts begun.book.count s (deps_after g s x) passing x.act new.plan.kernels.items (slice_get new.plan.jobs.items (s.book.count - begun.book.count))) (sym step.acts)
-          (subst (λ o. SchedulesUnless g starts begun.book.count s (deps_after g s x) x.act o new.plan.kernels.items (slice_get new.plan.jobs.items (s.book.count - begun.book.count))) (sym none) (job_there starts h))
+          subst (λ passing. Schedules g starts begun.book.count s (deps_after g s x) passing x.act new.plan.kernels.items
+          (slice_get new.plan.jobs.items (s.book.count - begun.book.count))) (sym step.acts)
+          (subst (λ o. SchedulesUnless g starts begun.book.count s (deps_after g s x) x.act o new.plan.kernels.items
+          (slice_get new.plan.jobs.items (s.book.count - begun.book.count))) (sym none) (job_there starts h))
 
       -- no more is waited for, and no more is completed
       has_waited : HasWaited begun.book.count s p → HasWaited begun.book.count (act g s x) new
@@ -130,6 +137,12 @@ module _ (script : Script) (table : Table) (begun : ScriptState) (n : ℕ) (foun
           ∙ h j above
           ∙ ap (λ (b : Book). later begun.book.count b.completed j) (sym is.book)
 
+      waits_kept : waits_by new ≡ waits_by p ++ unless_none (newly_completed begun.book.count s (act g s x))
+      waits_kept =
+          each_closed p.plan.segments.items new.plan.segments.items segment p.plan.waits.items new.plan.waits.items [] is.segments is.waits_were is.waits
+          ∙ append-nil (waits_by p)
+          ∙ waits_stay begun.book.count s (act g s x) (waits_by p) (ap (λ (b : Book). b.completed) is.book)
+
       started_after : HasWaited begun.book.count s p
           → IsStartedAfter new.plan.segments.items (suc (s.book.count - begun.book.count)) begun.book.count s.book.completed
       started_after h = record {
@@ -137,7 +150,8 @@ module _ (script : Script) (table : Table) (begun : ScriptState) (n : ℕ) (foun
         segment = segment;
         rest = [];
         are = is.segments;
-        starts = is.starts ∙ (let k : length p.plan.jobs.items ≡ s.book.count - begun.book.count = (let e = place in omega arith) in ap (λ m. Some (record { 0 = suc m })) k);
+        starts = is.starts ∙ (let k : length p.plan.jobs.items ≡ s.book.count - begun.book.count = (let e = place in omega arith) in
+            ap (λ m. Some (record { 0 = suc m })) k);
         waits = λ j above. ap (λ ids. has_job (waits_in p.plan.segments.items ++ ids) j) is.waits_were ∙ h j above;
       }
 
@@ -162,6 +176,7 @@ module _ (script : Script) (table : Table) (begun : ScriptState) (n : ℕ) (foun
             schedules = schedules starts h;
             waited = has_waited;
             awaited = awaited;
+            waits = waits_kept;
           }
         where
           or_none : (k : ℕ) → max k 0 ≡ k

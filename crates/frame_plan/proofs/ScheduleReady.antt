@@ -93,19 +93,23 @@ abbrev AreNamed : ℕ → List NamedUse → Type 0
 AreNamed m [] = Unit {0}
 AreNamed m (u ∷ us) = (u.name < m) × AreNamed m us
 
-first_named : (m : ℕ) (r : Refusal) (test : NamedUse → Bool) (us : List NamedUse) (cause : Cause) → AreNamed m us → first_with r test us ≡ Some cause → cause.name < m
+first_named : (m : ℕ) (r : Refusal) (test : NamedUse → Bool) (us : List NamedUse) (cause : Cause) → AreNamed m us → first_with r test us ≡ Some cause
+    → cause.name < m
 first_named m r test [] cause named e = absurd cc
 first_named m r test (u ∷ us) cause named e = by (test u) e (λ e. first_named m r test us cause named.1 e)
   where
-    by : (b : Bool) → (if b then Some (record { refusal = r; name = u.name }) else first_with r test us) ≡ Some cause → (first_with r test us ≡ Some cause → cause.name < m) → cause.name < m
+    by : (b : Bool) → (if b then Some (record { refusal = r; name = u.name }) else first_with r test us) ≡ Some cause
+        → (first_with r test us ≡ Some cause → cause.name < m) → cause.name < m
     by true e rest = subst (λ (c : Cause). c.name < m) (some_is e) named.0
     by false e rest = rest e
 
 alias_named : (m : ℕ) (before us : List NamedUse) (cause : Cause) → AreNamed m us → alias_after before us ≡ Some cause → cause.name < m
 alias_named m before [] cause named e = absurd cc
-alias_named m before (u ∷ us) cause named e = by (list_any (λ a. alias (given_of a) (given_of u)) before) e (λ e. alias_named m (before ++ u ∷ []) us cause named.1 e)
+alias_named m before (u ∷ us) cause named e = by (list_any (λ a. alias (given_of a) (given_of u)) before) e
+    (λ e. alias_named m (before ++ u ∷ []) us cause named.1 e)
   where
-    by : (b : Bool) → (if b then Some (record { refusal = Alias; name = u.name }) else alias_after (before ++ u ∷ []) us) ≡ Some cause → (alias_after (before ++ u ∷ []) us ≡ Some cause → cause.name < m) → cause.name < m
+    by : (b : Bool) → (if b then Some (record { refusal = Alias; name = u.name }) else alias_after (before ++ u ∷ []) us) ≡ Some cause
+        → (alias_after (before ++ u ∷ []) us ≡ Some cause → cause.name < m) → cause.name < m
     by true e rest = subst (λ (c : Cause). c.name < m) (some_is e) named.0
     by false e rest = rest e
 
@@ -129,7 +133,8 @@ refusal_named m us parallel auto cause named e =
     by true e = absurd cc
     by false e = on (greatest_blocker us) e
 
-uses_named : (p : Planner) (named : Jobs) (qs : List Param) (args : List Arg) (us : List NamedUse) → ForNames (IsUse p named) qs args us → AreNamed (length p.values.items) us
+uses_named : (p : Planner) (named : Jobs) (qs : List Param) (args : List Arg) (us : List NamedUse) → ForNames (IsUse p named) qs args us
+    → AreNamed (length p.values.items) us
 uses_named p named [] args us e = subst (AreNamed (length p.values.items)) (sym e) tt
 uses_named p named (q ∷ qs) [] us e = subst (AreNamed (length p.values.items)) (sym e) tt
 uses_named p named (q ∷ qs) (Number z ∷ args) us h = uses_named p named qs args us h
@@ -145,7 +150,8 @@ module _ (script : Script) (p : Planner) (line : ℕ) (home : Box NewJob Global)
   abbrev pub x : Statement
   x = texts.x script (λ c. None) 0 line home asked
 
-  module _ (table : Rattle.frame_ast.specs.Orders.Table) (begun : ScriptState) (n : ℕ) (found : List ℕ) (step : IsStep script table n x) (st : StandsAt p script table begun n found) where
+  module _ (table : Rattle.frame_ast.specs.Orders.Table) (begun : ScriptState) (n : ℕ) (found : List ℕ) (step : IsStep script table n x)
+      (st : StandsAt p script table begun n found) where
     abbrev g : Setting
     g = setting script table
 
@@ -163,7 +169,8 @@ module _ (script : Script) (p : Planner) (line : ℕ) (home : Box NewJob Global)
 
     pub names_below : (xs : List Arg) → xs ≡ asked.args.items → AreNamesBelow (vec_len p.values) xs
     names_below xs e = subst (AreNamesBelow (vec_len p.values)) (sym e)
-        (all_below (vec_len p.values) asked.args.items (each_lower (length g.names) (vec_len p.values) (let each = st.each in let len = p.values.ok.0 in omega arith) asked.args.items text.below))
+        (all_below (vec_len p.values) asked.args.items (each_lower (length g.names) (vec_len p.values)
+        (let each = st.each in let len = p.values.ok.0 in omega arith) asked.args.items text.below))
 
     pub handle_below : asked.handle < vec_len p.values
     handle_below = within p g begun n s found st asked.handle text.handle_below
@@ -178,15 +185,19 @@ module _ (script : Script) (p : Planner) (line : ℕ) (home : Box NewJob Global)
     kernels_each = let e = st.kernels.each in let a = p.kernels.ok.0 in let b = script.kernels.ok.0 in omega arith
 
     pub after_below : (xs : List ℕ) → xs ≡ asked.after.items → All (λ n. n < vec_len p.values) xs
-    after_below xs e = subst (All (λ n. n < vec_len p.values)) (sym e) (λ k d lt. within p g begun n s found st (get_or asked.after.items k d) (text.after_below k d lt))
+    after_below xs e = subst (All (λ n. n < vec_len p.values)) (sym e) (λ k d lt. within p g begun n s found st (get_or asked.after.items k d)
+        (text.after_below k d lt))
 
-    pub named_is : (jobs : Jobs) (xs : List ℕ) → xs ≡ asked.after.items → ((j : ℕ) → jobs j ≡ jobs_by p.handles.items p.values.items xs j) → jobs ≡ jobs_named s asked.after.items
+    pub named_is : (jobs : Jobs) (xs : List ℕ) → xs ≡ asked.after.items → ((j : ℕ) → jobs j ≡ jobs_by p.handles.items p.values.items xs j)
+        → jobs ≡ jobs_named s asked.after.items
     named_is jobs xs e h = λ i j. (h j
         ∙ ap (λ xs. jobs_by p.handles.items p.values.items xs j) e
-        ∙ jobs_are p s (length p.containers.items) st.names asked.after.items (λ k d lt. (let e = st.each in let low = text.after_below k d lt in omega arith)) j) i
+        ∙ jobs_are p s (length p.containers.items) st.names asked.after.items
+        (λ k d lt. (let e = st.each in let low = text.after_below k d lt in omega arith)) j) i
 
     pub named_up : (jobs : Jobs) → jobs ≡ jobs_named s asked.after.items → AreUpTo (count_of p.jobs) jobs
-    named_up jobs e = subst (AreUpTo (count_of p.jobs)) (sym e) (subst (λ k. AreUpTo k (jobs_named s asked.after.items)) (sym st.jobs.count) (named_among s st.known asked.after.items))
+    named_up jobs e = subst (AreUpTo (count_of p.jobs)) (sym e) (subst (λ k. AreUpTo k (jobs_named s asked.after.items)) (sym st.jobs.count)
+        (named_among s st.known asked.after.items))
 
     section_jobs : s.book.count ≡ begun.book.count + length p.plan.jobs.items
     section_jobs = outlining.jobs_are p script table begun n s found st
@@ -203,7 +214,8 @@ module _ (script : Script) (p : Planner) (line : ℕ) (home : Box NewJob Global)
     pub pieces_low : p.plan.pieces ≤ MOST_PIECES * MOST_JOBS
     pieces_low =
         let planned = st.planned (outlining.outline p script table begun n s found st) (outlining.agrees p script table begun n s found st) in
-        let few = few_pieces p.plan.jobs.items (λ j y at. let fit = (planned.fitting.jobs_fit j y at).2 in by y.parallel y.cut.n y.cut.step fit.cut.step.0 fit.cut.pieces) in
+        let few = few_pieces p.plan.jobs.items (λ j y at. let fit = (planned.fitting.jobs_fit j y at).2 in
+        by y.parallel y.cut.n y.cut.step fit.cut.step.0 fit.cut.pieces) in
         let e = section_jobs in
         let c = st.jobs.count in
         let m = most in
@@ -216,13 +228,15 @@ module _ (script : Script) (p : Planner) (line : ℕ) (home : Box NewJob Global)
 
     -- ---- the code's slices are the statement's vectors
 
-    pub length_is : (k : Kernel) → slice_get script.kernels.items asked.kernel ≡ Some k → (qs : List Param) (xs : List Arg) → qs ≡ k.params.items → xs ≡ asked.args.items → length xs ≡ length qs
+    pub length_is : (k : Kernel) → slice_get script.kernels.items asked.kernel ≡ Some k → (qs : List Param) (xs : List Arg) → qs ≡ k.params.items
+        → xs ≡ asked.args.items → length xs ≡ length qs
     length_is k h qs xs e f = ap length f ∙ text.each ∙ ap (λ (k : Kernel). length k.params.items) (source_at k h) ∙ sym (ap length e)
 
     pub few_args : (xs : List Arg) → xs ≡ asked.args.items → length xs ≤ 16
     few_args xs f = subst (λ xs. length xs ≤ 16) (sym f) text.few
 
-    pub are_given : (k : Kernel) → slice_get script.kernels.items asked.kernel ≡ Some k → (named : Jobs) (qs : List Param) (xs : List Arg) (uses : List NamedUse) → qs ≡ k.params.items → xs ≡ asked.args.items
+    pub are_given : (k : Kernel) → slice_get script.kernels.items asked.kernel ≡ Some k
+        → (named : Jobs) (qs : List Param) (xs : List Arg) (uses : List NamedUse) → qs ≡ k.params.items → xs ≡ asked.args.items
         → ForNames (IsUse p named) qs xs uses → ForNames (IsUse p named) text.source.params.items asked.args.items uses
     are_given k h named qs xs uses e f are =
         subst (λ qs. ForNames (IsUse p named) qs asked.args.items uses) (e ∙ ap (λ (k : Kernel). k.params.items) (sym (source_at k h)))
@@ -230,7 +244,8 @@ module _ (script : Script) (p : Planner) (line : ℕ) (home : Box NewJob Global)
 
     -- ---- with its uses
 
-    module _ (uses : List NamedUse) (named : Jobs) (named_are : named ≡ jobs_named s asked.after.items) (are : ForNames (IsUse p named) text.source.params.items asked.args.items uses) where
+    module _ (uses : List NamedUse) (named : Jobs) (named_are : named ≡ jobs_named s asked.after.items)
+        (are : ForNames (IsUse p named) text.source.params.items asked.args.items uses) where
       abbrev gs : List Given
       gs = given_args s text.source.params.items asked.args.items
 
@@ -241,7 +256,8 @@ module _ (script : Script) (p : Planner) (line : ℕ) (home : Box NewJob Global)
       refusal_at =
           refusal_is p s named uses gs meant text.source.parallel asked.auto asked.after.items named_are
           ∙ ap (λ gs. Rattle.frame_ast.specs.Refusals.schedule_refusal s text.source.parallel asked.auto gs asked.after.items) (sym (append-nil gs))
-          ∙ ap (λ k. Rattle.frame_ast.specs.Refusals.schedule_refusal s (kernel_parallel k) asked.auto (givens s (kernel_params k) asked.args.items None) asked.after.items) (sym text.has)
+          ∙ ap (λ k. Rattle.frame_ast.specs.Refusals.schedule_refusal s (kernel_parallel k) asked.auto
+          (givens s (kernel_params k) asked.args.items None) asked.after.items) (sym text.has)
 
       module _ (none : refusal g s x.act ≡ None) where
         alive : AreAlive s gs
@@ -257,7 +273,8 @@ module _ (script : Script) (p : Planner) (line : ℕ) (home : Box NewJob Global)
             (λ is. known.users j (and_parts (u.users j) (nat_lt l.writer j) (sym (stand.readers j) ∙ (and_parts writes (l.readers j) is).1)).0)
             (or_cases (nat_eq j l.writer) (writes && l.readers j) parts.1)
 
-        noted : (us : List NamedUse) (gs : List Given) → AreMeant p s named us gs → AreAlive s gs → AreUpTo s.book.count (conflicting_with p.safety (tags_of us))
+        noted : (us : List NamedUse) (gs : List Given) → AreMeant p s named us gs → AreAlive s gs
+            → AreUpTo s.book.count (conflicting_with p.safety (tags_of us))
         noted [] [] m a j e = absurd (not_both e refl)
         noted [] (h ∷ more) m a j e = absurd m
         noted (u ∷ us) [] m a j e = absurd m
@@ -267,7 +284,8 @@ module _ (script : Script) (p : Planner) (line : ℕ) (home : Box NewJob Global)
             let slot : k.2.0.slot.0 ≡ k.0.slot.0 = (λ i. (k.2.2 i).0) in
             ⊎_elim
             (λ here. latest_up (state_of p.safety k.2.0.slot.0).latest (s.uses h.need.container) (writes_to u.access)
-            (subst (λ n. StandForUses s.book (state_of p.safety n).latest (s.uses h.need.container)) (sym slot) (kept.uses k.3)) (st.known.uses h.need.container) j here)
+            (subst (λ n. StandForUses s.book (state_of p.safety n).latest (s.uses h.need.container)) (sym slot) (kept.uses k.3))
+            (st.known.uses h.need.container) j here)
             (λ more. noted us gs m.1 a.1 j more)
             (or_cases (conflicting_in (state_of p.safety k.2.0.slot.0).latest (writes_to u.access) j) (conflicting_with p.safety (tags_of us) j)
             (subst (λ o. conflicting_with p.safety (tags_by o u.access (tags_of us)) j ≡ true) k.2.1 e))
@@ -293,18 +311,24 @@ module _ (script : Script) (p : Planner) (line : ℕ) (home : Box NewJob Global)
               are_needs us gs m.1 a.1,
             )
 
-        pub deps_is : (deps : Jobs) → AreDeps asked.auto named p.jobs p.safety (tags_of uses) deps → deps ≡ deps_of g s (started.o script table begun n found line home asked)
-        deps_is deps d = by asked.auto d ∙ ap (λ gs. let named = jobs_named s asked.after.items in if asked.auto then both named (automatic s.book s.uses named (needs gs)) else named) (sym (started.gives_are script table begun n found line home asked step text p st uses named are none))
+        pub deps_is : (deps : Jobs) → AreDeps asked.auto named p.jobs p.safety (tags_of uses) deps
+            → deps ≡ deps_of g s (started.o script table begun n found line home asked)
+        deps_is deps d = by asked.auto d ∙ ap (λ gs. let named = jobs_named s asked.after.items in
+            if asked.auto then both named (automatic s.book s.uses named (needs gs)) else named)
+            (sym (started.gives_are script table begun n found line home asked step text p st uses named are none))
           where
-            by : (b : Bool) → AreDeps b named p.jobs p.safety (tags_of uses) deps → deps ≡ (let named = jobs_named s asked.after.items in if b then both named (automatic s.book s.uses named (needs gs)) else named)
+            by : (b : Bool) → AreDeps b named p.jobs p.safety (tags_of uses) deps
+                → deps ≡ (let named = jobs_named s asked.after.items in if b then both named (automatic s.book s.uses named (needs gs)) else named)
             by false d = d ∙ named_are
             by true d =
                 let set = d.3 s.book s.uses (needs gs) st.jobs st.known.uses (are_needs uses gs meant alive) in
-                d.1 ∙ (λ i. both (named_are i) d.0) ∙ (λ i j. jobs_named s asked.after.items j || (set j ∙ ap (λ a. automatic s.book s.uses a (needs gs) j) named_are) i)
+                d.1 ∙ (λ i. both (named_are i) d.0) ∙ (λ i j. jobs_named s asked.after.items j
+                || (set j ∙ ap (λ a. automatic s.book s.uses a (needs gs) j) named_are) i)
 
         pub deps_up : (deps : Jobs) → AreDeps asked.auto named p.jobs p.safety (tags_of uses) deps → AreUpTo (count_of p.jobs) deps
         deps_up deps d = subst (AreUpTo (count_of p.jobs)) (sym (deps_is deps d))
-            (subst (λ k. AreUpTo k (deps_of g s (started.o script table begun n found line home asked))) (sym st.jobs.count) (started.waited_up script table begun n found line home asked step text p st uses named are none))
+            (subst (λ k. AreUpTo k (deps_of g s (started.o script table begun n found line home asked))) (sym st.jobs.count)
+            (started.waited_up script table begun n found line home asked step text p st uses named are none))
 
         pub may_note : (us : List NamedUse) → us ≡ uses → MayNoteAll us (state_of p.safety)
         may_note us e = subst (λ us. MayNoteAll us (state_of p.safety)) (sym e)
@@ -314,12 +338,14 @@ module _ (script : Script) (p : Planner) (line : ℕ) (home : Box NewJob Global)
         pub fails_so : (fault : PlanFault) → IsFull fault (count_of p.jobs) → PassesLimit fault (state_after script table n x)
         fails_so NoMemory full = tt
         fails_so TooManyJobs full =
-            let after_is : (state_after script table n x).book.count ≡ suc s.book.count = ap (λ (u : ScriptState). u.book.count) (accepted_state g s x step.acts none) in
+            let after_is : (state_after script table n x).book.count ≡ suc s.book.count =
+            ap (λ (u : ScriptState). u.book.count) (accepted_state g s x step.acts none) in
             let c = st.jobs.count in
             omega arith
         fails_so TooManyWords full = absurd full
 
-        pub goes_on : (new : Planner) (deps : Jobs) (xs : List Arg) (ws : List ℕ) (us : List NamedUse) → xs ≡ asked.args.items → ws ≡ asked.waive.items → us ≡ uses
+        pub goes_on : (new : Planner) (deps : Jobs) (xs : List Arg) (ws : List ℕ) (us : List NamedUse) → xs ≡ asked.args.items → ws ≡ asked.waive.items
+            → us ≡ uses
             → AreDeps asked.auto named p.jobs p.safety (tags_of uses) deps
             → IsScheduled script p new asked.handle asked.kernel xs asked.cut ws us deps
             → HasStepped script table begun n found p new x
@@ -330,14 +356,16 @@ module _ (script : Script) (p : Planner) (line : ℕ) (home : Box NewJob Global)
             (subst (λ us. IsScheduled script p new asked.handle asked.kernel xs asked.cut ws us deps) u is)))
 
       -- why it is refused, as the code asks
-      pub refused_by : (k : Kernel) → slice_get script.kernels.items asked.kernel ≡ Some k → (us : List NamedUse) → us ≡ uses → (o : Option Cause) → o ≡ refusal_by us k.parallel asked.auto → as_refused o ≡ refusal g s x.act
+      pub refused_by : (k : Kernel) → slice_get script.kernels.items asked.kernel ≡ Some k → (us : List NamedUse) → us ≡ uses → (o : Option Cause)
+          → o ≡ refusal_by us k.parallel asked.auto → as_refused o ≡ refusal g s x.act
       refused_by k h us e o is =
           ap as_refused is
           ∙ (λ i. as_refused (refusal_by (e i) (sym (source_at k h) i).parallel asked.auto))
           ∙ refusal_at
 
       -- and how it goes on then
-      pub refused_on : (new said : Planner) (cause : Cause) (k : Kernel) → slice_get script.kernels.items asked.kernel ≡ Some k → (us : List NamedUse) → us ≡ uses → Some cause ≡ refusal_by us k.parallel asked.auto
+      pub refused_on : (new said : Planner) (cause : Cause) (k : Kernel) → slice_get script.kernels.items asked.kernel ≡ Some k → (us : List NamedUse)
+          → us ≡ uses → Some cause ≡ refusal_by us k.parallel asked.auto
           → IsPushed p said (record { line = line; name = cause.name; act = Say cause.refusal })
           → HasHandle said new asked.handle nobody
           → HasStepped script table begun n found p new x

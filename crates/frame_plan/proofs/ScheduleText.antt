@@ -63,8 +63,10 @@ module _ (script : Script) (table : Table) (n line : ℕ) (home : Box NewJob Glo
 
     all_below_names : (made : ℕ) (ns : List ℕ) → all_used (names made) ns ≡ true → (k d : ℕ) → k < length ns → get_or ns k d < many
     all_below_names made [] e k d lt = absurd (omega arith)
-    all_below_names made (m ∷ ns) e zero d lt = used_below script table n x step made m (kind.Handle ∷ []) (and_parts (uses (names made) m (kind.Handle ∷ [])) (list_all (λ n. uses (names made) n (kind.Handle ∷ [])) ns) e).0
-    all_below_names made (m ∷ ns) e (suc k) d lt = all_below_names made ns (and_parts (uses (names made) m (kind.Handle ∷ [])) (list_all (λ n. uses (names made) n (kind.Handle ∷ [])) ns) e).1 k d (omega arith)
+    all_below_names made (m ∷ ns) e zero d lt = used_below script table n x step made m (kind.Handle ∷ [])
+        (and_parts (uses (names made) m (kind.Handle ∷ [])) (list_all (λ n. uses (names made) n (kind.Handle ∷ [])) ns) e).0
+    all_below_names made (m ∷ ns) e (suc k) d lt = all_below_names made ns
+        (and_parts (uses (names made) m (kind.Handle ∷ [])) (list_all (λ n. uses (names made) n (kind.Handle ∷ [])) ns) e).1 k d (omega arith)
 
     pub record IsText : Type 0 where
       pub source : Kernel
@@ -81,10 +83,13 @@ module _ (script : Script) (table : Table) (n line : ℕ) (home : Box NewJob Glo
     pub text : IsText
     text =
         let fit = fits_at script table n x step in
-        let parts = and_parts (makes (names fit.made) asked.handle kind.Handle) (schedule_fits (names fit.made) (slice_get script.kernels.items asked.kernel) asked.args.items asked.cut None asked.waive.items asked.after.items) fit.fits in
+        let parts = and_parts (makes (names fit.made) asked.handle kind.Handle)
+        (schedule_fits (names fit.made) (slice_get script.kernels.items asked.kernel) asked.args.items asked.cut None asked.waive.items asked.after.items)
+        fit.fits in
         by fit.made (made_below script table n x step fit.made asked.handle kind.Handle parts.0) (slice_get script.kernels.items asked.kernel) refl parts.1
       where
-        by : (made : ℕ) → asked.handle < many → (o : Option Kernel) → slice_get script.kernels.items asked.kernel ≡ o → schedule_fits (names made) o asked.args.items asked.cut None asked.waive.items asked.after.items ≡ true → IsText
+        by : (made : ℕ) → asked.handle < many → (o : Option Kernel) → slice_get script.kernels.items asked.kernel ≡ o
+            → schedule_fits (names made) o asked.args.items asked.cut None asked.waive.items asked.after.items ≡ true → IsText
         by made lt None at e = absurd cc
         by made lt (Some k) at e =
             let a = and_parts (args_fit (names made) None k.params.items asked.args.items && one_of k.parallel (is_some asked.cut) false) _ e in

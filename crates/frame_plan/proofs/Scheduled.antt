@@ -35,11 +35,13 @@ pub bind_by_form : (start : ℕ) (c d : Contents) → form_of c ≡ form_of d �
 bind_by_form start c d e = formed c ∙ ap (bind_of start) e ∙ sym (formed d)
   where
     formed : (c : Contents) → bind_of start c ≡ bind_of start (form_of c)
-    formed (Cells xs) = ap (λ n. Rattle.kernel_exec.specs.declared.binds.Bind.TheVariants.Array (record { start = start; len = n }) 0) (sym (length-replicate (length xs) (pos 0)))
+    formed (Cells xs) = ap (λ n. Rattle.kernel_exec.specs.declared.binds.Bind.TheVariants.Array (record { start = start; len = n }) 0)
+        (sym (length-replicate (length xs) (pos 0)))
     formed (Single z) = refl
     formed (Items cap xs) = refl
     formed (Pairs cap ps) = refl
-    formed (Entries room es) = ap (λ n. Rattle.kernel_exec.specs.declared.binds.Bind.TheVariants.Stream (record { start = start; count = n; room = room }) false) (sym (length-replicate (length es) None))
+    formed (Entries room es) = ap (λ n. Rattle.kernel_exec.specs.declared.binds.Bind.TheVariants.Stream
+        (record { start = start; count = n; room = room }) false) (sym (length-replicate (length es) None))
 
 -- contents alone change where a job leaves what it was given, and view numbers alone where views are broken
 
@@ -52,7 +54,8 @@ leave_is p (Name n) new s = by (writes_to p.access)
     by true = refl
     by false = refl
 
-pub leave_all_is : (ps : List Param) (args : List Arg) (news : List Contents) (s : ScriptState) → leave_all ps args news s ≡ record s { contents = (leave_all ps args news s).contents }
+pub leave_all_is : (ps : List Param) (args : List Arg) (news : List Contents) (s : ScriptState)
+    → leave_all ps args news s ≡ record s { contents = (leave_all ps args news s).contents }
 leave_all_is [] args news s = refl
 leave_all_is (p ∷ ps) [] news s = refl
 leave_all_is (p ∷ ps) (a ∷ as_) [] s = refl
@@ -64,7 +67,8 @@ broken_is : (gs : List Given) (s : ScriptState) → all_broken gs s ≡ record s
 broken_is [] s = refl
 broken_is (g ∷ gs) s =
     broken_is gs (if is_list g.kind && g.need.writes then view_broken g.need.container s else s)
-    ∙ ap (λ (u : ScriptState). record u { view = (all_broken gs (if is_list g.kind && g.need.writes then view_broken g.need.container s else s)).view }) (by (is_list g.kind && g.need.writes))
+    ∙ ap (λ (u : ScriptState). record u { view = (all_broken gs (if is_list g.kind && g.need.writes then view_broken g.need.container s else s)).view })
+    (by (is_list g.kind && g.need.writes))
   where
     by : (b : Bool) → (if b then view_broken g.need.container s else s) ≡ record s { view = (if b then view_broken g.need.container s else s).view }
     by true = refl
@@ -73,13 +77,17 @@ broken_is (g ∷ gs) s =
 -- the contents that a job leaves, and the view numbers
 abbrev pub left : Setting → ScriptState → Schedule → ScriptState
 left g s o = leave_all (params_of g o.kernel) o.args
-    (get_or g.runs o.kernel no_run (widths_from (is_parallel g o.kernel) o.waive 0 (params_of g o.kernel)) full_steps (job_length s o.cut None) (arguments_of s (params_of g o.kernel) o.args)).store s
+    (get_or g.runs o.kernel no_run (widths_from (is_parallel g o.kernel) o.waive 0 (params_of g o.kernel)) full_steps (job_length s o.cut None)
+    (arguments_of s (params_of g o.kernel) o.args)).store s
 
 abbrev pub gives : Setting → ScriptState → Schedule → List Given
 gives g s o = givens s (params_of g o.kernel) o.args None
 
 pub broken_left : (gs : List Given) (ps : List Param) (args : List Arg) (news : List Contents) (s : ScriptState)
-    → all_broken gs (leave_all ps args news s) ≡ record s { contents = (all_broken gs (leave_all ps args news s)).contents; view = (all_broken gs (leave_all ps args news s)).view }
+    → all_broken gs (leave_all ps args news s) ≡ record s {
+      contents = (all_broken gs (leave_all ps args news s)).contents;
+      view = (all_broken gs (leave_all ps args news s)).view;
+    }
 broken_left gs ps args news s =
     let l = leave_all ps args news s in
     let x = all_broken gs l in
@@ -93,7 +101,8 @@ view_is g s o = refl
 
 pub left_view : (g : Setting) (s : ScriptState) (o : Schedule) → (left g s o).view ≡ s.view
 left_view g s o = ap (λ (u : ScriptState). u.view) (leave_all_is (params_of g o.kernel) o.args
-    (get_or g.runs o.kernel no_run (widths_from (is_parallel g o.kernel) o.waive 0 (params_of g o.kernel)) full_steps (job_length s o.cut None) (arguments_of s (params_of g o.kernel) o.args)).store s)
+    (get_or g.runs o.kernel no_run (widths_from (is_parallel g o.kernel) o.waive 0 (params_of g o.kernel)) full_steps (job_length s o.cut None)
+    (arguments_of s (params_of g o.kernel) o.args)).store s)
 
 -- the state after an accepted schedule, by what changes
 pub accepted_is : (g : Setting) (s : ScriptState) (o : Schedule) → accepted g s o ≡ record s {
@@ -112,7 +121,8 @@ accepted_is g s o =
       traps = (accepted g s o).traps;
     })
     (broken_left (gives g s o) (params_of g o.kernel) o.args
-    (get_or g.runs o.kernel no_run (widths_from (is_parallel g o.kernel) o.waive 0 (params_of g o.kernel)) full_steps (job_length s o.cut None) (arguments_of s (params_of g o.kernel) o.args)).store s)
+    (get_or g.runs o.kernel no_run (widths_from (is_parallel g o.kernel) o.waive 0 (params_of g o.kernel)) full_steps (job_length s o.cut None)
+    (arguments_of s (params_of g o.kernel) o.args)).store s)
 
 pub unpending : (s : ScriptState) (parallel auto : Bool) (gs : List Given) (after : List ℕ) → schedule_refusal s parallel auto gs after ≡ None
     → (if auto then None else pending s (jobs_named s after) (map (λ g. g.need) gs)) ≡ None
@@ -125,7 +135,8 @@ unpending s parallel auto gs after none =
     (first_none (if auto then None else pending s (jobs_named s after) (map (λ g. g.need) gs)) [] fifth.1).0
 
 -- no job blocks a schedule that isn't refused, and what it waits for is known
-module _ (s : ScriptState) (known : IsKnown s) (auto : Bool) (after : List ℕ) (needs : List Need) (none : (if auto then None else pending s (jobs_named s after) needs) ≡ None) where
+module _ (s : ScriptState) (known : IsKnown s) (auto : Bool) (after : List ℕ) (needs : List Need)
+    (none : (if auto then None else pending s (jobs_named s after) needs) ≡ None) where
   abbrev pub deps_for : Jobs
   deps_for = (let named = jobs_named s after in if auto then both named (automatic s.book s.uses named needs) else named)
 
@@ -140,9 +151,11 @@ module _ (s : ScriptState) (known : IsKnown s) (auto : Bool) (after : List ℕ) 
   pub deps_up : AreUpTo s.book.count deps_for
   deps_up j = by auto
     where
-      by : (b : Bool) → (let named = jobs_named s after in if b then both named (automatic s.book s.uses named needs) else named) j ≡ true → (0 < j) × (j ≤ s.book.count)
+      by : (b : Bool) → (let named = jobs_named s after in if b then both named (automatic s.book s.uses named needs) else named) j ≡ true
+          → (0 < j) × (j ≤ s.book.count)
       by true h = ⊎_elim (named_among s known after j)
-          (λ a. blocking_among s.book s.uses known.uses (jobs_named s after) needs j ((automatic_sets_cover s.book s.uses (jobs_named s after) needs known.book known.uses).blocks j a))
+          (λ a. blocking_among s.book s.uses known.uses (jobs_named s after) needs j
+          ((automatic_sets_cover s.book s.uses (jobs_named s after) needs known.book known.uses).blocks j a))
           (or_cases (jobs_named s after j) (automatic s.book s.uses (jobs_named s after) needs j) h)
       by false h = named_among s known after j h
 
@@ -152,7 +165,8 @@ numbers_are s None = refl
 numbers_are s (Some cut) = refl
 
 -- the number of indexes, and a cut for a kernel that isn't parallel
-pub indexes_are : (s : ScriptState) (parallel : Bool) (cut : Option (ℕ × ℕ)) → one_of parallel (is_some cut) false ≡ true → (numbers_by cut).0 ≡ executes parallel (job_length s cut None)
+pub indexes_are : (s : ScriptState) (parallel : Bool) (cut : Option (ℕ × ℕ)) → one_of parallel (is_some cut) false ≡ true
+    → (numbers_by cut).0 ≡ executes parallel (job_length s cut None)
 indexes_are s true None e = absurd cc
 indexes_are s true (Some cut) e = refl
 indexes_are s false None e = refl

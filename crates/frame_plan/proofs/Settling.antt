@@ -103,13 +103,15 @@ pub done_goes : (b : Book) (p : Place) → is_held p.state ≡ true → is_pendi
 done_goes b p h e = by_test b p true (λ i. h i && not (e i))
 
 either_place : (b : Book) (p : Place) → (settled b p ≡ p) ⊎ (settled b p ≡ freed p)
-either_place b p = ⊎_elim (λ e. inr (by_test b p true e)) (λ e. inl (by_test b p false e)) (either_bool (is_held p.state && not (is_pending b (users_of p.state))))
+either_place b p = ⊎_elim (λ e. inr (by_test b p true e)) (λ e. inl (by_test b p false e))
+    (either_bool (is_held p.state && not (is_pending b (users_of p.state))))
 
 pub settled_version : (b : Book) (p : Place) → (settled b p).version ≡ p.version
 settled_version b p = ⊎_elim (λ e. ap (λ (z : Place). z.version) e) (λ e. ap (λ (z : Place). z.version) e) (either_place b p)
 
 pub settled_used : (b : Book) (p : Place) → in_use (settled b p).state ≡ true → in_use p.state ≡ true
-settled_used b p u = ⊎_elim (λ e. ap (λ (z : Place). in_use z.state) (sym e) ∙ u) (λ e. absurd (not_both u (ap (λ (z : Place). in_use z.state) e))) (either_place b p)
+settled_used b p u = ⊎_elim (λ e. ap (λ (z : Place). in_use z.state) (sym e) ∙ u) (λ e. absurd (not_both u (ap (λ (z : Place). in_use z.state) e)))
+    (either_place b p)
 
 pub taken_not_held : (state : State) → is_taken state ≡ true → is_held state ≡ false
 taken_not_held Free e = absurd (not_both e refl)
@@ -153,7 +155,8 @@ module _ (p q : Planner) (s : ScriptState) (found : List ℕ) (alive : ℕ → B
   module _ (c : ℕ) (it : Container) (has : slice_get p.containers.items c ≡ Some it) where
     taken_is : t.alive c ≡ true → is_taken (mid it.slot.0).state ≡ true
     taken_is a = ap (λ (z : Place). is_taken z.state) (e.stays c it has a).0
-        ∙ (and_parts (is_taken (place_of p.store it.slot.0).state) (nat_eq (place_of p.store it.slot.0).version it.version.0) ((was.each c it has).taken ∙ falls c a)).0
+        ∙ (and_parts (is_taken (place_of p.store it.slot.0).state) (nat_eq (place_of p.store it.slot.0).version it.version.0)
+        ((was.each c it has).taken ∙ falls c a)).0
 
     below : nat_lt c s.made ≡ true
     below = (let lt = get_below p.containers.items c it has in let m = was.made in let less : c < s.made = omega arith in grind arith)

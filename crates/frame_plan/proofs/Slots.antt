@@ -28,7 +28,8 @@ noted_live job (u ∷ us) states k = noted_live job us (noted job u states) k �
   where
     by : (o : Option Tag) → (noted_by job u o states k).live ≡ (states k).live
     by None = refl
-    by (Some tag) = elim (nat_eq k tag.slot.0) as (λ b. (if b then noted_state job u (states k) else states k).live ≡ (states k).live) [ true ↦ refl | false ↦ refl ]
+    by (Some tag) = elim (nat_eq k tag.slot.0) as (λ b. (if b then noted_state job u (states k) else states k).live ≡ (states k).live)
+        [ true ↦ refl | false ↦ refl ]
 
 pub noted_version : (job : ℕ) (us : List NamedUse) (states : ℕ → SlotState) (k : ℕ) → (noted_all job us states k).version ≡ (states k).version
 noted_version job [] states k = refl
@@ -36,7 +37,8 @@ noted_version job (u ∷ us) states k = noted_version job us (noted job u states
   where
     by : (o : Option Tag) → (noted_by job u o states k).version ≡ (states k).version
     by None = refl
-    by (Some tag) = elim (nat_eq k tag.slot.0) as (λ b. (if b then noted_state job u (states k) else states k).version ≡ (states k).version) [ true ↦ refl | false ↦ refl ]
+    by (Some tag) = elim (nat_eq k tag.slot.0) as (λ b. (if b then noted_state job u (states k) else states k).version ≡ (states k).version)
+        [ true ↦ refl | false ↦ refl ]
 
 module _ (p : Planner) (s : ScriptState) (found : List ℕ) (after : Jobs) (are : AreContainers p s found) where
   abbrev Has : ℕ → Container → Type 0
@@ -65,7 +67,8 @@ module _ (p : Planner) (s : ScriptState) (found : List ℕ) (after : Jobs) (are 
           ne_eqb it.slot.0 other.slot.0 ne ∙ sym e
 
   -- what is noted of the slot of a container that is alive is what the values of the schedule note
-  pub noted_folded : (job : ℕ) (us : List NamedUse) (gs : List Given) → AreMeant p s after us gs → AreAlive s gs → (c : ℕ) (it : Container) → Has c it → s.alive c ≡ true → (states : ℕ → SlotState)
+  pub noted_folded : (job : ℕ) (us : List NamedUse) (gs : List Given) → AreMeant p s after us gs → AreAlive s gs → (c : ℕ) (it : Container) → Has c it
+      → s.alive c ≡ true → (states : ℕ → SlotState)
       → noted_all job us states it.slot.0 ≡ folded job c gs (states it.slot.0)
   noted_folded job [] [] m a c it has alive states = refl
   noted_folded job [] (g ∷ gs) m a c it has alive states = absurd m
@@ -84,7 +87,8 @@ module _ (p : Planner) (s : ScriptState) (found : List ℕ) (after : Jobs) (are 
           ∙ ap (λ b. if b then noted_state job u (states it.slot.0) else states it.slot.0) same
           ∙ ap (λ (h : Given). if nat_eq c g.need.container then record (states it.slot.0) {
             view = if is_list h.kind && h.need.writes then (states it.slot.0).view + 1 else (states it.slot.0).view;
-            latest = if h.need.writes then Rattle.safety_handle.specs.Uses.noted_write (states it.slot.0).latest job else Rattle.safety_handle.specs.Uses.noted_read (states it.slot.0).latest job;
+            latest = if h.need.writes then Rattle.safety_handle.specs.Uses.noted_write
+                (states it.slot.0).latest job else Rattle.safety_handle.specs.Uses.noted_read (states it.slot.0).latest job;
           } else states it.slot.0) m.0.given
 
   -- ---- they may be noted
@@ -97,7 +101,8 @@ module _ (p : Planner) (s : ScriptState) (found : List ℕ) (after : Jobs) (are 
   nat_eq-same : (n : ℕ) → nat_eq n n ≡ true
   nat_eq-same n = eq-eqb n n refl
 
-  pub may_note : (us : List NamedUse) (gs : List Given) → AreMeant p s after us gs → AreAlive s gs → AreApart gs → (states : ℕ → SlotState) → AreReady gs states → MayNoteAll us states
+  pub may_note : (us : List NamedUse) (gs : List Given) → AreMeant p s after us gs → AreAlive s gs → AreApart gs → (states : ℕ → SlotState) → AreReady gs states
+      → MayNoteAll us states
   may_note [] [] m a apart states ready = tt
   may_note [] (g ∷ gs) m a apart states ready = absurd m
   may_note (u ∷ us) [] m a apart states ready = absurd m
@@ -117,13 +122,16 @@ module _ (p : Planner) (s : ScriptState) (found : List ℕ) (after : Jobs) (are 
       writes b =
           let given = m.0.given in
           let w : g.need.writes ≡ true = sym (λ i. (given i).need.writes) ∙ (and_parts (is_list u.kind) (writes_to u.access) b).1 in
-          or_left (g.need.writes && nat_eq g.need.container g.need.container) (writes_it (needs gs) g.need.container) (λ i. w i && nat_eq-same g.need.container i)
+          or_left (g.need.writes && nat_eq g.need.container g.need.container) (writes_it (needs gs) g.need.container)
+          (λ i. w i && nat_eq-same g.need.container i)
 
       here : MayNoteBy u (Some k.2.0) states
-      here = subst (λ n. ((states n).live ≡ true) × (breaks_views u ≡ true → (states n).view < MOST_STATEMENTS)) (sym at) (ready_here.0, λ b. ready_here.1 (writes b))
+      here = subst (λ n. ((states n).live ≡ true) × (breaks_views u ≡ true → (states n).view < MOST_STATEMENTS)) (sym at)
+          (ready_here.0, λ b. ready_here.1 (writes b))
 
       next : (job : ℕ) → AreReady gs (noted job u states)
-      next job c it has alive = subst (λ (x : SlotState). (x.live ≡ true) × (writes_it (needs gs) c ≡ true → x.view < MOST_STATEMENTS)) (sym one) (by (nat_eq c g.need.container) refl)
+      next job c it has alive = subst (λ (x : SlotState). (x.live ≡ true) × (writes_it (needs gs) c ≡ true → x.view < MOST_STATEMENTS)) (sym one)
+          (by (nat_eq c g.need.container) refl)
         where
           one : noted job u states it.slot.0 ≡ (if nat_eq c g.need.container then noted_state job u (states it.slot.0) else states it.slot.0)
           one =
@@ -134,7 +142,11 @@ module _ (p : Planner) (s : ScriptState) (found : List ℕ) (after : Jobs) (are 
           by : (b : Bool) → nat_eq c g.need.container ≡ b → let x = if b then noted_state job u (states it.slot.0) else states it.slot.0 in
               (x.live ≡ true) × (writes_it (needs gs) c ≡ true → x.view < MOST_STATEMENTS)
           by true e = ((ready c it has alive).0, λ w. absurd (not_both w (apart.1 c e)))
-          by false e = ((ready c it has alive).0, λ w. (ready c it has alive).1 (or_right (g.need.writes && nat_eq c g.need.container) (writes_it (needs gs) c) w))
+          by false e = (
+            (ready c it has alive).0,
+            λ w. (ready c it has alive).1
+                (or_right (g.need.writes && nat_eq c g.need.container) (writes_it (needs gs) c) w),
+          )
 
 -- the loop over the uses
 pub note_step : (job : ℕ) (us : List NamedUse) (i : ℕ) (d : NamedUse) → i < length us → (book new : SafetyBook) → MayNoteAll (drop i us) (state_of book)

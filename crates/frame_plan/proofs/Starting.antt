@@ -20,7 +20,7 @@ use Rattle.plan_laws.proofs.AtStart.{nothing_is_planned}
 use Rattle.frame_plan.specs.declared.state.Value.{Value}
 use Rattle.frame_plan.specs.declared.state.Value.TheVariants.{Dead, Jobs}
 use Rattle.frame_plan.specs.declared.state.Planner.{Planner}
-use Rattle.frame_plan.specs.Growth.{given_from, given_in, waits_in}
+use Rattle.frame_plan.specs.Growth.{given_from, given_in, waits_in, waits_of, unless_none}
 use Rattle.frame_plan.specs.Runs.{HasBegun}
 use Rattle.frame_plan.specs.Stands.{value_for, IsThere, Agrees, draft_of}
 use Rattle.frame_plan.specs.Steps.{StandsAt}
@@ -158,6 +158,7 @@ module _ (script : Script) (table : Table) (p : Planner) (new : IsNew p script) 
       spans = (let a = new.segments in let b = new.ops in λ i. given_from (a i) ++ given_in (b i));
       jobs = λ n x low high here. absurd (omega arith);
       waited = λ j pos. (let a = new.segments in let b = new.waits in λ i. has_job (waits_in (a i) ++ b i) j) ∙ none (nat_lt 0 j);
+      waits = (let a = new.segments in let b = new.waits in λ i. waits_of (a i) ++ unless_none (b i));
     };
   }
     where

@@ -29,11 +29,14 @@ and_both true b e = (refl, e)
 and_both false b e = absurd (not_both e refl)
 
 -- who has a live word
-below_word : (starts : Starts) (s : ScriptState) (n w : ℕ) → live_word_below starts s n w ≡ true → (c : ℕ) × (is_live s c ≡ true) × (ranges.has_word starts s c w ≡ true)
+below_word : (starts : Starts) (s : ScriptState) (n w : ℕ) → live_word_below starts s n w ≡ true
+    → (c : ℕ) × (is_live s c ≡ true) × (ranges.has_word starts s c w ≡ true)
 below_word starts s zero w e = absurd (not_both e refl)
 below_word starts s (suc n) w e = by (is_live s n && ranges.has_word starts s n w) refl (below_word starts s n w) e
   where
-    by : (b : Bool) → (is_live s n && ranges.has_word starts s n w) ≡ b → (live_word_below starts s n w ≡ true → (c : ℕ) × (is_live s c ≡ true) × (ranges.has_word starts s c w ≡ true)) → (b || live_word_below starts s n w) ≡ true
+    by : (b : Bool) → (is_live s n && ranges.has_word starts s n w) ≡ b →
+        (live_word_below starts s n w ≡ true → (c : ℕ) × (is_live s c ≡ true) × (ranges.has_word starts s c w ≡ true))
+        → (b || live_word_below starts s n w) ≡ true
         → (c : ℕ) × (is_live s c ≡ true) × (ranges.has_word starts s c w ≡ true)
     by true h more e = let b = and_both (is_live s n) (ranges.has_word starts s n w) h in (n, b.0, b.1)
     by false h more e = more e
@@ -41,7 +44,8 @@ below_word starts s (suc n) w e = by (is_live s n && ranges.has_word starts s n 
 module _ (p : Planner) (g : Setting) (begun : ScriptState) (n : ℕ) (s : ScriptState) (found : List ℕ) (starts : Starts)
     (st : Stands p g begun n s found) (same : StartAs starts found) where
   -- the words of a live container, by its slot
-  words_alike : (c : ℕ) (it : Container) → slice_get p.containers.items c ≡ Some it → is_live s c ≡ true → (w : ℕ) → spaces.has_word (place_of p.store it.slot.0).span w ≡ ranges.has_word starts s c w
+  words_alike : (c : ℕ) (it : Container) → slice_get p.containers.items c ≡ Some it → is_live s c ≡ true → (w : ℕ)
+      → spaces.has_word (place_of p.store it.slot.0).span w ≡ ranges.has_word starts s c w
   words_alike c it has live w =
       let k = st.containers.each c it has in
       ap (λ (span : Span). spaces.has_word span w) (k.span live)

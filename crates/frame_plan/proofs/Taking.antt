@@ -119,7 +119,8 @@ effect_takes g line s (order.SetCapacity name cap) =
     let created : t.created ≡ s.created + (cap + 1) = ap (λ n. n + (cap + 1)) c.created in
     let count : t.book.count ≡ s.book.count = c.count in
     record { jobs_from = omega arith; jobs_to = omega arith; words_from = omega arith; words_to = omega arith }
-effect_takes g line s (order.Schedule job) = accept_takes g s job.value.auto job.value.handle job.value.kernel job.value.args.items job.value.cut job.value.defer job.value.waive.items job.value.after.items
+effect_takes g line s (order.Schedule job) = accept_takes g s job.value.auto job.value.handle job.value.kernel job.value.args.items job.value.cut
+    job.value.defer job.value.waive.items job.value.after.items
 effect_takes g line s (order.Dispose name after None) = takes_none s _ 0 0 refl refl
 effect_takes g line s (order.Dispose name after (Some handle)) = takes_none s _ 0 0 refl refl
 effect_takes g line s (order.Slice name of start len) = takes_none s _ 0 0 refl refl
@@ -134,7 +135,8 @@ effect_takes g line s order.Flush = takes_none s _ 0 0 refl refl
 effect_takes g line s order.Frame = takes_none s _ 0 0 refl refl
 effect_takes g line s (order.When name sign value count) = takes_none s _ 0 0 refl refl
 
-decided_takes : (o : Option Refused) (g : Setting) (s : ScriptState) (x : Statement) → s.passing ≡ 0 → refusal g s x.act ≡ o → Takes s (decided o g s x) (job_of x.act) (words_by g x.act)
+decided_takes : (o : Option Refused) (g : Setting) (s : ScriptState) (x : Statement) → s.passing ≡ 0 → refusal g s x.act ≡ o
+    → Takes s (decided o g s x) (job_of x.act) (words_by g x.act)
 decided_takes None g s x pass e = effect_takes g x.line s x.act
 decided_takes (Some r) g s x pass e = let l = refused_like g s x r pass e in takes_none s _ _ _ (ap (λ b. b.count) l.book) l.created
 

@@ -61,7 +61,8 @@ flip false false e = e
 module _ (p : Planner) (name : ℕ) where
   pub test_gone : IsGone p name true → IsTestRefusal p name (Some Disposed)
   test_gone gone g begun n s found st =
-      ap (λ a. if not a then Some (record { cause = Disposed; name = name }) else busy s name) (sym (flip true (is_alive s (s.values name)) (gone g begun n s found st)))
+      ap (λ a. if not a then Some (record { cause = Disposed; name = name }) else busy s name)
+      (sym (flip true (is_alive s (s.values name)) (gone g begun n s found st)))
       ∙ sym (disposed_first s name (busy s name))
 
   pub test_busy : IsGone p name false → (o : Option JobId)
@@ -70,7 +71,8 @@ module _ (p : Planner) (name : ℕ) where
   test_busy there o is g begun n s found st =
       ap (λ q. refused_as (option_map Busy q) name) (is s.book st.jobs)
       ∙ busy_named name (greatest (λ j. not (s.book.completed j)) s.book.count)
-      ∙ ap (λ a. if not a then Some (record { cause = Disposed; name = name }) else busy s name) (sym (flip false (is_alive s (s.values name)) (there g begun n s found st)))
+      ∙ ap (λ a. if not a then Some (record { cause = Disposed; name = name }) else busy s name)
+      (sym (flip false (is_alive s (s.values name)) (there g begun n s found st)))
       ∙ sym (disposed_first s name (busy s name))
 
 -- ---- at a statement
@@ -82,7 +84,8 @@ module _ (p : Planner) (line name : ℕ) (sign : Sign) (value : ℤ) (count : �
   test_below script table n step =
       let fits : FitsThere (setting script table) step.accepted.kinds statement.act = fits_at script table n statement step in
       used_below script table n statement step fits.made name (kind.Reference ∷ [])
-      (and_parts (uses (record { kinds = step.accepted.kinds; made = fits.made }) name (kind.Reference ∷ [])) (nat_le count fits.rest && nat_eq fits.inside 0) fits.fits).0
+      (and_parts (uses (record { kinds = step.accepted.kinds; made = fits.made }) name (kind.Reference ∷ []))
+      (nat_le count fits.rest && nat_eq fits.inside 0) fits.fits).0
 
   pub test_ready : IsReady p statement → (name < vec_len p.values) × AreThere (vec_len p.containers) (vec_len p.handles) p.values.items
   test_ready ready =
@@ -95,4 +98,5 @@ module _ (p : Planner) (line name : ℕ) (sign : Sign) (value : ℤ) (count : �
       → GoesOn p (record m { passing = count }) statement
   test_refused m cause answer i script table begun n found step st =
       said_passing script table begun n found statement step (record { cause = cause; name = name }) p st
-      (sym (answer (setting script table) begun n (state_at script table n) found st)) (test_below script table n step) m (record m { passing = count }) count refl refl (inr (λ c. refl)) i refl
+      (sym (answer (setting script table) begun n (state_at script table n) found st)) (test_below script table n step) m
+      (record m { passing = count }) count refl refl (inr (λ c. refl)) i refl

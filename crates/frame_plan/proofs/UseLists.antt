@@ -33,16 +33,20 @@ module _ (refusal : Refusal) (test : NamedUse → Bool) (us : List NamedUse) (i 
   abbrev Passed : ℕ → Type 0
   Passed k = first_with refusal test (drop k us) ≡ first_with refusal test us
 
-  step : (u : NamedUse) → i < length us → u ≡ get_or us i u → first_with refusal test (drop i us) ≡ (if test u then Some (record { refusal = refusal; name = u.name }) else first_with refusal test (drop (i + 1) us))
+  step : (u : NamedUse) → i < length us → u ≡ get_or us i u → first_with refusal test (drop i us) ≡
+      (if test u then Some (record { refusal = refusal; name = u.name }) else first_with refusal test (drop (i + 1) us))
   step u lt at = ap (first_with refusal test) (drop_at us i u lt at)
 
-  pub use_found : (u : NamedUse) → i < length us → u ≡ get_or us i u → Passed i → test u ≡ true → Some (record { refusal = refusal; name = u.name }) ≡ first_with refusal test us
+  pub use_found : (u : NamedUse) → i < length us → u ≡ get_or us i u → Passed i → test u ≡ true
+      → Some (record { refusal = refusal; name = u.name }) ≡ first_with refusal test us
   use_found u lt at passed is =
-      ap (λ b. if b then Some (record { refusal = refusal; name = u.name }) else first_with refusal test (drop (i + 1) us)) (sym is) ∙ sym (step u lt at) ∙ passed
+      ap (λ b. if b then Some (record { refusal = refusal; name = u.name }) else first_with refusal test (drop (i + 1) us)) (sym is) ∙ sym (step u lt at)
+      ∙ passed
 
   pub use_missed : (u : NamedUse) → i < length us → u ≡ get_or us i u → Passed i → test u ≡ false → Passed (i + 1)
   use_missed u lt at passed is =
-      ap (λ b. if b then Some (record { refusal = refusal; name = u.name }) else first_with refusal test (drop (i + 1) us)) (sym is) ∙ sym (step u lt at) ∙ passed
+      ap (λ b. if b then Some (record { refusal = refusal; name = u.name }) else first_with refusal test (drop (i + 1) us)) (sym is) ∙ sym (step u lt at)
+      ∙ passed
 
   pub none_found : length us ≤ i → Passed i → None ≡ first_with refusal test us
   none_found le passed = ap (first_with refusal test) (sym (drop_end us i le)) ∙ passed
@@ -54,7 +58,8 @@ module _ (Is : Param → ℕ → NamedUse → Type 0) (params : List Param) (arg
   abbrev pub GoesFrom : ℕ → List NamedUse → Type 0
   GoesFrom k so_far = (rest : List NamedUse) → ForNames Is (drop k params) (drop k args) rest → ForNames Is params args (so_far ++ rest)
 
-  pub name_step : (q : Param) (n : ℕ) (u : NamedUse) → i < length args → length args ≡ length params → q ≡ get_or params i q → (d : Arg) → get_or args i d ≡ Name n → Is q n u
+  pub name_step : (q : Param) (n : ℕ) (u : NamedUse) → i < length args → length args ≡ length params → q ≡ get_or params i q → (d : Arg)
+      → get_or args i d ≡ Name n → Is q n u
       → GoesFrom i uses → (new : List NamedUse) → new ≡ uses ++ u ∷ [] → GoesFrom (i + 1) new
   name_step q n u lt same at d is has so new e rest h =
       let below : i < length params = omega arith in

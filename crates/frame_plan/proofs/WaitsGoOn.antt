@@ -79,13 +79,15 @@ module _ (s : ScriptState) (name : ℕ) where
   causes = first_some (disposed s (name ∷ []) ∷ stale s (name ∷ []) ∷ [])
 
   abbrev shape : Bool → Bool → Option Refused
-  shape alive old = if not alive then Some (record { cause = Disposed; name = name }) else (if old then Some (record { cause = StaleView; name = name }) else None)
+  shape alive old = if not alive then Some (record { cause = Disposed; name = name }) else (if old then Some
+      (record { cause = StaleView; name = name }) else None)
 
   causes_are : causes ≡ shape (is_alive s (s.values name)) (is_stale s (s.values name))
   unfolding first_some
   causes_are = by (is_alive s (s.values name)) (is_stale s (s.values name))
     where
-      by : (a o : Bool) → first_some (option_map (refused Disposed) (cond (not a) (Some name) None) ∷ option_map (refused StaleView) (cond o (Some name) None) ∷ []) ≡ shape a o
+      by : (a o : Bool) → first_some (option_map (refused Disposed) (cond (not a) (Some name) None) ∷ option_map (refused StaleView) (cond o (Some name) None)
+          ∷ []) ≡ shape a o
       by false o = refl
       by true true = refl
       by true false = refl
@@ -98,11 +100,13 @@ module _ (s : ScriptState) (name : ℕ) where
       differ e = cc
 
   -- that a view is stale is what an access is refused for
-  access_stale : (a o : Bool) (p : Option Refused) → is_alive s (s.values name) ≡ a → is_stale s (s.values name) ≡ o → pending s nobody (need_of s name true ∷ []) ≡ p
+  access_stale : (a o : Bool) (p : Option Refused) → is_alive s (s.values name) ≡ a → is_stale s (s.values name) ≡ o
+      → pending s nobody (need_of s name true ∷ []) ≡ p
       → (access s name (need_of s name true) [] ≡ Some (record { cause = StaleView; name = name }) → (a ≡ true) × (o ≡ true))
       × (a ≡ true → o ≡ true → access s name (need_of s name true) [] ≡ Some (record { cause = StaleView; name = name }))
   unfolding first_some
-  access_stale a o p ea eo ep = by a o p ea eo ep (λ i. first_some (option_map (refused Disposed) (cond (not (ea i)) (Some name) None) ∷ option_map (refused StaleView) (cond (eo i) (Some name) None) ∷ ep i ∷ []))
+  access_stale a o p ea eo ep = by a o p ea eo ep (λ i. first_some (option_map (refused Disposed) (cond (not (ea i)) (Some name) None)
+      ∷ option_map (refused StaleView) (cond (eo i) (Some name) None) ∷ ep i ∷ []))
     where
       differ : Disposed ≡ StaleView → ⊥
       differ e = cc
@@ -111,21 +115,25 @@ module _ (s : ScriptState) (name : ℕ) where
       Said = Some (record { cause = StaleView; name = name })
 
       by : (a o : Bool) (p : Option Refused) → is_alive s (s.values name) ≡ a → is_stale s (s.values name) ≡ o → pending s nobody (need_of s name true ∷ []) ≡ p
-          → access s name (need_of s name true) [] ≡ first_some (option_map (refused Disposed) (cond (not a) (Some name) None) ∷ option_map (refused StaleView) (cond o (Some name) None) ∷ p ∷ [])
+          → access s name (need_of s name true) [] ≡ first_some (option_map (refused Disposed) (cond (not a) (Some name) None)
+          ∷ option_map (refused StaleView) (cond o (Some name) None) ∷ p ∷ [])
           → (access s name (need_of s name true) [] ≡ Some (record { cause = StaleView; name = name }) → (a ≡ true) × (o ≡ true))
           × (a ≡ true → o ≡ true → access s name (need_of s name true) [] ≡ Some (record { cause = StaleView; name = name }))
       by false o p ea eo ep is = (λ e. absurd (differ (ap (λ (r : Refused). r.cause) (some_is (sym is ∙ e)))), λ f. absurd (not_both f refl))
       by true true p ea eo ep is = (λ e. (refl, refl), λ f h. is)
       by true false None ea eo ep is = (λ e. absurd (none_some (sym is ∙ e)), λ f h. absurd (not_both h refl))
       by true false (Some r) ea eo ep is = (
-        λ e. absurd (pending_named (greatest (blocking s.book s.uses nobody (need_of s name true ∷ [])) s.book.count) (need_of s name true ∷ []) (ep ∙ sym is ∙ e)),
+        λ e. absurd (pending_named (greatest (blocking s.book s.uses nobody (need_of s name true ∷ [])) s.book.count) (need_of s name true ∷ [])
+            (ep ∙ sym is ∙ e)),
         λ f h. absurd (not_both h refl),
       )
 
 module _ (p : Planner) (name : ℕ) (answer : Option Refusal) (may : MayUse p name true answer) where
   module _ (g : Setting) (begun : ScriptState) (n : ℕ) (s : ScriptState) (found : List ℕ) (st : Stands p g begun n s found) where
-    both : (access s name (need_of s name true) [] ≡ Some (record { cause = StaleView; name = name }) → (is_alive s (s.values name) ≡ true) × (is_stale s (s.values name) ≡ true))
-        × (is_alive s (s.values name) ≡ true → is_stale s (s.values name) ≡ true → access s name (need_of s name true) [] ≡ Some (record { cause = StaleView; name = name }))
+    both : (access s name (need_of s name true) [] ≡ Some (record { cause = StaleView; name = name })
+        → (is_alive s (s.values name) ≡ true) × (is_stale s (s.values name) ≡ true))
+        × (is_alive s (s.values name) ≡ true → is_stale s (s.values name) ≡ true
+        → access s name (need_of s name true) [] ≡ Some (record { cause = StaleView; name = name }))
     both = access_stale s name (is_alive s (s.values name)) (is_stale s (s.values name)) (pending s nobody (need_of s name true ∷ [])) refl refl refl
 
   pub is_stale_now : answer ≡ Some StaleView → IsCompletable p name (Err StaleView)
@@ -178,7 +186,8 @@ some_known p None e = absurd e
 some_known p (Some it) e = (it, refl)
 
 pub known_there : (p : Planner) (k : ℕ) → KnowsUsers p (slice_get p.containers.items k) → k < vec_len p.containers
-known_there p k e = let one = some_known p (slice_get p.containers.items k) e in let lt = get_below p.containers.items k one.0 one.1 in let len = p.containers.ok.0 in omega arith
+known_there p k e = let one = some_known p (slice_get p.containers.items k) e in let lt = get_below p.containers.items k one.0 one.1 in
+    let len = p.containers.ok.0 in omega arith
 
 module _ (p : Planner) (k : ℕ) (tag : Tag) (is : Some tag ≡ tag_in p.containers.items k None) where
   one : (it : Container) × (slice_get p.containers.items k ≡ Some it) × (tag ≡ tag_of it None)
@@ -187,19 +196,24 @@ module _ (p : Planner) (k : ℕ) (tag : Tag) (is : Some tag ≡ tag_in p.contain
   pub noted : KnowsUsers p (slice_get p.containers.items k) → AreUpTo (count_of p.jobs) (conflicting_with p.safety ((tag, Write) ∷ []))
   noted known j e =
       let k0 : KnowsUsers p (Some one.0) = subst (KnowsUsers p) one.1 known in
-      k0 j (subst (λ (z : Tag). latest_users (state_of p.safety z.slot.0).latest j ≡ true) one.2 (or_none (latest_users (state_of p.safety tag.slot.0).latest j) e))
+      k0 j (subst (λ (z : Tag). latest_users (state_of p.safety z.slot.0).latest j ≡ true) one.2
+      (or_none (latest_users (state_of p.safety tag.slot.0).latest j) e))
     where
       or_none : (b : Bool) → (b || false) ≡ true → b ≡ true
       or_none true e = refl
       or_none false e = e
 
-  pub waited : (after answer : Jobs) → after ≡ nobody → ForNeeds p.jobs p.safety ((tag, Write) ∷ []) (IsAutomatic after answer) → AreWaitedFor p (slice_get p.containers.items k) answer
+  pub waited : (after answer : Jobs) → after ≡ nobody → ForNeeds p.jobs p.safety ((tag, Write) ∷ []) (IsAutomatic after answer)
+      → AreWaitedFor p (slice_get p.containers.items k) answer
   waited after answer none set = subst (λ o. AreWaitedFor p o answer) (sym one.1) (λ b uses need stands all writes latest j.
-      set b uses (need ∷ []) stands all
-      (record { writes = writes; latest = subst (λ (z : Tag). StandForUses b (state_of p.safety z.slot.0).latest (uses need.container)) (sym one.2) latest }, tt) j
+      set b uses (need ∷ []) stands all (
+        record { writes = writes; latest = subst (λ (z : Tag). StandForUses b (state_of p.safety z.slot.0).latest (uses need.container)) (sym one.2) latest },
+        tt,
+      ) j
       ∙ ap (λ f. automatic b uses f (need ∷ []) j) none)
 
-module _ (p : Planner) (g : Setting) (begun : ScriptState) (n : ℕ) (s : ScriptState) (found : List ℕ) (st : Stands p g begun n s found) (name c : ℕ) (live : IsLiveAt p s name c) where
+module _ (p : Planner) (g : Setting) (begun : ScriptState) (n : ℕ) (s : ScriptState) (found : List ℕ) (st : Stands p g begun n s found) (name c : ℕ)
+    (live : IsLiveAt p s name c) where
   it : (i : Container) × (slice_get p.containers.items c ≡ Some i)
   it = there p.containers.items c live.below
 
@@ -229,10 +243,12 @@ module _ (p : Planner) (line name handle : ℕ) where
   abbrev ending : Statement
   ending = record { line = line; act = DisposeAuto name handle }
 
-  ending_fits : (script : Script) (table : Table) (n : ℕ) → IsStep script table n ending → (name < length (setting script table).names) × (handle < length (setting script table).names)
+  ending_fits : (script : Script) (table : Table) (n : ℕ) → IsStep script table n ending
+      → (name < length (setting script table).names) × (handle < length (setting script table).names)
   ending_fits script table n step =
       let fits : FitsThere (setting script table) step.accepted.kinds ending.act = fits_at script table n ending step in
-      let both = and_parts (uses (record { kinds = step.accepted.kinds; made = fits.made }) name DISPOSABLE) (makes (record { kinds = step.accepted.kinds; made = fits.made }) handle kind.Handle) fits.fits in
+      let both = and_parts (uses (record { kinds = step.accepted.kinds; made = fits.made }) name DISPOSABLE)
+      (makes (record { kinds = step.accepted.kinds; made = fits.made }) handle kind.Handle) fits.fits in
       (used_below script table n ending step fits.made name DISPOSABLE both.0, made_below script table n ending step fits.made handle kind.Handle both.1)
 
   pub record CanEndWaiting : Type 0 where
@@ -253,26 +269,33 @@ module _ (p : Planner) (line name handle : ℕ) where
         name_in = within p g b.begun b.n s b.found b.stands name fits.0;
         handle_in = within p g b.begun b.n s b.found b.stands handle fits.1;
         there = are_there p g b.begun b.n s b.found b.stands;
-        few = (let few = b.stands.numbers.handles_few in let most = statements_few ready.0 b.table b.n ending b.step in let len = p.handles.ok.0 in omega arith);
+        few = (let few = b.stands.numbers.handles_few in let most = statements_few ready.0 b.table b.n ending b.step in let len = p.handles.ok.0 in
+            omega arith);
         known = λ c live. users_are_known p g b.begun b.n s b.found b.stands name c (live g b.begun b.n s b.found b.stands);
         holds = λ c live. let l = live g b.begun b.n s b.found b.stands in
-            can_hold p g b.begun b.n s b.found b.stands (let few = statements_few ready.0 b.table b.n ending b.step in omega arith) c l.below (alive_c p g b.begun b.n s b.found b.stands name c l);
+            can_hold p g b.begun b.n s b.found b.stands (let few = statements_few ready.0 b.table b.n ending b.step in omega arith) c l.below
+            (alive_c p g b.begun b.n s b.found b.stands name c l);
       }
 
-  pub ending_says : (m q : Planner) → IsLive p name None → IsPushed p m (record { line = line; name = name; act = Say Disposed }) → HasHandle m q handle nobody → GoesOn p q ending
+  pub ending_says : (m q : Planner) → IsLive p name None → IsPushed p m (record { line = line; name = name; act = Say Disposed }) → HasHandle m q handle nobody
+      → GoesOn p q ending
   ending_says m q gone i e script table begun n found step st =
       let s = state_at script table n in
       said_nobody script table begun n found ending step (record { cause = Disposed; name = name }) p st
-      (ap (λ a. option_map (refused Disposed) (cond (not a) (Some name) None)) (gone (setting script table) begun n s found st)) (ending_fits script table n step).0 m q handle refl refl refl (inr (λ c. refl)) i e
+      (ap (λ a. option_map (refused Disposed) (cond (not a) (Some name) None)) (gone (setting script table) begun n s found st))
+      (ending_fits script table n step).0 m q handle refl refl refl (inr (λ c. refl)) i e
 
-  pub ending_goes : (m q : Planner) (jobs : Jobs) (c : ℕ) → IsLive p name (Some c) → AreWaitedFor p (slice_get p.containers.items c) jobs → IsHeldBack p m c → HasHandle m q handle jobs → GoesOn p q ending
+  pub ending_goes : (m q : Planner) (jobs : Jobs) (c : ℕ) → IsLive p name (Some c) → AreWaitedFor p (slice_get p.containers.items c) jobs → IsHeldBack p m c
+      → HasHandle m q handle jobs → GoesOn p q ending
   ending_goes m q jobs c live w i e script table begun n found step st =
       let g = setting script table in
       let s = state_at script table n in
       let l = live g begun n s found st in
       let none : refusal g s ending.act ≡ None = ap (λ a. option_map (refused Disposed) (cond (not a) (Some name) None)) l.alive in
-      held_on script table begun n found ending step p st name handle jobs (alive_container s (s.values name) l.alive) m q (subst (IsHeldBack p m) (sym l.at) i) e
-      (accepted_state g s ending step.acts none ∙ ap (λ js. with_name handle (states.Handle js) (dispose name s)) (sym (set_is p g begun n s found st name c l jobs w))) (refl, tt)
+      held_on script table begun n found ending step p st name handle jobs (alive_container s (s.values name) l.alive) m q
+      (subst (IsHeldBack p m) (sym l.at) i) e
+      (accepted_state g s ending step.acts none ∙ ap (λ js. with_name handle (states.Handle js) (dispose name s))
+      (sym (set_is p g begun n s found st name c l jobs w))) (refl, tt)
 
 -- ---- `complete auto`
 module _ (p : Planner) (line name : ℕ) where
@@ -305,19 +328,23 @@ module _ (p : Planner) (line name : ℕ) where
         known = λ c may. users_are_known p g b.begun b.n s b.found b.stands name c (may g b.begun b.n s b.found b.stands).1;
         jobs = λ c may jobs w. let l = (may g b.begun b.n s b.found b.stands).1 in
             subst (AreUpTo (count_of p.jobs)) (sym (set_is p g b.begun b.n s b.found b.stands name c l jobs w))
-            (subst (λ m. AreUpTo m (automatic s.book s.uses nobody (need_of s name true ∷ []))) (sym b.stands.jobs.count) (set_known p g b.begun b.n s b.found b.stands name c l));
+            (subst (λ m. AreUpTo m (automatic s.book s.uses nobody (need_of s name true ∷ []))) (sym b.stands.jobs.count)
+            (set_known p g b.begun b.n s b.found b.stands name c l));
       }
 
-  pub completing_says : (q : Planner) (cause : Refusal) → IsCompletable p name (Err cause) → IsPushed p q (record { line = line; name = name; act = Say cause }) → GoesOn p q completing
+  pub completing_says : (q : Planner) (cause : Refusal) → IsCompletable p name (Err cause) → IsPushed p q (record { line = line; name = name; act = Say cause })
+      → GoesOn p q completing
   completing_says q cause may i script table begun n found step st =
       said script table begun n found completing step (record { cause = cause; name = name }) p st
       (sym (may (setting script table) begun n (state_at script table n) found st).0) (completing_below script table n step) q refl refl (inr (λ c. refl)) i
 
-  pub completing_goes : (q : Planner) (jobs : Jobs) (c : ℕ) → IsCompletable p name (Ok c) → AreWaitedFor p (slice_get p.containers.items c) jobs → AreCompleted p q jobs → GoesOn p q completing
+  pub completing_goes : (q : Planner) (jobs : Jobs) (c : ℕ) → IsCompletable p name (Ok c) → AreWaitedFor p (slice_get p.containers.items c) jobs
+      → AreCompleted p q jobs → GoesOn p q completing
   completing_goes q jobs c may w done script table begun n found step st =
       let g = setting script table in
       let s = state_at script table n in
       let m = may g begun n s found st in
-      completes_on script table begun n found completing step p st (automatic s.book s.uses nobody (need_of s name true ∷ [])) (set_known p g begun n s found st name c m.1) q
+      completes_on script table begun n found completing step p st (automatic s.book s.uses nobody (need_of s name true ∷ []))
+      (set_known p g begun n s found st name c m.1) q
       (subst (AreCompleted p q) (set_is p g begun n s found st name c m.1 jobs w) done)
       (accepted_state g s completing step.acts (sym m.0)) (refl, tt)

@@ -1,13 +1,11 @@
 -- The plan so far becomes a whole one: what it counts is small, and it is a plan of the script.
-use Rattle.std.proofs.Common.{◌≡◌, ℕ, zero, suc, ◌+◌, ◌*◌, ◌<◌, ◌≤◌, ◌^◌, ⊎_elim, Bool, true, false, cond, ◌||◌, ne_eqb, eq-eqb, List, [], ◌∷◌, ◌++◌, length, map, get_or, None, Some, refl, sym, ap, subst, ◌∙◌, arith, append-nil}
+use Rattle.std.proofs.Common.{◌≡◌, ℕ, zero, suc, ◌+◌, ◌*◌, ◌<◌, ◌≤◌, ◌^◌, ⊎_elim, Bool, true, false, cond, ne_eqb, eq-eqb, List, [], ◌∷◌, ◌++◌, length, map, None, Some, refl, sym, ap, subst, ◌∙◌, arith, append-nil}
 use Rattle.std.specs.Prelude.{nat_eq, slice_get, string_bytes}
 use Rattle.std.specs.Int.{div_ceil}
 use Rattle.std.proofs.lemmas.Bool.{cases_eq, cases_lt, cond-false, leb-true}
 use Rattle.std.proofs.lemmas.Grind.{div_ceil_times}
 use Rattle.std.proofs.lemmas.List.{append_assoc, length-append}
-use Rattle.std.proofs.lemmas.List.Elements.{All-push}
 use Rattle.std.proofs.Math.Nat.{mul-le-mul_right}
-use Rattle.job_base.specs.declared.JobId.{JobId}
 use Rattle.job_base.specs.declared.limits.TheConstants.{MOST_JOBS, MOST_PIECES, MOST_STATEMENTS, MOST_CREATED_WORDS}
 use Rattle.batch_cut.specs.Cuts.{count_of}
 use Rattle.frame_ast.specs.declared.script.Script.{Script}
@@ -20,7 +18,7 @@ use Rattle.frame_core.specs.declared.plan.Segment.{Segment}
 use Rattle.frame_core.specs.declared.plan.Plan.{Plan}
 use Rattle.frame_core.specs.Empty.{no_plan}
 use Rattle.frame_core.specs.Names.{has_job, pieces_of, pieces_before}
-use Rattle.frame_core.specs.Ordered.{IsAbove, IsCutIn, ops_count}
+use Rattle.frame_core.specs.Ordered.{IsCutIn, ops_count}
 use Rattle.plan_laws.specs.Finishing.{IsDone}
 use Rattle.plan_laws.specs.Planned.{AreJobsUpTo, IsPlanned}
 use Rattle.plan_laws.proofs.Becoming.{drafts_become_plans}
@@ -31,58 +29,25 @@ use Rattle.frame_plan.specs.Steps.{state_at, StandsAt}
 use Rattle.frame_plan.proofs.Accessing.{there}
 use Rattle.frame_plan.proofs.Passing.{stands_within}
 
--- ---- all jobs, in their order
-
-above_last : (n m : ℕ) (xs : List JobId) → n ≤ m → IsAbove n xs → ((k : ℕ) (d : JobId) → k < length xs → (get_or xs k d).0 ≤ m) → IsAbove n (xs ++ record { 0 = m + 1 } ∷ [])
-above_last n m [] le a b = (omega arith, tt)
-above_last n m (x ∷ xs) le a b = (a.0, above_last x.0 m xs (b 0 x (omega arith)) a.1 (λ k d lt. b (suc k) d (omega arith)))
-
-pub one_more_known : (m : ℕ) (xs : List JobId) → AreJobsUpTo m xs → AreJobsUpTo (m + 1) (xs ++ record { 0 = m + 1 } ∷ [])
-one_more_known m xs k = (
-  above_last 0 m xs (omega arith) k.0 k.1,
-  All-push (λ (id : JobId). id.0 ≤ m + 1) xs (record { 0 = m + 1 }) (λ i d lt. let le = k.1 i d lt in omega arith) (omega arith),
-)
-
-has_last : (xs : List JobId) (m j : ℕ) → has_job (xs ++ record { 0 = m } ∷ []) j ≡ (has_job xs j || nat_eq m j)
-has_last [] m j = by (nat_eq m j)
-  where
-    by : (b : Bool) → (b || false) ≡ (false || b)
-    by true = refl
-    by false = refl
-has_last (x ∷ xs) m j = ap (λ b. nat_eq x.0 j || b) (has_last xs m j) ∙ by (nat_eq x.0 j) (has_job xs j) (nat_eq m j)
-  where
-    by : (a b c : Bool) → (a || (b || c)) ≡ ((a || b) || c)
-    by true b c = refl
-    by false b c = refl
-
-pub one_more_there : (m : ℕ) (xs : List JobId) → ((k : ℕ) → 0 < k → k ≤ m → has_job xs k ≡ true) → (k : ℕ) → 0 < k → k ≤ m + 1 → has_job (xs ++ record { 0 = m + 1 } ∷ []) k ≡ true
-one_more_there m xs all k pos le =
-    has_last xs (m + 1) k
-    ∙ ⊎_elim
-    (λ (e : k ≡ m + 1). by (has_job xs k) (nat_eq (m + 1) k) (eq-eqb (m + 1) k (sym e)))
-    (λ (ne : k ≡ m + 1 → ⊥). ap (λ b. b || nat_eq (m + 1) k) (all k pos (omega arith)))
-    (cases_eq k (m + 1))
-  where
-    by : (a b : Bool) → b ≡ true → (a || b) ≡ true
-    by true b e = refl
-    by false b e = e
-
 -- ---- pieces are few
 
 few_pieces : (n step : ℕ) → 1 ≤ step → n ≤ MOST_PIECES * step → count_of n step ≤ MOST_PIECES
 few_pieces n step pos le = ⊎_elim
     (λ (z : n ≡ 0). subst (λ b. cond b 1 (div_ceil n step) ≤ MOST_PIECES) (sym (eq-eqb n 0 z)) (omega arith))
-    (λ ne. subst (λ x. x ≤ MOST_PIECES) (sym (cond-false (nat_eq n 0) 1 (div_ceil n step) (ne_eqb n 0 ne))) (below (div_ceil n step) (div_ceil_times n step (omega arith)).1))
+    (λ ne. subst (λ x. x ≤ MOST_PIECES) (sym (cond-false (nat_eq n 0) 1 (div_ceil n step) (ne_eqb n 0 ne)))
+    (below (div_ceil n step) (div_ceil_times n step (omega arith)).1))
     (cases_eq n 0)
   where
     below : (q : ℕ) → q * step < n + step → q ≤ MOST_PIECES
-    below q lt = ⊎_elim (λ (h : q < 65). omega arith) (λ (h : 65 ≤ q). let more : 65 * step ≤ q * step = mul-le-mul_right step h in absurd (omega arith)) (cases_lt q 65)
+    below q lt = ⊎_elim (λ (h : q < 65). omega arith) (λ (h : 65 ≤ q). let more : 65 * step ≤ q * step = mul-le-mul_right step h in absurd (omega arith))
+        (cases_lt q 65)
 
 pieces_few : (n step : ℕ) (b : Bool) → 1 ≤ step → n ≤ MOST_PIECES * step → cond b (count_of n step) 1 ≤ MOST_PIECES
 pieces_few n step true pos le = few_pieces n step pos le
 pieces_few n step false pos le = omega arith
 
-jobs_pieces : (jobs : List JobPlan) → ((j : ℕ) (job : JobPlan) → slice_get jobs j ≡ Some job → IsCutIn job) → pieces_before jobs (length jobs) ≤ MOST_PIECES * length jobs
+jobs_pieces : (jobs : List JobPlan) → ((j : ℕ) (job : JobPlan) → slice_get jobs j ≡ Some job → IsCutIn job)
+    → pieces_before jobs (length jobs) ≤ MOST_PIECES * length jobs
 jobs_pieces [] cut = omega arith
 jobs_pieces (x ∷ more) cut =
     let here = cut 0 x refl in
@@ -93,7 +58,8 @@ jobs_pieces (x ∷ more) cut =
 -- ---- what is counted is small
 
 -- a rising list of numbers has at least its place at each place
-rank : (xs : List ℕ) → ((k l c d : ℕ) → k < l → slice_get xs k ≡ Some c → slice_get xs l ≡ Some d → c < d) → (k c : ℕ) → k < length xs → slice_get xs k ≡ Some c → k ≤ c
+rank : (xs : List ℕ) → ((k l c d : ℕ) → k < l → slice_get xs k ≡ Some c → slice_get xs l ≡ Some d → c < d) → (k c : ℕ) → k < length xs → slice_get xs k ≡ Some c
+    → k ≤ c
 rank xs rising zero c lt e = omega arith
 rank xs rising (suc k) c lt e =
     let b = there xs k (omega arith) in
@@ -101,7 +67,8 @@ rank xs rising (suc k) c lt e =
     let less = rising k (suc k) b.0 c (omega arith) b.1 e in
     omega arith
 
-few_rising : (xs : List ℕ) (m : ℕ) → ((k l c d : ℕ) → k < l → slice_get xs k ≡ Some c → slice_get xs l ≡ Some d → c < d) → ((k c : ℕ) → slice_get xs k ≡ Some c → c < m) → length xs ≤ m
+few_rising : (xs : List ℕ) (m : ℕ) → ((k l c d : ℕ) → k < l → slice_get xs k ≡ Some c → slice_get xs l ≡ Some d → c < d)
+    → ((k c : ℕ) → slice_get xs k ≡ Some c → c < m) → length xs ≤ m
 few_rising xs m rising below = by (length xs) refl
   where
     by : (n : ℕ) → length xs ≡ n → length xs ≤ m
@@ -114,15 +81,23 @@ few_rising xs m rising below = by (length xs) refl
 
 -- a plan that has all of the plan so far
 abbrev pub plan_so_far : Script → Planner → Plan
-plan_so_far script p = record no_plan { names = script.names; kernels = p.plan.kernels; literals = p.plan.literals; jobs = p.plan.jobs; cells = peak_of p.store }
+plan_so_far script p = record no_plan {
+  names = script.names;
+  kernels = p.plan.kernels;
+  literals = p.plan.literals;
+  jobs = p.plan.jobs;
+  cells = peak_of p.store;
+}
 
-module _ (script : Script) (table : Table) (p : Planner) (begun : ScriptState) (n : ℕ) (found : List ℕ) (st : StandsAt p script table begun n found) (accepted : IsAccepted script) (inside : n ≤ length script.statements.items) where
+module _ (script : Script) (table : Table) (p : Planner) (begun : ScriptState) (n : ℕ) (found : List ℕ) (st : StandsAt p script table begun n found)
+    (accepted : IsAccepted script) (inside : n ≤ length script.statements.items) where
   peak_small : peak_of p.store < 2 ^ 32
   peak_small = let low = st.numbers.peak_low in let few = st.numbers.created_few in omega arith
 
   -- a plan that has all of the plan so far
   pub agrees : (plan : Plan) → map (λ v. string_bytes v) plan.names.items ≡ map (λ v. string_bytes v) script.names.items
-      → plan.kernels.items ≡ p.plan.kernels.items → plan.literals.items ≡ p.plan.literals.items → plan.jobs.items ≡ p.plan.jobs.items → plan.cells ≡ peak_of p.store
+      → plan.kernels.items ≡ p.plan.kernels.items → plan.literals.items ≡ p.plan.literals.items → plan.jobs.items ≡ p.plan.jobs.items
+      → plan.cells ≡ peak_of p.store
       → Agrees p (setting script table) begun found (outline_of plan found begun)
   agrees plan names kernels literals jobs cells = record {
     begins = refl;
@@ -174,7 +149,8 @@ module _ (script : Script) (table : Table) (p : Planner) (begun : ScriptState) (
   ops_two (x ∷ more) last final e = let rest = ops_two more last final e in omega arith
 
   pub is_done : (plan : Plan) (last final : Segment) → map (λ v. string_bytes v) plan.names.items ≡ map (λ v. string_bytes v) script.names.items
-      → plan.kernels.items ≡ p.plan.kernels.items → plan.literals.items ≡ p.plan.literals.items → plan.jobs.items ≡ p.plan.jobs.items → plan.cells ≡ peak_of p.store
+      → plan.kernels.items ≡ p.plan.kernels.items → plan.literals.items ≡ p.plan.literals.items → plan.jobs.items ≡ p.plan.jobs.items
+      → plan.cells ≡ peak_of p.store
       → plan.words ≡ plan.cells + 3 * p.plan.pieces
       → plan.segments.items ≡ (p.plan.segments.items ++ last ∷ []) ++ final ∷ []
       → last.waits.items ≡ p.plan.waits.items
@@ -187,9 +163,11 @@ module _ (script : Script) (table : Table) (p : Planner) (begun : ScriptState) (
       → IsDone (outline_of plan found begun) (state_at script table n)
   is_done plan last final names kernels literals jobs cells words segments waits ops starts known all final_ops final_starts =
       let split : plan.segments.items ≡ p.plan.segments.items ++ last ∷ final ∷ [] = segments ∙ append_assoc p.plan.segments.items (last ∷ []) (final ∷ []) in
-      let pieces_is : pieces_before plan.jobs.items (length plan.jobs.items) ≡ p.plan.pieces = ap (λ l. pieces_before l (length l)) jobs ∙ sym st.numbers.pieces in
+      let pieces_is : pieces_before plan.jobs.items (length plan.jobs.items) ≡ p.plan.pieces = ap (λ l. pieces_before l (length l)) jobs
+      ∙ sym st.numbers.pieces in
       let long : length plan.segments.items ≡ length p.plan.segments.items + 2 = ap length split ∙ length-append p.plan.segments.items (last ∷ final ∷ []) in
-      let count : ops_count plan.segments.items ≡ ops_count p.plan.segments.items + length last.ops.items = ap ops_count split ∙ ops_two p.plan.segments.items last final final_ops in
+      let count : ops_count plan.segments.items ≡ ops_count p.plan.segments.items + length last.ops.items = ap ops_count split
+      ∙ ops_two p.plan.segments.items last final final_ops in
       let ops_long : length last.ops.items ≡ length p.plan.ops.items = ap length ops in
       let few = jobs_few in
       let small = pieces_small in

@@ -116,7 +116,8 @@ pub record HasHandle (old new : Planner) (name : ℕ) (jobs : JobSet) : Type 0 w
   pub others : (k : ℕ) → k ≢ place → k < length old.handles.items
       → slice_get new.handles.items k ≡ slice_get old.handles.items k
   -- the place is the name's already, or a new one
-  pub own : (slice_get old.values.items name ≡ Some (Jobs place)) × (length new.handles.items ≡ length old.handles.items)
+  pub own : (slice_get old.values.items name ≡ Some (Jobs place))
+      × (length new.handles.items ≡ length old.handles.items)
       ⊎ (place ≡ length old.handles.items) × (length new.handles.items ≡ suc place)
   pub rest : new ≡ record old { values = new.values; handles = new.handles }
 

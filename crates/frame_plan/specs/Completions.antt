@@ -1,5 +1,5 @@
 -- Jobs that become completed, in the code's terms.
-use Rattle.std.specs.Prelude.{ℕ, zero, suc, ◌+◌, ◌-◌, ◌≡◌, ◌≤◌, ◌⊎◌, ◌&&◌, not, if◌then◌else◌, List, [], ◌∷◌, ◌++◌, None}
+use Rattle.std.specs.Prelude.{ℕ, ◌+◌, ◌-◌, ◌≡◌, ◌≤◌, ◌⊎◌, ◌&&◌, not, List, [], ◌∷◌, ◌++◌, None}
 use Rattle.job_base.specs.declared.JobId.{JobId}
 use Rattle.frame_ast.specs.declared.script.Order.TheVariants.{Complete}
 use Rattle.frame_ast.specs.Jobs.{Jobs, Book, ancestors_in, with_completed}
@@ -7,12 +7,8 @@ use Rattle.frame_core.specs.declared.plan.Segment.{Segment}
 use Rattle.job_handle.specs.Books.{StandsFor, count_of}
 use Rattle.slot_store.specs.Stores.{place_of, peak_of, slots_in_use, settled}
 use Rattle.frame_plan.specs.declared.state.Planner.{Planner}
+use Rattle.frame_plan.specs.Growth.{rising_jobs}
 use Rattle.frame_plan.specs.Steps.{GoesOn}
-
--- the jobs of a set among the first n, in rising order
-abbrev pub rising_jobs : Jobs → ℕ → List JobId
-rising_jobs set zero = []
-rising_jobs set (suc n) = rising_jobs set n ++ (if set (suc n) then record { 0 = suc n } ∷ [] else [])
 
 -- the jobs of a set that aren't completed, by their numbers after the first ones
 abbrev pub newly_of : Book → ℕ → Jobs → Jobs

@@ -4,7 +4,7 @@
 -- kernel, where its arguments lie, its cut, whether its pieces may run at once, what it depends on, and what was waited
 -- for before it is started. A statement that is refused or passed by adds neither. That a section adds what its
 -- statements add, and nothing else, is said in `Layouts`.
-use Rattle.std.specs.Prelude.{ℕ, zero, suc, ◌+◌, ◌-◌, ◌≡◌, ◌<◌, Bool, true, false, ◌&&◌, max, List, [], ◌∷◌, ◌++◌, length, get_or, Option, None, Some, slice_get}
+use Rattle.std.specs.Prelude.{ℕ, zero, suc, ◌+◌, ◌-◌, ◌≡◌, ◌<◌, Bool, true, false, ◌&&◌, not, max, if◌then◌else◌, List, [], ◌∷◌, ◌++◌, length, get_or, Option, None, Some, slice_get}
 use Rattle.job_base.specs.declared.JobId.{JobId}
 use Rattle.job_base.specs.declared.Span.{Span}
 use Rattle.batch_cut.specs.Cuts.{step_of}
@@ -182,6 +182,38 @@ abbrev pub Awaits : Setting → ℕ → ScriptState → ℕ → Order → List S
 Awaits g before s zero order segments = AwaitsUnless before s order (refusal g s order) segments
 Awaits g before s (suc more) order segments = Unit {0}
 
+-- WAITS IN THEIR ORDER
+
+-- the jobs of a set among the first n, in rising order
+abbrev pub rising_jobs : Jobs → ℕ → List JobId
+rising_jobs set zero = []
+rising_jobs set (suc n) = rising_jobs set n ++ (if set (suc n) then record { 0 = suc n } ∷ [] else [])
+
+-- the first n jobs
+abbrev pub first_jobs : ℕ → List JobId
+first_jobs n = rising_jobs (λ j. true) n
+
+-- some jobs, or nothing where there is none
+abbrev pub unless_none : List JobId → List (List JobId)
+unless_none [] = []
+unless_none (job ∷ more) = (job ∷ more) ∷ []
+
+-- what each segment waits for, if anything
+abbrev pub waits_of : List Segment → List (List JobId)
+waits_of [] = []
+waits_of (s ∷ more) = unless_none s.waits.items ++ waits_of more
+
+-- and each segment of a planner so far
+abbrev pub waits_by : Planner → List (List JobId)
+waits_by p = waits_of p.plan.segments.items ++ unless_none p.plan.waits.items
+
+-- the jobs that are completed in a state and weren't in one before it, by the numbers of a section
+abbrev pub newly_in : ℕ → ScriptState → ScriptState → Jobs
+newly_in before s after j = after.book.completed (before + j) && not (s.book.completed (before + j))
+
+abbrev pub newly_completed : ℕ → ScriptState → ScriptState → List JobId
+newly_completed before s after = rising_jobs (newly_in before s after) (s.book.count - before)
+
 -- ONE STATEMENT
 
 -- A planner that goes on by a statement takes its range and schedules its job.
@@ -204,6 +236,8 @@ pub record Grows (g : Setting) (s : ScriptState) (x : Statement) (starts : Start
   -- what was waited for stays what is completed, and the next job is started after just that
   pub waited : HasWaited before s old → HasWaited before (act g s x) new
   pub awaited : HasWaited before s old → Awaits g before s s.passing x.act new.plan.segments.items
+  -- a segment waits for what the statement newly completes, if anything
+  pub waits : waits_by new ≡ waits_by old ++ unless_none (newly_completed before s (act g s x))
 
 -- The planner gave no range, started no job and waits for no more: what a statement needs that adds nothing.
 pub record IsQuiet (old new : Planner) : Type 0 where

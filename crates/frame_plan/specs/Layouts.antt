@@ -1,9 +1,11 @@
--- How a section is laid out: where its ranges start, and what its jobs are, statement by statement.
+-- How a section is laid out: where its ranges start, what its jobs are, and what its segments wait for, statement by
+-- statement.
 --
--- Decided here is that the ranges and the jobs of a plan are those that the definitions have for the statements between
--- two places, each where they have it, and no others. That its run gives the script's output, and what the next section
--- is given, is said in `Sections`.
+-- Decided here is that the ranges, the jobs and the waits of a plan are those that the definitions have for the
+-- statements between two places, each where they have it, and no others. That its run gives the script's output, and
+-- what the next section is given, is said in `Sections`.
 use Rattle.std.specs.Prelude.{ℕ, zero, suc, ◌+◌, ◌-◌, ◌≡◌, ◌<◌, ◌≤◌, nat_le, if◌then◌else◌, List, [], ◌∷◌, ◌++◌, length, get_or, take, Option, None, Some, slice_get}
+use Rattle.job_base.specs.declared.JobId.{JobId}
 use Rattle.job_base.specs.declared.Span.{Span}
 use Rattle.frame_ast.specs.declared.kernel.Kernel.{Kernel}
 use Rattle.frame_ast.specs.declared.script.Script.{Script}
@@ -18,7 +20,7 @@ use Rattle.frame_core.specs.declared.plan.Segment.{Segment}
 use Rattle.frame_core.specs.Graphs.{cells_after}
 use Rattle.plan_laws.specs.Leaving.{AllHeld}
 use Rattle.frame_plan.specs.declared.state.Planner.{Planner}
-use Rattle.frame_plan.specs.Growth.{given_so_far, given_from, span_by, greatest_end, Schedules, deps_after, Awaits, HasWaited}
+use Rattle.frame_plan.specs.Growth.{given_so_far, given_from, span_by, greatest_end, Schedules, deps_after, Awaits, HasWaited, first_jobs, unless_none, waits_of, waits_by, newly_completed}
 use Rattle.frame_plan.specs.Steps.{state_at}
 
 -- RANGES
@@ -66,6 +68,21 @@ AreScheduled script table starts from to kernels jobs segments = (n : ℕ) (x : 
     → HasItsJob (setting script table) starts (state_at script table from).book.count (state_at script table n) x
     kernels jobs segments
 
+-- WAITS
+
+-- the jobs that the n-th statement newly completes, by the numbers of a section that began at a place
+abbrev pub completed_at : Script → Table → ℕ → ℕ → List JobId
+completed_at script table from n =
+    newly_completed (state_at script table from).book.count (state_at script table n) (state_at script table (suc n))
+
+-- those that statements newly complete, from the section's place up to another: of each that completes any, in order
+abbrev pub completed_between : Script → Table → ℕ → ℕ → List (List JobId)
+completed_between script table from zero = []
+completed_between script table from (suc n) =
+    if nat_le from n
+    then completed_between script table from n ++ unless_none (completed_at script table from n)
+    else []
+
 -- A SECTION
 
 abbrev pub starts_by : List ℕ → Starts
@@ -83,6 +100,9 @@ pub record IsLaidOut (script : Script) (table : Table) (from to : ℕ) (plan : P
   -- its jobs are those of the accepted schedules, each started after what was completed before it
   pub count : length plan.jobs.items + (state_at script table from).book.count ≡ (state_at script table to).book.count
   pub jobs : AreScheduled script table starts from to plan.kernels.items plan.jobs.items plan.segments.items
+  -- its segments wait for what each statement newly completes, and in the end for all of its jobs, and for nothing else
+  pub waits : waits_of plan.segments.items
+      ≡ completed_between script table from to ++ unless_none (first_jobs (length plan.jobs.items))
   -- and in the end the words of each container that is alive stand for its contents
   pub contents : AllHeld starts (state_at script table to) (cells_after plan)
 
@@ -99,3 +119,4 @@ pub record HasGrown (script : Script) (table : Table) (starts : Starts) (p : Pla
   pub spans : given_so_far p ≡ carried_spans script table starts from ++ spans_between script table starts from at
   pub jobs : AreScheduled script table starts from at p.plan.kernels.items p.plan.jobs.items p.plan.segments.items
   pub waited : HasWaited (state_at script table from).book.count (state_at script table at) p
+  pub waits : waits_by p ≡ completed_between script table from at

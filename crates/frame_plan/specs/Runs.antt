@@ -21,7 +21,7 @@ use Rattle.plan_laws.specs.Planned.{Outline}
 use Rattle.std.specs.Prelude.{get_or}
 use Rattle.frame_plan.specs.declared.state.PlanFault.{PlanFault}
 use Rattle.frame_plan.specs.declared.state.Planner.{Planner}
-use Rattle.frame_plan.specs.Growth.{given_from, given_so_far, StartAs, Grows}
+use Rattle.frame_plan.specs.Growth.{given_from, given_so_far, StartAs, Grows, first_jobs, unless_none, waits_of, waits_by}
 use Rattle.frame_plan.specs.Layouts.{HasGrown}
 use Rattle.frame_plan.specs.Stands.{draft_of}
 use Rattle.frame_plan.specs.Steps.{state_at, StandsAt, PassesLimit}
@@ -37,6 +37,15 @@ IsActingTest g s _ = ⊥
 abbrev pub IsStop : Setting → ScriptState → Option Statement → Type 0
 IsStop g s None = Unit {0}
 IsStop g s (Some x) = IsActingTest g s x.act
+
+-- No statement from one place on and before another is such a test.
+abbrev pub NoneActs : Script → Table → ℕ → ℕ → Type 0
+NoneActs script table from to = (n : ℕ) (x : Statement)
+    → from ≤ n
+    → n < to
+    → slice_get script.statements.items n ≡ Some x
+    → IsActingTest (setting script table) (state_at script table n) x.act
+    → ⊥
 
 -- ONE STATEMENT of a script, with its table, passed by or not
 
@@ -74,6 +83,12 @@ abbrev pub StopsAt : Script → Table → Planner → Statement → Type 0
 StopsAt script table old x = AtPlace script table old x (λ begun n found.
     IsActingTest (setting script table) (state_at script table n) x.act)
 
+-- it isn't one
+abbrev pub GoesPast : Script → Table → Planner → Statement → Type 0
+GoesPast script table old x = AtPlace script table old x (λ begun n found.
+    IsActingTest (setting script table) (state_at script table n) x.act
+    → ⊥)
+
 -- the state afterwards passes a limit
 abbrev pub FailsAtPlace : Script → Table → PlanFault → Planner → Statement → Type 0
 FailsAtPlace script table fault old x = AtPlace script table old x (λ begun n found.
@@ -105,6 +120,7 @@ pub record HasRun (script : Script) (table : Table) (old new : Planner) (begun :
   pub gone : HasGone script table old new begun from found to
   pub rising : from ≤ to
   pub inside : to ≤ length script.statements.items
+  pub between : NoneActs script table from to
   pub stops : IsStop (setting script table) (state_at script table to) (slice_get script.statements.items to)
 
 -- no limit is passed
@@ -138,6 +154,8 @@ pub record IsFinished (script : Script) (p : Planner) (plan : Plan) : Type 0 whe
   pub spans : given_from plan.segments.items ≡ given_so_far p
   pub segments_later : List Segment
   pub segments : plan.segments.items ≡ p.plan.segments.items ++ segments_later
+  -- it waits for what was waited for, and then for all of its jobs
+  pub waits : waits_of plan.segments.items ≡ waits_by p ++ unless_none (first_jobs (length p.plan.jobs.items))
   pub done : (table : Table) (begun : ScriptState) (n : ℕ) (found : List ℕ)
       → n ≤ length script.statements.items
       → StandsAt p script table begun n found

@@ -37,7 +37,7 @@ use Rattle.frame_plan.specs.declared.state.Planner.{Planner}
 use Rattle.frame_plan.specs.Growth.{StartAs}
 use Rattle.frame_plan.specs.Layouts.{IsLaidOut, HasRanges, HasGrown}
 use Rattle.frame_plan.specs.Names.{AreNamesOf}
-use Rattle.frame_plan.specs.Runs.{IsActingTest, IsStop, IsEmptied}
+use Rattle.frame_plan.specs.Runs.{IsActingTest, IsStop, NoneActs, IsEmptied}
 use Rattle.frame_plan.specs.Stands.{AreKernels}
 use Rattle.frame_plan.specs.Steps.{state_at, StandsAt}
 
@@ -51,8 +51,8 @@ limit_told NoMemory = None
 
 -- THE TEST AT A SECTION'S END
 
--- The statement is a `when` that acts, with the sign and the number of the test, and the cells after the section hold the
--- value of its reference.
+-- The statement is a `when` that acts, with the sign and the number of the test, and the cells after the section hold
+-- the value of its reference.
 abbrev pub IsTestOf : Setting → ScriptState → Cells → Test → Order → Type 0
 IsTestOf g s cells test (When name sign value count) =
     (s.passing ≡ 0)
@@ -73,6 +73,8 @@ EndsBy g s cells (Some x) (Some test) = IsTestOf g s cells test x.act
 -- adds to its output between the two. Its jobs are numbered anew.
 pub record IsSectionOf (script : Script) (table : Table) (from to : ℕ) (section : Section) : Type 0 where
   pub rising : (from ≤ to) × (to ≤ length script.statements.items)
+  -- it goes past no `when` that acts
+  pub between : NoneActs script table (suc from) to
   pub well_ordered : IsWellOrderedPlan section.plan
   -- the plan of the next section can take these names over
   pub names : AreNamesOf script section.plan.names.items
@@ -126,6 +128,7 @@ pub record IsPlannedFrom (book : SectionBook) (script : Script) (table : Table) 
   pub inside : book.at ≤ length script.statements.items
   pub stops : IsStop (setting script table) (state_at script table book.at)
       (slice_get script.statements.items book.at)
+  pub between : NoneActs script table (suc from) book.at
   -- where it ends at a test, this is a later one
   pub later : IsSome (slice_get script.statements.items book.at) → from < book.at
 

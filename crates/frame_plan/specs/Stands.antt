@@ -1,7 +1,7 @@
 -- What a planner stands for: the state that the script is in, where ranges start, and the plan so far.
 --
--- Decided here is one relation, `Stands`, with a field for each table that a planner keeps. What the plan so far does is
--- said by `IsPlanned` of plan_laws, for every whole plan that goes on from here. How statements keep it is said in
+-- Decided here is one relation, `Stands`, with a field for each table that a planner keeps. What the plan so far does
+-- is said by `IsPlanned` of plan_laws, for every whole plan that goes on from here. How statements keep it is said in
 -- `Steps`.
 use Rattle.std.specs.Prelude.{ℕ, suc, ◌+◌, ◌≡◌, ◌<◌, ◌≤◌, ◌^◌, true, false, ◌&&◌, nat_eq, List, ◌++◌, length, map, get_or, Option, None, Some, slice_get, string_bytes, ℤ, Vec}
 use Rattle.std.specs.declared.alloc.Global.{Global}
@@ -206,8 +206,8 @@ draft_of p = record {
   ops = p.plan.ops.items;
 }
 
--- A whole plan that goes on from what was found so far: its names are those of the script, its kernels, literals and jobs
--- begin with those so far, ranges start where they were found, and its words hold all ranges.
+-- A whole plan that goes on from what was found so far: its names are those of the script, its kernels, literals and
+-- jobs begin with those so far, ranges start where they were found, and its words hold all ranges.
 pub record Agrees (p : Planner) (g : Setting) (begun : ScriptState) (found : List ℕ) (x : Outline) : Type 0 where
   pub begins : x.begun ≡ begun
   pub names : map (λ v. string_bytes v) x.plan.names.items ≡ g.names
@@ -220,7 +220,8 @@ pub record Agrees (p : Planner) (g : Setting) (begun : ScriptState) (found : Lis
 
 -- A planner stands for the state of the script after n statements, of a section that began in another state, with the
 -- ranges taken so far starting at these words.
-pub record Stands (p : Planner) (g : Setting) (begun : ScriptState) (n : ℕ) (s : ScriptState) (found : List ℕ) : Type 0 where
+pub record Stands (p : Planner) (g : Setting) (begun : ScriptState) (n : ℕ) (s : ScriptState)
+    (found : List ℕ) : Type 0 where
   pub known : IsKnown s
   pub numbers : AreNumbers p begun n s
   pub names : AreNames p.values.items p.handles.items (length p.containers.items) s

@@ -1,5 +1,5 @@
 -- Whether a `when` acts, in the code's terms.
-use Rattle.std.specs.Prelude.{ℕ, ◌≡◌, Bool, true, false, not, List, [], ◌∷◌, Option, None}
+use Rattle.std.specs.Prelude.{ℕ, ◌≡◌, ◌≢◌, Bool, true, false, not, List, [], ◌∷◌, Option, None}
 use Rattle.job_base.specs.declared.JobId.{JobId}
 use Rattle.job_base.specs.declared.Refusal.{Refusal}
 use Rattle.frame_ast.specs.declared.script.Statement.{Statement}
@@ -34,7 +34,12 @@ abbrev pub Acts : Planner → Statement → Type 0
 Acts p x = AtStatement p x (λ script table begun n found.
     refusal (setting script table) (state_at script table n) x.act ≡ None)
 
+-- it is refused
+abbrev pub IsRefused : Planner → Statement → Type 0
+IsRefused p x = AtStatement p x (λ script table begun n found.
+    refusal (setting script table) (state_at script table n) x.act ≢ None)
+
 -- Where a statement is refused the planner goes on, and else it is as it was.
 abbrev pub IsDecided : Planner → Planner → Statement → Bool → Type 0
-IsDecided old new x true = GoesOn old new x
+IsDecided old new x true = GoesOn old new x × IsRefused old x
 IsDecided old new x false = (new ≡ old) × Acts old x

@@ -31,7 +31,8 @@ with_break (Some slot) k state = if nat_eq k slot.0 then record state { view = s
 
 -- The views of the list that a value stands for are broken, where it stands for a list, and all else is as it was.
 pub record IsBroken (old new : Planner) (value : Value) : Type 0 where
-  pub slots : (k : ℕ) → state_of new.safety k ≡ with_break (list_slot old.containers.items value) k (state_of old.safety k)
+  pub slots : (k : ℕ) → state_of new.safety k ≡ with_break (list_slot old.containers.items value) k
+      (state_of old.safety k)
   pub rest : new ≡ record old { safety = new.safety }
 
 -- a list's views can be broken once more

@@ -5,8 +5,8 @@ ghost use Rattle.frame_ast.specs.Schedules.{alias, is_shared};
 ghost use Rattle.frame_plan.specs.Uses.{given_of};
 ghost use Rattle.frame_plan.specs.Causes.{is_disposed, is_stale, has_cause, first_with, alias_of, blocker_number, greatest_blocker, pending_of, refusal_by};
 
-use crate::uses::{NamedUse, writes};
-use frame_ast::kernel::ParamKind;
+use crate::uses::NamedUse;
+use frame_ast::kernel::{ParamKind, writes_to};
 use job_base::{JobId, Refusal};
 use safety_handle::Blocked;
 
@@ -61,7 +61,7 @@ fn has_cause(one: &NamedUse, parallel: bool, refusal: Refusal) -> bool
     match refusal {
         Refusal::Disposed => is_disposed(one.blocked),
         Refusal::StaleView => is_stale(one.blocked),
-        Refusal::NotParallel => parallel && writes(one.access) && is_shared(one.kind),
+        Refusal::NotParallel => parallel && writes_to(one.access) && is_shared(one.kind),
         Refusal::TempInJob => one.is_temp,
         Refusal::Pending(job) => blocker_number(one.blocked) == job.0,
         _ => false,
@@ -137,7 +137,7 @@ fn has_alias(before: &[NamedUse], one: &NamedUse) -> bool
 fn is_alias(first: &NamedUse, second: &NamedUse) -> bool
     ensures { result ≡ alias (given_of first.now) (given_of second.now) }
 {
-    first.container == second.container && (writes(first.access) || writes(second.access))
+    first.container == second.container && (writes_to(first.access) || writes_to(second.access))
 }
 
 /// The greatest job that blocks one of the uses, with the first use that it blocks.

@@ -52,7 +52,8 @@ impl Planner {
         second: Option<i64>,
     ) -> Result<(), NoMemory>
         requires ready { IsReady self.old (record { line = line; act = AddIn name first second }) }
-        ensures goes_on { OnOk result (GoesOn self.old self.new (record { line = line; act = AddIn name first second })) }
+        ensures goes_on { OnOk result
+            (GoesOn self.old self.new (record { line = line; act = AddIn name first second })) }
     {
         match self.blocked(name, true) {
             Some(refusal) => self.say(line, name, refusal),

@@ -3,7 +3,7 @@ ghost use Rattle.std.specs.Prelude.{◌≡◌, ℕ, ◌<◌, ◌≤◌, vec_len,
 ghost use Rattle.std.specs.List.{list_any};
 ghost use Rattle.job_base.specs.declared.limits.TheConstants.{MOST_JOBS};
 ghost use Rattle.frame_ast.specs.Laws.{AreUpTo};
-ghost use Rattle.frame_ast.specs.Schedules.{alias, is_array};
+ghost use Rattle.frame_ast.specs.Schedules.{alias};
 ghost use Rattle.job_handle.specs.Sets.{jobs_of};
 ghost use Rattle.job_handle.specs.Books.{count_of};
 ghost use Rattle.safety_handle.specs.Entries.{state_of};
@@ -16,8 +16,8 @@ ghost use Rattle.frame_plan.specs.Deferring.{IsLengthUse, IsListName, IsListAt, 
 use crate::causes::{Cause, first_alias, first_with, pending};
 use crate::noting::note;
 use crate::state::Planner;
-use crate::uses::{NamedUse, number_of, writes};
-use frame_ast::kernel::ParamKind;
+use crate::uses::{NamedUse, number_of};
+use frame_ast::kernel::{ParamKind, writes_to};
 use job_base::{Access, JobId, NoMemory, Refusal};
 use job_handle::Handle;
 use kernel_exec::Bind;
@@ -63,7 +63,8 @@ impl Planner {
     pub(crate) fn note_deferred(&mut self, args: &[NamedUse], length: &NamedUse, job: JobId)
         requires job { (0 < job.0) × (job.0 ≤ MOST_JOBS) }
         requires may { MayNoteAll (noted_uses args.now length.now) (state_of self.old.safety) }
-        ensures noted { (k : ℕ) → state_of self.new.safety k ≡ noted_all job.0 (noted_uses args.now length.now) (state_of self.old.safety) k }
+        ensures noted { (k : ℕ) → state_of self.new.safety k ≡ noted_all job.0 (noted_uses args.now length.now)
+            (state_of self.old.safety) k }
         ensures rest { self.new ≡ record self.old { safety = self.new.safety } }
     {
         self.note_all(args, job);
@@ -153,17 +154,8 @@ fn is_length_alias(first: &NamedUse, length: &NamedUse) -> bool
     ensures { result ≡ alias (given_of first.now) (length_given length.now) }
 {
     first.container == length.container
-        && (writes(first.access) || writes(length.access))
-        && !(is_array(first.kind) && first.name == length.name)
-}
-
-fn is_array(kind: ParamKind) -> bool
-    ensures { result ≡ is_array kind }
-{
-    match kind {
-        ParamKind::Array => true,
-        _ => false,
-    }
+        && (writes_to(first.access) || writes_to(length.access))
+        && !(first.kind.is_array() && first.name == length.name)
 }
 
 /// Whether one of the uses is of that container.

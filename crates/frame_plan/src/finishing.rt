@@ -1,12 +1,11 @@
 // The plan so far becomes a whole one.
-ghost use Rattle.std.specs.Prelude.{◌≡◌, ◌+◌, ◌*◌, ◌<◌, ◌≤◌, ◌^◌, ℕ, List, IfOk, OnOk, length, true};
+ghost use Rattle.std.specs.Prelude.{◌≡◌, ◌≤◌, ℕ, List, IfOk, OnOk, length};
 ghost use Rattle.job_base.specs.declared.limits.TheConstants.{MOST_JOBS};
 ghost use Rattle.frame_ast.specs.declared.script.Script.{Script};
 ghost use Rattle.frame_ast.specs.Accepted.{IsAccepted};
 ghost use Rattle.frame_ast.specs.Orders.{Table};
 ghost use Rattle.frame_ast.specs.States.{ScriptState};
-ghost use Rattle.frame_core.specs.Names.{has_job};
-ghost use Rattle.plan_laws.specs.Planned.{AreJobsUpTo};
+ghost use Rattle.frame_plan.specs.Growth.{first_jobs};
 ghost use Rattle.frame_plan.specs.Names.{AreNamesOf};
 ghost use Rattle.frame_plan.specs.Runs.{IsFinished, IsEmptied};
 ghost use Rattle.frame_plan.specs.Steps.{StandsAt};
@@ -64,8 +63,7 @@ impl Planner {
 
 /// So many jobs, in their order.
 fn all_jobs(alloc: Global, count: u32) -> Result<Vec<JobId>, NoMemory>
-    ensures known { IfOk result (λ ids. AreJobsUpTo count ids.items) }
-    ensures all { IfOk result (λ ids. (j : ℕ) → 0 < j → j ≤ count → has_job ids.items j ≡ true) }
+    ensures { IfOk result (λ ids. ids.items ≡ first_jobs count) }
 {
     let mut ids = Vec::new(alloc);
     for j in 0..count {

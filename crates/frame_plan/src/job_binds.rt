@@ -8,8 +8,7 @@ ghost use Rattle.frame_plan.specs.Uses.{IsNameBelow, AreNamesBelow};
 ghost use Rattle.frame_plan.specs.JobBinds.{as_array, as_stream, as_kind, job_bind, job_binds};
 
 use crate::state::Planner;
-use crate::uses::writes;
-use frame_ast::kernel::{Kernel, Param, ParamKind};
+use frame_ast::kernel::{Kernel, Param, ParamKind, writes_to};
 use frame_ast::script::Arg;
 use job_base::NoMemory;
 use kernel_exec::Bind;
@@ -57,7 +56,7 @@ impl Planner {
 fn width_of(parallel: bool, param: &Param, place: u32, waive: &[u32]) -> u32
     ensures { result ≡ width_at parallel waive.now place param.now }
 {
-    if parallel && writes(param.access) {
+    if parallel && writes_to(param.access) {
         width_by(param, is_waived(place, waive))
     } else {
         0

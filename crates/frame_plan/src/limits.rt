@@ -17,13 +17,7 @@ use table_in::Table;
 pub(crate) fn has_test(script: &Script) -> bool
     ensures { result ≡ list_any (λ x. is_when x.act) script.now.statements.items }
 {
-    script.statements.iter().any(|x| is_test(&x.act))
-}
-
-fn is_test(act: &Order) -> bool
-    ensures { result ≡ is_when act.now }
-{
-    matches!(act, Order::When { .. })
+    script.statements.iter().any(|x| x.act.is_when())
 }
 
 /// The first limit that the written-out statements pass, if they pass one.

@@ -20,7 +20,8 @@ impl Planner {
         len: u32,
     ) -> Result<(), NoMemory>
         requires ready { IsReady self.old (record { line = line; act = SliceOf name of start len }) }
-        ensures goes_on { OnOk result (GoesOn self.old self.new (record { line = line; act = SliceOf name of start len })) }
+        ensures goes_on { OnOk result (GoesOn self.old self.new
+            (record { line = line; act = SliceOf name of start len })) }
     {
         match self.slice_refusal(line, name, of, start, len) {
             Some(refusal) => {

@@ -13,8 +13,8 @@ use frame_ast::kernel::Kernel;
 use frame_ast::script::Script;
 use frame_core::{JobPlan, Segment};
 use job_base::{JobId, NoMemory};
-use job_defer::copy_kernel;
 use job_handle::Handle;
+use kernel_trees::copy_kernel;
 use std::alloc::Global;
 use std::mem;
 

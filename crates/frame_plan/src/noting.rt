@@ -5,7 +5,8 @@ ghost use Rattle.safety_handle.specs.Entries.{state_of};
 ghost use Rattle.frame_plan.specs.Noting.{MayNote, MayNoteAll, noted, noted_all};
 
 use crate::state::Planner;
-use crate::uses::{NamedUse, is_list, writes};
+use crate::uses::NamedUse;
+use frame_ast::kernel::writes_to;
 use job_base::JobId;
 use safety_handle::SafetyBook;
 
@@ -33,9 +34,9 @@ pub(crate) fn note(book: &mut SafetyBook, one: &NamedUse, job: JobId)
     let Some(tag) = one.tag else {
         return;
     };
-    if writes(one.access) {
+    if writes_to(one.access) {
         book.note_write(tag.slot, job);
-        if is_list(one.kind) {
+        if one.kind.is_list() {
             book.bump_view(tag.slot);
         }
     } else {

@@ -3,7 +3,7 @@ ghost use Rattle.std.specs.Prelude.{◌≡◌, ◌+◌, ◌≤◌, ℕ, List, []
 ghost use Rattle.frame_ast.specs.Accepted.{IsAccepted, is_when};
 ghost use Rattle.frame_ast.specs.Orders.{Table as Columns};
 ghost use Rattle.frame_ast.specs.States.{ScriptState};
-ghost use Rattle.frame_plan.specs.Runs.{HasBegun, IsAtStatement, HasPassed, StopsAt, FailsAtPlace, HasRun, PassesOnce};
+ghost use Rattle.frame_plan.specs.Runs.{HasBegun, IsAtStatement, HasPassed, StopsAt, GoesPast, FailsAtPlace, HasRun, PassesOnce};
 ghost use Rattle.frame_plan.specs.Steps.{StandsAt};
 ghost use Rattle.frame_plan.specs.Tables.{columns_of};
 
@@ -82,6 +82,8 @@ impl Planner {
             → HasPassed script.now (columns_of table.now) self.old self.new statement.now) }
         ensures stops { IfOk result (λ went. went ≡ false
             → StopsAt script.now (columns_of table.now) self.old statement.now) }
+        ensures past { IfOk result (λ went. went ≡ true
+            → GoesPast script.now (columns_of table.now) self.old statement.now) }
         ensures stays { IfOk result (λ went. went ≡ false → self.new ≡ self.old) }
         ensures fails { IfErr result (λ fault.
             FailsAtPlace script.now (columns_of table.now) fault self.old statement.now) }

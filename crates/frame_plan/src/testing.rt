@@ -20,7 +20,8 @@ impl Planner {
         count: u32,
     ) -> Result<bool, NoMemory>
         requires ready { IsReady self.old (record { line = line; act = WhenOf name sign value count }) }
-        ensures decided { IfOk result (IsDecided self.old self.new (record { line = line; act = WhenOf name sign value count })) }
+        ensures decided { IfOk result (IsDecided self.old self.new
+            (record { line = line; act = WhenOf name sign value count })) }
     {
         match self.test_refusal(name) {
             None => Ok(false),

@@ -1,7 +1,6 @@
 // The containers that a job uses: one use for each name among its arguments.
 ghost use Rattle.std.specs.Prelude.{◌≡◌, ℕ, ◌<◌, ◌≤◌, length, vec_len, IfOk, Some};
 ghost use Rattle.frame_ast.specs.Laws.{AreUpTo};
-ghost use Rattle.frame_ast.specs.Schedules.{is_list, writes_to};
 ghost use Rattle.job_handle.specs.Sets.{jobs_of};
 ghost use Rattle.job_handle.specs.Books.{count_of};
 ghost use Rattle.frame_plan.specs.Stands.{IsThere};
@@ -9,7 +8,7 @@ ghost use Rattle.frame_plan.specs.Accesses.{AreThere, tag_for};
 ghost use Rattle.frame_plan.specs.Uses.{AreNamesBelow, IsBlockedBy, ForNames, IsUse, number_of_value, is_temp_in};
 
 use crate::state::{Planner, Value};
-use frame_ast::kernel::{Param, ParamKind};
+use frame_ast::kernel::{Param, ParamKind, writes_to};
 use frame_ast::script::{Arg, Life};
 use job_base::{Access, NoMemory};
 use job_handle::Handle;
@@ -30,26 +29,6 @@ pub(crate) struct NamedUse {
     pub(crate) tag: Option<Tag>,
     /// Why a job that waits for the named jobs alone may not have it.
     pub(crate) blocked: Option<Blocked>,
-}
-
-/// Whether a use counts as a write.
-pub(crate) fn writes(access: Access) -> bool
-    ensures { result ≡ writes_to access }
-{
-    match access {
-        Access::Read => false,
-        Access::Write | Access::Both => true,
-    }
-}
-
-/// Whether a parameter is a list, whose views a job breaks that may write it.
-pub(crate) fn is_list(kind: ParamKind) -> bool
-    ensures { result ≡ is_list kind }
-{
-    match kind {
-        ParamKind::List => true,
-        _ => false,
-    }
 }
 
 impl Planner {
@@ -93,7 +72,7 @@ impl Planner {
             access: param.access,
             is_temp: self.is_temp(value),
             tag,
-            blocked: self.blocked_for(tag, writes(param.access), named),
+            blocked: self.blocked_for(tag, writes_to(param.access), named),
         }
     }
 

@@ -17,7 +17,8 @@ impl Planner {
     /// `dispose auto`. The handle's name stands for the jobs that have to be waited for.
     pub(crate) fn dispose_auto(&mut self, line: u32, name: u32, handle: u32) -> Result<(), NoMemory>
         requires ready { IsReady self.old (record { line = line; act = DisposeAutoOf name handle }) }
-        ensures goes_on { OnOk result (GoesOn self.old self.new (record { line = line; act = DisposeAutoOf name handle })) }
+        ensures goes_on { OnOk result (GoesOn self.old self.new
+            (record { line = line; act = DisposeAutoOf name handle })) }
     {
         match self.live_container(name) {
             None => {

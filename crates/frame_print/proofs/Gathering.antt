@@ -46,14 +46,16 @@ pass w a b c w' p = sym (append_assoc w a b) ∙ ap (λ l. l ++ b) p ∙ append_
 pub stops_after : (old : Option (List ℕ)) (w : List ℕ) (mid : Option (List ℕ)) (w' : List ℕ) (new : Option (List ℕ)) (a b : List ℕ)
     → Joins old w mid w' a → Stops mid new (w' ++ b) → Stops old new (w ++ (a ++ b))
 stops_after old w mid w' new a b p q =
-    subst (λ t. Stops old new t) (sym (pass w a b p.bytes w' p.whole)) (writes_after {T = Unit {0}} {E = Unit {0}} old mid new (Err tt) p.bytes (w' ++ b) p.taken q)
+    subst (λ t. Stops old new t) (sym (pass w a b p.bytes w' p.whole)) (writes_after {T = Unit {0}} {E = Unit {0}} old mid new (Err tt) p.bytes
+    (w' ++ b) p.taken q)
 
 -- what stopped in the first of two parts stopped in both
 pub stops_before : (old : Option (List ℕ)) (w : List ℕ) (new : Option (List ℕ)) (a b : List ℕ) → Stops old new (w ++ a) → Stops old new (w ++ (a ++ b))
 stops_before old w new a b p = subst (λ t. Stops old new t) (append_assoc w a b) (stop_first old new (w ++ a) b p)
 
 -- a part was put, and then another was tried
-pub gathers_after : {T E : Type 0} (old : Option (List ℕ)) (w : List ℕ) (mid : Option (List ℕ)) (w' : List ℕ) (new : Option (List ℕ)) (w'' : List ℕ) (r : Result T E) (a b : List ℕ)
+pub gathers_after : {T E : Type 0} (old : Option (List ℕ)) (w : List ℕ) (mid : Option (List ℕ)) (w' : List ℕ) (new : Option (List ℕ)) (w'' : List ℕ)
+    (r : Result T E) (a b : List ℕ)
     → Joins old w mid w' a → Gathers mid w' new w'' r b → Gathers old w new w'' r (a ++ b)
 gathers_after old w mid w' new w'' (Ok x) a b p q = joins_more old w mid w' new w'' a b p q
 gathers_after old w mid w' new w'' (Err e) a b p q = stops_after old w mid w' new a b p q
@@ -69,7 +71,8 @@ passes_on old w mid new w' (Ok x) part p none q = record {
 passes_on {T} {E} old w mid new w' (Err e) part p none q = writes_after {T = T} {E = E} old mid new (Err e) w part p q
 
 -- what waited was written, and no part was put
-pub flushed : {T E : Type 0} (old : Option (List ℕ)) (w : List ℕ) (new : Option (List ℕ)) (w' : List ℕ) (r : Result T E) → Writes old new r w → OnOk r (w' ≡ []) → Gathers old w new w' r []
+pub flushed : {T E : Type 0} (old : Option (List ℕ)) (w : List ℕ) (new : Option (List ℕ)) (w' : List ℕ) (r : Result T E) → Writes old new r w → OnOk r (w' ≡ [])
+    → Gathers old w new w' r []
 flushed old w new w' (Ok x) p none = record { bytes = w; taken = p; whole = ap (λ l. w ++ l) (sym none) }
 flushed old w new w' (Err e) p none = stop_first old new w [] p
 
@@ -78,7 +81,8 @@ room_after (Ok x) w' n most h none = let empty = ap length none in omega arith
 room_after (Err e) w' n most h none = tt
 
 -- room was made, and then a part waits
-pub keeps : (old : Option (List ℕ)) (w : List ℕ) (new : Option (List ℕ)) (w' w'' part : List ℕ) → Joins old w new w' [] → w'' ≡ w' ++ part → Joins old w new w'' part
+pub keeps : (old : Option (List ℕ)) (w : List ℕ) (new : Option (List ℕ)) (w' w'' part : List ℕ) → Joins old w new w' [] → w'' ≡ w' ++ part
+    → Joins old w new w'' part
 keeps old w new w' w'' part p e = record {
   bytes = p.bytes;
   taken = p.taken;
@@ -88,7 +92,8 @@ keeps old w new w' w'' part p e = record {
 -- ---- a text with an end
 
 -- In the end what waits is written: what waited first, and the text.
-pub writes_whole : {T E : Type 0} (old : Option (List ℕ)) (w : List ℕ) (mid : Option (List ℕ)) (w' : List ℕ) (new : Option (List ℕ)) (r : Result T E) (text : List ℕ)
+pub writes_whole : {T E : Type 0} (old : Option (List ℕ)) (w : List ℕ) (mid : Option (List ℕ)) (w' : List ℕ) (new : Option (List ℕ)) (r : Result T E)
+    (text : List ℕ)
     → Joins old w mid w' text → Writes mid new r w' → Writes old new r (w ++ text)
 writes_whole old w mid w' new r text p q = subst (λ t. Writes old new r t) (sym p.whole) (writes_after old mid new r p.bytes w' p.taken q)
 
@@ -117,17 +122,20 @@ going_on old w now w' new w'' whole a rest p q = record {
 pub going_stops : (old : Option (List ℕ)) (w : List ℕ) (now : Option (List ℕ)) (w' : List ℕ) (new : Option (List ℕ)) (whole a rest : List ℕ)
     → Going old w now w' whole (a ++ rest) → Stops now new (w' ++ a) → Stops old new (w ++ whole)
 going_stops old w now w' new whole a rest p q =
-    subst (λ t. Stops old new (w ++ t)) (append_assoc p.done a rest ∙ sym p.cut) (stops_before old w new (p.done ++ a) rest (stops_after old w now w' new p.done a p.put q))
+    subst (λ t. Stops old new (w ++ t)) (append_assoc p.done a rest ∙ sym p.cut)
+    (stops_before old w new (p.done ++ a) rest (stops_after old w now w' new p.done a p.put q))
 
 -- nothing is left
-pub going_ends : (old : Option (List ℕ)) (w : List ℕ) (new : Option (List ℕ)) (w' whole rest : List ℕ) → Going old w new w' whole rest → rest ≡ [] → Joins old w new w' whole
+pub going_ends : (old : Option (List ℕ)) (w : List ℕ) (new : Option (List ℕ)) (w' whole rest : List ℕ) → Going old w new w' whole rest → rest ≡ []
+    → Joins old w new w' whole
 going_ends old w new w' whole rest p e =
     let same : p.done ≡ whole = grind (arith, common_steps) in
     subst (λ t. Joins old w new w' t) same p.put
 
 -- ---- parts in a list
 
-pub joined_next : (parts : List (Bor (List ℕ))) (i : ℕ) (d : Bor (List ℕ)) → i < length parts → joined (drop i parts) ≡ (get_or parts i d).now ++ joined (drop (i + 1) parts)
+pub joined_next : (parts : List (Bor (List ℕ))) (i : ℕ) (d : Bor (List ℕ)) → i < length parts
+    → joined (drop i parts) ≡ (get_or parts i d).now ++ joined (drop (i + 1) parts)
 joined_next [] i d h = absurd (omega arith)
 joined_next (part ∷ parts) zero d h = refl
 joined_next (part ∷ parts) (suc i) d h =
@@ -136,12 +144,15 @@ joined_next (part ∷ parts) (suc i) d h =
 
 module _ (old : Option (List ℕ)) (w : List ℕ) (now : Option (List ℕ)) (w' : List ℕ) (new : Option (List ℕ)) where
   pub going_part : (w'' : List ℕ) (parts : List (Bor (List ℕ))) (i : ℕ) (d : Bor (List ℕ)) → i < length parts
-      → Going old w now w' (joined parts) (joined (drop i parts)) → Joins now w' new w'' (get_or parts i d).now → Going old w new w'' (joined parts) (joined (drop (i + 1) parts))
-  going_part w'' parts i d h p q = going_on old w now w' new w'' (joined parts) (get_or parts i d).now _ (subst (Going old w now w' (joined parts)) (joined_next parts i d h) p) q
+      → Going old w now w' (joined parts) (joined (drop i parts)) → Joins now w' new w'' (get_or parts i d).now
+      → Going old w new w'' (joined parts) (joined (drop (i + 1) parts))
+  going_part w'' parts i d h p q = going_on old w now w' new w'' (joined parts) (get_or parts i d).now _
+      (subst (Going old w now w' (joined parts)) (joined_next parts i d h) p) q
 
   pub stops_part : (parts : List (Bor (List ℕ))) (i : ℕ) (d : Bor (List ℕ)) → i < length parts
       → Going old w now w' (joined parts) (joined (drop i parts)) → Stops now new (w' ++ (get_or parts i d).now) → Stops old new (w ++ joined parts)
-  stops_part parts i d h p q = going_stops old w now w' new (joined parts) (get_or parts i d).now _ (subst (Going old w now w' (joined parts)) (joined_next parts i d h) p) q
+  stops_part parts i d h p q = going_stops old w now w' new (joined parts) (get_or parts i d).now _
+      (subst (Going old w now w' (joined parts)) (joined_next parts i d h) p) q
 
 -- the next of some parts begins what is left to write
 pub part_begins : (old mid : Option (List ℕ)) (text : List ℕ) (parts : List (Bor (List ℕ))) (i : ℕ) (d : Bor (List ℕ)) → i < length parts
@@ -179,6 +190,7 @@ module _ (old : Option (List ℕ)) (w : List ℕ) (a b c text : List ℕ) (e : (
     third_joins later w'' new w''' q s =
         joins_as old w new w''' ((a ++ b) ++ c) text e (joins_more old w later w'' new w''' (a ++ b) c (joins_more old w mid w' later w'' a b p q) s)
 
-    pub third_stops : (later : Option (List ℕ)) (w'' : List ℕ) (new : Option (List ℕ)) → Joins mid w' later w'' b → Stops later new (w'' ++ c) → Stops old new (w ++ text)
+    pub third_stops : (later : Option (List ℕ)) (w'' : List ℕ) (new : Option (List ℕ)) → Joins mid w' later w'' b → Stops later new (w'' ++ c)
+        → Stops old new (w ++ text)
     third_stops later w'' new q s =
         stops_as old w new ((a ++ b) ++ c) text e (stops_after old w later w'' new (a ++ b) c (joins_more old w mid w' later w'' a b p q) s)

@@ -1,5 +1,5 @@
 pub mod Gathering
 pub mod Parts
+pub mod Digits
 pub mod Listing
 pub mod Words
-pub mod Held

@@ -36,7 +36,8 @@ module _ {A : Type 0} (text : A → List ℕ) (place : ℕ) (left : List A) (x :
   begun : Going old w now w' whole (comma_before place ++ (text x ++ (text_from text (place + 1) more ++ close)))
   begun =
       let next : suc place ≡ place + 1 = omega arith in
-      subst (Going old w now w' whole) (ap (λ l. text_from text place l ++ close) is ∙ text_next text place x more close ∙ ap (λ n. comma_before place ++ (text x ++ (text_from text n more ++ close))) next) p
+      subst (Going old w now w' whole) (ap (λ l. text_from text place l ++ close) is ∙ text_next text place x more close
+      ∙ ap (λ n. comma_before place ++ (text x ++ (text_from text n more ++ close))) next) p
 
   pub stops_comma : (new : Option (List ℕ)) → Stops now new (w' ++ comma_before place) → Stops old new (w ++ whole)
   stops_comma new q = going_stops old w now w' new whole _ _ begun q
@@ -45,7 +46,8 @@ module _ {A : Type 0} (text : A → List ℕ) (place : ℕ) (left : List A) (x :
     pub stops_item : (new : Option (List ℕ)) → Stops mid new (w'' ++ text x) → Stops old new (w ++ whole)
     stops_item new s = going_stops old w mid w'' new whole _ _ (going_on old w now w' mid w'' whole _ _ begun q) s
 
-    pub going_item : (new : Option (List ℕ)) (w''' : List ℕ) → Joins mid w'' new w''' (text x) → Going old w new w''' whole (text_from text (place + 1) more ++ close)
+    pub going_item : (new : Option (List ℕ)) (w''' : List ℕ) → Joins mid w'' new w''' (text x)
+        → Going old w new w''' whole (text_from text (place + 1) more ++ close)
     going_item new w''' s = going_on old w mid w'' new w''' whole _ _ (going_on old w now w' mid w'' whole _ _ begun q) s
 
   begun_next : Going old w now w' whole ((comma_before place ++ text x) ++ (text_from text (place + 1) more ++ close))
@@ -55,13 +57,15 @@ module _ {A : Type 0} (text : A → List ℕ) (place : ℕ) (left : List A) (x :
   pub stops_next : (new : Option (List ℕ)) → Stops now new (w' ++ (comma_before place ++ text x)) → Stops old new (w ++ whole)
   stops_next new q = going_stops old w now w' new whole _ _ begun_next q
 
-  pub going_next : (new : Option (List ℕ)) (w'' : List ℕ) → Joins now w' new w'' (comma_before place ++ text x) → Going old w new w'' whole (text_from text (place + 1) more ++ close)
+  pub going_next : (new : Option (List ℕ)) (w'' : List ℕ) → Joins now w' new w'' (comma_before place ++ text x)
+      → Going old w new w'' whole (text_from text (place + 1) more ++ close)
   going_next new w'' q = going_on old w now w' new w'' whole _ _ begun_next q
 
 -- ---- the end
 
 -- all items were put, and the bracket behind them was tried
-pub going_closes : {A T E : Type 0} (text : A → List ℕ) (place : ℕ) (left : List A) (close : List ℕ) (old : Option (List ℕ)) (w : List ℕ) (now : Option (List ℕ)) (w' whole : List ℕ) (new : Option (List ℕ)) (w'' : List ℕ) (r : Result T E)
+pub going_closes : {A T E : Type 0} (text : A → List ℕ) (place : ℕ) (left : List A) (close : List ℕ) (old : Option (List ℕ)) (w : List ℕ)
+    (now : Option (List ℕ)) (w' whole : List ℕ) (new : Option (List ℕ)) (w'' : List ℕ) (r : Result T E)
     → left ≡ [] → Going old w now w' whole (text_from text place left ++ close) → Gathers now w' new w'' r close → Gathers old w new w'' r whole
 going_closes text place left close old w now w' whole new w'' r none p q =
     let last : text_from text place left ++ close ≡ close = ap (λ l. text_from text place l ++ close) none ∙ text_end text place close in
@@ -87,7 +91,8 @@ drop_all (x ∷ xs) (suc i) h = drop_all xs i (omega arith)
 -- the cell at a place comes next
 pub cell_next : (cells : ℕ → ℤ) (start len i : ℕ) → i < len → drop i (cell_list cells start len) ≡ cells (start + i) ∷ drop (i + 1) (cell_list cells start len)
 cell_next cells start len i h =
-    drop_next (cell_list cells start len) i (pos 0) (cells (start + i)) (omega (arith, length-cell_list cells start len)) (get_or-cell_list cells start len i (pos 0) h)
+    drop_next (cell_list cells start len) i (pos 0) (cells (start + i)) (omega (arith, length-cell_list cells start len))
+    (get_or-cell_list cells start len i (pos 0) h)
 
 pub cells_end : (cells : ℕ → ℤ) (start len i : ℕ) → len ≤ i → drop i (cell_list cells start len) ≡ []
 cells_end cells start len i h = drop_all (cell_list cells start len) i (omega (arith, length-cell_list cells start len))

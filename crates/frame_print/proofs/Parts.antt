@@ -22,9 +22,6 @@ two_parts a b = simp append-nil
 
 -- ---- numbers
 
-pub number_kept : (w comma text w1 w2 digits : List ℕ) → w1 ≡ w ++ comma → w2 ≡ w1 ++ text → text ≡ digits → w2 ≡ w ++ (comma ++ digits)
-number_kept w comma text w1 w2 digits p q r = q ∙ ap (λ l. l ++ text) p ∙ append_assoc w comma text ∙ ap (λ l. w ++ (comma ++ l)) r
-
 pub pair_kept : (w comma k v w1 w2 w3 w4 : List ℕ) (pair : ℤ × ℤ) → w1 ≡ w ++ comma → w2 ≡ w1 ++ k → w3 ≡ w2 ++ codes ": " → w4 ≡ w3 ++ v
     → k ≡ signed_decimal pair.0 → v ≡ signed_decimal pair.1 → w4 ≡ w ++ (comma ++ pair_text pair)
 pair_kept w comma k v w1 w2 w3 w4 pair p q r s ks vs =
@@ -37,7 +34,8 @@ pair_kept w comma k v w1 w2 w3 w4 pair p q r s ks vs =
 
 -- ---- refusals
 
-pub pending_is : (x : List ℕ) (job : JobId) (name : List ℕ) → x ≡ decimal job.0 → codes "pending job " ++ (x ++ (codes " on " ++ (name ++ []))) ≡ refusal_text (Pending job) name
+pub pending_is : (x : List ℕ) (job : JobId) (name : List ℕ) → x ≡ decimal job.0
+    → codes "pending job " ++ (x ++ (codes " on " ++ (name ++ []))) ≡ refusal_text (Pending job) name
 pending_is x job name p = simp (p, append_assoc, append-nil)
 
 pub busy_is : (x : List ℕ) (job : JobId) (name : List ℕ) → x ≡ decimal job.0 → codes "busy job " ++ (x ++ []) ≡ refusal_text (Busy job) name

@@ -50,10 +50,12 @@ pair_at at cells now ps i last found s h e same f =
       key = subst (λ j. key_before ps j ≡ Some n.0.0) next n.3;
     }
 
-pub pair_left : (ps : List (ℤ × ℤ)) (i : ℕ) (found : Option (ℤ × ℤ)) (pair : ℤ × ℤ) → IsPairAt ps i found → found ≡ Some pair → drop i ps ≡ pair ∷ drop (i + 1) ps
+pub pair_left : (ps : List (ℤ × ℤ)) (i : ℕ) (found : Option (ℤ × ℤ)) (pair : ℤ × ℤ) → IsPairAt ps i found → found ≡ Some pair
+    → drop i ps ≡ pair ∷ drop (i + 1) ps
 pair_left ps i found pair p e = let is = p.is in let same : p.pair ≡ pair = cc in p.left ∙ ap (λ z. z ∷ drop (i + 1) ps) same
 
-pub pair_key : (ps : List (ℤ × ℤ)) (i : ℕ) (found : Option (ℤ × ℤ)) (pair : ℤ × ℤ) → IsPairAt ps i found → found ≡ Some pair → Some pair.0 ≡ key_before ps (i + 1)
+pub pair_key : (ps : List (ℤ × ℤ)) (i : ℕ) (found : Option (ℤ × ℤ)) (pair : ℤ × ℤ) → IsPairAt ps i found → found ≡ Some pair
+    → Some pair.0 ≡ key_before ps (i + 1)
 pair_key ps i found pair p e = let is = p.is in let same : p.pair ≡ pair = cc in sym (p.key ∙ ap (λ z. Some z.0) same)
 
 pub pairs_end : (at : MapAt) (cells : ℕ → ℤ) (ps : List (ℤ × ℤ)) (i : ℕ) → HoldsPairs at cells ps → count_words at cells ≤ i → drop i ps ≡ []

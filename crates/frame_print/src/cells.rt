@@ -7,28 +7,28 @@ ghost use Rattle.job_base.specs.Forms.{AreAllowed};
 ghost use Rattle.frame_ast.specs.Texts.{numbers_text};
 ghost use Rattle.frame_print.specs.Gathering.{Gathers, comma_before};
 
+use crate::numbers::LONGEST_NUMBER;
 use crate::waiting::Waiting;
-use itoa::Buffer;
 use job_base::{Mem, Sink, SinkFault, Word};
 
 impl Waiting {
     /// Puts a number of a list, after what comes before its place. There is one look for room.
+    #[inline]
     pub fn put_number<S: Sink>(
         &mut self,
         place: usize,
         n: i64,
         sink: &mut S,
     ) -> Result<(), SinkFault>
-        ensures text { Gathers (S.taken sink.old) self.old (S.taken sink.new) self.new result (comma_before place ++ signed_decimal n) }
+        ensures text { Gathers (S.taken sink.old) self.old (S.taken sink.new) self.new result
+            (comma_before place ++ signed_decimal n) }
         ensures count { OnOk result (S.faults sink.new ≡ S.faults sink.old) }
         ensures cause { OnErr result (Rose (S.faults sink.old) (S.faults sink.new)) }
         ensures later { S.faults sink.old ≤ S.faults sink.new }
     {
-        let mut digits = Buffer::new();
-        let text = digits.format(n).as_bytes();
-        self.make_room(2 + text.len(), sink)?;
+        self.make_room(2 + LONGEST_NUMBER, sink)?;
         self.keep_comma(place);
-        self.keep(text);
+        self.keep_number(n);
         Ok(())
     }
 
@@ -42,7 +42,8 @@ impl Waiting {
     ) -> Result<(), SinkFault>
         requires fits { start + len < 2 ^ 32 }
         requires readable { AreAllowed start (start + len) (M.readable mem.old) }
-        ensures text { Gathers (S.taken sink.old) self.old (S.taken sink.new) self.new result (numbers_text (cell_list (M.cells mem.old) start len)) }
+        ensures text { Gathers (S.taken sink.old) self.old (S.taken sink.new) self.new result
+            (numbers_text (cell_list (M.cells mem.old) start len)) }
         ensures count { OnOk result (S.faults sink.new ≡ S.faults sink.old) }
         ensures cause { OnErr result (Rose (S.faults sink.old) (S.faults sink.new)) }
         ensures later { S.faults sink.old ≤ S.faults sink.new }
@@ -50,11 +51,11 @@ impl Waiting {
         ensures readable { M.readable mem.new ≡ M.readable mem.old }
         ensures writable { M.writable mem.new ≡ M.writable mem.old }
     {
-        self.put(b"[", sink)?;
+        self.put_byte(b'[', sink)?;
         for i in 0..len {
             let n = mem.load(Word(start + i));
             self.put_number(i as usize, n, sink)?;
         }
-        self.put(b"]", sink)
+        self.put_byte(b']', sink)
     }
 }

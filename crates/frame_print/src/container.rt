@@ -1,5 +1,5 @@
 // The line of a container.
-ghost use Rattle.std.specs.Prelude.{◌≡◌, ◌≢◌, ◌<◌, ◌≤◌, ◌+◌, ◌^◌, ℤ, List, OnOk, OnErr};
+ghost use Rattle.std.specs.Prelude.{◌≡◌, ◌≢◌, ◌<◌, ◌≤◌, ◌+◌, ◌++◌, ◌^◌, ℤ, List, codes, OnOk, OnErr};
 ghost use Rattle.job_base.specs.Faults.{Rose};
 ghost use Rattle.job_base.specs.Forms.{AreAllowed};
 ghost use Rattle.frame_ast.specs.declared.kernel.ParamKind.TheVariants.{Int as IntKind};
@@ -17,6 +17,22 @@ use kernel_exec::Bind;
 use native_list::ListAt;
 
 impl Waiting {
+    // Puts the name of a container, and the sign after it.
+    fn put_name<S: Sink>(&mut self, name: &[u8], sink: &mut S) -> Result<(), SinkFault>
+        ensures text { Gathers (S.taken sink.old) self.old (S.taken sink.new) self.new result
+            (name.now ++ codes " = ") }
+        ensures count { OnOk result (S.faults sink.new ≡ S.faults sink.old) }
+        ensures cause { OnErr result (Rose (S.faults sink.old) (S.faults sink.new)) }
+        ensures later { S.faults sink.old ≤ S.faults sink.new }
+    {
+        self.put(name, sink)?;
+        self.make_room(3, sink)?;
+        self.keep_byte(b' ');
+        self.keep_byte(b'=');
+        self.keep_byte(b' ');
+        Ok(())
+    }
+
     // Puts the elements that a list has.
     fn put_list<M: Mem, S: Sink>(
         &mut self,
@@ -52,7 +68,8 @@ impl Waiting {
         requires readable { AreAllowed (start_of at.now) (end_of at.now) (M.readable mem.old) }
         requires stands { (contents : Contents) × Holds (M.cells mem.old) at.now contents }
         ensures text { (contents : Contents) → Holds (M.cells mem.old) at.now contents →
-            Gathers (S.taken sink.old) self.old (S.taken sink.new) self.new result (contents_text (elements contents) contents) }
+            Gathers (S.taken sink.old) self.old (S.taken sink.new) self.new result
+            (contents_text (elements contents) contents) }
         ensures count { OnOk result (S.faults sink.new ≡ S.faults sink.old) }
         ensures cause { OnErr result (Rose (S.faults sink.old) (S.faults sink.new)) }
         ensures later { S.faults sink.old ≤ S.faults sink.new }
@@ -76,6 +93,17 @@ impl Waiting {
 }
 
 impl Outgoing {
+    // Puts the name of a container, and the sign after it.
+    fn put_name<S: Sink>(&mut self, name: &[u8], sink: &mut S) -> Result<(), SinkFault>
+        ensures text { Gathers (S.taken sink.old) self.old (S.taken sink.new) self.new result
+            (name.now ++ codes " = ") }
+        ensures count { OnOk result (S.faults sink.new ≡ S.faults sink.old) }
+        ensures cause { OnErr result (Rose (S.faults sink.old) (S.faults sink.new)) }
+        ensures later { S.faults sink.old ≤ S.faults sink.new }
+    {
+        self.waiting.put_name(name, sink)
+    }
+
     /// Puts the line of a container: its name, and what its words stand for. It only reads the memory.
     ///
     /// An array, a view and a list are their elements, a reference is its value, a map its pairs in rising key order,
@@ -92,7 +120,8 @@ impl Outgoing {
         requires readable { AreAllowed (start_of at.now) (end_of at.now) (M.readable mem.old) }
         requires stands { (contents : Contents) × Holds (M.cells mem.old) at.now contents }
         ensures text { (contents : Contents) → Holds (M.cells mem.old) at.now contents →
-            Gathers (S.taken sink.old) self.old (S.taken sink.new) self.new result (print_line name.now (elements contents) contents) }
+            Gathers (S.taken sink.old) self.old (S.taken sink.new) self.new result
+            (print_line name.now (elements contents) contents) }
         ensures count { OnOk result (S.faults sink.new ≡ S.faults sink.old) }
         ensures cause { OnErr result (Rose (S.faults sink.old) (S.faults sink.new)) }
         ensures later { S.faults sink.old ≤ S.faults sink.new }
@@ -100,8 +129,8 @@ impl Outgoing {
         ensures readable { M.readable mem.new ≡ M.readable mem.old }
         ensures writable { M.writable mem.new ≡ M.writable mem.old }
     {
-        self.put_all(&[name, b" = "], sink)?;
+        self.put_name(name, sink)?;
         self.waiting.put_contents(at, &mut self.pairs, mem, sink)?;
-        self.put(b"\n", sink)
+        self.put_byte(b'\n', sink)
     }
 }

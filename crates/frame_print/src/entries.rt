@@ -25,7 +25,8 @@ impl Waiting {
         requires index { k < at.now.count }
         requires readable { AreAllowed at.now.start (end_of at.now) (M.readable mem.old) }
         ensures text { Gathers (S.taken sink.old) self.old (S.taken sink.new) self.new result
-            (numbers_text (cell_list (M.cells mem.old) (mark_word at.now k + 1) (item_count at.now (M.cells mem.old) k))) }
+            (numbers_text (cell_list (M.cells mem.old) (mark_word at.now k + 1)
+            (item_count at.now (M.cells mem.old) k))) }
         ensures count { OnOk result (S.faults sink.new ≡ S.faults sink.old) }
         ensures cause { OnErr result (Rose (S.faults sink.old) (S.faults sink.new)) }
         ensures later { S.faults sink.old ≤ S.faults sink.new }
@@ -49,7 +50,8 @@ impl Waiting {
         requires fits { end_of at.now < 2 ^ 32 }
         requires readable { AreAllowed at.now.start (end_of at.now) (M.readable mem.old) }
         ensures text { (es : List (Option (List ℤ))) → HoldsEntries at.now (M.cells mem.old) es →
-            Gathers (S.taken sink.old) self.old (S.taken sink.new) self.new result (codes "[" ++ listed entry_text es ++ codes "]") }
+            Gathers (S.taken sink.old) self.old (S.taken sink.new) self.new result
+            (codes "[" ++ listed entry_text es ++ codes "]") }
         ensures count { OnOk result (S.faults sink.new ≡ S.faults sink.old) }
         ensures cause { OnErr result (Rose (S.faults sink.old) (S.faults sink.new)) }
         ensures later { S.faults sink.old ≤ S.faults sink.new }
@@ -57,11 +59,11 @@ impl Waiting {
         ensures readable { M.readable mem.new ≡ M.readable mem.old }
         ensures writable { M.writable mem.new ≡ M.writable mem.old }
     {
-        self.put(b"[", sink)?;
+        self.put_byte(b'[', sink)?;
         for k in 0..at.count {
             self.put_comma(k as usize, sink)?;
             self.put_items(at, k, mem, sink)?;
         }
-        self.put(b"]", sink)
+        self.put_byte(b']', sink)
     }
 }

@@ -5,20 +5,20 @@
 //! the sink has taken some first part of what waited and of the line, and a fault is answered only where the sink's
 //! count of faults rose. A text that comes alone, as that of a refused script, is written to the sink at once.
 //!
-//! No call but [`Outgoing::new`] takes memory. Numbers are written by `itoa`.
+//! No call but [`Outgoing::new`] takes memory. Numbers of up to four digits are written in place, longer and negative
+//! ones by `itoa`.
 #![tactic(auto)]
 
 mod cells;
 mod container;
 mod entries;
 mod lines;
+mod numbers;
 mod outgoing;
 mod pairs;
 mod refusal;
 mod report;
 mod script_refusal;
-#[cfg(test)]
-mod tests;
 mod texts;
 mod waiting;
 

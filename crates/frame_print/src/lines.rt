@@ -38,7 +38,8 @@ impl Outgoing {
         made: u32,
         sink: &mut S,
     ) -> Result<(), SinkFault>
-        ensures text { Gathers (S.taken sink.old) self.old (S.taken sink.new) self.new result (overdue_line line name.now made) }
+        ensures text { Gathers (S.taken sink.old) self.old (S.taken sink.new) self.new result
+            (overdue_line line name.now made) }
         ensures count { OnOk result (S.faults sink.new ≡ S.faults sink.old) }
         ensures cause { OnErr result (Rose (S.faults sink.old) (S.faults sink.new)) }
         ensures later { S.faults sink.old ≤ S.faults sink.new }

@@ -1,5 +1,5 @@
 // What is on its way to a sink.
-ghost use Rattle.std.specs.Prelude.{◌≡◌, ◌≤◌, [], IfOk, OnOk, OnErr};
+ghost use Rattle.std.specs.Prelude.{◌≡◌, ◌≤◌, [], ◌∷◌, IfOk, OnOk, OnErr};
 ghost use Rattle.job_base.specs.Faults.{Rose};
 ghost use Rattle.job_base.specs.Texts.{Writes};
 ghost use Rattle.frame_print.specs.Gathering.{Gathers, joined};
@@ -59,6 +59,16 @@ impl Outgoing {
         ensures later { S.faults sink.old ≤ S.faults sink.new }
     {
         self.waiting.put(part, sink)
+    }
+
+    // Puts a byte after what waits.
+    pub(crate) fn put_byte<S: Sink>(&mut self, byte: u8, sink: &mut S) -> Result<(), SinkFault>
+        ensures text { Gathers (S.taken sink.old) self.old (S.taken sink.new) self.new result (byte ∷ []) }
+        ensures count { OnOk result (S.faults sink.new ≡ S.faults sink.old) }
+        ensures cause { OnErr result (Rose (S.faults sink.old) (S.faults sink.new)) }
+        ensures later { S.faults sink.old ≤ S.faults sink.new }
+    {
+        self.waiting.put_byte(byte, sink)
     }
 
     /// Puts some parts of the text, one after the other.

@@ -16,7 +16,8 @@ impl Outgoing {
         name: &[u8],
         sink: &mut S,
     ) -> Result<(), SinkFault>
-        ensures text { Gathers (S.taken sink.old) self.old (S.taken sink.new) self.new result (refusal_text refusal name.now) }
+        ensures text { Gathers (S.taken sink.old) self.old (S.taken sink.new) self.new result
+            (refusal_text refusal name.now) }
         ensures count { OnOk result (S.faults sink.new ≡ S.faults sink.old) }
         ensures cause { OnErr result (Rose (S.faults sink.old) (S.faults sink.new)) }
         ensures later { S.faults sink.old ≤ S.faults sink.new }
@@ -53,7 +54,8 @@ impl Outgoing {
         name: &[u8],
         sink: &mut S,
     ) -> Result<(), SinkFault>
-        ensures text { Gathers (S.taken sink.old) self.old (S.taken sink.new) self.new result (refused_line line refusal name.now) }
+        ensures text { Gathers (S.taken sink.old) self.old (S.taken sink.new) self.new result
+            (refused_line line refusal name.now) }
         ensures count { OnOk result (S.faults sink.new ≡ S.faults sink.old) }
         ensures cause { OnErr result (Rose (S.faults sink.old) (S.faults sink.new)) }
         ensures later { S.faults sink.old ≤ S.faults sink.new }

@@ -1,5 +1,5 @@
 // The bytes that wait for a sink.
-ghost use Rattle.std.specs.Prelude.{◌≡◌, ◌≤◌, ◌+◌, ◌++◌, [], length, IfOk, OnOk, OnErr};
+ghost use Rattle.std.specs.Prelude.{◌≡◌, ◌<◌, ◌≤◌, ◌+◌, ◌∷◌, ◌++◌, [], length, IfOk, OnOk, OnErr};
 ghost use Rattle.job_base.specs.Faults.{Rose};
 ghost use Rattle.job_base.specs.Texts.{Writes};
 ghost use Rattle.frame_print.specs.Gathering.{Gathers, joined, comma_before};
@@ -40,6 +40,7 @@ impl Waiting {
     }
 
     // For how many more bytes there is room.
+    #[inline]
     fn room(&self) -> usize
         ensures { result + length self.now ≡ ROOM }
     {
@@ -56,6 +57,15 @@ impl Waiting {
         };
     }
 
+    /// Lets a byte wait for which there is room.
+    #[inline]
+    pub fn keep_byte(&mut self, byte: u8)
+        requires { length self.old < ROOM }
+        ensures { self.new ≡ self.old ++ byte ∷ [] }
+    {
+        self.bytes.push_reserved(byte);
+    }
+
     /// Hands the bytes to the sink.
     pub fn flush<S: Sink>(&mut self, sink: &mut S) -> Result<(), SinkFault>
         ensures text { Writes (S.taken sink.old) (S.taken sink.new) result self.old }
@@ -70,6 +80,7 @@ impl Waiting {
     }
 
     /// Makes room for so many bytes.
+    #[inline]
     pub fn make_room<S: Sink>(&mut self, bytes: usize, sink: &mut S) -> Result<(), SinkFault>
         requires { bytes ≤ ROOM }
         ensures room { OnOk result (length self.new + bytes ≤ ROOM) }
@@ -100,6 +111,19 @@ impl Waiting {
         Ok(())
     }
 
+    /// Puts one byte after what waits.
+    #[inline]
+    pub fn put_byte<S: Sink>(&mut self, byte: u8, sink: &mut S) -> Result<(), SinkFault>
+        ensures text { Gathers (S.taken sink.old) self.old (S.taken sink.new) self.new result (byte ∷ []) }
+        ensures count { OnOk result (S.faults sink.new ≡ S.faults sink.old) }
+        ensures cause { OnErr result (Rose (S.faults sink.old) (S.faults sink.new)) }
+        ensures later { S.faults sink.old ≤ S.faults sink.new }
+    {
+        self.make_room(1, sink)?;
+        self.keep_byte(byte);
+        Ok(())
+    }
+
     /// Puts some parts of the text, one after the other.
     pub fn put_all<S: Sink>(&mut self, parts: &[&[u8]], sink: &mut S) -> Result<(), SinkFault>
         ensures text { Gathers (S.taken sink.old) self.old (S.taken sink.new) self.new result (joined parts.now) }
@@ -127,12 +151,14 @@ impl Waiting {
     }
 
     /// Lets what comes before a place of a list wait, for which there is room.
+    #[inline]
     pub fn keep_comma(&mut self, place: usize)
         requires { length self.old + 2 ≤ ROOM }
         ensures { self.new ≡ self.old ++ comma_before place }
     {
         if place > 0 {
-            self.keep(b", ");
+            self.keep_byte(b',');
+            self.keep_byte(b' ');
         }
     }
 }

@@ -20,7 +20,8 @@ use Rattle.frame_replay.specs.declared.state.CoreLease.{CoreLease}
 -- a seat has no lease, or one of the same piece with the same local cells
 abbrev pub LeaseIs : Plan → Option CoreLease → Option Lease → Type 0
 LeaseIs plan None x = x ≡ None
-LeaseIs plan (Some l) x = (l.piece < piece_count plan) × (length l.local ≡ plan.words) × (x ≡ Some record { piece = place_numbered plan l.piece; local = cells_of l.local })
+LeaseIs plan (Some l) x = (l.piece < piece_count plan) × (length l.local ≡ plan.words)
+    × (x ≡ Some record { piece = place_numbered plan l.piece; local = cells_of l.local })
 
 -- the cells by words
 abbrev pub cells_in : CoreState → Cells
@@ -30,13 +31,15 @@ pub record IsState (plan : Plan) (c : CoreState) (s : RunState) : Type 0 where
   pub pieces : length c.ended.items ≡ piece_count plan
   pub seats : length c.leases.items ≡ MOST_WORKERS
   pub words : length c.cells.items ≡ plan.words
-  pub ended : (p : ℕ) → p < piece_count plan → slice_index_or c.ended.items p false ≡ has (place_numbered plan p) s.ended
+  pub ended : (p : ℕ) → p < piece_count plan → slice_index_or c.ended.items p false ≡ has
+      (place_numbered plan p) s.ended
   pub lease : (k : ℕ) → LeaseIs plan (slice_index_or c.leases.items k None) (s.lease k)
   pub cells : s.cells ≡ cells_of c.cells.items
 
 -- a legal list of events leads to the state
 abbrev pub IsReachedBy : Plan → List Event → CoreState → Type 0
-IsReachedBy plan es c = IsLegalRun (graph_of plan) start (events_of plan es) × IsState plan c (run (graph_of plan) start (events_of plan es))
+IsReachedBy plan es c = IsLegalRun (graph_of plan) start (events_of plan es)
+    × IsState plan c (run (graph_of plan) start (events_of plan es))
 
 -- Illegal comes where the event isn't legal, want of memory where it is.
 abbrev pub Refuses : CoreFault → Type 0 → Type 0
@@ -56,7 +59,8 @@ pub record MayTakeNow (plan : Plan) (c : CoreState) (seat p : ℕ) : Type 0 wher
   pub free : slice_index_or c.leases.items seat None ≡ None
   pub first : is_script (Some (piece_numbered plan p)) ≡ true → seat ≡ 0
   pub unleased : (k : ℕ) (l : CoreLease) → slice_index_or c.leases.items k None ≡ Some l → l.piece ≢ p
-  pub ready : (n : ℕ) → n < piece_count plan → is_predecessor plan (piece_numbered plan n) (piece_numbered plan p) ≡ true → slice_index_or c.ended.items n false ≡ true
+  pub ready : (n : ℕ) → n < piece_count plan → is_predecessor plan (piece_numbered plan n)
+      (piece_numbered plan p) ≡ true → slice_index_or c.ended.items n false ≡ true
 
 -- the seat leases the piece
 abbrev pub LeasesNow : CoreState → ℕ → ℕ → Type 0
@@ -67,4 +71,5 @@ pub record IsSizedFor (plan : Plan) (c : CoreState) : Type 0 where
   pub pieces : length c.ended.items ≡ piece_count plan
   pub seats : length c.leases.items ≡ MOST_WORKERS
   pub words : length c.cells.items ≡ plan.words
-  pub leases : (k : ℕ) (l : CoreLease) → slice_index_or c.leases.items k None ≡ Some l → (l.piece < piece_count plan) × (length l.local ≡ plan.words)
+  pub leases : (k : ℕ) (l : CoreLease) → slice_index_or c.leases.items k None ≡ Some l
+      → (l.piece < piece_count plan) × (length l.local ≡ plan.words)

@@ -13,10 +13,12 @@ use std::alloc::Global;
 /// The state after some events, where each of them is legal where it stands.
 pub fn replay(alloc: Global, plan: &Plan, events: &[Event]) -> Result<CoreState, CoreFault>
     requires well { IsWellOrderedPlan plan.now }
-    ensures run { MatchResult result (IsReachedBy plan.now events.now) (λ fault. RefusesRun fault (IsLegalRun (graph_of plan.now) start (events_of plan.now events.now))) }
+    ensures run { MatchResult result (IsReachedBy plan.now events.now)
+        (λ fault. RefusesRun fault (IsLegalRun (graph_of plan.now) start (events_of plan.now events.now))) }
     ensures merge { IfOk result (λ _. (n : ℕ)
         → IsKept (graph_of plan.now) (run (graph_of plan.now) start (events_of plan.now (take n events.now)))) }
-    ensures ended { IfOk result (λ c. IsEnded (graph_of plan.now) (run (graph_of plan.now) start (events_of plan.now events.now))
+    ensures ended { IfOk result (λ c. IsEnded (graph_of plan.now)
+        (run (graph_of plan.now) start (events_of plan.now events.now))
         → (w : ℕ) → cells_in c w ≡ cells_after plan.now w) }
 {
     let Ok(mut state) = CoreState::start(alloc, plan) else {

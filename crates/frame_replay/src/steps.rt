@@ -114,7 +114,8 @@ impl CoreState {
         requires sized { IsSizedFor plan.now self.old }
         ensures step { (s : RunState) → IsState plan.now self.old s
             → MatchResult result (λ _. MayTake (graph_of plan.now) s seat (place_numbered plan.now p)
-            × IsState plan.now self.new (taken s seat (place_numbered plan.now p))) (λ fault. Refuses fault (MayTake (graph_of plan.now) s seat (place_numbered plan.now p))) }
+            × IsState plan.now self.new (taken s seat (place_numbered plan.now p)))
+            (λ fault. Refuses fault (MayTake (graph_of plan.now) s seat (place_numbered plan.now p))) }
         ensures same { OnErr result (self.new ≡ self.old) }
     {
         if !self.may_take(plan, seat, p) {
@@ -147,7 +148,8 @@ impl CoreState {
         ensures ended { self.new.ended.items ≡ slice_set self.old.ended.items p true }
         ensures words { length self.new.cells.items ≡ length self.old.cells.items }
         ensures cells { (l : CoreLease) → slice_index_or self.old.leases.items seat None ≡ Some l → (w : ℕ)
-            → cells_of self.new.cells.items w ≡ (if writes plan.now p w then piece_cells plan.now (piece_numbered plan.now p) (cells_of l.local) w else cells_of self.old.cells.items w) }
+            → cells_of self.new.cells.items w ≡ (if writes plan.now p w then piece_cells plan.now
+            (piece_numbered plan.now p) (cells_of l.local) w else cells_of self.old.cells.items w) }
     {
         let held = std::mem::replace(&mut self.leases[seat as usize], None);
         if let Some(lease) = held {
@@ -163,7 +165,8 @@ impl CoreState {
         requires sized { IsSizedFor plan.now self.old }
         ensures step { (s : RunState) → IsState plan.now self.old s
             → MatchResult result (λ _. MayFinish s seat (place_numbered plan.now p)
-            × IsState plan.now self.new (finished (graph_of plan.now) s seat (s.lease seat))) (λ fault. Refuses fault (MayFinish s seat (place_numbered plan.now p))) }
+            × IsState plan.now self.new (finished (graph_of plan.now) s seat (s.lease seat)))
+            (λ fault. Refuses fault (MayFinish s seat (place_numbered plan.now p))) }
         ensures same { OnErr result (self.new ≡ self.old) }
     {
         if !self.has_lease(seat, p) {
@@ -185,7 +188,8 @@ impl CoreState {
         requires state { (s : RunState) × IsState plan.now self.old s }
         ensures step { (s : RunState) → IsState plan.now self.old s
             → MatchResult result (λ _. IsLegal (graph_of plan.now) s (event_of plan.now e)
-            × IsState plan.now self.new (after (graph_of plan.now) s (event_of plan.now e))) (λ fault. Refuses fault (IsLegal (graph_of plan.now) s (event_of plan.now e))) }
+            × IsState plan.now self.new (after (graph_of plan.now) s (event_of plan.now e)))
+            (λ fault. Refuses fault (IsLegal (graph_of plan.now) s (event_of plan.now e))) }
         ensures kept { (s : RunState) → IsState plan.now self.old s → IsKept (graph_of plan.now) s
             → IfOk result (λ _. IsKept (graph_of plan.now) (after (graph_of plan.now) s (event_of plan.now e))) }
         ensures same { OnErr result (self.new ≡ self.old) }

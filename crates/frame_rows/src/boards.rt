@@ -2,8 +2,6 @@
 //
 // The board of `TOTAL` has the pieces 0 to 2 of its jobs, and then five segments.
 ghost use Rattle.std.specs.Prelude.{◌≡◌, ◌≤◌, ◌<◌, ◌+◌, ℕ, true, length, IfOk};
-ghost use Rattle.std.specs.Thread.{IsSync};
-ghost use Rattle.job_base.specs.declared.limits.TheConstants.{MOST_WORKERS};
 ghost use Rattle.frame_core.specs.Know.{IsFree, MayBegin, piece_count};
 ghost use Rattle.frame_core.specs.Names.{job_pieces};
 ghost use Rattle.frame_core.specs.Ordered.{IsWellOrderedPlan};
@@ -11,19 +9,16 @@ ghost use Rattle.frame_core.specs.Pieces.{piece_numbered};
 ghost use Rattle.word_board.specs.Boards.{home_of, know_of, name_of, plan_of};
 ghost use Rattle.frame_rows.specs.Between.{AreCellsOf};
 
+use crate::running::run_words;
 use crate::section::section_of;
 use crate::texts::TOTAL;
 use frame_core::{Board, Plan};
-use frame_print::Outgoing;
-use job_base::limits::MOST_WORKERS;
 use job_base::{FlatMem, Mem, MemSink, OpenGate, PieceId, Word};
 use plan_run::RunEnd;
 use std::alloc::Global;
 use std::sync::Wait;
 use std::test::Fail;
 use std::thread::{Threads, join_mut};
-use steal_pool::laws::rooms_are_ready;
-use steal_pool::{PoolRoom, ShowsPlan, run_lines};
 use word_board::{WordBoard, WordSeat};
 
 // Whether a seat can begin one of the first pieces of a board.
@@ -91,37 +86,7 @@ fn nothing_begins_before_it_is_opened(rt: HostRuntime) -> Result<(), Fail> {
     Ok(())
 }
 
-// Runs a plan, writes its lines, and gives the cells that it leaves.
-//
-// The plan stands behind a type parameter: beside a board and a room the checker can't show that threads may share it.
-fn run_shown<R: Threads + Wait + Sync, P: ShowsPlan + Sync>(
-    rt: &R,
-    alloc: Global,
-    plan: &P,
-    workers: u32,
-    sink: &mut MemSink,
-) -> Result<FlatMem, Fail>
-    requires well { IsWellOrderedPlan (P.shown plan.now) }
-    ensures left { IfOk result (AreCellsOf (P.shown plan.now)) }
-{
-    if workers == 0 || workers > MOST_WORKERS {
-        return Err(Fail::new("no such number of workers"));
-    }
-    let mut left = FlatMem::new(alloc, plan.plan().words)?;
-    let mut out = Outgoing::new(alloc)?;
-    let (board, seats) = WordBoard::make(alloc, plan.plan(), workers)?;
-    let mut room = PoolRoom::make(alloc, plan.plan(), seats)?;
-    rooms_are_ready::<WordBoard>();
-    let end = run_lines(rt, plan, &board, &mut room, &mut out, sink, &OpenGate);
-    board.close(room.into_first(), &mut left);
-    out.flush(sink)?;
-    match end {
-        RunEnd::Done(_) => Ok(left),
-        RunEnd::WriteFault(_) => Err(Fail::new("a write failed")),
-    }
-}
-
-/// Runs a plan with so many workers, writes its lines, and gives the cells that it leaves.
+/// Runs a plan with so many workers on the board without locks, writes its output, and gives the cells that it leaves.
 pub fn run_plan<R: Threads + Wait + Sync>(
     rt: &R,
     alloc: Global,
@@ -132,7 +97,11 @@ pub fn run_plan<R: Threads + Wait + Sync>(
     requires well { IsWellOrderedPlan plan.now }
     ensures left { IfOk result (AreCellsOf plan.now) }
 {
-    run_shown(rt, alloc, plan, workers, sink)
+    let (end, left) = run_words(rt, alloc, plan, workers, sink, &OpenGate)?;
+    match end {
+        RunEnd::Done(_) => Ok(left),
+        RunEnd::WriteFault(_) => Err(Fail::new("a write failed")),
+    }
 }
 
 // What a run of `TOTAL` writes, and its word 8, which is the reference.

@@ -1,14 +1,19 @@
-//! Worked scripts, planned by `frame_plan` and then looked at, replayed, run on a board and measured.
+//! Worked scripts, planned by `frame_plan` and then looked at, replayed, run on boards and measured.
 //!
-//! `section_of` plans the first section of a script that may use the worked kernels, and `section_with` that of one
-//! with a table. All else is tests: rows of what plans say, of legal and illegal events, of runs on boards, of depths
-//! and of limits.
+//! `section_in` plans the first section of a script, `section_of` that of one that may use the worked kernels.
+//! `run_on` runs a plan on any board, `run_kind` on a new board of a kind. `rows` has worked scripts with what they
+//! give. All else is tests: of what plans say, of legal and illegal events, of a board before a run and after runs,
+//! of footprints, of depths and of limits.
 #![tactic(auto)]
 
 #[cfg(test)]
 mod boards;
+mod container_rows;
 #[cfg(test)]
 mod depths;
+#[cfg(test)]
+mod footprints;
+mod job_rows;
 #[cfg(test)]
 mod limits;
 #[cfg(test)]
@@ -17,7 +22,12 @@ mod outcomes;
 mod plans;
 #[cfg(test)]
 mod replays;
+pub mod rows;
+mod running;
 mod section;
 pub mod texts;
 
-pub use section::{KERNELS, script_of, section_of, section_with};
+pub use running::{BoardKind, run_kind, run_lock, run_on, run_words};
+pub use section::{
+    KERNELS, script_in, script_of, section_in, section_of, section_with, with_kernels,
+};

@@ -9,7 +9,7 @@ ghost use Rattle.frame_rows.specs.Between.{IsBetween};
 use crate::boards::run_plan;
 use crate::section::script_of;
 use frame_ast::kernel::Kernel;
-use frame_ast::script::{Script, Sign};
+use frame_ast::script::Script;
 use frame_plan::{Section, SectionBook, Test, names_of};
 use job_base::{FlatMem, Mem, MemSink, Word};
 use std::alloc::Global;
@@ -67,20 +67,6 @@ array b 2
 print b
 ";
 
-// Whether a number compares so with another one.
-fn compares(sign: Sign, number: i64, bound: i64) -> bool
-    ensures { result ≡ compares sign number bound }
-{
-    match sign {
-        Sign::Eq => number == bound,
-        Sign::Ne => number != bound,
-        Sign::Lt => number < bound,
-        Sign::Le => number <= bound,
-        Sign::Gt => number > bound,
-        Sign::Ge => number >= bound,
-    }
-}
-
 // Whether a test holds of so many cells.
 fn holds(test: &Test, cells: &mut FlatMem, words: u32) -> Result<bool, Fail>
     requires words { length cells.old ≡ words }
@@ -93,7 +79,7 @@ fn holds(test: &Test, cells: &mut FlatMem, words: u32) -> Result<bool, Fail>
         return Err(Fail::new("the test is of no word"));
     }
     let number = cells.load(Word(test.at.start));
-    Ok(compares(test.sign, number, test.bound))
+    Ok(test.sign.holds(number, test.bound))
 }
 
 // Plans the next section, runs it and decides its test. The answer says whether there is one.

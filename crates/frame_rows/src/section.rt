@@ -26,12 +26,10 @@ job keys(m: rw map, t: wo ref) { var r = 0; r = try_add(m, 1, 9); t = r; add(m, 
 parallel push(l: rw list) { add(l, index); }
 ";
 
-/// The script that has the worked kernels and then these lines.
-pub fn script_of(alloc: Global, lines: &str) -> Result<Script, Fail>
+/// The script of a whole text.
+pub fn script_in(alloc: Global, text: &str) -> Result<Script, Fail>
     ensures { IfOk result IsAccepted }
 {
-    let mut text = String::from_str(alloc, KERNELS)?;
-    text.push_str(lines)?;
     let source = text.as_bytes();
     if source.len() > MOST_SCRIPT_BYTES as usize {
         return Err(Fail::new("the script is too long"));
@@ -39,15 +37,38 @@ pub fn script_of(alloc: Global, lines: &str) -> Result<Script, Fail>
     Ok(parse_script(alloc, source)?)
 }
 
-/// The first section of that script, with a table.
-pub fn section_with(alloc: Global, lines: &str, table: &Table) -> Result<Section, Fail>
+/// The script that has the worked kernels and then these lines.
+pub fn script_of(alloc: Global, lines: &str) -> Result<Script, Fail>
+    ensures { IfOk result IsAccepted }
+{
+    let text = with_kernels(alloc, lines)?;
+    script_in(alloc, text.as_str())
+}
+
+/// The worked kernels and then these lines.
+pub fn with_kernels(alloc: Global, lines: &str) -> Result<String, Fail> {
+    let mut text = String::from_str(alloc, KERNELS)?;
+    text.push_str(lines)?;
+    Ok(text)
+}
+
+/// The first section of the script of a whole text, with a table.
+pub fn section_in(alloc: Global, text: &str, table: &Table) -> Result<Section, Fail>
     ensures { IfOk result (λ section. IsWellOrderedPlan section.plan) }
 {
-    let script = script_of(alloc, lines)?;
+    let script = script_in(alloc, text)?;
     let cells = FlatMem::new(alloc, 0)?;
     let mut book = SectionBook::new(alloc, &script, table)?;
     let names = names_of(alloc, &script)?;
     Ok(book.next(alloc, &script, table, None, cells, names, Vec::new(alloc))?)
+}
+
+/// That of the script that has the worked kernels and then these lines.
+pub fn section_with(alloc: Global, lines: &str, table: &Table) -> Result<Section, Fail>
+    ensures { IfOk result (λ section. IsWellOrderedPlan section.plan) }
+{
+    let text = with_kernels(alloc, lines)?;
+    section_in(alloc, text.as_str(), table)
 }
 
 /// The same with no table.

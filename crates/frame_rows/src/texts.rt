@@ -18,3 +18,21 @@ complete h
 }
 print a
 ";
+
+/// Two jobs that nothing keeps apart.
+pub const TWO_BUMPS: &str = "array a 1
+array b 1
+schedule h1 bump(a)
+schedule h2 bump(b)
+combine h h1 h2
+complete h
+print b
+";
+
+/// A column of a table, added up.
+pub const ADDED_COLUMN: &str = "column p \"price\"
+reference t
+schedule h total(p, t)
+complete h
+print t
+";

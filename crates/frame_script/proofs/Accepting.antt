@@ -15,12 +15,18 @@ use Rattle.frame_script.proofs.AcceptingFits.{Stands}
 use Rattle.frame_script.proofs.AcceptingItems.{items_fit}
 use Rattle.frame_script.proofs.AcceptingCounts.{few_statements, few_kernels}
 
-pub accepted : (s : Source) (events : List Event) (items : RawItems) (script : Script) → SpellsItems true events items → IsScriptOf s items script → too_long s items ≡ None →
+pub accepted : (s : Source) (events : List Event) (items : RawItems) (script : Script) → SpellsItems true events items → IsScriptOf s items script
+    → too_long s items ≡ None →
     ((k : ℕ) (it : Kernel) → slice_get script.kernels.items k ≡ Some it → IsChecked it) → IsAccepted script
 accepted s events items script spells is short checked =
     let names = is.known.names in
     let xs = script.statements.items in
-    let all : Stands (literals_in s items) 0 (literals_in s items) = record { before = []; after = []; are = sym (append-nil (literals_in s items)); many = refl } in
+    let all : Stands (literals_in s items) 0 (literals_in s items) = record {
+      before = [];
+      after = [];
+      are = sym (append-nil (literals_in s items));
+      many = refl;
+    } in
     let fits : statements_fit (scene names 0) (literals_in s items) is.known.kernels 0 (xs ++ []) ≡ true =
     items_fit s names is.known.kernels (literals_in s items) items is.faultless spells (leads_all names) (leads_all is.known.kernels) 0 all xs is.statements
     [] 0 (λ made enough. refl) 0 (omega arith) in

@@ -56,7 +56,8 @@ module _ (all : List Name) (literals : List (List ℤ)) (kernels : List Kernel) 
 
   -- a statement that isn't a `when`
   pub lead_one : (tested : Bool) (first last : ℕ) (x : Statement) → is_when x.act ≡ false →
-      ((made rest inside : ℕ) → first ≤ made → (order_fits (scene all made) literals kernels rest inside x.act ≡ true) × (last ≤ made_after made (made_by x.act))) →
+      ((made rest inside : ℕ) → first ≤ made → (order_fits (scene all made) literals kernels rest inside x.act ≡ true)
+      × (last ≤ made_after made (made_by x.act))) →
       Lead tested first last (x ∷ [])
   lead_one tested first last x plain fits more k fit made enough =
       let f = fits made (length more) (left tested 1 k) enough in
@@ -77,13 +78,15 @@ module _ (all : List Name) (literals : List (List ℤ)) (kernels : List Kernel) 
       subst Whole (sym is) (and_from _ _ (and_from _ _ (used made enough) (and_from _ _ few refl)) counted)
 
   -- one list behind another
-  pub lead_joined : (tested : Bool) (first middle last : ℕ) (xs ys : List Statement) → Lead tested first middle xs → Lead tested middle last ys → Lead tested first last (xs ++ ys)
+  pub lead_joined : (tested : Bool) (first middle last : ℕ) (xs ys : List Statement) → Lead tested first middle xs → Lead tested middle last ys
+      → Lead tested first last (xs ++ ys)
   lead_joined tested first middle last xs ys a b more k fit =
       let behind : FitFrom middle (left tested 0 (length ys + k)) (ys ++ more) =
       subst (λ n. FitFrom middle n (ys ++ more)) (sym (left_start tested (length ys) k)) (b more k fit) in
       let whole : FitFrom first (left tested (length xs) (length ys + k)) (xs ++ (ys ++ more)) = a (ys ++ more) (length ys + k) behind in
       let counted : FitFrom first (left tested (length (xs ++ ys)) k) (xs ++ (ys ++ more)) =
-      subst (λ n. FitFrom first n (xs ++ (ys ++ more))) (left_moved tested (length xs) (length ys) k ∙ ap (λ n. left tested n k) (sym (length-append xs ys))) whole in
+      subst (λ n. FitFrom first n (xs ++ (ys ++ more))) (left_moved tested (length xs) (length ys) k
+      ∙ ap (λ n. left tested n k) (sym (length-append xs ys))) whole in
       subst (λ zs. FitFrom first (left tested (length (xs ++ ys)) k) zs) (sym (append_assoc xs ys more)) counted
 
   -- where more names are made
@@ -96,10 +99,12 @@ module _ (all : List Name) (literals : List (List ℤ)) (kernels : List Kernel) 
   copies_behind tested first last Is le each zero xs r = lead_nothing tested last xs r
   copies_behind tested first last Is le each (suc n) xs r =
       subst (Lead tested last last) (sym r.2)
-      (lead_joined tested last last last r.0 r.1 (lead_later tested first last last r.0 le (each r.0 r.3)) (copies_behind tested first last Is le each n r.1 r.4))
+      (lead_joined tested last last last r.0 r.1 (lead_later tested first last last r.0 le (each r.0 r.3))
+      (copies_behind tested first last Is le each n r.1 r.4))
 
   -- copies, of which there is one at least
-  pub copies_lead : (tested : Bool) (first last : ℕ) (Is : List Statement → Type 0) → first ≤ last → ((xs : List Statement) → Is xs → Lead tested first last xs) →
+  pub copies_lead : (tested : Bool) (first last : ℕ) (Is : List Statement → Type 0) → first ≤ last
+      → ((xs : List Statement) → Is xs → Lead tested first last xs) →
       (n : ℕ) (xs : List Statement) → 1 ≤ n → Repeated n Is xs → Lead tested first last xs
   copies_lead tested first last Is le each zero xs some r = absurd (omega arith)
   copies_lead tested first last Is le each (suc n) xs some r =

@@ -36,12 +36,15 @@ no_end e = cc
 -- the marks of one list behind another
 joined : (zs xs ys : List Statement) (ms ns : List Mark) → zs ≡ xs ++ ys → flags xs ≡ tests_of ms → flags ys ≡ tests_of ns → flags zs ≡ tests_of (ms ++ ns)
 joined zs xs ys ms ns is a b =
-    ap flags is ∙ (map-append (λ x. is_when x.act) xs ys ∙ (ap (λ l. l ++ flags ys) a ∙ (ap (λ l. tests_of ms ++ l) b ∙ sym (map-append (λ m. m.tested) ms ns))))
+    ap flags is ∙ (map-append (λ x. is_when x.act) xs ys ∙ (ap (λ l. l ++ flags ys) a
+    ∙ (ap (λ l. tests_of ms ++ l) b ∙ sym (map-append (λ m. m.tested) ms ns))))
 
-before : (x : Statement) (xs : List Statement) (m : Mark) (ms : List Mark) → is_when x.act ≡ m.tested → flags xs ≡ tests_of ms → flags (x ∷ xs) ≡ tests_of (m ∷ ms)
+before : (x : Statement) (xs : List Statement) (m : Mark) (ms : List Mark) → is_when x.act ≡ m.tested → flags xs ≡ tests_of ms
+    → flags (x ∷ xs) ≡ tests_of (m ∷ ms)
 before x xs m ms a b = ap (λ f. f ∷ flags xs) a ∙ ap (λ l. m.tested ∷ l) b
 
-copied : (Is : List Statement → Type 0) (ms : List Mark) → ((xs : List Statement) → Is xs → flags xs ≡ tests_of ms) → (n : ℕ) (xs : List Statement) → Repeated n Is xs → flags xs ≡ tests_of (copies_of n ms)
+copied : (Is : List Statement → Type 0) (ms : List Mark) → ((xs : List Statement) → Is xs → flags xs ≡ tests_of ms) → (n : ℕ) (xs : List Statement)
+    → Repeated n Is xs → flags xs ≡ tests_of (copies_of n ms)
 copied Is ms each zero xs r = ap flags r
 copied Is ms each (suc n) xs r = joined xs r.0 r.1 ms (copies_of n ms) r.2 (each r.0 r.3) (copied Is ms each n r.1 r.4)
 
@@ -60,7 +63,8 @@ marked s all kernels (Block at (Repeat n) inner more) (block end q hs es rest sp
 marked s all kernels (Block at (When name sign value) inner more) (block end q hs es rest spells closes within behind all_are) place xs is =
     ap flags is.3
     ∙ before is.0 (is.1 ++ is.2) (record { at = at; tested = true }) (marks_of s inner ++ marks_of s more) (ap is_when is.4.says)
-    (joined (is.1 ++ is.2) is.1 is.2 (marks_of s inner) (marks_of s more) refl (marked s all kernels inner within place is.1 is.5) (marked s all kernels more behind _ is.2 is.6))
+    (joined (is.1 ++ is.2) is.1 is.2 (marks_of s inner) (marks_of s more) refl (marked s all kernels inner within place is.1 is.5)
+    (marked s all kernels more behind _ is.2 is.6))
 marked s all kernels (Block at _ inner more) (block end q hs es rest spells closes within behind all_are) place xs is = absurd (no_end closes)
 
 -- so many statements and so many `when` among them
@@ -94,7 +98,8 @@ within_room (suc room) tests (m ∷ marks) (x ∷ xs) same h =
     one_more m.tested room tests m marks x xs flag (λ left e. within_room room left marks xs others e) h
 
 -- a script that isn't too long
-pub few_statements : (s : Source) (all : List Name) (kernels : List CheckedKernel) (items : RawItems) {es : List Event} (xs : List Statement) → SpellsItems true es items → StandFor s all kernels 0 items xs →
+pub few_statements : (s : Source) (all : List Name) (kernels : List CheckedKernel) (items : RawItems) {es : List Event} (xs : List Statement)
+    → SpellsItems true es items → StandFor s all kernels 0 items xs →
     excess 65536 1024 (marks_of s items) ≡ None → (length xs ≤ 65536) × (count_by (λ x. is_when x.act) xs ≤ 1024)
 few_statements s all kernels items xs spells is h = within_room 65536 1024 (marks_of s items) xs (marked s all kernels items spells 0 xs is) h
 

@@ -22,7 +22,8 @@ Fits all made literals kernels rest inside after o =
     (order_fits (scene all made) literals kernels rest inside o ≡ true) × (length after ≤ made_after made (made_by o))
 
 -- a number within its limits
-pub limits : (s : Source) (least most at : ℕ) → limit_fault s least most at ≡ None → (nat_le least (number_at s at) ≡ true) × (nat_le (number_at s at) most ≡ true)
+pub limits : (s : Source) (least most at : ℕ) → limit_fault s least most at ≡ None
+    → (nat_le least (number_at s at) ≡ true) × (nat_le (number_at s at) most ≡ true)
 limits s least most at h = and_parts _ _ (holds_from _ _ _ h)
 
 -- LITERALS
@@ -35,7 +36,12 @@ pub record Stands (all : List (List ℤ)) (place : ℕ) (here : List (List ℤ))
   pub many : length before ≡ place
 
 pub stands_first : (all : List (List ℤ)) (place : ℕ) (xs ys : List (List ℤ)) → Stands all place (xs ++ ys) → Stands all place xs
-stands_first all place xs ys s = record { before = s.before; after = ys ++ s.after; are = s.are ∙ ap (λ l. s.before ++ l) (append_assoc xs ys s.after); many = s.many }
+stands_first all place xs ys s = record {
+  before = s.before;
+  after = ys ++ s.after;
+  are = s.are ∙ ap (λ l. s.before ++ l) (append_assoc xs ys s.after);
+  many = s.many;
+}
 
 pub stands_behind : (all : List (List ℤ)) (place : ℕ) (xs ys : List (List ℤ)) → Stands all place (xs ++ ys) → Stands all (place + length xs) ys
 stands_behind all place xs ys s = record {
@@ -54,7 +60,8 @@ lists_of s None = []
 lists_of s (Some values) = map (signed_at s) values ∷ []
 
 -- the values of an array without a fault fit its length
-pub literal_stands : (s : Source) (all : List (List ℤ)) (place len : ℕ) (values : Option (List RawNumber)) → Stands all place (lists_of s values) → count_fault s len values ≡ None →
+pub literal_stands : (s : Source) (all : List (List ℤ)) (place len : ℕ) (values : Option (List RawNumber)) → Stands all place (lists_of s values)
+    → count_fault s len values ≡ None →
     literal_fits all (number_at s len) (literal_of place values) ≡ true
 literal_stands s all place len None stands h = refl
 literal_stands s all place len (Some values) stands h =

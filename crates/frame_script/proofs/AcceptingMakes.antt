@@ -22,17 +22,21 @@ use Rattle.frame_script.proofs.NumberLemmas.{holds_from}
 use Rattle.frame_script.proofs.AcceptingNames.{Leads, scene, first_parts, misfit_none, known, used, make}
 use Rattle.frame_script.proofs.AcceptingFits.{Fits, limits, Stands, lists_of, literal_stands}
 
-module _ (s : Source) (c : Scope) (all : List names.Name) (made : ℕ) (literals : List (List ℤ)) (kernels : List Kernel) (rest inside at : ℕ) (enough : length c.names ≤ made) where
-  pub array_fits : (place name len : ℕ) (life : Life) (values : Option (List RawNumber)) → Leads (names_after s c.names (NewArray name len life values)) all → Stands literals place (lists_of s values) →
+module _ (s : Source) (c : Scope) (all : List names.Name) (made : ℕ) (literals : List (List ℤ)) (kernels : List Kernel) (rest inside at : ℕ)
+    (enough : length c.names ≤ made) where
+  pub array_fits : (place name len : ℕ) (life : Life) (values : Option (List RawNumber)) → Leads (names_after s c.names (NewArray name len life values)) all
+      → Stands literals place (lists_of s values) →
       first_some (order_faults s c at (NewArray name len life values)) ≡ None →
-      Fits all made literals kernels rest inside (names_after s c.names (NewArray name len life values)) (order.Array (place_of s all name) (number_at s len) life (literal_of place values))
+      Fits all made literals kernels rest inside (names_after s c.names (NewArray name len life values))
+      (order.Array (place_of s all name) (number_at s len) life (literal_of place values))
   array_fits place name len life values leads stands h =
       let p = first_parts _ _ h in
       let q = first_parts _ _ p.1 in
       let m = make s c.names all made kind.Array name leads enough p.0 in
       (and_from _ _ m.fits (and_from _ _ (limits s _ _ len (first_parts _ _ q.1).0).1 (literal_stands s literals place len values stands q.0)), m.enough)
 
-  pub column_fits : (name column : ℕ) (life : Life) (bytes : Vec ℕ Global) → Leads (names_after s c.names (NewColumn name column life)) all → first_some (order_faults s c at (NewColumn name column life)) ≡ None →
+  pub column_fits : (name column : ℕ) (life : Life) (bytes : Vec ℕ Global) → Leads (names_after s c.names (NewColumn name column life)) all
+      → first_some (order_faults s c at (NewColumn name column life)) ≡ None →
       bytes.items ≡ column_at s column →
       Fits all made literals kernels rest inside (names_after s c.names (NewColumn name column life)) (order.Column (place_of s all name) bytes life)
   column_fits name column life bytes leads h is =
@@ -40,36 +44,44 @@ module _ (s : Source) (c : Scope) (all : List names.Name) (made : ℕ) (literals
       let m = make s c.names all made kind.Array name leads enough p.0 in
       (and_from _ _ m.fits (ap (λ l. up_to 256 (length l)) is ∙ holds_from _ _ _ (first_parts _ _ p.1).0), m.enough)
 
-  pub list_fits : (name cap : ℕ) (life : Life) → Leads (names_after s c.names (NewList name cap life)) all → first_some (order_faults s c at (NewList name cap life)) ≡ None →
+  pub list_fits : (name cap : ℕ) (life : Life) → Leads (names_after s c.names (NewList name cap life)) all
+      → first_some (order_faults s c at (NewList name cap life)) ≡ None →
       Fits all made literals kernels rest inside (names_after s c.names (NewList name cap life)) (order.List (place_of s all name) (number_at s cap) life)
   list_fits name cap life leads h =
       let p = first_parts _ _ h in
       let m = make s c.names all made kind.List name leads enough p.0 in
       (and_from _ _ m.fits (limits s _ _ cap (first_parts _ _ p.1).0).1, m.enough)
 
-  pub reference_fits : (name : ℕ) (life : Life) (value : Option RawNumber) → Leads (names_after s c.names (NewReference name life value)) all → first_some (order_faults s c at (NewReference name life value)) ≡ None →
-      Fits all made literals kernels rest inside (names_after s c.names (NewReference name life value)) (order.Reference (place_of s all name) life (option_map (signed_at s) value))
+  pub reference_fits : (name : ℕ) (life : Life) (value : Option RawNumber) → Leads (names_after s c.names (NewReference name life value)) all
+      → first_some (order_faults s c at (NewReference name life value)) ≡ None →
+      Fits all made literals kernels rest inside (names_after s c.names (NewReference name life value))
+      (order.Reference (place_of s all name) life (option_map (signed_at s) value))
   reference_fits name life value leads h =
       let m = make s c.names all made kind.Reference name leads enough (first_parts _ _ h).0 in
       (m.fits, m.enough)
 
-  pub map_fits : (name cap : ℕ) (life : Life) → Leads (names_after s c.names (NewMap name cap life)) all → first_some (order_faults s c at (NewMap name cap life)) ≡ None →
+  pub map_fits : (name cap : ℕ) (life : Life) → Leads (names_after s c.names (NewMap name cap life)) all
+      → first_some (order_faults s c at (NewMap name cap life)) ≡ None →
       Fits all made literals kernels rest inside (names_after s c.names (NewMap name cap life)) (order.Map (place_of s all name) (number_at s cap) life)
   map_fits name cap life leads h =
       let p = first_parts _ _ h in
       let m = make s c.names all made kind.Map name leads enough p.0 in
       (and_from _ _ m.fits (limits s _ _ cap (first_parts _ _ p.1).0).1, m.enough)
 
-  pub stream_fits : (name count room : ℕ) (life : Life) → Leads (names_after s c.names (NewStream name count room life)) all → first_some (order_faults s c at (NewStream name count room life)) ≡ None →
-      Fits all made literals kernels rest inside (names_after s c.names (NewStream name count room life)) (order.Stream (place_of s all name) (number_at s count) (number_at s room) life)
+  pub stream_fits : (name count room : ℕ) (life : Life) → Leads (names_after s c.names (NewStream name count room life)) all
+      → first_some (order_faults s c at (NewStream name count room life)) ≡ None →
+      Fits all made literals kernels rest inside (names_after s c.names (NewStream name count room life))
+      (order.Stream (place_of s all name) (number_at s count) (number_at s room) life)
   stream_fits name count room life leads h =
       let p = first_parts _ _ h in
       let q = first_parts _ _ p.1 in
       let m = make s c.names all made kind.Stream name leads enough p.0 in
       (and_from _ _ m.fits (and_from _ _ (limits s _ _ count q.0).1 (limits s _ _ room (first_parts _ _ q.1).0).1), m.enough)
 
-  pub slice_fits : (name of start len : ℕ) → Leads (names_after s c.names (Slice name of start len)) all → first_some (order_faults s c at (Slice name of start len)) ≡ None →
-      Fits all made literals kernels rest inside (names_after s c.names (Slice name of start len)) (order.Slice (place_of s all name) (place_of s all of) (number_at s start) (number_at s len))
+  pub slice_fits : (name of start len : ℕ) → Leads (names_after s c.names (Slice name of start len)) all
+      → first_some (order_faults s c at (Slice name of start len)) ≡ None →
+      Fits all made literals kernels rest inside (names_after s c.names (Slice name of start len))
+      (order.Slice (place_of s all name) (place_of s all of) (number_at s start) (number_at s len))
   slice_fits name of start len leads h =
       let p = first_parts _ _ h in
       let q = first_parts _ _ p.1 in
@@ -88,7 +100,8 @@ module _ (s : Source) (c : Scope) (all : List names.Name) (made : ℕ) (literals
       (and_from _ _ m.fits (used s c.names all made (kind.List ∷ []) of m.leads enough (first_parts _ _ p.1).0), m.enough)
 
   -- a copy, by what its source stands for
-  copied : (name of : ℕ) (k : NameKind) → kind_in c.names (text_at s of) ≡ Some k → is_among k CONTAINERS ≡ true → Leads (names_with s c.names (Some (name, k))) all →
+  copied : (name of : ℕ) (k : NameKind) → kind_in c.names (text_at s of) ≡ Some k → is_among k CONTAINERS ≡ true
+      → Leads (names_with s c.names (Some (name, k))) all →
       misfit (kind_in c.names (text_at s of)) CONTAINERS of ≡ None → make_fault s c.names k name ≡ None →
       Fits all made literals kernels rest inside (names_with s c.names (Some (name, k))) (order.Copy (place_of s all name) (place_of s all of))
   copied name of k is among leads fits h =

@@ -89,7 +89,8 @@ kind_fits : (o : Option NameKind) (k : NameKind) (kinds : List NameKind) → o �
 kind_fits o k kinds is h = rw is h
 
 -- a name that is used without a fault
-pub used : (s : Source) (here all : List Name) (made : ℕ) (kinds : List NameKind) (at : ℕ) → Leads here all → length here ≤ made → use_fault s here kinds at ≡ None →
+pub used : (s : Source) (here all : List Name) (made : ℕ) (kinds : List NameKind) (at : ℕ) → Leads here all → length here ≤ made
+    → use_fault s here kinds at ≡ None →
     uses (scene all made) (place_of s all at) kinds ≡ true
 used s here all made kinds at leads enough h =
     let k = misfit_none (kind_in here (text_at s at)) kinds at h in
@@ -97,7 +98,8 @@ used s here all made kinds at leads enough h =
     and_from _ _ (lt_test _ _ (omega (arith, n.within, enough))) (kind_fits _ k.0 kinds n.kind k.2)
 
 -- handles that are used without a fault
-pub handles_used : (s : Source) (here all : List Name) (made : ℕ) (ats : List ℕ) → Leads here all → length here ≤ made → first_some (handles_faults s here ats) ≡ None →
+pub handles_used : (s : Source) (here all : List Name) (made : ℕ) (ats : List ℕ) → Leads here all → length here ≤ made
+    → first_some (handles_faults s here ats) ≡ None →
     all_used (scene all made) (map (place_of s all) ats) ≡ true
 handles_used s here all made [] leads enough h = refl
 handles_used s here all made (at ∷ ats) leads enough h =
@@ -143,13 +145,15 @@ kind_here names text place h =
 again : (o : Option NameKind) (j k : NameKind) → o ≡ Some j → agrees o k ≡ true → is_among j (k ∷ []) ≡ true
 again o j k is h = rw is at h
 
-make_new : (s : Source) (here all : List Name) (made : ℕ) (k : NameKind) (at : ℕ) → Leads (here ++ record { text = text_at s at; kind = k } ∷ []) all → length here ≤ made →
+make_new : (s : Source) (here all : List Name) (made : ℕ) (k : NameKind) (at : ℕ) → Leads (here ++ record { text = text_at s at; kind = k } ∷ []) all
+    → length here ≤ made →
     place_in here (text_at s at) ≡ None → length here ≡ place_of s (here ++ record { text = text_at s at; kind = k } ∷ []) at →
     IsMade s here (here ++ record { text = text_at s at; kind = k } ∷ []) all made k at
 make_new s here all made k at leads enough none place =
     let new : Name = record { text = text_at s at; kind = k } in
     let one : kind_in (here ++ new ∷ []) (text_at s at) ≡ Some k =
-    ap (option_map (λ n. n.kind)) (found_last (is_called (text_at s at)) here new (not_found _ here none) ((bytes_eq-Decides (text_at s at) (text_at s at)).1 refl)) in
+    ap (option_map (λ n. n.kind)) (found_last (is_called (text_at s at)) here new (not_found _ here none)
+    ((bytes_eq-Decides (text_at s at) (text_at s at)).1 refl)) in
     let n = known s (here ++ new ∷ []) all k at leads one in
     let is : place_of s all at ≡ length here = n.stays ∙ sym place in
     record {

@@ -17,11 +17,13 @@ use Rattle.frame_script.proofs.AcceptingMakes.{array_fits, column_fits, list_fit
 use Rattle.frame_script.proofs.AcceptingUses.{set_fits, add_fits, put_fits, remove_fits, clear_fits, capacity_fits, combine_fits, complete_fits, dispose_fits, auto_fits, print_fits}
 use Rattle.frame_script.proofs.AcceptingSchedules.{schedule_fitting}
 
-module _ (s : Source) (c : Scope) (all : List Name) (made : ℕ) (literals : List (List ℤ)) (kernels : List Kernel) (rest inside at place : ℕ) (enough : length c.names ≤ made) where
+module _ (s : Source) (c : Scope) (all : List Name) (made : ℕ) (literals : List (List ℤ)) (kernels : List Kernel) (rest inside at place : ℕ)
+    (enough : length c.names ≤ made) where
   -- a statement of this form that says this order
   abbrev IsFitting : OrderForm → Type 0
   IsFitting form = (o : Order) → Leads (names_after s c.names form) all → Leads c.kernels kernels → Stands literals place (literals_of s form) →
-      first_some (order_faults s c at form) ≡ None → Says s all kernels place 0 form o → Fits all made literals kernels rest inside (names_after s c.names form) o
+      first_some (order_faults s c at form) ≡ None → Says s all kernels place 0 form o
+      → Fits all made literals kernels rest inside (names_after s c.names form) o
 
   fits_as : (form : OrderForm) (o said : Order) → o ≡ said → Fits all made literals kernels rest inside (names_after s c.names form) said →
       Fits all made literals kernels rest inside (names_after s c.names form) o
@@ -31,7 +33,8 @@ module _ (s : Source) (c : Scope) (all : List Name) (made : ℕ) (literals : Lis
   order_fitting (NewArray name len life None) spells single o leads earlier stands h says =
       fits_as (NewArray name len life None) o _ says (array_fits s c all made literals kernels rest inside at enough place name len life None leads stands h)
   order_fitting (NewArray name len life (Some values)) spells single o leads earlier stands h says =
-      fits_as (NewArray name len life (Some values)) o _ says (array_fits s c all made literals kernels rest inside at enough place name len life (Some values) leads stands h)
+      fits_as (NewArray name len life (Some values)) o _ says (array_fits s c all made literals kernels rest inside at enough place name len life
+      (Some values) leads stands h)
   order_fitting (NewColumn name column life) spells single o leads earlier stands h says =
       fits_as (NewColumn name column life) o _ says.2 (column_fits s c all made literals kernels rest inside at enough name column life says.0 leads h says.1)
   order_fitting (NewList name cap life) spells single o leads earlier stands h says =
@@ -68,7 +71,8 @@ module _ (s : Source) (c : Scope) (all : List Name) (made : ℕ) (literals : Lis
   order_fitting (Complete auto name) spells single o leads earlier stands h says =
       fits_as (Complete auto name) o _ says (complete_fits s c all made literals kernels rest inside at enough auto name leads h)
   order_fitting (Dispose name after handle) spells single o leads earlier stands h says =
-      fits_as (Dispose name after handle) o _ says.2 (dispose_fits s c all made literals kernels rest inside at enough name after handle says.0 spells leads h says.1)
+      fits_as (Dispose name after handle) o _ says.2 (dispose_fits s c all made literals kernels rest inside at enough name after handle says.0 spells leads h
+      says.1)
   order_fitting (DisposeAuto name handle) spells single o leads earlier stands h says =
       fits_as (DisposeAuto name handle) o _ says (auto_fits s c all made literals kernels rest inside at enough name handle leads h)
   order_fitting (Print name) spells single o leads earlier stands h says =
@@ -82,7 +86,8 @@ module _ (s : Source) (c : Scope) (all : List Name) (made : ℕ) (literals : Lis
       some_end e = cc
 
 -- a statement without a block isn't a `when`
-pub not_when : (s : Source) (all : List Name) (kernels : List Kernel) (place count : ℕ) (form : OrderForm) (o : Order) → closing form ≡ None → Says s all kernels place count form o → is_when o ≡ false
+pub not_when : (s : Source) (all : List Name) (kernels : List Kernel) (place count : ℕ) (form : OrderForm) (o : Order) → closing form ≡ None
+    → Says s all kernels place count form o → is_when o ≡ false
 not_when s all kernels place count (NewArray name len life values) o single says = ap is_when says
 not_when s all kernels place count (NewColumn name column life) o single says = ap is_when says.2
 not_when s all kernels place count (NewList name cap life) o single says = ap is_when says

@@ -71,14 +71,16 @@ wider param.Ref o h = h
 wider param.Map o h = h
 wider param.Stream o h = h
 
-widened : (k : ParamKind) (o : Option NameKind) (d e : Bool) → (d ≡ true → e ≡ true) → accepted.kind_in o (kinds_for k d) ≡ true → accepted.kind_in o (kinds_for k e) ≡ true
+widened : (k : ParamKind) (o : Option NameKind) (d e : Bool) → (d ≡ true → e ≡ true) → accepted.kind_in o (kinds_for k d) ≡ true
+    → accepted.kind_in o (kinds_for k e) ≡ true
 widened k o true true more h = h
 widened k o true false more h = absurd (false≢true (more refl))
 widened k o false true more h = wider k o h
 widened k o false false more h = h
 
 -- the list after `defer` by its name is that by its place
-deferred_alike : (s : Source) (all : List names.Name) (cut : RawSizes) (at : ℕ) → is_deferred s cut at ≡ true → accepted.is_deferred (defer_of s all cut) (place_of s all at) ≡ true
+deferred_alike : (s : Source) (all : List names.Name) (cut : RawSizes) (at : ℕ) → is_deferred s cut at ≡ true
+    → accepted.is_deferred (defer_of s all cut) (place_of s all at) ≡ true
 deferred_alike s all sizes.None at h = h
 deferred_alike s all (sizes.Length len batch) at h = h
 deferred_alike s all (sizes.Defer list batch) at h =
@@ -103,10 +105,12 @@ module _ (s : Source) (here all : List names.Name) (made : ℕ) (cut : RawSizes)
 
   -- SIZES
 
-  deferring : (k : Kernel) → first_some (sizes_faults s here cut) ≡ None → room_fits (guard_fits k) cut ≡ true → defer_fits (scene all made) k (defer_of s all cut) ≡ true
+  deferring : (k : Kernel) → first_some (sizes_faults s here cut) ≡ None → room_fits (guard_fits k) cut ≡ true
+      → defer_fits (scene all made) k (defer_of s all cut) ≡ true
   deferring k h room = by cut h room
     where
-      by : (z : RawSizes) → first_some (sizes_faults s here z) ≡ None → room_fits (guard_fits k) z ≡ true → defer_fits (scene all made) k (defer_of s all z) ≡ true
+      by : (z : RawSizes) → first_some (sizes_faults s here z) ≡ None → room_fits (guard_fits k) z ≡ true
+          → defer_fits (scene all made) k (defer_of s all z) ≡ true
       by sizes.None h room = refl
       by (sizes.Length len batch) h room = refl
       by (sizes.Defer list batch) h room =
@@ -115,7 +119,8 @@ module _ (s : Source) (here all : List names.Name) (made : ℕ) (cut : RawSizes)
           and_from _ _ (and_from _ _ (used s here all made (kind.List ∷ []) list leads enough p.0) (and_from _ _ n.0 n.1)) room
 
 -- a parallel kernel has exactly one of the two sizes, and another one none
-one : (s : Source) (all : List names.Name) (parallel : Bool) (cut : RawSizes) → sizes_fit parallel cut ≡ true → one_of parallel (is_some (cut_of s cut)) (is_some (defer_of s all cut)) ≡ true
+one : (s : Source) (all : List names.Name) (parallel : Bool) (cut : RawSizes) → sizes_fit parallel cut ≡ true
+    → one_of parallel (is_some (cut_of s cut)) (is_some (defer_of s all cut)) ≡ true
 one s all true sizes.None h = h
 one s all false sizes.None h = refl
 one s all true (sizes.Length len batch) h = refl
@@ -133,7 +138,8 @@ cutting s here (sizes.Defer list batch) h = refl
 
 -- WAIVED NAMES
 
-waived_param : (parallel : Bool) (o : Option Param) (at : ℕ) → waived_fault parallel o at ≡ None → (p : Param) × (o ≡ Some p) × ((parallel && (is_array p.kind && writes_to p.access)) ≡ true)
+waived_param : (parallel : Bool) (o : Option Param) (at : ℕ) → waived_fault parallel o at ≡ None
+    → (p : Param) × (o ≡ Some p) × ((parallel && (is_array p.kind && writes_to p.access)) ≡ true)
 waived_param parallel None at h = cc
 waived_param parallel (Some p) at h = (p, refl, holds_from _ _ _ h)
 
@@ -148,7 +154,8 @@ waived s k (at ∷ waive) h =
 -- SCHEDULES
 
 -- a kernel that a schedule without a fault names is known
-kernel_named : (s : Source) (here : List names.Name) (o : Option Kernel) (at : ℕ) (args : List RawArg) (cut : RawSizes) (waive after : List ℕ) → first_some (scheduled_faults s here o at args cut waive after) ≡ None →
+kernel_named : (s : Source) (here : List names.Name) (o : Option Kernel) (at : ℕ) (args : List RawArg) (cut : RawSizes) (waive after : List ℕ)
+    → first_some (scheduled_faults s here o at args cut waive after) ≡ None →
     (k : Kernel) × (o ≡ Some k) × (first_some (scheduled_faults s here (Some k) at args cut waive after) ≡ None)
 kernel_named s here None at args cut waive after h = absurd (some_fault (first_parts _ _ h).0)
   where
@@ -156,9 +163,11 @@ kernel_named s here None at args cut waive after h = absurd (some_fault (first_p
     some_fault e = cc
 kernel_named s here (Some k) at args cut waive after h = (k, refl, h)
 
-behind : (s : Source) (here all : List names.Name) (made : ℕ) (k : Kernel) (at : ℕ) (args : List RawArg) (cut : RawSizes) (waive after : List ℕ) → Leads here all → length here ≤ made →
+behind : (s : Source) (here all : List names.Name) (made : ℕ) (k : Kernel) (at : ℕ) (args : List RawArg) (cut : RawSizes) (waive after : List ℕ)
+    → Leads here all → length here ≤ made →
     first_some (scheduled_faults s here (Some k) at args cut waive after) ≡ None →
-    schedule_fits (scene all made) (Some k) (map (arg_of s all) args) (cut_of s cut) (defer_of s all cut) (map (λ x. param_place k.params.items (text_at s x)) waive) (map (place_of s all) after) ≡ true
+    schedule_fits (scene all made) (Some k) (map (arg_of s all) args) (cut_of s cut) (defer_of s all cut)
+    (map (λ x. param_place k.params.items (text_at s x)) waive) (map (place_of s all) after) ≡ true
 behind s here all made k at args cut waive after leads enough h =
     let p = first_parts (kernel_fault k at args cut) _ h in
     let f = first_parts _ _ p.0 in
@@ -176,7 +185,8 @@ behind s here all made k at args cut waive after leads enough h =
 abbrev Scheduled : Source → List names.Name → ℕ → Option Kernel → List Arg → RawSizes → (waive after : List ℕ) → Type 0
 Scheduled s all made o args cut waive after = schedule_fits (scene all made) o args (cut_of s cut) (defer_of s all cut) waive after ≡ true
 
-pub schedule_fitting : (s : Source) (c : Scope) (all : List names.Name) (made : ℕ) (literals : List (List ℤ)) (kernels : List Kernel) (rest inside at : ℕ) → length c.names ≤ made →
+pub schedule_fitting : (s : Source) (c : Scope) (all : List names.Name) (made : ℕ) (literals : List (List ℤ)) (kernels : List Kernel) (rest inside at : ℕ)
+    → length c.names ≤ made →
     (auto : Bool) (handle kernel : ℕ) (args : List RawArg) (cut : RawSizes) (waive after : List ℕ) (job : Box NewJob Global) →
     Leads (names_after s c.names (Schedule auto handle kernel args cut waive after)) all → Leads c.kernels kernels →
     first_some (order_faults s c at (Schedule auto handle kernel args cut waive after)) ≡ None →
@@ -189,18 +199,21 @@ schedule_fitting s c all made literals kernels rest inside at enough auto handle
     let k = kernel_named s c.names (kernel_in c.kernels (text_at s kernel)) kernel args cut waive after p.1 in
     let there = kernel_known c.kernels kernels (text_at s kernel) k.0 earlier k.1 in
     let params : params_named s kernels kernel ≡ k.0.params.items = ap params_of there.1 in
-    let waived_are : job.value.waive.items ≡ map (λ x. param_place k.0.params.items (text_at s x)) waive = said.waive_are ∙ ap (λ ps. map (λ x. param_place ps (text_at s x)) waive) params in
+    let waived_are : job.value.waive.items ≡ map (λ x. param_place k.0.params.items (text_at s x)) waive = said.waive_are
+    ∙ ap (λ ps. map (λ x. param_place ps (text_at s x)) waive) params in
     let fits = behind s c.names all made k.0 kernel args cut waive after m.leads enough k.2 in
     let j = job.value in
     let with_args : Scheduled s all made (Some k.0) j.args.items cut j.waive.items j.after.items =
     subst (λ xs. Scheduled s all made (Some k.0) xs cut j.waive.items j.after.items) (sym said.args_are)
     (subst (λ xs. Scheduled s all made (Some k.0) (map (arg_of s all) args) cut xs j.after.items) (sym waived_are)
-    (subst (λ xs. Scheduled s all made (Some k.0) (map (arg_of s all) args) cut (map (λ x. param_place k.0.params.items (text_at s x)) waive) xs) (sym said.after_are) fits)) in
+    (subst (λ xs. Scheduled s all made (Some k.0) (map (arg_of s all) args) cut (map (λ x. param_place k.0.params.items (text_at s x)) waive) xs)
+    (sym said.after_are) fits)) in
     let with_kernel : Scheduled s all made (slice_get kernels j.kernel) j.args.items cut j.waive.items j.after.items =
     subst (λ o. Scheduled s all made o j.args.items cut j.waive.items j.after.items) (sym (ap (slice_get kernels) said.kernel_is ∙ there.0)) with_args in
     let with_sizes : schedule_fits (scene all made) (slice_get kernels j.kernel) j.args.items j.cut j.defer j.waive.items j.after.items ≡ true =
     subst (λ n. schedule_fits (scene all made) (slice_get kernels j.kernel) j.args.items n j.defer j.waive.items j.after.items ≡ true) (sym said.cut_is)
-    (subst (λ d. schedule_fits (scene all made) (slice_get kernels j.kernel) j.args.items (cut_of s cut) d j.waive.items j.after.items ≡ true) (sym said.defer_is) with_kernel) in
+    (subst (λ d. schedule_fits (scene all made) (slice_get kernels j.kernel) j.args.items (cut_of s cut) d j.waive.items j.after.items ≡ true)
+    (sym said.defer_is) with_kernel) in
     let after_it = names_after s c.names (Schedule auto handle kernel args cut waive after) in (
       and_from _ _ (subst (λ n. makes (scene all made) n kind.Handle ≡ true) (sym said.handle_is) m.fits) with_sizes,
       subst (λ n. length after_it ≤ accepted.made_after made (Some n)) (sym said.handle_is) m.enough,

@@ -43,8 +43,10 @@ grows s (Block at head inner more) {c} {last} (files.block middle none within re
     record { names = leads_on c.names middle.names last.names i.names g.names; kernels = g.kernels }
 
 -- in a block no kernel is made
-pub kernels_kept : (s : Source) (items : RawItems) {c last : Scope} {es : List Event} → SpellsItems false es items → IsFaultless s c items last → last.kernels ≡ c.kernels
+pub kernels_kept : (s : Source) (items : RawItems) {c last : Scope} {es : List Event} → SpellsItems false es items → IsFaultless s c items last
+    → last.kernels ≡ c.kernels
 kernels_kept s Nothing spells files.nothing = refl
 kernels_kept s (Kernel events form more) spells faultless = elim spells [ ]
 kernels_kept s (Single at order more) (raw.single es rest spells closes others is) (files.single none behind) = kernels_kept s more others behind
-kernels_kept s (Block at head inner more) (raw.block end q hs es rest spells closes within others is) (files.block middle none inside behind) = kernels_kept s more others behind
+kernels_kept s (Block at head inner more) (raw.block end q hs es rest spells closes within others is) (files.block middle none inside behind) =
+    kernels_kept s more others behind

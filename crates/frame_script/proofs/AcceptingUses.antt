@@ -38,8 +38,10 @@ together : {es : List Event} {name : ℕ} {after : List ℕ} {handle : Option �
 together (dispose q e) = inl (refl, refl)
 together (dispose_after {h = h} o a q e) = inr (h, refl, omega arith)
 
-module _ (s : Source) (c : Scope) (all : List names.Name) (made : ℕ) (literals : List (List ℤ)) (kernels : List Kernel) (rest inside at : ℕ) (enough : length c.names ≤ made) where
-  pub set_fits : (name : ℕ) (index : Option RawNumber) (value : RawNumber) → Leads c.names all → first_some (order_faults s c at (Set name index value)) ≡ None →
+module _ (s : Source) (c : Scope) (all : List names.Name) (made : ℕ) (literals : List (List ℤ)) (kernels : List Kernel) (rest inside at : ℕ)
+    (enough : length c.names ≤ made) where
+  pub set_fits : (name : ℕ) (index : Option RawNumber) (value : RawNumber) → Leads c.names all
+      → first_some (order_faults s c at (Set name index value)) ≡ None →
       Fits all made literals kernels rest inside c.names (order.Set (place_of s all name) (option_map (signed_at s) index) (signed_at s value))
   set_fits name index value leads h =
       let u = used s c.names all made (set_kinds index) name leads enough (first_parts _ _ h).0 in
@@ -69,7 +71,8 @@ module _ (s : Source) (c : Scope) (all : List names.Name) (made : ℕ) (literals
       let p = first_parts _ _ h in
       (and_from _ _ (used s c.names all made (kind.List ∷ []) name leads enough p.0) (limits s _ _ cap (first_parts _ _ p.1).0).1, enough)
 
-  pub combine_fits : (name : ℕ) (of : List ℕ) (handles : Vec ℕ Global) → Leads (names_after s c.names (Combine name of)) all → first_some (order_faults s c at (Combine name of)) ≡ None →
+  pub combine_fits : (name : ℕ) (of : List ℕ) (handles : Vec ℕ Global) → Leads (names_after s c.names (Combine name of)) all
+      → first_some (order_faults s c at (Combine name of)) ≡ None →
       handles.items ≡ map (place_of s all) of →
       Fits all made literals kernels rest inside (names_after s c.names (Combine name of)) (order.Combine (place_of s all name) handles)
   combine_fits name of handles leads h are =
@@ -82,7 +85,8 @@ module _ (s : Source) (c : Scope) (all : List names.Name) (made : ℕ) (literals
   complete_fits true name leads h = (used s c.names all made CONTAINERS name leads enough (first_parts _ _ h).0, enough)
   complete_fits false name leads h = (used s c.names all made (kind.Handle ∷ []) name leads enough (first_parts _ _ h).0, enough)
 
-  disposed_alone : (name : ℕ) (after : List ℕ) (handles : Vec ℕ Global) → Leads c.names all → first_some (order_faults s c at (Dispose name after None)) ≡ None → after ≡ [] →
+  disposed_alone : (name : ℕ) (after : List ℕ) (handles : Vec ℕ Global) → Leads c.names all → first_some (order_faults s c at (Dispose name after None)) ≡ None
+      → after ≡ [] →
       handles.items ≡ map (place_of s all) after →
       Fits all made literals kernels rest inside c.names (order.Dispose (place_of s all name) handles None)
   disposed_alone name after handles leads h is are =
@@ -91,7 +95,8 @@ module _ (s : Source) (c : Scope) (all : List names.Name) (made : ℕ) (literals
 
   disposed_after : (name handle : ℕ) (after : List ℕ) (handles : Vec ℕ Global) → Leads (names_after s c.names (Dispose name after (Some handle))) all →
       first_some (order_faults s c at (Dispose name after (Some handle))) ≡ None → 1 ≤ length after → handles.items ≡ map (place_of s all) after →
-      Fits all made literals kernels rest inside (names_after s c.names (Dispose name after (Some handle))) (order.Dispose (place_of s all name) handles (Some (place_of s all handle)))
+      Fits all made literals kernels rest inside (names_after s c.names (Dispose name after (Some handle)))
+      (order.Dispose (place_of s all name) handles (Some (place_of s all handle)))
   disposed_after name handle after handles leads h some are =
       let p = first_parts _ _ h in
       let q = join_parts (handles_faults s c.names after) (as_faults s c.names (Some handle)) p.1 in
@@ -105,19 +110,24 @@ module _ (s : Source) (c : Scope) (all : List names.Name) (made : ℕ) (literals
   pub dispose_fits : {es : List Event} (name : ℕ) (after : List ℕ) (handle : Option ℕ) (handles : Vec ℕ Global) → SpellsOrder es (Dispose name after handle) →
       Leads (names_after s c.names (Dispose name after handle)) all → first_some (order_faults s c at (Dispose name after handle)) ≡ None →
       handles.items ≡ map (place_of s all) after →
-      Fits all made literals kernels rest inside (names_after s c.names (Dispose name after handle)) (order.Dispose (place_of s all name) handles (option_map (place_of s all) handle))
+      Fits all made literals kernels rest inside (names_after s c.names (Dispose name after handle))
+      (order.Dispose (place_of s all name) handles (option_map (place_of s all) handle))
   dispose_fits name after handle handles spells leads h are = by handle (together spells) leads h
     where
-      by : (o : Option ℕ) → ((after ≡ []) × (o ≡ None)) ⊎ ((g : ℕ) × (o ≡ Some g) × (1 ≤ length after)) → Leads (names_after s c.names (Dispose name after o)) all →
+      by : (o : Option ℕ) → ((after ≡ []) × (o ≡ None)) ⊎ ((g : ℕ) × (o ≡ Some g) × (1 ≤ length after))
+          → Leads (names_after s c.names (Dispose name after o)) all →
           first_some (order_faults s c at (Dispose name after o)) ≡ None →
-          Fits all made literals kernels rest inside (names_after s c.names (Dispose name after o)) (order.Dispose (place_of s all name) handles (option_map (place_of s all) o))
+          Fits all made literals kernels rest inside (names_after s c.names (Dispose name after o))
+          (order.Dispose (place_of s all name) handles (option_map (place_of s all) o))
       by None (inl e) leads h = disposed_alone name after handles leads h e.0 are
       by None (inr e) leads h = absurd cc
       by (Some g) (inl e) leads h = absurd cc
       by (Some g) (inr e) leads h = disposed_after name g after handles leads h e.2 are
 
-  pub auto_fits : (name handle : ℕ) → Leads (names_after s c.names (DisposeAuto name handle)) all → first_some (order_faults s c at (DisposeAuto name handle)) ≡ None →
-      Fits all made literals kernels rest inside (names_after s c.names (DisposeAuto name handle)) (order.DisposeAuto (place_of s all name) (place_of s all handle))
+  pub auto_fits : (name handle : ℕ) → Leads (names_after s c.names (DisposeAuto name handle)) all
+      → first_some (order_faults s c at (DisposeAuto name handle)) ≡ None →
+      Fits all made literals kernels rest inside (names_after s c.names (DisposeAuto name handle))
+      (order.DisposeAuto (place_of s all name) (place_of s all handle))
   auto_fits name handle leads h =
       let p = first_parts _ _ h in
       let m = make s c.names all made kind.Handle handle leads enough (first_parts _ _ p.1).0 in

@@ -223,7 +223,8 @@ disposed_later all n (a, (k, (m, (s, (h, _))))) =
       after = suc n ∷ m.means.names;
       handle = Some (suc end);
       spells = λ x. dispose_after (suc n) end (suc (suc end))
-          (ap (λ y. on action.Name x ∷ on action.OpenNames (suc n) ∷ on action.Name (suc n) ∷ (y ++ on action.After end ∷ on action.Name (suc end) ∷ on action.DisposeAfterStatement (suc (suc end)) ∷ [])) m.means.events_are);
+          (ap (λ y. on action.Name x ∷ on action.OpenNames (suc n) ∷ on action.Name (suc n)
+          ∷ (y ++ on action.After end ∷ on action.Name (suc end) ∷ on action.DisposeAfterStatement (suc (suc end)) ∷ [])) m.means.events_are);
       stand = (k, m.means.stand);
       handle_stands = h;
     }

@@ -34,23 +34,30 @@ unknown_source s names name of o is h =
 abbrev by_test : Source → List Name → (name of : ℕ) → NameKind → Bool → Option StaticFault
 by_test s names name of k b = first_some (cond b (make_fault s names k name) (long_fault s name) ∷ unless b KindMismatch of ∷ [])
 
-pub other_long : (s : Source) (names : List Name) (name of : ℕ) (o : Option NameKind) (k : NameKind) (e : OrderFault) → Some k ≡ o → false ≡ is_among k CONTAINERS → Refuses (long_fault s name) e →
+pub other_long : (s : Source) (names : List Name) (name of : ℕ) (o : Option NameKind) (k : NameKind) (e : OrderFault) → Some k ≡ o
+    → false ≡ is_among k CONTAINERS → Refuses (long_fault s name) e →
     Refuses (copy_first s names name of o) e
 other_long s names name of o k e is test h =
-    subst (λ j. Refuses (copy_first s names name of j) e) is (subst (λ b. Refuses (by_test s names name of k b) e) test (refuses_here (long_fault s name) _ e h))
+    subst (λ j. Refuses (copy_first s names name of j) e) is (subst (λ b. Refuses (by_test s names name of k b) e) test
+    (refuses_here (long_fault s name) _ e h))
 
-pub other_source : (s : Source) (names : List Name) (name of : ℕ) (o : Option NameKind) (k : NameKind) → Some k ≡ o → false ≡ is_among k CONTAINERS → long_fault s name ≡ None →
+pub other_source : (s : Source) (names : List Name) (name of : ℕ) (o : Option NameKind) (k : NameKind) → Some k ≡ o → false ≡ is_among k CONTAINERS
+    → long_fault s name ≡ None →
     copy_first s names name of o ≡ Some (record { at = of; kind = KindMismatch })
 other_source s names name of o k is test h =
     subst (λ j. copy_first s names name of j ≡ Some (record { at = of; kind = KindMismatch })) is
-    (subst (λ b. by_test s names name of k b ≡ Some (record { at = of; kind = KindMismatch })) test (first_next (long_fault s name) _ h ∙ first_here _ [] _ refl))
+    (subst (λ b. by_test s names name of k b ≡ Some (record { at = of; kind = KindMismatch })) test
+    (first_next (long_fault s name) _ h ∙ first_here _ [] _ refl))
 
-pub copy_unmade : (s : Source) (names : List Name) (name of : ℕ) (o : Option NameKind) (k : NameKind) (e : OrderFault) → Some k ≡ o → true ≡ is_among k CONTAINERS → Refuses (make_fault s names k name) e →
+pub copy_unmade : (s : Source) (names : List Name) (name of : ℕ) (o : Option NameKind) (k : NameKind) (e : OrderFault) → Some k ≡ o
+    → true ≡ is_among k CONTAINERS → Refuses (make_fault s names k name) e →
     Refuses (copy_first s names name of o) e
 copy_unmade s names name of o k e is test h =
-    subst (λ j. Refuses (copy_first s names name of j) e) is (subst (λ b. Refuses (by_test s names name of k b) e) test (refuses_here (make_fault s names k name) _ e h))
+    subst (λ j. Refuses (copy_first s names name of j) e) is (subst (λ b. Refuses (by_test s names name of k b) e) test
+    (refuses_here (make_fault s names k name) _ e h))
 
-pub copy_good : (s : Source) (names : List Name) (name of : ℕ) (o : Option NameKind) (k : NameKind) → Some k ≡ o → true ≡ is_among k CONTAINERS → make_fault s names k name ≡ None →
+pub copy_good : (s : Source) (names : List Name) (name of : ℕ) (o : Option NameKind) (k : NameKind) → Some k ≡ o → true ≡ is_among k CONTAINERS
+    → make_fault s names k name ≡ None →
     copy_first s names name of o ≡ None
 copy_good s names name of o k is test h =
     subst (λ j. copy_first s names name of j ≡ None) is
@@ -61,5 +68,6 @@ pub copy_says : (s : Source) (names : List Name) (name of : ℕ) (o : Option Nam
     n ≡ place_of s (names_with s names (Some (name, k))) name → IsPlace s names of p →
     order.Copy n p ≡ order.Copy (place_of s (names_with s names (made_alike name o)) name) (place_of s (names_with s names (made_alike name o)) of)
 copy_says s names name of o k n p is made keeps =
-    subst (λ j. order.Copy n p ≡ order.Copy (place_of s (names_with s names (made_alike name j)) name) (place_of s (names_with s names (made_alike name j)) of)) is
+    subst (λ j. order.Copy n p ≡ order.Copy (place_of s (names_with s names (made_alike name j)) name) (place_of s (names_with s names (made_alike name j)) of))
+    is
     (cc (made, keeps (Some (name, k))))

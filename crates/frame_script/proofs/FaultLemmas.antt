@@ -28,7 +28,8 @@ pub refuses_here : (a : Option StaticFault) (more : List (Option StaticFault)) (
 refuses_here a more (Refused f) h = first_here a more f h
 refuses_here a more NoMemory h = tt
 
-pub refuses_next : (a : Option StaticFault) (more : List (Option StaticFault)) (e : OrderFault) → a ≡ None → Refuses (first_some more) e → Refuses (first_some (a ∷ more)) e
+pub refuses_next : (a : Option StaticFault) (more : List (Option StaticFault)) (e : OrderFault) → a ≡ None → Refuses (first_some more) e
+    → Refuses (first_some (a ∷ more)) e
 refuses_next a more (Refused f) none h = first_next a more none ∙ h
 refuses_next a more NoMemory none h = tt
 
@@ -52,7 +53,8 @@ pub refuses_left : (as' more : List (Option StaticFault)) (e : OrderFault) → R
 refuses_left as' more (Refused f) h = join_here as' more f h
 refuses_left as' more NoMemory h = tt
 
-pub refuses_right : (as' more : List (Option StaticFault)) (e : OrderFault) → first_some as' ≡ None → Refuses (first_some more) e → Refuses (first_some (as' ++ more)) e
+pub refuses_right : (as' more : List (Option StaticFault)) (e : OrderFault) → first_some as' ≡ None → Refuses (first_some more) e
+    → Refuses (first_some (as' ++ more)) e
 refuses_right as' more (Refused f) none h = first_join as' more none ∙ h
 refuses_right as' more NoMemory none h = tt
 

@@ -24,19 +24,22 @@ use Rattle.frame_script.specs.Lines.{IsOn}
 read_at : (s : Source) (at : ℕ) (mark : Mark) → at < length s.marks.now → mark ≡ get_or s.marks.now at mark → slice_get s.marks.now at ≡ Some mark
 read_at s at mark within is = slice_get_read s.marks.now (length s.marks.now) at mark refl within is
 
-token_at : (s : Source) (at : ℕ) (o : Option Mark) → slice_get s.marks.now at ≡ o → slice_get (file_tokens s) at ≡ option_map (token_in s.bytes.now (1 + lines_in (take at s.marks.now))) o
+token_at : (s : Source) (at : ℕ) (o : Option Mark) → slice_get s.marks.now at ≡ o
+    → slice_get (file_tokens s) at ≡ option_map (token_in s.bytes.now (1 + lines_in (take at s.marks.now))) o
 token_at s at o is =
     slice_get-tokens_in s.bytes.now 1 s.marks.now at
     ∙ ap (option_map (token_in s.bytes.now (1 + lines_in (take at s.marks.now)))) is
 
-pub text_said : (s : Source) (at : ℕ) (mark : Mark) (text : List ℕ) → at < length s.marks.now → mark ≡ get_or s.marks.now at mark → ((line : ℕ) → text ≡ text_of s.bytes.now (token_in s.bytes.now line mark)) → text ≡ text_at s at
+pub text_said : (s : Source) (at : ℕ) (mark : Mark) (text : List ℕ) → at < length s.marks.now → mark ≡ get_or s.marks.now at mark
+    → ((line : ℕ) → text ≡ text_of s.bytes.now (token_in s.bytes.now line mark)) → text ≡ text_at s at
 text_said s at mark text within is said =
     said (1 + lines_in (take at s.marks.now)) ∙ sym (ap (token_text s.bytes.now) (token_at s at (Some mark) (read_at s at mark within is)))
 
 pub no_text : (s : Source) (at : ℕ) → length s.marks.now ≤ at → [] ≡ text_at s at
 no_text s at past = sym (ap (token_text s.bytes.now) (token_at s at None (slice_get_past s.marks.now at past)))
 
-pub sign_said : (s : Source) (at : ℕ) (mark : Mark) (said : Sign) → at < length s.marks.now → mark ≡ get_or s.marks.now at mark → said ≡ sign_of (kind_of mark) → said ≡ sign_in (slice_get (file_tokens s) at)
+pub sign_said : (s : Source) (at : ℕ) (mark : Mark) (said : Sign) → at < length s.marks.now → mark ≡ get_or s.marks.now at mark → said ≡ sign_of (kind_of mark)
+    → said ≡ sign_in (slice_get (file_tokens s) at)
 sign_said s at mark said within is of = of ∙ sym (ap sign_in (token_at s at (Some mark) (read_at s at mark within is)))
 
 pub no_sign : (s : Source) (at : ℕ) → length s.marks.now ≤ at → sign.Eq ≡ sign_in (slice_get (file_tokens s) at)

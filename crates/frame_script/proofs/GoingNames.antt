@@ -28,7 +28,8 @@ alike : (ks : List TokenKind) (name : ℕ) (k : Option NameKind) → Stands ks t
 alike ks name None h = tt
 alike ks name (Some k) h = h
 
-made_stands : (s : Source) (names : List Name) (form : OrderForm) → OrderStands (kinds (file_tokens s)) form → MadeStands (kinds (file_tokens s)) (made_by s names form)
+made_stands : (s : Source) (names : List Name) (form : OrderForm) → OrderStands (kinds (file_tokens s)) form
+    → MadeStands (kinds (file_tokens s)) (made_by s names form)
 made_stands s names (NewArray name len life values) h = h.0
 made_stands s names (NewColumn name column life) h = h.0
 made_stands s names (NewList name cap life) h = h.0
@@ -46,7 +47,8 @@ made_stands s names (DisposeAuto name handle) h = h.1
 made_stands s names _ h = tt
 
 -- the text of a token that is a name
-token_is_text : (s : Source) (at : ℕ) → NamesAreText s.bytes.now (file_tokens s) → (o : Option Token) → slice_get (file_tokens s) at ≡ o → option_map (λ t. t.kind) o ≡ Some token.Name → IsUtf8 (token_text s.bytes.now o)
+token_is_text : (s : Source) (at : ℕ) → NamesAreText s.bytes.now (file_tokens s) → (o : Option Token) → slice_get (file_tokens s) at ≡ o
+    → option_map (λ t. t.kind) o ≡ Some token.Name → IsUtf8 (token_text s.bytes.now o)
 token_is_text s at texts None is h = cc
 token_is_text s at texts (Some t) is h =
     let name : t.kind ≡ token.Name = cc in

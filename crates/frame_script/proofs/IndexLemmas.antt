@@ -42,7 +42,8 @@ place_more entries e none q =
 -- the first name of a bucket, after one is the first of its bucket
 first_set : (firsts : List (Option ℕ)) (b c : ℕ) (x : Option ℕ) → b < length firsts → first_of (set firsts b x) c ≡ cond (b == c) x (first_of firsts c)
 first_set firsts b c x within = elim (cases_eq b c) [
-  | inl same ↦ ap (first_of (set firsts b x)) (sym same) ∙ (get_or-set_same firsts b x None within ∙ sym (ap (λ t. cond t x (first_of firsts c)) (eq-eqb b c same)))
+  | inl same ↦ ap (first_of (set firsts b x)) (sym same) ∙ (get_or-set_same firsts b x None within
+      ∙ sym (ap (λ t. cond t x (first_of firsts c)) (eq-eqb b c same)))
   | inr other ↦ get_or-set_other firsts b c x None (λ e. other (sym e)) ∙ sym (ap (λ t. cond t x (first_of firsts c)) (ne_eqb b c other))
 ]
 
@@ -59,7 +60,8 @@ within_more : (b : Bool) (o : Option ℕ) (n p len : ℕ) → n ≡ len → cond
 within_more true o n p len is e old = let same = some_number n p e in omega (arith, is, same)
 within_more false o n p len is e old = omega (arith, old e)
 
-missing_more : (b s : Bool) (o old : Option ℕ) (n m : ℕ) → cond b (Some n) o ≡ None → (o ≡ None → old ≡ None) → (s ≡ true → b ≡ true) → cond s (Some m) old ≡ None
+missing_more : (b s : Bool) (o old : Option ℕ) (n m : ℕ) → cond b (Some n) o ≡ None → (o ≡ None → old ≡ None) → (s ≡ true → b ≡ true)
+    → cond s (Some m) old ≡ None
 missing_more true s o old n m e none same = cc
 missing_more false true o old n m e none same = let no = same refl in cc
 missing_more false false o old n m e none same = none e
@@ -119,7 +121,8 @@ is_last entries e first q p at here =
     ap (λ d. bytes_eq d.text.now q) (sym (some_entry e first last))
 
 -- the first name of a text's bucket is an earlier one
-is_known : (old : List (Option ℕ)) (others : BTreeMap (Bor (List ℕ)) ℕ) (entries : List Entry) (e first : Entry) (q : List ℕ) (p : ℕ) → IsIndex old others entries →
+is_known : (old : List (Option ℕ)) (others : BTreeMap (Bor (List ℕ)) ℕ) (entries : List Entry) (e first : Entry) (q : List ℕ) (p : ℕ)
+    → IsIndex old others entries →
     first_for old q ≡ Some p → slice_get (entries ++ e ∷ []) p ≡ Some first →
     place_in (map known_of entries) q ≡ cond (bytes_eq first.text.now q) (Some p) (other_of others q)
 is_known old others entries e first q p index found here =
@@ -127,7 +130,8 @@ is_known old others entries e first q p index found here =
 
 -- no name is in its bucket: it is the first
 pub index_first : (old : List (Option ℕ)) (others : BTreeMap (Bor (List ℕ)) ℕ) (entries : List Entry) (e : Entry) (bucket place : ℕ) → place ≡ length entries →
-    IsIndex old others entries → length entries < 2 ^ 32 - 1 → bucket ≡ bucket_of (length old) e.text.now → bucket < length old → first_for old e.text.now ≡ None →
+    IsIndex old others entries → length entries < 2 ^ 32 - 1 → bucket ≡ bucket_of (length old) e.text.now → bucket < length old
+    → first_for old e.text.now ≡ None →
     IsIndex (set old bucket (Some place)) others (entries ++ e ∷ [])
 index_first old others entries e bucket place at index room its inside free =
     let absent = index.missing e.text.now free in
@@ -146,27 +150,32 @@ index_first old others entries e bucket place at index room its inside free =
           (within_more (bucket_of (length old) e.text.now == b) (first_of old b) (length entries) p (length entries) refl
           (sym (after b) ∙ found) (index.within b p));
       missing = λ q gone. place_more entries e absent q
-          ∙ missing_more (alike (length old) e q) (bytes_eq e.text.now q) (first_for old q) (place_in (map known_of entries) q) (length entries) (length entries)
+          ∙ missing_more (alike (length old) e q) (bytes_eq e.text.now q) (first_for old q) (place_in (map known_of entries) q) (length entries)
+          (length entries)
           (sym (after_for q) ∙ gone) (index.missing q) (same_bucket (length old) e.text.now q);
       apart = λ q gone. apart_more (alike (length old) e q) (first_for old q) (other_of others q) (length entries) (sym (after_for q) ∙ gone) (index.apart q);
       finds = λ q p first found here. place_more entries e absent q
-          ∙ finds_first (alike (length old) e q) (bytes_eq e.text.now q) (bytes_eq first.text.now q) (first_for old q) (place_in (map known_of entries) q) (other_of others q) (length entries) p
+          ∙ finds_first (alike (length old) e q) (bytes_eq e.text.now q) (bytes_eq first.text.now q) (first_for old q) (place_in (map known_of entries) q)
+          (other_of others q) (length entries) p
           (λ b.
           let none = free_too old e q free b in
           let n = taken (alike (length old) e q) (first_for old q) (length entries) p b (sym (after_for q) ∙ found) in
           (n, is_last entries e first q p n here, index.missing q none, index.apart q none))
           (λ b. (
             not_so (bytes_eq e.text.now q) (alike (length old) e q) (same_bucket (length old) e.text.now q) b,
-            is_known old others entries e first q p index (left (alike (length old) e q) (first_for old q) (Some p) (length entries) b (sym (after_for q) ∙ found)) here,
+            is_known old others entries e first q p index (left (alike (length old) e q) (first_for old q) (Some p) (length entries) b
+                (sym (after_for q) ∙ found)) here,
           ));
     }
 
 -- another name is in its bucket: it is one of the others
-pub index_other : (firsts : List (Option ℕ)) (old new : BTreeMap (Bor (List ℕ)) ℕ) (entries : List Entry) (e : Entry) (place taken_at : ℕ) → place ≡ length entries →
+pub index_other : (firsts : List (Option ℕ)) (old new : BTreeMap (Bor (List ℕ)) ℕ) (entries : List Entry) (e : Entry) (place taken_at : ℕ)
+    → place ≡ length entries →
     IsIndex firsts old entries → length entries < 2 ^ 32 - 1 → first_for firsts e.text.now ≡ Some taken_at → place_in (map known_of entries) e.text.now ≡ None →
     UpdatesBy (λ x y. slice_cmp nat_cmp x.now y.now) (λ k. slice_cmp nat_cmp e.text.now k.now) old new (Some place) → IsIndex firsts new (entries ++ e ∷ [])
 index_other firsts old new entries e place taken_at at index room used absent updates =
-    let other : (q : List ℕ) → other_of new q ≡ cond (bytes_eq e.text.now q) (Some place) (other_of old q) = btree_map_updates_str e.text.now old new (Some place) updates in
+    let other : (q : List ℕ) → other_of new q ≡ cond (bytes_eq e.text.now q) (Some place) (other_of old q) =
+    btree_map_updates_str e.text.now old new (Some place) updates in
     let not_new : (q : List ℕ) → first_for firsts q ≡ None → bytes_eq e.text.now q ≡ false =
     λ q gone. not_so (bytes_eq e.text.now q) (is_some (first_for firsts q))
     (λ s. ap is_some (ap (λ t. first_for firsts t) (sym ((bytes_eq-Decides e.text.now q).0 s)) ∙ used)) (ap is_some gone) in
@@ -179,7 +188,8 @@ index_other firsts old new entries e place taken_at at index room used absent up
           ∙ missing_other (bytes_eq e.text.now q) (place_in (map known_of entries) q) (length entries) (not_new q gone) (index.missing q gone);
       apart = λ q gone. other q ∙ missing_other (bytes_eq e.text.now q) (other_of old q) place (not_new q gone) (index.apart q gone);
       finds = λ q p first found here. place_more entries e absent q
-          ∙ (finds_other (bytes_eq e.text.now q) (bytes_eq first.text.now q) (place_in (map known_of entries) q) (other_of old q) (length entries) place p (sym at)
+          ∙ (finds_other (bytes_eq e.text.now q) (bytes_eq first.text.now q) (place_in (map known_of entries) q) (other_of old q) (length entries) place p
+          (sym at)
           (λ s. subst (λ t. place_in (map known_of entries) t ≡ None) ((bytes_eq-Decides e.text.now q).0 s) absent)
           (is_known firsts old entries e first q p index found here)
           ∙ ap (cond (bytes_eq first.text.now q) (Some p)) (sym (other q)));
@@ -187,12 +197,14 @@ index_other firsts old new entries e place taken_at at index room used absent up
 
 -- LOOK-UPS
 
-entry_at : (firsts : List (Option ℕ)) (others : BTreeMap (Bor (List ℕ)) ℕ) (entries : List Entry) (bucket p : ℕ) (first : Entry) → IsIndex firsts others entries →
+entry_at : (firsts : List (Option ℕ)) (others : BTreeMap (Bor (List ℕ)) ℕ) (entries : List Entry) (bucket p : ℕ) (first : Entry)
+    → IsIndex firsts others entries →
     first_of firsts bucket ≡ Some p → first ≡ get_or entries p first → slice_get entries p ≡ Some first
 entry_at firsts others entries bucket p first index found is = slice_get-get_or entries p first (index.within bucket p found) ∙ ap (λ x. Some x) (sym is)
 
 -- the first name of a text's bucket is the text
-pub found_first : (firsts : List (Option ℕ)) (others : BTreeMap (Bor (List ℕ)) ℕ) (entries : List Entry) (names : List Name) (q : List ℕ) (p : ℕ) (first : Entry) →
+pub found_first : (firsts : List (Option ℕ)) (others : BTreeMap (Bor (List ℕ)) ℕ) (entries : List Entry) (names : List Name) (q : List ℕ) (p : ℕ)
+    (first : Entry) →
     map known_of entries ≡ names → IsIndex firsts others entries → first_for firsts q ≡ Some p → first ≡ get_or entries p first →
     bytes_eq first.text.now q ≡ true → place_in names q ≡ Some p
 found_first firsts others entries names q p first view index found is same =
@@ -201,7 +213,8 @@ found_first firsts others entries names q p first view index found is same =
     ∙ ap (λ b. cond b (Some p) (other_of others q)) same)
 
 -- it is another
-pub found_other : (firsts : List (Option ℕ)) (others : BTreeMap (Bor (List ℕ)) ℕ) (entries : List Entry) (names : List Name) (q : List ℕ) (p : ℕ) (first : Entry) →
+pub found_other : (firsts : List (Option ℕ)) (others : BTreeMap (Bor (List ℕ)) ℕ) (entries : List Entry) (names : List Name) (q : List ℕ) (p : ℕ)
+    (first : Entry) →
     map known_of entries ≡ names → IsIndex firsts others entries → first_for firsts q ≡ Some p → first ≡ get_or entries p first →
     bytes_eq first.text.now q ≡ false → place_in names q ≡ other_of others q
 found_other firsts others entries names q p first view index found is same =

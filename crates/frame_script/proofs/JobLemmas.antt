@@ -45,26 +45,31 @@ not_found p xs h = find_at p xs ∙ slice_get_past xs _ (no_place _ _ h)
 
 -- ARGUMENTS, one after another
 
-args_front : (s : Source) (names : List Name) (sizes : RawSizes) (params : List Param) (args : List RawArg) (i : ℕ) (p : Param) (a : RawArg) → i < length params → i < length args →
+args_front : (s : Source) (names : List Name) (sizes : RawSizes) (params : List Param) (args : List RawArg) (i : ℕ) (p : Param) (a : RawArg) → i < length params
+    → i < length args →
     args_faults s names sizes (drop i params) (drop i args)
     ≡ arg_fault s names sizes (get_or params i p).kind (get_or args i a) ∷ args_faults s names sizes (drop (i + 1) params) (drop (i + 1) args)
 args_front s names sizes params args i p a hp ha =
     rw (add-one i) (ap (λ ps. args_faults s names sizes ps (drop i args)) (drop-cons params i p hp)
     ∙ ap (λ as'. args_faults s names sizes (get_or params i p ∷ drop (suc i) params) as') (drop-cons args i a ha))
 
-pub args_passed : (s : Source) (names : List Name) (sizes : RawSizes) (params : List Param) (args : List RawArg) (i : ℕ) (p : Param) (a : RawArg) (all : Option StaticFault) →
+pub args_passed : (s : Source) (names : List Name) (sizes : RawSizes) (params : List Param) (args : List RawArg) (i : ℕ) (p : Param) (a : RawArg)
+    (all : Option StaticFault) →
     i < length params → i < length args → all ≡ first_some (args_faults s names sizes (drop i params) (drop i args)) →
-    p ≡ get_or params i p → a ≡ get_or args i a → arg_fault s names sizes p.kind a ≡ None → all ≡ first_some (args_faults s names sizes (drop (i + 1) params) (drop (i + 1) args))
+    p ≡ get_or params i p → a ≡ get_or args i a → arg_fault s names sizes p.kind a ≡ None
+    → all ≡ first_some (args_faults s names sizes (drop (i + 1) params) (drop (i + 1) args))
 args_passed s names sizes params args i p a all hp ha is same here none =
     is ∙ (ap first_some (args_front s names sizes params args i p a hp ha)
     ∙ first_next _ _ (ap (λ q. arg_fault s names sizes q.kind (get_or args i a)) (sym same) ∙ ap (arg_fault s names sizes p.kind) (sym here) ∙ none))
 
-pub args_stopped : (s : Source) (names : List Name) (sizes : RawSizes) (params : List Param) (args : List RawArg) (i : ℕ) (p : Param) (a : RawArg) (all : Option StaticFault) (e : OrderFault) →
+pub args_stopped : (s : Source) (names : List Name) (sizes : RawSizes) (params : List Param) (args : List RawArg) (i : ℕ) (p : Param) (a : RawArg)
+    (all : Option StaticFault) (e : OrderFault) →
     i < length params → i < length args → all ≡ first_some (args_faults s names sizes (drop i params) (drop i args)) →
     p ≡ get_or params i p → a ≡ get_or args i a → Refuses (arg_fault s names sizes p.kind a) e → Refuses all e
 args_stopped s names sizes params args i p a all e hp ha is same here r =
     subst (λ o. Refuses o e) (sym (is ∙ ap first_some (args_front s names sizes params args i p a hp ha)))
-    (refuses_here _ _ e (subst (λ q. Refuses (arg_fault s names sizes q.kind (get_or args i a)) e) same (subst (λ x. Refuses (arg_fault s names sizes p.kind x) e) here r)))
+    (refuses_here _ _ e (subst (λ q. Refuses (arg_fault s names sizes q.kind (get_or args i a)) e) same
+    (subst (λ x. Refuses (arg_fault s names sizes p.kind x) e) here r)))
 
 pub args_ended : (s : Source) (names : List Name) (sizes : RawSizes) (params : List Param) (args : List RawArg) (i : ℕ) (all : Option StaticFault) →
     length params ≤ i → all ≡ first_some (args_faults s names sizes (drop i params) (drop i args)) → all ≡ None
@@ -77,12 +82,15 @@ pub waive_unknown : (s : Source) (k : Kernel) (at : ℕ) → position (λ p. byt
     waive_fault s k at ≡ Some (record { at = at; kind = UnknownName })
 waive_unknown s k at h = ap (λ o. waived_fault k.parallel o at) (not_found _ k.params.items h)
 
-pub waive_known : (s : Source) (k : Kernel) (at place : ℕ) (p : Param) → position (λ q. bytes_eq (text_at s at) (string_bytes q.name)) k.params.items ≡ Some place →
+pub waive_known : (s : Source) (k : Kernel) (at place : ℕ) (p : Param) → position
+    (λ q. bytes_eq (text_at s at) (string_bytes q.name)) k.params.items ≡ Some place →
     p ≡ get_or k.params.items place p → waive_fault s k at ≡ unless (k.parallel && (is_array p.kind && writes_to p.access)) KindMismatch at
 waive_known s k at place p h is = ap (λ o. waived_fault k.parallel o at) (found_element _ k.params.items place p h is)
 
-pub waive_refused : (s : Source) (k : Kernel) (at place : ℕ) (p : Param) (e : OrderFault) → position (λ q. bytes_eq (text_at s at) (string_bytes q.name)) k.params.items ≡ Some place →
-    p ≡ get_or k.params.items place p → Refuses (unless (k.parallel && (is_array p.kind && writes_to p.access)) KindMismatch at) e → Refuses (waive_fault s k at) e
+pub waive_refused : (s : Source) (k : Kernel) (at place : ℕ) (p : Param) (e : OrderFault)
+    → position (λ q. bytes_eq (text_at s at) (string_bytes q.name)) k.params.items ≡ Some place →
+    p ≡ get_or k.params.items place p → Refuses (unless (k.parallel && (is_array p.kind && writes_to p.access)) KindMismatch at) e
+    → Refuses (waive_fault s k at) e
 waive_refused s k at place p e h is r = subst (λ o. Refuses o e) (sym (waive_known s k at place p h is)) r
 
 -- a kernel that is found is one of those known

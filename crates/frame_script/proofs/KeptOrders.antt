@@ -36,7 +36,8 @@ two f {a} {b} {c} {d} e g says = says ∙ (ap (λ x. f x c) e ∙ ap (f b) g)
 
 -- MAKING
 
-array : (s : Source) (c : Scope) (names : List Name) (kernels : List Kernel) (name len : ℕ) (life : _) (values : _) → Stays s c names kernels (NewArray name len life values)
+array : (s : Source) (c : Scope) (names : List Name) (kernels : List Kernel) (name len : ℕ) (life : _) (values : _)
+    → Stays s c names kernels (NewArray name len life values)
 array s c names kernels name len life values at literals count o none keeps more says =
     one (λ x. order.Array x (number_at s len) life (literal_of literals values)) (same_made s c.names names name kind.Array keeps) says
 
@@ -45,7 +46,8 @@ column s c names kernels name text life at literals count o none keeps more says
     (says.0, says.1, one (λ x. order.Column x says.0 life) (same_made s c.names names name kind.Array keeps) says.2)
 
 -- the kind of what is copied is known
-copied : (s : Source) (known : List Name) (kinds : List NameKind) (of : ℕ) → use_fault s known kinds of ≡ None → (k : NameKind) × (kind_in known (text_at s of) ≡ Some k)
+copied : (s : Source) (known : List Name) (kinds : List NameKind) (of : ℕ) → use_fault s known kinds of ≡ None
+    → (k : NameKind) × (kind_in known (text_at s of) ≡ Some k)
 copied s known kinds of none = by (kind_in known (text_at s of)) none where
   by : (o : Option NameKind) → misfit o kinds of ≡ None → (k : NameKind) × (o ≡ Some k)
   by None h = absurd cc
@@ -66,7 +68,8 @@ copy s c names kernels name of at literals count o none keeps more says =
 takes_all : (k : Kernel) (args : List RawArg) (cut : RawSizes) → takes k args cut ≡ true → length args ≡ length k.params.items
 takes_all k args cut h = grind (arith, nat_tests)
 
-schedule_known : (s : Source) (c : Scope) (names : List Name) (kernels : List Kernel) (auto : Bool) (handle kernel : ℕ) (args : List RawArg) (cut : RawSizes) (waive after : List ℕ) (k : Kernel) →
+schedule_known : (s : Source) (c : Scope) (names : List Name) (kernels : List Kernel) (auto : Bool) (handle kernel : ℕ) (args : List RawArg) (cut : RawSizes)
+    (waive after : List ℕ) (k : Kernel) →
     kernel_in c.kernels (text_at s kernel) ≡ Some k → first_some (scheduled_faults s c.names (Some k) kernel args cut waive after) ≡ None →
     (at literals count : ℕ) (o : Order) → KeepsNames (names_with s c.names (Some (handle, kind.Handle))) names → KeepsKernels c.kernels kernels →
     Says s (names_with s c.names (Some (handle, kind.Handle))) c.kernels literals count (Schedule auto handle kernel args cut waive after) o →
@@ -94,7 +97,8 @@ schedule_known s c names kernels auto handle kernel args cut waive after k is no
       says,
     )
 
-schedule_by : (s : Source) (c : Scope) (names : List Name) (kernels : List Kernel) (auto : Bool) (handle kernel : ℕ) (args : List RawArg) (cut : RawSizes) (waive after : List ℕ) →
+schedule_by : (s : Source) (c : Scope) (names : List Name) (kernels : List Kernel) (auto : Bool) (handle kernel : ℕ) (args : List RawArg) (cut : RawSizes)
+    (waive after : List ℕ) →
     (k : Option Kernel) → kernel_in c.kernels (text_at s kernel) ≡ k → first_some (scheduled_faults s c.names k kernel args cut waive after) ≡ None →
     (at literals count : ℕ) (o : Order) → KeepsNames (names_with s c.names (Some (handle, kind.Handle))) names → KeepsKernels c.kernels kernels →
     Says s (names_with s c.names (Some (handle, kind.Handle))) c.kernels literals count (Schedule auto handle kernel args cut waive after) o →
@@ -107,8 +111,10 @@ schedule_by s c names kernels auto handle kernel args cut waive after None is no
 -- ALL STATEMENTS
 
 pub says_kept : (s : Source) (c : Scope) (names : List Name) (kernels : List Kernel) (form : OrderForm) → Stays s c names kernels form
-says_kept s c names kernels (NewArray name len life values) at literals count o none keeps more says = array s c names kernels name len life values at literals count o none keeps more says
-says_kept s c names kernels (NewColumn name text life) at literals count o none keeps more says = column s c names kernels name text life at literals count o none keeps more says
+says_kept s c names kernels (NewArray name len life values) at literals count o none keeps more says =
+    array s c names kernels name len life values at literals count o none keeps more says
+says_kept s c names kernels (NewColumn name text life) at literals count o none keeps more says =
+    column s c names kernels name text life at literals count o none keeps more says
 says_kept s c names kernels (NewList name n life) at literals count o none keeps more says =
     one (λ x. order.List x (number_at s n) life) (same_made s c.names names name kind.List keeps) says
 says_kept s c names kernels (NewReference name life value) at literals count o none keeps more says =
@@ -120,7 +126,8 @@ says_kept s c names kernels (NewStream name indexes room life) at literals count
 says_kept s c names kernels (Slice name of start len) at literals count o none keeps more says =
     let p = parted _ _ none in
     let q = parted (use_fault s c.names _ of) _ p.1 in
-    two (λ x y. order.Slice x y (number_at s start) (number_at s len)) (same_made s c.names names name kind.Slice keeps) (same_used s c.names names (made name kind.Slice) _ of keeps q.0) says
+    two (λ x y. order.Slice x y (number_at s start) (number_at s len)) (same_made s c.names names name kind.Slice keeps)
+    (same_used s c.names names (made name kind.Slice) _ of keeps q.0) says
 says_kept s c names kernels (View name of) at literals count o none keeps more says =
     let p = parted _ _ none in
     let q = parted (use_fault s c.names _ of) _ p.1 in
@@ -134,17 +141,20 @@ says_kept s c names kernels (Put name key value) at literals count o none keeps 
     one (λ x. order.Put x (signed_at s key) (signed_at s value)) (same_used s c.names names None _ name keeps (parted _ _ none).0) says
 says_kept s c names kernels (Remove name index) at literals count o none keeps more says =
     one (λ x. order.Remove x (signed_at s index)) (same_used s c.names names None _ name keeps (parted _ _ none).0) says
-says_kept s c names kernels (Clear name) at literals count o none keeps more says = one order.Clear (same_used s c.names names None _ name keeps (parted _ _ none).0) says
+says_kept s c names kernels (Clear name) at literals count o none keeps more says =
+    one order.Clear (same_used s c.names names None _ name keeps (parted _ _ none).0) says
 says_kept s c names kernels (SetCapacity name n) at literals count o none keeps more says =
     one (λ x. order.SetCapacity x (number_at s n)) (same_used s c.names names None _ name keeps (parted _ _ none).0) says
 says_kept s c names kernels (Schedule auto handle kernel args cut waive after) at literals count o none keeps more says =
-    schedule_by s c names kernels auto handle kernel args cut waive after (kernel_in c.kernels (text_at s kernel)) refl (parted _ _ none).1 at literals count o keeps more says
+    schedule_by s c names kernels auto handle kernel args cut waive after (kernel_in c.kernels (text_at s kernel)) refl
+    (parted _ _ none).1 at literals count o keeps more says
 says_kept s c names kernels (Combine name of) at literals count o none keeps more (handles, handles_are, says) = (
   handles,
   handles_are ∙ same_handles s c.names names (made name kind.Handle) of keeps (parted _ _ none).1,
   one (λ x. order.Combine x handles) (same_made s c.names names name kind.Handle keeps) says,
 )
-says_kept s c names kernels (Complete auto name) at literals count o none keeps more says = one (complete_of auto) (same_used s c.names names None _ name keeps (parted _ _ none).0) says
+says_kept s c names kernels (Complete auto name) at literals count o none keeps more says =
+    one (complete_of auto) (same_used s c.names names None _ name keeps (parted _ _ none).0) says
 says_kept s c names kernels (Dispose name after None) at literals count o none keeps more (handles, handles_are, says) =
     let p = parted (use_fault s c.names _ name) _ none in (
       handles,
@@ -159,11 +169,14 @@ says_kept s c names kernels (Dispose name after (Some handle)) at literals count
       two (λ x y. order.Dispose x handles (Some y)) (same_used s c.names names m _ name keeps p.0) (same_made s c.names names handle kind.Handle keeps) says,
     )
 says_kept s c names kernels (DisposeAuto name handle) at literals count o none keeps more says =
-    two order.DisposeAuto (same_used s c.names names (made handle kind.Handle) _ name keeps (parted _ _ none).0) (same_made s c.names names handle kind.Handle keeps) says
-says_kept s c names kernels (Print name) at literals count o none keeps more says = one order.Print (same_used s c.names names None _ name keeps (parted _ _ none).0) says
+    two order.DisposeAuto (same_used s c.names names (made handle kind.Handle) _ name keeps (parted _ _ none).0)
+    (same_made s c.names names handle kind.Handle keeps) says
+says_kept s c names kernels (Print name) at literals count o none keeps more says =
+    one order.Print (same_used s c.names names None _ name keeps (parted _ _ none).0) says
 says_kept s c names kernels Flush at literals count o none keeps more says = says
 says_kept s c names kernels Frame at literals count o none keeps more says = says
 says_kept s c names kernels (Repeat n) at literals count o none keeps more says = says
 says_kept s c names kernels (When name test value) at literals count o none keeps more says =
     let p = parted _ _ none in
-    one (λ x. order.When x (sign_in (slice_get (file_tokens s) test)) (signed_at s value) count) (same_used s c.names names None _ name keeps (parted _ _ p.1).0) says
+    one (λ x. order.When x (sign_in (slice_get (file_tokens s) test)) (signed_at s value) count)
+    (same_used s c.names names None _ name keeps (parted _ _ p.1).0) says

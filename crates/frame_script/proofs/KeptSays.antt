@@ -40,7 +40,8 @@ holds false kind at h = cc
 abbrev pub Has : Source → List Name → ℕ → Type 0
 Has s names at = (place : ℕ) × (place_in names (text_at s at) ≡ Some place)
 
-used_by : (s : Source) (names : List Name) (kinds : List NameKind) (at : ℕ) → use_fault s names kinds at ≡ None → (o : Option ℕ) → place_in names (text_at s at) ≡ o → Has s names at
+used_by : (s : Source) (names : List Name) (kinds : List NameKind) (at : ℕ) → use_fault s names kinds at ≡ None → (o : Option ℕ)
+    → place_in names (text_at s at) ≡ o → Has s names at
 used_by s names kinds at h (Some place) e = (place, e)
 used_by s names kinds at h None e =
     let bad : misfit None kinds at ≡ None = subst (λ o. misfit o kinds at ≡ None) (kind_missing names (text_at s at) e) h in absurd cc
@@ -52,7 +53,8 @@ pub still : (s : Source) (names : List Name) (at : ℕ) (m : Option (ℕ × Name
 still s names at None has = has
 still s names at (Some m) has = (has.0, place_kept names (text_at s m.0) (text_at s at) m.1 has.0 has.1)
 
-made_by : (s : Source) (names : List Name) (at : ℕ) (kind : NameKind) → (o : Option ℕ) → place_in names (text_at s at) ≡ o → Has s (names_with s names (Some (at, kind))) at
+made_by : (s : Source) (names : List Name) (at : ℕ) (kind : NameKind) → (o : Option ℕ) → place_in names (text_at s at) ≡ o
+    → Has s (names_with s names (Some (at, kind))) at
 made_by s names at kind (Some place) e = (place, place_kept names (text_at s at) (text_at s at) kind place e)
 made_by s names at kind None e = (length names, new_place names (text_at s at) kind e)
 
@@ -80,23 +82,28 @@ pub same_handles : (s : Source) (names final : List Name) (m : Option (ℕ × Na
 same_handles s names final m [] keeps h = refl
 same_handles s names final m (at ∷ ats) keeps h =
     let p = parted (use_fault s names (_) at) (handles_faults s names ats) h in
-    pair_same (place_of s (names_with s names m) at) (place_of s final at) _ _ (same_used s names final m _ at keeps p.0) (same_handles s names final m ats keeps p.1)
+    pair_same (place_of s (names_with s names m) at) (place_of s final at) _ _ (same_used s names final m _ at keeps p.0)
+    (same_handles s names final m ats keeps p.1)
 
 -- ARGUMENTS AND SIZES
 
-same_arg : (s : Source) (names final : List Name) (m : Option (ℕ × NameKind)) (cut : RawSizes) (p : Param) (a : RawArg) → KeepsNames (names_with s names m) final →
+same_arg : (s : Source) (names final : List Name) (m : Option (ℕ × NameKind)) (cut : RawSizes) (p : Param) (a : RawArg)
+    → KeepsNames (names_with s names m) final →
     arg_fault s names cut p.kind a ≡ None → arg_of s (names_with s names m) a ≡ arg_of s final a
 same_arg s names final m cut p (arg.Name at) keeps h = ap (λ n. given.Name n) (same_used s names final m _ at keeps h)
 same_arg s names final m cut p (arg.Number n) keeps h = refl
 
-pub same_args : (s : Source) (names final : List Name) (m : Option (ℕ × NameKind)) (cut : RawSizes) (params : List Param) (args : List RawArg) → KeepsNames (names_with s names m) final →
-    length args ≡ length params → first_some (args_faults s names cut params args) ≡ None → map (arg_of s (names_with s names m)) args ≡ map (arg_of s final) args
+pub same_args : (s : Source) (names final : List Name) (m : Option (ℕ × NameKind)) (cut : RawSizes) (params : List Param) (args : List RawArg)
+    → KeepsNames (names_with s names m) final →
+    length args ≡ length params → first_some (args_faults s names cut params args) ≡ None
+    → map (arg_of s (names_with s names m)) args ≡ map (arg_of s final) args
 same_args s names final m cut params [] keeps same h = refl
 same_args s names final m cut [] (a ∷ args) keeps same h = cc
 same_args s names final m cut (p ∷ params) (a ∷ args) keeps same h =
     let r = parted (arg_fault s names cut p.kind a) (args_faults s names cut params args) h in
     let e : length args ≡ length params = omega (arith, same) in
-    pair_same (arg_of s (names_with s names m) a) (arg_of s final a) _ _ (same_arg s names final m cut p a keeps r.0) (same_args s names final m cut params args keeps e r.1)
+    pair_same (arg_of s (names_with s names m) a) (arg_of s final a) _ _ (same_arg s names final m cut p a keeps r.0)
+    (same_args s names final m cut params args keeps e r.1)
 
 pub same_defer : (s : Source) (names final : List Name) (m : Option (ℕ × NameKind)) (cut : RawSizes) → KeepsNames (names_with s names m) final →
     first_some (sizes_faults s names cut) ≡ None → defer_of s (names_with s names m) cut ≡ defer_of s final cut

@@ -43,10 +43,12 @@ called_from text (k ∷ ks) n h =
     rw other (called_from text ks (n + 1) both.1)
 
 -- no known kernel has the name of one that has no fault
-pub name_free : (raw : RawKernel) (kernels : List Kernel) (text : List ℕ) → first_fault raw kernels ≡ None → text ≡ text_at raw raw.name → kernel_at kernels text ≡ None
+pub name_free : (raw : RawKernel) (kernels : List Kernel) (text : List ℕ) → first_fault raw kernels ≡ None → text ≡ text_at raw raw.name
+    → kernel_at kernels text ≡ None
 name_free raw kernels text none is =
     let name = text_at raw raw.name in
-    let first = option_or-none (fault_at raw.name (kernel_name_fault kernels name)) (option_or (params_fault raw 0 raw.params.items) (nodes_fault raw 0 raw.nodes.items)) none in
+    let first = option_or-none (fault_at raw.name (kernel_name_fault kernels name))
+    (option_or (params_fault raw 0 raw.params.items) (nodes_fault raw 0 raw.nodes.items)) none in
     let clear = fault_at-none raw.name (kernel_name_fault kernels name) first.0 in
     let any = list_any (λ k. bytes_eq (string_bytes k.name) name) kernels in
     let rest = lowest (some_if (_) Limit) (length_fault name) in
@@ -54,7 +56,8 @@ name_free raw kernels text none is =
     subst (λ t. kernel_at kernels t ≡ None) (sym is) (position_from-zero (λ k. bytes_eq name (string_bytes k.name)) kernels ∙ called_from name kernels 0 other)
 
 -- the raw form of a kernel of a file
-pub raw_of : (s : Source) (events : List Event) (raw : RawKernel) → raw.source.now ≡ s.bytes.now → raw.marks.now ≡ s.marks.now → raw.line ≡ 1 → SpellsRaw events raw → IsRawOf s events raw
+pub raw_of : (s : Source) (events : List Event) (raw : RawKernel) → raw.source.now ≡ s.bytes.now → raw.marks.now ≡ s.marks.now → raw.line ≡ 1
+    → SpellsRaw events raw → IsRawOf s events raw
 raw_of s events raw source marks line spells = record { source = source; marks = marks; line = line; spells = spells }
 
 -- its tokens are those of the file
@@ -66,7 +69,8 @@ same_tokens s events raw is =
 
 -- a token of a kernel is one of the file
 pub same_text : (s : Source) (events : List Event) (raw : RawKernel) (at : ℕ) → IsRawOf s events raw → said_at s at ≡ text_at raw at
-same_text s events raw at is = sym (ap (λ bytes. token_text bytes (slice_get (raw_tokens raw) at)) is.source ∙ ap (λ ts. token_text s.bytes.now (slice_get ts at)) (same_tokens s events raw is))
+same_text s events raw at is = sym (ap (λ bytes. token_text bytes (slice_get (raw_tokens raw) at)) is.source
+    ∙ ap (λ ts. token_text s.bytes.now (slice_get ts at)) (same_tokens s events raw is))
 
 refused_for : (s : Source) (events : List Event) (raw : RawKernel) (known : List Kernel) (line : ℕ) (kind : FaultKind) → IsRawOf s events raw →
     (o : Option StaticFault) → first_fault raw known ≡ o → TellsFault raw o (Refused line kind) → RefusesKernel s events known line kind

@@ -34,7 +34,6 @@ pub mod JobLemmas
 pub mod ScheduleLemmas
 pub mod OrderLemmas
 pub mod KernelLemmas
-pub mod MeasureLemmas
 pub mod AcceptingPlaces
 pub mod AcceptingNames
 pub mod AcceptingFits

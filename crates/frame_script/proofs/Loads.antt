@@ -52,7 +52,8 @@ whole_faultless : (s : Source) (whole : RawItems) (w : Walk) → IsAt s whole w 
 whole_faultless s whole w is =
     is.faultless (scope_of w) (subst (λ bs. LeftFaultless s (scope_of w) bs (Nothing ∷ []) (scope_of w)) (sym (closed w Nothing is.deep)) nothing)
 
-whole_written : (s : Source) (whole : RawItems) (w : Walk) → IsAt s whole w (Nothing ∷ []) → Completes s w.names w.kernels (length w.literals.items) w.written (Nothing ∷ []) whole
+whole_written : (s : Source) (whole : RawItems) (w : Walk) → IsAt s whole w (Nothing ∷ [])
+    → Completes s w.names w.kernels (length w.literals.items) w.written (Nothing ∷ []) whole
 whole_written s whole w is = is.written w.names w.kernels (λ text place h. h) (λ text k h. (h, refl))
 
 pub script_read : (s : Source) (events : List Event) (w : Walk) (script : Script) (t : IsThrough s events w) → Gathers w script → IsScriptOf s t.whole script
@@ -70,7 +71,8 @@ within_room s events w script t g = (ends_within g.within (whole_written s t.who
 
 checked_at : (kernels : List CheckedKernel) → All IsChecked kernels → (k : ℕ) (it : CheckedKernel) → slice_get kernels k ≡ Some it → IsChecked it
 checked_at kernels all k it h =
-    subst IsChecked (sym (unwrap_or-slice_get kernels k it) ∙ ap (λ o. unwrap_or o it) h) (All-get_or IsChecked kernels k it (slice_get_within kernels k it h) all)
+    subst IsChecked (sym (unwrap_or-slice_get kernels k it) ∙ ap (λ o. unwrap_or o it) h)
+    (All-get_or IsChecked kernels k it (slice_get_within kernels k it h) all)
 
 pub script_accepted : (s : Source) (events : List Event) (w : Walk) (script : Script) → IsThrough s events w → Gathers w script → IsAccepted script
 script_accepted s events w script t g =
@@ -88,15 +90,18 @@ pub record IsRead (bytes : List ℕ) (s : Source) (events : List Event) : Type 0
   pub sentence : IsOnlySentence File (kinds (tokens_of bytes)) read events
 
 -- what the parser answers of the tokens that the lexer answers: they are all, since they are a file
-pub read_of : (bytes : List ℕ) (s : Source) (marks : List Mark) (read : ℕ) (notes found : List Note) → s.bytes.now ≡ bytes → marks ≡ s.marks.now → tokens_in bytes 1 marks ≡ up_to_bad (tokens_of bytes) →
+pub read_of : (bytes : List ℕ) (s : Source) (marks : List Mark) (read : ℕ) (notes found : List Note) → s.bytes.now ≡ bytes → marks ≡ s.marks.now
+    → tokens_in bytes 1 marks ≡ up_to_bad (tokens_of bytes) →
     All IsOfKind marks → notes ≡ found → IsOnlySentence File (map kind_of marks) read (events_of found) → IsRead bytes s (events_of notes)
 read_of bytes s marks read notes found bytes_are marks_are lexed_is exact derived sentence =
     let events = events_of notes in
     let tokens_are : file_tokens s ≡ up_to_bad (tokens_of bytes) =
     ap (λ b. tokens_in b 1 s.marks.now) bytes_are ∙ ap (tokens_in bytes 1) (sym marks_are) ∙ lexed_is in
     let there : IsOnlySentence File (kinds (file_tokens s)) read events =
-    subst (λ ks. IsOnlySentence File ks read events) (kinds_in_file s marks marks_are) (subst (λ ns. IsOnlySentence File (map kind_of marks) read (events_of ns)) (sym derived) sentence) in
-    let all : file_tokens s ≡ tokens_of bytes = tokens_are ∙ lexed_file_is_whole bytes read events (subst (λ ts. IsOnlySentence File (kinds ts) read events) tokens_are there) in
+    subst (λ ks. IsOnlySentence File ks read events) (kinds_in_file s marks marks_are)
+    (subst (λ ns. IsOnlySentence File (map kind_of marks) read (events_of ns)) (sym derived) sentence) in
+    let all : file_tokens s ≡ tokens_of bytes = tokens_are ∙ lexed_file_is_whole bytes read events
+    (subst (λ ts. IsOnlySentence File (kinds ts) read events) tokens_are there) in
     record {
       bytes_are = bytes_are;
       tokens_are = all;
@@ -105,10 +110,20 @@ read_of bytes s marks read notes found bytes_are marks_are lexed_is exact derive
       sentence = subst (λ ts. IsOnlySentence File (kinds ts) read events) all there;
     }
 
-has_items : (bytes : List ℕ) (s : Source) (events : List Event) (items : RawItems) → IsRead bytes s events → SpellsItems true events items → HasItems bytes s items
-has_items bytes s events items r spells = record { bytes_are = r.bytes_are; tokens_are = r.tokens_are; exact = r.exact; read = r.read; events = events; sentence = r.sentence; spells = spells }
+has_items : (bytes : List ℕ) (s : Source) (events : List Event) (items : RawItems) → IsRead bytes s events → SpellsItems true events items
+    → HasItems bytes s items
+has_items bytes s events items r spells = record {
+  bytes_are = r.bytes_are;
+  tokens_are = r.tokens_are;
+  exact = r.exact;
+  read = r.read;
+  events = events;
+  sentence = r.sentence;
+  spells = spells;
+}
 
-pub spelled : (bytes : List ℕ) (s : Source) (events : List Event) (w : Walk) (script : Script) → IsRead bytes s events → IsThrough s events w → Gathers w script → Spells bytes script
+pub spelled : (bytes : List ℕ) (s : Source) (events : List Event) (w : Walk) (script : Script) → IsRead bytes s events → IsThrough s events w → Gathers w script
+    → Spells bytes script
 spelled bytes s events w script r t g = record {
   source = s;
   items = t.whole;
@@ -117,7 +132,8 @@ spelled bytes s events w script r t g = record {
   script_is = script_read s events w script t g;
 }
 
-pub no_syntax : (bytes : List ℕ) (marks : List Mark) (place line : ℕ) → tokens_in bytes 1 marks ≡ up_to_bad (tokens_of bytes) → IsFault File (map kind_of marks) place → line ≡ token_line (slice_get (tokens_in bytes 1 marks) place) →
+pub no_syntax : (bytes : List ℕ) (marks : List Mark) (place line : ℕ) → tokens_in bytes 1 marks ≡ up_to_bad (tokens_of bytes)
+    → IsFault File (map kind_of marks) place → line ≡ token_line (slice_get (tokens_in bytes 1 marks) place) →
     IsRefused bytes line Syntax
 no_syntax bytes marks place line lexed fault is =
     let there = subst (λ ks. IsFault File ks place) (sym (kinds-tokens_in bytes 1 marks) ∙ ap kinds lexed) fault in
@@ -137,15 +153,18 @@ no_syntax bytes marks place line lexed fault is =
     })
 
 -- the token with which the parser stops is reported by its line
-pub stopped : (bytes : List ℕ) (marks : List Mark) (error : ParseError) (refused : LoadFault) (line : ℕ) (kind : FaultKind) → tokens_in bytes 1 marks ≡ up_to_bad (tokens_of bytes) →
-    refused ≡ refusal_of error (tokens_in bytes 1 marks) → ((place : ℕ) → error ≡ stop.Syntax place → IsFault File (map kind_of marks) place) → refused ≡ load.Refused line kind → IsRefused bytes line kind
+pub stopped : (bytes : List ℕ) (marks : List Mark) (error : ParseError) (refused : LoadFault) (line : ℕ) (kind : FaultKind)
+    → tokens_in bytes 1 marks ≡ up_to_bad (tokens_of bytes) →
+    refused ≡ refusal_of error (tokens_in bytes 1 marks) → ((place : ℕ) → error ≡ stop.Syntax place → IsFault File (map kind_of marks) place)
+    → refused ≡ load.Refused line kind → IsRefused bytes line kind
 stopped bytes marks stop.Memory refused line kind lexed is fault reported = let clash = sym is ∙ reported in cc
 stopped bytes marks (stop.Syntax place) refused line kind lexed is fault reported =
     let same : load.Refused (token_line (slice_get (tokens_in bytes 1 marks) place)) Syntax ≡ load.Refused line kind = sym is ∙ reported in
     let kind_same : Syntax ≡ kind = cc in
     subst (IsRefused bytes line) kind_same (no_syntax bytes marks place line lexed (fault place refl) cc)
 
-pub refused_statically : (bytes : List ℕ) (s : Source) (events : List Event) (line : ℕ) (kind : FaultKind) → IsRead bytes s events → RefusesItems s events line kind → IsRefused bytes line kind
+pub refused_statically : (bytes : List ℕ) (s : Source) (events : List Event) (line : ℕ) (kind : FaultKind) → IsRead bytes s events
+    → RefusesItems s events line kind → IsRefused bytes line kind
 refused_statically bytes s events line kind r f = static (record {
   source = s;
   items = f.whole;
@@ -156,7 +175,8 @@ refused_statically bytes s events line kind r f = static (record {
   of_kind = f.of_kind;
 })
 
-pub refused_as_long : (bytes : List ℕ) (s : Source) (events : List Event) (w : Walk) (line : ℕ) (kind : FaultKind) → IsRead bytes s events → IsThrough s events w →
+pub refused_as_long : (bytes : List ℕ) (s : Source) (events : List Event) (w : Walk) (line : ℕ) (kind : FaultKind) → IsRead bytes s events
+    → IsThrough s events w →
     kind ≡ TooLong → w.written.over ≡ Some line → IsRefused bytes line kind
 refused_as_long bytes s events w line kind r t is over =
     let e = ends_over over (whole_written s t.whole w t.is) in

@@ -53,7 +53,8 @@ says_made s names after kernels literals count (DisposeAuto name handle) o at ki
 says_made s names after kernels literals count _ o at kind e is = cc
 
 -- a name that stands among those known before is no new one
-before : (s : Source) (names : List Name) (kind : NameKind) (at place : ℕ) → place ≡ place_of s (names_with s names (Some (at, kind))) at → place < length names →
+before : (s : Source) (names : List Name) (kind : NameKind) (at place : ℕ) → place ≡ place_of s (names_with s names (Some (at, kind))) at
+    → place < length names →
     (o : Option ℕ) → place_in names (text_at s at) ≡ o →
     names ≡ (if is_some o then names else names ++ record { text = text_at s at; kind = kind } ∷ [])
 before s names kind at place is within (Some n) found = refl
@@ -61,7 +62,8 @@ before s names kind at place is within None none =
     let new : length names ≡ place = first_made s names kind at none ∙ sym is in
     absurd (omega (arith, new, within))
 
-pub known_before : (s : Source) (names : List Name) (kind : NameKind) (at place : ℕ) → Some place ≡ Some (place_of s (names_with s names (Some (at, kind))) at) → place < length names →
+pub known_before : (s : Source) (names : List Name) (kind : NameKind) (at place : ℕ) → Some place ≡ Some (place_of s (names_with s names (Some (at, kind))) at)
+    → place < length names →
     names ≡ names_with s names (Some (at, kind))
 known_before s names kind at place is within =
     before s names kind at place (ap (λ o. unwrap_or o 0) is) within (place_in names (text_at s at)) refl

@@ -20,7 +20,8 @@ pub noted_at : (notes : List Note) (i : ℕ) (d : Note) (e : Event) → i < leng
 noted_at notes i d e within is = get_or-map event_of notes i d e within ∙ sym is
 
 -- the event at a place, and those behind it
-pub noted_next : (notes : List Note) (i : ℕ) (d : Note) (e : Event) → i < length notes → e ≡ event_of (get_or notes i d) → drop i (events_of notes) ≡ e ∷ drop (i + 1) (events_of notes)
+pub noted_next : (notes : List Note) (i : ℕ) (d : Note) (e : Event) → i < length notes → e ≡ event_of (get_or notes i d)
+    → drop i (events_of notes) ≡ e ∷ drop (i + 1) (events_of notes)
 noted_next notes i d e within is =
     drop_more (events_of notes) i e (noted_within notes i within)
     ∙ ap (λ x. x ∷ drop (i + 1) (events_of notes)) (noted_at notes i d e within is)

@@ -19,10 +19,12 @@ two : (es es' rest : List Event) → (es ++ es') ++ rest ≡ es ++ (es' ++ rest)
 two es es' rest = append_assoc es es' rest
 
 values_read : (x n : ℕ) (life : Life) (q : ℕ) (rest : List Event) {events : List Event} {values : Option (List RawNumber)} → SpellsValues events values →
-    order_from (reading (record no_words { names = record no_names { last = x }; numbers = record no_numbers { last = n }; life = life }) [] [] []) (events ++ on action.ArrayStatement q ∷ rest)
+    order_from (reading (record no_words { names = record no_names { last = x }; numbers = record no_numbers { last = n }; life = life }) [] [] [])
+    (events ++ on action.ArrayStatement q ∷ rest)
     ≡ Some (NewArray x n life values, rest)
 values_read x n life q rest {events} (none p e) =
-    of_events (reading (record no_words { names = record no_names { last = x }; numbers = record no_numbers { last = n }; life = life }) [] [] []) events (on action.NoValues p ∷ []) (on action.ArrayStatement q ∷ rest) e
+    of_events (reading (record no_words { names = record no_names { last = x }; numbers = record no_numbers { last = n }; life = life }) [] [] []) events
+    (on action.NoValues p ∷ []) (on action.ArrayStatement q ∷ rest) e
 values_read x n life q rest {events} (some o c es s e) =
     let w = record no_words { names = record no_names { last = x }; numbers = record no_numbers { last = n }; life = life } in
     let r = reading w [] [] [] in
@@ -38,14 +40,16 @@ values_read x n life q rest {events} (some o c es s e) =
 
 abbrev schedule_events : (h k o c q : ℕ) (as' ss ws fs : List Event) → List Event
 schedule_events h k o c q as' ss ws fs =
-    on action.Name h ∷ on action.Name k ∷ on action.OpenArguments o ∷ as' ++ (on action.CloseArguments c ∷ ss ++ (ws ++ (fs ++ on action.ScheduleStatement q ∷ [])))
+    on action.Name h ∷ on action.Name k ∷ on action.OpenArguments o ∷ as'
+    ++ (on action.CloseArguments c ∷ ss ++ (ws ++ (fs ++ on action.ScheduleStatement q ∷ [])))
 
 clauses : (c : Event) (as' ss ws fs es rest : List Event) → (as' ++ (c ∷ ss ++ (ws ++ (fs ++ es)))) ++ rest ≡ as' ++ (c ∷ ss ++ (ws ++ (fs ++ (es ++ rest))))
 clauses c as' ss ws fs es rest = simp append_assoc
 
 schedule_read : (auto : Bool) (h k o c q : ℕ) (as' ss ws fs rest : List Event) {args : List RawArg} {cut : RawSizes} {waive after : List ℕ} →
     SpellsArgs as' args → SpellsSizes ss cut → SpellsWaived ws waive → SpellsAfter fs after →
-    order_from (reading (record no_words { auto = auto }) [] [] []) (schedule_events h k o c q as' ss ws fs ++ rest) ≡ Some (Schedule auto h k args cut waive after, rest)
+    order_from (reading (record no_words { auto = auto }) [] [] []) (schedule_events h k o c q as' ss ws fs ++ rest) ≡ Some
+    (Schedule auto h k args cut waive after, rest)
 schedule_read auto h k o c q as' ss ws fs rest {args} {cut} {waive} {after} a s v f =
     let end = on action.ScheduleStatement q ∷ rest in
     let w = record no_words { auto = auto; names = record no_names { before_last = h; last = k; handle = h; kernel = k } } in
@@ -64,7 +68,8 @@ schedule_read auto h k o c q as' ss ws fs rest {args} {cut} {waive} {after} a s 
     ∙ ap (λ y. Some (Schedule auto y f'.names.kernel args cut waive after, rest)) (f'.handle ∙ v'.handle ∙ s'.handle ∙ a'.handle)
     ∙ ap (λ y. Some (Schedule auto h y args cut waive after, rest)) (f'.kernel ∙ v'.kernel ∙ s'.kernel ∙ a'.kernel)
 
-pub order_read : {events : List Event} {form : OrderForm} → SpellsOrder events form → (rest : List Event) → order_from nothing_read (events ++ rest) ≡ Some (form, rest)
+pub order_read : {events : List Event} {form : OrderForm} → SpellsOrder events form → (rest : List Event)
+    → order_from nothing_read (events ++ rest) ≡ Some (form, rest)
 order_read {events} (array {x = x} {n = n} {life = life} a p q vs l v e) rest =
     let w = record no_words { names = record no_names { last = x }; numbers = record no_numbers { last = n } } in
     let end = on action.ArrayStatement q ∷ rest in
@@ -98,15 +103,18 @@ order_read {events} (stream {x = x} {n = n} {m = m} a p q l e) rest =
     ∙ life_read w [] [] [] (on action.StreamStatement q ∷ rest) p l
 order_read {events} (slice {x = x} {y = y} {n = n} {m = m} q e) rest =
     of_events nothing_read events (on action.Name x ∷ on action.Name y ∷ on action.Number n ∷ on action.Number m ∷ on action.SliceStatement q ∷ []) rest e
-order_read {events} (view {x = x} {y = y} q e) rest = of_events nothing_read events (on action.Name x ∷ on action.Name y ∷ on action.ViewStatement q ∷ []) rest e
-order_read {events} (copy {x = x} {y = y} q e) rest = of_events nothing_read events (on action.Name x ∷ on action.Name y ∷ on action.CopyStatement q ∷ []) rest e
+order_read {events} (view {x = x} {y = y} q e) rest = of_events nothing_read events
+    (on action.Name x ∷ on action.Name y ∷ on action.ViewStatement q ∷ []) rest e
+order_read {events} (copy {x = x} {y = y} q e) rest = of_events nothing_read events
+    (on action.Name x ∷ on action.Name y ∷ on action.CopyStatement q ∷ []) rest e
 order_read {events} (set {x = x} {at = at} {value = value} q is vs i v e) rest =
     let w = record no_words { names = record no_names { last = x } } in
     let end = on action.SetStatement q ∷ rest in
     let m = maybe_read w [] [] [] (vs ++ end) i in
     let s = signed_read (reading (record w { numbers = m.numbers }) [] [] []) end v in
     of_events nothing_read events (on action.Name x ∷ is ++ (vs ++ on action.SetStatement q ∷ [])) rest e
-    ∙ ap (λ y. order_from (reading w [] [] []) y) (two is (vs ++ on action.SetStatement q ∷ []) rest ∙ ap (λ y. is ++ y) (two vs (on action.SetStatement q ∷ []) rest))
+    ∙ ap (λ y. order_from (reading w [] [] []) y) (two is (vs ++ on action.SetStatement q ∷ []) rest
+    ∙ ap (λ y. is ++ y) (two vs (on action.SetStatement q ∷ []) rest))
     ∙ m.read
     ∙ s.read
     ∙ ap (λ y. Some (Set x y (signed_of s.numbers.signed), rest)) (s.before_last ∙ m.is)
@@ -117,7 +125,8 @@ order_read {events} (add {x = x} {first = first} {second = second} q is vs i v e
     let s = signed_read (reading w [] [] []) (vs ++ end) i in
     let m = maybe_read (record w { numbers = s.numbers }) [] [] [] end v in
     of_events nothing_read events (on action.Name x ∷ is ++ (vs ++ on action.AddToStatement q ∷ [])) rest e
-    ∙ ap (λ y. order_from (reading w [] [] []) y) (two is (vs ++ on action.AddToStatement q ∷ []) rest ∙ ap (λ y. is ++ y) (two vs (on action.AddToStatement q ∷ []) rest))
+    ∙ ap (λ y. order_from (reading w [] [] []) y) (two is (vs ++ on action.AddToStatement q ∷ []) rest
+    ∙ ap (λ y. is ++ y) (two vs (on action.AddToStatement q ∷ []) rest))
     ∙ s.read
     ∙ m.read
     ∙ ap (λ y. Some (Add x (signed_of y) m.numbers.signed, rest)) (m.before_last ∙ s.is)
@@ -128,7 +137,8 @@ order_read {events} (put {x = x} {key = key} {value = value} q is vs i v e) rest
     let s = signed_read (reading w [] [] []) (vs ++ end) i in
     let t = signed_read (reading (record w { numbers = s.numbers }) [] [] []) end v in
     of_events nothing_read events (on action.Name x ∷ is ++ (vs ++ on action.PutStatement q ∷ [])) rest e
-    ∙ ap (λ y. order_from (reading w [] [] []) y) (two is (vs ++ on action.PutStatement q ∷ []) rest ∙ ap (λ y. is ++ y) (two vs (on action.PutStatement q ∷ []) rest))
+    ∙ ap (λ y. order_from (reading w [] [] []) y) (two is (vs ++ on action.PutStatement q ∷ []) rest
+    ∙ ap (λ y. is ++ y) (two vs (on action.PutStatement q ∷ []) rest))
     ∙ s.read
     ∙ t.read
     ∙ ap (λ y. Some (Put x (signed_of y) (signed_of t.numbers.signed), rest)) (t.before_last ∙ s.is)
@@ -141,11 +151,13 @@ order_read {events} (remove {x = x} {at = at} q is i e) rest =
     ∙ s.read
     ∙ ap (λ y. Some (Remove x (signed_of y), rest)) s.is
 order_read {events} (clear {x = x} q e) rest = of_events nothing_read events (on action.Name x ∷ on action.ClearOutStatement q ∷ []) rest e
-order_read {events} (set_capacity {x = x} {n = n} q e) rest = of_events nothing_read events (on action.Name x ∷ on action.Number n ∷ on action.SetCapacityStatement q ∷ []) rest e
+order_read {events} (set_capacity {x = x} {n = n} q e) rest = of_events nothing_read events
+    (on action.Name x ∷ on action.Number n ∷ on action.SetCapacityStatement q ∷ []) rest e
 order_read {events} (schedule {auto = true} {h = h} {k = k} {args = args} {cut = cut} {waive = waive} {after = after} u o c q as' ss ws fs a s v f e) rest =
     of_events nothing_read events (on action.Auto u ∷ schedule_events h k o c q as' ss ws fs) rest e ∙ schedule_read true h k o c q as' ss ws fs rest a s v f
 order_read {events} (schedule {auto = false} {h = h} {k = k} {args = args} {cut = cut} {waive = waive} {after = after} u o c q as' ss ws fs a s v f e) rest =
-    of_events nothing_read events (on action.NotAuto u ∷ schedule_events h k o c q as' ss ws fs) rest e ∙ schedule_read false h k o c q as' ss ws fs rest a s v f
+    of_events nothing_read events (on action.NotAuto u ∷ schedule_events h k o c q as' ss ws fs) rest e
+    ∙ schedule_read false h k o c q as' ss ws fs rest a s v f
 order_read {events} (combine {x = x} {of = of} o q e) rest =
     let r = reading (record no_words { names = record no_names { last = x } }) [] [] [] in
     let all = names_read of (record no_words { names = record no_names { last = x; opener = x } }) [] [] [] (on action.CombineStatement q ∷ rest) in
@@ -153,8 +165,10 @@ order_read {events} (combine {x = x} {of = of} o q e) rest =
     ∙ ap (λ y. order_from r (on action.OpenNames o ∷ y)) (two (names_events of) (on action.CombineStatement q ∷ []) rest)
     ∙ all.read
     ∙ ap (λ y. Some (Combine y of, rest)) all.opener
-order_read {events} (complete {auto = true} {x = x} u q e) rest = of_events nothing_read events (on action.Auto u ∷ on action.Name x ∷ on action.CompleteStatement q ∷ []) rest e
-order_read {events} (complete {auto = false} {x = x} u q e) rest = of_events nothing_read events (on action.NotAuto u ∷ on action.Name x ∷ on action.CompleteStatement q ∷ []) rest e
+order_read {events} (complete {auto = true} {x = x} u q e) rest = of_events nothing_read events
+    (on action.Auto u ∷ on action.Name x ∷ on action.CompleteStatement q ∷ []) rest e
+order_read {events} (complete {auto = false} {x = x} u q e) rest = of_events nothing_read events
+    (on action.NotAuto u ∷ on action.Name x ∷ on action.CompleteStatement q ∷ []) rest e
 order_read {events} (dispose {x = x} q e) rest = of_events nothing_read events (on action.Name x ∷ on action.DisposeStatement q ∷ []) rest e
 order_read {events} (dispose_after {x = x} {y = y} {h = h} {ys = ys} o a q e) rest =
     let r = reading (record no_words { names = record no_names { last = x } }) [] [] [] in
@@ -164,7 +178,8 @@ order_read {events} (dispose_after {x = x} {y = y} {h = h} {ys = ys} o a q e) re
     ∙ ap (λ z. order_from r (on action.OpenNames o ∷ z)) (two (names_events (y ∷ ys)) last rest)
     ∙ all.read
     ∙ ap (λ z. Some (Dispose z (y ∷ ys) (Some h), rest)) all.opener
-order_read {events} (dispose_auto {x = x} {h = h} q e) rest = of_events nothing_read events (on action.Name x ∷ on action.Name h ∷ on action.DisposeAutoStatement q ∷ []) rest e
+order_read {events} (dispose_auto {x = x} {h = h} q e) rest = of_events nothing_read events
+    (on action.Name x ∷ on action.Name h ∷ on action.DisposeAutoStatement q ∷ []) rest e
 order_read {events} (print {x = x} q e) rest = of_events nothing_read events (on action.Name x ∷ on action.PrintStatement q ∷ []) rest e
 order_read {events} (flush q e) rest = of_events nothing_read events (on action.FlushStatement q ∷ []) rest e
 order_read {events} (frame q e) rest = of_events nothing_read events (on action.FrameStatement q ∷ []) rest e

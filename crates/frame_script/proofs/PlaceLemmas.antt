@@ -49,14 +49,16 @@ some_not : (o : Option ℕ) (k : ℕ) → o ≡ Some k → is_some o ≡ false �
 some_not None k h e = cc
 some_not (Some n) k h e = cc
 
-kept : (names : List Name) (made text : List ℕ) (place : ℕ) → place_in names made ≡ None → place_in names text ≡ Some place → (b : Bool) → bytes_eq made text ≡ b →
+kept : (names : List Name) (made text : List ℕ) (place : ℕ) → place_in names made ≡ None → place_in names text ≡ Some place → (b : Bool)
+    → bytes_eq made text ≡ b →
     cond b (Some (length names)) (place_in names text) ≡ Some place
 kept names made text place none h true same =
     let e : made ≡ text = (bytes_eq-Decides made text).0 same in
     absurd (some_not _ place h (ap is_some (subst (λ t. place_in names t ≡ None) e none)))
 kept names made text place none h false same = h
 
-made_or_not : (names : List Name) (made text : List ℕ) (kind : NameKind) (place : ℕ) → place_in names text ≡ Some place → (o : Option ℕ) → place_in names made ≡ o →
+made_or_not : (names : List Name) (made text : List ℕ) (kind : NameKind) (place : ℕ) → place_in names text ≡ Some place → (o : Option ℕ)
+    → place_in names made ≡ o →
     place_in (cond (is_some o) names (names ++ record { text = made; kind = kind } ∷ [])) text ≡ Some place
 made_or_not names made text kind place h (Some n) is = h
 made_or_not names made text kind place h None is =
@@ -71,7 +73,8 @@ stays s names at place h None = sym (ap (λ o. unwrap_or o 0) h)
 stays s names at place h (Some m) = sym (ap (λ o. unwrap_or o 0) (place_kept names (text_at s m.0) (text_at s at) m.1 place h))
 
 -- the place of a name that is made
-pub new_place : (names : List Name) (text : List ℕ) (kind : NameKind) → place_in names text ≡ None → place_in (with_name names text kind) text ≡ Some (length names)
+pub new_place : (names : List Name) (text : List ℕ) (kind : NameKind) → place_in names text ≡ None
+    → place_in (with_name names text kind) text ≡ Some (length names)
 new_place names text kind none =
     let known : is_some (place_in names text) ≡ false = ap is_some none in
     rw known (place_in-push names text kind none text ∙ (rw ((bytes_eq-Decides text text).1 refl)))
@@ -86,10 +89,14 @@ pub made_new : (s : Source) (names : List Name) (kind : NameKind) (at place : �
 made_new s names kind at place none other is =
     (ap (λ o. unless (agrees o kind) KindMismatch at) (sym other), is ∙ first_made s names kind at (sym none))
 
-pub made_again : (s : Source) (names : List Name) (kind known : NameKind) (at place : ℕ) → Some place ≡ place_in names (text_at s at) → Some known ≡ kind_in names (text_at s at) →
+pub made_again : (s : Source) (names : List Name) (kind known : NameKind) (at place : ℕ) → Some place ≡ place_in names (text_at s at)
+    → Some known ≡ kind_in names (text_at s at) →
     true ≡ is_among known (kind ∷ []) → (remake_fault s names kind at ≡ None) × (place ≡ place_of s (names_with s names (Some (at, kind))) at)
-made_again s names kind known at place found is same =
-    (ap (λ o. unless (agrees o kind) KindMismatch at) (sym is) ∙ ap (λ b. unless b KindMismatch at) (sym same), stays s names at place (sym found) (Some (at, kind)))
+made_again s names kind known at place found is same = (
+  ap (λ o. unless (agrees o kind) KindMismatch at) (sym is) ∙ ap (λ b. unless b KindMismatch at) (sym same),
+  stays s names at place (sym found)
+      (Some (at, kind)),
+)
 
 pub made_otherwise : (s : Source) (names : List Name) (kind known : NameKind) (at : ℕ) → Some known ≡ kind_in names (text_at s at) →
     false ≡ is_among known (kind ∷ []) → remake_fault s names kind at ≡ Some (record { at = at; kind = KindMismatch })

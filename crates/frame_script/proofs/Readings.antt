@@ -97,7 +97,8 @@ maybe_read w as' ns ws rest (some s) =
 
 pub record NamesRead (w : Words) (as' : List RawArg) (ns ws : List ℕ) (names : List ℕ) (rest : List Event) : Type 0 where
   pub last : LastNames
-  pub read : order_from (reading (record w { is_listing = true }) as' ns ws) (names_events names ++ rest) ≡ order_from (reading (record w { is_listing = true; names = last }) as' (ns ++ names) ws) rest
+  pub read : order_from (reading (record w { is_listing = true }) as' ns ws) (names_events names ++ rest) ≡ order_from
+      (reading (record w { is_listing = true; names = last }) as' (ns ++ names) ws) rest
   pub opener : last.opener ≡ w.names.opener
   pub handle : last.handle ≡ w.names.handle
   pub kernel : last.kernel ≡ w.names.kernel
@@ -129,11 +130,13 @@ plainly w = record w { is_listing = false }
 pub record ArgsRead (w : Words) (as' : List RawArg) (ns ws : List ℕ) (args : List RawArg) (events rest : List Event) : Type 0 where
   pub names : LastNames
   pub numbers : LastNumbers
-  pub read : order_from (reading (plainly w) as' ns ws) (events ++ rest) ≡ order_from (reading (record (plainly w) { names = names; numbers = numbers }) (as' ++ args) ns ws) rest
+  pub read : order_from (reading (plainly w) as' ns ws) (events ++ rest) ≡ order_from
+      (reading (record (plainly w) { names = names; numbers = numbers }) (as' ++ args) ns ws) rest
   pub handle : names.handle ≡ w.names.handle
   pub kernel : names.kernel ≡ w.names.kernel
 
-arg_read : {events : List Event} {a : RawArg} → SpellsArg events a → (w : Words) (as' : List RawArg) (ns ws : List ℕ) (rest : List Event) → ArgsRead w as' ns ws (a ∷ []) events rest
+arg_read : {events : List Event} {a : RawArg} → SpellsArg events a → (w : Words) (as' : List RawArg) (ns ws : List ℕ) (rest : List Event)
+    → ArgsRead w as' ns ws (a ∷ []) events rest
 arg_read {events} (named {x = x} q e) w as' ns ws rest = record {
   names = record w.names { before_last = w.names.last; last = x };
   numbers = w.numbers;
@@ -155,7 +158,8 @@ arg_read {events} (signed q es {n} s e) w as' ns ws rest =
       kernel = refl;
     }
 
-pub args_read : {events : List Event} {args : List RawArg} → SpellsArgs events args → (w : Words) (as' : List RawArg) (ns ws : List ℕ) (rest : List Event) → ArgsRead w as' ns ws args events rest
+pub args_read : {events : List Event} {args : List RawArg} → SpellsArgs events args → (w : Words) (as' : List RawArg) (ns ws : List ℕ) (rest : List Event)
+    → ArgsRead w as' ns ws args events rest
 args_read {events} (none e) w as' ns ws rest = record {
   names = w.names;
   numbers = w.numbers;
@@ -175,7 +179,8 @@ args_read {events} (also es es' {a} {as' = args} s m e) w as' ns ws rest =
           ∙ ap (λ x. order_from r x) (append_assoc es es' rest)
           ∙ one.read
           ∙ others.read
-          ∙ ap (λ x. order_from (reading (record (plainly w) { names = others.names; numbers = others.numbers }) x ns ws) rest) (append_assoc as' (a ∷ []) args);
+          ∙ ap (λ x. order_from (reading (record (plainly w) { names = others.names; numbers = others.numbers }) x ns ws) rest)
+          (append_assoc as' (a ∷ []) args);
       handle = others.handle ∙ one.handle;
       kernel = others.kernel ∙ one.kernel;
     }
@@ -188,7 +193,8 @@ pub record SizesRead (w : Words) (as' : List RawArg) (ns ws : List ℕ) (cut : R
   pub handle : names.handle ≡ w.names.handle
   pub kernel : names.kernel ≡ w.names.kernel
 
-pub sizes_read : {events : List Event} {cut : RawSizes} → SpellsSizes events cut → (w : Words) (as' : List RawArg) (ns ws : List ℕ) (rest : List Event) → SizesRead w as' ns ws cut events rest
+pub sizes_read : {events : List Event} {cut : RawSizes} → SpellsSizes events cut → (w : Words) (as' : List RawArg) (ns ws : List ℕ) (rest : List Event)
+    → SizesRead w as' ns ws cut events rest
 sizes_read {events} (none q e) w as' ns ws rest = record {
   names = w.names;
   numbers = w.numbers;
@@ -199,14 +205,16 @@ sizes_read {events} (none q e) w as' ns ws rest = record {
 sizes_read {events} (counted {len = len} {batch = batch} q e) w as' ns ws rest = record {
   names = w.names;
   numbers = record w.numbers { before_last = len; last = batch };
-  read = of_events (reading (record (plainly w) { sizes = sizes.None }) as' ns ws) events (on action.Number len ∷ on action.Number batch ∷ on action.SizesLength q ∷ []) rest e;
+  read = of_events (reading (record (plainly w) { sizes = sizes.None }) as' ns ws) events
+      (on action.Number len ∷ on action.Number batch ∷ on action.SizesLength q ∷ []) rest e;
   handle = refl;
   kernel = refl;
 }
 sizes_read {events} (deferred {list = l} {batch = batch} q e) w as' ns ws rest = record {
   names = record w.names { before_last = w.names.last; last = l };
   numbers = record w.numbers { before_last = w.numbers.last; last = batch };
-  read = of_events (reading (record (plainly w) { sizes = sizes.None }) as' ns ws) events (on action.Name l ∷ on action.Number batch ∷ on action.SizesDefer q ∷ []) rest e;
+  read = of_events (reading (record (plainly w) { sizes = sizes.None }) as' ns ws) events
+      (on action.Name l ∷ on action.Number batch ∷ on action.SizesDefer q ∷ []) rest e;
   handle = refl;
   kernel = refl;
 }
@@ -217,7 +225,8 @@ pub record WaivedRead (w : Words) (as' : List RawArg) (xs : List ℕ) (events re
   pub handle : names.handle ≡ w.names.handle
   pub kernel : names.kernel ≡ w.names.kernel
 
-pub waived_read : {events : List Event} {xs : List ℕ} → SpellsWaived events xs → (w : Words) (as' : List RawArg) (rest : List Event) → WaivedRead w as' xs events rest
+pub waived_read : {events : List Event} {xs : List ℕ} → SpellsWaived events xs → (w : Words) (as' : List RawArg) (rest : List Event)
+    → WaivedRead w as' xs events rest
 waived_read {events} (none q e) w as' rest = record {
   names = w.names;
   read = of_events (reading (plainly w) as' [] []) events (on action.WaivedNone q ∷ []) rest e;
@@ -243,7 +252,8 @@ pub record AfterRead (w : Words) (as' : List RawArg) (ws xs : List ℕ) (events 
   pub handle : names.handle ≡ w.names.handle
   pub kernel : names.kernel ≡ w.names.kernel
 
-pub after_read : {events : List Event} {xs : List ℕ} → SpellsAfter events xs → (w : Words) (as' : List RawArg) (ws : List ℕ) (rest : List Event) → AfterRead w as' ws xs events rest
+pub after_read : {events : List Event} {xs : List ℕ} → SpellsAfter events xs → (w : Words) (as' : List RawArg) (ws : List ℕ) (rest : List Event)
+    → AfterRead w as' ws xs events rest
 after_read {events} (none q e) w as' ws rest = record {
   names = w.names;
   read = of_events (reading (plainly w) as' [] ws) events (on action.AfterNone q ∷ []) rest e;

@@ -32,7 +32,8 @@ no_list s (raw.When name sign value) plain = absurd cc
 no_list s _ plain = refl
 
 -- what is checked alone is said behind any lists, and adds none
-pub said_alone : (s : Source) (names : List Name) (kernels : List Kernel) (literals : ℕ) (x : RawOrder) (lists : List (List ℤ)) (fault : Option StaticFault) (r : Result Order OrderFault) →
+pub said_alone : (s : Source) (names : List Name) (kernels : List Kernel) (literals : ℕ) (x : RawOrder) (lists : List (List ℤ)) (fault : Option StaticFault)
+    (r : Result Order OrderFault) →
     IsTrue (is_plain x) → Gives fault (Says s names kernels 0 0 (form_of x)) r →
     Gives fault (λ o. Says s names kernels literals 0 (form_of x) o × (lists ≡ lists ++ literals_of s (form_of x))) r
 said_alone s names kernels literals x lists fault (Ok o) plain h =

@@ -12,7 +12,8 @@ use Rattle.frame_script.proofs.Meanings.{StatementMeans}
 use Rattle.frame_script.proofs.Clauses.{Build, and_no_more}
 
 -- a statement without a block, whose first token is known
-single : {all : List TokenKind} {n : ℕ} {events : List Event} (first : TokenKind) (order : OrderForm) → Stands all first n → SpellsOrder events order → closing order ≡ None → OrderStands all order →
+single : {all : List TokenKind} {n : ℕ} {events : List Event} (first : TokenKind) (order : OrderForm) → Stands all first n → SpellsOrder events order
+    → closing order ≡ None → OrderStands all order →
     StatementMeans all n events
 single first order at spells no_block stands =
     record { first = first; first_stands = at; said = inl (record { order = order; spells = spells; no_block = no_block; stands = stands }) }
@@ -21,42 +22,53 @@ pub array_statement : (all : List TokenKind) → Build all production.ArrayState
 unfolding body_of head_of
 array_statement all n (t, (x, (k, (l, (v, _))))) =
     let end = suc (suc (suc n)) + length l.tokens + length v.tokens in
-    single token.Array (NewArray (suc n) (suc (suc n)) l.means.life v.means.values) t (array l.means.said l.means.at end v.events l.means.spells v.means.spells (ap (λ y. on action.Name (suc n) ∷ on action.Number (suc (suc n)) ∷ (y ++ (v.events ++ on action.ArrayStatement end ∷ []))) l.means.events_are)) refl (x, k, v.means.stand)
+    single token.Array (NewArray (suc n) (suc (suc n)) l.means.life v.means.values) t
+    (array l.means.said l.means.at end v.events l.means.spells v.means.spells
+    (ap (λ y. on action.Name (suc n) ∷ on action.Number (suc (suc n)) ∷ (y ++ (v.events ++ on action.ArrayStatement end ∷ []))) l.means.events_are)) refl
+    (x, k, v.means.stand)
 
 pub column_statement : (all : List TokenKind) → Build all production.ColumnStatement
 unfolding body_of head_of
 column_statement all n (t, (x, (k, (l, _)))) =
     let end = suc (suc (suc n)) + length l.tokens in
-    single token.Column (NewColumn (suc n) (suc (suc n)) l.means.life) t (column l.means.said l.means.at end l.means.spells (ap (λ y. on action.Name (suc n) ∷ on action.Text (suc (suc n)) ∷ (y ++ on action.ColumnStatement end ∷ [])) l.means.events_are)) refl (x, k)
+    single token.Column (NewColumn (suc n) (suc (suc n)) l.means.life) t (column l.means.said l.means.at end l.means.spells
+    (ap (λ y. on action.Name (suc n) ∷ on action.Text (suc (suc n)) ∷ (y ++ on action.ColumnStatement end ∷ [])) l.means.events_are)) refl (x, k)
 
 pub list_statement : (all : List TokenKind) → Build all production.ListStatement
 unfolding body_of head_of
 list_statement all n (t, (x, (k, (l, _)))) =
     let end = suc (suc (suc n)) + length l.tokens in
-    single token.List (NewList (suc n) (suc (suc n)) l.means.life) t (list l.means.said l.means.at end l.means.spells (ap (λ y. on action.Name (suc n) ∷ on action.Number (suc (suc n)) ∷ (y ++ on action.ListStatement end ∷ [])) l.means.events_are)) refl (x, k)
+    single token.List (NewList (suc n) (suc (suc n)) l.means.life) t (list l.means.said l.means.at end l.means.spells
+    (ap (λ y. on action.Name (suc n) ∷ on action.Number (suc (suc n)) ∷ (y ++ on action.ListStatement end ∷ [])) l.means.events_are)) refl (x, k)
 
 pub reference_statement : (all : List TokenKind) → Build all production.ReferenceStatement
 unfolding body_of head_of
 reference_statement all n (t, (x, (l, (v, _)))) =
     let end = suc (suc n) + length l.tokens + length v.tokens in
-    single token.Reference (NewReference (suc n) l.means.life v.means.number) t (reference l.means.said l.means.at end v.events l.means.spells v.means.spells (ap (λ y. on action.Name (suc n) ∷ (y ++ (v.events ++ on action.ReferenceStatement end ∷ []))) l.means.events_are)) refl (x, v.means.stand)
+    single token.Reference (NewReference (suc n) l.means.life v.means.number) t
+    (reference l.means.said l.means.at end v.events l.means.spells v.means.spells
+    (ap (λ y. on action.Name (suc n) ∷ (y ++ (v.events ++ on action.ReferenceStatement end ∷ []))) l.means.events_are)) refl (x, v.means.stand)
 
 pub map_statement : (all : List TokenKind) → Build all production.MapStatement
 unfolding body_of head_of
 map_statement all n (t, (x, (k, (l, _)))) =
     let end = suc (suc (suc n)) + length l.tokens in
-    single token.Map (NewMap (suc n) (suc (suc n)) l.means.life) t (mapped l.means.said l.means.at end l.means.spells (ap (λ y. on action.Name (suc n) ∷ on action.Number (suc (suc n)) ∷ (y ++ on action.MapStatement end ∷ [])) l.means.events_are)) refl (x, k)
+    single token.Map (NewMap (suc n) (suc (suc n)) l.means.life) t (mapped l.means.said l.means.at end l.means.spells
+    (ap (λ y. on action.Name (suc n) ∷ on action.Number (suc (suc n)) ∷ (y ++ on action.MapStatement end ∷ [])) l.means.events_are)) refl (x, k)
 
 pub stream_statement : (all : List TokenKind) → Build all production.StreamStatement
 unfolding body_of head_of
 stream_statement all n (t, (x, (k, (j, (l, _))))) =
     let end = suc (suc (suc (suc n))) + length l.tokens in
-    single token.Stream (NewStream (suc n) (suc (suc n)) (suc (suc (suc n))) l.means.life) t (stream l.means.said l.means.at end l.means.spells (ap (λ y. on action.Name (suc n) ∷ on action.Number (suc (suc n)) ∷ on action.Number (suc (suc (suc n))) ∷ (y ++ on action.StreamStatement end ∷ [])) l.means.events_are)) refl (x, k, j)
+    single token.Stream (NewStream (suc n) (suc (suc n)) (suc (suc (suc n))) l.means.life) t
+    (stream l.means.said l.means.at end l.means.spells (ap (λ y. on action.Name (suc n) ∷ on action.Number (suc (suc n))
+    ∷ on action.Number (suc (suc (suc n))) ∷ (y ++ on action.StreamStatement end ∷ [])) l.means.events_are)) refl (x, k, j)
 
 pub slice_statement : (all : List TokenKind) → Build all production.SliceStatement
 unfolding body_of head_of
 slice_statement all n (t, (x, (y, (k, (j, _))))) =
-    single token.Slice (Slice (suc n) (suc (suc n)) (suc (suc (suc n))) (suc (suc (suc (suc n))))) t (slice (suc (suc (suc (suc (suc n))))) refl) refl (x, y, k, j)
+    single token.Slice (Slice (suc n) (suc (suc n)) (suc (suc (suc n))) (suc (suc (suc (suc n))))) t (slice (suc (suc (suc (suc (suc n))))) refl) refl
+    (x, y, k, j)
 
 pub view_statement : (all : List TokenKind) → Build all production.ViewStatement
 unfolding body_of head_of
@@ -71,17 +83,20 @@ copy_statement all n (t, (x, (y, _))) =
 pub set_statement : (all : List TokenKind) → Build all production.SetStatement
 unfolding body_of head_of
 set_statement all n (t, (x, (i, (a, (v, _))))) =
-    single token.Set (Set (suc n) i.means.number v.means.number) t (set (suc (suc (suc n) + length i.tokens) + length v.tokens) i.events v.events i.means.spells v.means.spells refl) refl (x, i.means.stand, v.means.stands)
+    single token.Set (Set (suc n) i.means.number v.means.number) t (set (suc (suc (suc n) + length i.tokens) + length v.tokens) i.events v.events i.means.spells
+    v.means.spells refl) refl (x, i.means.stand, v.means.stands)
 
 pub add_to_statement : (all : List TokenKind) → Build all production.AddToStatement
 unfolding body_of head_of
 add_to_statement all n (t, (x, (i, (v, _)))) =
-    single token.Add (Add (suc n) i.means.number v.means.number) t (add (suc (suc n) + length i.tokens + length v.tokens) i.events v.events i.means.spells v.means.spells refl) refl (x, i.means.stands, v.means.stand)
+    single token.Add (Add (suc n) i.means.number v.means.number) t (add (suc (suc n) + length i.tokens + length v.tokens) i.events v.events i.means.spells
+    v.means.spells refl) refl (x, i.means.stands, v.means.stand)
 
 pub put_statement : (all : List TokenKind) → Build all production.PutStatement
 unfolding body_of head_of
 put_statement all n (t, (x, (i, (v, _)))) =
-    single token.Put (Put (suc n) i.means.number v.means.number) t (put (suc (suc n) + length i.tokens + length v.tokens) i.events v.events i.means.spells v.means.spells refl) refl (x, i.means.stands, v.means.stands)
+    single token.Put (Put (suc n) i.means.number v.means.number) t (put (suc (suc n) + length i.tokens + length v.tokens) i.events v.events i.means.spells
+    v.means.spells refl) refl (x, i.means.stands, v.means.stands)
 
 pub remove_from_statement : (all : List TokenKind) → Build all production.RemoveFromStatement
 unfolding body_of head_of
@@ -116,13 +131,16 @@ pub combine_statement : (all : List TokenKind) → Build all production.CombineS
 unfolding body_of head_of
 combine_statement all n (t, (x, (m, _))) =
     let end = suc (suc n) + length m.tokens in
-    single token.Combine (Combine (suc n) m.means.names) t (combine (suc (suc n)) end (ap (λ y. on action.Name (suc n) ∷ on action.OpenNames (suc (suc n)) ∷ (y ++ on action.CombineStatement end ∷ [])) m.means.events_are)) refl (x, m.means.stand)
+    single token.Combine (Combine (suc n) m.means.names) t (combine (suc (suc n)) end
+    (ap (λ y. on action.Name (suc n) ∷ on action.OpenNames (suc (suc n)) ∷ (y ++ on action.CombineStatement end ∷ [])) m.means.events_are)) refl
+    (x, m.means.stand)
 
 pub complete_statement : (all : List TokenKind) → Build all production.CompleteStatement
 unfolding body_of head_of
 complete_statement all n (t, (u, (x, _))) =
     let name = suc n + length u.tokens in
-    single token.Complete (Complete u.means.auto name) t (complete u.means.at (suc name) (ap (λ y. y ++ on action.Name name ∷ on action.CompleteStatement (suc name) ∷ []) u.means.events_are)) refl x
+    single token.Complete (Complete u.means.auto name) t (complete u.means.at (suc name)
+    (ap (λ y. y ++ on action.Name name ∷ on action.CompleteStatement (suc name) ∷ []) u.means.events_are)) refl x
 
 pub dispose_statement : (all : List TokenKind) → Build all production.DisposeStatement
 unfolding body_of head_of
@@ -184,8 +202,10 @@ when_statement all n (t, (x, (s, (v, (o, (l, (i, _))))))) =
         spells = when opening v.events v.means.spells refl;
         closes = refl;
         spells_inner = i.means.spells;
-        events_are = ap (λ y. on action.Name (suc n) ∷ (y ++ (v.events ++ on action.OpenWhen opening ∷ (i.events ++ on action.WhenStatement end ∷ [])))) s.means.events_are
-            ∙ ap (λ y. on action.Name (suc n) ∷ on action.Operator s.means.at ∷ y) (sym (append_assoc v.events (on action.OpenWhen opening ∷ []) (i.events ++ on action.WhenStatement end ∷ [])));
+        events_are = ap (λ y. on action.Name (suc n) ∷ (y ++ (v.events ++ on action.OpenWhen opening ∷ (i.events ++ on action.WhenStatement end ∷ []))))
+            s.means.events_are
+            ∙ ap (λ y. on action.Name (suc n) ∷ on action.Operator s.means.at ∷ y)
+            (sym (append_assoc v.events (on action.OpenWhen opening ∷ []) (i.events ++ on action.WhenStatement end ∷ [])));
         stands = (x, (s.means.test, s.means.stands, s.means.is_test), v.means.stands);
         inner_stands = i.means.stand;
       });

@@ -43,7 +43,8 @@ one_before n l = omega arith
 more_before : (n : ℕ) (js ks : List TokenKind) → n + length js + length ks ≡ n + length (js ++ ks)
 more_before n js ks = omega (arith, length-append js ks)
 
-pub halves : (xs ss : List Symbol) {all : List TokenKind} {n : ℕ} {events : List Event} {ks : List TokenKind} → Tree all n events (xs ++ ss) ks → Halves all n events xs ss ks
+pub halves : (xs ss : List Symbol) {all : List TokenKind} {n : ℕ} {events : List Event} {ks : List TokenKind} → Tree all n events (xs ++ ss) ks
+    → Halves all n events xs ss ks
 halves [] ss {all} {n} {events} {ks} t = record {
   es = [];
   es' = events;
@@ -100,7 +101,8 @@ one_more read k = omega (arith, length-append read (k ∷ []))
 
 within_all : (all read ks js js' rest : List TokenKind) (n : ℕ) → all ≡ read ++ (ks ++ rest) → ks ≡ js ++ js' → n ≡ length read → n + length js ≤ length all
 within_all all read ks js js' rest n whole split place =
-    let a : length all ≡ length read + (length ks + length rest) = ap length whole ∙ length-append read (ks ++ rest) ∙ ap (λ x. length read + x) (length-append ks rest) in
+    let a : length all ≡ length read + (length ks + length rest) = ap length whole ∙ length-append read (ks ++ rest)
+    ∙ ap (λ x. length read + x) (length-append ks rest) in
     let b : length ks ≡ length js + length js' = ap length split ∙ length-append js js' in
     omega arith
 
@@ -121,7 +123,8 @@ tree_of {all} {n} read rest whole place (expanded {ss = ss} {ks = ks} p {head} o
     (subst (λ x. Tree all n (h.es ++ h.es') (symbol.Nonterminal head ∷ ss) x) (sym h.tokens_are) t)
 
 -- and back
-pub derives_of : {all : List TokenKind} {n : ℕ} {events : List Event} {ss : List Symbol} {ks : List TokenKind} → Tree all n events ss ks → Derives n events ss ks
+pub derives_of : {all : List TokenKind} {n : ℕ} {events : List Event} {ss : List Symbol} {ks : List TokenKind} → Tree all n events ss ks
+    → Derives n events ss ks
 derives_of nothing = d-nothing
 derives_of (terminal k stands t) = d-terminal k (derives_of t)
 derives_of (action a t) = d-action a (derives_of t)

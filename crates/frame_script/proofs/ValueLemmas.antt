@@ -17,7 +17,8 @@ use Rattle.frame_script.specs.Checks.{Refuses}
 use Rattle.frame_script.proofs.FaultLemmas.{first_next, first_end, refuses_here}
 
 -- the events that spell a signed number say it, whatever comes behind them
-signed_said : {events : List Event} {n : RawNumber} → SpellsSigned events n → (at : ℕ) (rest : List Event) → signed_from at (events ++ rest) ≡ n ∷ signed_from n.at rest
+signed_said : {events : List Event} {n : RawNumber} → SpellsSigned events n → (at : ℕ) (rest : List Event)
+    → signed_from at (events ++ rest) ≡ n ∷ signed_from n.at rest
 signed_said (minus {at = number} o q e) at rest = ap (λ x. signed_from at (x ++ rest)) e
 signed_said (plain {at = number} q e) at rest = ap (λ x. signed_from at (x ++ rest)) e
 
@@ -28,7 +29,8 @@ numbers_said (also es rest {n} s more e) at =
 
 -- none of them closes the values of an array
 
-signed_within : {events : List Event} {n : RawNumber} → SpellsSigned events n → (rest : List Event) → values_len (events ++ rest) ≡ length events + values_len rest
+signed_within : {events : List Event} {n : RawNumber} → SpellsSigned events n → (rest : List Event)
+    → values_len (events ++ rest) ≡ length events + values_len rest
 signed_within (minus {at = number} o q e) rest =
     ap (λ x. values_len (x ++ rest)) e ∙ three (values_len rest) ∙ ap (λ x. length x + values_len rest) (sym e)
   where
@@ -40,7 +42,8 @@ signed_within (plain {at = number} q e) rest =
     two : (n : ℕ) → n + 1 + 1 ≡ 2 + n
     two n = omega arith
 
-numbers_within : {events : List Event} {numbers : List RawNumber} → SpellsNumbers events numbers → (rest : List Event) → values_len (events ++ rest) ≡ length events + values_len rest
+numbers_within : {events : List Event} {numbers : List RawNumber} → SpellsNumbers events numbers → (rest : List Event)
+    → values_len (events ++ rest) ≡ length events + values_len rest
 numbers_within (none e) rest = ap (λ x. values_len (x ++ rest)) e ∙ no_more (values_len rest) ∙ ap (λ x. length x + values_len rest) (sym e)
   where
     no_more : (n : ℕ) → n ≡ 0 + n
@@ -77,7 +80,8 @@ values_most (e ∷ es) = by_close (closes_values e.action) (values_len es) (leng
 -- FINDING THE END
 
 -- past an event that doesn't close them
-pub open_on : (all : List Event) (i : ℕ) (e : Event) → drop i all ≡ e ∷ drop (i + 1) all → closes_values e.action ≡ false → i + values_len (drop i all) ≡ values_len all →
+pub open_on : (all : List Event) (i : ℕ) (e : Event) → drop i all ≡ e ∷ drop (i + 1) all → closes_values e.action ≡ false
+    → i + values_len (drop i all) ≡ values_len all →
     i + 1 + values_len (drop (i + 1) all) ≡ values_len all
 open_on all i e next shut sum =
     let more = values_len (drop (i + 1) all) in
@@ -85,7 +89,8 @@ open_on all i e next shut sum =
     omega arith
 
 -- at the one that closes them
-pub closed_here : (all : List Event) (i : ℕ) (e : Event) → drop i all ≡ e ∷ drop (i + 1) all → closes_values e.action ≡ true → i + values_len (drop i all) ≡ values_len all →
+pub closed_here : (all : List Event) (i : ℕ) (e : Event) → drop i all ≡ e ∷ drop (i + 1) all → closes_values e.action ≡ true
+    → i + values_len (drop i all) ≡ values_len all →
     i ≡ values_len all
 closed_here all i e next closed sum =
     let more = values_len (drop (i + 1) all) in
@@ -130,7 +135,8 @@ counted_on all i count e ends next is sum =
     let others : length (signed_from after more) ≡ length (signed_from 0 more) = as_many more after 0 in
     omega arith
 
-pub counted_all : (all : List Event) (i count : ℕ) → length all ≤ i → count + length (signed_from 0 (drop i all)) ≡ length (values_of all) → count ≡ length (values_of all)
+pub counted_all : (all : List Event) (i count : ℕ) → length all ≤ i → count + length (signed_from 0 (drop i all)) ≡ length (values_of all)
+    → count ≡ length (values_of all)
 counted_all all i count out sum =
     let none : length (signed_from 0 (drop i all)) ≡ 0 = ap (λ x. length (signed_from 0 x)) (drop_all i all out) in
     omega arith
@@ -156,17 +162,21 @@ kept_more s all left more n values values' z is sound pushed said k =
     let g = signed_at s in
     record {
       passed = k.passed ∙ ap (λ x. first_some (map (signed_fault s) x)) is ∙ first_next (signed_fault s n) (map (signed_fault s) more) sound;
-      kept = ap (λ x. x ++ map g more) pushed ∙ append_assoc values (z ∷ []) (map g more) ∙ ap (λ y. values ++ y ∷ map g more) said ∙ ap (λ x. values ++ map g x) (sym is) ∙ k.kept;
+      kept = ap (λ x. x ++ map g more) pushed ∙ append_assoc values (z ∷ []) (map g more) ∙ ap (λ y. values ++ y ∷ map g more) said
+          ∙ ap (λ x. values ++ map g x) (sym is) ∙ k.kept;
     }
 
 -- at one with a fault
-pub stopped_at : (s : Source) (all left more : List RawNumber) (n : RawNumber) (values : List ℤ) (e : OrderFault) → left ≡ n ∷ more → Refuses (signed_fault s n) e → Kept s all left values →
+pub stopped_at : (s : Source) (all left more : List RawNumber) (n : RawNumber) (values : List ℤ) (e : OrderFault) → left ≡ n ∷ more
+    → Refuses (signed_fault s n) e → Kept s all left values →
     Refuses (first_some (map (signed_fault s) all)) e
 stopped_at s all left more n values e is fault k =
-    subst (λ o. Refuses o e) (sym (k.passed ∙ ap (λ x. first_some (map (signed_fault s) x)) is)) (refuses_here (signed_fault s n) (map (signed_fault s) more) e fault)
+    subst (λ o. Refuses o e) (sym (k.passed ∙ ap (λ x. first_some (map (signed_fault s) x)) is))
+    (refuses_here (signed_fault s n) (map (signed_fault s) more) e fault)
 
 -- all are kept
-pub kept_all : (s : Source) (all left : List RawNumber) (values : List ℤ) → left ≡ [] → Kept s all left values → (first_some (map (signed_fault s) all) ≡ None) × (values ≡ map (signed_at s) all)
+pub kept_all : (s : Source) (all left : List RawNumber) (values : List ℤ) → left ≡ [] → Kept s all left values
+    → (first_some (map (signed_fault s) all) ≡ None) × (values ≡ map (signed_at s) all)
 kept_all s all left values empty k = (
   k.passed ∙ ap (λ x. first_some (map (signed_fault s) x)) empty ∙ first_end,
   sym (append-nil values) ∙ ap (λ x. values ++ map (signed_at s) x) (sym empty) ∙ k.kept,
@@ -191,7 +201,8 @@ same_number : (a : Action) (q at : ℕ) → (a ≡ action.Number → ⊥) → nu
 same_number action.Number q at not-number = absurd (not-number refl)
 same_number _ q at not-number = refl
 
-pub left_alike : (all : List Event) (i at : ℕ) (e : Event) → drop i all ≡ e ∷ drop (i + 1) all → (e.action ≡ action.Number → ⊥) → (e.action ≡ action.PlainNumber → ⊥) → (e.action ≡ action.MinusNumber → ⊥) →
+pub left_alike : (all : List Event) (i at : ℕ) (e : Event) → drop i all ≡ e ∷ drop (i + 1) all → (e.action ≡ action.Number → ⊥)
+    → (e.action ≡ action.PlainNumber → ⊥) → (e.action ≡ action.MinusNumber → ⊥) →
     signed_from at (drop i all) ≡ signed_from at (drop (i + 1) all)
 left_alike all i at e next not-number not-plain not-minus =
     left_at all i at e next

@@ -29,7 +29,8 @@ use Rattle.frame_script.proofs.GoingSteps.{past_a_single, past_a_kernel, into_a_
 -- KERNELS
 
 -- a kernel stands outside blocks
-kernel_outside : {events es : List Event} {form : KernelForm} {more : RawItems} {around left : List RawItems} → SpellsOpen events left → left ≡ Kernel es form more ∷ around → around ≡ []
+kernel_outside : {events es : List Event} {form : KernelForm} {more : RawItems} {around left : List RawItems} → SpellsOpen events left
+    → left ≡ Kernel es form more ∷ around → around ≡ []
 kernel_outside (outside s) e = cc
 kernel_outside {es = es} {form} {more} (inside {items = items} end q head is rest closes s around e') e =
     let first : items ≡ Kernel es form more = cc in
@@ -40,7 +41,8 @@ kernel_outside {es = es} {form} {more} (inside {items = items} end q head is res
         by (kernel rest k more e) h = cc
 
 -- only one list of items is left
-alone : (s : Source) (events : List Event) (at next : ℕ) (w : Walk) (g : IsWalking s events at w) (k : LeadsKernel events at next g.left) → IsAt s g.whole w (Kernel k.events k.form k.more ∷ [])
+alone : (s : Source) (events : List Event) (at next : ℕ) (w : Walk) (g : IsWalking s events at w) (k : LeadsKernel events at next g.left)
+    → IsAt s g.whole w (Kernel k.events k.form k.more ∷ [])
 alone s events at next w g k =
     subst (λ r. IsAt s g.whole w (Kernel k.events k.form k.more ∷ r)) (kernel_outside g.opens k.items_are) (subst (IsAt s g.whole w) k.items_are g.is)
 
@@ -51,7 +53,8 @@ kernel_stands s events at next w g k =
     subst (IsKernel (take (next - at) (drop at events))) (length-map (file_tokens s) (λ t. t.kind))
     (subst (λ es. IsKernel es (length (kinds (file_tokens s)))) (sym k.events_are) (alone s events at next w g k).stand.0.0)
 
-pub went_past_kernel : (s : Source) (events : List Event) (at next : ℕ) (w new : Walk) (kernels : List CheckedKernel) (g : IsWalking s events at w) (k : LeadsKernel events at next g.left) →
+pub went_past_kernel : (s : Source) (events : List Event) (at next : ℕ) (w new : Walk) (kernels : List CheckedKernel) (g : IsWalking s events at w)
+    (k : LeadsKernel events at next g.left) →
     AddsKernel s k.events w.kernels kernels → new ≡ record w { kernels = kernels } → IsWalking s events next new
 went_past_kernel s events at next w new kernels g k adds new_is = record {
   whole = g.whole;
@@ -61,13 +64,15 @@ went_past_kernel s events at next w new kernels g k adds new_is = record {
   is = past_a_kernel s g.whole k.more k.events k.form w new kernels adds new_is (alone s events at next w g k);
 }
 
-pub refused_in_kernel : (s : Source) (events : List Event) (at next : ℕ) (w : Walk) (line : ℕ) (kind : FaultKind) (g : IsWalking s events at w) (k : LeadsKernel events at next g.left) →
+pub refused_in_kernel : (s : Source) (events : List Event) (at next : ℕ) (w : Walk) (line : ℕ) (kind : FaultKind) (g : IsWalking s events at w)
+    (k : LeadsKernel events at next g.left) →
     RefusesKernel s k.events w.kernels line kind → RefusesItems s events line kind
 refused_in_kernel s events at next w line kind g k r = record {
   whole = g.whole;
   spells = g.spells;
   fault = r.fault;
-  has_fault = (alone s events at next w g k).faulty r.fault (fault_here s r.fault (scope_of w) _ (Kernel k.events k.form k.more) [] (in_kernel r.raw r.is_raw r.has_fault));
+  has_fault = (alone s events at next w g k).faulty r.fault (fault_here s r.fault (scope_of w) _ (Kernel k.events k.form k.more) []
+      (in_kernel r.raw r.is_raw r.has_fault));
   on_line = r.on_line;
   of_kind = r.of_kind;
 }
@@ -79,13 +84,16 @@ taken_single s at (Repeat n) old new no_block t = absurd cc
 taken_single s at (When name test value) old new no_block t = absurd cc
 taken_single s at _ old new no_block t = t
 
-taken_block : (s : Source) (whole inner more : RawItems) (rest : List RawItems) (at : ℕ) (head : OrderForm) (end : Action) (old new : Walk) → closing head ≡ Some end → first_some (order_faults s (scope_of old) at head) ≡ None →
+taken_block : (s : Source) (whole inner more : RawItems) (rest : List RawItems) (at : ℕ) (head : OrderForm) (end : Action) (old new : Walk)
+    → closing head ≡ Some end → first_some (order_faults s (scope_of old) at head) ≡ None →
     Takes s at head old new → IsAt s whole old (Block at head inner more ∷ rest) → IsAt s whole new (inner ∷ more ∷ rest)
 taken_block s whole inner more rest at (Repeat n) end old new closes none t is = into_a_repeat s whole inner more rest at n old new none t is
-taken_block s whole inner more rest at (When name test value) end old new closes none t is = into_a_when s whole inner more rest at name test value old new none t is
+taken_block s whole inner more rest at (When name test value) end old new closes none t is =
+    into_a_when s whole inner more rest at name test value old new none t is
 taken_block s whole inner more rest at _ end old new closes none t is = absurd cc
 
-pub went_past_order : (s : Source) (events : List Event) (at place : ℕ) (order : RawOrder) (next : ℕ) (w new : Walk) → NamesAreText s.bytes.now (file_tokens s) → (g : IsWalking s events at w) →
+pub went_past_order : (s : Source) (events : List Event) (at place : ℕ) (order : RawOrder) (next : ℕ) (w new : Walk) → NamesAreText s.bytes.now (file_tokens s)
+    → (g : IsWalking s events at w) →
     LeadsSingle events place order next g.left ⊎ LeadsBlock events place order next g.left →
     first_some (order_faults s (scope_of w) place (form_of order)) ≡ None → Takes s place (form_of order) w new → IsWalking s events next new
 went_past_order s events at place order next w new texts g (inl one) none t = record {
@@ -93,14 +101,16 @@ went_past_order s events at place order next w new texts g (inl one) none t = re
   spells = g.spells;
   left = one.more ∷ one.around;
   opens = one.left;
-  is = past_a_single s g.whole one.more one.around place (form_of order) w new texts one.no_block none (taken_single s place (form_of order) w new one.no_block t) (subst (IsAt s g.whole w) one.items_are g.is);
+  is = past_a_single s g.whole one.more one.around place (form_of order) w new texts one.no_block none
+      (taken_single s place (form_of order) w new one.no_block t) (subst (IsAt s g.whole w) one.items_are g.is);
 }
 went_past_order s events at place order next w new texts g (inr block) none t = record {
   whole = g.whole;
   spells = g.spells;
   left = block.inner ∷ block.more ∷ block.around;
   opens = block.left;
-  is = taken_block s g.whole block.inner block.more block.around place (form_of order) block.end w new block.closes none t (subst (IsAt s g.whole w) block.items_are g.is);
+  is = taken_block s g.whole block.inner block.more block.around place (form_of order) block.end w new block.closes none t
+      (subst (IsAt s g.whole w) block.items_are g.is);
 }
 
 order_fault : (s : Source) (events : List Event) (at place : ℕ) (order : RawOrder) (next : ℕ) (w : Walk) (fault : StaticFault) (g : IsWalking s events at w) →
@@ -113,7 +123,8 @@ order_fault s events at place order next w fault g (inr block) found =
     let here : IsAt s g.whole w (Block place (form_of order) block.inner block.more ∷ block.around) = subst (IsAt s g.whole w) block.items_are g.is in
     here.faulty fault (fault_here s fault (scope_of w) _ (Block place (form_of order) block.inner block.more) block.around (in_head found))
 
-pub refused_in_order : (s : Source) (events : List Event) (at place : ℕ) (order : RawOrder) (next : ℕ) (w : Walk) (fault : OrderFault) (line : ℕ) (kind : FaultKind) (g : IsWalking s events at w) →
+pub refused_in_order : (s : Source) (events : List Event) (at place : ℕ) (order : RawOrder) (next : ℕ) (w : Walk) (fault : OrderFault) (line : ℕ)
+    (kind : FaultKind) (g : IsWalking s events at w) →
     LeadsSingle events place order next g.left ⊎ LeadsBlock events place order next g.left →
     Refuses (first_some (order_faults s (scope_of w) place (form_of order))) fault → Tells s fault line kind → RefusesItems s events line kind
 refused_in_order s events at place order next w NoMemory line kind g leads refuses tells = absurd tells
@@ -128,13 +139,16 @@ refused_in_order s events at place order next w (Refused fault) line kind g lead
 
 -- ENDS
 
-ended : (s : Source) (events : List Event) (at next : ℕ) (w : Walk) (g : IsWalking s events at w) (o : LeadsOut events next g.left) → IsAt s g.whole w (Nothing ∷ o.around ∷ o.more)
+ended : (s : Source) (events : List Event) (at next : ℕ) (w : Walk) (g : IsWalking s events at w) (o : LeadsOut events next g.left)
+    → IsAt s g.whole w (Nothing ∷ o.around ∷ o.more)
 ended s events at next w g o = subst (IsAt s g.whole w) o.items_are g.is
 
-pub written_inside : (s : Source) (events : List Event) (at next : ℕ) (w : Walk) (g : IsWalking s events at w) → LeadsOut events next g.left → 0 < length w.written.blocks
+pub written_inside : (s : Source) (events : List Event) (at next : ℕ) (w : Walk) (g : IsWalking s events at w) → LeadsOut events next g.left
+    → 0 < length w.written.blocks
 written_inside s events at next w g o = open_inside ((ended s events at next w g o).written w.names w.kernels (λ text place h. h) (λ text k h. (h, refl)))
 
-pub went_out : (s : Source) (events : List Event) (at next : ℕ) (w new : Walk) (g : IsWalking s events at w) → LeadsOut events next g.left → Leaves w new → IsWalking s events next new
+pub went_out : (s : Source) (events : List Event) (at next : ℕ) (w new : Walk) (g : IsWalking s events at w) → LeadsOut events next g.left → Leaves w new
+    → IsWalking s events next new
 went_out s events at next w new g o leaves = record {
   whole = g.whole;
   spells = g.spells;

@@ -14,7 +14,8 @@ use Rattle.frame_script.specs.declared.raw.RawOrder.{RawOrder}
 -- What the next event begins or ends, and what is left behind it. At a statement with a block the items of the block are left before those
 -- behind it.
 pub data NextItem : Event → List Event → List RawItems → Type 0 where
-  a_kernel : {events : List Event} {more : RawItems} {around : List RawItems} (parallel : Bool) (at : ℕ) (begun : BeginsKernel (on (opening parallel) at ∷ events)) →
+  a_kernel : {events : List Event} {more : RawItems} {around : List RawItems} (parallel : Bool) (at : ℕ)
+      (begun : BeginsKernel (on (opening parallel) at ∷ events)) →
       SpellsOpen begun.rest (more ∷ around) →
       NextItem (on (opening parallel) at) events (Kernel begun.events begun.form more ∷ around)
   a_single : {events : List Event} {more : RawItems} {around : List RawItems} (at : ℕ) (begun : BeginsOrder events) →
@@ -43,7 +44,8 @@ walk {events} (outside (nothing e)) = walk_as events [] (Nothing ∷ []) e finis
 walk {events} {items} (outside (kernel {es = es} {k = form} rest k more e)) =
     let parts = on action.Name form.name ∷ k.params ++ on action.OpenBody k.body_at ∷ k.statements ++ on action.CloseKernel k.end_at ∷ [] in
     walk_as events (on (opening form.parallel) k.at ∷ parts ++ rest) items (e ∙ ap (λ x. x ++ rest) k.spelled)
-    (goes_on (a_kernel form.parallel k.at (record { events = es; rest = rest; form = form; all_are = ap (λ x. x ++ rest) (sym k.spelled); spells = k }) (outside more)))
+    (goes_on (a_kernel form.parallel k.at (record { events = es; rest = rest; form = form; all_are = ap (λ x. x ++ rest) (sym k.spelled); spells = k })
+    (outside more)))
 walk {events} {items} (outside (single {at = at} {order = order} es rest s no_block more e)) =
     walk_as events (on action.StartStatement at ∷ es ++ rest) items e
     (goes_on (a_single at (record { events = es; rest = rest; form = order; all_are = refl; spells = s }) no_block (outside more)))
@@ -105,14 +107,16 @@ event_at all at d within = rw (add-one) (drop-cons all at d within)
 pub no_event : (all : List Event) (at : ℕ) → at ≡ length all → drop at all ≡ []
 no_event all at e = drop_all at all (omega arith)
 
-next_left : (all es part rest : List Event) (at read : ℕ) (e : Event) → drop at all ≡ e ∷ es → es ≡ part ++ rest → read ≡ length part → drop (at + 1 + read) all ≡ rest
+next_left : (all es part rest : List Event) (at read : ℕ) (e : Event) → drop at all ≡ e ∷ es → es ≡ part ++ rest → read ≡ length part
+    → drop (at + 1 + read) all ≡ rest
 next_left all es part rest at read e here split len =
     sym (drop-drop read (at + 1) all)
     ∙ ap (drop read) (sym (drop-drop 1 at all) ∙ ap (drop 1) here ∙ split)
     ∙ ap (λ n. drop n (part ++ rest)) len
     ∙ drop-append_seam part rest
 
-next_within : (all es part rest : List Event) (at read : ℕ) (e : Event) → drop at all ≡ e ∷ es → es ≡ part ++ rest → read ≡ length part → at + 1 + read ≤ length all
+next_within : (all es part rest : List Event) (at read : ℕ) (e : Event) → drop at all ≡ e ∷ es → es ≡ part ++ rest → read ≡ length part
+    → at + 1 + read ≤ length all
 next_within all es part rest at read e here split len =
     let a : length all - at ≡ suc (length es) = sym (length-drop at all) ∙ ap length here in
     let b : length es ≡ length part + length rest = ap length split ∙ length-append part rest in
@@ -138,13 +142,16 @@ no_kernel_opens action.OpenJob job parallel e = job refl
 no_kernel_opens action.OpenParallel job parallel e = parallel refl
 no_kernel_opens _ job parallel e = cc
 
-pub order_begins : (all es ys : List Event) (at : ℕ) (e : Event) (items : List RawItems) → drop at all ≡ e ∷ es → ys ≡ es → e.action ≡ action.StartStatement → SpellsOpen (drop at all) items → BeginsOrder ys
-order_begins all es ys at e items here same starts spells = subst BeginsOrder (sym same) (begins_order (next_of (walk_here all es at e items here spells)) starts)
+pub order_begins : (all es ys : List Event) (at : ℕ) (e : Event) (items : List RawItems) → drop at all ≡ e ∷ es → ys ≡ es → e.action ≡ action.StartStatement
+    → SpellsOpen (drop at all) items → BeginsOrder ys
+order_begins all es ys at e items here same starts spells = subst BeginsOrder (sym same)
+    (begins_order (next_of (walk_here all es at e items here spells)) starts)
 
 abbrev pub LeadsOrder : (all : List Event) (at first : ℕ) → RawOrder → (next : ℕ) → List RawItems → Type 0
 LeadsOrder all at first order next items = (at < next) × (next ≤ length all) × (LeadsSingle all first order next items ⊎ LeadsBlock all first order next items)
 
-order_next : (all : List Event) (at : ℕ) (order : RawOrder) (read : ℕ) {e : Event} {es : List Event} {items : List RawItems} → NextItem e es items → drop at all ≡ e ∷ es → e.action ≡ action.StartStatement →
+order_next : (all : List Event) (at : ℕ) (order : RawOrder) (read : ℕ) {e : Event} {es : List Event} {items : List RawItems} → NextItem e es items
+    → drop at all ≡ e ∷ es → e.action ≡ action.StartStatement →
     ((b : BeginsOrder es) → form_of order ≡ b.form) → ((b : BeginsOrder es) → read ≡ length b.events) → LeadsOrder all at e.place order (at + 1 + read) items
 order_next all at order read (a_kernel true q begun left) here starts form len = absurd cc
 order_next all at order read (a_kernel false q begun left) here starts form len = absurd cc
@@ -176,7 +183,8 @@ order_next all at order read (an_end end q (Repeat n) closes left) here starts f
 order_next all at order read (an_end end q (When x s v) closes left) here starts form len = absurd cc
 order_next all at order read (an_end end q _ closes left) here starts form len = absurd cc
 
-pub order_leads : (all es ys : List Event) (at : ℕ) (e : Event) (items : List RawItems) (order : RawOrder) (read : ℕ) → drop at all ≡ e ∷ es → ys ≡ es → e.action ≡ action.StartStatement → SpellsOpen (drop at all) items →
+pub order_leads : (all es ys : List Event) (at : ℕ) (e : Event) (items : List RawItems) (order : RawOrder) (read : ℕ) → drop at all ≡ e ∷ es → ys ≡ es
+    → e.action ≡ action.StartStatement → SpellsOpen (drop at all) items →
     ((b : BeginsOrder ys) → form_of order ≡ b.form) → ((b : BeginsOrder ys) → read ≡ length b.events) → LeadsOrder all at e.place order (at + 1 + read) items
 order_leads all es ys at e items order read here same starts spells form len =
     order_next all at order read (next_of (walk_here all es at e items here spells)) here starts
@@ -184,20 +192,24 @@ order_leads all es ys at e items order read here same starts spells form len =
 
 -- A KERNEL
 
-pub kernel_begins : (all es ys : List Event) (at : ℕ) (e : Event) (items : List RawItems) → drop at all ≡ e ∷ es → ys ≡ drop at all → opens_kernel e.action ≡ true → SpellsOpen (drop at all) items → BeginsKernel ys
-kernel_begins all es ys at e items here same opens spells = subst BeginsKernel (sym (same ∙ here)) (begins_kernel (next_of (walk_here all es at e items here spells)) opens)
+pub kernel_begins : (all es ys : List Event) (at : ℕ) (e : Event) (items : List RawItems) → drop at all ≡ e ∷ es → ys ≡ drop at all
+    → opens_kernel e.action ≡ true → SpellsOpen (drop at all) items → BeginsKernel ys
+kernel_begins all es ys at e items here same opens spells = subst BeginsKernel (sym (same ∙ here))
+    (begins_kernel (next_of (walk_here all es at e items here spells)) opens)
 
 abbrev pub LeadsToKernel : (all : List Event) (at next : ℕ) → List RawItems → Type 0
 LeadsToKernel all at next items = (at < next) × (next ≤ length all) × LeadsKernel all at next items
 
-kernel_next : (all : List Event) (at len : ℕ) {e : Event} {es : List Event} {items : List RawItems} → NextItem e es items → drop at all ≡ e ∷ es → opens_kernel e.action ≡ true →
+kernel_next : (all : List Event) (at len : ℕ) {e : Event} {es : List Event} {items : List RawItems} → NextItem e es items → drop at all ≡ e ∷ es
+    → opens_kernel e.action ≡ true →
     ((b : BeginsKernel (e ∷ es)) → len ≡ length b.events) → LeadsToKernel all at (at + len) items
 kernel_next all at len {e} {es} (a_kernel {more = more} {around = around} parallel q begun left) here opens count =
     let split = here ∙ begun.all_are in
     let size : len ≡ length begun.events = count begun in
     let some : length begun.events ≡ suc _ = ap length begun.spells.spelled in
     let a : length all - at ≡ length begun.events + length begun.rest = sym (length-drop at all) ∙ ap length split ∙ length-append begun.events begun.rest in
-    let behind : drop (at + len) all ≡ begun.rest = sym (drop-drop len at all) ∙ ap (drop len) split ∙ ap (λ n. drop n (begun.events ++ begun.rest)) size ∙ drop-append_seam begun.events begun.rest in
+    let behind : drop (at + len) all ≡ begun.rest = sym (drop-drop len at all) ∙ ap (drop len) split ∙ ap (λ n. drop n (begun.events ++ begun.rest)) size
+    ∙ drop-append_seam begun.events begun.rest in
     let minus : at + len - at ≡ length begun.events = omega arith in (
       omega arith,
       omega arith,
@@ -218,14 +230,17 @@ kernel_next all at len (an_end end q (Repeat n) closes left) here opens count = 
 kernel_next all at len (an_end end q (When x s v) closes left) here opens count = absurd cc
 kernel_next all at len (an_end end q _ closes left) here opens count = absurd cc
 
-pub kernel_leads : (all es ys : List Event) (at : ℕ) (e : Event) (items : List RawItems) (len : ℕ) → drop at all ≡ e ∷ es → ys ≡ drop at all → opens_kernel e.action ≡ true → SpellsOpen (drop at all) items →
+pub kernel_leads : (all es ys : List Event) (at : ℕ) (e : Event) (items : List RawItems) (len : ℕ) → drop at all ≡ e ∷ es → ys ≡ drop at all
+    → opens_kernel e.action ≡ true → SpellsOpen (drop at all) items →
     ((b : BeginsKernel ys) → len ≡ length b.events) → LeadsToKernel all at (at + len) items
 kernel_leads all es ys at e items len here same opens spells count =
-    kernel_next all at len (next_of (walk_here all es at e items here spells)) here opens (subst (λ y. (b : BeginsKernel y) → len ≡ length b.events) (same ∙ here) count)
+    kernel_next all at len (next_of (walk_here all es at e items here spells)) here opens
+    (subst (λ y. (b : BeginsKernel y) → len ≡ length b.events) (same ∙ here) count)
 
 -- AN END
 
-out_next : (all : List Event) (at : ℕ) {e : Event} {es : List Event} {items : List RawItems} → NextItem e es items → drop at all ≡ e ∷ es → (e.action ≡ action.StartStatement → ⊥) → (opens_kernel e.action ≡ true → ⊥) →
+out_next : (all : List Event) (at : ℕ) {e : Event} {es : List Event} {items : List RawItems} → NextItem e es items → drop at all ≡ e ∷ es
+    → (e.action ≡ action.StartStatement → ⊥) → (opens_kernel e.action ≡ true → ⊥) →
     (at < at + 1) × (at + 1 ≤ length all) × LeadsOut all (at + 1) items
 out_next all at (a_kernel true q begun left) here starts opens = absurd (opens refl)
 out_next all at (a_kernel false q begun left) here starts opens = absurd (opens refl)
@@ -235,10 +250,17 @@ out_next all at {e} {es} (an_end {more = around} {around = more} end q head clos
     let a : length all - at ≡ suc (length es) = sym (length-drop at all) ∙ ap length here in (
       omega arith,
       omega arith,
-      record { around = around; more = more; items_are = refl; left = subst (λ x. SpellsOpen x (around ∷ more)) (sym (sym (drop-drop 1 at all) ∙ ap (drop 1) here)) left },
+      record {
+        around = around;
+        more = more;
+        items_are = refl;
+        left = subst (λ x. SpellsOpen x (around ∷ more))
+            (sym (sym (drop-drop 1 at all) ∙ ap (drop 1) here)) left;
+      },
     )
 
-pub out_leads : (all es : List Event) (at : ℕ) (e : Event) (items : List RawItems) → drop at all ≡ e ∷ es → (e.action ≡ action.StartStatement → ⊥) → (opens_kernel e.action ≡ true → ⊥) → SpellsOpen (drop at all) items →
+pub out_leads : (all es : List Event) (at : ℕ) (e : Event) (items : List RawItems) → drop at all ≡ e ∷ es → (e.action ≡ action.StartStatement → ⊥)
+    → (opens_kernel e.action ≡ true → ⊥) → SpellsOpen (drop at all) items →
     (at < at + 1) × (at + 1 ≤ length all) × LeadsOut all (at + 1) items
 out_leads all es at e items here starts opens spells = out_next all at (next_of (walk_here all es at e items here spells)) here starts opens
 
@@ -263,9 +285,11 @@ after_kernel all at next items leads = record { within = leads.1; spelled = reco
 pub after_end : (all : List Event) (at next : ℕ) (items : List RawItems) → Leads all at (item.End next) items → GoesOn all next
 after_end all at next items leads = record { within = leads.1; spelled = record { items = leads.2.around ∷ leads.2.more; spells = leads.2.left } }
 
-after_either : (all : List Event) (first : ℕ) (order : RawOrder) (next : ℕ) (items : List RawItems) → LeadsSingle all first order next items ⊎ LeadsBlock all first order next items → IsOpen (drop next all)
+after_either : (all : List Event) (first : ℕ) (order : RawOrder) (next : ℕ) (items : List RawItems)
+    → LeadsSingle all first order next items ⊎ LeadsBlock all first order next items → IsOpen (drop next all)
 after_either all first order next items (inl one) = record { items = one.more ∷ one.around; spells = one.left }
 after_either all first order next items (inr one) = record { items = one.inner ∷ one.more ∷ one.around; spells = one.left }
 
-pub after_order : (all : List Event) (at first : ℕ) (order : RawOrder) (next : ℕ) (items : List RawItems) → Leads all at (item.Order first order next) items → GoesOn all next
+pub after_order : (all : List Event) (at first : ℕ) (order : RawOrder) (next : ℕ) (items : List RawItems) → Leads all at (item.Order first order next) items
+    → GoesOn all next
 after_order all at first order next items leads = record { within = leads.1; spelled = after_either all first order next items leads.2 }

@@ -11,7 +11,8 @@ use Rattle.frame_script.specs.Names.{Name as Known}
 use Rattle.frame_script.specs.Spelling.{Says}
 use Rattle.frame_script.specs.Files.{Repeated, IsStatement, StandFor, Mark, copies_of, literals_in, literals_of}
 use Rattle.frame_script.specs.Copies.{IsCopyOf, IsCopy, AreCopies}
-use Rattle.frame_script.specs.Writing.{HasMark, is_test}
+use Rattle.frame_ast.specs.Accepted.{is_when}
+use Rattle.frame_script.specs.Writing.{HasMark}
 use Rattle.frame_script.proofs.WritingParts.{zipped}
 
 -- ONE STATEMENT
@@ -78,12 +79,12 @@ copy_is {s} {names} {kernels} {literals} {count} {at} {form} x y is c = record {
   says = copy_says s names kernels literals count form x.act y.act is.says c.1;
 }
 
-copy_test : (x y : Order) → IsCopyOf x y → is_test y ≡ is_test x
-copy_test (order.Column name column life) y c = ap is_test c.2
-copy_test (order.Schedule job) y c = ap is_test c.2
-copy_test (order.Combine name of) y c = ap is_test c.2
-copy_test (order.Dispose name after handle) y c = ap is_test c.2
-copy_test _ y c = ap is_test c
+copy_test : (x y : Order) → IsCopyOf x y → is_when y ≡ is_when x
+copy_test (order.Column name column life) y c = ap is_when c.2
+copy_test (order.Schedule job) y c = ap is_when c.2
+copy_test (order.Combine name of) y c = ap is_when c.2
+copy_test (order.Dispose name after handle) y c = ap is_when c.2
+copy_test _ y c = ap is_when c
 
 -- LISTS
 
@@ -109,7 +110,13 @@ both_copies [] xs' ys c = record { front = []; back = ys; ys_are = refl; front_a
 both_copies (x ∷ xs) xs' [] c = absurd c
 both_copies (x ∷ xs) xs' (y ∷ ys) c =
     let others = both_copies xs xs' ys c.1 in
-    record { front = y ∷ others.front; back = others.back; ys_are = ap (λ zs. y ∷ zs) others.ys_are; front_are = (c.0, others.front_are); back_are = others.back_are }
+    record {
+      front = y ∷ others.front;
+      back = others.back;
+      ys_are = ap (λ zs. y ∷ zs) others.ys_are;
+      front_are = (c.0, others.front_are);
+      back_are = others.back_are;
+    }
 
 pub copies_length : (xs ys : List Statement) → AreCopies xs ys → length xs ≡ length ys
 copies_length [] [] c = refl
@@ -149,7 +156,8 @@ copies_as : (xs xs' ys : List Statement) → xs ≡ xs' → AreCopies xs ys → 
 copies_as xs xs' ys e c = subst (λ zs. AreCopies zs ys) e c
 
 -- a `when`, its block and what is behind
-copies_of_when : (s : Source) (names : List Known) (kernels : List CheckedKernel) (literals at : ℕ) (head : OrderForm) (Inner More : List Statement → Type 0) → Kept Inner → Kept More →
+copies_of_when : (s : Source) (names : List Known) (kernels : List CheckedKernel) (literals at : ℕ) (head : OrderForm) (Inner More : List Statement → Type 0)
+    → Kept Inner → Kept More →
     Kept (λ statements. (x : Statement) × (body rest : List Statement) × (statements ≡ x ∷ body ++ rest)
     × IsStatement s names kernels literals (length body) at head x × Inner body × More rest)
 copies_of_when s names kernels literals at head Inner More kept_inner kept_more xs ys (x, body, rest, xs_are, is, inside, others) c =
@@ -159,12 +167,14 @@ copies_of_when s names kernels literals at head Inner More kept_inner kept_more 
       both.front,
       both.back,
       first.ys_are ∙ ap (λ zs. first.first ∷ zs) both.ys_are,
-      subst (λ n. IsStatement s names kernels literals n at head first.first) (copies_length body both.front both.front_are) (copy_is x first.first is first.first_is),
+      subst (λ n. IsStatement s names kernels literals n at head first.first) (copies_length body both.front both.front_are)
+          (copy_is x first.first is first.first_is),
       kept_inner body both.front inside both.front_are,
       kept_more rest both.back others both.back_are,
     )
 
-pub copies_stand : (s : Source) (names : List Known) (kernels : List CheckedKernel) (literals : ℕ) (items : RawItems) → Kept (StandFor s names kernels literals items)
+pub copies_stand : (s : Source) (names : List Known) (kernels : List CheckedKernel) (literals : ℕ) (items : RawItems)
+    → Kept (StandFor s names kernels literals items)
 copies_stand s names kernels literals Nothing xs ys e c = no_copies xs ys e c
 copies_stand s names kernels literals (Kernel events form more) xs ys h c = copies_stand s names kernels literals more xs ys h c
 copies_stand s names kernels literals (Single at form more) xs ys (x, rest, xs_are, is, others) c =
@@ -180,16 +190,20 @@ copies_stand s names kernels literals (Block at (Repeat n) inner more) xs ys (co
       both.front,
       both.back,
       both.ys_are,
-      copies_repeated _ (StandFor s names kernels literals inner) (λ xs' ys' h c'. copies_stand s names kernels literals inner xs' ys' h c') copies both.front repeated both.front_are,
+      copies_repeated _ (StandFor s names kernels literals inner) (λ xs' ys' h c'. copies_stand s names kernels literals inner xs' ys' h c') copies both.front
+          repeated both.front_are,
       copies_stand s names kernels (literals + length (literals_in s inner)) more rest both.back others both.back_are,
     )
 copies_stand s names kernels literals (Block at head inner more) xs ys h c =
-    copies_of_when s names kernels literals at head (StandFor s names kernels literals inner) (StandFor s names kernels (literals + length (literals_in s inner)) more)
-    (λ xs' ys' h' c'. copies_stand s names kernels literals inner xs' ys' h' c') (λ xs' ys' h' c'. copies_stand s names kernels (literals + length (literals_in s inner)) more xs' ys' h' c') xs ys h c
+    copies_of_when s names kernels literals at head (StandFor s names kernels literals inner)
+    (StandFor s names kernels (literals + length (literals_in s inner)) more)
+    (λ xs' ys' h' c'. copies_stand s names kernels literals inner xs' ys' h' c')
+    (λ xs' ys' h' c'. copies_stand s names kernels (literals + length (literals_in s inner)) more xs' ys' h' c') xs ys h c
 
 -- copies of a list, so many times, stand for what the list stands for, and have its marks as often
 
-pub repeated_stand : (n : ℕ) (Is : List Statement → Type 0) (block : List Statement) → Kept Is → Is block → (xs : List Statement) → Repeated n (AreCopies block) xs → Repeated n Is xs
+pub repeated_stand : (n : ℕ) (Is : List Statement → Type 0) (block : List Statement) → Kept Is → Is block → (xs : List Statement)
+    → Repeated n (AreCopies block) xs → Repeated n Is xs
 repeated_stand zero Is block kept is xs e = e
 repeated_stand (suc n) Is block kept is xs (one, rest, xs_are, c, others) =
     (one, rest, xs_are, kept block one is c, repeated_stand n Is block kept is rest others)

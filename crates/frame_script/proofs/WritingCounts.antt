@@ -11,7 +11,8 @@ counted_here x y act n m same act_is e =
     let with_behind : Statement → Statement = λ z. record z { act = with_count m z.act } in
     ap with_act (act_is ∙ ap (λ k. with_count k y.act) e) ∙ ap with_behind same
 
-pub counts_behind : (xs : List Statement) (at : ℕ) (y : Statement) (act : Order) → at < length xs → y ≡ get_or xs at y → act ≡ with_count (length xs - at - 1) y.act →
+pub counts_behind : (xs : List Statement) (at : ℕ) (y : Statement) (act : Order) → at < length xs → y ≡ get_or xs at y
+    → act ≡ with_count (length xs - at - 1) y.act →
     set xs at (record y { act = act }) ≡ count_at at xs
 counts_behind [] at y act within same act_is = absurd (omega (arith, within))
 counts_behind (x ∷ xs) zero y act within same act_is =

@@ -7,7 +7,8 @@ use Rattle.frame_script.specs.Writing.{tests_in}
 abbrev Behind : (room left : ℕ) → (more back : List Mark) → Type 0
 Behind room left more back = (tests few : ℕ) → tests ≡ few + tests_in more → excess room tests (more ++ back) ≡ excess left few back
 
-behind_mark : (room left tests few at : ℕ) (tested : Bool) (more back : List Mark) → tests ≡ few + cond tested (1 + tests_in more) (tests_in more) → Behind room left more back →
+behind_mark : (room left tests few at : ℕ) (tested : Bool) (more back : List Mark) → tests ≡ few + cond tested (1 + tests_in more) (tests_in more)
+    → Behind room left more back →
     excess (suc room) tests (record { at = at; tested = tested } ∷ more ++ back) ≡ excess left few back
 behind_mark room left tests few at false more back is known = known tests few is
 behind_mark room left zero few at true more back is known = absurd (omega (arith, is))

@@ -47,13 +47,15 @@ as_long w v xs e =
     let k = keeps w v xs e in
     omega (arith, ap length k.same, length-append w.statements k.others)
 
-pub as_before : (w v : Writing) (xs : List Statement) (at : ℕ) (d : Statement) → v ≡ put_all w xs → at < length w.statements → get_or v.statements at d ≡ get_or w.statements at d
+pub as_before : (w v : Writing) (xs : List Statement) (at : ℕ) (d : Statement) → v ≡ put_all w xs → at < length w.statements
+    → get_or v.statements at d ≡ get_or w.statements at d
 as_before w v xs at d e within =
     let k = keeps w v xs e in
     ap (λ ys. get_or ys at d) k.same ∙ get_or_append_left w.statements k.others d at within
 
 -- the block is still there
-pub same_block : (w v : Writing) (xs : List Statement) (start end : ℕ) → v ≡ put_all w xs → end ≡ length w.statements → drop start (take end v.statements) ≡ drop start w.statements
+pub same_block : (w v : Writing) (xs : List Statement) (start end : ℕ) → v ≡ put_all w xs → end ≡ length w.statements
+    → drop start (take end v.statements) ≡ drop start w.statements
 same_block w v xs start end e end_is =
     let k = keeps w v xs e in
     ap (drop start) (ap (take end) k.same ∙ take_at w.statements k.others end (sym end_is))

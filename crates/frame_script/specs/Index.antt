@@ -43,5 +43,6 @@ pub record IsIndex (firsts : List (Option ℕ)) (others : BTreeMap (Bor (List �
   pub missing : (text : List ℕ) → first_for firsts text ≡ None → place_in (map known_of entries) text ≡ None
   pub apart : (text : List ℕ) → first_for firsts text ≡ None → other_of others text ≡ None
   -- a name is the first of its bucket, or one of the others
-  pub finds : (text : List ℕ) (place : ℕ) (first : Entry) → first_for firsts text ≡ Some place → slice_get entries place ≡ Some first →
+  pub finds : (text : List ℕ) (place : ℕ) (first : Entry) → first_for firsts text ≡ Some place
+      → slice_get entries place ≡ Some first →
       place_in (map known_of entries) text ≡ cond (bytes_eq first.text.now text) (Some place) (other_of others text)

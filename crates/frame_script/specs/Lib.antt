@@ -5,7 +5,7 @@ pub mod Lines
 pub mod Names
 pub mod Index
 pub mod KernelIndex
-pub mod Measures
+pub mod GuardRooms
 pub mod Checks
 pub mod Scheduled
 pub mod Faults

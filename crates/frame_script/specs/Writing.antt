@@ -7,6 +7,7 @@ use Rattle.frame_ast.specs.declared.kernel.Kernel.{Kernel as CheckedKernel}
 use Rattle.frame_ast.specs.declared.script.Order.{Order}
 use Rattle.frame_ast.specs.declared.script.Order.TheVariants as order
 use Rattle.frame_ast.specs.declared.script.Statement.{Statement}
+use Rattle.frame_ast.specs.Accepted.{is_when}
 use Rattle.frame_script.specs.declared.written.OpenBlock.{OpenBlock}
 use Rattle.frame_script.specs.declared.written.OpenBlock.TheVariants as block
 use Rattle.frame_script.specs.declared.raw.RawNumber.{RawNumber}
@@ -30,17 +31,13 @@ nothing_written = record { statements = []; tests = 0; over = None; blocks = [] 
 
 -- ONE STATEMENT
 
-abbrev pub is_test : Order → Bool
-is_test (order.When name sign value count) = true
-is_test _ = false
-
 -- so many statements and so many `when` among them leave room for this one
 abbrev pub fits_in : (statements tests : ℕ) → Order → Bool
-fits_in statements tests o = nat_lt statements MOST_STATEMENTS && (not (is_test o) || nat_lt tests MOST_TESTS)
+fits_in statements tests o = nat_lt statements MOST_STATEMENTS && (not (is_when o) || nat_lt tests MOST_TESTS)
 
 abbrev pub put_in : Bool → Writing → Statement → Writing
 put_in true w x =
-    record w { statements = w.statements ++ x ∷ []; tests = if is_test x.act then w.tests + 1 else w.tests }
+    record w { statements = w.statements ++ x ∷ []; tests = if is_when x.act then w.tests + 1 else w.tests }
 put_in false w x = record w { over = Some x.line }
 
 abbrev pub put_unless : Option ℕ → Writing → Statement → Writing
@@ -92,7 +89,7 @@ Closes w v = ClosesIn w.blocks w v
 
 -- a written statement has this mark
 abbrev pub HasMark : Source → Statement → Mark → Type 0
-HasMark s x m = (x.line ≡ line_at s m.at) × (is_test x.act ≡ m.tested)
+HasMark s x m = (x.line ≡ line_at s m.at) × (is_when x.act ≡ m.tested)
 
 -- These statements are written of the whole, and the rest is left: behind them, whatever the rest stands for, they are
 -- what the whole stands for.

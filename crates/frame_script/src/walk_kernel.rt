@@ -9,7 +9,7 @@ ghost use Rattle.kernel_code.specs.Legible.{NamesAreText, NamesStand};
 ghost use Rattle.frame_script.specs.Sources.{file_tokens};
 ghost use Rattle.frame_script.specs.Walking.{AddsKernel, RefusesKernel};
 
-use crate::measure::has_guard_room;
+use crate::guard_room::has_guard_room;
 use crate::{Kernels, LoadFault, Source};
 use frame_grammar::Note;
 use kernel_code::{KernelFault, check_kernel, raw_kernel};

@@ -2,7 +2,7 @@
 
 ghost use Rattle.std.specs.Prelude.{◌≡◌, ◌<◌, ◌≤◌, ◌-◌, Some, None, length, take, drop, IfOk, reverse, MatchResult};
 ghost use Rattle.job_base.specs.declared.limits.TheConstants.{MOST_STATEMENTS};
-ghost use Rattle.frame_script.specs.Writing.{Writing, is_test, fits_in, nothing_written, put, opened, with_count, count_at, PutsCopies, PutsRepeated, Closes};
+ghost use Rattle.frame_script.specs.Writing.{Writing, fits_in, nothing_written, put, opened, with_count, count_at, PutsCopies, PutsRepeated, Closes};
 ghost use Rattle.frame_script.specs.declared.written.OpenBlock.TheVariants as block;
 
 use crate::copies::copy_of;
@@ -31,15 +31,6 @@ pub struct Written {
     over: Option<u32>,
     /// The open blocks, the innermost last.
     blocks: Vec<OpenBlock>,
-}
-
-fn is_test(order: &Order) -> bool
-    ensures { result ≡ is_test order.now }
-{
-    match order {
-        Order::When { .. } => true,
-        _ => false,
-    }
 }
 
 fn set_count(order: &mut Order, behind: u32)
@@ -82,7 +73,7 @@ impl Written {
         ensures { result ≡ fits_in (length self.now.statements) self.now.tests order.now }
     {
         self.statements.len() < MOST_STATEMENTS as usize
-            && (!is_test(order) || self.tests < MOST_TESTS)
+            && (!order.is_when() || self.tests < MOST_TESTS)
     }
 
     /// A statement comes next.
@@ -96,7 +87,7 @@ impl Written {
             self.over = Some(line);
             return Ok(());
         }
-        if is_test(&act) {
+        if act.is_when() {
             self.tests += 1;
         }
         self.statements.push(Statement { line, act })?;

@@ -22,18 +22,22 @@ none_there : (p : Place) (items : List Item) → has p items ≡ false → text_
 none_there p [] e = refl
 none_there p (i ∷ rest) e = by (same_place i.0 p) e (none_there p rest)
   where
-    by : (b : Bool) → (b || list_any (λ (j : Item). same_place j.0 p) rest) ≡ false → (has p rest ≡ false → text_at p rest ≡ None) → option_map (λ (j : Item). j.1) (cond b (Some i) (find (λ (j : Item). same_place j.0 p) rest)) ≡ None
+    by : (b : Bool) → (b || list_any (λ (j : Item). same_place j.0 p) rest) ≡ false → (has p rest ≡ false → text_at p rest ≡ None)
+        → option_map (λ (j : Item). j.1) (cond b (Some i) (find (λ (j : Item). same_place j.0 p) rest)) ≡ None
     by true e more = absurd cc
     by false e more = more e
 
 -- what stands at a place fits there
-fit_there : (p : Place) (items : List Item) (t : Text) → all_fit items ≡ true → text_at p items ≡ Some t → (q : Place) × (same_place q p ≡ true) × (fits q t ≡ true)
+fit_there : (p : Place) (items : List Item) (t : Text) → all_fit items ≡ true → text_at p items ≡ Some t
+    → (q : Place) × (same_place q p ≡ true) × (fits q t ≡ true)
 fit_there p [] t fit e = absurd cc
 fit_there p (i ∷ rest) t fit e =
     let parts = and_parts (fits i.0 i.1) (all_fit rest) fit in
     by (same_place i.0 p) refl parts.0 e (fit_there p rest t parts.1)
   where
-    by : (b : Bool) → same_place i.0 p ≡ b → fits i.0 i.1 ≡ true → option_map (λ (j : Item). j.1) (cond b (Some i) (find (λ (j : Item). same_place j.0 p) rest)) ≡ Some t → (text_at p rest ≡ Some t → (q : Place) × (same_place q p ≡ true) × (fits q t ≡ true)) → (q : Place) × (same_place q p ≡ true) × (fits q t ≡ true)
+    by : (b : Bool) → same_place i.0 p ≡ b → fits i.0 i.1 ≡ true → option_map (λ (j : Item). j.1)
+        (cond b (Some i) (find (λ (j : Item). same_place j.0 p) rest)) ≡ Some t
+        → (text_at p rest ≡ Some t → (q : Place) × (same_place q p ≡ true) × (fits q t ≡ true)) → (q : Place) × (same_place q p ≡ true) × (fits q t ≡ true)
     by true same here e more = let text : i.1 ≡ t = cc in (i.0, same, subst (λ x. fits i.0 x ≡ true) text here)
     by false same here e more = more e
 
@@ -75,7 +79,8 @@ jobs_there Table t s e = absurd cc
 all_fit_in : (words : List Text) → is_of_command words ≡ true → all_fit (items_of words) ≡ true
 all_fit_in words e = (and_parts _ _ (and_parts _ _ e).1).0
 
-workers_by : (items : List Item) (o : Option Text) → text_at Workers items ≡ o → all_fit items ≡ true → (1 ≤ option_map_or number o 4) × (option_map_or number o 4 ≤ MOST_WORKERS)
+workers_by : (items : List Item) (o : Option Text) → text_at Workers items ≡ o → all_fit items ≡ true
+    → (1 ≤ option_map_or number o 4) × (option_map_or number o 4 ≤ MOST_WORKERS)
 workers_by items None e fit = (omega arith, omega arith)
 workers_by items (Some t) e fit = let f = fit_there Workers items t fit e in workers_there f.0 t f.1 f.2
 
@@ -87,8 +92,10 @@ abbrev pub workers_in_command : Command → ℕ
 workers_in_command (Run workers script table depth) = workers
 workers_in_command (Gen workers seed jobs depth) = workers
 
-pub workers_fit : (words : List Text) (command : Command) → IsAsked words command → (1 ≤ workers_in_command command) × (workers_in_command command ≤ MOST_WORKERS)
-workers_fit words (Run workers script table depth) asked = subst (λ n. (1 ≤ n) × (n ≤ MOST_WORKERS)) (sym asked.spelled.1) (workers_bounded words asked.of_command)
+pub workers_fit : (words : List Text) (command : Command) → IsAsked words command
+    → (1 ≤ workers_in_command command) × (workers_in_command command ≤ MOST_WORKERS)
+workers_fit words (Run workers script table depth) asked = subst (λ n. (1 ≤ n) × (n ≤ MOST_WORKERS)) (sym asked.spelled.1)
+    (workers_bounded words asked.of_command)
 workers_fit words (Gen workers seed jobs depth) asked = subst (λ n. (1 ≤ n) × (n ≤ MOST_WORKERS)) (sym asked.spelled.1) (workers_bounded words asked.of_command)
 
 -- the number at a place, where one is
@@ -107,7 +114,8 @@ seed_bounded words workers seed jobs depth asked =
     let f = fit_there Number (items_of words) at.text (all_fit_in words asked.of_command) at.there in
     subst (λ n. n ≤ MOST_SEED) at.is (seed_there f.0 at.text f.1 f.2)
 
-pub jobs_bounded : (words : List Text) (workers seed jobs : ℕ) (depth : Bool) → IsAsked words (Gen workers seed jobs depth) → (1 ≤ jobs) × (jobs ≤ MOST_GENERATED_JOBS)
+pub jobs_bounded : (words : List Text) (workers seed jobs : ℕ) (depth : Bool) → IsAsked words (Gen workers seed jobs depth)
+    → (1 ≤ jobs) × (jobs ≤ MOST_GENERATED_JOBS)
 jobs_bounded words workers seed jobs depth asked =
     let at = number_at Jobs words jobs _ refl asked.spelled.2 in
     let f = fit_there Jobs (items_of words) at.text (all_fit_in words asked.of_command) at.there in
@@ -115,13 +123,15 @@ jobs_bounded words workers seed jobs depth asked =
 
 -- A SCRIPT THAT IS MADE
 
-made_text_is : (words : List Text) (workers seed jobs : ℕ) (depth : Bool) → IsAsked words (Gen workers seed jobs depth) → made_text words ≡ Some (script_text seed jobs)
+made_text_is : (words : List Text) (workers seed jobs : ℕ) (depth : Bool) → IsAsked words (Gen workers seed jobs depth)
+    → made_text words ≡ Some (script_text seed jobs)
 made_text_is words workers seed jobs depth asked =
     let seeds = number_at Number words seed _ refl asked.spelled.0 in
     let most = number_at Jobs words jobs _ refl asked.spelled.2 in
     (λ i. made_by (seeds.there i) (most.there i)) ∙ (λ i. Some (script_text (seeds.is i) (most.is i)))
 
-pub made_is : (told : Told) (words : List Text) (workers seed jobs : ℕ) (depth : Bool) → IsAsked words (Gen workers seed jobs depth) → source_told told words ≡ Some (script_text seed jobs)
+pub made_is : (told : Told) (words : List Text) (workers seed jobs : ℕ) (depth : Bool) → IsAsked words (Gen workers seed jobs depth)
+    → source_told told words ≡ Some (script_text seed jobs)
 made_is told words workers seed jobs depth asked =
     ap (λ o. made_or_told o (told_by told (script_name words))) (made_text_is words workers seed jobs depth asked)
 
@@ -135,7 +145,8 @@ none_made : (words : List Text) (workers : ℕ) (script : _) (table : _) (depth 
 none_made words workers script table depth asked =
     ap (λ o. made_by o (text_at Jobs (items_of words))) (none_there Number (items_of words) asked.spelled.0) ∙ no_made (text_at Jobs (items_of words))
 
-pub file_is : (told : Told) (words : List Text) (workers : ℕ) (script : _) (table : _) (depth : Bool) → IsAsked words (Run workers script table depth) → source_told told words ≡ told (string_bytes script)
+pub file_is : (told : Told) (words : List Text) (workers : ℕ) (script : _) (table : _) (depth : Bool) → IsAsked words (Run workers script table depth)
+    → source_told told words ≡ told (string_bytes script)
 file_is told words workers script table depth asked =
     ap (λ o. made_or_told o (told_by told (script_name words))) (none_made words workers script table depth asked) ∙ ap (told_by told) asked.spelled.2
 
@@ -145,13 +156,15 @@ pub no_table_is : (words : List Text) (workers seed jobs : ℕ) (depth : Bool) �
 no_table_is words workers seed jobs depth asked =
     ap (λ o. table_by o (text_at Table (items_of words))) (made_text_is words workers seed jobs depth asked)
 
-pub table_is : (words : List Text) (workers : ℕ) (script : _) (table : _) (depth : Bool) → IsAsked words (Run workers script table depth) → table_name words ≡ option_map string_bytes table
+pub table_is : (words : List Text) (workers : ℕ) (script : _) (table : _) (depth : Bool) → IsAsked words (Run workers script table depth)
+    → table_name words ≡ option_map string_bytes table
 table_is words workers script table depth asked =
     ap (λ o. table_by o (text_at Table (items_of words))) (none_made words workers script table depth asked) ∙ asked.spelled.3
 
 -- READING
 
-pub file_read : (told : Told) (words : List Text) (workers : ℕ) (script : _) (table : _) (depth : Bool) (name bytes : Text) → IsAsked words (Run workers script table depth) → name ≡ string_bytes script → IfSome (told name) (λ b. bytes ≡ b) → ReadsSource words told bytes
+pub file_read : (told : Told) (words : List Text) (workers : ℕ) (script : _) (table : _) (depth : Bool) (name bytes : Text)
+    → IsAsked words (Run workers script table depth) → name ≡ string_bytes script → IfSome (told name) (λ b. bytes ≡ b) → ReadsSource words told bytes
 file_read told words workers script table depth name bytes asked is read = record {
   of_command = asked.of_command;
   source_is = subst (λ o. CanBe o bytes) (sym (file_is told words workers script table depth asked)) (subst (λ n. IfSome (told n) (λ b. bytes ≡ b)) is read);
@@ -161,10 +174,19 @@ pub long_some : (o : Option Text) (most : ℕ) → IfSome o (λ b. most < length
 long_some None most h = (replicate (suc most) 0, tt, (let e : length (replicate {A = ℕ} most 0) ≡ most = length-replicate most 0 in omega (arith, e)))
 long_some (Some b) most h = (b, refl, h)
 
-pub file_long : (told : Told) (words : List Text) (workers : ℕ) (script : _) (table : _) (depth : Bool) (name : Text) (most : ℕ) → IsAsked words (Run workers script table depth) → name ≡ string_bytes script → IfSome (told name) (λ b. most < length b) → (b : Text) × ReadsSource words told b × (most < length b)
+pub file_long : (told : Told) (words : List Text) (workers : ℕ) (script : _) (table : _) (depth : Bool) (name : Text) (most : ℕ)
+    → IsAsked words (Run workers script table depth) → name ≡ string_bytes script → IfSome (told name) (λ b. most < length b)
+    → (b : Text) × ReadsSource words told b × (most < length b)
 file_long told words workers script table depth name most asked is long =
-    let l = long_some (told name) most long in
-    (l.0, record { of_command = asked.of_command; source_is = subst (λ o. CanBe o l.0) (sym (file_is told words workers script table depth asked)) (subst (λ n. CanBe (told n) l.0) is l.1) }, l.2)
+    let l = long_some (told name) most long in (
+      l.0,
+      record {
+        of_command = asked.of_command;
+        source_is = subst (λ o. CanBe o l.0) (sym (file_is told words workers script table depth asked))
+            (subst (λ n. CanBe (told n) l.0) is l.1);
+      },
+      l.2,
+    )
 
 pub table_by_name : (told : Told) (o : Option Text) (name b : Text) → o ≡ Some name → CanBe (told name) b → CanBeTable told o (Some b)
 table_by_name told None name b e h = absurd cc

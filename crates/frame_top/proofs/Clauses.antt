@@ -45,7 +45,8 @@ fault_status : (o : Option TableFault) (a : Answer) → option_map refused_table
 fault_status None a e = absurd cc
 fault_status (Some f) a e = let same : refused_table f ≡ a = cc in inr (inl (sym (ap (λ (x : Answer). x.status) same)))
 
-size_status : (b : Bool) (o : Option TableFault) (a : Answer) → (if b then Some (answer PAST_LIMIT table_size_line) else option_map refused_table o) ≡ Some a → IsRefusing a.status
+size_status : (b : Bool) (o : Option TableFault) (a : Answer) → (if b then Some (answer PAST_LIMIT table_size_line) else option_map refused_table o) ≡ Some a
+    → IsRefusing a.status
 size_status true o a e = let same : answer PAST_LIMIT table_size_line ≡ a = cc in inr (inr (sym (ap (λ (x : Answer). x.status) same)))
 size_status false o a e = fault_status o a e
 
@@ -57,7 +58,8 @@ column_status : (table : Table) (xs : List Statement) (a : Answer) → column_re
 column_status table [] a e = absurd cc
 column_status table (x ∷ xs) a e = by (lacks_column table x.act) e (column_status table xs a)
   where
-    by : (b : Bool) → (if b then Some (answer TABLE_REFUSED (no_column_line (column_name x.act))) else column_refusal table xs) ≡ Some a → (column_refusal table xs ≡ Some a → IsRefusing a.status) → IsRefusing a.status
+    by : (b : Bool) → (if b then Some (answer TABLE_REFUSED (no_column_line (column_name x.act))) else column_refusal table xs) ≡ Some a
+        → (column_refusal table xs ≡ Some a → IsRefusing a.status) → IsRefusing a.status
     by true e rest = let same : answer TABLE_REFUSED (no_column_line (column_name x.act)) ≡ a = cc in inr (inl (sym (ap (λ (y : Answer). y.status) same)))
     by false e rest = rest e
 
@@ -73,7 +75,8 @@ limit_status : (o : Option PlanLimit) (a : Answer) → option_map (λ limit. ans
 limit_status None a e = absurd cc
 limit_status (Some limit) a e = let same : answer PAST_LIMIT (limit_line limit) ≡ a = cc in inr (inr (sym (ap (λ (y : Answer). y.status) same)))
 
-first_status : (a b c : Option Answer) (x : Answer) → (a ≡ Some x → IsRefusing x.status) → (b ≡ Some x → IsRefusing x.status) → (c ≡ Some x → IsRefusing x.status) → first_some (a ∷ b ∷ c ∷ []) ≡ Some x → IsRefusing x.status
+first_status : (a b c : Option Answer) (x : Answer) → (a ≡ Some x → IsRefusing x.status) → (b ≡ Some x → IsRefusing x.status)
+    → (c ≡ Some x → IsRefusing x.status) → first_some (a ∷ b ∷ c ∷ []) ≡ Some x → IsRefusing x.status
 unfolding first_some
 first_status (Some y) b c x f g h e = f e
 first_status None (Some y) c x f g h e = g e
@@ -83,7 +86,8 @@ first_status None None None x f g h e = absurd cc
 frame_status : (script : Script) (table : Table) (depth : Bool) (a : Answer) → frame_refusal script table depth ≡ Some a → IsRefusing a.status
 frame_status script table depth a e =
     first_status (column_refusal table script.statements.items) (depth_refusal depth script.statements.items) (limit_refusal script table) a
-    (column_status table script.statements.items a) (depth_status depth script.statements.items a) (limit_status (limit_of (setting script table) script.statements.items) a) e
+    (column_status table script.statements.items a) (depth_status depth script.statements.items a)
+    (limit_status (limit_of (setting script table) script.statements.items) a) e
 
 run_by : (ts : List JobTrap) (refused : ℕ) → IsRunning (status_by ts refused)
 run_by [] zero = inl refl
@@ -92,7 +96,8 @@ run_by (t ∷ ts) zero = inr (inr refl)
 run_by (t ∷ ts) (suc n) = inr (inr refl)
 
 run_status : (script : Script) (table : Table) (a : Answer) → a ≡ answer (status_of script table) (output_of script table) → IsRunning a.status
-run_status script table a is = subst IsRunning (sym (status_is a _ _ is)) (run_by (final (setting script table) script.statements.items).traps (final (setting script table) script.statements.items).refused)
+run_status script table a is = subst IsRunning (sym (status_is a _ _ is))
+    (run_by (final (setting script table) script.statements.items).traps (final (setting script table) script.statements.items).refused)
 
 pub data IsStatusOf (words : List Text) (risen : Type 0) (failed : Option Text) (n : ℕ) : Type 0 where
   usage : is_of_command words ≡ false → n ≡ USAGE → IsStatusOf words risen failed n
@@ -100,7 +105,8 @@ pub data IsStatusOf (words : List Text) (risen : Type 0) (failed : Option Text) 
   refusing : IsRefusing n → IsStatusOf words risen failed n
   running : IsRunning n → IsStatusOf words risen failed n
 
-pub status_of_cause : (words : List Text) (told : Told) (risen : Type 0) (failed : Option Text) (a : Answer) → Cause words told risen failed a → IsStatusOf words risen failed a.status
+pub status_of_cause : (words : List Text) (told : Told) (risen : Type 0) (failed : Option Text) (a : Answer) → Cause words told risen failed a
+    → IsStatusOf words risen failed a.status
 status_of_cause words told risen failed a (Usage p is) = usage p (status_is a _ _ is)
 status_of_cause words told risen failed a (NoScript p u is) = unread (OfScript p u) (status_is a _ _ is)
 status_of_cause words told risen failed a (BadScript source read r) = refusing (source_status source a r)
@@ -121,8 +127,10 @@ module _ (words : List Text) (risen : Type 0) (failed : Option Text) (n : ℕ) w
   pub not_unwritten : IsStatusOf words risen failed n → n ≢ UNWRITTEN
   not_unwritten (usage p is) e = absurd (omega (arith, is, e))
   not_unwritten (unread u is) e = absurd (omega (arith, is, e))
-  not_unwritten (refusing r) e = ⊎_elim (λ f. absurd (omega (arith, e, f))) (λ q. ⊎_elim (λ f. absurd (omega (arith, e, f))) (λ f. absurd (omega (arith, e, f))) q) r
-  not_unwritten (running r) e = ⊎_elim (λ f. absurd (omega (arith, e, f))) (λ q. ⊎_elim (λ f. absurd (omega (arith, e, f))) (λ f. absurd (omega (arith, e, f))) q) r
+  not_unwritten (refusing r) e = ⊎_elim (λ f. absurd (omega (arith, e, f)))
+      (λ q. ⊎_elim (λ f. absurd (omega (arith, e, f))) (λ f. absurd (omega (arith, e, f))) q) r
+  not_unwritten (running r) e = ⊎_elim (λ f. absurd (omega (arith, e, f)))
+      (λ q. ⊎_elim (λ f. absurd (omega (arith, e, f))) (λ f. absurd (omega (arith, e, f))) q) r
 
   pub not_none : IsStatusOf words risen failed n → n ≢ NO_MEMORY
   not_none (usage p is) e = absurd (omega (arith, is, e))
@@ -149,7 +157,8 @@ module _ (words : List Text) (told : Told) (risen : Type 0) (failed : Option Tex
   All = Answers (Cause words told risen failed) cut old new before now result
 
   pub status_fits : All → result ≤ PAST_LIMIT
-  status_fits (Caused a why (Whole is app same)) = subst (λ n. n ≤ PAST_LIMIT) (sym is) (at_most words risen failed a.status (status_of_cause words told risen failed a why))
+  status_fits (Caused a why (Whole is app same)) = subst (λ n. n ≤ PAST_LIMIT) (sym is)
+      (at_most words risen failed a.status (status_of_cause words told risen failed a why))
   status_fits (Caused a why (Part is n app rose)) = omega (arith, is)
   status_fits (Early is app same) = omega (arith, is)
   status_fits (Midway is text why n app same) = omega (arith, is)
@@ -169,8 +178,10 @@ module _ (words : List Text) (told : Told) (risen : Type 0) (failed : Option Tex
   pub unread_row : All → result ≡ UNREAD → IsUnreadOf words risen failed
   unread_row h e = unread_only words risen failed result (row h (λ f. omega (arith, e, f)) (λ f. omega (arith, e, f))) e
 
-  pub unwritten_row : All → result ≡ UNWRITTEN → Rose before now × ((a : Answer) × Cause words told risen failed a × ((n : ℕ) × Appends old new (take n a.text)))
-  unwritten_row (Caused a why (Whole is app same)) e = absurd (not_unwritten words risen failed a.status (status_of_cause words told risen failed a why) (sym is ∙ e))
+  pub unwritten_row : All → result ≡ UNWRITTEN → Rose before now × ((a : Answer) × Cause words told risen failed a
+      × ((n : ℕ) × Appends old new (take n a.text)))
+  unwritten_row (Caused a why (Whole is app same)) e = absurd (not_unwritten words risen failed a.status (status_of_cause words told risen failed a why)
+      (sym is ∙ e))
   unwritten_row (Caused a why (Part is n app rose)) e = (rose, (a, why, (n, app)))
   unwritten_row (Early is app same) e = absurd (omega (arith, is, e))
   unwritten_row (Midway is text why n app same) e = absurd (omega (arith, is, e))
@@ -188,11 +199,13 @@ module _ (words : List Text) (told : Told) (risen : Type 0) (failed : Option Tex
   taken_row (Midway is text why n app same) e = same
 
   -- what is settled is given, unless it was hindered
-  pub settled : (P : Answer → Type 0) → ((b : Answer) → Cause words told risen failed b → P b ⊎ (b.status ≡ UNREAD) × risen) → All → ((b : Answer) × P b × (result ≡ b.status) × Appends old new b.text) ⊎ Hindered risen (Rose before now) result
+  pub settled : (P : Answer → Type 0) → ((b : Answer) → Cause words told risen failed b → P b ⊎ (b.status ≡ UNREAD) × risen) → All
+      → ((b : Answer) × P b × (result ≡ b.status) × Appends old new b.text) ⊎ Hindered risen (Rose before now) result
   settled P f (Caused a why (Whole is app same)) = ⊎_elim (λ p. inl (a, p, is, app)) (λ u. inr (NotRead (is ∙ u.0) u.1)) (f a why)
   settled P f (Caused a why (Part is n app rose)) = inr (NotTaken is rose)
   settled P f (Early is app same) = inr (NotFound is)
   settled P f (Midway is text why n app same) = inr (NotFound is)
 
-  pub gives : (a : Answer) → ((b : Answer) → Cause words told risen failed b → (b ≡ a) ⊎ (b.status ≡ UNREAD) × risen) → All → ((result ≡ a.status) × Appends old new a.text) ⊎ Hindered risen (Rose before now) result
+  pub gives : (a : Answer) → ((b : Answer) → Cause words told risen failed b → (b ≡ a) ⊎ (b.status ≡ UNREAD) × risen) → All
+      → ((result ≡ a.status) × Appends old new a.text) ⊎ Hindered risen (Rose before now) result
   gives a f h = ⊎_elim (λ p. inl (subst (λ (x : Answer). (result ≡ x.status) × Appends old new x.text) p.1 (p.2, p.3))) (λ x. inr x) (settled (λ b. b ≡ a) f h)

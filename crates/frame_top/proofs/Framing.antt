@@ -44,34 +44,50 @@ unfolding first_some
 first_of a b c x p = rw p refl
 
 module _ (script : Script) (table : Table) (depth : Bool) where
-  pub no_refusal : column_refusal table script.statements.items ≡ None → depth_refusal depth script.statements.items ≡ None → limit_of (setting script table) script.statements.items ≡ None → frame_refusal script table depth ≡ None
-  no_refusal columns tests limits = none_of (column_refusal table script.statements.items) (depth_refusal depth script.statements.items) (limit_refusal script table) columns tests (ap (option_map (λ limit. answer PAST_LIMIT (limit_line limit))) limits)
+  pub no_refusal : column_refusal table script.statements.items ≡ None → depth_refusal depth script.statements.items ≡ None
+      → limit_of (setting script table) script.statements.items ≡ None → frame_refusal script table depth ≡ None
+  no_refusal columns tests limits = none_of (column_refusal table script.statements.items) (depth_refusal depth script.statements.items)
+      (limit_refusal script table) columns tests (ap (option_map (λ limit. answer PAST_LIMIT (limit_line limit))) limits)
 
-  pub limit_refuses : (limit : Limit) → column_refusal table script.statements.items ≡ None → depth_refusal depth script.statements.items ≡ None → limit_of (setting script table) script.statements.items ≡ Some limit → frame_refusal script table depth ≡ Some (answer PAST_LIMIT (limit_line limit))
-  limit_refuses limit columns tests limits = third_of (column_refusal table script.statements.items) (depth_refusal depth script.statements.items) (limit_refusal script table) (answer PAST_LIMIT (limit_line limit)) columns tests (ap (option_map (λ limit. answer PAST_LIMIT (limit_line limit))) limits)
+  pub limit_refuses : (limit : Limit) → column_refusal table script.statements.items ≡ None → depth_refusal depth script.statements.items ≡ None
+      → limit_of (setting script table) script.statements.items ≡ Some limit → frame_refusal script table depth ≡ Some (answer PAST_LIMIT (limit_line limit))
+  limit_refuses limit columns tests limits = third_of (column_refusal table script.statements.items) (depth_refusal depth script.statements.items)
+      (limit_refusal script table) (answer PAST_LIMIT (limit_line limit)) columns tests (ap (option_map (λ limit. answer PAST_LIMIT (limit_line limit))) limits)
 
-  pub tests_refuse : (a : Answer) → column_refusal table script.statements.items ≡ None → depth_refusal depth script.statements.items ≡ Some a → frame_refusal script table depth ≡ Some a
-  tests_refuse a columns tests = second_of (column_refusal table script.statements.items) (depth_refusal depth script.statements.items) (limit_refusal script table) a columns tests
+  pub tests_refuse : (a : Answer) → column_refusal table script.statements.items ≡ None → depth_refusal depth script.statements.items ≡ Some a
+      → frame_refusal script table depth ≡ Some a
+  tests_refuse a columns tests = second_of (column_refusal table script.statements.items) (depth_refusal depth script.statements.items)
+      (limit_refusal script table) a columns tests
 
   pub column_refuses : (a : Answer) → column_refusal table script.statements.items ≡ Some a → frame_refusal script table depth ≡ Some a
-  column_refuses a columns = first_of (column_refusal table script.statements.items) (depth_refusal depth script.statements.items) (limit_refusal script table) a columns
+  column_refuses a columns = first_of (column_refusal table script.statements.items) (depth_refusal depth script.statements.items)
+      (limit_refusal script table) a columns
 
 -- ANSWERS
 
-pub by_cause : (cause cause' : Answer → Type 0) (cut cut' : List ℕ → Type 0) (old new : Option (List ℕ)) (before now result : ℕ) → ((a : Answer) → cause a → cause' a) → ((t : List ℕ) → cut t → cut' t)
+pub by_cause : (cause cause' : Answer → Type 0) (cut cut' : List ℕ → Type 0) (old new : Option (List ℕ)) (before now result : ℕ)
+    → ((a : Answer) → cause a → cause' a) → ((t : List ℕ) → cut t → cut' t)
     → Answers cause cut old new before now result → Answers cause' cut' old new before now result
 by_cause cause cause' cut cut' old new before now result f g (Caused a why said) = Caused a (f a why) said
 by_cause cause cause' cut cut' old new before now result f g (Early is app same) = Early is app same
 by_cause cause cause' cut cut' old new before now result f g (Midway is text why n app same) = Midway is text (g text why) n app same
 
+-- nothing was said before
+pub from_same : {S : Type 0} (taken : S → Option (List ℕ)) (faults : S → ℕ) (cause : Answer → Type 0) (cut : List ℕ → Type 0) (old mid new : S) (result : ℕ)
+    → mid ≡ old → AnswersTo taken faults mid new cause cut result → AnswersTo taken faults old new cause cut result
+from_same taken faults cause cut old mid new result same a = subst (λ s. AnswersTo taken faults s new cause cut result) same a
+
 -- memory was wanting before anything was written
-pub none_said : {S : Type 0} (taken : S → Option (List ℕ)) (faults : S → ℕ) (cause : Answer → Type 0) (cut : List ℕ → Type 0) (old new : S) (result : ℕ) → result ≡ NO_MEMORY → new ≡ old → AnswersTo taken faults old new cause cut result
+pub none_said : {S : Type 0} (taken : S → Option (List ℕ)) (faults : S → ℕ) (cause : Answer → Type 0) (cut : List ℕ → Type 0) (old new : S) (result : ℕ)
+    → result ≡ NO_MEMORY → new ≡ old → AnswersTo taken faults old new cause cut result
 none_said taken faults cause cut old new result is same =
     Early is (subst (λ s. Appends (taken old) (taken s) []) (sym same) (appends_none (taken old))) (ap faults same)
 
 -- a script that is run
-pub run_answers : (script : Script) (table : Table) (workers : ℕ) (old new : Option (List ℕ)) (before now result : ℕ) → column_refusal table script.statements.items ≡ None → limit_of (setting script table) script.statements.items ≡ None
-    → Answers (λ a. a ≡ answer (status_of script table) (output_of script table)) (λ text. (has_when script ≡ true) × (text ≡ output_of script table)) old new before now result
+pub run_answers : (script : Script) (table : Table) (workers : ℕ) (old new : Option (List ℕ)) (before now result : ℕ)
+    → column_refusal table script.statements.items ≡ None → limit_of (setting script table) script.statements.items ≡ None
+    → Answers (λ a. a ≡ answer (status_of script table) (output_of script table))
+    (λ text. (has_when script ≡ true) × (text ≡ output_of script table)) old new before now result
     → Answers (FrameCause script table false workers) (IsCut script table false) old new before now result
 run_answers script table workers old new before now result columns limits a =
     let none = no_refusal script table false columns refl limits in
@@ -81,7 +97,8 @@ run_answers script table workers old new before now result columns limits a =
 no_limit : (f : PlanFault) → f ≡ NoMemory → (limit : Limit) → limit_told f ≡ Some limit → ⊥
 no_limit f e limit told = let bad : None ≡ Some limit = sym (ap limit_told e) ∙ told in cc
 
-pub plan_answers : {S : Type 0} (taken : S → Option (List ℕ)) (faults : S → ℕ) (script : Script) (table : Table) (depth : Bool) (workers : ℕ) (fault : PlanFault) (old new : S) (result : ℕ)
+pub plan_answers : {S : Type 0} (taken : S → Option (List ℕ)) (faults : S → ℕ) (script : Script) (table : Table) (depth : Bool) (workers : ℕ)
+    (fault : PlanFault) (old new : S) (result : ℕ)
     → column_refusal table script.statements.items ≡ None → depth_refusal depth script.statements.items ≡ None
     → (fault ≡ NoMemory) ⊎ (limit_of (setting script table) script.statements.items ≡ limit_told fault)
     → ((limit : Limit) → limit_told fault ≡ Some limit → SaidTo taken faults old new (answer PAST_LIMIT (limit_line limit)) result)
@@ -102,7 +119,9 @@ pub record IsMissing (table : Table) (n k : ℕ) (xs : List Statement) : Type 0 
   pub here : slice_get xs (k - n) ≡ Some x
   pub refused : column_refusal table xs ≡ Some (answer TABLE_REFUSED (no_column_line (column_name x.act)))
 
-missing_by : (table : Table) (n k : ℕ) (x : Statement) (xs : List Statement) (b : Bool) → lacks_column table x.act ≡ b → (if b then Some n else missing_from table (suc n) xs) ≡ Some k → (missing_from table (suc n) xs ≡ Some k → IsMissing table (suc n) k xs) → IsMissing table n k (x ∷ xs)
+missing_by : (table : Table) (n k : ℕ) (x : Statement) (xs : List Statement) (b : Bool) → lacks_column table x.act ≡ b
+    → (if b then Some n else missing_from table (suc n) xs) ≡ Some k → (missing_from table (suc n) xs ≡ Some k → IsMissing table (suc n) k xs)
+    → IsMissing table n k (x ∷ xs)
 missing_by table n k x xs true e h rest =
     let same : n ≡ k = cc in record {
       low = omega (arith, same);
@@ -127,7 +146,8 @@ pub none_missing : (table : Table) (n : ℕ) (xs : List Statement) → missing_f
 none_missing table n [] h = refl
 none_missing table n (x ∷ xs) h = by (lacks_column table x.act) refl h (none_missing table (suc n) xs)
   where
-    by : (b : Bool) → lacks_column table x.act ≡ b → (if b then Some n else missing_from table (suc n) xs) ≡ None → (missing_from table (suc n) xs ≡ None → column_refusal table xs ≡ None) → column_refusal table (x ∷ xs) ≡ None
+    by : (b : Bool) → lacks_column table x.act ≡ b → (if b then Some n else missing_from table (suc n) xs) ≡ None
+        → (missing_from table (suc n) xs ≡ None → column_refusal table xs ≡ None) → column_refusal table (x ∷ xs) ≡ None
     by true e h rest = absurd cc
     by false e h rest = ap (λ b. if b then Some (answer TABLE_REFUSED (no_column_line (column_name x.act))) else column_refusal table xs) e ∙ rest h
 
@@ -137,15 +157,18 @@ pub none_first : (xs : List Statement) → first_when xs ≡ None → list_any (
 none_first [] h = refl
 none_first (x ∷ xs) h = by (is_when x.act) refl h (none_first xs)
   where
-    by : (b : Bool) → is_when x.act ≡ b → (if b then Some x.line else first_when xs) ≡ None → (first_when xs ≡ None → list_any (λ (x : Statement). is_when x.act) xs ≡ false) → list_any (λ (x : Statement). is_when x.act) (x ∷ xs) ≡ false
+    by : (b : Bool) → is_when x.act ≡ b → (if b then Some x.line else first_when xs) ≡ None
+        → (first_when xs ≡ None → list_any (λ (x : Statement). is_when x.act) xs ≡ false) → list_any (λ (x : Statement). is_when x.act) (x ∷ xs) ≡ false
     by true e h rest = absurd cc
     by false e h rest = ap (λ b. b || list_any (λ (x : Statement). is_when x.act) xs) e ∙ rest h
 
-pub first_refuses : (xs : List Statement) (line : ℕ) → first_when xs ≡ Some line → depth_refusal true xs ≡ Some (answer SCRIPT_REFUSED (script_refused_line line Limited))
+pub first_refuses : (xs : List Statement) (line : ℕ) → first_when xs ≡ Some line
+    → depth_refusal true xs ≡ Some (answer SCRIPT_REFUSED (script_refused_line line Limited))
 first_refuses xs line e = ap (option_map (λ line. answer SCRIPT_REFUSED (script_refused_line line Limited))) e
 
 pub when_refuses : {S : Type 0} (taken : S → Option (List ℕ)) (faults : S → ℕ) (script : Script) (table : Table) (workers line : ℕ) (old new : S) (result : ℕ)
-    → column_refusal table script.statements.items ≡ None → first_when script.statements.items ≡ Some line → SaidTo taken faults old new (answer SCRIPT_REFUSED (script_refused_line line Limited)) result
+    → column_refusal table script.statements.items ≡ None → first_when script.statements.items ≡ Some line
+    → SaidTo taken faults old new (answer SCRIPT_REFUSED (script_refused_line line Limited)) result
     → AnswersTo taken faults old new (FrameCause script table true workers) (IsCut script table true) result
 when_refuses taken faults script table workers line old new result columns e said =
     Caused _ (Refused (tests_refuse script table true _ columns (first_refuses script.statements.items line e))) said
@@ -153,7 +176,8 @@ when_refuses taken faults script table workers line old new result columns e sai
 pub no_first : (xs : List Statement) → first_when xs ≡ None → depth_refusal true xs ≡ None
 no_first xs e = ap (option_map (λ line. answer SCRIPT_REFUSED (script_refused_line line Limited))) e
 
-pub no_plan : {S : Type 0} (taken : S → Option (List ℕ)) (faults : S → ℕ) (script : Script) (table : Table) (workers : ℕ) (fault : PlanFault) (old new : S) (result : ℕ)
+pub no_plan : {S : Type 0} (taken : S → Option (List ℕ)) (faults : S → ℕ) (script : Script) (table : Table) (workers : ℕ) (fault : PlanFault) (old new : S)
+    (result : ℕ)
     → column_refusal table script.statements.items ≡ None → first_when script.statements.items ≡ None
     → (fault ≡ NoMemory) ⊎ (limit_of (setting script table) script.statements.items ≡ limit_told fault)
     → ((limit : Limit) → limit_told fault ≡ Some limit → SaidTo taken faults old new (answer PAST_LIMIT (limit_line limit)) result)
@@ -163,7 +187,8 @@ no_plan taken faults script table workers fault old new result columns tests lim
     plan_answers taken faults script table true workers fault old new result columns (no_first script.statements.items tests) limits said none
 
 -- the report of a plan
-pub reports : (script : Script) (table : Table) (workers : ℕ) (plan : Plan) (depth : Depth) → column_refusal table script.statements.items ≡ None → first_when script.statements.items ≡ None → limit_of (setting script table) script.statements.items ≡ None
+pub reports : (script : Script) (table : Table) (workers : ℕ) (plan : Plan) (depth : Depth) → column_refusal table script.statements.items ≡ None
+    → first_when script.statements.items ≡ None → limit_of (setting script table) script.statements.items ≡ None
     → IsPlanOf script table plan → IsDepthOf plan workers depth → FrameCause script table true workers (answer DONE (depth_text depth))
 reports script table workers plan depth columns tests limits is deep =
     Reported (no_refusal script table true columns (no_first script.statements.items tests) limits) refl (depth_text depth)
@@ -178,7 +203,8 @@ index_there (y ∷ ys) (suc k) x e = let rest = index_there ys k x e in omega ar
 less_zero : (k : ℕ) → k - 0 ≡ k
 less_zero k = omega arith
 
-pub at_missing : (table : Table) (k : ℕ) (xs : List Statement) → missing_from table 0 xs ≡ Some k → (x : Statement) × (slice_get xs k ≡ Some x) × (column_refusal table xs ≡ Some (answer TABLE_REFUSED (no_column_line (column_name x.act))))
+pub at_missing : (table : Table) (k : ℕ) (xs : List Statement) → missing_from table 0 xs ≡ Some k
+    → (x : Statement) × (slice_get xs k ≡ Some x) × (column_refusal table xs ≡ Some (answer TABLE_REFUSED (no_column_line (column_name x.act))))
 at_missing table k xs e = let m = missing_is table 0 k xs e in (m.x, subst (λ j. slice_get xs j ≡ Some m.x) (less_zero k) m.here, m.refused)
 
 got : {A : Type 0} (xs : List A) (k : ℕ) (x d : A) → slice_get xs k ≡ Some x → get_or xs k d ≡ x
@@ -186,18 +212,22 @@ got [] k x d e = absurd cc
 got (y ∷ ys) zero x d e = let same : y ≡ x = cc in same
 got (y ∷ ys) (suc k) x d e = got ys k x d e
 
-pub column_answers : {S : Type 0} (taken : S → Option (List ℕ)) (faults : S → ℕ) (script : Script) (table : Table) (depth : Bool) (workers k : ℕ) (it : Statement) (name : List ℕ) (old new : S) (result : ℕ)
-    → missing_from table 0 script.statements.items ≡ Some k → it ≡ get_or script.statements.items k it → name ≡ column_name it.act → SaidTo taken faults old new (answer TABLE_REFUSED (no_column_line name)) result
+pub column_answers : {S : Type 0} (taken : S → Option (List ℕ)) (faults : S → ℕ) (script : Script) (table : Table) (depth : Bool) (workers k : ℕ)
+    (it : Statement) (name : List ℕ) (old new : S) (result : ℕ)
+    → missing_from table 0 script.statements.items ≡ Some k → it ≡ get_or script.statements.items k it → name ≡ column_name it.act
+    → SaidTo taken faults old new (answer TABLE_REFUSED (no_column_line name)) result
     → AnswersTo taken faults old new (FrameCause script table depth workers) (IsCut script table depth) result
 column_answers taken faults script table depth workers k it name old new result e at named said =
     let m = at_missing table k script.statements.items e in
     let same : it ≡ m.0 = at ∙ got script.statements.items k m.0 it m.1 in
-    Caused _ (Refused (column_refuses script table depth _ m.2)) (subst (λ n. SaidTo taken faults old new (answer TABLE_REFUSED (no_column_line n)) result) (named ∙ ap (λ (x : Statement). column_name x.act) same) said)
+    Caused _ (Refused (column_refuses script table depth _ m.2)) (subst (λ n. SaidTo taken faults old new (answer TABLE_REFUSED (no_column_line n)) result)
+    (named ∙ ap (λ (x : Statement). column_name x.act) same) said)
 
 -- NOTHING WAITED before a text
 
 pub none_waited : (old new : Option (List ℕ)) (waited text : List ℕ) → waited ≡ [] → Appends old new (waited ++ text) → Appends old new text
 none_waited old new waited text none app = subst (λ w. Appends old new (w ++ text)) none app
 
-pub none_cut : (old new : Option (List ℕ)) (waited text : List ℕ) → waited ≡ [] → (n : ℕ) × Appends old new (take n (waited ++ text)) → (n : ℕ) × Appends old new (take n text)
+pub none_cut : (old new : Option (List ℕ)) (waited text : List ℕ) → waited ≡ [] → (n : ℕ) × Appends old new (take n (waited ++ text))
+    → (n : ℕ) × Appends old new (take n text)
 none_cut old new waited text none cut = (cut.0, subst (λ w. Appends old new (take cut.0 (w ++ text))) none cut.1)

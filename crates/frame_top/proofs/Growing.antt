@@ -49,7 +49,8 @@ changed_stays name (Ok c) s = record { lines = refl; count = refl }
 changed_stays name (Err t) s = stays_itself s
 
 changed_broken_stays : (name : ℕ) (r : Result Contents Trap) (s : ScriptState) → Stays s (views_broken name (changed name r s))
-changed_broken_stays name r s = stays_after s (changed name r s) (views_broken name (changed name r s)) (changed_stays name r s) (views_broken_stays name (changed name r s))
+changed_broken_stays name r s = stays_after s (changed name r s) (views_broken name (changed name r s)) (changed_stays name r s)
+    (views_broken_stays name (changed name r s))
 
 leave_by : (b : Bool) (s t : ScriptState) → Stays s t → Stays s (if b then t else s)
 leave_by true s t a = a
@@ -70,7 +71,8 @@ all_broken_stays : (gs : List Given) (s : ScriptState) → Stays s (all_broken g
 all_broken_stays [] s = stays_itself s
 all_broken_stays (g ∷ more) s =
     let t : ScriptState = if is_list g.kind && g.need.writes then view_broken g.need.container s else s in
-    stays_after s t (all_broken more t) (leave_by (is_list g.kind && g.need.writes) s (view_broken g.need.container s) (record { lines = refl; count = refl })) (all_broken_stays more t)
+    stays_after s t (all_broken more t) (leave_by (is_list g.kind && g.need.writes) s (view_broken g.need.container s) (record { lines = refl; count = refl }))
+    (all_broken_stays more t)
 
 -- WHAT COMES
 
@@ -106,7 +108,8 @@ effect_grows g line s (SetCapacity name cap) =
     stays_grows s (regrown name cap t) (record { lines = a.lines; count = a.count })
 effect_grows g line s (Schedule job) = record {
   more = [];
-  lines = (stays_after s _ _ (leave_all_stays (params_of g job.value.kernel) job.value.args.items _ s) (all_broken_stays (givens s (params_of g job.value.kernel) job.value.args.items job.value.defer) _)).lines ∙ sym (append-nil s.lines);
+  lines = (stays_after s _ _ (leave_all_stays (params_of g job.value.kernel) job.value.args.items _ s)
+      (all_broken_stays (givens s (params_of g job.value.kernel) job.value.args.items job.value.defer) _)).lines ∙ sym (append-nil s.lines);
   count = omega arith;
 }
 effect_grows g line s (Combine name of) = stays_grows s _ (record { lines = refl; count = refl })
@@ -189,8 +192,11 @@ lines_begin script table n =
     let g = setting script table in
     let xs = script.statements.items in
     let rest = act_all_lines g (drop n xs) (state_at script table n) in
-    let all : (final g xs).lines ≡ (state_at script table n).lines ++ rest.0 = ap (λ (s : ScriptState). s.lines) (split_act g n xs at_start) ∙ rest.1 in
-    (rest.0 ++ traps_text (final g xs).traps, ap (λ l. l ++ traps_text (final g xs).traps) all ∙ append_assoc (state_at script table n).lines rest.0 (traps_text (final g xs).traps))
+    let all : (final g xs).lines ≡ (state_at script table n).lines ++ rest.0 = ap (λ (s : ScriptState). s.lines) (split_act g n xs at_start) ∙ rest.1 in (
+      rest.0 ++ traps_text (final g xs).traps,
+      ap (λ l. l ++ traps_text (final g xs).traps) all
+          ∙ append_assoc (state_at script table n).lines rest.0 (traps_text (final g xs).traps),
+    )
 
 short : {A : Type 0} (n : ℕ) (xs : List A) → length (take n xs) ≤ length xs
 short zero xs = omega arith

@@ -10,5 +10,6 @@ mod Clauses
 mod Saying
 mod Sectioning
 mod Settling
+mod Sources
 mod Telling
 mod Whens

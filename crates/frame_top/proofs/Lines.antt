@@ -19,11 +19,13 @@ limit_by Jobs limit e = let same : TooManyJobs ≡ limit = cc in same
 limit_by Words limit e = let same : TooManyWords ≡ limit = cc in same
 limit_by NoMemory limit e = absurd cc
 
-pub said_as : (old new : Option (List ℕ)) (before now status result : ℕ) (t text : List ℕ) → t ≡ text → Said old new before now (answer status t) result → Said old new before now (answer status text) result
+pub said_as : (old new : Option (List ℕ)) (before now status result : ℕ) (t text : List ℕ) → t ≡ text → Said old new before now (answer status t) result
+    → Said old new before now (answer status text) result
 said_as old new before now status result t text e p = subst (λ l. Said old new before now (answer status l) result) e p
 
 pub row_is : (x why : List ℕ) (row : ℕ) → x ≡ decimal row
-    → codes "table refused row " ++ (x ++ (codes ": " ++ (why ++ (codes "\n" ++ [])))) ≡ codes "table refused row " ++ decimal row ++ codes ": " ++ why ++ codes "\n"
+    → codes "table refused row " ++ (x ++ (codes ": " ++ (why ++ (codes "\n" ++ [])))) ≡ codes "table refused row " ++ decimal row ++ codes ": " ++ why
+    ++ codes "\n"
 row_is x why row p = simp (p, append_assoc)
 
 pub column_is : (name : List ℕ) → codes "table refused: no column " ++ (name ++ (codes "\n" ++ [])) ≡ no_column_line name

@@ -24,17 +24,20 @@ new_knows : (plan : Plan) (seat : WordSeat) (b : _) → Rattle.word_board.specs.
 new_knows plan seat b e = ap know e
 
 -- seats as they were made and in their order
-pub made_ready : RoomsAreReady home_of know_of → (plan : Plan) (board : WordBoard) (n : ℕ) (seats : List WordSeat) (room : PoolRoom WordSeat) → length seats ≡ n → 1 ≤ n → AreNewSeats board seats → HasSeats plan seats room → IsRoomOf home_of know_of plan (name_of board) room
+pub made_ready : RoomsAreReady home_of know_of → (plan : Plan) (board : WordBoard) (n : ℕ) (seats : List WordSeat) (room : PoolRoom WordSeat) → length seats ≡ n
+    → 1 ≤ n → AreNewSeats board seats → HasSeats plan seats room → IsRoomOf home_of know_of plan (name_of board) room
 made_ready rooms_are_ready plan board n [] room e some new has = absurd (omega (arith, e, some))
 made_ready rooms_are_ready plan board n (first ∷ others) room e some new has =
     let one : IsNewSeat board true first = new 0 first refl in
     rooms_are_ready plan (name_of board) first others room one.home (new_knows (plan_of board) first true one.view)
-    (λ k d l. let it : IsNewSeat board false (get_or others k d) = subst (λ b. IsNewSeat board b (get_or others k d)) (ne_eqb (suc k) 0 (omega arith)) (new (suc k) (get_or others k d) (at_get others k d l)) in
+    (λ k d l. let it : IsNewSeat board false (get_or others k d) = subst (λ b. IsNewSeat board b (get_or others k d)) (ne_eqb (suc k) 0 (omega arith))
+    (new (suc k) (get_or others k d) (at_get others k d l)) in
     record { at_home = it.home; knows = new_knows (plan_of board) (get_or others k d) false it.view })
     has
 
 -- the cells that a board was closed into
-pub closed_into : (plan of_board : Plan) (old new : List ℤ) → of_board ≡ plan → length old ≡ plan.words → length new ≡ length old → ((w : ℕ) → w < of_board.words → cells_of new w ≡ cells_after of_board w) → AreCellsOf plan new
+pub closed_into : (plan of_board : Plan) (old new : List ℤ) → of_board ≡ plan → length old ≡ plan.words → length new ≡ length old
+    → ((w : ℕ) → w < of_board.words → cells_of new w ≡ cells_after of_board w) → AreCellsOf plan new
 closed_into plan of_board old new same size room each = record {
   size = room ∙ size;
   each = subst (λ p. (w : ℕ) → w < p.words → cells_of new w ≡ cells_after p w) same each;

@@ -14,7 +14,8 @@ take_all (x ∷ a) = ap (λ l. x ∷ l) (take_all a)
 
 -- a text was said, and none of it waits
 pub closed : {S : Type 0} (taken : S → Option (List ℕ)) (faults : S → ℕ) (old new : S) (waits : List ℕ) (failed : Bool) (text : List ℕ) (status result : ℕ)
-    → SaysTo taken faults old [] false new waits failed text → (failed ≡ false → waits ≡ []) → (failed ≡ false → result ≡ status) → (failed ≡ true → result ≡ UNWRITTEN)
+    → SaysTo taken faults old [] false new waits failed text → (failed ≡ false → waits ≡ []) → (failed ≡ false → result ≡ status)
+    → (failed ≡ true → result ≡ UNWRITTEN)
     → SaidTo taken faults old new (answer status text) result
 closed taken faults old new waits true text status result says none whole unwritten =
     let u = says.part refl refl in Part (unwritten refl) u.0.0 u.0.1 u.1
@@ -29,7 +30,8 @@ pub stop_answers : (cause : Answer → Type 0) (cut : Text → Type 0) (old new 
     → Said old new before now (answer NO_MEMORY lines) result → Answers cause cut old new before now result
 stop_answers cause cut old new before now status result lines more why from (Whole is app same) =
     ⊎_elim (λ none. Early is (subst (λ l. Appends old new l) none app) same)
-    (λ c. let part = stop_first old new lines more (length lines, subst (λ l. Appends old new l) (sym (take_all lines)) app) in Midway is (lines ++ more) c part.0 part.1 same) from
+    (λ c. let part = stop_first old new lines more (length lines, subst (λ l. Appends old new l) (sym (take_all lines)) app) in
+    Midway is (lines ++ more) c part.0 part.1 same) from
 stop_answers cause cut old new before now status result lines more why from (Part is n app rose) =
     let part = stop_first old new lines more (n, app) in
     Caused (answer status (lines ++ more)) why (Part is part.0 part.1 rose)

@@ -1,11 +1,12 @@
 -- One section more.
-use Rattle.std.proofs.Common.{◌≡◌, refl, sym, ap, ◌∙◌, subst, ℕ, zero, suc, ◌+◌, ◌*◌, ◌<◌, ◌≤◌, ◌^◌, Bool, true, false, ℤ, List, [], ◌∷◌, ◌++◌, length, map, Option, None, Some, IsSome, length-append, arith}
-use Rattle.std.specs.Prelude.{slice_get, Vec, String}
+use Rattle.std.proofs.Common.{◌≡◌, refl, sym, ap, ◌∙◌, subst, ℕ, zero, suc, ◌+◌, ◌*◌, ◌<◌, ◌≤◌, ◌^◌, Bool, true, false, ℤ, List, [], ◌∷◌, ◌++◌, length, map, Option, None, Some, IsSome, Result, Ok, Err, length-append, arith}
+use Rattle.std.specs.Prelude.{slice_get, IfOk, Vec, String}
 use Rattle.std.specs.declared.alloc.Global.{Global}
 use Rattle.std.proofs.lemmas.Bool.{leb-true}
 use Rattle.std.proofs.lemmas.List.{length-map}
 use Rattle.job_base.specs.declared.limits.TheConstants.{MOST_INDEXES, MOST_STATEMENTS, MOST_TESTS}
 use Rattle.job_base.specs.Cells.{cells_of}
+use Rattle.job_base.specs.declared.NoMemory.{NoMemory}
 use Rattle.frame_ast.specs.declared.kernel.Kernel.{Kernel}
 use Rattle.frame_ast.specs.declared.script.Order.{Order}
 use Rattle.frame_ast.specs.declared.script.Order.TheVariants.{Array, Column, List as NewList, Reference, Map, Stream, Slice, View, Copy, Set, Add, Put, Remove, Clear, SetCapacity, Schedule, Combine, Complete, CompleteAuto, Dispose, DisposeAuto, Print, Flush, Frame, When}
@@ -15,6 +16,7 @@ use Rattle.frame_ast.specs.Accepted.{IsAccepted, is_when}
 use Rattle.frame_ast.specs.Arguments.{value_in}
 use Rattle.frame_ast.specs.Orders.{Table, setting, compares}
 use Rattle.frame_ast.specs.States.{JobTrap, ScriptState, contents_at}
+use Rattle.frame_core.specs.declared.plan.Plan.{Plan}
 use Rattle.frame_core.specs.Graphs.{cells_after}
 use Rattle.frame_core.specs.Output.{plan_lines, plan_traps}
 use Rattle.frame_print.specs.declared.report.Report.{Report}
@@ -32,7 +34,7 @@ use Rattle.frame_plan.specs.Steps.{state_at}
 use Rattle.frame_top.specs.declared.section.SectionRun.{SectionRun}
 use Rattle.frame_top.specs.declared.sections.Progress.{Progress}
 use Rattle.frame_top.specs.Cells.{AreCellsOf, HasRunPlan}
-use Rattle.frame_top.specs.Running.{IsReportAt, IsFew, tests_before, HasRun, RunsOn}
+use Rattle.frame_top.specs.Running.{IsReportAt, IsFew, IsMade, tests_before, GoesOn, HasRun, RunsOn}
 use Rattle.frame_top.proofs.Growing.{jobs_few}
 use Rattle.frame_top.proofs.Whens.{tests_rise, tests_whole, tests_here}
 
@@ -68,7 +70,8 @@ module _ (script : Script) (table : Table) (from to : ℕ) (section : Section) (
       let none = w.refused in
       (omega arith, omega arith)
 
-  pub job_fits : IsAccepted script → (added : Report) → ReportsAreWithin → IsReport section.plan added → 0 < added.traps → added.job.0 + section.jobs_before < 2 ^ 32
+  pub job_fits : IsAccepted script → (added : Report) → ReportsAreWithin → IsReport section.plan added → 0 < added.traps
+      → added.job.0 + section.jobs_before < 2 ^ 32
   job_fits accepted added law run some =
       let w = (law section.plan added is.well_ordered run).job some in
       let jobs = is.well_ordered.sized.jobs in
@@ -77,8 +80,10 @@ module _ (script : Script) (table : Table) (from to : ℕ) (section : Section) (
       let statements : length script.statements.items ≤ MOST_STATEMENTS = leb-true (length script.statements.items) MOST_STATEMENTS accepted.statement_count in
       omega arith
 
-pub joined_few : (sections : ℕ) (earlier added joined : Report) (a b : List JobTrap) (before : ℕ) → IsFew sections earlier → (added.traps ≤ MOST_INDEXES * 2 ^ 32) × (added.refused ≤ 2 ^ 32)
-    → IsReportOf a earlier → IsReportOf b added → IsReportOf (a ++ shifted before b) joined → joined.refused ≡ earlier.refused + added.refused → IsFew (suc sections) joined
+pub joined_few : (sections : ℕ) (earlier added joined : Report) (a b : List JobTrap) (before : ℕ) → IsFew sections earlier
+    → (added.traps ≤ MOST_INDEXES * 2 ^ 32) × (added.refused ≤ 2 ^ 32)
+    → IsReportOf a earlier → IsReportOf b added → IsReportOf (a ++ shifted before b) joined → joined.refused ≡ earlier.refused + added.refused
+    → IsFew (suc sections) joined
 joined_few sections earlier added joined a b before few small x y z e =
     let xs = x.number in
     let ys = y.number in
@@ -93,7 +98,8 @@ joined_few sections earlier added joined a b before few small x y z e =
 
 -- THE TEST
 
-test_is_when : (script : Script) (table : Table) (s : ScriptState) (cells : _) (test : Test) (x : Order) → IsTestOf (setting script table) s cells test x → is_when x ≡ true
+test_is_when : (script : Script) (table : Table) (s : ScriptState) (cells : _) (test : Test) (x : Order) → IsTestOf (setting script table) s cells test x
+    → is_when x ≡ true
 test_is_when script table s cells test (When name sign value count) h = refl
 test_is_when script table s cells test (Array name len life values) h = absurd h
 test_is_when script table s cells test (Column name column life) h = absurd h
@@ -120,7 +126,8 @@ test_is_when script table s cells test (Print name) h = absurd h
 test_is_when script table s cells test Flush h = absurd h
 test_is_when script table s cells test Frame h = absurd h
 
-test_outcome : (script : Script) (table : Table) (s : ScriptState) (cells : ℕ → ℤ) (test : Test) (x : Order) → is_when x ≡ true → IsTestOf (setting script table) s cells test x → compares test.sign (cells test.at.start) test.bound ≡ outcome_of s x
+test_outcome : (script : Script) (table : Table) (s : ScriptState) (cells : ℕ → ℤ) (test : Test) (x : Order) → is_when x ≡ true
+    → IsTestOf (setting script table) s cells test x → compares test.sign (cells test.at.start) test.bound ≡ outcome_of s x
 test_outcome script table s cells test (When name sign value count) w h =
     let holds = h.4 in
     let number : cells test.at.start ≡ value_in (contents_at s name) = sym (ap value_in holds) in
@@ -157,7 +164,8 @@ pub record EndsAt (script : Script) (table : Table) (to : ℕ) (cells : ℕ → 
   pub is_when : is_when x.act ≡ true
   pub outcome : compares test.sign (cells test.at.start) test.bound ≡ outcome_by (state_at script table to) (slice_get script.statements.items to)
 
-ends_by : (script : Script) (table : Table) (to : ℕ) (cells : ℕ → ℤ) (test : Test) (o : Option Statement) → slice_get script.statements.items to ≡ o → EndsBy (setting script table) (state_at script table to) cells o (Some test) → EndsAt script table to cells test
+ends_by : (script : Script) (table : Table) (to : ℕ) (cells : ℕ → ℤ) (test : Test) (o : Option Statement) → slice_get script.statements.items to ≡ o
+    → EndsBy (setting script table) (state_at script table to) cells o (Some test) → EndsAt script table to cells test
 ends_by script table to cells test None e h = absurd h
 ends_by script table to cells test (Some x) e h =
     let w = test_is_when script table (state_at script table to) cells test x.act h in record {
@@ -167,34 +175,41 @@ ends_by script table to cells test (Some x) e h =
       outcome = test_outcome script table (state_at script table to) cells test x.act w h ∙ ap (λ o. outcome_by (state_at script table to) o) (sym e);
     }
 
-pub ends_at : (script : Script) (table : Table) (from to : ℕ) (section : Section) (test : Test) → IsSectionOf script table from to section → section.test ≡ Some test → EndsAt script table to (cells_after section.plan) test
+pub ends_at : (script : Script) (table : Table) (from to : ℕ) (section : Section) (test : Test) → IsSectionOf script table from to section
+    → section.test ≡ Some test → EndsAt script table to (cells_after section.plan) test
 ends_at script table from to section test is e =
-    ends_by script table to (cells_after section.plan) test (slice_get script.statements.items to) refl (subst (λ t. EndsBy (setting script table) (state_at script table to) (cells_after section.plan) (slice_get script.statements.items to) t) e is.test)
+    ends_by script table to (cells_after section.plan) test (slice_get script.statements.items to) refl
+    (subst (λ t. EndsBy (setting script table) (state_at script table to) (cells_after section.plan) (slice_get script.statements.items to) t) e is.test)
 
 past : {A : Type 0} (xs : List A) (n : ℕ) → slice_get xs n ≡ None → length xs ≤ n
 past [] n e = omega arith
 past (x ∷ xs) zero e = absurd cc
 past (x ∷ xs) (suc n) e = let rest = past xs n e in omega arith
 
-ends_none : (script : Script) (table : Table) (to : ℕ) (cells : ℕ → ℤ) (o : Option Statement) → slice_get script.statements.items to ≡ o → EndsBy (setting script table) (state_at script table to) cells o None → slice_get script.statements.items to ≡ None
+ends_none : (script : Script) (table : Table) (to : ℕ) (cells : ℕ → ℤ) (o : Option Statement) → slice_get script.statements.items to ≡ o
+    → EndsBy (setting script table) (state_at script table to) cells o None → slice_get script.statements.items to ≡ None
 ends_none script table to cells None e h = e
 ends_none script table to cells (Some x) e h = absurd h
 
-pub ends_last : (script : Script) (table : Table) (from to : ℕ) (section : Section) → IsSectionOf script table from to section → section.test ≡ None → to ≡ length script.statements.items
+pub ends_last : (script : Script) (table : Table) (from to : ℕ) (section : Section) → IsSectionOf script table from to section → section.test ≡ None
+    → to ≡ length script.statements.items
 ends_last script table from to section is e =
-    let none = ends_none script table to (cells_after section.plan) (slice_get script.statements.items to) refl (subst (λ t. EndsBy (setting script table) (state_at script table to) (cells_after section.plan) (slice_get script.statements.items to) t) e is.test) in
+    let none = ends_none script table to (cells_after section.plan) (slice_get script.statements.items to) refl
+    (subst (λ t. EndsBy (setting script table) (state_at script table to) (cells_after section.plan) (slice_get script.statements.items to) t) e is.test) in
     let low = past script.statements.items to none in
     let high = is.rising.1 in
     omega arith
 
 -- THE NEXT SECTION
 
-outcome_at : (script : Script) (table : Table) (from to : ℕ) (held : Option Bool) → from < to → held ≡ Some (outcome_by (state_at script table to) (slice_get script.statements.items to)) → IsOutcome script table to held
+outcome_at : (script : Script) (table : Table) (from to : ℕ) (held : Option Bool) → from < to
+    → held ≡ Some (outcome_by (state_at script table to) (slice_get script.statements.items to)) → IsOutcome script table to held
 outcome_at script table from zero held l e = absurd (omega (arith, l))
 outcome_at script table from (suc to) held l e = e
 
 -- the book, the cells and the report after a section that ended at a test
-pub runs_on : (script : Script) (table : Table) (sections from : ℕ) (book : SectionBook) (section : Section) (next : IsNext book script table from section) (test : Test) → section.test ≡ Some test
+pub runs_on : (script : Script) (table : Table) (sections from : ℕ) (book : SectionBook) (section : Section) (next : IsNext book script table from section)
+    (test : Test) → section.test ≡ Some test
     → sections ≤ tests_before script (suc from)
     → (p : Progress) (left : List ℤ) → AreCellsOf section.plan left → p.cells ≡ left
     → p.held ≡ Some (compares test.sign (cells_of left test.at.start) test.bound)
@@ -217,7 +232,8 @@ runs_on script table sections from book section next test e tests p left cells s
       carried = cells_after section.plan;
       len = section.plan.cells;
       at = next.at some;
-      outcome = outcome_at script table from next.to p.held later (held ∙ ap (λ z. Some (compares test.sign z test.bound)) (cells.each test.at.start low) ∙ ap Some at_test.outcome);
+      outcome = outcome_at script table from next.to p.held later (held ∙ ap (λ z. Some (compares test.sign z test.bound)) (cells.each test.at.start low)
+          ∙ ap Some at_test.outcome);
       left = subst (λ m. AreLeft m (cells_after section.plan) section.plan.cells) (sym same) (omega arith, λ w l. cells.each w (omega arith));
       kernels = λ _. subst (λ (v : Vec Kernel Global). AreKernelsOf book script table v.items) (sym kernels) next.kernels;
       names = subst (λ (v : Vec (String Global) Global). AreNamesOf script v.items) (sym names) is.names;
@@ -227,52 +243,73 @@ runs_on script table sections from book section next test e tests p left cells s
       begins = λ z. absurd (omega (arith, z));
     }
 
+-- what was made for the frame so far
+pub made_of : (script : Script) (table : Table) (sections from : ℕ) (old book : SectionBook) (p : Progress) (r : Result Section NoMemory)
+    → HasRun script table sections from old p → IfOk r (IsNext book script table from)
+    → IfOk r (λ section. IsMade script table sections from book section p.report)
+made_of script table sections from old book p (Ok section) was next = record { next = next; report = was.report; few = was.few; tests = was.tests }
+made_of script table sections from old book p (Err fault) was next = next
+
 -- what one section more comes to, whether a test follows or not
-module _ {S : Type 0} (taken : S → Option (List ℕ)) (faults : S → ℕ) (script : Script) (table : Table) (sections from : ℕ) (old_book book : SectionBook) (p : Progress) (section : Section) (keeps : Bool) (old new : S) (waits : List ℕ) (r : SectionRun) (joined : Report)
-    (law : ReportsAreWithin) (was : HasRun script table sections from old_book p) (next : IsNext book script table from section) (run : HasRunPlan taken faults section.plan keeps old p.out p.failed new waits r)
-    (traps : (a b : List JobTrap) → IsReportOf a p.report → IsReportOf b r.report → IsReportOf (a ++ shifted section.jobs_before b) joined)
-    (refused : joined.refused ≡ p.report.refused + r.report.refused) where
+module _ (script : Script) (table : Table) (sections from : ℕ) (book : SectionBook) (before : Report) (section : Section) (r : SectionRun) (joined : Report)
+    (law : ReportsAreWithin) (made : IsMade script table sections from book section before) (ran : IsReport section.plan r.report)
+    (traps : (a b : List JobTrap) → IsReportOf a before → IsReportOf b r.report → IsReportOf (a ++ shifted section.jobs_before b) joined)
+    (refused : joined.refused ≡ before.refused + r.report.refused) where
+  next : IsNext book script table from section
+  next = made.next
+
   is : IsSectionOf script table from next.to section
   is = next.is_section
 
   report_at : IsReportAt (state_at script table next.to) joined
-  report_at = joined_at script table from next.to section is p.report r.report joined was.report run.report traps refused
+  report_at = joined_at script table from next.to section is before r.report joined made.report ran traps refused
 
   few : IsFew (suc sections) joined
-  few = joined_few sections p.report r.report joined (state_at script table from).traps (plan_traps section.plan) section.jobs_before was.few (added_few script table from next.to section is r.report law run.report)
-      was.report.traps run.report.traps (traps (state_at script table from).traps (plan_traps section.plan) was.report.traps run.report.traps) refused
+  few = joined_few sections before r.report joined (state_at script table from).traps (plan_traps section.plan) section.jobs_before made.few
+      (added_few script table from next.to section is r.report law ran)
+      made.report.traps ran.traps (traps (state_at script table from).traps (plan_traps section.plan) made.report.traps ran.traps) refused
 
-  said_as : (q : Progress) → q.out ≡ waits → q.failed ≡ r.failed → SaysTo taken faults old p.out p.failed new q.out q.failed (plan_lines section.plan)
-  said_as q out failed = subst (λ b. SaysTo taken faults old p.out p.failed new q.out b (plan_lines section.plan)) (sym failed)
-      (subst (λ w. SaysTo taken faults old p.out p.failed new w r.failed (plan_lines section.plan)) (sym out) run.lines)
-
-  pub section_last : (q : Progress) → q.out ≡ waits → q.failed ≡ r.failed → q.report ≡ joined → section.test ≡ None → RunsOn taken faults script table sections from old p new book q false
-  section_last q out failed report none = record {
+  pub section_last : (q : Progress) → q.report ≡ joined → section.test ≡ None → GoesOn script table sections from (plan_lines section.plan) book q false
+  section_last q report none = record {
     to = next.to;
-    lines = plan_lines section.plan;
     lines_are = is.lines;
-    said = said_as q out failed;
     report = subst (IsReportAt (state_at script table next.to)) (sym report) report_at;
     next = λ e. absurd cc;
     last = λ e. ends_last script table from next.to section is none;
   }
 
-  pub section_more : (q : Progress) (test : Test) → q.out ≡ waits → q.failed ≡ r.failed → q.report ≡ joined → section.test ≡ Some test → keeps ≡ true → q.cells ≡ r.left → q.names ≡ section.plan.names → q.kernels ≡ section.plan.kernels
-      → q.held ≡ Some (compares test.sign (cells_of r.left test.at.start) test.bound) → RunsOn taken faults script table sections from old p new book q true
-  section_more q test out failed report some kept cells names kernels held = record {
+  pub section_more : (q : Progress) (test : Test) → q.report ≡ joined → section.test ≡ Some test → AreCellsOf section.plan r.left
+      → q.cells ≡ r.left → q.names ≡ section.plan.names → q.kernels ≡ section.plan.kernels
+      → q.held ≡ Some (compares test.sign (cells_of r.left test.at.start) test.bound)
+      → GoesOn script table sections from (plan_lines section.plan) book q true
+  section_more q test report some left cells names kernels held = record {
     to = next.to;
-    lines = plan_lines section.plan;
     lines_are = is.lines;
-    said = said_as q out failed;
     report = subst (IsReportAt (state_at script table next.to)) (sym report) report_at;
-    next = λ e. runs_on script table sections from book section next test some was.tests q r.left (run.cells kept) cells held
+    next = λ e. runs_on script table sections from book section next test some made.tests q r.left left cells held
         (subst (IsReportAt (state_at script table next.to)) (sym report) report_at) (subst (IsFew (suc sections)) (sym report) few) names kernels;
     last = λ e. absurd cc;
   }
 
+-- and its lines were said
+pub said_on : {S : Type 0} (taken : S → Option (List ℕ)) (faults : S → ℕ) (script : Script) (table : Table) (sections from : ℕ) (book : SectionBook)
+    (p q : Progress) (more : Bool) (plan : Plan) (keeps : Bool) (old new : S) (waited waits : List ℕ) (failed : Bool) (r : SectionRun)
+    → GoesOn script table sections from (plan_lines plan) book q more → HasRunPlan taken faults plan keeps old waited failed new waits r
+    → waited ≡ p.out → failed ≡ p.failed → q.out ≡ waits → q.failed ≡ r.failed
+    → RunsOn taken faults script table sections from old p new book q more
+said_on taken faults script table sections from book p q more plan keeps old new waited waits failed r goes run before was after is = record {
+  lines = plan_lines plan;
+  goes = goes;
+  said = subst (λ b. SaysTo taken faults old p.out p.failed new q.out b (plan_lines plan)) (sym is)
+      (subst (λ w. SaysTo taken faults old p.out p.failed new w r.failed (plan_lines plan)) (sym after)
+      (subst (λ b. SaysTo taken faults old p.out b new waits r.failed (plan_lines plan)) was
+      (subst (λ w. SaysTo taken faults old w failed new waits r.failed (plan_lines plan)) before run.lines)));
+}
+
 -- so many sections can't end at another `when`
 pub too_many : (script : Script) (from : ℕ) → IsAccepted script → suc MOST_TESTS ≤ tests_before script (suc from) → ⊥
 too_many script from accepted many =
-    let most : Rattle.std.specs.Prelude.count_by (λ (x : Statement). is_when x.act) script.statements.items ≤ MOST_TESTS = leb-true (Rattle.std.specs.Prelude.count_by (λ (x : Statement). is_when x.act) script.statements.items) MOST_TESTS accepted.when_count in
+    let most : Rattle.std.specs.Prelude.count_by (λ (x : Statement). is_when x.act) script.statements.items ≤ MOST_TESTS =
+    leb-true (Rattle.std.specs.Prelude.count_by (λ (x : Statement). is_when x.act) script.statements.items) MOST_TESTS accepted.when_count in
     let whole = tests_whole (λ (x : Statement). is_when x.act) (suc from) script.statements.items in
     omega arith

@@ -44,7 +44,8 @@ table_met told (Some name) (Some x) (Some y) is can = ap Some (table_bytes_met t
 
 -- THE BYTES OF A SCRIPT are refused once, or accepted
 
-fault_line : (line line' : ℕ) (kind kind' : FaultKind) → line ≡ line' → kind ≡ kind' → answer SCRIPT_REFUSED (script_refused_line line kind) ≡ answer SCRIPT_REFUSED (script_refused_line line' kind')
+fault_line : (line line' : ℕ) (kind kind' : FaultKind) → line ≡ line' → kind ≡ kind'
+    → answer SCRIPT_REFUSED (script_refused_line line kind) ≡ answer SCRIPT_REFUSED (script_refused_line line' kind')
 fault_line line line' kind kind' e f = λ i. answer SCRIPT_REFUSED (script_refused_line (e i) (f i))
 
 pub refused_once : (source : Text) (a b : Answer) → Refuses source a → Refuses source b → a ≡ b
@@ -88,7 +89,8 @@ module _ (words : List Text) (told : Told) (risen : Type 0) (failed : Option Tex
   usage_settles b bad (OfFrame script table read r f) = absurd (no_command words read.script_is.read.of_command bad)
 
   -- a script that is accepted isn't refused, whichever bytes were read
-  accepts_same : (source : Text) (script : Script) → IsSource words told source → Accepts source script → (other : Text) (a : Answer) → ReadsSource words told other → Refuses other a → ⊥
+  accepts_same : (source : Text) (script : Script) → IsSource words told source → Accepts source script → (other : Text) (a : Answer)
+      → ReadsSource words told other → Refuses other a → ⊥
   accepts_same source script given accepted other a read r =
       let same = source_met (source_told told words) source other given.source_is read.source_is in
       never_both source script a accepted (subst (λ s. Refuses s a) same r)
@@ -128,7 +130,9 @@ module _ (words : List Text) (told : Told) (risen : Type 0) (failed : Option Tex
         absurd (none_some a (sym none ∙ ap table_refusal (same_table other t read) ∙ r))
 
     -- what the frame says by itself
-    frame_settles_by : (P : Answer → Type 0) (b : Answer) → table_refusal table ≡ None → ((other : Script) → SameScript script other → FrameCause other (table_of table) (asks_depth words) (workers_in words) b → P b) → Cause words told risen failed b → P b ⊎ (b.status ≡ UNREAD) × risen
+    frame_settles_by : (P : Answer → Type 0) (b : Answer) → table_refusal table ≡ None
+        → ((other : Script) → SameScript script other → FrameCause other (table_of table) (asks_depth words) (workers_in words) b → P b)
+        → Cause words told risen failed b → P b ⊎ (b.status ≡ UNREAD) × risen
     frame_settles_by P b none f (Usage p is) = absurd (no_command words given.given.of_command p)
     frame_settles_by P b none f (NoScript p u is) = inr (unread_status b _ is, u.0)
     frame_settles_by P b none f (BadScript other read r') = absurd (accepts_same given.source script given.given given.accepted other b read r')
@@ -136,28 +140,36 @@ module _ (words : List Text) (told : Told) (risen : Type 0) (failed : Option Tex
     frame_settles_by P b none f (BadTable other t read r') =
         absurd (none_some b (sym none ∙ sym (ap table_refusal (same_table other t read)) ∙ r'))
     frame_settles_by P b none f (OfFrame other t read none' c) =
-        inl (f other (same_script other read.script_is) (subst (λ t. FrameCause other (table_of t) (asks_depth words) (workers_in words) b) (same_table other t read) c))
+        inl (f other (same_script other read.script_is) (subst (λ t. FrameCause other (table_of t) (asks_depth words) (workers_in words) b)
+        (same_table other t read) c))
 
-    same_refused : (other : Script) → SameScript script other → frame_refusal script (table_of table) (asks_depth words) ≡ frame_refusal other (table_of table) (asks_depth words)
+    same_refused : (other : Script) → SameScript script other → frame_refusal script (table_of table) (asks_depth words) ≡ frame_refusal other (table_of table)
+        (asks_depth words)
     same_refused other same = same_frame_refusal script other (table_of table) (asks_depth words) same
 
-    refused_is : (a b : Answer) → frame_refusal script (table_of table) (asks_depth words) ≡ Some a → (other : Script) → SameScript script other → FrameCause other (table_of table) (asks_depth words) (workers_in words) b → b ≡ a
+    refused_is : (a b : Answer) → frame_refusal script (table_of table) (asks_depth words) ≡ Some a → (other : Script) → SameScript script other
+        → FrameCause other (table_of table) (asks_depth words) (workers_in words) b → b ≡ a
     refused_is a b r other same (Refused r') = some_once (frame_refusal script (table_of table) (asks_depth words)) b a (same_refused other same ∙ r') r
     refused_is a b r other same (Ran none d is) = absurd (none_some a (sym none ∙ sym (same_refused other same) ∙ r))
     refused_is a b r other same (Reported none d text report is) = absurd (none_some a (sym none ∙ sym (same_refused other same) ∙ r))
 
-    pub frame_settles : (a b : Answer) → table_refusal table ≡ None → frame_refusal script (table_of table) (asks_depth words) ≡ Some a → Cause words told risen failed b → IsSettled risen a b
+    pub frame_settles : (a b : Answer) → table_refusal table ≡ None → frame_refusal script (table_of table) (asks_depth words) ≡ Some a
+        → Cause words told risen failed b → IsSettled risen a b
     frame_settles a b none r c = frame_settles_by (λ b. b ≡ a) b none (refused_is a b r) c
 
-    ran_is : (b : Answer) → frame_refusal script (table_of table) (asks_depth words) ≡ None → asks_depth words ≡ false → (other : Script) → SameScript script other → FrameCause other (table_of table) (asks_depth words) (workers_in words) b → b ≡ answer (status_of script (table_of table)) (output_of script (table_of table))
+    ran_is : (b : Answer) → frame_refusal script (table_of table) (asks_depth words) ≡ None → asks_depth words ≡ false → (other : Script)
+        → SameScript script other → FrameCause other (table_of table) (asks_depth words) (workers_in words) b
+        → b ≡ answer (status_of script (table_of table)) (output_of script (table_of table))
     ran_is b none plain other same (Refused r) = absurd (none_some b (sym none ∙ same_refused other same ∙ r))
     ran_is b none plain other same (Ran none' d is) =
         let alike = same_scripts_run_alike script other same (table_of table) in
         is ∙ (λ i. answer (sym alike.status i) (sym alike.output i))
     ran_is b none plain other same (Reported none' d text report is) = absurd (not_both (asks_depth words) d plain)
 
-    pub run_settles : (b : Answer) → IsFrame words told script table → asks_depth words ≡ false → Cause words told risen failed b → IsSettled risen (answer (status_of script (table_of table)) (output_of script (table_of table))) b
-    run_settles b frame plain c = frame_settles_by (λ b. b ≡ answer (status_of script (table_of table)) (output_of script (table_of table))) b frame.table_stands (ran_is b frame.accepted plain) c
+    pub run_settles : (b : Answer) → IsFrame words told script table → asks_depth words ≡ false → Cause words told risen failed b
+        → IsSettled risen (answer (status_of script (table_of table)) (output_of script (table_of table))) b
+    run_settles b frame plain c = frame_settles_by (λ b. b ≡ answer (status_of script (table_of table)) (output_of script (table_of table))) b
+        frame.table_stands (ran_is b frame.accepted plain) c
 
 -- A REPORT
 
@@ -178,8 +190,10 @@ report_settles words told risen failed script table b frame deep (OfFrame other 
 report_settles words told risen failed script table b frame deep (OfFrame other t read none (Refused r)) =
     let met = table_met told (table_name words) table t frame.given.table_is read.table_is in
     let same = source_met (source_told told words) frame.given.source read.script_is.source frame.given.given.source_is read.script_is.read.source_is in
-    let alike = scripts_are_spelled_once frame.given.source script other frame.given.accepted.spelled (subst (λ s. Accepts s other) same read.script_is.accepted).spelled in
-    absurd (none_some b (sym frame.accepted ∙ same_frame_refusal script other (table_of table) (asks_depth words) alike ∙ ap (λ t. frame_refusal other (table_of t) (asks_depth words)) (sym met) ∙ r))
+    let alike = scripts_are_spelled_once frame.given.source script other frame.given.accepted.spelled
+    (subst (λ s. Accepts s other) same read.script_is.accepted).spelled in
+    absurd (none_some b (sym frame.accepted ∙ same_frame_refusal script other (table_of table) (asks_depth words) alike
+    ∙ ap (λ t. frame_refusal other (table_of t) (asks_depth words)) (sym met) ∙ r))
 report_settles words told risen failed script table b frame deep (Usage p is) = absurd (no_command words frame.given.given.of_command p)
 report_settles words told risen failed script table b frame deep (NoScript p u is) = inr (unread_status b _ is, u.0)
 report_settles words told risen failed script table b frame deep (BadScript other read r) =
@@ -191,13 +205,24 @@ report_settles words told risen failed script table b frame deep (BadTable other
 
 pub reported_gives : (words : List Text) (told : Told) (old new : Option Text) (result : ℕ) (unread untaken : Type 0)
     → ((b : Answer) × IsReported words told b × (result ≡ b.status) × Appends old new b.text) ⊎ Hindered unread untaken result
-    → ((script : Script) × (table : Option Text) × (text : Text) × Reads words told script table × IsDepthReport script (table_of table) (workers_in words) text × (result ≡ DONE) × Appends old new text) ⊎ Hindered unread untaken result
+    → ((script : Script) × (table : Option Text) × (text : Text) × Reads words told script table × IsDepthReport script (table_of table) (workers_in words) text
+    × (result ≡ DONE) × Appends old new text) ⊎ Hindered unread untaken result
 reported_gives words told old new result unread untaken h =
     ⊎_elim (λ p. let r = p.1 in
-    inl (r.script, r.table, r.text, r.read, r.report, p.2 ∙ ap (λ (a : Answer). a.status) r.is, subst (λ t. Appends old new t) (ap (λ (a : Answer). a.text) r.is) p.3))
+    inl (
+      r.script,
+      r.table,
+      r.text,
+      r.read,
+      r.report,
+      p.2 ∙ ap (λ (a : Answer). a.status) r.is,
+      subst (λ t. Appends old new t)
+          (ap (λ (a : Answer). a.text) r.is) p.3,
+    ))
     (λ x. inr x) h
 
-pub usage_gives : (words : List Text) (told : Told) (risen : Type 0) (failed : Option Text) (cut : Text → Type 0) (old new : Option Text) (before now result : ℕ) → is_of_command words ≡ false
+pub usage_gives : (words : List Text) (told : Told) (risen : Type 0) (failed : Option Text) (cut : Text → Type 0) (old new : Option Text)
+    (before now result : ℕ) → is_of_command words ≡ false
     → Answers (Cause words told risen failed) cut old new before now result → (result ≡ NO_MEMORY → is_of_command words ≡ true)
     → (result ≡ USAGE) × Appends old new usage_line ⊎ (result ≡ UNWRITTEN) × Rose before now
 usage_gives words told risen failed cut old new before now result bad (Caused a why (Whole is app same)) early =

@@ -22,7 +22,8 @@ use Rattle.frame_top.specs.declared.status.TheConstants.{NO_MEMORY, PAST_LIMIT, 
 use Rattle.frame_top.proofs.Framing.{by_cause, none_said}
 
 pub too_long_refused : (bytes : Text) → MOST_TABLE_BYTES < length bytes → table_refusal (Some bytes) ≡ Some (answer PAST_LIMIT table_size_line)
-too_long_refused bytes h = ap (λ b. if b then Some (answer PAST_LIMIT table_size_line) else option_map refused_table (table_fault (rows_in bytes))) (lt-ltb MOST_TABLE_BYTES (length bytes) h)
+too_long_refused bytes h = ap (λ b. if b then Some (answer PAST_LIMIT table_size_line) else option_map refused_table (table_fault (rows_in bytes)))
+    (lt-ltb MOST_TABLE_BYTES (length bytes) h)
 
 pub counted : {T E A : Type 0} (v : T) (f : E) → ◌≡◌ {A = Result T E} (Ok v) (Err f) ⊎ A → A
 counted v f (inl e) = absurd cc
@@ -33,7 +34,7 @@ pub not_usage : {T E : Type 0} (v : T) (f : E) (b : Bool) → (◌≡◌ {A = Re
 not_usage v f true h = refl
 not_usage v f false h = let e = h.1 refl in absurd cc
 
-is_many : (kind : FaultKind) → (kind ≡ TooLong) ⊎ (kind ≢ TooLong)
+pub is_many : (kind : FaultKind) → (kind ≡ TooLong) ⊎ (kind ≢ TooLong)
 is_many Syntax = inr (λ e. cc)
 is_many UnknownName = inr (λ e. cc)
 is_many DuplicateName = inr (λ e. cc)
@@ -43,22 +44,26 @@ is_many WriteOfReadOnly = inr (λ e. cc)
 is_many Limit = inr (λ e. cc)
 is_many TooLong = inl refl
 
-pub refused_at : (source : Text) (line line' : ℕ) (kind kind' : FaultKind) → line' ≡ line → kind' ≡ kind → IsRefused source line kind → IsRefused source line' kind'
+pub refused_at : (source : Text) (line line' : ℕ) (kind kind' : FaultKind) → line' ≡ line → kind' ≡ kind → IsRefused source line kind
+    → IsRefused source line' kind'
 refused_at source line line' kind kind' e d r = subst (λ l. IsRefused source l kind') (sym e) (subst (λ k. IsRefused source line k) (sym d) r)
 
 -- what was read before doesn't matter
 pub moved : (words : List Text) (told told' : Told) (m m' n : ℕ) (failed : Option Text) (old new : Option Text) (before now result : ℕ) → told' ≡ told → m' ≡ m
-    → Answers (Cause words told' (Rose m' n) failed) (CanBeCut words told') old new before now result → Answers (Cause words told (Rose m n) failed) (CanBeCut words told) old new before now result
+    → Answers (Cause words told' (Rose m' n) failed) (CanBeCut words told') old new before now result
+    → Answers (Cause words told (Rose m n) failed) (CanBeCut words told) old new before now result
 moved words told told' m m' n failed old new before now result e f a =
     subst (λ k. Answers (Cause words told (Rose k n) failed) (CanBeCut words told) old new before now result) f
     (subst (λ (t : Told). Answers (Cause words t (Rose m' n) failed) (CanBeCut words t) old new before now result) e a)
 
-pub later_reads : (words : List Text) (m m' n : ℕ) (f f' g : Option Text) → m' ≡ m → f' ≡ f → (n ≡ m') × (g ≡ f') ⊎ IsUnreadOf words (Rose m' n) g → (n ≡ m) × (g ≡ f) ⊎ IsUnreadOf words (Rose m n) g
+pub later_reads : (words : List Text) (m m' n : ℕ) (f f' g : Option Text) → m' ≡ m → f' ≡ f → (n ≡ m') × (g ≡ f') ⊎ IsUnreadOf words (Rose m' n) g
+    → (n ≡ m) × (g ≡ f) ⊎ IsUnreadOf words (Rose m n) g
 later_reads words m m' n f f' g e d h = ⊎_elim (λ p. inl (p.0 ∙ e, p.1 ∙ d)) (λ p. inr (subst (λ k. IsUnreadOf words (Rose k n) g) e p)) h
 
 module _ (words : List Text) (told : Told) (risen : Type 0) (failed : Option Text) where
   -- a script and its table
-  pub of_frame : (script : Script) (table : Option Text) (columns : List NamedColumn) (depth : Bool) (workers : ℕ) (old new : Option Text) (before now result : ℕ)
+  pub of_frame : (script : Script) (table : Option Text) (columns : List NamedColumn) (depth : Bool) (workers : ℕ) (old new : Option Text)
+      (before now result : ℕ)
       → Reads words told script table → table_refusal table ≡ None → columns ≡ named_columns table → depth ≡ asks_depth words → workers ≡ workers_in words
       → Answers (FrameCause script (columns_of columns) depth workers) (IsCut script (columns_of columns) depth) old new before now result
       → Answers (Cause words told risen failed) (CanBeCut words told) old new before now result
@@ -66,7 +71,14 @@ module _ (words : List Text) (told : Told) (risen : Type 0) (failed : Option Tex
       by_cause _ _ _ _ old new before now result
       (λ b why. OfFrame script table read stands (subst (λ (c : List NamedColumn). FrameCause script (columns_of c) (asks_depth words) (workers_in words) b) cs
       (subst (λ w. FrameCause script (columns_of columns) (asks_depth words) w b) ws (subst (λ d. FrameCause script (columns_of columns) d workers b) ds why))))
-      (λ t cut. record { script = script; table = table; read = read; table_stands = stands; cut = subst (λ (c : List NamedColumn). IsCut script (columns_of c) (asks_depth words) t) cs (subst (λ d. IsCut script (columns_of columns) d t) ds cut) })
+      (λ t cut. record {
+        script = script;
+        table = table;
+        read = read;
+        table_stands = stands;
+        cut = subst (λ (c : List NamedColumn). IsCut script (columns_of c) (asks_depth words) t) cs
+            (subst (λ d. IsCut script (columns_of columns) d t) ds cut);
+      })
       a
 
   -- a table that is refused

@@ -120,7 +120,8 @@ pub data Hindered (unread untaken : Type 0) (result : ℕ) : Type 0 where
 
 -- An answer is given, unless it was hindered.
 abbrev pub Gives : {F S : Type 0} → (F → ℕ) → (S → Option Text) → (S → ℕ) → F → F → S → S → Answer → ℕ → Type 0
-Gives fails taken faults files files' sink sink' a result = (result ≡ a.status) × Appends (taken sink) (taken sink') a.text
+Gives fails taken faults files files' sink sink' a result = (result ≡ a.status)
+    × Appends (taken sink) (taken sink') a.text
     ⊎ Hindered (Rose (fails files) (fails files')) (Rose (faults sink) (faults sink')) result
 
 -- A report of the depth is given, unless it was hindered.

@@ -13,8 +13,8 @@ pub record AreCellsOf (plan : Plan) (left : List ℤ) : Type 0 where
   pub size : length left ≡ plan.words
   pub each : (w : ℕ) → w < plan.words → cells_of left w ≡ cells_after plan w
 
--- The lines of a plan were said, unless a write had failed before; the report is that of the plan; and its cells are kept
--- where they are asked for.
+-- The lines of a plan were said, unless a write had failed before; the report is that of the plan; and its cells are
+-- kept where they are asked for.
 pub record HasRunPlan {S : Type 0} (taken : S → Option (List ℕ)) (faults : S → ℕ) (plan : Plan) (keeps : Bool)
     (old : S) (waited : List ℕ) (failed : Bool) (new : S) (waits : List ℕ) (r : SectionRun) : Type 0 where
   pub lines : SaysTo taken faults old waited failed new waits r.failed (plan_lines plan)

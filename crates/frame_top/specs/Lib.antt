@@ -4,6 +4,7 @@ pub mod Words
 pub mod Inputs
 pub mod Refusals
 pub mod Answers
+pub mod Sources
 -- for this crate's own contracts
 pub mod Asking
 pub mod Cells

@@ -9,9 +9,10 @@ use Rattle.merge_laws.specs.Graph.{Cells}
 use Rattle.frame_print.specs.declared.report.Report.{Report}
 use Rattle.frame_print.specs.Reports.{IsReportOf}
 use Rattle.plan_run.specs.Says.{SaysTo}
+use Rattle.frame_plan.specs.declared.section.Section.{Section}
 use Rattle.frame_plan.specs.declared.sections.SectionBook.{SectionBook}
 use Rattle.frame_plan.specs.Names.{AreNamesOf}
-use Rattle.frame_plan.specs.Sections.{AreKernelsOf, IsAt, IsOutcome, AreLeft}
+use Rattle.frame_plan.specs.Sections.{AreKernelsOf, IsAt, IsNext, IsOutcome, AreLeft}
 use Rattle.frame_plan.specs.Steps.{state_at}
 use Rattle.frame_top.specs.declared.sections.Progress.{Progress}
 use Rattle.frame_top.specs.declared.status.TheConstants.{UNWRITTEN}
@@ -32,7 +33,8 @@ tests_before script n = count_by (λ x. is_when x.act) (take n script.statements
 
 -- So many sections were run, up to a place among the statements. The next one can be made of the book, of what its test
 -- was found to say, and of the cells.
-pub record HasRun (script : Script) (table : Table) (sections from : ℕ) (book : SectionBook) (p : Progress) : Type 0 where
+pub record HasRun (script : Script) (table : Table) (sections from : ℕ) (book : SectionBook)
+    (p : Progress) : Type 0 where
   pub carried : Cells
   pub len : ℕ
   pub at : IsAt book script table from carried len
@@ -46,20 +48,34 @@ pub record HasRun (script : Script) (table : Table) (sections from : ℕ) (book 
   pub tests : sections ≤ tests_before script (suc from)
   pub begins : sections ≡ 0 → from ≡ 0
 
--- One section more was run, up to another place, and its lines are said.
-pub record RunsOn {S : Type 0} (taken : S → Option (List ℕ)) (faults : S → ℕ) (script : Script) (table : Table)
-    (sections from : ℕ) (old : S) (p : Progress) (new : S) (book : SectionBook) (q : Progress) (more : Bool)
-    : Type 0 where
+-- A section was made after so many others, which came to this place and had this report.
+pub record IsMade (script : Script) (table : Table) (sections from : ℕ) (book : SectionBook) (section : Section)
+    (so_far : Report) : Type 0 where
+  pub next : IsNext book script table from section
+  pub report : IsReportAt (state_at script table from) so_far
+  pub few : IsFew sections so_far
+  pub tests : sections ≤ tests_before script (suc from)
+
+-- One section more was run, up to another place: its lines, the report so far, and whether there is a next section.
+pub record GoesOn (script : Script) (table : Table) (sections from : ℕ) (lines : List ℕ) (book : SectionBook)
+    (q : Progress) (more : Bool) : Type 0 where
   pub to : ℕ
-  pub lines : List ℕ
   pub lines_are : (state_at script table to).lines ≡ (state_at script table from).lines ++ lines
-  pub said : SaysTo taken faults old p.out p.failed new q.out q.failed lines
   pub report : IsReportAt (state_at script table to) q.report
   -- there is a next section, or this was the last one
   pub next : more ≡ true → HasRun script table (suc sections) to book q
   pub last : more ≡ false → to ≡ length script.statements.items
 
--- A text was said after the lines so far, and none of them waits any more. The status is this one, unless a write failed.
+-- the same, and its lines are said
+pub record RunsOn {S : Type 0} (taken : S → Option (List ℕ)) (faults : S → ℕ) (script : Script) (table : Table)
+    (sections from : ℕ) (old : S) (p : Progress) (new : S) (book : SectionBook) (q : Progress) (more : Bool)
+    : Type 0 where
+  pub lines : List ℕ
+  pub goes : GoesOn script table sections from lines book q more
+  pub said : SaysTo taken faults old p.out p.failed new q.out q.failed lines
+
+-- A text was said after the lines so far, and none of them waits any more. The status is this one, unless a write
+-- failed.
 pub record Closes {S : Type 0} (taken : S → Option (List ℕ)) (faults : S → ℕ) (old : S) (p : Progress) (new : S)
     (q : Progress) (text : List ℕ) (status result : ℕ) : Type 0 where
   pub said : SaysTo taken faults old p.out p.failed new q.out q.failed text

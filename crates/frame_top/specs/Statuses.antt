@@ -1,5 +1,5 @@
--- The exit statuses as numbers: a clause that cites a status by its name says nothing of its value, so one law says it of
--- all.
+-- The exit statuses as numbers: a clause that cites a status by its name says nothing of its value, so one law says it
+-- of all.
 use Rattle.std.specs.Prelude.{◌≡◌}
 use Rattle.frame_top.specs.declared.status.TheConstants.{DONE, STATEMENT_REFUSED, USAGE, SCRIPT_REFUSED, TABLE_REFUSED, TRAPPED, UNREAD, UNWRITTEN, NO_MEMORY, PAST_LIMIT}
 

@@ -1,7 +1,7 @@
 // What a script and its table answer.
-ghost use Rattle.std.specs.Prelude.{◌≡◌, ◌≤◌, None, false, true};
+ghost use Rattle.std.specs.Prelude.{◌≡◌, ◌≤◌, ℕ, Bool, None, IfSome, false, true};
 ghost use Rattle.job_base.specs.declared.limits.TheConstants.{MOST_WORKERS};
-ghost use Rattle.frame_ast.specs.Accepted.{IsAccepted, is_when};
+ghost use Rattle.frame_ast.specs.Accepted.{IsAccepted};
 ghost use Rattle.frame_plan.specs.Tables.{columns_of};
 ghost use Rattle.frame_top.specs.Answers.{AnswersTo, FrameCause, IsCut};
 ghost use Rattle.frame_top.specs.Refusals.{column_name, column_refusal, first_when};
@@ -21,22 +21,12 @@ use std::sync::Wait;
 use std::thread::Threads;
 use table_in::Table;
 
-/// Whether a statement is a `when`.
-fn is_when(act: &Order) -> bool
-    ensures { result ≡ is_when act.now }
-{
-    match act {
-        Order::When { .. } => true,
-        _ => false,
-    }
-}
-
 /// The line of the first `when` of a script.
 fn first_when(script: &Script) -> Option<u32>
     ensures { result ≡ first_when script.now.statements.items }
 {
     for i in 0..script.statements.len() {
-        if is_when(&script.statements[i].act) {
+        if script.statements[i].act.is_when() {
             return Some(script.statements[i].line);
         }
     }
@@ -51,6 +41,23 @@ fn column_name(act: &Order) -> &[u8]
         Order::Column { column, .. } => column,
         _ => b"",
     }
+}
+
+/// Refuses a table that lacks a column of the script, and answers nothing for any other.
+pub(crate) fn refuse_missing<S: Sink>(script: &Script, table: &Table, sink: &mut S) -> Option<u8>
+    requires accepted { IsAccepted script.now }
+    ensures missing { (depth : Bool) (workers : ℕ) → IfSome result (AnswersTo S.taken S.faults sink.old sink.new
+        (FrameCause script.now (columns_of table.now) depth workers)
+        (IsCut script.now (columns_of table.now) depth)) }
+    ensures none { result ≡ None → column_refusal (columns_of table.now) script.now.statements.items ≡ None }
+    ensures same { result ≡ None → sink.new ≡ sink.old }
+    ensures later { S.faults sink.old ≤ S.faults sink.new }
+{
+    if let Some(place) = missing_column(script, table) {
+        let name = column_name(&script.statements[place as usize].act);
+        return Some(refuse_column(name, sink));
+    }
+    None
 }
 
 /// Reports how deep the plan of a script is, and runs nothing.
@@ -129,9 +136,8 @@ pub fn answer_frame<R: Threads + Wait + Sync, S: Sink, G: Gate + Sync>(
         (IsCut script.now (columns_of table.now) options.depth) result }
     ensures later { S.faults sink.old ≤ S.faults sink.new }
 {
-    if let Some(place) = missing_column(script, table) {
-        let name = column_name(&script.statements[place as usize].act);
-        return refuse_column(name, sink);
+    if let Some(status) = refuse_missing(script, table, sink) {
+        return status;
     }
     if options.depth {
         report_depth(alloc, script, table, options.workers, sink)

@@ -15,6 +15,7 @@
 //! one left, once.
 #![tactic(auto)]
 
+mod alone;
 mod frame;
 mod inputs;
 pub mod laws;
@@ -26,4 +27,5 @@ pub mod status;
 mod texts;
 mod top;
 
+pub use alone::run_source;
 pub use top::run_frame;

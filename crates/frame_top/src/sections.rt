@@ -1,24 +1,29 @@
 // The run of a script, section after section.
-ghost use Rattle.std.specs.Prelude.{◌≡◌, ◌<◌, ◌≤◌, ℕ, [], length, OnErr, IfOk, true};
+ghost use Rattle.std.specs.Prelude.{◌≡◌, ◌<◌, ◌≤◌, ℕ, [], length, OnErr, IfOk, IsSome, None, true, false};
 ghost use Rattle.job_base.specs.declared.limits.TheConstants.{MOST_TESTS, MOST_WORKERS};
 ghost use Rattle.job_base.specs.Cells.{cells_of};
+ghost use Rattle.frame_ast.specs.declared.script.Script.{Script as ScriptTree};
 ghost use Rattle.frame_ast.specs.Accepted.{IsAccepted};
-ghost use Rattle.frame_ast.specs.Orders.{compares};
+ghost use Rattle.frame_ast.specs.Orders.{Table as Columns, compares};
 ghost use Rattle.frame_ast.specs.Scripts.{output_of, status_by, status_of};
 ghost use Rattle.frame_ast.specs.States.{ScriptState};
 ghost use Rattle.frame_ast.specs.Texts.{traps_text};
 ghost use Rattle.merge_laws.specs.Graph.{Cells};
+ghost use Rattle.frame_core.specs.Output.{plan_lines};
+ghost use Rattle.plan_run.specs.Runs.{IsReport};
+ghost use Rattle.frame_plan.specs.Names.{AreNamesOf};
 ghost use Rattle.frame_plan.specs.Sections.{IsAt};
 ghost use Rattle.frame_plan.specs.Tables.{columns_of};
 ghost use Rattle.frame_top.specs.Answers.{AnswersTo, has_when};
+ghost use Rattle.frame_top.specs.Cells.{AreCellsOf};
 ghost use Rattle.frame_top.specs.Refusals.{answer};
-ghost use Rattle.frame_top.specs.Running.{Closes, HasRun, IsReportAt, RunsOn};
+ghost use Rattle.frame_top.specs.Running.{Closes, GoesOn, HasRun, IsMade, IsReportAt, RunsOn};
 ghost use Rattle.frame_top.specs.declared.status.TheConstants.{NO_MEMORY, UNWRITTEN};
 
-use crate::section::run_section;
+use crate::section::{SectionRun, run_section};
 use crate::status::{DONE, NO_MEMORY, STATEMENT_REFUSED, TRAPPED, UNWRITTEN};
 use frame_ast::kernel::Kernel;
-use frame_ast::script::{Script, Sign};
+use frame_ast::script::Script;
 use frame_plan::{Section, SectionBook, Test, names_of};
 use frame_print::{Outgoing, Report};
 use job_base::limits::MOST_TESTS;
@@ -52,20 +57,6 @@ pub struct Progress {
     pub failed: bool,
 }
 
-/// Whether a number compares so with another one.
-fn compares(sign: Sign, number: i64, bound: i64) -> bool
-    ensures { result ≡ compares sign number bound }
-{
-    match sign {
-        Sign::Eq => number == bound,
-        Sign::Ne => number != bound,
-        Sign::Lt => number < bound,
-        Sign::Le => number <= bound,
-        Sign::Gt => number > bound,
-        Sign::Ge => number >= bound,
-    }
-}
-
 /// Whether a test holds of these cells.
 fn holds(test: &Test, cells: &mut FlatMem) -> bool
     requires reach { test.now.at.start < length cells.old }
@@ -73,7 +64,7 @@ fn holds(test: &Test, cells: &mut FlatMem) -> bool
     ensures cells { cells.new ≡ cells.old }
 {
     let number = cells.load(Word(test.at.start));
-    compares(test.sign, number, test.bound)
+    test.sign.holds(number, test.bound)
 }
 
 /// The status of a run that was written whole.
@@ -98,7 +89,86 @@ fn first_list(alloc: Global, lists: Vec<Vec<i64>>) -> Vec<i64> {
     lists.swap_remove(0)
 }
 
-/// Runs the next section, and says whether there is one after it.
+/// What is known of a frame before its first section.
+pub(crate) fn begin_frame(alloc: Global, script: &Script) -> Result<Progress, NoMemory>
+    ensures held { IfOk result (λ p. p.held ≡ None) }
+    ensures waits { IfOk result (λ p. p.out ≡ []) }
+    ensures failed { IfOk result (λ p. p.failed ≡ false) }
+    ensures report { IfOk result (λ p. (s : ScriptState) → s.traps ≡ [] → s.refused ≡ 0 → IsReportAt s p.report) }
+    ensures names { IfOk result (λ p. AreNamesOf script.now p.names.items) }
+{
+    let names = names_of(alloc, script)?;
+    let out = Outgoing::new(alloc)?;
+    Ok(Progress {
+        held: None,
+        cells: FlatMem::of(Vec::new(alloc)),
+        names,
+        kernels: Vec::new(alloc),
+        spare: Vec::new(alloc),
+        report: no_report(),
+        out,
+        failed: false,
+    })
+}
+
+/// Makes the next section of a frame out of what the last one left.
+pub(crate) fn next_section(
+    alloc: Global,
+    script: &Script,
+    table: &Table,
+    book: &mut SectionBook,
+    progress: &mut Progress,
+) -> Result<Section, NoMemory>
+    requires here { (sections : ℕ) × (from : ℕ)
+        × HasRun script.now (columns_of table.now) sections from book.old progress.old }
+    ensures made { (sections from : ℕ) → HasRun script.now (columns_of table.now) sections from book.old progress.old
+        → IfOk result (λ section. IsMade script.now (columns_of table.now) sections from book.new section
+        progress.new.report) }
+    ensures waits { progress.new.out ≡ progress.old.out }
+    ensures failed { progress.new.failed ≡ progress.old.failed }
+{
+    let cells = mem::replace(&mut progress.cells, FlatMem::of(Vec::new(alloc)));
+    let names = mem::replace(&mut progress.names, Vec::new(alloc));
+    let kernels = mem::replace(&mut progress.kernels, Vec::new(alloc));
+    book.next(alloc, script, table, progress.held, cells, names, kernels)
+}
+
+/// Takes over what the run of a section came to, and says whether there is a section after it.
+pub(crate) fn take_run(
+    alloc: Global,
+    section: Section,
+    ran: SectionRun,
+    progress: &mut Progress,
+) -> bool
+    requires made { (script : ScriptTree) × (columns : Columns) × (sections : ℕ) × (from : ℕ) × (book : SectionBook)
+        × IsAccepted script × (sections ≤ MOST_TESTS)
+        × IsMade script columns sections from book section progress.old.report }
+    requires report { IsReport section.plan ran.report }
+    requires cells { IsSome section.test → AreCellsOf section.plan ran.left }
+    ensures goes { (script : ScriptTree) (columns : Columns) (sections from : ℕ) (book : SectionBook)
+        → IsMade script columns sections from book section progress.old.report
+        → GoesOn script columns sections from (plan_lines section.plan) book progress.new result }
+    ensures waits { progress.new.out ≡ progress.old.out }
+    ensures failed { progress.new.failed ≡ ran.failed }
+{
+    reports_are_within();
+    progress.failed = ran.failed;
+    progress.report = join_reports(&progress.report, section.jobs_before, &ran.report);
+    progress.cells = ran.left;
+    let Section { plan, test, .. } = section;
+    progress.names = plan.names;
+    progress.kernels = plan.kernels;
+    progress.spare = first_list(alloc, plan.literals);
+    match test {
+        None => false,
+        Some(test) => {
+            progress.held = Some(holds(&test, &mut progress.cells));
+            true
+        }
+    }
+}
+
+// Runs the next section, and says whether there is one after it.
 fn run_next<R: Threads + Wait + Sync, S: Sink, G: Gate + Sync>(
     rt: &R,
     alloc: Global,
@@ -114,8 +184,7 @@ fn run_next<R: Threads + Wait + Sync, S: Sink, G: Gate + Sync>(
     requires workers { (1 ≤ workers) × (workers ≤ MOST_WORKERS) }
     requires here { (sections : ℕ) × (from : ℕ) × (sections ≤ MOST_TESTS)
         × HasRun script.now (columns_of table.now) sections from book.old progress.old }
-    ensures next { (sections from : ℕ) → sections ≤ MOST_TESTS
-        → HasRun script.now (columns_of table.now) sections from book.old progress.old
+    ensures next { (sections from : ℕ) → HasRun script.now (columns_of table.now) sections from book.old progress.old
         → IfOk result (RunsOn S.taken S.faults script.now (columns_of table.now) sections from sink.old progress.old
         sink.new book.new progress.new) }
     ensures later { S.faults sink.old ≤ S.faults sink.new }
@@ -123,13 +192,10 @@ fn run_next<R: Threads + Wait + Sync, S: Sink, G: Gate + Sync>(
     ensures waits { OnErr result (progress.new.out ≡ progress.old.out) }
     ensures failed { OnErr result (progress.new.failed ≡ progress.old.failed) }
 {
-    let cells = mem::replace(&mut progress.cells, FlatMem::of(Vec::new(alloc)));
-    let names = mem::replace(&mut progress.names, Vec::new(alloc));
-    let kernels = mem::replace(&mut progress.kernels, Vec::new(alloc));
-    let spare = mem::replace(&mut progress.spare, Vec::new(alloc));
-    let section = book.next(alloc, script, table, progress.held, cells, names, kernels)?;
+    let section = next_section(alloc, script, table, book, progress)?;
     let keeps = section.test.is_some();
-    let run = run_section(
+    let spare = mem::replace(&mut progress.spare, Vec::new(alloc));
+    let ran = run_section(
         rt,
         alloc,
         &section.plan,
@@ -141,25 +207,11 @@ fn run_next<R: Threads + Wait + Sync, S: Sink, G: Gate + Sync>(
         sink,
         gate,
     )?;
-    reports_are_within();
-    progress.failed = run.failed;
-    progress.report = join_reports(&progress.report, section.jobs_before, &run.report);
-    progress.cells = run.left;
-    let Section { plan, test, .. } = section;
-    progress.names = plan.names;
-    progress.kernels = plan.kernels;
-    progress.spare = first_list(alloc, plan.literals);
-    match test {
-        None => Ok(false),
-        Some(test) => {
-            progress.held = Some(holds(&test, &mut progress.cells));
-            Ok(true)
-        }
-    }
+    Ok(take_run(alloc, section, ran, progress))
 }
 
 /// Writes what waits, and answers this status, unless a write failed.
-fn close<S: Sink>(progress: &mut Progress, status: u8, sink: &mut S) -> u8
+pub(crate) fn close<S: Sink>(progress: &mut Progress, status: u8, sink: &mut S) -> u8
     ensures closed { Closes S.taken S.faults sink.old progress.old sink.new progress.new [] status result }
     ensures later { S.faults sink.old ≤ S.faults sink.new }
 {
@@ -168,7 +220,7 @@ fn close<S: Sink>(progress: &mut Progress, status: u8, sink: &mut S) -> u8
 }
 
 /// Writes what waits and the lines of the traps, and answers the status.
-fn finish<S: Sink>(progress: &mut Progress, sink: &mut S) -> u8
+pub(crate) fn finish<S: Sink>(progress: &mut Progress, sink: &mut S) -> u8
     ensures closed { (s : ScriptState) → IsReportAt s progress.old.report
         → Closes S.taken S.faults sink.old progress.old sink.new progress.new (traps_text s.traps)
         (status_by s.traps s.refused) result }
@@ -220,23 +272,10 @@ pub fn run_sections<R: Threads + Wait + Sync, S: Sink, G: Gate + Sync>(
         (λ text. (has_when script.now ≡ true) × (text ≡ output_of script.now (columns_of table.now))) result }
     ensures later { S.faults sink.old ≤ S.faults sink.new }
 {
-    let Ok(names) = names_of(alloc, script) else {
-        return NO_MEMORY;
-    };
-    let Ok(out) = Outgoing::new(alloc) else {
+    let Ok(mut progress) = begin_frame(alloc, script) else {
         return NO_MEMORY;
     };
     let mut book = first;
-    let mut progress = Progress {
-        held: None,
-        cells: FlatMem::of(Vec::new(alloc)),
-        names,
-        kernels: Vec::new(alloc),
-        spare: Vec::new(alloc),
-        report: no_report(),
-        out,
-        failed: false,
-    };
     for _section in 0..MOST_TESTS + 1 {
         match run_next(
             rt,

@@ -123,7 +123,8 @@ fn answer_words<R: Threads + Wait + Sync, F: Files, S: Sink, G: Gate + Sync>(
         Ok(command) => answer_command(rt, alloc, &command, files, sink, gate),
         Err(WordsFault::Usage) => say(
             USAGE,
-            b"usage: frame_run [--workers N] [--depth] SCRIPT [TABLE] or frame_run [--workers N] [--depth] --gen NUMBER --jobs K\n",
+            b"usage: frame_run [--workers N] [--depth] SCRIPT [TABLE] or frame_run [--workers N] [--depth] --gen \
+             NUMBER --jobs K\n",
             sink,
         ),
         Err(WordsFault::NoMemory) => NO_MEMORY,

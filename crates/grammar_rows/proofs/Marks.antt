@@ -158,23 +158,28 @@ pub record GoesOnBy (start : Nonterminal) (marks : List Mark) (kinds : List Toke
   pub may : (k : TokenKind) → has_kind kinds k ≡ true → IsViable start (tokens_in marks ++ k ∷ [])
   pub only : (k : TokenKind) → IsViable start (tokens_in marks ++ k ∷ []) → has_kind kinds k ≡ true
 
-viable_where : (start : Nonterminal) (tokens : List TokenKind) (k : TokenKind) (found : Found) → Says start (tokens ++ k ∷ []) found → fits true (length tokens) found ≡ true → IsViable start (tokens ++ k ∷ [])
+viable_where : (start : Nonterminal) (tokens : List TokenKind) (k : TokenKind) (found : Found) → Says start (tokens ++ k ∷ []) found
+    → fits true (length tokens) found ≡ true → IsViable start (tokens ++ k ∷ [])
 viable_where start tokens k Found.Unfinished says e = says
 viable_where start tokens k (Found.Sentence m events) says e =
-    let whole : take m (tokens ++ k ∷ []) ≡ tokens ++ k ∷ [] = take_all m (tokens ++ k ∷ []) (omega (arith, eqb-true m (length tokens + 1) e, length-append tokens (k ∷ []))) in
+    let whole : take m (tokens ++ k ∷ []) ≡ tokens ++ k ∷ [] = take_all m (tokens ++ k ∷ [])
+    (omega (arith, eqb-true m (length tokens + 1) e, length-append tokens (k ∷ []))) in
     ([], events, subst (IsSentence start events) (whole ∙ sym (append-nil (tokens ++ k ∷ []))) says.sentence)
 viable_where start tokens k (Found.Stopped place) says e = cc
 viable_where start tokens k Found.Tired says e = cc
 
-not_viable_where : (start : Nonterminal) (tokens : List TokenKind) (k : TokenKind) (found : Found) → Says start (tokens ++ k ∷ []) found → fits false (length tokens) found ≡ true → IsViable start (tokens ++ k ∷ []) → ⊥
+not_viable_where : (start : Nonterminal) (tokens : List TokenKind) (k : TokenKind) (found : Found) → Says start (tokens ++ k ∷ []) found
+    → fits false (length tokens) found ≡ true → IsViable start (tokens ++ k ∷ []) → ⊥
 not_viable_where start tokens k (Found.Stopped place) says e v =
-    let whole : take (place + 1) (tokens ++ k ∷ []) ≡ tokens ++ k ∷ [] = take_all (place + 1) (tokens ++ k ∷ []) (omega (arith, eqb-true place (length tokens) e, length-append tokens (k ∷ []))) in
+    let whole : take (place + 1) (tokens ++ k ∷ []) ≡ tokens ++ k ∷ [] = take_all (place + 1) (tokens ++ k ∷ [])
+    (omega (arith, eqb-true place (length tokens) e, length-append tokens (k ∷ []))) in
     says.token (subst (IsViable start) (sym whole) v)
 not_viable_where start tokens k Found.Unfinished says e v = cc
 not_viable_where start tokens k (Found.Sentence m events) says e v = cc
 not_viable_where start tokens k Found.Tired says e v = cc
 
-only_where : (start : Nonterminal) (tokens : List TokenKind) (k : TokenKind) (b : Bool) (found : Found) → Says start (tokens ++ k ∷ []) found → fits b (length tokens) found ≡ true → IsViable start (tokens ++ k ∷ []) → b ≡ true
+only_where : (start : Nonterminal) (tokens : List TokenKind) (k : TokenKind) (b : Bool) (found : Found) → Says start (tokens ++ k ∷ []) found
+    → fits b (length tokens) found ≡ true → IsViable start (tokens ++ k ∷ []) → b ≡ true
 only_where start tokens k true found says e v = refl
 only_where start tokens k false found says e v = absurd (not_viable_where start tokens k found says e v)
 

@@ -127,7 +127,8 @@ either = kernel_reads refl refl refl
 
 -- 1 || 2 && 3 == 4 + 5 * -6: each operator has all that is right of it
 rising : ReadsKernel (giving (
-    constant "1" ++ joined "||" (constant "2" ++ joined "&&" (constant "3" ++ joined "==" (constant "4" ++ joined "+" (constant "5" ++ joined "*" (before "-" (constant "6"))))))))
+    constant "1" ++ joined "||" (constant "2" ++ joined "&&" (constant "3"
+    ++ joined "==" (constant "4" ++ joined "+" (constant "5" ++ joined "*" (before "-" (constant "6"))))))))
 unfolding tables
 rising = kernel_reads refl refl refl
 

@@ -5,7 +5,8 @@ use Rattle.grammar_rows.proofs.Marks.{said, quoted, tables}
 
 -- { } ( ) [ ] , ; : = == != < <= > >= + - * / % ! && || ..
 symbols :
-    map said ("{" ∷ "}" ∷ "(" ∷ ")" ∷ "[" ∷ "]" ∷ "," ∷ ";" ∷ ":" ∷ "=" ∷ "==" ∷ "!=" ∷ "<" ∷ "<=" ∷ ">" ∷ ">=" ∷ "+" ∷ "-" ∷ "*" ∷ "/" ∷ "%" ∷ "!" ∷ "&&" ∷ "||" ∷ ".." ∷ [])
+    map said ("{" ∷ "}" ∷ "(" ∷ ")" ∷ "[" ∷ "]" ∷ "," ∷ ";" ∷ ":" ∷ "=" ∷ "==" ∷ "!=" ∷ "<" ∷ "<=" ∷ ">" ∷ ">=" ∷ "+" ∷ "-" ∷ "*" ∷ "/" ∷ "%" ∷ "!" ∷ "&&"
+    ∷ "||" ∷ ".." ∷ [])
     ≡ OpenBrace ∷ CloseBrace ∷ OpenParen ∷ CloseParen ∷ OpenBracket ∷ CloseBracket ∷ Comma ∷ Semicolon ∷ Colon ∷ Assign ∷ Equal ∷ NotEqual ∷ Less
     ∷ LessEqual ∷ Greater ∷ GreaterEqual ∷ Plus ∷ Minus ∷ Star ∷ Slash ∷ Percent ∷ Not ∷ AndAnd ∷ OrOr ∷ DotDot ∷ []
 unfolding tables
@@ -28,7 +29,8 @@ unfolding tables
 words_of_scripts = refl
 
 -- names: a reserved word and more, other letters, and a line below
-names : map said ("jobs" ∷ "Job" ∷ "_" ∷ "x1" ∷ "_temp" ∷ "temp_job" ∷ "setCapacity" ∷ "reads" ∷ []) ≡ Name ∷ Name ∷ Name ∷ Name ∷ Name ∷ Name ∷ Name ∷ Name ∷ []
+names : map said ("jobs" ∷ "Job" ∷ "_" ∷ "x1" ∷ "_temp" ∷ "temp_job" ∷ "setCapacity" ∷ "reads" ∷ []) ≡ Name ∷ Name ∷ Name ∷ Name ∷ Name ∷ Name ∷ Name ∷ Name
+    ∷ []
 unfolding tables
 names = refl
 

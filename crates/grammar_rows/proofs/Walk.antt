@@ -67,15 +67,18 @@ ahead_of tokens place k ks e =
     let split = sym (drop-cons tokens place k lt) ∙ e in
     record { within = lt; same = cc; rest = rw add-one cc }
 
-stops_here : (start : Nonterminal) (tokens : List TokenKind) (place : ℕ) (done0 : List Event) (ss0 : List Symbol) (k : TokenKind) (ks : List TokenKind) → drop place tokens ≡ k ∷ ks →
+stops_here : (start : Nonterminal) (tokens : List TokenKind) (place : ℕ) (done0 : List Event) (ss0 : List Symbol) (k : TokenKind) (ks : List TokenKind)
+    → drop place tokens ≡ k ∷ ks →
     Between start tokens place done0 ss0 → Stops k place done0 ss0 → IsFault start tokens place
 stops_here start tokens place done0 ss0 k ks e at step =
     let here = ahead_of tokens place k ks e in
     fault_at start tokens place k done0 ss0 here.within at (subst (λ x. Stops x place done0 ss0) (sym here.same) step)
 
 -- the token is one that goes on: nothing is to come, no token is ahead, or the next is
-goes_on_after : (start : Nonterminal) (tokens : List TokenKind) (place : ℕ) (done0 done : List Event) (ss0 ss : List Symbol) (k : TokenKind) (ks : List TokenKind) → drop place tokens ≡ k ∷ ks →
-    Between start tokens place done0 ss0 → Takes k place done0 ss0 done ss → (go : (s : Symbol) (more : List Symbol) (next : TokenKind) (later : List TokenKind) → Found) →
+goes_on_after : (start : Nonterminal) (tokens : List TokenKind) (place : ℕ) (done0 done : List Event) (ss0 ss : List Symbol) (k : TokenKind)
+    (ks : List TokenKind) → drop place tokens ≡ k ∷ ks →
+    Between start tokens place done0 ss0 → Takes k place done0 ss0 done ss
+    → (go : (s : Symbol) (more : List Symbol) (next : TokenKind) (later : List TokenKind) → Found) →
     ((s : Symbol) (more : List Symbol) (next : TokenKind) (later : List TokenKind) → ss ≡ s ∷ more → drop (place + 1) tokens ≡ next ∷ later →
     Between start tokens (place + 1) done (s ∷ more) → Says start tokens (go s more next later)) →
     Says start tokens (elim ss [
@@ -87,30 +90,40 @@ goes_on_after start tokens place done0 done ss0 [] k ks e at step go more =
     finds start tokens place k done0 done ss0 [] here.within at (subst (λ x. Takes x place done0 ss0 done []) (sym here.same) step) refl
 goes_on_after start tokens place done0 done ss0 (s ∷ ss) k [] e at step go more =
     let here = ahead_of tokens place k [] e in
-    let next = between_more start tokens place k done0 done ss0 (s ∷ ss) here.within at (subst (λ x. Takes x place done0 ss0 done (s ∷ ss)) (sym here.same) step) (λ f. cc) in
-    subst (IsViable start) (take_all (place + 1) tokens (all_read tokens place here.rest)) (viable start (place + 1) done (take (place + 1) tokens) (s ∷ ss) next.reached)
+    let next = between_more start tokens place k done0 done ss0 (s ∷ ss) here.within at
+    (subst (λ x. Takes x place done0 ss0 done (s ∷ ss)) (sym here.same) step) (λ f. cc) in
+    subst (IsViable start) (take_all (place + 1) tokens (all_read tokens place here.rest))
+    (viable start (place + 1) done (take (place + 1) tokens) (s ∷ ss) next.reached)
   where
     all_read : (tokens : List TokenKind) (place : ℕ) → drop (place + 1) tokens ≡ [] → length tokens ≤ place + 1
-    all_read tokens place none = let zero_left : length (drop (place + 1) tokens) ≡ 0 = ap length none in omega (arith, zero_left, length-drop (place + 1) tokens)
+    all_read tokens place none = let zero_left : length (drop (place + 1) tokens) ≡ 0 = ap length none in
+        omega (arith, zero_left, length-drop (place + 1) tokens)
 goes_on_after start tokens place done0 done ss0 (s ∷ ss) k (next ∷ later) e at step go more =
     let here = ahead_of tokens place k (next ∷ later) e in
     more s ss next later refl here.rest
-    (between_more start tokens place k done0 done ss0 (s ∷ ss) here.within at (subst (λ x. Takes x place done0 ss0 done (s ∷ ss)) (sym here.same) step) (λ f. cc))
+    (between_more start tokens place k done0 done ss0 (s ∷ ss) here.within at (subst (λ x. Takes x place done0 ss0 done (s ∷ ss)) (sym here.same) step)
+    (λ f. cc))
 
 same_is : (j k : TokenKind) → same_kind j k ≡ false → j ≡ k → ⊥
 unfolding same_kind
 same_is j k e = kinds_differ j k e
 
-by_production : (start : Nonterminal) (tokens : List TokenKind) (steps place : ℕ) (done0 done : List Event) (ss0 ss : List Symbol) (k : TokenKind) (ks : List TokenKind) (n : Nonterminal) →
+by_production : (start : Nonterminal) (tokens : List TokenKind) (steps place : ℕ) (done0 done : List Event) (ss0 ss : List Symbol) (k : TokenKind)
+    (ks : List TokenKind) (n : Nonterminal) →
     drop place tokens ≡ k ∷ ks → Between start tokens place done0 ss0 → Leads k place done0 ss0 done (symbol.Nonterminal n ∷ ss) →
     ((p : Production) → Leads k place done0 ss0 done (body_of p ++ ss) → Says start tokens (walk steps place done (body_of p ++ ss) k ks)) →
-    (o : Option Production) → predicted n k ≡ o → Says start tokens (elim o [ None ↦ Found.Stopped place | Some p ↦ walk steps place done (body_of p ++ ss) k ks ])
+    (o : Option Production) → predicted n k ≡ o → Says start tokens (elim o [
+      | None ↦ Found.Stopped place
+      | Some p ↦ walk steps place done
+          (body_of p ++ ss) k ks
+    ])
 by_production start tokens steps place done0 done ss0 ss k ks n e at leads more None f =
     stops_here start tokens place done0 ss0 k ks e at (stops_at k place done0 done ss0 ss n leads f)
 by_production start tokens steps place done0 done ss0 ss k ks n e at leads more (Some p) f =
     more p (goes_on_by k place done0 done ss0 ss n p leads f)
 
-by_terminal : (start : Nonterminal) (tokens : List TokenKind) (steps place : ℕ) (done0 done : List Event) (ss0 ss : List Symbol) (k : TokenKind) (ks : List TokenKind) (j : TokenKind) →
+by_terminal : (start : Nonterminal) (tokens : List TokenKind) (steps place : ℕ) (done0 done : List Event) (ss0 ss : List Symbol) (k : TokenKind)
+    (ks : List TokenKind) (j : TokenKind) →
     drop place tokens ≡ k ∷ ks → Between start tokens place done0 ss0 → Leads k place done0 ss0 done (symbol.Terminal j ∷ ss) →
     ((s : Symbol) (more : List Symbol) (next : TokenKind) (later : List TokenKind) → drop (place + 1) tokens ≡ next ∷ later →
     Between start tokens (place + 1) done (s ∷ more) → Says start tokens (walk steps (place + 1) done (s ∷ more) next later)) →
@@ -130,7 +143,8 @@ by_terminal start tokens steps place done0 done ss0 ss k ks j e at leads more tr
     (λ s rest next later is ahead next_at. more s rest next later ahead next_at)
 
 -- What is found along tokens is so.
-says_from : (start : Nonterminal) (tokens : List TokenKind) (steps place : ℕ) (done0 done : List Event) (ss0 ss : List Symbol) (k : TokenKind) (ks : List TokenKind) → drop place tokens ≡ k ∷ ks →
+says_from : (start : Nonterminal) (tokens : List TokenKind) (steps place : ℕ) (done0 done : List Event) (ss0 ss : List Symbol) (k : TokenKind)
+    (ks : List TokenKind) → drop place tokens ≡ k ∷ ks →
     Between start tokens place done0 ss0 → Leads k place done0 ss0 done ss → Says start tokens (walk steps place done ss k ks)
 says_from start tokens zero place done0 done ss0 ss k ks e at leads = tt
 says_from start tokens (suc steps) place done0 done ss0 [] k ks e at leads =
@@ -143,10 +157,12 @@ says_from start tokens (suc steps) place done0 done ss0 (symbol.Nonterminal n �
     (predicted n k) refl
 says_from start tokens (suc steps) place done0 done ss0 (symbol.Terminal j ∷ ss) k ks e at leads =
     by_terminal start tokens steps place done0 done ss0 ss k ks j e at leads
-    (λ s more next later rest next_at. says_from start tokens steps (place + 1) done done (s ∷ more) (s ∷ more) next later rest next_at (leads_start next (place + 1) done (s ∷ more)))
+    (λ s more next later rest next_at. says_from start tokens steps (place + 1) done done (s ∷ more) (s ∷ more) next later rest next_at
+    (leads_start next (place + 1) done (s ∷ more)))
     (same_kind j k) refl
 
 pub says : (steps : ℕ) (start : Nonterminal) (tokens : List TokenKind) → IsStart start → Says start tokens (found_in steps start tokens)
 says steps start [] is_start = tt
 says steps start (k ∷ ks) is_start =
-    says_from start (k ∷ ks) steps 0 [] [] (symbol.Nonterminal start ∷ []) (symbol.Nonterminal start ∷ []) k ks refl (between_start start (k ∷ ks) is_start) (leads_start k 0 [] (symbol.Nonterminal start ∷ []))
+    says_from start (k ∷ ks) steps 0 [] [] (symbol.Nonterminal start ∷ []) (symbol.Nonterminal start ∷ []) k ks refl (between_start start (k ∷ ks) is_start)
+    (leads_start k 0 [] (symbol.Nonterminal start ∷ []))

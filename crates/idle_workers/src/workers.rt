@@ -82,7 +82,8 @@ impl IdleWorkers {
         }
     }
 
-    // Changes the word in one step, where there is something to change. It tries again where others changed it meanwhile.
+    // Changes the word in one step, where there is something to change. It tries again where others changed it
+    // meanwhile.
     fn change<F: Fn(u64) -> Option<u64>>(&self, change: F) -> bool
         requires { F.IsAlwaysCallable change }
     {

@@ -27,13 +27,16 @@ either true x = refl
 either false x = refl
 
 -- and so does one of a name that is in no place
-pub answer_missing : (files : FilesInMemory) (name : List ℕ) (limit : ℕ) → position (λ n. bytes_eq n name) files.names ≡ None → answer_of files name limit ≡ Err Failed
+pub answer_missing : (files : FilesInMemory) (name : List ℕ) (limit : ℕ) → position (λ n. bytes_eq n name) files.names ≡ None
+    → answer_of files name limit ≡ Err Failed
 answer_missing files name limit e =
     ap (λ p. cond (is_failing files) (Err Failed) (answer_on (contents_at p files.contents) limit)) e
     ∙ either (is_failing files) (Err Failed)
 
 -- every other read gives the contents at the first place
-pub answer_found : (files : FilesInMemory) (name : List ℕ) (limit : ℕ) (place : ℕ) (bytes : List ℕ) → is_failing files ≡ false → position (λ n. bytes_eq n name) files.names ≡ Some place → slice_get files.contents place ≡ Some bytes → answer_of files name limit ≡ answer_on (Some bytes) limit
+pub answer_found : (files : FilesInMemory) (name : List ℕ) (limit : ℕ) (place : ℕ) (bytes : List ℕ) → is_failing files ≡ false
+    → position (λ n. bytes_eq n name) files.names ≡ Some place → slice_get files.contents place ≡ Some bytes
+    → answer_of files name limit ≡ answer_on (Some bytes) limit
 answer_found files name limit place bytes e p q =
     ap (λ b. cond b (Err Failed) (answer_on (file_bytes files name) limit)) e
     ∙ (ap (λ p. answer_on (contents_at p files.contents) limit) p ∙ ap (λ c. answer_on c limit) q)

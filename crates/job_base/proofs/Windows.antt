@@ -69,7 +69,8 @@ cell_list-same f g start (suc n) h =
     ap (λ x. x ∷ cell_list f (start + 1) n) first ∙ ap (λ l. g start ∷ l) rest
 
 -- a list that has the cells of a window in order is the window's list
-pub cell_list-is : (cells : ℕ → ℤ) (start n : ℕ) (xs : List ℤ) → length xs ≡ n → ((k : ℕ) → k < n → cells (start + k) ≡ get_or xs k (pos 0)) → cell_list cells start n ≡ xs
+pub cell_list-is : (cells : ℕ → ℤ) (start n : ℕ) (xs : List ℤ) → length xs ≡ n → ((k : ℕ) → k < n → cells (start + k) ≡ get_or xs k (pos 0))
+    → cell_list cells start n ≡ xs
 cell_list-is cells start zero [] e h = refl
 cell_list-is cells start zero (x ∷ xs) e h = absurd (omega arith)
 cell_list-is cells start (suc n) [] e h = absurd (omega arith)
@@ -124,23 +125,27 @@ cell_list-write_cells cells start xs =
     cell_list-is (write_cells cells start xs) start (length xs) xs refl (λ k h. write_cells-inside cells start xs k (pos 0) h)
 
 -- a window that a write doesn't touch stays
-pub cell_list-apart : (cells : ℕ → ℤ) (start n at : ℕ) (xs : List ℤ) → (at + length xs ≤ start) ⊎ (start + n ≤ at) → cell_list (write_cells cells at xs) start n ≡ cell_list cells start n
+pub cell_list-apart : (cells : ℕ → ℤ) (start n at : ℕ) (xs : List ℤ) → (at + length xs ≤ start) ⊎ (start + n ≤ at)
+    → cell_list (write_cells cells at xs) start n ≡ cell_list cells start n
 cell_list-apart cells start n at xs h =
     cell_list-same (write_cells cells at xs) cells start n
     (λ k lo hi. write_cells-outside cells at xs k (⊎_elim (λ l. inr (omega arith)) (λ l. inl (omega arith)) h))
 
 -- so does one that a write of one word doesn't touch
-pub cell_list-with_cell-outside : (cells : ℕ → ℤ) (start n w : ℕ) (v : ℤ) → (w < start) ⊎ (start + n ≤ w) → cell_list (with_cell cells w v) start n ≡ cell_list cells start n
+pub cell_list-with_cell-outside : (cells : ℕ → ℤ) (start n w : ℕ) (v : ℤ) → (w < start) ⊎ (start + n ≤ w)
+    → cell_list (with_cell cells w v) start n ≡ cell_list cells start n
 cell_list-with_cell-outside cells start n w v h =
     cell_list-same (with_cell cells w v) cells start n
     (λ k lo hi. with_cell-other cells w v k (⊎_elim (λ l. omega arith) (λ l. omega arith) h))
 
 -- a write of one word inside a window sets one element of its list
-pub cell_list-with_cell-inside : (cells : ℕ → ℤ) (start n i : ℕ) (v : ℤ) → i < n → cell_list (with_cell cells (start + i) v) start n ≡ set (cell_list cells start n) i v
+pub cell_list-with_cell-inside : (cells : ℕ → ℤ) (start n i : ℕ) (v : ℤ) → i < n
+    → cell_list (with_cell cells (start + i) v) start n ≡ set (cell_list cells start n) i v
 cell_list-with_cell-inside cells start zero i v h = absurd (omega arith)
 cell_list-with_cell-inside cells start (suc n) zero v h =
     let e : start + zero ≡ start = omega arith in
-    let rest : cell_list (with_cell cells start v) (start + 1) n ≡ cell_list cells (start + 1) n = cell_list-with_cell-outside cells (start + 1) n start v (inl (omega arith)) in
+    let rest : cell_list (with_cell cells start v) (start + 1) n ≡ cell_list cells (start + 1) n =
+    cell_list-with_cell-outside cells (start + 1) n start v (inl (omega arith)) in
     ap (λ w. cell_list (with_cell cells w v) start (suc n)) e
     ∙ (ap (λ x. x ∷ cell_list (with_cell cells start v) (start + 1) n) (with_cell-same cells start v) ∙ ap (λ l. v ∷ l) rest)
 cell_list-with_cell-inside cells start (suc n) (suc i) v h =
@@ -152,7 +157,8 @@ cell_list-with_cell-inside cells start (suc n) (suc i) v h =
     ∙ ap (λ l. cells start ∷ l) (cell_list-with_cell-inside cells (start + 1) n i v less))
 
 -- one element more at the end, as a loop writes them
-pub write_cells-next : (cells : ℕ → ℤ) (start : ℕ) (xs : List ℤ) (v : ℤ) → write_cells cells start (xs ++ (v ∷ [])) ≡ with_cell (write_cells cells start xs) (start + length xs) v
+pub write_cells-next : (cells : ℕ → ℤ) (start : ℕ) (xs : List ℤ) (v : ℤ) → write_cells cells start (xs ++ (v ∷ [])) ≡ with_cell (write_cells cells start xs)
+    (start + length xs) v
 write_cells-next cells start [] v = let e : start ≡ start + 0 = omega arith in ap (λ w. with_cell cells w v) e
 write_cells-next cells start (x ∷ xs) v =
     let e : (start + 1) + length xs ≡ start + length (x ∷ xs) = omega arith in
@@ -161,7 +167,8 @@ write_cells-next cells start (x ∷ xs) v =
     ∙ with_cell-swap (write_cells cells (start + 1) xs) (start + length (x ∷ xs)) start v x ne
 
 -- one element of what is written
-pub write_cells-set : (cells : ℕ → ℤ) (start : ℕ) (xs : List ℤ) (i : ℕ) (v : ℤ) → i < length xs → write_cells cells start (set xs i v) ≡ with_cell (write_cells cells start xs) (start + i) v
+pub write_cells-set : (cells : ℕ → ℤ) (start : ℕ) (xs : List ℤ) (i : ℕ) (v : ℤ) → i < length xs
+    → write_cells cells start (set xs i v) ≡ with_cell (write_cells cells start xs) (start + i) v
 write_cells-set cells start [] i v h = absurd (omega arith)
 write_cells-set cells start (x ∷ xs) zero v h =
     let e : start ≡ start + zero = omega arith in
@@ -180,7 +187,8 @@ write_cells-own cells start (suc n) =
     ap (λ c. with_cell c start (cells start)) (write_cells-own cells (start + 1) n) ∙ with_cell-own cells start
 
 -- two lists that follow one another
-pub write_cells-append : (cells : ℕ → ℤ) (start : ℕ) (xs ys : List ℤ) → write_cells cells start (xs ++ ys) ≡ write_cells (write_cells cells (start + length xs) ys) start xs
+pub write_cells-append : (cells : ℕ → ℤ) (start : ℕ) (xs ys : List ℤ) → write_cells cells start (xs ++ ys) ≡ write_cells
+    (write_cells cells (start + length xs) ys) start xs
 write_cells-append cells start [] ys = let e : start ≡ start + 0 = omega arith in ap (λ w. write_cells cells w ys) e
 write_cells-append cells start (x ∷ xs) ys =
     let e : (start + 1) + length xs ≡ start + length (x ∷ xs) = omega arith in

@@ -1,4 +1,5 @@
--- The table of limits as numbers: a clause that cites a limit by its name says nothing of its value, so one law says it of all.
+-- The table of limits as numbers: a clause that cites a limit by its name says nothing of its value, so one law says it
+-- of all.
 use Rattle.std.specs.Prelude.{◌≡◌}
 use Rattle.job_base.specs.declared.limits.TheConstants.{MOST_SCRIPT_BYTES, MOST_TABLE_BYTES, MOST_STATEMENTS, MOST_REPEATS, MOST_BLOCKS, MOST_TESTS, MOST_JOBS, MOST_PIECES, MOST_KERNELS, MOST_PARAMS, MOST_LOCALS, MOST_NODES, MOST_DEPTH, GUARD_PARAMS, GUARD_NODES, GUARD_DEPTH, MOST_NAME_BYTES, MOST_COLUMN_BYTES, MOST_ELEMENTS, MOST_INDEXES, MOST_PAIRS, MOST_STREAM_INDEXES, MOST_STREAM_ITEMS, MOST_WIDTH, MOST_LIVE_WORDS, MOST_CREATED_WORDS, MOST_STEPS, MOST_WORKERS, MOST_GENERATED_JOBS, MOST_SEED}
 

@@ -7,13 +7,12 @@ ghost use Rattle.frame_ast.specs.Accepted.{guard_fits};
 ghost use Rattle.job_defer.specs.Guarded.{IsBelow, IsLengthParam, IsGuarded};
 ghost use Rattle.job_defer.specs.Guarded.{GuardsContents, GuardsFootprint, GuardsWords};
 
-use crate::copies::{block, params};
 use frame_ast::kernel::{Body, Expr, Kernel, Operator, Param, ParamKind, Stmt};
-use frame_script::size_of;
 use job_base::limits::{
     GUARD_DEPTH, GUARD_NODES, GUARD_PARAMS, MOST_DEPTH, MOST_NODES, MOST_PARAMS,
 };
 use job_base::{Access, NoMemory};
+use kernel_trees::{copy_params, copy_statements, size_of};
 use std::alloc::Global;
 
 /// Why there is no such kernel.
@@ -76,10 +75,10 @@ fn guarded(alloc: Global, kernel: &Kernel) -> Result<Kernel, NoMemory>
     requires parallel { kernel.now.parallel ≡ true }
     ensures { IfOk result (λ new. IsGuarded kernel.now new) }
 {
-    let mut params = params(alloc, &kernel.params)?;
+    let mut params = copy_params(alloc, &kernel.params)?;
     params.push(length_param(alloc)?)?;
     let test = is_below(alloc, kernel.params.len() as u32)?;
-    let body = block(alloc, &kernel.body.statements)?;
+    let body = copy_statements(alloc, &kernel.body.statements)?;
     let mut statements = Vec::new(alloc);
     statements.push(Stmt::If(test, body, Vec::new(alloc)))?;
     Ok(Kernel {

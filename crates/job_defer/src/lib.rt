@@ -4,18 +4,13 @@
 //! with one more array at the end, whose first element is the length, and with the old statements inside
 //! `if index < length[0] { .. }`. So the words of a job are known before it runs, and the length needn't be.
 //!
-//! The new kernel is a copy: its tree lies in memory of its own. That takes a time in the nodes of the kernel, at most
-//! `MOST_NODES`. Nodes lie at most `MOST_DEPTH` deep, so a copy needs no deep stack.
-//!
-//! `copy_kernel` copies a kernel as it is.
+//! The new kernel is a copy: its tree lies in memory of its own.
 //!
 //! `specs/Guarded` says what the new kernel is, what it does, and which words it reads and writes.
 #![tactic(auto)]
 
-mod copies;
 mod guarding;
 #[cfg(test)]
 mod tests;
 
-pub use copies::copy_kernel;
 pub use guarding::{GuardFault, guard};

@@ -29,7 +29,8 @@ best_same levels p q b e h = record {
 }
 
 -- the same where the levels of the jobs of the test stay
-pub best_stays : (old levels : List ℕ) (p : ℕ → Bool) (b : Best) → ((n : ℕ) → p n ≡ true → level_of levels n ≡ level_of old n) → IsBest old p b → IsBest levels p b
+pub best_stays : (old levels : List ℕ) (p : ℕ → Bool) (b : Best) → ((n : ℕ) → p n ≡ true → level_of levels n ≡ level_of old n) → IsBest old p b
+    → IsBest levels p b
 best_stays old levels p b e h = record {
   above = λ n t. let le = h.above n t in let s = e n t in omega arith;
   least = λ n t l. h.least n t (sym (e n t) ∙ l);
@@ -43,7 +44,8 @@ pub record Beats (b : Best) (level job : ℕ) : Type 0 where
 beats_is : (b : Best) (level job : ℕ) → beats b level job ≡ true → Beats b level job
 beats_is b level job t = ⊎_elim
     (λ u. record { is = inl (ltb-true b.level level u) })
-    (λ u. let r = both (eqb level b.level) (ltb job (number_of b.job)) u in record { is = inr (eqb-true level b.level r.0, ltb-true job (number_of b.job) r.1) })
+    (λ u. let r = both (eqb level b.level) (ltb job (number_of b.job)) u in
+    record { is = inr (eqb-true level b.level r.0, ltb-true job (number_of b.job) r.1) })
     (or_cases (ltb b.level level) (eqb level b.level && ltb job (number_of b.job)) t)
   where
     both : (x y : Bool) → (x && y) ≡ true → (x ≡ true) × (y ≡ true)
@@ -52,26 +54,32 @@ beats_is b level job t = ⊎_elim
 
 not_beats : (b : Best) (level job : ℕ) → beats b level job ≡ false → (level ≤ b.level) × (level ≡ b.level → number_of b.job ≤ job)
 not_beats b level job f = (
-  ⊎_elim (λ (lt : b.level < level). absurd (not_both (ap (λ x. x || (eqb level b.level && ltb job (number_of b.job))) (lt-ltb b.level level lt)) f)) (λ h. h) (cases_lt b.level level),
+  ⊎_elim (λ (lt : b.level < level). absurd (not_both (ap (λ x. x || (eqb level b.level && ltb job (number_of b.job))) (lt-ltb b.level level lt)) f)) (λ h. h)
+      (cases_lt b.level level),
   λ e. ⊎_elim (λ (lt : job < number_of b.job).
-      let y : (eqb level b.level && ltb job (number_of b.job)) ≡ true = and_from (eqb level b.level) (ltb job (number_of b.job)) (eq-eqb level b.level e) (lt-ltb job (number_of b.job) lt) in
+      let y : (eqb level b.level && ltb job (number_of b.job)) ≡ true = and_from (eqb level b.level) (ltb job (number_of b.job)) (eq-eqb level b.level e)
+      (lt-ltb job (number_of b.job) lt) in
       absurd (not_both (or_right (ltb b.level level) (eqb level b.level && ltb job (number_of b.job)) y) f)) (λ h. h) (cases_lt job (number_of b.job)),
 )
 
 abbrev with_id : (ℕ → Bool) → ℕ → ℕ → Bool
 with_id p id n = p n || eqb id n
 
-best_more : (levels : List ℕ) (p : ℕ → Bool) (b : Best) (id : JobId) → 0 < level_of levels id.0 → IsBest levels p b → IsBest levels (with_id p id.0) (better b (level_of levels id.0) id)
+best_more : (levels : List ℕ) (p : ℕ → Bool) (b : Best) (id : JobId) → 0 < level_of levels id.0 → IsBest levels p b
+    → IsBest levels (with_id p id.0) (better b (level_of levels id.0) id)
 best_more levels p b id some h = by (beats b (level_of levels id.0) id.0) refl
   where
-    by : (x : Bool) → beats b (level_of levels id.0) id.0 ≡ x → IsBest levels (with_id p id.0) (cond x (record { level = level_of levels id.0; job = Some id }) b)
+    by : (x : Bool) → beats b (level_of levels id.0) id.0 ≡ x → IsBest levels (with_id p id.0)
+        (cond x (record { level = level_of levels id.0; job = Some id }) b)
     by true t = let w = (beats_is b (level_of levels id.0) id.0 t).is in record {
       above = λ n u. ⊎_elim
-          (λ v. let le = h.above n v in ⊎_elim (λ (a : b.level < level_of levels id.0). omega arith) (λ a. let e : level_of levels id.0 ≡ b.level = a.0 in omega arith) w)
+          (λ v. let le = h.above n v in ⊎_elim (λ (a : b.level < level_of levels id.0). omega arith)
+          (λ a. let e : level_of levels id.0 ≡ b.level = a.0 in omega arith) w)
           (λ v. let e : id.0 ≡ n = eqb-true id.0 n v in let s : level_of levels n ≡ level_of levels id.0 = ap (level_of levels) (sym e) in omega arith)
           (or_cases (p n) (eqb id.0 n) u);
       least = λ n u l. ⊎_elim
-          (λ v. ⊎_elim (λ (a : b.level < level_of levels id.0). let le = h.above n v in absurd (omega arith)) (λ a. let le = h.least n v (l ∙ a.0) in let lt = a.1 in omega arith) w)
+          (λ v. ⊎_elim (λ (a : b.level < level_of levels id.0). let le = h.above n v in absurd (omega arith))
+          (λ a. let le = h.least n v (l ∙ a.0) in let lt = a.1 in omega arith) w)
           (λ v. let e : id.0 ≡ n = eqb-true id.0 n v in omega arith)
           (or_cases (p n) (eqb id.0 n) u);
       is = inr (or_right (p id.0) (eqb id.0 id.0) (eq-eqb id.0 id.0 refl), refl, some);
@@ -79,11 +87,13 @@ best_more levels p b id some h = by (beats b (level_of levels id.0) id.0) refl
     by false f = let w = not_beats b (level_of levels id.0) id.0 f in record {
       above = λ n u. ⊎_elim
           (λ v. h.above n v)
-          (λ v. let e : id.0 ≡ n = eqb-true id.0 n v in let s : level_of levels n ≡ level_of levels id.0 = ap (level_of levels) (sym e) in let le = w.0 in omega arith)
+          (λ v. let e : id.0 ≡ n = eqb-true id.0 n v in let s : level_of levels n ≡ level_of levels id.0 = ap (level_of levels) (sym e) in let le = w.0 in
+          omega arith)
           (or_cases (p n) (eqb id.0 n) u);
       least = λ n u l. ⊎_elim
           (λ v. h.least n v l)
-          (λ v. let e : id.0 ≡ n = eqb-true id.0 n v in let s : level_of levels n ≡ level_of levels id.0 = ap (level_of levels) (sym e) in let le = w.1 (sym s ∙ l) in omega arith)
+          (λ v. let e : id.0 ≡ n = eqb-true id.0 n v in let s : level_of levels n ≡ level_of levels id.0 = ap (level_of levels) (sym e) in
+          let le = w.1 (sym s ∙ l) in omega arith)
           (or_cases (p n) (eqb id.0 n) u);
       is = ⊎_elim (λ none. inl none) (λ r. inr (or_left (p (number_of b.job)) (eqb id.0 (number_of b.job)) r.0, r.1, r.2)) h.is;
     }
@@ -103,4 +113,5 @@ best_of_list levels p b [] some h = best_same levels p (λ n. p n || false) b (�
 best_of_list levels p b (id ∷ more) some h =
     let step = best_more levels p b id (some id.0 (ap (λ x. x || has_job more id.0) (eq-eqb id.0 id.0 refl))) h in
     let rest = best_of_list levels (with_id p id.0) (better b (level_of levels id.0) id) more (λ n t. some n (or_right (eqb id.0 n) (has_job more n) t)) step in
-    best_same levels (λ n. with_id p id.0 n || has_job more n) (λ n. p n || has_job (id ∷ more) n) (best_among levels (better b (level_of levels id.0) id) more) (λ n. or_assoc (p n) (eqb id.0 n) (has_job more n)) rest
+    best_same levels (λ n. with_id p id.0 n || has_job more n) (λ n. p n || has_job (id ∷ more) n) (best_among levels (better b (level_of levels id.0) id) more)
+    (λ n. or_assoc (p n) (eqb id.0 n) (has_job more n)) rest

@@ -46,11 +46,13 @@ module _ (plan : Plan) (levels : List ℕ) where
   pub walk_ends_none : (last job : ℕ) (chain : List JobId) → IsWalked plan levels last job chain → last ≡ 0 → reverse chain ≡ []
   walk_ends_none last job chain w z = ap reverse (w.starts z).1
 
-  pub walk_ends : (last job : ℕ) (chain : List JobId) → IsWalked plan levels last job chain → job ≡ 0 → (j : ℕ) → last ≡ suc j → ChosenTo plan levels (reverse chain) j
+  pub walk_ends : (last job : ℕ) (chain : List JobId) → IsWalked plan levels last job chain → job ≡ 0 → (j : ℕ) → last ≡ suc j
+      → ChosenTo plan levels (reverse chain) j
   walk_ends last job chain w z j e = w.goes j e [] (subst (λ n. IsFront plan levels [] n) (sym z) refl)
 
   module _ (well : IsWellOrderedPlan plan) (before : List (Option JobId)) (found : AreFound plan levels before) where
-    pub walk_on : (last j : ℕ) (chain : List JobId) → j < job_count plan → IsWalked plan levels last (suc j) chain → IsWalked plan levels last (number_of (get_or before j None)) (chain ++ number_of_job j ∷ [])
+    pub walk_on : (last j : ℕ) (chain : List JobId) → j < job_count plan → IsWalked plan levels last (suc j) chain
+        → IsWalked plan levels last (number_of (get_or before j None)) (chain ++ number_of_job j ∷ [])
     walk_on last j chain lt w = elim (before_is plan well levels before found j lt) [
       | none o one ↦ let z : number_of (get_or before j None) ≡ 0 = ap number_of o in record {
         within = omega arith;
@@ -77,7 +79,8 @@ module _ (plan : Plan) (levels : List ℕ) where
     pub walk_down : (j : ℕ) → j < job_count plan → level_of levels (number_of (get_or before j None)) < level_of levels (suc j)
     walk_down j lt = elim (before_is plan well levels before found j lt) [
       | none o one ↦ let e : level_of levels (number_of (get_or before j None)) ≡ 0 = ap (λ x. level_of levels (number_of x)) o in omega arith
-      | some i li o is ↦ let e : level_of levels (number_of (get_or before j None)) ≡ get_or levels i 0 = ap (λ x. level_of levels (number_of x)) o in let b = is.below in omega arith
+      | some i li o is ↦ let e : level_of levels (number_of (get_or before j None)) ≡ get_or levels i 0 = ap (λ x. level_of levels (number_of x)) o in
+          let b = is.below in omega arith
     ]
 
     -- AS THE CODE SAYS IT
@@ -87,7 +90,8 @@ module _ (plan : Plan) (levels : List ℕ) where
     get_any (x ∷ xs) zero d e lt = refl
     get_any (x ∷ xs) (suc i) d e lt = get_any xs i d e (omega arith)
 
-    is_next : (id : JobId) (then : Option JobId) → 0 < id.0 → id.0 ≤ job_count plan → then ≡ get_or before (id.0 - 1) then → then ≡ get_or before (id.0 - 1) None
+    is_next : (id : JobId) (then : Option JobId) → 0 < id.0 → id.0 ≤ job_count plan
+        → then ≡ get_or before (id.0 - 1) then → then ≡ get_or before (id.0 - 1) None
     is_next id then pos le e = e ∙ get_any before (id.0 - 1) then None (let c = found.before_count in omega arith)
 
     proper_next : (id : JobId) → 0 < id.0 → id.0 ≤ job_count plan → IsProper (get_or before (id.0 - 1) None)
@@ -96,16 +100,20 @@ module _ (plan : Plan) (levels : List ℕ) where
       | some i li o is ↦ subst IsProper (sym o) (let p : 0 < suc i = omega arith in p)
     ]
 
-    pub ends_as : (last : Option JobId) (chain : List JobId) → IsWalkedTo plan levels last None chain → (j : ℕ) → last ≡ Some (number_of_job j) → ChosenTo plan levels (reverse chain) j
+    pub ends_as : (last : Option JobId) (chain : List JobId) → IsWalkedTo plan levels last None chain → (j : ℕ) → last ≡ Some (number_of_job j)
+        → ChosenTo plan levels (reverse chain) j
     ends_as last chain w j e = walk_ends (number_of last) 0 chain w.walked refl j (ap number_of e)
 
     pub ends_none : (last : Option JobId) (chain : List JobId) → IsWalkedTo plan levels last None chain → last ≡ None → reverse chain ≡ []
     ends_none last chain w e = walk_ends_none (number_of last) 0 chain w.walked (ap number_of e)
 
-    pub below_as : (last : Option JobId) (id : JobId) (chain : List JobId) → IsWalkedTo plan levels last (Some id) chain → (0 < id.0) × (id.0 - 1 < length before)
+    pub below_as : (last : Option JobId) (id : JobId) (chain : List JobId) → IsWalkedTo plan levels last (Some id) chain
+        → (0 < id.0) × (id.0 - 1 < length before)
     below_as last id chain w = let p = w.proper in let le = w.walked.within in let c = found.before_count in (p, omega arith)
 
-    pub on_as : (last : Option JobId) (id : JobId) (then : Option JobId) (chain longer : List JobId) → then ≡ get_or before (id.0 - 1) then → longer ≡ chain ++ id ∷ [] → IsWalkedTo plan levels last (Some id) chain → IsWalkedTo plan levels last then longer
+    pub on_as : (last : Option JobId) (id : JobId) (then : Option JobId) (chain longer : List JobId)
+        → then ≡ get_or before (id.0 - 1) then → longer ≡ chain ++ id ∷ [] → IsWalkedTo plan levels last (Some id) chain
+        → IsWalkedTo plan levels last then longer
     on_as last id then chain longer e el w =
         let pos : 0 < id.0 = w.proper in
         let up : id.0 ≡ suc (id.0 - 1) = omega arith in
@@ -114,16 +122,19 @@ module _ (plan : Plan) (levels : List ℕ) where
         let same : longer ≡ chain ++ number_of_job (id.0 - 1) ∷ [] = el ∙ ap (λ k. chain ++ record { 0 = k } ∷ []) up in
         let next = is_next id then pos le e in
         record {
-          walked = subst (λ o. IsWalked plan levels (number_of last) (number_of o) longer) (sym next) (subst (λ l. IsWalked plan levels (number_of last) (number_of (get_or before (id.0 - 1) None)) l) (sym same) r);
+          walked = subst (λ o. IsWalked plan levels (number_of last) (number_of o) longer) (sym next)
+              (subst (λ l. IsWalked plan levels (number_of last) (number_of (get_or before (id.0 - 1) None)) l) (sym same) r);
           proper = subst IsProper (sym next) (proper_next id pos le);
         }
 
-    pub down_as : (last : Option JobId) (id : JobId) (then : Option JobId) (chain : List JobId) → then ≡ get_or before (id.0 - 1) then → IsWalkedTo plan levels last (Some id) chain → level_of levels (number_of then) < level_of levels id.0
+    pub down_as : (last : Option JobId) (id : JobId) (then : Option JobId) (chain : List JobId)
+        → then ≡ get_or before (id.0 - 1) then → IsWalkedTo plan levels last (Some id) chain → level_of levels (number_of then) < level_of levels id.0
     down_as last id then chain e w =
         let pos : 0 < id.0 = w.proper in
         let le = w.walked.within in
         let up : suc (id.0 - 1) ≡ id.0 = omega arith in
         let d = walk_down (id.0 - 1) (omega arith) in
-        let a : level_of levels (number_of then) ≡ level_of levels (number_of (get_or before (id.0 - 1) None)) = ap (λ o. level_of levels (number_of o)) (is_next id then pos le e) in
+        let a : level_of levels (number_of then) ≡ level_of levels (number_of (get_or before (id.0 - 1) None)) =
+        ap (λ o. level_of levels (number_of o)) (is_next id then pos le e) in
         let b : level_of levels (suc (id.0 - 1)) ≡ level_of levels id.0 = ap (level_of levels) up in
         omega arith

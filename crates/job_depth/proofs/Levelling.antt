@@ -97,14 +97,18 @@ module _ (plan : Plan) (well : IsWellOrderedPlan plan) where
     rises d j lt t = let f = found.each j lt in let a = f.is_best.above (suc d) t in let e = f.level in omega arith
 
     -- one piece that leads to another
-    leads_past : (d j h i : ℕ) → IsPieceOf plan (OfJob d h) → IsPieceOf plan (OfJob j i) → LeadsTo (graph_of plan) (place_of plan (OfJob d h)) (place_of plan (OfJob j i)) → IsPast plan well level rises d (OfJob j i)
+    leads_past : (d j h i : ℕ) → IsPieceOf plan (OfJob d h) → IsPieceOf plan (OfJob j i)
+        → LeadsTo (graph_of plan) (place_of plan (OfJob d h)) (place_of plan (OfJob j i)) → IsPast plan well level rises d (OfJob j i)
     leads_past d j h i hd hj l = leads_direct plan well level rises d h j i hd hj l
 
-    pub leads_rise : (d j h i : ℕ) → j < jobs → IsPieceOf plan (OfJob d h) → IsPieceOf plan (OfJob j i) → LeadsTo (graph_of plan) (place_of plan (OfJob d h)) (place_of plan (OfJob j i)) → level d < level j
+    pub leads_rise : (d j h i : ℕ) → j < jobs → IsPieceOf plan (OfJob d h) → IsPieceOf plan (OfJob j i)
+        → LeadsTo (graph_of plan) (place_of plan (OfJob d h)) (place_of plan (OfJob j i)) → level d < level j
     leads_rise d j h i lt hd hj l = ⊎_elim (λ t. rises d j lt t) (λ le. omega arith) (leads_past d j h i hd hj l)
 
-    by_parts : (p q : ℕ) (a b : Piece) → piece_numbered plan p ≡ a → piece_numbered plan q ≡ b → Leads plan p q → LeadsTo (graph_of plan) (place_of plan a) (place_of plan b)
-    by_parts p q a b ea eb l = subst (λ x. LeadsTo (graph_of plan) (place_of plan x) (place_of plan b)) ea (subst (λ x. LeadsTo (graph_of plan) (place_of plan (piece_numbered plan p)) (place_of plan x)) eb l)
+    by_parts : (p q : ℕ) (a b : Piece) → piece_numbered plan p ≡ a → piece_numbered plan q ≡ b → Leads plan p q
+        → LeadsTo (graph_of plan) (place_of plan a) (place_of plan b)
+    by_parts p q a b ea eb l = subst (λ x. LeadsTo (graph_of plan) (place_of plan x) (place_of plan b)) ea
+        (subst (λ x. LeadsTo (graph_of plan) (place_of plan (piece_numbered plan p)) (place_of plan x)) eb l)
 
     -- of the first pieces
     pub record JobsLead (d j : ℕ) : Type 0 where
@@ -129,7 +133,8 @@ module _ (plan : Plan) (well : IsWellOrderedPlan plan) where
         let a = part_below d p ld hp in
         let b = part_below j q lj hq in
         let l = direct_leads plan well d a.part j b.part a.is b.is lj t in
-        subst (λ x. LeadsTo (graph_of plan) (place_of plan x) (place_of plan (piece_numbered plan q))) (sym a.numbered) (subst (λ x. LeadsTo (graph_of plan) (place_of plan (OfJob d a.part)) (place_of plan x)) (sym b.numbered) l)
+        subst (λ x. LeadsTo (graph_of plan) (place_of plan x) (place_of plan (piece_numbered plan q))) (sym a.numbered)
+        (subst (λ x. LeadsTo (graph_of plan) (place_of plan (OfJob d a.part)) (place_of plan x)) (sym b.numbered) l)
 
     -- THE JOB BEFORE
 
@@ -138,7 +143,8 @@ module _ (plan : Plan) (well : IsWellOrderedPlan plan) where
       some : (i : ℕ) → i < jobs → get_or before j None ≡ Some (number_of_job i) → IsLeastBefore plan levels i j → Before j
 
     module _ (j : ℕ) (lt : j < jobs) (f : IsFound plan levels before j) where
-      before_by : (n : ℕ) → number_of f.best.job ≡ n → (is_direct plan j (number_of f.best.job) ≡ true) × (level_of levels (number_of f.best.job) ≡ f.best.level) × (0 < f.best.level) → Before j
+      before_by : (n : ℕ) → number_of f.best.job ≡ n → (is_direct plan j (number_of f.best.job) ≡ true)
+          × (level_of levels (number_of f.best.job) ≡ f.best.level) × (0 < f.best.level) → Before j
       before_by zero e r = let z : level_of levels (number_of f.best.job) ≡ 0 = ap (level_of levels) e in let l = r.1 in let p = r.2 in absurd (omega arith)
       before_by (suc i) e r =
           let same : level_of levels (number_of f.best.job) ≡ level i = ap (level_of levels) e in
@@ -240,7 +246,8 @@ module _ (plan : Plan) (well : IsWellOrderedPlan plan) where
     part_level j p lt h = let a = part_below j p lt h in level_plan_at p j a.part a.numbered
 
     -- each plan of rounds has as many rounds as a chain has jobs
-    pub chain_rounds : (round : ℕ → ℕ) → IsRoundsPlan plan round → (ids : List JobId) (j : ℕ) → ChainTo plan ids j → (p : ℕ) → IsPartOf plan j p → length ids ≤ round p
+    pub chain_rounds : (round : ℕ → ℕ) → IsRoundsPlan plan round → (ids : List JobId) (j : ℕ) → ChainTo plan ids j → (p : ℕ) → IsPartOf plan j p
+        → length ids ≤ round p
     chain_rounds round is ids j (alone lt) p h = is.from_one p (part_below j p lt h).below
     chain_rounds round is ids j (behind {ids = front} {i = i} c l lt) p h =
         let li = chain_job front i c in
@@ -318,7 +325,8 @@ module _ (plan : Plan) (well : IsWellOrderedPlan plan) where
             omega arith
       ]
 
-      pub longest_chain : (chain : List JobId) → (top.job ≡ None → chain ≡ []) → ((j : ℕ) → top.job ≡ Some (number_of_job j) → ChosenTo plan levels chain j) → IsLongestChain plan levels top.level chain
+      pub longest_chain : (chain : List JobId) → (top.job ≡ None → chain ≡ []) → ((j : ℕ) → top.job ≡ Some (number_of_job j) → ChosenTo plan levels chain j)
+          → IsLongestChain plan levels top.level chain
       longest_chain chain when_none when_some = elim top_is [
         | no_jobs z l b ↦ record { long = ap length (when_none b) ∙ sym l; ends = λ pos. absurd (omega arith) }
         | some_job j b l is ↦

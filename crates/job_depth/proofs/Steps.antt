@@ -123,7 +123,8 @@ module _ (plan : Plan) (well : IsWellOrderedPlan plan) where
       waited = best_among levels awaited s.waits.items
 
       waited_best : IsBest levels (is_awaited plan (suc k)) waited
-      waited_best = best_same levels (λ n. is_awaited plan k n || has_job s.waits.items n) (is_awaited plan (suc k)) waited (λ n. ap (λ o. is_awaited plan k n || has_job (waits_in o) n) at)
+      waited_best = best_same levels (λ n. is_awaited plan k n || has_job s.waits.items n) (is_awaited plan (suc k)) waited
+          (λ n. ap (λ o. is_awaited plan k n || has_job (waits_in o) n) at)
           (best_of_list levels (is_awaited plan k) awaited s.waits.items (λ n t. level_some n (wait_started n t)) so.best)
 
       pub step_none : s.starts ≡ None → IsSoFar plan levels before waited (suc k)
@@ -135,7 +136,8 @@ module _ (plan : Plan) (well : IsWellOrderedPlan plan) where
             (λ (h : k < starter_of plan j). omega arith)
             (λ (h : starter_of plan j ≤ k).
             let here : starter_of plan j ≡ k = omega arith in
-            let t : is_job (starts_in (segment_at plan k)) (suc j) ≡ true = subst (λ l. is_job (starts_in (segment_at plan l)) (suc j) ≡ true) here (starter_starts plan well.order.starts j lt) in
+            let t : is_job (starts_in (segment_at plan k)) (suc j) ≡ true =
+            subst (λ l. is_job (starts_in (segment_at plan l)) (suc j) ≡ true) here (starter_starts plan well.order.starts j lt) in
             let u : is_job s.starts (suc j) ≡ true = subst (λ o. is_job (starts_in o) (suc j) ≡ true) at t in
             absurd (not_both u (ap (λ o. is_job o (suc j)) none)))
             (cases_lt k (starter_of plan j));
@@ -153,7 +155,8 @@ module _ (plan : Plan) (well : IsWellOrderedPlan plan) where
 
         start_here : (j : ℕ) → j < jobs → starter_of plan j ≡ k → id.0 ≡ suc j
         start_here j lt here =
-            let t : is_job (starts_in (segment_at plan k)) (suc j) ≡ true = subst (λ l. is_job (starts_in (segment_at plan l)) (suc j) ≡ true) here (starter_starts plan well.order.starts j lt) in
+            let t : is_job (starts_in (segment_at plan k)) (suc j) ≡ true =
+            subst (λ l. is_job (starts_in (segment_at plan l)) (suc j) ≡ true) here (starter_starts plan well.order.starts j lt) in
             eqb-true id.0 (suc j) (subst (λ o. is_job o (suc j) ≡ true) started t)
 
         own : (j : ℕ) → id.0 ≡ suc j → k ≡ starter_of plan j
@@ -187,7 +190,8 @@ module _ (plan : Plan) (well : IsWellOrderedPlan plan) where
 
         module _ (x : JobPlan) (has : job_at plan count ≡ Some x) where
           dep_started : (n : ℕ) → has_job x.deps.items n ≡ true → (d : ℕ) × (n ≡ suc d) × (d < count)
-          dep_started n t = direct_earlier count n count_below (right (is_awaited plan (suc (starter_of plan count)) n) (has_job (deps_in (job_at plan count)) n) (subst (λ o. has_job (deps_in o) n ≡ true) (sym has) t))
+          dep_started n t = direct_earlier count n count_below (right (is_awaited plan (suc (starter_of plan count)) n)
+              (has_job (deps_in (job_at plan count)) n) (subst (λ o. has_job (deps_in o) n ≡ true) (sym has) t))
             where
               right : (a b : Bool) → b ≡ true → (a || b) ≡ true
               right true b t = refl
@@ -201,7 +205,8 @@ module _ (plan : Plan) (well : IsWellOrderedPlan plan) where
 
           found_best : IsBest levels (is_direct plan count) found
           found_best = best_same levels (λ n. is_awaited plan (suc k) n || has_job x.deps.items n) (is_direct plan count) found
-              (λ n. ap (λ l. is_awaited plan (suc l) n || has_job (deps_in (job_at plan count)) n) starter_is ∙ ap (λ o. is_awaited plan (suc k) n || has_job (deps_in o) n) has)
+              (λ n. ap (λ l. is_awaited plan (suc l) n || has_job (deps_in (job_at plan count)) n) starter_is
+              ∙ ap (λ o. is_awaited plan (suc k) n || has_job (deps_in o) n) has)
               (best_of_list levels (is_awaited plan (suc k)) waited x.deps.items (λ n t. level_some n (dep_started n t)) waited_best)
 
           pub found_small : found.level ≤ count
@@ -238,7 +243,8 @@ module _ (plan : Plan) (well : IsWellOrderedPlan plan) where
             found_now : (j : ℕ) → (j < count) ⊎ (j ≡ count) → IsFound plan levels' before' j
             found_now j (inl lt) = let f = so.each j lt in let m = so.few in let e = so.same in record {
               best = f.best;
-              is_best = best_stays levels levels' (is_direct plan j) f.best (λ n t. let d = direct_earlier j n (omega arith) t in let l = d.2 in stays n (d.0, d.1, omega arith)) f.is_best;
+              is_best = best_stays levels levels' (is_direct plan j) f.best
+                  (λ n t. let d = direct_earlier j n (omega arith) t in let l = d.2 in stays n (d.0, d.1, omega arith)) f.is_best;
               level = get_front 0 levels lv j lt ∙ f.level;
               job = get_front None before found.job j (omega arith) ∙ f.job;
             }
@@ -256,7 +262,8 @@ module _ (plan : Plan) (well : IsWellOrderedPlan plan) where
             step_some = record {
               few = let l = long in let c = count_below in omega arith;
               same = let l = long in let e = length-append before (found.job ∷ []) in let s = so.same in omega arith;
-              below = λ j lt. ⊎_elim (λ (h : j < count). let r = so.below j h in omega arith) (λ (e : j ≡ count). let s : starter_of plan j ≡ k = ap (starter_of plan) e ∙ starter_is in omega arith) (either j lt);
+              below = λ j lt. ⊎_elim (λ (h : j < count). let r = so.below j h in omega arith)
+                  (λ (e : j ≡ count). let s : starter_of plan j ≡ k = ap (starter_of plan) e ∙ starter_is in omega arith) (either j lt);
               above = λ j le lt. let l = long in let r = so.above j (omega arith) lt in ⊎_elim
                   (λ (h : k < starter_of plan j). omega arith)
                   (λ (h : starter_of plan j ≤ k). let e = start_here j lt (omega arith) in let i = start_is in absurd (omega arith))
@@ -290,8 +297,10 @@ pub not_some : (o : Option JobId) → ((id : JobId) → o ≡ Some id → ⊥) �
 not_some None h = refl
 not_some (Some id) h = absurd (h id refl)
 
-pub same_lists : (plan : Plan) (levels : List ℕ) (before : List (Option JobId)) (ls : List ℕ) (bs : List (Option JobId)) (awaited : Best) (k : ℕ) → ls ≡ levels → bs ≡ before → IsSoFar plan levels before awaited k → IsSoFar plan ls bs awaited k
-same_lists plan levels before ls bs awaited k el eb h = subst (λ l. IsSoFar plan l bs awaited k) (sym el) (subst (λ l. IsSoFar plan levels l awaited k) (sym eb) h)
+pub same_lists : (plan : Plan) (levels : List ℕ) (before : List (Option JobId)) (ls : List ℕ) (bs : List (Option JobId)) (awaited : Best) (k : ℕ) → ls ≡ levels
+    → bs ≡ before → IsSoFar plan levels before awaited k → IsSoFar plan ls bs awaited k
+same_lists plan levels before ls bs awaited k el eb h = subst (λ l. IsSoFar plan l bs awaited k) (sym el)
+    (subst (λ l. IsSoFar plan levels l awaited k) (sym eb) h)
 
 pub item_at : {A : Type 0} (xs ys : List A) (k : ℕ) (x : A) → xs ≡ ys → k < length xs → x ≡ get_or xs k x → slice_get ys k ≡ Some x
 item_at xs ys k x e lt is = ap (λ zs. slice_get zs k) (sym e) ∙ slice_get_read xs (length xs) k x refl lt is
@@ -299,7 +308,8 @@ item_at xs ys k x e lt is = ap (λ zs. slice_get zs k) (sym e) ∙ slice_get_rea
 pub within_as : (m n : ℕ) (ids jds : List JobId) → m ≡ n → ids ≡ jds → AreWithin n jds → AreWithin m ids
 within_as m n ids jds em e h = subst (λ k. AreWithin k ids) (sym em) (subst (AreWithin n) (sym e) h)
 
-pub best_as : (levels ls : List ℕ) (b : Best) (ids jds : List JobId) (r : Best) → r ≡ best_among ls b ids → ls ≡ levels → ids ≡ jds → r ≡ best_among levels b jds
+pub best_as : (levels ls : List ℕ) (b : Best) (ids jds : List JobId) (r : Best) → r ≡ best_among ls b ids → ls ≡ levels → ids ≡ jds
+    → r ≡ best_among levels b jds
 best_as levels ls b ids jds r e el ei = e ∙ (ap (λ l. best_among l b ids) el ∙ ap (best_among levels b) ei)
 
 level_down : (levels : List ℕ) (n : ℕ) → 0 < n → level_of levels n ≡ get_or levels (n - 1) 0
@@ -310,35 +320,42 @@ pub record IsOn (levels : List ℕ) (best start : Best) (rest all : List JobId) 
   pub same : best_among levels best rest ≡ best_among levels start all
   pub within : AreWithin (length levels) rest
 
-on_by : (levels : List ℕ) (best start : Best) (id : JobId) (more all : List JobId) (next : Best) → next ≡ better best (get_or levels (id.0 - 1) 0) id → IsOn levels best start (id ∷ more) all → IsOn levels next start more all
+on_by : (levels : List ℕ) (best start : Best) (id : JobId) (more all : List JobId) (next : Best) → next ≡ better best (get_or levels (id.0 - 1) 0) id
+    → IsOn levels best start (id ∷ more) all → IsOn levels next start more all
 on_by levels best start id more all next e h =
     let d = level_down levels id.0 h.within.0 in
     let same : next ≡ better best (level_of levels id.0) id = e ∙ ap (λ l. better best l id) (sym d) in
     record { same = ap (λ b. best_among levels b more) same ∙ h.same; within = h.within.2 }
 
-pub best_on : (levels : List ℕ) (best start : Best) (jobs : List JobId) (i : ℕ) (d : JobId) (next : Best) → i < length jobs → next ≡ better best (get_or levels ((get_or jobs i d).0 - 1) 0) (get_or jobs i d)
+pub best_on : (levels : List ℕ) (best start : Best) (jobs : List JobId) (i : ℕ) (d : JobId) (next : Best) → i < length jobs
+    → next ≡ better best (get_or levels ((get_or jobs i d).0 - 1) 0) (get_or jobs i d)
     → IsOn levels best start (drop i jobs) jobs → IsOn levels next start (drop (i + 1) jobs) jobs
 best_on levels best start jobs i d next lt e h =
     let cut : drop i jobs ≡ get_or jobs i d ∷ drop (suc i) jobs = drop-cons jobs i d lt in
     let up : suc i ≡ i + 1 = omega arith in
-    subst (λ k. IsOn levels next start (drop k jobs) jobs) up (on_by levels best start (get_or jobs i d) (drop (suc i) jobs) jobs next e (subst (λ xs. IsOn levels best start xs jobs) cut h))
+    subst (λ k. IsOn levels next start (drop k jobs) jobs) up (on_by levels best start (get_or jobs i d) (drop (suc i) jobs) jobs next e
+    (subst (λ xs. IsOn levels best start xs jobs) cut h))
 
-module _ (plan : Plan) (well : IsWellOrderedPlan plan) (levels : List ℕ) (before : List (Option JobId)) (awaited : Best) (k : ℕ) (so : IsSoFar plan levels before awaited k) (s : Segment) (at : segment_at plan k ≡ Some s) where
+module _ (plan : Plan) (well : IsWellOrderedPlan plan) (levels : List ℕ) (before : List (Option JobId)) (awaited : Best) (k : ℕ)
+    (so : IsSoFar plan levels before awaited k) (s : Segment) (at : segment_at plan k ≡ Some s) where
   pub none_as : (aw : Best) → aw ≡ best_among levels awaited s.waits.items → s.starts ≡ None → IsSoFar plan levels before aw (k + 1)
   none_as aw ea none =
       let up : suc k ≡ k + 1 = omega arith in
-      subst (λ n. IsSoFar plan levels before aw n) up (subst (λ b. IsSoFar plan levels before b (suc k)) (sym ea) (step_none plan well levels before awaited k so s at none))
+      subst (λ n. IsSoFar plan levels before aw n) up (subst (λ b. IsSoFar plan levels before b (suc k)) (sym ea)
+      (step_none plan well levels before awaited k so s at none))
 
   module _ (id : JobId) (starts : s.starts ≡ Some id) where
     pub id_one : 1 ≤ id.0
     id_one = let e = start_is plan well levels before awaited k so s at id starts in omega arith
 
     pub id_below : id.0 - 1 < length plan.jobs.items
-    id_below = let e = start_is plan well levels before awaited k so s at id starts in let b = count_below plan well levels before awaited k so s at id starts in omega arith
+    id_below = let e = start_is plan well levels before awaited k so s at id starts in
+        let b = count_below plan well levels before awaited k so s at id starts in omega arith
 
     module _ (x : JobPlan) (has : slice_get plan.jobs.items (id.0 - 1) ≡ Some x) where
       at_count : job_at plan (length levels) ≡ Some x
-      at_count = let e = start_is plan well levels before awaited k so s at id starts in let d : length levels ≡ id.0 - 1 = omega arith in ap (job_at plan) d ∙ has
+      at_count = let e = start_is plan well levels before awaited k so s at id starts in let d : length levels ≡ id.0 - 1 = omega arith in
+          ap (job_at plan) d ∙ has
 
       pub deps_as : AreWithin (length levels) x.deps.items
       deps_as = deps_within plan well levels before awaited k so s at id starts x at_count
@@ -358,7 +375,13 @@ module _ (plan : Plan) (well : IsWellOrderedPlan plan) (levels : List ℕ) (befo
         pub some_as : (ls : List ℕ) (bs : List (Option JobId)) → ls ≡ levels ++ (b.level + 1) ∷ [] → bs ≡ before ++ b.job ∷ [] → IsSoFar plan ls bs aw (k + 1)
         some_as ls bs el eb2 =
             let up : suc k ≡ k + 1 = omega arith in
-            let lv : b.level + 1 ≡ suc (best_among levels (best_among levels awaited s.waits.items) x.deps.items).level = (let e : b.level ≡ (best_among levels (best_among levels awaited s.waits.items) x.deps.items).level = ap (λ (c : Best). c.level) is_found in omega arith) in
+            let lv : b.level + 1 ≡ suc (best_among levels (best_among levels awaited s.waits.items) x.deps.items).level =
+            (let e : b.level ≡ (best_among levels (best_among levels awaited s.waits.items) x.deps.items).level = ap (λ (c : Best). c.level) is_found in
+            omega arith) in
             let st = step_some plan well levels before awaited k so s at id starts x at_count (b.level + 1) lv in
-            let a : IsSoFar plan (levels ++ (b.level + 1) ∷ []) (before ++ b.job ∷ []) (best_among levels awaited s.waits.items) (suc k) = subst (λ j. IsSoFar plan (levels ++ (b.level + 1) ∷ []) (before ++ j ∷ []) (best_among levels awaited s.waits.items) (suc k)) (sym (ap (λ (c : Best). c.job) is_found)) st in
-            subst (λ n. IsSoFar plan ls bs aw n) up (subst (λ l. IsSoFar plan l bs aw (suc k)) (sym el) (subst (λ l. IsSoFar plan (levels ++ (b.level + 1) ∷ []) l aw (suc k)) (sym eb2) (subst (λ c. IsSoFar plan (levels ++ (b.level + 1) ∷ []) (before ++ b.job ∷ []) c (suc k)) (sym ea) a)))
+            let a : IsSoFar plan (levels ++ (b.level + 1) ∷ []) (before ++ b.job ∷ []) (best_among levels awaited s.waits.items) (suc k) =
+            subst (λ j. IsSoFar plan (levels ++ (b.level + 1) ∷ []) (before ++ j ∷ []) (best_among levels awaited s.waits.items) (suc k))
+            (sym (ap (λ (c : Best). c.job) is_found)) st in
+            subst (λ n. IsSoFar plan ls bs aw n) up (subst (λ l. IsSoFar plan l bs aw (suc k)) (sym el)
+            (subst (λ l. IsSoFar plan (levels ++ (b.level + 1) ∷ []) l aw (suc k)) (sym eb2)
+            (subst (λ c. IsSoFar plan (levels ++ (b.level + 1) ∷ []) (before ++ b.job ∷ []) c (suc k)) (sym ea) a)))

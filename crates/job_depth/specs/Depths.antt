@@ -34,7 +34,8 @@ pub record IsWidest (plan : Plan) (round : ℕ → ℕ) (rounds widest : ℕ) : 
 
 -- PACKED: there is a plan of so many rounds in which the workers suffice.
 abbrev pub IsPackable : Plan → ℕ → ℕ → Type 0
-IsPackable plan workers n = (round : ℕ → ℕ) × IsRoundsPlan plan round × HasRounds plan round n × Suffice workers plan round
+IsPackable plan workers n = (round : ℕ → ℕ) × IsRoundsPlan plan round × HasRounds plan round n
+    × Suffice workers plan round
 
 -- LEAST: every plan of rounds in which the workers suffice has at least so many.
 abbrev pub IsNeeded : Plan → ℕ → ℕ → Type 0

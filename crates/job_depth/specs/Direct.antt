@@ -47,7 +47,8 @@ AreWithin n (id ∷ more) = (0 < id.0) × (id.0 ≤ n) × AreWithin n more
 pub record IsBest (levels : List ℕ) (p : ℕ → Bool) (b : Best) : Type 0 where
   pub above : (n : ℕ) → p n ≡ true → level_of levels n ≤ b.level
   pub least : (n : ℕ) → p n ≡ true → level_of levels n ≡ b.level → number_of b.job ≤ n
-  pub is : (b ≡ nothing) ⊎ ((p (number_of b.job) ≡ true) × (level_of levels (number_of b.job) ≡ b.level) × (0 < b.level))
+  pub is : (b ≡ nothing) ⊎ ((p (number_of b.job) ≡ true) × (level_of levels (number_of b.job) ≡ b.level)
+      × (0 < b.level))
 
 -- The level of the job at place j, and the job before it on its chain, were found from its direct predecessors.
 pub record IsFound (plan : Plan) (levels : List ℕ) (before : List (Option JobId)) (j : ℕ) : Type 0 where
@@ -67,7 +68,8 @@ pub record AreFound (plan : Plan) (levels : List ℕ) (before : List (Option Job
 pub record IsTopOf (levels : List ℕ) (m : ℕ) (b : Best) : Type 0 where
   pub above : (j : ℕ) → j < m → get_or levels j 0 ≤ b.level
   pub least : (j : ℕ) → j < m → get_or levels j 0 ≡ b.level → number_of b.job ≤ suc j
-  pub is : (b ≡ nothing) ⊎ ((j : ℕ) × (j < m) × (b.job ≡ Some (number_of_job j)) × (get_or levels j 0 ≡ b.level) × (0 < b.level))
+  pub is : (b ≡ nothing) ⊎ ((j : ℕ) × (j < m) × (b.job ≡ Some (number_of_job j)) × (get_or levels j 0 ≡ b.level)
+      × (0 < b.level))
 
 abbrev pub IsTop : List ℕ → Best → Type 0
 IsTop levels b = IsTopOf levels (length levels) b

@@ -46,7 +46,8 @@ Suffice workers plan round = (r : ℕ) → pieces_in plan round r ≤ workers
 -- The rounds that so many workers take for the first rounds, one round after another.
 abbrev pub rounds_taken : ℕ → Plan → (ℕ → ℕ) → ℕ → ℕ
 rounds_taken workers plan round zero = 0
-rounds_taken workers plan round (suc r) = rounds_taken workers plan round r + div_ceil (pieces_in plan round (suc r)) workers
+rounds_taken workers plan round (suc r) = rounds_taken workers plan round r + div_ceil
+    (pieces_in plan round (suc r)) workers
 
 -- The level plan: each piece has the level of its job as its round.
 abbrev pub level_of_piece : List ℕ → Piece → ℕ

@@ -36,7 +36,8 @@ and_or : (g x y : Bool) → (g && (x || y)) ≡ ((g && x) || (g && y))
 and_or true x y = refl
 and_or false x y = refl
 
-pub or_jobs : (a b r : Handle) → ((k : ℕ) → k < 64 → slice_index r.words k ≡ bit_or (slice_index a.words k) (slice_index b.words k)) → jobs_of r ≡ both (jobs_of a) (jobs_of b)
+pub or_jobs : (a b r : Handle) → ((k : ℕ) → k < 64 → slice_index r.words k ≡ bit_or (slice_index a.words k) (slice_index b.words k))
+    → jobs_of r ≡ both (jobs_of a) (jobs_of b)
 or_jobs a b r h = λ i k. (one k) i
   where
     one : (k : ℕ) → jobs_of r k ≡ (jobs_of a k || jobs_of b k)
@@ -69,7 +70,8 @@ empty_jobs n h e = λ i k. (none k) i
     none k = and_right (nat_lt 0 k && nat_lt k 4097) (bit_of h.words (k - 1))
         (zero_bit (slice_index h.words ((k - 1) / 64)) ((k - 1) % 64) (ap (λ ws. slice_index ws ((k - 1) / 64)) e ∙ zeros_read n ((k - 1) / 64)))
 
-pub of_jobs : (n j : ℕ) (h : Handle) → 0 < j → j ≤ 4096 → (j - 1) / 64 < n → h.words ≡ set (replicate n 0) ((j - 1) / 64) (1 * 2 ^ ((j - 1) % 64) % 2 ^ 64) → jobs_of h ≡ only j
+pub of_jobs : (n j : ℕ) (h : Handle) → 0 < j → j ≤ 4096 → (j - 1) / 64 < n → h.words ≡ set (replicate n 0) ((j - 1) / 64) (1 * 2 ^ ((j - 1) % 64) % 2 ^ 64)
+    → jobs_of h ≡ only j
 of_jobs n j h p le room e = λ i k. (same_test (jobs_of h k) (nat_eq k j) (λ t. to k t) (λ t. from k t)) i
   where
     mask : ℕ
@@ -90,7 +92,8 @@ of_jobs n j h p le room e = λ i k. (same_test (jobs_of h k) (nat_eq k j) (λ t.
         ⊎_elim
         (λ r. let x = div-add-mod (k - 1) 64 in let y = div-add-mod (j - 1) 64 in
         let u : k - 1 ≡ j - 1 = sym x ∙ (ap (λ z. 64 * z + (k - 1) % 64) q ∙ (ap (λ z. 64 * ((j - 1) / 64) + z) r ∙ y)) in eq-eqb k j (omega arith))
-        (λ ne. absurd (not_both parts.1 (ap (λ x. nat_eq (bit_at x ((k - 1) % 64)) 1) w ∙ ap (λ x. nat_eq x 1) (bit_at-pow_other ((j - 1) % 64) ((k - 1) % 64) ne))))
+        (λ ne. absurd (not_both parts.1 (ap (λ x. nat_eq (bit_at x ((k - 1) % 64)) 1) w
+        ∙ ap (λ x. nat_eq x 1) (bit_at-pow_other ((j - 1) % 64) ((k - 1) % 64) ne))))
         (cases_eq ((k - 1) % 64) ((j - 1) % 64)))
         (λ ne. absurd (not_both parts.1 (zero_bit (slice_index h.words ((k - 1) / 64)) ((k - 1) % 64)
         (ap (λ ws. slice_index ws ((k - 1) / 64)) e ∙ get_or-set_other (replicate n 0) ((j - 1) / 64) ((k - 1) / 64) mask 0 ne ∙ zeros_read n ((k - 1) / 64)))))

@@ -29,7 +29,8 @@ module _ (a b : Handle) where
       (and_left (nat_lt 0 k && nat_lt k 4097) (bit_of a.words (k - 1)) (and_right (nat_lt 0 k) (nat_lt k 4097) (le-ltb k 4097 (omega arith))))
 
   -- the jobs from `less` + 1 to `left` that are in the one are in the other
-  pub none_between : (left less : ℕ) → ((k : ℕ) → left < k → outside (jobs_of a) (jobs_of b) k ≡ false) → ((k : ℕ) → less < k → k ≤ left → jobs_of a k ≡ true → jobs_of b k ≡ true)
+  pub none_between : (left less : ℕ) → ((k : ℕ) → left < k → outside (jobs_of a) (jobs_of b) k ≡ false)
+      → ((k : ℕ) → less < k → k ≤ left → jobs_of a k ≡ true → jobs_of b k ≡ true)
       → (k : ℕ) → less < k → outside (jobs_of a) (jobs_of b) k ≡ false
   none_between left less none there k low = ⊎_elim
       (λ above. none k above)
@@ -53,7 +54,8 @@ module _ (a b : Handle) where
       → (n : ℕ) → AreUpTo n (jobs_of a) → Some (record { 0 = j }) ≡ job_numbered (greatest (outside (jobs_of a) (jobs_of b)) n)
   found_last j low t f none n known =
       let set : Jobs = outside (jobs_of a) (jobs_of b) in
-      numbered j low ∙ ap (λ n. job_numbered n) (sym (none_above set n j (known j t).1 none ∙ the_last set j low (and_from (jobs_of a j) (not (jobs_of b j)) t (not_from_false (jobs_of b j) f))))
+      numbered j low ∙ ap (λ n. job_numbered n) (sym (none_above set n j (known j t).1 none
+      ∙ the_last set j low (and_from (jobs_of a j) (not (jobs_of b j)) t (not_from_false (jobs_of b j) f))))
 
   pub found_none : ((k : ℕ) → 0 < k → outside (jobs_of a) (jobs_of b) k ≡ false) → (n : ℕ) → None ≡ job_numbered (greatest (outside (jobs_of a) (jobs_of b)) n)
   found_none none n = ap (λ n. job_numbered n) (sym (none_above (outside (jobs_of a) (jobs_of b)) n 0 (omega arith) none))

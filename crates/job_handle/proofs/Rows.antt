@@ -38,7 +38,8 @@ module _ (made : ℕ) (table : List Handle) (ended h : Handle) where
   }
 
   -- the row of job i + 1
-  pub one_more : (all more row : Handle) (i : ℕ) → IsUnion made table ended h all (suc i) → i < made → jobs_of h (suc i) ≡ true → row ≡ slice_index_or table i row → jobs_of row (suc i) ≡ true
+  pub one_more : (all more row : Handle) (i : ℕ) → IsUnion made table ended h all (suc i) → i < made → jobs_of h (suc i) ≡ true
+      → row ≡ slice_index_or table i row → jobs_of row (suc i) ≡ true
       → jobs_of more ≡ both (jobs_of all) (jobs_of row) → IsUnion made table ended h more i
   one_more all more row i C lt wanted at own e = record {
     sub = λ b F k t. ⊎_elim
@@ -68,7 +69,8 @@ module _ (made : ℕ) (table : List Handle) (ended h : Handle) where
       of_row b F k a = row_is b F k ∙ a
 
   -- the jobs from `less` + 1 to `left` add nothing: those of them that are wanted are there
-  pub passed_by : (all : Handle) (left less : ℕ) → IsUnion made table ended h all left → ((k : ℕ) → less < k → k ≤ left → jobs_of h k ≡ true → jobs_of all k ≡ true) → IsUnion made table ended h all less
+  pub passed_by : (all : Handle) (left less : ℕ) → IsUnion made table ended h all left
+      → ((k : ℕ) → less < k → k ≤ left → jobs_of h k ≡ true → jobs_of all k ≡ true) → IsUnion made table ended h all less
   passed_by all left less C there = record {
     sub = C.sub;
     closed = C.closed;
@@ -81,7 +83,8 @@ module _ (made : ℕ) (table : List Handle) (ended h : Handle) where
       within : (m : ℕ) → (m ≤ left) ⊎ (left < m)
       within m = ⊎_elim (λ lt. inr lt) (λ ge. inl ge) (cases_lt left m)
 
-  pub all_there : (all : Handle) → IsUnion made table ended h all 0 → AreUpTo made (jobs_of h) → (b : Book) → AreRowsOf made table ended b → (k : ℕ) → jobs_of all k ≡ ancestors_in b (jobs_of h) k
+  pub all_there : (all : Handle) → IsUnion made table ended h all 0 → AreUpTo made (jobs_of h) → (b : Book) → AreRowsOf made table ended b → (k : ℕ)
+      → jobs_of all k ≡ ancestors_in b (jobs_of h) k
   all_there all C known b F k = same_test (jobs_of all k) (ancestors_in b (jobs_of h) k)
       (λ t. C.sub b F k t)
       (λ t. let m = from_one b F.known (jobs_of h) k t in C.closed b F m.0 k (C.cover m.0 (low h m.0 m.1) (known m.0 m.1).1 m.1) m.2)
@@ -92,11 +95,14 @@ module _ (made : ℕ) (table : List Handle) (ended h : Handle) where
 -- WHAT IS COMPLETED
 
 -- a set of the book is one of each book that it stands for
-pub known_in : (made : ℕ) (table : List Handle) (ended h : Handle) → AreUpTo made (jobs_of h) → (b : Book) → AreRowsOf made table ended b → AreUpTo b.count (jobs_of h)
+pub known_in : (made : ℕ) (table : List Handle) (ended h : Handle) → AreUpTo made (jobs_of h) → (b : Book) → AreRowsOf made table ended b
+    → AreUpTo b.count (jobs_of h)
 known_in made table ended h known b F = subst (λ n. AreUpTo n (jobs_of h)) F.count known
 
-pub completes : (made : ℕ) (table : List Handle) (ended h all done : Handle) → ((b : Book) → AreRowsOf made table ended b → (k : ℕ) → jobs_of all k ≡ ancestors_in b (jobs_of h) k)
-    → jobs_of done ≡ both (jobs_of ended) (jobs_of all) → AreUpTo made (jobs_of h) → (b : Book) → AreRowsOf made table ended b → AreRowsOf made table done (with_completed b (jobs_of h))
+pub completes : (made : ℕ) (table : List Handle) (ended h all done : Handle)
+    → ((b : Book) → AreRowsOf made table ended b → (k : ℕ) → jobs_of all k ≡ ancestors_in b (jobs_of h) k)
+    → jobs_of done ≡ both (jobs_of ended) (jobs_of all) → AreUpTo made (jobs_of h) → (b : Book) → AreRowsOf made table ended b
+    → AreRowsOf made table done (with_completed b (jobs_of h))
 completes made table ended h all done is e known b F = record {
   known = completed_book b F.known (jobs_of h) (known_in made table ended h known b F);
   count = F.count;
@@ -116,17 +122,21 @@ module _ (b : Book) (B : IsBook b) (after : Jobs) (among : AreUpTo b.count after
   -- the row of the new job: what it waits for, all that this leads to, and the job itself
   pub new_row : (k : ℕ) → (ancestors_in b after k || nat_eq k (suc b.count)) ≡ ancestors_in (with_job b after) (only (suc b.count)) k
   new_row k = same_test (ancestors_in b after k || nat_eq k (suc b.count)) (ancestors_in (with_job b after) (only (suc b.count)) k)
-      (λ t. ⊎_elim (λ a. waited k a) (λ q. contains (with_job b after).deps (suc b.count) (only (suc b.count)) k q) (or_cases (ancestors_in b after k) (nat_eq k (suc b.count)) t))
+      (λ t. ⊎_elim (λ a. waited k a) (λ q. contains (with_job b after).deps (suc b.count) (only (suc b.count)) k q)
+      (or_cases (ancestors_in b after k) (nat_eq k (suc b.count)) t))
       (λ t. least (with_job b after).deps (λ i. (ancestors_in b after i || nat_eq i (suc b.count)) ≡ true)
       (λ i m p d. or_left (ancestors_in b after m) (nat_eq m (suc b.count)) (older_in i m p d))
       (suc b.count) (only (suc b.count)) (λ i g. or_right (ancestors_in b after i) (nat_eq i (suc b.count)) g) k t)
     where
       waited : (k : ℕ) → ancestors_in b after k ≡ true → ancestors_in (with_job b after) (only (suc b.count)) k ≡ true
       waited k a = least b.deps (λ i. ancestors_in (with_job b after) (only (suc b.count)) i ≡ true)
-          (λ i m p d. let le = (B.older i m d).0 in closes (with_job b after).deps (suc b.count) older (only (suc b.count)) i m (omega arith) p (or_left (b.deps i m) (nat_eq i (suc b.count) && after m) d))
+          (λ i m p d. let le = (B.older i m d).0 in closes (with_job b after).deps (suc b.count) older (only (suc b.count)) i m (omega arith) p
+          (or_left (b.deps i m) (nat_eq i (suc b.count) && after m) d))
           b.count after
-          (λ i g. closes (with_job b after).deps (suc b.count) older (only (suc b.count)) (suc b.count) i (omega arith) (itself (with_job b after) (suc b.count))
-          (or_right (b.deps (suc b.count) i) (nat_eq (suc b.count) (suc b.count) && after i) (and_from (nat_eq (suc b.count) (suc b.count)) (after i) (eq-eqb (suc b.count) (suc b.count) refl) g)))
+          (λ i g. closes (with_job b after).deps (suc b.count) older (only (suc b.count)) (suc b.count) i (omega arith)
+          (itself (with_job b after) (suc b.count))
+          (or_right (b.deps (suc b.count) i) (nat_eq (suc b.count) (suc b.count) && after i)
+          (and_from (nat_eq (suc b.count) (suc b.count)) (after i) (eq-eqb (suc b.count) (suc b.count) refl) g)))
           k a
 
       older_in : (i m : ℕ) → (ancestors_in b after i || nat_eq i (suc b.count)) ≡ true → (with_job b after).deps i m ≡ true → ancestors_in b after m ≡ true
@@ -150,7 +160,8 @@ module _ (b : Book) (B : IsBook b) (after : Jobs) (among : AreUpTo b.count after
       (or_cases (b.deps i j) (nat_eq i (suc b.count) && after j) d))
       (suc b.count) (only m) (λ i g. let q : i ≡ m = eqb-true i m g in (omega arith, contains b.deps b.count (only m) i g)) k t).1)
 
-pub adds : (made : ℕ) (table : List Handle) (ended h all one row : Handle) → length table ≡ made → ((b : Book) → AreRowsOf made table ended b → (k : ℕ) → jobs_of all k ≡ ancestors_in b (jobs_of h) k)
+pub adds : (made : ℕ) (table : List Handle) (ended h all one row : Handle) → length table ≡ made
+    → ((b : Book) → AreRowsOf made table ended b → (k : ℕ) → jobs_of all k ≡ ancestors_in b (jobs_of h) k)
     → jobs_of one ≡ only (made + 1) → jobs_of row ≡ both (jobs_of all) (jobs_of one) → AreUpTo made (jobs_of h)
     → (b : Book) → AreRowsOf made table ended b → AreRowsOf (made + 1) (table ++ row ∷ []) ended (with_job b (jobs_of h))
 adds made table ended h all one row size is single e known b F = record {
@@ -166,7 +177,8 @@ adds made table ended h all one row size is single e known b F = record {
       ∙ new_row b F.known (jobs_of h) among k
       ∙ ap (λ i. ancestors_in (with_job b (jobs_of h)) (only i) k) last)
       (λ ne. let n = F.count in
-      ap (λ x. jobs_of x k) (get_or_append_left table (row ∷ []) d j (omega arith)) ∙ (F.rows j d (omega arith) k ∙ old_row b F.known (jobs_of h) among (suc j) (omega arith) k))
+      ap (λ x. jobs_of x k) (get_or_append_left table (row ∷ []) d j (omega arith))
+      ∙ (F.rows j d (omega arith) k ∙ old_row b F.known (jobs_of h) among (suc j) (omega arith) k))
       (cases_eq j b.count);
   completed = F.completed;
 }
@@ -175,18 +187,22 @@ adds made table ended h all one row size is single e known b F = record {
     among = known_in made table ended h known b F
 
 -- the row of the new job has it
-own_added : (made : ℕ) (table : List Handle) (one all row : Handle) → length table ≡ made → HaveOwnJobs made table → jobs_of one ≡ only (made + 1) → jobs_of row ≡ both (jobs_of all) (jobs_of one)
+own_added : (made : ℕ) (table : List Handle) (one all row : Handle) → length table ≡ made → HaveOwnJobs made table → jobs_of one ≡ only (made + 1)
+    → jobs_of row ≡ both (jobs_of all) (jobs_of one)
     → HaveOwnJobs (made + 1) (table ++ row ∷ [])
 own_added made table one all row size own single e j d lt = ⊎_elim
-    (λ q. ap (λ x. jobs_of x (suc j)) (ap (λ i. slice_index_or (table ++ row ∷ []) i d) (let i : j ≡ length table = omega arith in i) ∙ get_or-append_seam table row [] d)
+    (λ q. ap (λ x. jobs_of x (suc j)) (ap (λ i. slice_index_or (table ++ row ∷ []) i d) (let i : j ≡ length table = omega arith in i)
+    ∙ get_or-append_seam table row [] d)
     ∙ (λ x. e x (suc j)) ∙ or_right (jobs_of all (suc j)) (jobs_of one (suc j)) ((λ x. single x (suc j)) ∙ eq-eqb (suc j) (made + 1) (omega arith)))
     (λ ne. ap (λ x. jobs_of x (suc j)) (get_or_append_left table (row ∷ []) d j (omega arith)) ∙ own j d (omega arith))
     (cases_eq j made)
 
 -- the rows after a push that may have found no memory
-pub own_pushed : (ok : Bool) (made made' : ℕ) (table table' : List Handle) (one all row : Handle) → length table ≡ made → HaveOwnJobs made table → jobs_of one ≡ only (made + 1) → jobs_of row ≡ both (jobs_of all) (jobs_of one)
+pub own_pushed : (ok : Bool) (made made' : ℕ) (table table' : List Handle) (one all row : Handle) → length table ≡ made → HaveOwnJobs made table
+    → jobs_of one ≡ only (made + 1) → jobs_of row ≡ both (jobs_of all) (jobs_of one)
     → made' ≡ (if ok then made + 1 else made) → table' ≡ (if ok then table ++ row ∷ [] else table) → HaveOwnJobs made' table'
-own_pushed true made made' table table' one all row size own single e n t = subst₂ (λ m l. HaveOwnJobs m l) (sym n) (sym t) (own_added made table one all row size own single e)
+own_pushed true made made' table table' one all row size own single e n t =
+    subst₂ (λ m l. HaveOwnJobs m l) (sym n) (sym t) (own_added made table one all row size own single e)
 own_pushed false made made' table table' one all row size own single e n t = subst₂ (λ m l. HaveOwnJobs m l) (sym n) (sym t) own
 
 pub no_jobs : {made : ℕ} {table : List Handle} {ended : Handle} → made ≡ 0 → jobs_of ended ≡ nobody → AreRowsOf made table ended empty_book

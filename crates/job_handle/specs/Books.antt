@@ -14,7 +14,8 @@ count_of book = vec_len book.rows
 pub record AreRowsOf (made : ℕ) (table : List Handle) (ended : Handle) (b : Book) : Type 0 where
   pub known : IsBook b
   pub count : made ≡ b.count
-  pub rows : (j : ℕ) (d : Handle) → j < b.count → (k : ℕ) → jobs_of (slice_index_or table j d) k ≡ ancestors_in b (only (suc j)) k
+  pub rows : (j : ℕ) (d : Handle) → j < b.count → (k : ℕ)
+      → jobs_of (slice_index_or table j d) k ≡ ancestors_in b (only (suc j)) k
   pub completed : (k : ℕ) → jobs_of ended k ≡ b.completed k
 
 abbrev pub StandsFor : JobBook → Book → Type 0
@@ -23,6 +24,8 @@ StandsFor book b = AreRowsOf (vec_len book.rows) book.rows.items book.completed 
 -- What a union of rows has, when the jobs of `h` from the newest down to `left` + 1 were looked at: only what they lead
 -- to, all that it leads to, and each of them.
 pub record IsUnion (made : ℕ) (table : List Handle) (ended h all : Handle) (left : ℕ) : Type 0 where
-  pub sub : (b : Book) → AreRowsOf made table ended b → (k : ℕ) → jobs_of all k ≡ true → ancestors_in b (jobs_of h) k ≡ true
-  pub closed : (b : Book) → AreRowsOf made table ended b → (m k : ℕ) → jobs_of all m ≡ true → ancestors_in b (only m) k ≡ true → jobs_of all k ≡ true
+  pub sub : (b : Book) → AreRowsOf made table ended b → (k : ℕ) → jobs_of all k ≡ true
+      → ancestors_in b (jobs_of h) k ≡ true
+  pub closed : (b : Book) → AreRowsOf made table ended b → (m k : ℕ) → jobs_of all m ≡ true
+      → ancestors_in b (only m) k ≡ true → jobs_of all k ≡ true
   pub cover : (m : ℕ) → left < m → m ≤ made → jobs_of h m ≡ true → jobs_of all m ≡ true

@@ -30,4 +30,5 @@ job_numbered (suc j) = Some (record { 0 = suc j })
 -- An answer is the least job of a set after job `from` and up to job `to`, or there is none.
 abbrev pub IsNext : Jobs → ℕ → ℕ → Option JobId → Type 0
 IsNext set from to None = (k : ℕ) → from < k → k ≤ to → set k ≡ false
-IsNext set from to (Some j) = (from < j.0) × (j.0 ≤ to) × (set j.0 ≡ true) × ((k : ℕ) → from < k → k < j.0 → set k ≡ false)
+IsNext set from to (Some j) = (from < j.0) × (j.0 ≤ to) × (set j.0 ≡ true)
+    × ((k : ℕ) → from < k → k < j.0 → set k ≡ false)

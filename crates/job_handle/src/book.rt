@@ -56,7 +56,8 @@ impl JobBook {
         ensures number { IfOk result (λ j. j.0 ≡ count_of self.old + 1) }
         ensures few { IfOk result (λ j. j.0 ≤ MOST_JOBS) }
         ensures count { count_of self.new ≡ (if is_ok result then count_of self.old + 1 else count_of self.old) }
-        ensures book { OnOk result ((b : Book) → StandsFor self.old b → StandsFor self.new (with_job b (jobs_of deps.now))) }
+        ensures book { OnOk result ((b : Book) → StandsFor self.old b
+            → StandsFor self.new (with_job b (jobs_of deps.now))) }
         ensures same { OnErr result ((b : Book) → StandsFor self.old b → StandsFor self.new b) }
     {
         if self.rows.len() >= MOST_JOBS as usize {
@@ -111,7 +112,8 @@ impl JobBook {
     /// The jobs of `h` and all their ancestors. For a statement, make it once.
     pub fn closure(&self, h: &Handle) -> Handle
         requires { AreUpTo (count_of self.now) (jobs_of h.now) }
-        ensures all { (b : Book) → StandsFor self.now b → (k : ℕ) → jobs_of result k ≡ ancestors_in b (jobs_of h.now) k }
+        ensures all { (b : Book) → StandsFor self.now b → (k : ℕ)
+            → jobs_of result k ≡ ancestors_in b (jobs_of h.now) k }
         ensures own { (k : ℕ) → jobs_of h.now k ≡ true → jobs_of result k ≡ true }
     {
         // From the newest job down: a row that is taken brings all that it leads to, so a job that is there already
@@ -137,7 +139,8 @@ impl JobBook {
     /// What happens before a statement that waits for `after`: what was completed, and `after` with its ancestors.
     pub fn before(&self, after: &Handle) -> Handle
         requires { AreUpTo (count_of self.now) (jobs_of after.now) }
-        ensures { (b : Book) → StandsFor self.now b → (k : ℕ) → jobs_of result k ≡ happens_before b (jobs_of after.now) k }
+        ensures { (b : Book) → StandsFor self.now b → (k : ℕ)
+            → jobs_of result k ≡ happens_before b (jobs_of after.now) k }
     {
         self.completed.combine(&self.closure(after))
     }

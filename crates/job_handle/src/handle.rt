@@ -66,7 +66,8 @@ impl Handle {
 
     /// The greatest job that is in this set and not in another one, or none.
     pub fn latest_outside(&self, other: &Handle) -> Option<JobId>
-        ensures { (n : ℕ) → AreUpTo n (jobs_of self.now) → result ≡ job_numbered (greatest (outside (jobs_of self.now) (jobs_of other.now)) n) }
+        ensures { (n : ℕ) → AreUpTo n (jobs_of self.now)
+            → result ≡ job_numbered (greatest (outside (jobs_of self.now) (jobs_of other.now)) n) }
     {
         let mut left = MOST_JOBS;
         while left > 0 {
@@ -84,8 +85,8 @@ impl Handle {
         None
     }
 
-    /// The least job after job `from` and up to job `to` that is in this set and not in another one, or none. It costs a
-    /// step a word, and one a job in words that have such a job.
+    /// The least job after job `from` and up to job `to` that is in this set and not in another one, or none. It costs
+    /// a step a word, and one a job in words that have such a job.
     pub fn next_outside(&self, other: &Handle, from: u32, to: u32) -> Option<JobId>
         requires { to ≤ MOST_JOBS }
         ensures { IsNext (outside (jobs_of self.now) (jobs_of other.now)) from to result }
@@ -109,7 +110,8 @@ impl Handle {
     /// Whether this set has all that another has of the jobs of word `at`. It is one step for all of them.
     pub(crate) fn has_word_of(&self, other: &Handle, at: usize) -> bool
         requires { at < WORDS }
-        ensures { IsTrue result → (k : ℕ) → WORD_JOBS * at < k → k ≤ WORD_JOBS * at + WORD_JOBS → jobs_of other.now k ≡ true → jobs_of self.now k ≡ true }
+        ensures { IsTrue result → (k : ℕ) → WORD_JOBS * at < k → k ≤ WORD_JOBS * at + WORD_JOBS
+            → jobs_of other.now k ≡ true → jobs_of self.now k ≡ true }
     {
         self.words[at] | other.words[at] == self.words[at]
     }

@@ -87,7 +87,8 @@ apart byte other differs same = true≢false (sym (eq-eqb byte other same) ∙ d
 pub begun_other : (byte : ℕ) → byte < 256 → kind_begun byte ≡ Bad → byte ≢ 34 → byte ≢ 35 → byte ≢ 32 → byte ≢ 9 → byte ≢ 13 → IsOther byte
 unfolding kind_begun begins_pair spelling_of symbols
 begun_other byte small is no_quote no_comment no_space no_tab no_return =
-    let other = and_parts _ _ (sym (agree_below_at (λ b. is_bad_kind (kind_begun b)) (λ b. is_bad_kind (kind_begun b) && begins_other b) 256 byte refl small) ∙ ap is_bad_kind is) in
+    let other = and_parts _ _ (sym (agree_below_at (λ b. is_bad_kind (kind_begun b)) (λ b. is_bad_kind (kind_begun b) && begins_other b) 256 byte refl small)
+    ∙ ap is_bad_kind is) in
     let parts = and_parts _ _ other.1 in
     let fore = and_parts _ _ parts.0 in
     record {
@@ -143,7 +144,8 @@ other_is byte other =
     }
 
 -- the spelling of a pair begins with its first byte and has two
-pair_differs : (spelling : List ℕ) (byte next : ℕ) → ((get_or spelling 0 0 == byte) && nat_le 2 (length spelling)) ≡ false → bytes_eq spelling (byte ∷ next ∷ []) ≡ false
+pair_differs : (spelling : List ℕ) (byte next : ℕ) → ((get_or spelling 0 0 == byte) && nat_le 2 (length spelling)) ≡ false
+    → bytes_eq spelling (byte ∷ next ∷ []) ≡ false
 pair_differs spelling byte next none =
     ⊎_elim
     (λ same.
@@ -153,7 +155,8 @@ pair_differs spelling byte next none =
     (λ differs. differs)
     (cases_Bool (bytes_eq spelling (byte ∷ next ∷ [])))
 
-no_pair : (kinds : List TokenKind) (byte next : ℕ) → list_any (λ kind. is_first_of byte kind && nat_le 2 (length (spelling_of kind))) kinds ≡ false → spelled kinds (byte ∷ next ∷ []) ≡ None
+no_pair : (kinds : List TokenKind) (byte next : ℕ) → list_any (λ kind. is_first_of byte kind && nat_le 2 (length (spelling_of kind))) kinds ≡ false
+    → spelled kinds (byte ∷ next ∷ []) ≡ None
 no_pair [] byte next none = refl
 no_pair (kind ∷ kinds) byte next none =
     let parts = or_parts _ _ none in
@@ -163,7 +166,8 @@ single_is : (found : Option TokenKind) (kind : TokenKind) → unwrap_or found Ba
 single_is None kind is lone = absurd (true≢false (sym lone ∙ sym (ap is_lone_kind is)))
 single_is (Some found) kind is lone = ap Some is
 
-lone_begun : (byte : ℕ) (kind : TokenKind) → kind_begun byte ≡ kind → is_lone_kind kind ≡ true → IsOther byte → begins_pair byte ≡ false → spelled symbols (byte ∷ []) ≡ Some kind
+lone_begun : (byte : ℕ) (kind : TokenKind) → kind_begun byte ≡ kind → is_lone_kind kind ≡ true → IsOther byte → begins_pair byte ≡ false
+    → spelled symbols (byte ∷ []) ≡ Some kind
 unfolding kind_begun
 lone_begun byte kind is lone other alone =
     let value = cond-false _ _ _ other.no_name ∙ cond-false _ _ _ other.no_digit ∙ cond-false _ _ _ (ne_eqb byte 10 other.no_line) ∙ cond-false _ _ _ alone in
@@ -181,9 +185,11 @@ line_begun = refl
 lone_tests : (byte : ℕ) → byte < 256 → is_lone_kind (kind_begun byte) ≡ true → ((byte == 10) || (is_other byte && not (begins_pair byte))) ≡ true
 unfolding kind_begun begins_pair spelling_of symbols
 lone_tests byte small lone =
-    (and_parts _ _ (sym (agree_below_at (λ b. is_lone_kind (kind_begun b)) (λ b. is_lone_kind (kind_begun b) && ((b == 10) || (is_other b && not (begins_pair b)))) 256 byte refl small) ∙ lone)).1
+    (and_parts _ _ (sym (agree_below_at (λ b. is_lone_kind (kind_begun b))
+    (λ b. is_lone_kind (kind_begun b) && ((b == 10) || (is_other b && not (begins_pair b)))) 256 byte refl small) ∙ lone)).1
 
-pub at_begun : (source : List ℕ) (place : ℕ) (kind : TokenKind) → place < length source → get_or source place 0 < 256 → kind_begun (get_or source place 0) ≡ kind → is_lone_kind kind ≡ true →
+pub at_begun : (source : List ℕ) (place : ℕ) (kind : TokenKind) → place < length source → get_or source place 0 < 256
+    → kind_begun (get_or source place 0) ≡ kind → is_lone_kind kind ≡ true →
     IsFrontAt source place (Some kind) (place + 1)
 at_begun source place kind within small is lone =
     let byte = get_or source place 0 in
@@ -204,11 +210,13 @@ pub lone_fine : (kind : TokenKind) → is_lone_kind kind ≡ true → is_bad kin
 lone_fine Bad lone = absurd (true≢false (sym lone))
 lone_fine _ lone = refl
 
-spelled_fine : (kinds : List TokenKind) (word : List ℕ) → list_all (λ kind. not (is_bad kind)) kinds ≡ true → is_bad (unwrap_or (spelled kinds word) Name) ≡ false
+spelled_fine : (kinds : List TokenKind) (word : List ℕ) → list_all (λ kind. not (is_bad kind)) kinds ≡ true
+    → is_bad (unwrap_or (spelled kinds word) Name) ≡ false
 spelled_fine [] word fine = refl
 spelled_fine (kind ∷ kinds) word fine =
     let parts = and_parts _ _ fine in
-    cond_both (bytes_eq (spelling_of kind) word) (Some kind) (spelled kinds word) (λ found. is_bad (unwrap_or found Name) ≡ false) (λ same. not-true _ parts.0) (λ differs. spelled_fine kinds word parts.1)
+    cond_both (bytes_eq (spelling_of kind) word) (Some kind) (spelled kinds word) (λ found. is_bad (unwrap_or found Name) ≡ false) (λ same. not-true _ parts.0)
+    (λ differs. spelled_fine kinds word parts.1)
 
 pub word_fine : (word : List ℕ) → is_bad (unwrap_or (spelled reserved_words word) Name) ≡ false
 unfolding reserved_words

@@ -26,7 +26,8 @@ same_line byte line (inr (inr is)) = ap (λ b. line_after b line) is
 
 -- it adds no token, and the tokens behind it are those of the file
 pub blank_passed : (source : List ℕ) (place line : ℕ) (before all : List Token) → place < length source → is_blank (get_or source place 0 ∷ []) ≡ true →
-    before ++ up_to_bad (tokens_from 0 place line (drop place source)) ≡ all → before ++ up_to_bad (tokens_from 0 (place + 1) line (drop (place + 1) source)) ≡ all
+    before ++ up_to_bad (tokens_from 0 place line (drop place source)) ≡ all
+    → before ++ up_to_bad (tokens_from 0 (place + 1) line (drop (place + 1) source)) ≡ all
 blank_passed source place line before all within blank so_far =
     let byte_is : get_or (drop place source) 0 0 ≡ get_or source place 0 = get_or-drop place source 0 0 ∙ ap (λ n. get_or source n 0) (add-zero place) in
     let byte = blank_byte (get_or source place 0) blank in

@@ -21,7 +21,13 @@ length-parts (e ∷ more) = omega (arith, length-append (expr_nodes e) (parts_no
 pub length-block : (owner : Option ℕ) (n : ℕ) (b : RawBlock) → length (block_nodes owner n b) ≡ block_size b
 length-block owner n Nothing = refl
 length-block owner n (Simple f at name parts more) =
-    omega (arith, length-append (parts_nodes parts) (block_nodes owner (n + (1 + parts_size parts)) more), length-parts parts, length-block owner (n + (1 + parts_size parts)) more)
+    omega (
+      arith,
+      length-append (parts_nodes parts) (block_nodes owner (n + (1 + parts_size parts)) more),
+      length-parts parts,
+      length-block owner
+          (n + (1 + parts_size parts)) more,
+    )
 length-block owner n (Nested f at name parts inner more) =
     let a = block_nodes (Some n) (n + (1 + parts_size parts)) inner in
     let b = block_nodes owner (n + (1 + parts_size parts + block_size inner)) more in
@@ -51,7 +57,8 @@ length-block owner n (Branched at e first second more) =
 -- STATEMENTS
 
 -- the last node of the list becomes this one with these behind it, and what is open becomes this
-pub record Leads (es : List Event) (ps : List RawParam) (p : RawParam) (xs : List RawNode) (n : RawNode) (os : List ℕ) (l : ℕ) (n' : RawNode) (ys : List RawNode) (os' : List ℕ) : Type 0 where
+pub record Leads (es : List Event) (ps : List RawParam) (p : RawParam) (xs : List RawNode) (n : RawNode) (os : List ℕ) (l : ℕ) (n' : RawNode)
+    (ys : List RawNode) (os' : List ℕ) : Type 0 where
   pub last : ℕ
   pub is : run (mk ps p (xs ++ n ∷ []) (length xs ∷ os) l) es ≡ mk ps p (xs ++ n' ∷ ys) os' last
 
@@ -79,9 +86,11 @@ closes_one f q a es e is h ps p xs at name owner os l =
 
 closes_two : (f : RawForm) (q : ℕ) (a : Action) (es gs : List Event) (e g : RawExpr) → part_of a ≡ part.Closes f → Reads es e → Reads gs g →
     (ps : List RawParam) (p : RawParam) (xs : List RawNode) (at name : ℕ) (owner : Option ℕ) (os : List ℕ) (l : ℕ) →
-    Leads (es ++ (gs ++ on a q ∷ [])) ps p xs (blank at name owner 0) os l (statement_node f at name owner (expr_size e + (expr_size g + 0)) 0 0) (expr_nodes e ++ (expr_nodes g ++ [])) os
+    Leads (es ++ (gs ++ on a q ∷ [])) ps p xs (blank at name owner 0) os l (statement_node f at name owner (expr_size e + (expr_size g + 0)) 0 0)
+    (expr_nodes e ++ (expr_nodes g ++ [])) os
 closes_two f q a es gs e g is h i ps p xs at name owner os l =
-    let size : length (expr_nodes e ++ expr_nodes g) ≡ expr_size e + (expr_size g + 0) = omega (arith, length-append (expr_nodes e) (expr_nodes g), length-expr e, length-expr g) in
+    let size : length (expr_nodes e ++ expr_nodes g) ≡ expr_size e + (expr_size g + 0) =
+    omega (arith, length-append (expr_nodes e) (expr_nodes g), length-expr e, length-expr g) in
     let sum : expr_size e + (expr_size g + 0) ≡ expr_size e + (expr_size g + 0) + (0 + 0) = omega arith in
     let k = length (xs ++ blank at name owner 0 ∷ expr_nodes e) in
     record {
@@ -90,19 +99,23 @@ closes_two f q a es gs e g is h i ps p xs at name owner os l =
           ∙ ap (λ t. with_part t q (mk ps p (xs ++ (blank at name owner 0 ∷ expr_nodes e ++ expr_nodes g)) (length xs ∷ os) k)) is
           ∙ change_seam (part.Closes f) q ps p xs (blank at name owner 0) (expr_nodes e ++ expr_nodes g) os k
           ∙ ap (λ j. mk ps p (xs ++ (record (blank at name owner 0) { form = f; after = j; heads = j } ∷ (expr_nodes e ++ expr_nodes g))) os k) size
-          ∙ ap (λ j. mk ps p (xs ++ (record (blank at name owner 0) { form = f; after = j; heads = expr_size e + (expr_size g + 0) } ∷ (expr_nodes e ++ expr_nodes g))) os k) sum
-          ∙ ap (λ ys. mk ps p (xs ++ (statement_node f at name owner (expr_size e + (expr_size g + 0)) 0 0 ∷ (expr_nodes e ++ ys))) os k) (sym (append-nil (expr_nodes g)));
+          ∙ ap (λ j. mk ps p (xs ++ (record (blank at name owner 0) { form = f; after = j; heads = expr_size e + (expr_size g + 0) }
+          ∷ (expr_nodes e ++ expr_nodes g))) os k) sum
+          ∙ ap (λ ys. mk ps p (xs ++ (statement_node f at name owner (expr_size e + (expr_size g + 0)) 0 0 ∷ (expr_nodes e ++ ys))) os k)
+          (sym (append-nil (expr_nodes g)));
     }
 
 -- the name comes first
-behind_name : (x : ℕ) (es : List Event) (ps : List RawParam) (p : RawParam) (xs : List RawNode) (at name : ℕ) (owner : Option ℕ) (os : List ℕ) (l : ℕ) (n' : RawNode) (ys : List RawNode) (os' : List ℕ) →
+behind_name : (x : ℕ) (es : List Event) (ps : List RawParam) (p : RawParam) (xs : List RawNode) (at name : ℕ) (owner : Option ℕ) (os : List ℕ) (l : ℕ)
+    (n' : RawNode) (ys : List RawNode) (os' : List ℕ) →
     Leads es ps p xs (blank at x owner 0) os l n' ys os' → Leads (on action.Name x ∷ es) ps p xs (blank at name owner 0) os l n' ys os'
 behind_name x es ps p xs at name owner os l n' ys os' h = record {
   last = h.last;
   is = ap (λ s. run s es) (named_node ps p xs (blank at name owner 0) os l x) ∙ h.is;
 }
 
-leads_along : (es events : List Event) (ps : List RawParam) (p : RawParam) (xs : List RawNode) (n : RawNode) (os : List ℕ) (l : ℕ) (n' : RawNode) (ys : List RawNode) (os' : List ℕ) →
+leads_along : (es events : List Event) (ps : List RawParam) (p : RawParam) (xs : List RawNode) (n : RawNode) (os : List ℕ) (l : ℕ) (n' : RawNode)
+    (ys : List RawNode) (os' : List ℕ) →
     events ≡ es → Leads es ps p xs n os l n' ys os' → Leads events ps p xs n os l n' ys os'
 leads_along es events ps p xs n os l n' ys os' is h = record { last = h.last; is = ap (run (mk ps p (xs ++ n ∷ []) (length xs ∷ os) l)) is ∙ h.is }
 
@@ -110,11 +123,14 @@ simple_leads : {es : List Event} {f : RawForm} {name : ℕ} {parts : List RawExp
     (ps : List RawParam) (p : RawParam) (xs : List RawNode) (at : ℕ) (owner : Option ℕ) (os : List ℕ) (l : ℕ) →
     Leads es ps p xs (blank at at owner 0) os l (statement_node f at name owner (parts_size parts) 0 0) (parts_nodes parts) os
 simple_leads (raw.var {x = x} q es {e = e} d is) = λ ps p xs at owner os l.
-    leads_along _ _ _ _ _ _ _ _ _ _ _ is (behind_name x _ _ _ _ _ _ _ _ _ _ _ _ (closes_one form.Var q action.VarStatement es e refl (reads d) ps p xs at x owner os l))
+    leads_along _ _ _ _ _ _ _ _ _ _ _ is (behind_name x _ _ _ _ _ _ _ _ _ _ _ _
+    (closes_one form.Var q action.VarStatement es e refl (reads d) ps p xs at x owner os l))
 simple_leads (raw.set_name {x = x} q es {e = e} d is) = λ ps p xs at owner os l.
-    leads_along _ _ _ _ _ _ _ _ _ _ _ is (behind_name x _ _ _ _ _ _ _ _ _ _ _ _ (closes_one form.SetName q action.SetName es e refl (reads d) ps p xs at x owner os l))
+    leads_along _ _ _ _ _ _ _ _ _ _ _ is (behind_name x _ _ _ _ _ _ _ _ _ _ _ _
+    (closes_one form.SetName q action.SetName es e refl (reads d) ps p xs at x owner os l))
 simple_leads (raw.set_place {x = x} q es gs {e = e} {g = g} d c is) = λ ps p xs at owner os l.
-    leads_along _ _ _ _ _ _ _ _ _ _ _ is (behind_name x _ _ _ _ _ _ _ _ _ _ _ _ (closes_two form.SetPlace q action.SetPlace es gs e g refl (reads d) (reads c) ps p xs at x owner os l))
+    leads_along _ _ _ _ _ _ _ _ _ _ _ is (behind_name x _ _ _ _ _ _ _ _ _ _ _ _
+    (closes_two form.SetPlace q action.SetPlace es gs e g refl (reads d) (reads c) ps p xs at x owner os l))
 simple_leads (raw.set_try_add {x = x} y q es gs {e = e} {g = g} d c is) = λ ps p xs at owner os l.
     leads_along _ _ _ _ _ _ _ _ _ _ _ is (behind_name y _ _ _ _ _ _ _ _ _ _ _ _ (behind_name x _ _ _ _ _ _ _ _ _ _ _ _
     (closes_two form.SetTryAdd q action.SetTryAdd es gs e g refl (reads d) (reads c) ps p xs at x owner os l)))
@@ -122,15 +138,20 @@ simple_leads (raw.set_remove {x = x} y q es {e = e} d is) = λ ps p xs at owner 
     leads_along _ _ _ _ _ _ _ _ _ _ _ is (behind_name y _ _ _ _ _ _ _ _ _ _ _ _ (behind_name x _ _ _ _ _ _ _ _ _ _ _ _
     (closes_one form.SetRemove q action.SetRemove es e refl (reads d) ps p xs at x owner os l)))
 simple_leads (raw.add_item {x = x} q es {e = e} d is) = λ ps p xs at owner os l.
-    leads_along _ _ _ _ _ _ _ _ _ _ _ is (behind_name x _ _ _ _ _ _ _ _ _ _ _ _ (closes_one form.AddItem q action.AddItem es e refl (reads d) ps p xs at x owner os l))
+    leads_along _ _ _ _ _ _ _ _ _ _ _ is (behind_name x _ _ _ _ _ _ _ _ _ _ _ _
+    (closes_one form.AddItem q action.AddItem es e refl (reads d) ps p xs at x owner os l))
 simple_leads (raw.add_pair {x = x} q es gs {e = e} {g = g} d c is) = λ ps p xs at owner os l.
-    leads_along _ _ _ _ _ _ _ _ _ _ _ is (behind_name x _ _ _ _ _ _ _ _ _ _ _ _ (closes_two form.AddPair q action.AddPair es gs e g refl (reads d) (reads c) ps p xs at x owner os l))
+    leads_along _ _ _ _ _ _ _ _ _ _ _ is (behind_name x _ _ _ _ _ _ _ _ _ _ _ _
+    (closes_two form.AddPair q action.AddPair es gs e g refl (reads d) (reads c) ps p xs at x owner os l))
 simple_leads (raw.remove {x = x} q es {e = e} d is) = λ ps p xs at owner os l.
-    leads_along _ _ _ _ _ _ _ _ _ _ _ is (behind_name x _ _ _ _ _ _ _ _ _ _ _ _ (closes_one form.Remove q action.RemoveStatement es e refl (reads d) ps p xs at x owner os l))
+    leads_along _ _ _ _ _ _ _ _ _ _ _ is (behind_name x _ _ _ _ _ _ _ _ _ _ _ _
+    (closes_one form.Remove q action.RemoveStatement es e refl (reads d) ps p xs at x owner os l))
 simple_leads (raw.clear {x = x} q is) = λ ps p xs at owner os l.
-    leads_along _ _ _ _ _ _ _ _ _ _ _ is (behind_name x _ _ _ _ _ _ _ _ _ _ _ _ (record { last = l; is = change_seam (part.Closes form.Clear) q ps p xs (blank at x owner 0) [] os l }))
+    leads_along _ _ _ _ _ _ _ _ _ _ _ is (behind_name x _ _ _ _ _ _ _ _ _ _ _ _
+    (record { last = l; is = change_seam (part.Closes form.Clear) q ps p xs (blank at x owner 0) [] os l }))
 simple_leads (raw.write {x = x} q es {e = e} d is) = λ ps p xs at owner os l.
-    leads_along _ _ _ _ _ _ _ _ _ _ _ is (behind_name x _ _ _ _ _ _ _ _ _ _ _ _ (closes_one form.Write q action.WriteStatement es e refl (reads d) ps p xs at x owner os l))
+    leads_along _ _ _ _ _ _ _ _ _ _ _ is (behind_name x _ _ _ _ _ _ _ _ _ _ _ _
+    (closes_one form.Write q action.WriteStatement es e refl (reads d) ps p xs at x owner os l))
 
 -- HEADS
 
@@ -151,9 +172,11 @@ heads_one q a es e is h ps p xs at name owner os l =
 
 heads_two : (q : ℕ) (a : Action) (es gs : List Event) (e g : RawExpr) → part_of a ≡ part.Heads → Reads es e → Reads gs g →
     (ps : List RawParam) (p : RawParam) (xs : List RawNode) (at name : ℕ) (owner : Option ℕ) (os : List ℕ) (l : ℕ) →
-    Leads (es ++ (gs ++ on a q ∷ [])) ps p xs (blank at name owner 0) os l (headed at name owner (expr_size e + (expr_size g + 0))) (expr_nodes e ++ (expr_nodes g ++ [])) (length xs ∷ os)
+    Leads (es ++ (gs ++ on a q ∷ [])) ps p xs (blank at name owner 0) os l (headed at name owner (expr_size e + (expr_size g + 0)))
+    (expr_nodes e ++ (expr_nodes g ++ [])) (length xs ∷ os)
 heads_two q a es gs e g is h i ps p xs at name owner os l =
-    let size : length (expr_nodes e ++ expr_nodes g) ≡ expr_size e + (expr_size g + 0) = omega (arith, length-append (expr_nodes e) (expr_nodes g), length-expr e, length-expr g) in
+    let size : length (expr_nodes e ++ expr_nodes g) ≡ expr_size e + (expr_size g + 0) =
+    omega (arith, length-append (expr_nodes e) (expr_nodes g), length-expr e, length-expr g) in
     let k = length (xs ++ blank at name owner 0 ∷ expr_nodes e) in
     record {
       last = k;
@@ -161,7 +184,8 @@ heads_two q a es gs e g is h i ps p xs at name owner os l =
           ∙ ap (λ t. with_part t q (mk ps p (xs ++ (blank at name owner 0 ∷ expr_nodes e ++ expr_nodes g)) (length xs ∷ os) k)) is
           ∙ change_seam part.Heads q ps p xs (blank at name owner 0) (expr_nodes e ++ expr_nodes g) os k
           ∙ ap (λ j. mk ps p (xs ++ (headed at name owner j ∷ (expr_nodes e ++ expr_nodes g))) (length xs ∷ os) k) size
-          ∙ ap (λ ys. mk ps p (xs ++ (headed at name owner (expr_size e + (expr_size g + 0)) ∷ (expr_nodes e ++ ys))) (length xs ∷ os) k) (sym (append-nil (expr_nodes g)));
+          ∙ ap (λ ys. mk ps p (xs ++ (headed at name owner (expr_size e + (expr_size g + 0)) ∷ (expr_nodes e ++ ys))) (length xs ∷ os) k)
+          (sym (append-nil (expr_nodes g)));
     }
 
 -- what ends a statement of this head is its form
@@ -179,7 +203,8 @@ head_leads (raw.begun {at = at} {x = x} q es {e = e} d is) = λ ps p xs owner os
 head_leads (raw.tested {at = at} q es {e = e} d is) = λ ps p xs owner os l.
     leads_along _ _ _ _ _ _ _ _ _ _ _ is (heads_one q action.IfHead es e refl (reads d) ps p xs at at owner os l)
 head_leads (raw.counted {at = at} {x = x} q es gs {e = e} {g = g} d c is) = λ ps p xs owner os l.
-    leads_along _ _ _ _ _ _ _ _ _ _ _ is (behind_name x _ _ _ _ _ _ _ _ _ _ _ _ (heads_two q action.ForHead es gs e g refl (reads d) (reads c) ps p xs at x owner os l))
+    leads_along _ _ _ _ _ _ _ _ _ _ _ is (behind_name x _ _ _ _ _ _ _ _ _ _ _ _
+    (heads_two q action.ForHead es gs e g refl (reads d) (reads c) ps p xs at x owner os l))
 head_leads (raw.looped {at = at} q es {e = e} d is) = λ ps p xs owner os l.
     leads_along _ _ _ _ _ _ _ _ _ _ _ is (heads_one q action.WhileHead es e refl (reads d) ps p xs at at owner os l)
 
@@ -197,7 +222,8 @@ ReadsBlock es b = (ps : List RawParam) (p : RawParam) (xs : List RawNode) (os : 
 abbrev inner_nodes : List RawNode → List RawNode → RawBlock → List RawNode
 inner_nodes xs ys b = block_nodes (Some (length xs)) (length xs + (1 + length ys)) b
 
-inner_block : (o : ℕ) (bs : List Event) (b : RawBlock) → ReadsBlock bs b → (ps : List RawParam) (p : RawParam) (xs : List RawNode) (n : RawNode) (ys : List RawNode) (os : List ℕ) (l : ℕ) →
+inner_block : (o : ℕ) (bs : List Event) (b : RawBlock) → ReadsBlock bs b → (ps : List RawParam) (p : RawParam) (xs : List RawNode) (n : RawNode)
+    (ys : List RawNode) (os : List ℕ) (l : ℕ) →
     (k : ℕ) × (run (mk ps p (xs ++ n ∷ ys) (length xs ∷ os) l) (on action.OpenBlock o ∷ bs)
     ≡ mk ps p (xs ++ (record n { inside = length ys - n.heads } ∷ (ys ++ inner_nodes xs ys b))) (length xs ∷ os) k)
 inner_block o bs b h ps p xs n ys os l =
@@ -219,7 +245,8 @@ node_is f at name owner a a' h h' i i' e g j zs =
     ∙ ap (λ (k : ℕ). record { form = f; at = at; name = name; owner = owner; before = 0; after = a'; heads = h'; inside = k } ∷ zs) j
 
 -- the statements behind a statement
-goes_on : (rest : List Event) (more : RawBlock) → ReadsBlock rest more → (ps : List RawParam) (p : RawParam) (xs : List RawNode) (n : RawNode) (ys : List RawNode) (k : ℕ) (os : List ℕ) (l : ℕ) → length ys ≡ k →
+goes_on : (rest : List Event) (more : RawBlock) → ReadsBlock rest more → (ps : List RawParam) (p : RawParam) (xs : List RawNode) (n : RawNode)
+    (ys : List RawNode) (k : ℕ) (os : List ℕ) (l : ℕ) → length ys ≡ k →
     (j : ℕ) × (run (mk ps p (xs ++ n ∷ ys) os l) rest ≡ mk ps p (xs ++ (n ∷ (ys ++ block_nodes (top os) (length xs + (1 + k)) more))) os j)
 goes_on rest more h ps p xs n ys k os l size =
     let r = h ps p (xs ++ n ∷ ys) os l in (
@@ -230,11 +257,13 @@ goes_on rest more h ps p xs n ys k os l size =
           ∙ ap (λ zs. mk ps p zs os r.last) (append_assoc xs (n ∷ ys) (block_nodes (top os) (length xs + (1 + k)) more)),
     )
 
-simple_block : (at name : ℕ) (f : RawForm) (parts : List RawExpr) (es rest : List Event) (more : RawBlock) → SpellsSimple es f name parts → ReadsBlock rest more →
+simple_block : (at name : ℕ) (f : RawForm) (parts : List RawExpr) (es rest : List Event) (more : RawBlock) → SpellsSimple es f name parts
+    → ReadsBlock rest more →
     ReadsBlock (on action.StartStatement at ∷ es ++ rest) (Simple f at name parts more)
 simple_block at name f parts es rest more d h ps p xs os l =
     let a = simple_leads d ps p xs at (top os) os l in
-    let g = goes_on rest more h ps p xs (statement_node f at name (top os) (parts_size parts) 0 0) (parts_nodes parts) (parts_size parts) os a.last (length-parts parts) in
+    let g = goes_on rest more h ps p xs (statement_node f at name (top os) (parts_size parts) 0 0) (parts_nodes parts) (parts_size parts) os a.last
+    (length-parts parts) in
     record {
       last = g.0;
       is = run-append (mk ps p (xs ++ blank at at (top os) 0 ∷ []) (length xs ∷ os) l) es rest
@@ -242,7 +271,8 @@ simple_block at name f parts es rest more d h ps p xs os l =
           ∙ g.1;
     }
 
-nested_block : (at name o c q : ℕ) (f : RawForm) (end : Action) (parts : List RawExpr) (hs bs rest : List Event) (inner more : RawBlock) → SpellsHead hs end f at name parts → ReadsBlock bs inner → ReadsBlock rest more →
+nested_block : (at name o c q : ℕ) (f : RawForm) (end : Action) (parts : List RawExpr) (hs bs rest : List Event) (inner more : RawBlock)
+    → SpellsHead hs end f at name parts → ReadsBlock bs inner → ReadsBlock rest more →
     ReadsBlock (on action.StartStatement at ∷ hs ++ on action.OpenBlock o ∷ bs ++ on action.CloseBlock c ∷ on end q ∷ rest) (Nested f at name parts inner more)
 nested_block at name o c q f end parts hs bs rest inner more d h i ps p xs os l =
     let s = mk ps p (xs ++ blank at at (top os) 0 ∷ []) (length xs ∷ os) l in
@@ -280,8 +310,10 @@ nested_block at name o c q f end parts hs bs rest inner more d h i ps p xs os l 
           ∙ ap (λ zs. mk ps p (xs ++ (node ∷ zs)) os g.0) (append_assoc P I B);
     }
 
-branched_block : (at h o c o' c' q : ℕ) (e : RawExpr) (es bs bs' rest : List Event) (first second more : RawBlock) → Reads es e → ReadsBlock bs first → ReadsBlock bs' second → ReadsBlock rest more →
-    ReadsBlock (on action.StartStatement at ∷ es ++ on action.IfHead h ∷ on action.OpenBlock o ∷ bs ++ on action.CloseBlock c ∷ on action.OpenBlock o' ∷ bs' ++ on action.CloseBlock c' ∷ on action.IfElseStatement q ∷ rest)
+branched_block : (at h o c o' c' q : ℕ) (e : RawExpr) (es bs bs' rest : List Event) (first second more : RawBlock) → Reads es e → ReadsBlock bs first
+    → ReadsBlock bs' second → ReadsBlock rest more →
+    ReadsBlock (on action.StartStatement at ∷ es ++ on action.IfHead h ∷ on action.OpenBlock o ∷ bs ++ on action.CloseBlock c ∷ on action.OpenBlock o' ∷ bs'
+    ++ on action.CloseBlock c' ∷ on action.IfElseStatement q ∷ rest)
     (Branched at e first second more)
 branched_block at h o c o' c' q e es bs bs' rest first second more d i j r ps p xs os l =
     let s = mk ps p (xs ++ blank at at (top os) 0 ∷ []) (length xs ∷ os) l in
@@ -302,11 +334,13 @@ branched_block at h o c o' c' q e es bs bs' rest first second more d i j r ps p 
     let placeS : length xs + (1 + length (E ++ F)) ≡ length xs + (1 + expr_size e + block_size first) = omega (arith, length-append E F, sizeE, sizeF) in
     let sameS : S' ≡ S = ap (λ k. block_nodes (Some (length xs)) k second) placeS in
     let sizeS : length S ≡ block_size second = length-block (Some (length xs)) (length xs + (1 + expr_size e + block_size first)) second in
-    let after : length ((E ++ F) ++ S) ≡ expr_size e + (block_size first + block_size second) = omega (arith, length-append (E ++ F) S, length-append E F, sizeE, sizeF, sizeS) in
+    let after : length ((E ++ F) ++ S) ≡ expr_size e + (block_size first + block_size second) =
+    omega (arith, length-append (E ++ F) S, length-append E F, sizeE, sizeF, sizeS) in
     let inside : length (E ++ F) - length E ≡ block_size first = omega (arith, length-append E F, sizeE, sizeF) in
     let node = statement_node form.IfElse at at (top os) (expr_size e) (block_size first) (block_size second) in
     let g = goes_on rest more r ps p xs node ((E ++ F) ++ S) (expr_size e + (block_size first + block_size second)) os b.0 after in
-    let one : length xs + (1 + (expr_size e + (block_size first + block_size second))) ≡ length xs + (1 + expr_size e + block_size first + block_size second) = omega arith in
+    let one : length xs + (1 + (expr_size e + (block_size first + block_size second))) ≡ length xs + (1 + expr_size e + block_size first + block_size second) =
+    omega arith in
     let B = block_nodes (top os) (length xs + (1 + expr_size e + block_size first + block_size second)) more in
     let to_first = on action.IfHead h ∷ on action.OpenBlock o ∷ bs in
     let to_second = on action.CloseBlock c ∷ on action.OpenBlock o' ∷ bs' in
@@ -344,4 +378,5 @@ reads_block (raw.simple {at = at} {name = name} {f = f} {parts = parts} es rest 
 reads_block (raw.nested {at = at} {name = name} o c q {f = f} {end = end} {parts = parts} hs bs rest {inner = inner} {more = more} d b r is) =
     block_along _ _ (Nested f at name parts inner more) is (nested_block at name o c q f end parts hs bs rest inner more d (reads_block b) (reads_block r))
 reads_block (raw.branched {at = at} h o c o' c' q {e = e} es bs bs' rest {first = first} {second = second} {more = more} d b b' r is) =
-    block_along _ _ (Branched at e first second more) is (branched_block at h o c o' c' q e es bs bs' rest first second more (reads d) (reads_block b) (reads_block b') (reads_block r))
+    block_along _ _ (Branched at e first second more) is (branched_block at h o c o' c' q e es bs bs' rest first second more (reads d) (reads_block b)
+    (reads_block b') (reads_block r))

@@ -15,7 +15,8 @@ pub record IsPartly (raw : RawKernel) (owner : Option ℕ) (from at end : ℕ) (
   pub ends : end ≡ at + block_size rest
   pub before : (others : List Stmt) → BlockOf raw at rest others → BlockOf raw from b (ss ++ others)
 
-pub partly_start : (raw : RawKernel) (owner : Option ℕ) (from end : ℕ) (b : RawBlock) (ss : List Stmt) → ss ≡ [] → IsBlockHere raw owner from b → end ≡ from + block_size b →
+pub partly_start : (raw : RawKernel) (owner : Option ℕ) (from end : ℕ) (b : RawBlock) (ss : List Stmt) → ss ≡ [] → IsBlockHere raw owner from b
+    → end ≡ from + block_size b →
     IsPartly raw owner from from end b ss
 partly_start raw owner from end b ss none here e = record {
   rest = b;
@@ -31,7 +32,8 @@ nothing-left raw at (Simple f a n parts more) h = absurd (omega arith)
 nothing-left raw at (Nested f a n parts inner more) h = absurd (omega arith)
 nothing-left raw at (Branched a e first second more) h = absurd (omega arith)
 
-pub partly_end : (raw : RawKernel) (owner : Option ℕ) (from at end : ℕ) (b : RawBlock) (ss : List Stmt) → end ≤ at → IsPartly raw owner from at end b ss → BlockOf raw from b ss
+pub partly_end : (raw : RawKernel) (owner : Option ℕ) (from at end : ℕ) (b : RawBlock) (ss : List Stmt) → end ≤ at → IsPartly raw owner from at end b ss
+    → BlockOf raw from b ss
 partly_end raw owner from at end b ss h p =
     let e = p.ends in
     subst (λ xs. BlockOf raw from b xs) (append-nil ss) (p.before [] (nothing-left raw at p.rest (omega arith)))
@@ -43,7 +45,8 @@ size-split (Nested f a n parts inner more) = omega arith
 size-split (Branched a e first second more) = omega arith
 
 -- the first node of a block tells how many nodes its first statement has
-pub first-after : (raw : RawKernel) (owner : Option ℕ) (at : ℕ) (node : RawNode) (b : RawBlock) → IsTrue (has_first b) → slice_get raw.nodes.items at ≡ Some node → StandsBlock raw.nodes.items owner at b →
+pub first-after : (raw : RawKernel) (owner : Option ℕ) (at : ℕ) (node : RawNode) (b : RawBlock) → IsTrue (has_first b)
+    → slice_get raw.nodes.items at ≡ Some node → StandsBlock raw.nodes.items owner at b →
     1 + node.after ≡ first_size b
 first-after raw owner at node Nothing h s st = cc
 first-after raw owner at node (Simple f a n parts more) h s st =
@@ -63,7 +66,8 @@ no-at : (raw : RawKernel) (i j : ℕ) → i ≡ j → NoOperator raw.nodes.items
 no-at raw i j e h = subst (λ n. NoOperator raw.nodes.items n) e h
 
 -- the rest of a block stands behind its first statement
-pub rest-here : (raw : RawKernel) (owner : Option ℕ) (at j : ℕ) (b : RawBlock) → at + first_size b ≡ j → IsBlockHere raw owner at b → IsBlockHere raw owner j (rest_of b)
+pub rest-here : (raw : RawKernel) (owner : Option ℕ) (at j : ℕ) (b : RawBlock) → at + first_size b ≡ j → IsBlockHere raw owner at b
+    → IsBlockHere raw owner j (rest_of b)
 rest-here raw owner at j Nothing e here = record { formed = tt; stands = tt; after = no-at raw _ _ (omega arith) here.after }
 rest-here raw owner at j (Simple f a n parts more) e here =
     record { formed = here.formed.1; stands = block-at raw owner _ _ more e here.stands.2; after = no-at raw _ _ (omega arith) here.after }
@@ -100,7 +104,8 @@ partly_next raw owner from at end b ss ss' node s lt there pushed first p =
 inside-slice : (nodes : List RawNode) (i : ℕ) → slice_get nodes i ≡ None → (node : RawNode) → slice_get nodes i ≡ Some node → ⊥
 inside-slice nodes i none node some = cc
 
-pub first-exists : (raw : RawKernel) (owner : Option ℕ) (at : ℕ) (b : RawBlock) → IsTrue (has_first b) → StandsBlock raw.nodes.items owner at b → slice_get raw.nodes.items at ≡ None → ⊥
+pub first-exists : (raw : RawKernel) (owner : Option ℕ) (at : ℕ) (b : RawBlock) → IsTrue (has_first b) → StandsBlock raw.nodes.items owner at b
+    → slice_get raw.nodes.items at ≡ None → ⊥
 first-exists raw owner at Nothing h st none = cc
 first-exists raw owner at (Simple f a n parts more) h st none = let q = st.0 in cc
 first-exists raw owner at (Nested f a n parts inner more) h st none = let q = st.0 in cc

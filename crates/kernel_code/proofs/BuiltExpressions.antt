@@ -21,7 +21,8 @@ use Rattle.kernel_code.proofs.Leaves.{leaf_is, one_is, joint_is, is_parameter}
 shift : (raw : RawKernel) (d k : ℕ) (node : RawNode) → node_fault raw (d + 1 + k) node ≡ None → node_fault raw (d + suc k) node ≡ None
 shift raw d k node h = let e : d + 1 + k ≡ d + suc k = omega arith in subst (λ n. node_fault raw n node ≡ None) e h
 
-pub none_at : (raw : RawKernel) (d k : ℕ) (nodes : List RawNode) (node : RawNode) → nodes_fault raw d nodes ≡ None → slice_get nodes k ≡ Some node → node_fault raw (d + k) node ≡ None
+pub none_at : (raw : RawKernel) (d k : ℕ) (nodes : List RawNode) (node : RawNode) → nodes_fault raw d nodes ≡ None → slice_get nodes k ≡ Some node
+    → node_fault raw (d + k) node ≡ None
 none_at raw d k [] node h s = cc
 none_at raw d zero (n ∷ more) node h s =
     let e : n ≡ node = cc in
@@ -29,10 +30,12 @@ none_at raw d zero (n ∷ more) node h s =
     subst (λ i. node_fault raw i node ≡ None) z (subst (λ m. node_fault raw d m ≡ None) e (option_or-none _ _ h).0)
 none_at raw d (suc k) (n ∷ more) node h s = shift raw d k node (none_at raw (d + 1) k more node (option_or-none _ _ h).1 s)
 
-shift_meaning : (raw : RawKernel) (d k : ℕ) (node : RawNode) (ms : List Meaning) → slice_get ms k ≡ Some (meaning_at raw (d + 1 + k) node) → slice_get ms k ≡ Some (meaning_at raw (d + suc k) node)
+shift_meaning : (raw : RawKernel) (d k : ℕ) (node : RawNode) (ms : List Meaning) → slice_get ms k ≡ Some (meaning_at raw (d + 1 + k) node)
+    → slice_get ms k ≡ Some (meaning_at raw (d + suc k) node)
 shift_meaning raw d k node ms h = let e : d + 1 + k ≡ d + suc k = omega arith in subst (λ n. slice_get ms k ≡ Some (meaning_at raw n node)) e h
 
-meaning_there : (raw : RawKernel) (d k : ℕ) (nodes : List RawNode) (node : RawNode) → slice_get nodes k ≡ Some node → slice_get (meanings_from raw d nodes) k ≡ Some (meaning_at raw (d + k) node)
+meaning_there : (raw : RawKernel) (d k : ℕ) (nodes : List RawNode) (node : RawNode) → slice_get nodes k ≡ Some node
+    → slice_get (meanings_from raw d nodes) k ≡ Some (meaning_at raw (d + k) node)
 meaning_there raw d k [] node s = cc
 meaning_there raw d zero (n ∷ more) node s =
     let e : n ≡ node = cc in
@@ -43,10 +46,13 @@ meaning_there raw d (suc k) (n ∷ more) node s = shift_meaning raw d k node _ (
 zero_plus : (i : ℕ) → 0 + i ≡ i
 zero_plus i = omega arith
 
-pub faultless_at : (raw : RawKernel) (ms : List Meaning) (i : ℕ) (node : RawNode) → IsResolved raw ms → slice_get raw.nodes.items i ≡ Some node → IsFaultless raw i node
-faultless_at raw ms i node r s = node_fault-none raw i node (subst (λ n. node_fault raw n node ≡ None) (zero_plus i) (none_at raw 0 i raw.nodes.items node r.faultless s))
+pub faultless_at : (raw : RawKernel) (ms : List Meaning) (i : ℕ) (node : RawNode) → IsResolved raw ms → slice_get raw.nodes.items i ≡ Some node
+    → IsFaultless raw i node
+faultless_at raw ms i node r s = node_fault-none raw i node (subst (λ n. node_fault raw n node ≡ None) (zero_plus i)
+    (none_at raw 0 i raw.nodes.items node r.faultless s))
 
-pub meaning_is : (raw : RawKernel) (ms : List Meaning) (i : ℕ) (node : RawNode) → IsResolved raw ms → slice_get raw.nodes.items i ≡ Some node → slice_get ms i ≡ Some (meaning_at raw i node)
+pub meaning_is : (raw : RawKernel) (ms : List Meaning) (i : ℕ) (node : RawNode) → IsResolved raw ms → slice_get raw.nodes.items i ≡ Some node
+    → slice_get ms i ≡ Some (meaning_at raw i node)
 meaning_is raw ms i node r s =
     ap (λ xs. slice_get xs i) r.meanings ∙ meaning_there raw 0 i raw.nodes.items node s ∙ ap (λ n. Some (meaning_at raw n node)) (zero_plus i)
 
@@ -65,7 +71,8 @@ Ends-at nodes j j' k k' e le h node s b =
     omega arith
 
 -- the first node of an expression is no operator between two sides
-pub first-other : (nodes : List RawNode) (i : ℕ) (e : RawExpr) → IsFormed e → StandsExpr nodes i e → (node : RawNode) → slice_get nodes i ≡ Some node → node.form ≡ form.Binary → ⊥
+pub first-other : (nodes : List RawNode) (i : ℕ) (e : RawExpr) → IsFormed e → StandsExpr nodes i e → (node : RawNode) → slice_get nodes i ≡ Some node
+    → node.form ≡ form.Binary → ⊥
 first-other nodes i (Leaf form.Binary at name) f st node s b = cc
 first-other nodes i (Leaf f' at name) f st node s b = let e : node ≡ expr_node f' at name 0 0 = cc in cc
 first-other nodes i (One form.Binary at name e) f st node s b = let h = f.0 in cc
@@ -116,8 +123,10 @@ one-declares form.Var t = cc
 one-declares form.For t = cc
 one-declares f t = refl
 
-pub atom_leaf : (raw : RawKernel) (i : ℕ) (node : RawNode) (named : Option Named) (x : Expr) → slice_get raw.nodes.items i ≡ Some node → IsFaultless raw i node →
-    named ≡ name_stored raw i node → (node.form ≡ form.Element → ⊥) → (node.form ≡ form.Has → ⊥) → (node.form ≡ form.Count → ⊥) → (node.form ≡ form.Unary → ⊥) → (node.form ≡ form.Item → ⊥) →
+pub atom_leaf : (raw : RawKernel) (i : ℕ) (node : RawNode) (named : Option Named) (x : Expr) → slice_get raw.nodes.items i ≡ Some node
+    → IsFaultless raw i node →
+    named ≡ name_stored raw i node → (node.form ≡ form.Element → ⊥) → (node.form ≡ form.Has → ⊥) → (node.form ≡ form.Count → ⊥) → (node.form ≡ form.Unary → ⊥)
+    → (node.form ≡ form.Item → ⊥) →
     x ≡ leaf_of raw node.form node.at named → (e : RawExpr) → IsAtomHere raw i e → IsBuilt raw i e x (i + 1)
 atom_leaf raw i node named x s ok n a b c d two is (Leaf f at name) here =
     let same : node ≡ expr_node f at name 0 0 = let q = here.stands in cc in
@@ -139,7 +148,8 @@ atom_leaf raw i node named x s ok n a b c d two is (Two f at name e g) here =
     absurd (two (ap (λ m. m.form) same ∙ two-is f here.formed.0))
 atom_leaf raw i node named x s ok n a b c d two is (Infix at e g) here = absurd (let q = here.atom in cc)
 
-pub atom_one : (raw : RawKernel) (i : ℕ) (node : RawNode) (named : Option Named) (y x : Expr) (next : ℕ) → slice_get raw.nodes.items i ≡ Some node → IsFaultless raw i node →
+pub atom_one : (raw : RawKernel) (i : ℕ) (node : RawNode) (named : Option Named) (y x : Expr) (next : ℕ) → slice_get raw.nodes.items i ≡ Some node
+    → IsFaultless raw i node →
     named ≡ name_stored raw i node → IsTrue (is_one node.form) → ((e : RawExpr) → IsHere raw (i + 1) e → IsBuilt raw (i + 1) e y next) →
     IsOneOf raw node.form node.at named y x → (e : RawExpr) → IsAtomHere raw i e → IsBuilt raw i e x next
 atom_one raw i node named y x next s ok n o inner is (Leaf f at name) here =
@@ -147,7 +157,11 @@ atom_one raw i node named y x next s ok n o inner is (Leaf f at name) here =
     absurd (one-leaf f (subst (λ m. IsTrue (is_one m.form)) same o) here.formed)
 atom_one raw i node named y x next s ok n o inner is (One f at name e) here =
     let same : node ≡ expr_node f at name 0 (expr_size e) = let q = here.stands.0 in cc in
-    let built = inner e (record { formed = here.formed.1; stands = here.stands.1; ends = Ends-at raw.nodes.items _ _ _ _ (omega arith) (omega arith) here.ends }) in
+    let built = inner e (record {
+      formed = here.formed.1;
+      stands = here.stands.1;
+      ends = Ends-at raw.nodes.items _ _ _ _ (omega arith) (omega arith) here.ends;
+    }) in
     record {
       next = let h = built.next in omega arith;
       is =
@@ -165,8 +179,10 @@ atom_one raw i node named y x next s ok n o inner is (Infix at e g) here = absur
 IsHere-at : (raw : RawKernel) (i j : ℕ) (e : RawExpr) → i ≡ j → IsHere raw i e → IsHere raw j e
 IsHere-at raw i j e same h = subst (λ n. IsHere raw n e) same h
 
-pub atom_two : (raw : RawKernel) (i : ℕ) (node : RawNode) (named : Option Named) (y z x : Expr) {p : _} (middle next : ℕ) → slice_get raw.nodes.items i ≡ Some node → IsFaultless raw i node →
-    named ≡ name_stored raw i node → node.form ≡ form.Item → ((e : RawExpr) → IsHere raw (i + 1) e → IsBuilt raw (i + 1) e y middle) → ((e : RawExpr) → IsHere raw middle e → IsBuilt raw middle e z next) →
+pub atom_two : (raw : RawKernel) (i : ℕ) (node : RawNode) (named : Option Named) (y z x : Expr) {p : _} (middle next : ℕ)
+    → slice_get raw.nodes.items i ≡ Some node → IsFaultless raw i node →
+    named ≡ name_stored raw i node → node.form ≡ form.Item → ((e : RawExpr) → IsHere raw (i + 1) e → IsBuilt raw (i + 1) e y middle)
+    → ((e : RawExpr) → IsHere raw middle e → IsBuilt raw middle e z next) →
     x ≡ Item' (number_named named) p y z → (e : RawExpr) → IsAtomHere raw i e → IsBuilt raw i e x next
 atom_two raw i node named y z x middle next s ok n o first second is (Leaf f at name) here =
     let same : node ≡ expr_node f at name 0 0 = let q = here.stands in cc in
@@ -178,9 +194,17 @@ atom_two raw i node named y z x {p} middle next s ok n o first second is (Two f 
     let same : node ≡ expr_node f at name 0 (expr_size e + expr_size g) = let q = here.stands.0 in cc in
     let is_item : f ≡ form.Item = two-is f here.formed.0 in
     let at_g : i + (1 + expr_size e) ≡ i + 1 + expr_size e = omega arith in
-    let one = first e (record { formed = here.formed.1; stands = here.stands.1; ends = λ m t b. absurd (first-other raw.nodes.items (i + (1 + expr_size e)) g here.formed.2 here.stands.2 m (ap (slice_get raw.nodes.items) at_g ∙ t) b) }) in
+    let one = first e (record {
+      formed = here.formed.1;
+      stands = here.stands.1;
+      ends = λ m t b. absurd (first-other raw.nodes.items (i + (1 + expr_size e)) g here.formed.2 here.stands.2 m (ap (slice_get raw.nodes.items) at_g ∙ t) b);
+    }) in
     let there : i + (1 + expr_size e) ≡ middle = let h = one.next in omega arith in
-    let g_here : IsHere raw (i + (1 + expr_size e)) g = record { formed = here.formed.2; stands = here.stands.2; ends = Ends-at raw.nodes.items _ _ _ _ (omega arith) (omega arith) here.ends } in
+    let g_here : IsHere raw (i + (1 + expr_size e)) g = record {
+      formed = here.formed.2;
+      stands = here.stands.2;
+      ends = Ends-at raw.nodes.items _ _ _ _ (omega arith) (omega arith) here.ends;
+    } in
     let other = second g (IsHere-at raw _ _ g there g_here) in
     record {
       next = let h = other.next in omega arith;
@@ -189,13 +213,16 @@ atom_two raw i node named y z x {p} middle next s ok n o first second is (Two f 
           (item (number_named named)
           (is_parameter raw i name form.Item named refl
           (subst (λ k. name_fault raw i name k ≡ None) is_item (subst (λ m. name_fault raw i m.name m.form ≡ None) same ok.name))
-          (subst (λ k. named ≡ meaning_if (has_name k) raw i name) is_item (subst (λ m. named ≡ name_stored raw i m) same n ∙ stored raw i (expr_node f at name 0 (expr_size e + expr_size g)) (ap declares is_item))))
+          (subst (λ k. named ≡ meaning_if (has_name k) raw i name) is_item
+          (subst (λ m. named ≡ name_stored raw i m) same n ∙ stored raw i (expr_node f at name 0 (expr_size e + expr_size g)) (ap declares is_item))))
           one.is (subst (λ k. ExprOf raw k g z) (sym there) other.is) is);
     }
 atom_two raw i node named y z x middle next s ok n o first second is (Infix at e g) here = absurd (let q = here.atom in cc)
 
-pub atom_item : (raw : RawKernel) (i : ℕ) (node : RawNode) (named : Option Named) (y z : Expr) {p : _} (m : ℕ) (sides : Expr × Expr) (middle next : ℕ) → slice_get raw.nodes.items i ≡ Some node → IsFaultless raw i node →
-    named ≡ name_stored raw i node → node.form ≡ form.Item → ((e : RawExpr) → IsHere raw (i + 1) e → IsBuilt raw (i + 1) e y middle) → ((e : RawExpr) → IsHere raw middle e → IsBuilt raw middle e z next) →
+pub atom_item : (raw : RawKernel) (i : ℕ) (node : RawNode) (named : Option Named) (y z : Expr) {p : _} (m : ℕ) (sides : Expr × Expr) (middle next : ℕ)
+    → slice_get raw.nodes.items i ≡ Some node → IsFaultless raw i node →
+    named ≡ name_stored raw i node → node.form ≡ form.Item → ((e : RawExpr) → IsHere raw (i + 1) e → IsBuilt raw (i + 1) e y middle)
+    → ((e : RawExpr) → IsHere raw middle e → IsBuilt raw middle e z next) →
     m ≡ number_named named → sides ≡ (y, z) → (e : RawExpr) → IsAtomHere raw i e → IsBuilt raw i e (Item' m p sides.0 sides.1) next
 atom_item raw i node named y z {p} m sides middle next s ok n o first second a b =
     atom_two raw i node named y z (Item' m p sides.0 sides.1) middle next s ok n o first second
@@ -231,10 +258,19 @@ pub record First (raw : RawKernel) (i : ℕ) (e : RawExpr) : Type 0 where
   pub begins : Begins left e
   pub here : IsAtomHere raw i left
 
-first_of : (raw : RawKernel) (i : ℕ) (e : RawExpr) → IsFormed e → StandsExpr raw.nodes.items i e → Ends raw.nodes.items (i + expr_size e) (expr_size e - 1) → First raw i e
+first_of : (raw : RawKernel) (i : ℕ) (e : RawExpr) → IsFormed e → StandsExpr raw.nodes.items i e → Ends raw.nodes.items (i + expr_size e) (expr_size e - 1)
+    → First raw i e
 first_of raw i (Leaf f at name) fo st en = record { left = Leaf f at name; begins = whole; here = record { atom = refl; formed = fo; stands = st; ends = en } }
-first_of raw i (One f at name e) fo st en = record { left = One f at name e; begins = whole; here = record { atom = refl; formed = fo; stands = st; ends = en } }
-first_of raw i (Two f at name e g) fo st en = record { left = Two f at name e g; begins = whole; here = record { atom = refl; formed = fo; stands = st; ends = en } }
+first_of raw i (One f at name e) fo st en = record {
+  left = One f at name e;
+  begins = whole;
+  here = record { atom = refl; formed = fo; stands = st; ends = en };
+}
+first_of raw i (Two f at name e g) fo st en = record {
+  left = Two f at name e g;
+  begins = whole;
+  here = record { atom = refl; formed = fo; stands = st; ends = en };
+}
 first_of raw i (Infix at e g) fo st en =
     let inner = first_of raw i e fo.0 st.0 (operator-ends raw.nodes.items _ at (expr_size e) (expr_size g) _ st.1 (let h = size-pos e in omega arith)) in
     record { left = inner.left; begins = extend at g inner.begins; here = inner.here }
@@ -265,11 +301,17 @@ chain_more {l = l} raw i node x y both last next after end s b k right joint res
     let stands = stands-left raw.nodes.items i r here.stands in
     let formed = formed-left r here.formed in
     let place : next ≡ i + expr_size l = built.next in
-    let there : slice_get raw.nodes.items next ≡ Some (expr_node form.Binary at at (expr_size l) (expr_size g)) = ap (slice_get raw.nodes.items) place ∙ stands.1 in
+    let there : slice_get raw.nodes.items next ≡ Some (expr_node form.Binary at at (expr_size l) (expr_size g)) = ap (slice_get raw.nodes.items) place
+    ∙ stands.1 in
     let at_is : node.at ≡ at = ap (λ m. m.at) (let e : node ≡ expr_node form.Binary at at (expr_size l) (expr_size g) = cc in e) in
     let behind : i + (expr_size l + 1) ≡ next + 1 = omega arith in
-    let is = right g (IsHere-at raw _ _ g behind (record { formed = formed.1; stands = stands.2; ends = Ends-at raw.nodes.items _ _ _ _ (omega arith) (omega arith) (ends-left raw i r here) })) in
+    let is = right g (IsHere-at raw _ _ g behind (record {
+      formed = formed.1;
+      stands = stands.2;
+      ends = Ends-at raw.nodes.items _ _ _ _ (omega arith) (omega arith) (ends-left raw i r here);
+    })) in
     rest (Infix at l g) r (record {
       next = let h = is.next in omega arith;
-      is = joint_is raw i at l g x y both _ refl built.is (subst (λ n. ExprOf raw n g y) (sym behind) is.is) (subst (λ a. IsJoint (joint_of (kind_at raw a)) x y both) at_is joint);
+      is = joint_is raw i at l g x y both _ refl built.is (subst (λ n. ExprOf raw n g y) (sym behind) is.is)
+          (subst (λ a. IsJoint (joint_of (kind_at raw a)) x y both) at_is joint);
     })

@@ -88,7 +88,12 @@ pub length-expr : (e : RawExpr) → length (expr_nodes e) ≡ expr_size e
 length-expr (Leaf f a n) = refl
 length-expr (One f a n e) = omega (arith, length-expr e)
 length-expr (Two f a n e g) = omega (arith, length-append (expr_nodes e) (expr_nodes g), length-expr e, length-expr g)
-length-expr (Infix a e g) = omega (arith, length-append (expr_nodes e) (expr_node form.Binary a a (expr_size e) (expr_size g) ∷ expr_nodes g), length-expr e, length-expr g)
+length-expr (Infix a e g) = omega (
+  arith,
+  length-append (expr_nodes e) (expr_node form.Binary a a (expr_size e) (expr_size g) ∷ expr_nodes g),
+  length-expr e,
+  length-expr g,
+)
 
 pub length-parts : (parts : List RawExpr) → length (parts_nodes parts) ≡ parts_size parts
 length-parts [] = refl
@@ -97,16 +102,41 @@ length-parts (e ∷ more) = omega (arith, length-append (expr_nodes e) (parts_no
 pub length-block : (owner : Option ℕ) (n : ℕ) (b : RawBlock) → length (block_nodes owner n b) ≡ block_size b
 length-block owner n Nothing = refl
 length-block owner n (Simple f a x parts more) =
-    omega (arith, length-append (parts_nodes parts) (block_nodes owner (n + (1 + parts_size parts)) more), length-parts parts, length-block owner (n + (1 + parts_size parts)) more)
+    omega (
+      arith,
+      length-append (parts_nodes parts) (block_nodes owner (n + (1 + parts_size parts)) more),
+      length-parts parts,
+      length-block owner
+          (n + (1 + parts_size parts)) more,
+    )
 length-block owner n (Nested f a x parts inner more) =
     let rest = block_nodes owner (n + (1 + parts_size parts + block_size inner)) more in
     let in_ = block_nodes (Some n) (n + (1 + parts_size parts)) inner in
-    omega (arith, length-append (parts_nodes parts) (in_ ++ rest), length-append in_ rest, length-parts parts, length-block (Some n) (n + (1 + parts_size parts)) inner, length-block owner (n + (1 + parts_size parts + block_size inner)) more)
+    omega (
+      arith,
+      length-append (parts_nodes parts) (in_ ++ rest),
+      length-append in_ rest,
+      length-parts parts,
+      length-block (Some n)
+          (n + (1 + parts_size parts)) inner,
+      length-block owner (n + (1 + parts_size parts + block_size inner)) more,
+    )
 length-block owner n (Branched a e first second more) =
     let rest = block_nodes owner (n + (1 + expr_size e + block_size first + block_size second)) more in
     let two = block_nodes (Some n) (n + (1 + expr_size e + block_size first)) second in
     let one = block_nodes (Some n) (n + (1 + expr_size e)) first in
-    omega (arith, length-append (expr_nodes e) (one ++ (two ++ rest)), length-append one (two ++ rest), length-append two rest, length-expr e, length-block (Some n) (n + (1 + expr_size e)) first, length-block (Some n) (n + (1 + expr_size e + block_size first)) second, length-block owner (n + (1 + expr_size e + block_size first + block_size second)) more)
+    omega (
+      arith,
+      length-append (expr_nodes e) (one ++ (two ++ rest)),
+      length-append one (two ++ rest),
+      length-append two rest,
+      length-expr e,
+      length-block
+          (Some n) (n + (1 + expr_size e)) first,
+      length-block (Some n) (n + (1 + expr_size e + block_size first)) second,
+      length-block owner
+          (n + (1 + expr_size e + block_size first + block_size second)) more,
+    )
 
 stands-expr : (nodes : List RawNode) (i : ℕ) (e : RawExpr) → At nodes i (expr_nodes e) → StandsExpr nodes i e
 stands-expr nodes i (Leaf f a n) h = h.0
@@ -131,8 +161,12 @@ stands-parts nodes i (e ∷ more) h =
 pub stands-block : (nodes : List RawNode) (owner : Option ℕ) (i : ℕ) (b : RawBlock) → At nodes i (block_nodes owner i b) → StandsBlock nodes owner i b
 stands-block nodes owner i Nothing h = tt
 stands-block nodes owner i (Simple f a x parts more) h =
-    let both = At-split nodes (i + 1) (parts_nodes parts) (block_nodes owner (i + (1 + parts_size parts)) more) h.1 in
-    (h.0, stands-parts nodes (i + 1) parts both.0, stands-block nodes owner (i + (1 + parts_size parts)) more (At-at nodes _ _ _ (omega (arith, length-parts parts)) both.1))
+    let both = At-split nodes (i + 1) (parts_nodes parts) (block_nodes owner (i + (1 + parts_size parts)) more) h.1 in (
+      h.0,
+      stands-parts nodes (i + 1) parts both.0,
+      stands-block nodes owner (i + (1 + parts_size parts)) more
+          (At-at nodes _ _ _ (omega (arith, length-parts parts)) both.1),
+    )
 stands-block nodes owner i (Nested f a x parts inner more) h =
     let rest = block_nodes owner (i + (1 + parts_size parts + block_size inner)) more in
     let in_ = block_nodes (Some i) (i + (1 + parts_size parts)) inner in
@@ -141,7 +175,8 @@ stands-block nodes owner i (Nested f a x parts inner more) h =
       h.0,
       stands-parts nodes (i + 1) parts both.0,
       stands-block nodes (Some i) (i + (1 + parts_size parts)) inner (At-at nodes _ _ _ (omega (arith, length-parts parts)) two.0),
-      stands-block nodes owner (i + (1 + parts_size parts + block_size inner)) more (At-at nodes _ _ _ (omega (arith, length-parts parts, length-block (Some i) (i + (1 + parts_size parts)) inner)) two.1),
+      stands-block nodes owner (i + (1 + parts_size parts + block_size inner)) more
+          (At-at nodes _ _ _ (omega (arith, length-parts parts, length-block (Some i) (i + (1 + parts_size parts)) inner)) two.1),
     )
 stands-block nodes owner i (Branched a e first second more) h =
     let rest = block_nodes owner (i + (1 + expr_size e + block_size first + block_size second)) more in
@@ -153,8 +188,16 @@ stands-block nodes owner i (Branched a e first second more) h =
       h.0,
       stands-expr nodes (i + 1) e s1.0,
       stands-block nodes (Some i) (i + (1 + expr_size e)) first (At-at nodes _ _ _ (omega (arith, length-expr e)) s2.0),
-      stands-block nodes (Some i) (i + (1 + expr_size e + block_size first)) second (At-at nodes _ _ _ (omega (arith, length-expr e, length-block (Some i) (i + (1 + expr_size e)) first)) s3.0),
-      stands-block nodes owner (i + (1 + expr_size e + block_size first + block_size second)) more (At-at nodes _ _ _ (omega (arith, length-expr e, length-block (Some i) (i + (1 + expr_size e)) first, length-block (Some i) (i + (1 + expr_size e + block_size first)) second)) s3.1),
+      stands-block nodes (Some i) (i + (1 + expr_size e + block_size first)) second
+          (At-at nodes _ _ _ (omega (arith, length-expr e, length-block (Some i) (i + (1 + expr_size e)) first)) s3.0),
+      stands-block nodes owner (i + (1 + expr_size e + block_size first + block_size second)) more
+          (At-at nodes _ _ _ (omega (
+            arith,
+            length-expr e,
+            length-block (Some i) (i + (1 + expr_size e)) first,
+            length-block (Some i)
+                (i + (1 + expr_size e + block_size first)) second,
+          )) s3.1),
     )
 
 -- the tree that events spell stands from the first node on
@@ -167,7 +210,8 @@ body-here events raw s all = record {
       let lt = slice_get_within raw.nodes.items _ node t in absurd (omega arith);
 }
 
-pub body-size : (events : List Event) (raw : RawKernel) (s : SpellsRaw events raw) → raw.nodes.items ≡ block_nodes None 0 s.body → length raw.nodes.items ≡ 0 + block_size s.body
+pub body-size : (events : List Event) (raw : RawKernel) (s : SpellsRaw events raw) → raw.nodes.items ≡ block_nodes None 0 s.body
+    → length raw.nodes.items ≡ 0 + block_size s.body
 body-size events raw s all = let size : length raw.nodes.items ≡ block_size s.body = ap length all ∙ length-block None 0 s.body in omega arith
 
 -- PARAMETERS
@@ -175,7 +219,8 @@ body-size events raw s all = let size : length raw.nodes.items ≡ block_size s.
 shift : (raw : RawKernel) (d k : ℕ) (p : RawParam) → param_fault raw (d + 1 + k) p ≡ None → param_fault raw (d + suc k) p ≡ None
 shift raw d k p h = let e : d + 1 + k ≡ d + suc k = omega arith in subst (λ n. param_fault raw n p ≡ None) e h
 
-param-at : (raw : RawKernel) (d k : ℕ) (ps : List RawParam) (p : RawParam) → params_fault raw d ps ≡ None → slice_get ps k ≡ Some p → param_fault raw (d + k) p ≡ None
+param-at : (raw : RawKernel) (d k : ℕ) (ps : List RawParam) (p : RawParam) → params_fault raw d ps ≡ None → slice_get ps k ≡ Some p
+    → param_fault raw (d + k) p ≡ None
 param-at raw d k [] p h s = cc
 param-at raw d zero (q ∷ more) p h s =
     let e : q ≡ p = cc in
@@ -186,7 +231,8 @@ param-at raw d (suc k) (q ∷ more) p h s = shift raw d k p (param-at raw (d + 1
 zero_plus : (i : ℕ) → 0 + i ≡ i
 zero_plus i = omega arith
 
-pub param-none : (raw : RawKernel) (k : ℕ) (p : RawParam) → params_fault raw 0 raw.params.items ≡ None → slice_get raw.params.items k ≡ Some p → param_fault raw k p ≡ None
+pub param-none : (raw : RawKernel) (k : ℕ) (p : RawParam) → params_fault raw 0 raw.params.items ≡ None → slice_get raw.params.items k ≡ Some p
+    → param_fault raw k p ≡ None
 param-none raw k p h s = subst (λ n. param_fault raw n p ≡ None) (zero_plus k) (param-at raw 0 k raw.params.items p h s)
 
 below16 : (k : ℕ) → nat_le 16 k ≡ false → k < 16
@@ -216,5 +262,6 @@ pub width-of : (raw : RawKernel) (p : RawParam) (w : Option ℕ) → param_kind_
 width-of raw p None h = (omega arith, omega arith)
 width-of raw p (Some at) h = within-width (value_at raw at) (some_if-none _ _ (fault_at-none _ _ (option_or-none _ _ h).1))
 
-pub width-within : (raw : RawKernel) (k : ℕ) (p : RawParam) → params_fault raw 0 raw.params.items ≡ None → slice_get raw.params.items k ≡ Some p → (1 ≤ width_at raw p.width) × (width_at raw p.width ≤ 1024)
+pub width-within : (raw : RawKernel) (k : ℕ) (p : RawParam) → params_fault raw 0 raw.params.items ≡ None → slice_get raw.params.items k ≡ Some p
+    → (1 ≤ width_at raw p.width) × (width_at raw p.width ≤ 1024)
 width-within raw k p h s = width-of raw p p.width (option_or-none _ _ (param-none raw k p h s)).1

@@ -10,7 +10,8 @@ use Rattle.kernel_code.specs.Trees.{IsKernelOf}
 use Rattle.kernel_code.proofs.Fitting as fitting
 use Rattle.kernel_code.proofs.Limits as limits
 
-pub checked : (events : List Event) (raw : RawKernel) (k : Kernel) (earlier : List Kernel) → SpellsRaw events raw → first_fault raw earlier ≡ None → IsKernelOf raw k → IsChecked k
+pub checked : (events : List Event) (raw : RawKernel) (k : Kernel) (earlier : List Kernel) → SpellsRaw events raw → first_fault raw earlier ≡ None
+    → IsKernelOf raw k → IsChecked k
 checked events raw k earlier s h is = record {
   fits = fitting.fits events raw k earlier s h is;
   params = limits.params events raw k earlier s h is;

@@ -13,7 +13,8 @@ pub record IsCounted (raw : RawKernel) (owner : Option ℕ) (at end : ℕ) (b : 
   pub ends : end ≡ at + block_size rest
   pub all : count + statement_count rest ≡ statement_count b
 
-pub counted_start : (raw : RawKernel) (owner : Option ℕ) (from end : ℕ) (b : RawBlock) → IsBlockHere raw owner from b → end ≡ from + block_size b → IsCounted raw owner from end b 0
+pub counted_start : (raw : RawKernel) (owner : Option ℕ) (from end : ℕ) (b : RawBlock) → IsBlockHere raw owner from b → end ≡ from + block_size b
+    → IsCounted raw owner from end b 0
 counted_start raw owner from end b here e = record { rest = b; here = here; ends = e; all = omega arith }
 
 none-left : (b : RawBlock) → block_size b ≡ 0 → statement_count b ≡ 0
@@ -28,7 +29,8 @@ count-split (Simple f a n parts more) h = refl
 count-split (Nested f a n parts inner more) h = refl
 count-split (Branched a e first second more) h = refl
 
-pub counted_next : (raw : RawKernel) (owner : Option ℕ) (at end : ℕ) (b : RawBlock) (count : ℕ) (node : RawNode) → at < end → slice_get raw.nodes.items at ≡ Some node →
+pub counted_next : (raw : RawKernel) (owner : Option ℕ) (at end : ℕ) (b : RawBlock) (count : ℕ) (node : RawNode) → at < end
+    → slice_get raw.nodes.items at ≡ Some node →
     IsCounted raw owner at end b count → IsCounted raw owner (at + (1 + node.after)) end b (count + 1)
 counted_next raw owner at end b count node lt there p =
     let e = p.ends in
@@ -42,10 +44,12 @@ counted_next raw owner at end b count node lt there p =
       all = let one = count-split p.rest has in let all = p.all in omega arith;
     }
 
-pub counted_end : (raw : RawKernel) (owner : Option ℕ) (at end : ℕ) (b : RawBlock) (count : ℕ) → end ≤ at → IsCounted raw owner at end b count → count ≡ statement_count b
+pub counted_end : (raw : RawKernel) (owner : Option ℕ) (at end : ℕ) (b : RawBlock) (count : ℕ) → end ≤ at → IsCounted raw owner at end b count
+    → count ≡ statement_count b
 counted_end raw owner at end b count past p =
     let e = p.ends in let none = none-left p.rest (omega arith) in let all = p.all in omega arith
 
-pub counted_missing : (raw : RawKernel) (owner : Option ℕ) (at end : ℕ) (b : RawBlock) (count : ℕ) → at < end → slice_get raw.nodes.items at ≡ None → IsCounted raw owner at end b count → count ≡ statement_count b
+pub counted_missing : (raw : RawKernel) (owner : Option ℕ) (at end : ℕ) (b : RawBlock) (count : ℕ) → at < end → slice_get raw.nodes.items at ≡ None
+    → IsCounted raw owner at end b count → count ≡ statement_count b
 counted_missing raw owner at end b count lt none p =
     let e = p.ends in absurd (first-exists raw owner at p.rest (begun-first p.rest (omega arith)) p.here.stands none)

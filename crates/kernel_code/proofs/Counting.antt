@@ -46,20 +46,28 @@ block-count nothing = refl
 block-count (var {s = s} k d x o rest) = let a = stmt-count s _ o in let b = expr-count x in let c = block-count rest in omega arith
 block-count (set_local {s = s} k d x o rest) = let a = stmt-count s _ o in let b = expr-count x in let c = block-count rest in omega arith
 block-count (set_value {s = s} k d x o rest) = let a = stmt-count s _ o in let b = expr-count x in let c = block-count rest in omega arith
-block-count (set_place {s = s} k d x y o rest) = let a = stmt-count s _ o in let b = expr-count x in let b' = expr-count y in let c = block-count rest in omega arith
-block-count (set_try_add {s = s} j k e d x y o rest) = let a = stmt-count s _ o in let b = expr-count x in let b' = expr-count y in let c = block-count rest in omega arith
+block-count (set_place {s = s} k d x y o rest) = let a = stmt-count s _ o in let b = expr-count x in let b' = expr-count y in let c = block-count rest in
+    omega arith
+block-count (set_try_add {s = s} j k e d x y o rest) = let a = stmt-count s _ o in let b = expr-count x in let b' = expr-count y in let c = block-count rest in
+    omega arith
 block-count (set_remove {s = s} j k e d x o rest) = let a = stmt-count s _ o in let b = expr-count x in let c = block-count rest in omega arith
 block-count (add_item {s = s} k d x o rest) = let a = stmt-count s _ o in let b = expr-count x in let c = block-count rest in omega arith
-block-count (add_pair {s = s} k d x y o rest) = let a = stmt-count s _ o in let b = expr-count x in let b' = expr-count y in let c = block-count rest in omega arith
+block-count (add_pair {s = s} k d x y o rest) = let a = stmt-count s _ o in let b = expr-count x in let b' = expr-count y in let c = block-count rest in
+    omega arith
 block-count (remove {s = s} k d x o rest) = let a = stmt-count s _ o in let b = expr-count x in let c = block-count rest in omega arith
 block-count (clear {s = s} k d o rest) = let a = stmt-count s _ o in let c = block-count rest in omega arith
 block-count (write {s = s} k d x o rest) = let a = stmt-count s _ o in let b = expr-count x in let c = block-count rest in omega arith
-block-count (begun {s = s} k d x o inner rest) = let a = stmt-count s _ o in let b = expr-count x in let b' = block-count inner in let c = block-count rest in omega arith
+block-count (begun {s = s} k d x o inner rest) = let a = stmt-count s _ o in let b = expr-count x in let b' = block-count inner in let c = block-count rest in
+    omega arith
 block-count (tested {s = s} {other = other} x o inner none rest) =
-    let a = stmt-count s _ o in let b = expr-count x in let b' = block-count inner in let c = block-count rest in let z : body_nodes other.items ≡ 0 = ap body_nodes none in omega arith
-block-count (counted {s = s} k d x y o inner rest) = let a = stmt-count s _ o in let b = expr-count x in let b' = expr-count y in let c = block-count inner in let c' = block-count rest in omega arith
-block-count (looped {s = s} x o inner rest) = let a = stmt-count s _ o in let b = expr-count x in let b' = block-count inner in let c = block-count rest in omega arith
-block-count (branched {s = s} x o one two rest) = let a = stmt-count s _ o in let b = expr-count x in let b' = block-count one in let c = block-count two in let c' = block-count rest in omega arith
+    let a = stmt-count s _ o in let b = expr-count x in let b' = block-count inner in let c = block-count rest in
+    let z : body_nodes other.items ≡ 0 = ap body_nodes none in omega arith
+block-count (counted {s = s} k d x y o inner rest) = let a = stmt-count s _ o in let b = expr-count x in let b' = expr-count y in let c = block-count inner in
+    let c' = block-count rest in omega arith
+block-count (looped {s = s} x o inner rest) = let a = stmt-count s _ o in let b = expr-count x in let b' = block-count inner in let c = block-count rest in
+    omega arith
+block-count (branched {s = s} x o one two rest) = let a = stmt-count s _ o in let b = expr-count x in let b' = block-count one in let c = block-count two in
+    let c' = block-count rest in omega arith
 
 or-left : (a b : Bool) → (a || b) ≡ false → a ≡ false
 or-left true b h = cc
@@ -87,7 +95,8 @@ few-nodes raw h = few (length raw.nodes.items) (λ i w. node-number raw i h w)
     few (suc n) f = let lt = f n (omega arith) in omega arith
 
 -- Where there is no fault, all nodes are kept.
-pub all-kept : (events : List Event) (raw : RawKernel) (s : SpellsRaw events raw) → nodes_fault raw 0 raw.nodes.items ≡ None → raw.nodes.items ≡ block_nodes None 0 s.body
+pub all-kept : (events : List Event) (raw : RawKernel) (s : SpellsRaw events raw) → nodes_fault raw 0 raw.nodes.items ≡ None
+    → raw.nodes.items ≡ block_nodes None 0 s.body
 all-kept events raw s h =
     let all = block_nodes None 0 s.body in
     s.nodes ∙ take_all MOST_KEPT all (omega (arith, few-nodes raw h, ap length s.nodes, length-take MOST_KEPT all))

@@ -67,7 +67,8 @@ cut-few (token ∷ tokens) =
     (cases_Bool (is_bad token.kind))
 
 -- each but an end is one of all
-pub cut-keeps : (tokens : List Token) (k : ℕ) (token : Token) → slice_get (up_to_bad tokens) k ≡ Some token → (token.kind ≡ End → ⊥) → slice_get tokens k ≡ Some token
+pub cut-keeps : (tokens : List Token) (k : ℕ) (token : Token) → slice_get (up_to_bad tokens) k ≡ Some token → (token.kind ≡ End → ⊥)
+    → slice_get tokens k ≡ Some token
 unfolding up_to_bad
 cut-keeps [] k token is other = is
 cut-keeps (first ∷ tokens) zero token is other = is

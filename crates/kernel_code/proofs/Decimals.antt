@@ -31,7 +31,8 @@ pub too_many_digits : (most : ℕ) (bytes : List ℕ) → most < prefix_len is_a
 too_many_digits most bytes many = sym (cond-false _ _ _ (and_right _ _ (lt-leb _ _ many)))
 
 -- where the digits end behind so many, they have the value
-pub digits_end_here : (most : ℕ) (bytes : List ℕ) (end value : ℕ) → 1 ≤ end → end ≤ most → end + prefix_len is_ascii_digit (drop end bytes) ≡ prefix_len is_ascii_digit bytes →
+pub digits_end_here : (most : ℕ) (bytes : List ℕ) (end value : ℕ) → 1 ≤ end → end ≤ most
+    → end + prefix_len is_ascii_digit (drop end bytes) ≡ prefix_len is_ascii_digit bytes →
     prefix_len is_ascii_digit (drop end bytes) ≡ 0 → value ≡ value_of (take end bytes) → Some value ≡ front_value most bytes
 digits_end_here most bytes end value some few run ended is =
     let here : end ≡ prefix_len is_ascii_digit bytes = omega (arith, run, ended) in

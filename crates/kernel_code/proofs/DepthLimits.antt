@@ -54,20 +54,28 @@ block-depth nothing = refl
 block-depth (var {s = s} k d x o rest) = let a = stmt-depth s _ o in let b = expr-depth x in let c = block-depth rest in omega arith
 block-depth (set_local {s = s} k d x o rest) = let a = stmt-depth s _ o in let b = expr-depth x in let c = block-depth rest in omega arith
 block-depth (set_value {s = s} k d x o rest) = let a = stmt-depth s _ o in let b = expr-depth x in let c = block-depth rest in omega arith
-block-depth (set_place {s = s} k d x y o rest) = let a = stmt-depth s _ o in let b = expr-depth x in let b' = expr-depth y in let c = block-depth rest in omega arith
-block-depth (set_try_add {s = s} j k e d x y o rest) = let a = stmt-depth s _ o in let b = expr-depth x in let b' = expr-depth y in let c = block-depth rest in omega arith
+block-depth (set_place {s = s} k d x y o rest) = let a = stmt-depth s _ o in let b = expr-depth x in let b' = expr-depth y in let c = block-depth rest in
+    omega arith
+block-depth (set_try_add {s = s} j k e d x y o rest) = let a = stmt-depth s _ o in let b = expr-depth x in let b' = expr-depth y in let c = block-depth rest in
+    omega arith
 block-depth (set_remove {s = s} j k e d x o rest) = let a = stmt-depth s _ o in let b = expr-depth x in let c = block-depth rest in omega arith
 block-depth (add_item {s = s} k d x o rest) = let a = stmt-depth s _ o in let b = expr-depth x in let c = block-depth rest in omega arith
-block-depth (add_pair {s = s} k d x y o rest) = let a = stmt-depth s _ o in let b = expr-depth x in let b' = expr-depth y in let c = block-depth rest in omega arith
+block-depth (add_pair {s = s} k d x y o rest) = let a = stmt-depth s _ o in let b = expr-depth x in let b' = expr-depth y in let c = block-depth rest in
+    omega arith
 block-depth (remove {s = s} k d x o rest) = let a = stmt-depth s _ o in let b = expr-depth x in let c = block-depth rest in omega arith
 block-depth (clear {s = s} k d o rest) = let a = stmt-depth s _ o in let c = block-depth rest in omega arith
 block-depth (write {s = s} k d x o rest) = let a = stmt-depth s _ o in let b = expr-depth x in let c = block-depth rest in omega arith
-block-depth (begun {s = s} k d x o inner rest) = let a = stmt-depth s _ o in let b = expr-depth x in let b' = block-depth inner in let c = block-depth rest in omega arith
+block-depth (begun {s = s} k d x o inner rest) = let a = stmt-depth s _ o in let b = expr-depth x in let b' = block-depth inner in let c = block-depth rest in
+    omega arith
 block-depth (tested {s = s} {other = other} x o inner none rest) =
-    let a = stmt-depth s _ o in let b = expr-depth x in let b' = block-depth inner in let c = block-depth rest in let z : body_depth other.items ≡ 0 = ap body_depth none in omega arith
-block-depth (counted {s = s} k d x y o inner rest) = let a = stmt-depth s _ o in let b = expr-depth x in let b' = expr-depth y in let c = block-depth inner in let c' = block-depth rest in omega arith
-block-depth (looped {s = s} x o inner rest) = let a = stmt-depth s _ o in let b = expr-depth x in let b' = block-depth inner in let c = block-depth rest in omega arith
-block-depth (branched {s = s} x o one two rest) = let a = stmt-depth s _ o in let b = expr-depth x in let b' = block-depth one in let c = block-depth two in let c' = block-depth rest in omega arith
+    let a = stmt-depth s _ o in let b = expr-depth x in let b' = block-depth inner in let c = block-depth rest in
+    let z : body_depth other.items ≡ 0 = ap body_depth none in omega arith
+block-depth (counted {s = s} k d x y o inner rest) = let a = stmt-depth s _ o in let b = expr-depth x in let b' = expr-depth y in let c = block-depth inner in
+    let c' = block-depth rest in omega arith
+block-depth (looped {s = s} x o inner rest) = let a = stmt-depth s _ o in let b = expr-depth x in let b' = block-depth inner in let c = block-depth rest in
+    omega arith
+block-depth (branched {s = s} x o one two rest) = let a = stmt-depth s _ o in let b = expr-depth x in let b' = block-depth one in let c = block-depth two in
+    let c' = block-depth rest in omega arith
 
 -- THE LIMIT
 
@@ -75,17 +83,21 @@ at_most : (n m : ℕ) → nat_lt n m ≡ false → m ≤ n
 at_most n m h = grind (arith, nat_tests)
 
 -- a depth that is no fault by what is kept is none
-depth-kept : (raw : RawKernel) (events : List Event) (s : SpellsRaw events raw) (i : ℕ) → nodes_fault raw 0 raw.nodes.items ≡ None → i < length raw.nodes.items → nat_lt 64 (depth_at raw i) ≡ nat_lt 64 (depth_of raw.nodes.items i)
+depth-kept : (raw : RawKernel) (events : List Event) (s : SpellsRaw events raw) (i : ℕ) → nodes_fault raw 0 raw.nodes.items ≡ None → i < length raw.nodes.items
+    → nat_lt 64 (depth_at raw i) ≡ nat_lt 64 (depth_of raw.nodes.items i)
 depth-kept raw events s i h w =
     let same : 0 + i ≡ i = omega arith in
     let all = all-kept events raw s h in
-    let depths : raw.depths.items ≡ kept_depths (take MOST_KEPT (depths_of raw.nodes.items)) = s.depths ∙ ap (λ ns. kept_depths (take MOST_KEPT (depths_of ns))) (sym all) in
+    let depths : raw.depths.items ≡ kept_depths (take MOST_KEPT (depths_of raw.nodes.items)) = s.depths
+    ∙ ap (λ ns. kept_depths (take MOST_KEPT (depths_of ns))) (sym all) in
     ap (λ ds. nat_lt 64 (unwrap_or (slice_get ds i) 0)) depths
     ∙ same-over (take MOST_KEPT (depths_of raw.nodes.items)) i
-    ∙ ap (λ d. nat_lt 64 (unwrap_or d 0)) (get-take MOST_KEPT (depths_of raw.nodes.items) i (omega (arith, node-number raw i h w)) ∙ depths-at raw.nodes.items 0 raw.nodes.items i w)
+    ∙ ap (λ d. nat_lt 64 (unwrap_or d 0)) (get-take MOST_KEPT (depths_of raw.nodes.items) i (omega (arith, node-number raw i h w))
+    ∙ depths-at raw.nodes.items 0 raw.nodes.items i w)
     ∙ ap (λ k. nat_lt 64 (depth_of raw.nodes.items k)) same
 
-node-depth : (raw : RawKernel) (events : List Event) (s : SpellsRaw events raw) (i : ℕ) → nodes_fault raw 0 raw.nodes.items ≡ None → i < length raw.nodes.items → depth_of raw.nodes.items i ≤ 64
+node-depth : (raw : RawKernel) (events : List Event) (s : SpellsRaw events raw) (i : ℕ) → nodes_fault raw 0 raw.nodes.items ≡ None → i < length raw.nodes.items
+    → depth_of raw.nodes.items i ≤ 64
 node-depth raw events s i h w =
     let same : 0 + i ≡ i = omega arith in
     let q = has-at raw.nodes.items i w in
@@ -93,7 +105,8 @@ node-depth raw events s i h w =
     let none : nat_lt 64 (depth_at raw (0 + i)) ≡ false = (or_parts _ _ (some_if-none _ _ f.size)).1 in
     at_most 64 (depth_of raw.nodes.items i) (sym (ap (λ k. nat_lt 64 (depth_at raw k)) same ∙ depth-kept raw events s i h w) ∙ none)
 
-few-levels : (raw : RawKernel) (events : List Event) (s : SpellsRaw events raw) (d n : ℕ) → nodes_fault raw 0 raw.nodes.items ≡ None → length raw.nodes.items ≡ 0 + n → Reaches 0 n d raw.nodes.items → d ≤ 64
+few-levels : (raw : RawKernel) (events : List Event) (s : SpellsRaw events raw) (d n : ℕ) → nodes_fault raw 0 raw.nodes.items ≡ None
+    → length raw.nodes.items ≡ 0 + n → Reaches 0 n d raw.nodes.items → d ≤ 64
 few-levels raw events s d n h whole (inl none) = omega arith
 few-levels raw events s d n h whole (inr r) =
     let within = r.within in
@@ -101,7 +114,8 @@ few-levels raw events s d n h whole (inr r) =
     let le = node-depth raw events s r.at h (omega arith) in omega arith
 
 -- No node of a kernel without faults is deeper than 64.
-pub depth : (raw : RawKernel) (events : List Event) (s : SpellsRaw events raw) (statements : List Stmt) → nodes_fault raw 0 raw.nodes.items ≡ None → BlockOf raw 0 s.body statements →
+pub depth : (raw : RawKernel) (events : List Event) (s : SpellsRaw events raw) (statements : List Stmt) → nodes_fault raw 0 raw.nodes.items ≡ None
+    → BlockOf raw 0 s.body statements →
     body_depth statements ≤ 64
 depth raw events s statements h b =
     let all = all-kept events raw s h in

@@ -19,7 +19,14 @@ use Rattle.kernel_code.proofs.Statements as statements
 -- PARAMETERS
 
 is_kind_up : (x n m : ℕ) (es : List Event) → n ≤ m → IsKind x es n → IsKind x es m
-is_kind_up x n m es le k = record { param = k.param; is = k.is; called = omega arith; spells = k.spells; word = omega arith; width = width_up n m k.param.width le k.width }
+is_kind_up x n m es le k = record {
+  param = k.param;
+  is = k.is;
+  called = omega arith;
+  spells = k.spells;
+  word = omega arith;
+  width = width_up n m k.param.width le k.width;
+}
 
 parameters_none : Build production.ParametersNone
 unfolding body_of head_of
@@ -45,8 +52,10 @@ more_parameters n end c =
     subst (λ es. IsParams n (s.events ++ es) end) (sym (append-nil s.more.events))
     (record { params = p.params; spells = p.spells; below = params_up _ end p.params s.more.more p.below; from = omega arith })
 
-parameter_events : (name : ℕ) (x : ℕ) (own rest : List Event) (q : Event) → name ≡ x → on action.Name x ∷ ((own ++ (q ∷ [])) ++ rest) ≡ on action.Name name ∷ own ++ q ∷ rest
-parameter_events name x own rest q is = ap (λ es. on action.Name x ∷ es) (append_assoc own (q ∷ []) rest) ∙ ap (λ y. on action.Name y ∷ (own ++ q ∷ rest)) (sym is)
+parameter_events : (name : ℕ) (x : ℕ) (own rest : List Event) (q : Event) → name ≡ x
+    → on action.Name x ∷ ((own ++ (q ∷ [])) ++ rest) ≡ on action.Name name ∷ own ++ q ∷ rest
+parameter_events name x own rest q is = ap (λ es. on action.Name x ∷ es) (append_assoc own (q ∷ []) rest)
+    ∙ ap (λ y. on action.Name y ∷ (own ++ q ∷ rest)) (sym is)
 
 parameter : Build production.Parameter
 unfolding body_of head_of
@@ -66,65 +75,119 @@ parameter n end c rest last more =
 int_parameter : Build production.IntParameter
 unfolding body_of head_of
 int_parameter n end c x below =
-    record { param = record { name = x; kind = kind.Int; access = Read; word = x; width = None }; is = refl; called = omega arith; spells = raw.int _ refl; word = omega arith; width = tt }
+    record {
+      param = record { name = x; kind = kind.Int; access = Read; word = x; width = None };
+      is = refl;
+      called = omega arith;
+      spells = raw.int _ refl;
+      word = omega arith;
+      width = tt;
+    }
 
 read_parameter : Build production.ReadParameter
 unfolding body_of head_of
 read_parameter n end c x below =
     let s = c.more.more in
-    subst (λ es. IsKind x (on action.ReadParameter c.more.end ∷ es) end) (sym (append-nil s.events)) (is_kind_up x _ end _ s.more (s.means x c.more.end Read (omega arith)))
+    subst (λ es. IsKind x (on action.ReadParameter c.more.end ∷ es) end) (sym (append-nil s.events))
+    (is_kind_up x _ end _ s.more (s.means x c.more.end Read (omega arith)))
 
 write_parameter : Build production.WriteParameter
 unfolding body_of head_of
 write_parameter n end c x below =
     let s = c.more.more in
-    subst (λ es. IsKind x (on action.WriteParameter c.more.end ∷ es) end) (sym (append-nil s.events)) (is_kind_up x _ end _ s.more (s.means x c.more.end WriteOnly (omega arith)))
+    subst (λ es. IsKind x (on action.WriteParameter c.more.end ∷ es) end) (sym (append-nil s.events))
+    (is_kind_up x _ end _ s.more (s.means x c.more.end WriteOnly (omega arith)))
 
 read_write_parameter : Build production.ReadWriteParameter
 unfolding body_of head_of
 read_write_parameter n end c x below =
     let s = c.more.more in
-    subst (λ es. IsKind x (on action.ReadWriteParameter c.more.end ∷ es) end) (sym (append-nil s.events)) (is_kind_up x _ end _ s.more (s.means x c.more.end Both (omega arith)))
+    subst (λ es. IsKind x (on action.ReadWriteParameter c.more.end ∷ es) end) (sym (append-nil s.events))
+    (is_kind_up x _ end _ s.more (s.means x c.more.end Both (omega arith)))
 
 array_container : Build production.ArrayContainer
 unfolding body_of head_of
 array_container n end c x q a below =
     let s = c.more.more in
-    subst (λ es. IsKind x (on (raw.access_action a) q ∷ on action.ArrayContainer c.more.end ∷ es) end) (sym (append-nil s.events)) (is_kind_up x _ end _ s.more (s.means x q c.more.end a (omega arith)))
+    subst (λ es. IsKind x (on (raw.access_action a) q ∷ on action.ArrayContainer c.more.end ∷ es) end) (sym (append-nil s.events))
+    (is_kind_up x _ end _ s.more (s.means x q c.more.end a (omega arith)))
 
 list_container : Build production.ListContainer
 unfolding body_of head_of
 list_container n end c x q a below =
-    record { param = record { name = x; kind = kind.List; access = a; word = x; width = None }; is = refl; called = omega arith; spells = raw.list q _ a refl; word = omega arith; width = tt }
+    record {
+      param = record { name = x; kind = kind.List; access = a; word = x; width = None };
+      is = refl;
+      called = omega arith;
+      spells = raw.list q _ a refl;
+      word = omega arith;
+      width = tt;
+    }
 
 ref_container : Build production.RefContainer
 unfolding body_of head_of
 ref_container n end c x q a below =
-    record { param = record { name = x; kind = kind.Ref; access = a; word = x; width = None }; is = refl; called = omega arith; spells = raw.reference q _ a refl; word = omega arith; width = tt }
+    record {
+      param = record { name = x; kind = kind.Ref; access = a; word = x; width = None };
+      is = refl;
+      called = omega arith;
+      spells = raw.reference q _ a refl;
+      word = omega arith;
+      width = tt;
+    }
 
 map_container : Build production.MapContainer
 unfolding body_of head_of
 map_container n end c x q a below =
-    record { param = record { name = x; kind = kind.Map; access = a; word = x; width = None }; is = refl; called = omega arith; spells = raw.map q _ a refl; word = omega arith; width = tt }
+    record {
+      param = record { name = x; kind = kind.Map; access = a; word = x; width = None };
+      is = refl;
+      called = omega arith;
+      spells = raw.map q _ a refl;
+      word = omega arith;
+      width = tt;
+    }
 
 stream_container : Build production.StreamContainer
 unfolding body_of head_of
 stream_container n end c x q a below =
-    record { param = record { name = x; kind = kind.Stream; access = a; word = n; width = None }; is = refl; called = omega arith; spells = raw.stream q a refl; word = omega arith; width = tt }
+    record {
+      param = record { name = x; kind = kind.Stream; access = a; word = n; width = None };
+      is = refl;
+      called = omega arith;
+      spells = raw.stream q a refl;
+      word = omega arith;
+      width = tt;
+    }
 
 width_none : Build production.WidthNone
 unfolding body_of head_of
 width_none n end c x q r a below =
-    record { param = record { name = x; kind = kind.Array; access = a; word = x; width = None }; is = refl; called = omega arith; spells = raw.array q r a refl; word = omega arith; width = tt }
+    record {
+      param = record { name = x; kind = kind.Array; access = a; word = x; width = None };
+      is = refl;
+      called = omega arith;
+      spells = raw.array q r a refl;
+      word = omega arith;
+      width = tt;
+    }
 
 width_some : Build production.WidthSome
 unfolding body_of head_of
 width_some n end c x q r a below =
-    record { param = record { name = x; kind = kind.Array; access = a; word = n; width = Some c.more.end }; is = refl; called = omega arith; spells = raw.wide q r a refl; word = omega arith; width = omega arith }
+    record {
+      param = record { name = x; kind = kind.Array; access = a; word = n; width = Some c.more.end };
+      is = refl;
+      called = omega arith;
+      spells = raw.wide q r a refl;
+      word = omega arith;
+      width = omega arith;
+    }
 
 -- KERNELS
 
-kernel_events : (opens names body closes : Event) (ps st : List Event) → opens ∷ (names ∷ (ps ++ (body ∷ (st ++ (closes ∷ []))))) ≡ opens ∷ names ∷ ps ++ body ∷ st ++ closes ∷ []
+kernel_events : (opens names body closes : Event) (ps st : List Event) → opens ∷ (names ∷ (ps ++ (body ∷ (st ++ (closes ∷ []))))) ≡ opens ∷ names ∷ ps ++ body
+    ∷ st ++ closes ∷ []
 kernel_events opens names body closes ps st = simp append_assoc
 
 open_job : Build production.OpenJob
@@ -281,7 +344,9 @@ skips nonterminal.Lines n es end e m = m
 skips _ n es end e m = cc
 
 -- What is derived from a kernel, and what stands behind it.
-pub kernel_derived : {n : ℕ} {es : List Event} {ks : List TokenKind} → Derives n es (symbol.Nonterminal nonterminal.Kernel ∷ []) ks → IsKernel es (n + length ks)
+pub kernel_derived : {n : ℕ} {es : List Event} {ks : List TokenKind} → Derives n es (symbol.Nonterminal nonterminal.Kernel ∷ []) ks
+    → IsKernel es (n + length ks)
 kernel_derived {n} {es} {ks} d =
     let p = parts Meant builds skips d in
-    subst (λ xs. IsKernel xs (n + length ks)) (sym (p.is ∙ ap (λ r. p.own ++ r) p.more.0 ∙ append-nil p.own)) (is_kernel_up p.end (n + length ks) p.own p.more.1 p.means)
+    subst (λ xs. IsKernel xs (n + length ks)) (sym (p.is ∙ ap (λ r. p.own ++ r) p.more.0 ∙ append-nil p.own))
+    (is_kernel_up p.end (n + length ks) p.own p.more.1 p.means)

@@ -12,7 +12,8 @@ use Rattle.kernel_code.proofs.Meanings.{IsExpr, IsMore, Build, expr_up, is_expr_
 -- CHAINS
 
 -- an operator and its right side behind a left side
-join : (k n b m : ℕ) (front own : List Event) → IsExpr k front n → n < b → IsExpr b own m → IsExpr k (front ++ on action.Operator n ∷ own ++ on action.Binary m ∷ []) m
+join : (k n b m : ℕ) (front own : List Event) → IsExpr k front n → n < b → IsExpr b own m
+    → IsExpr k (front ++ on action.Operator n ∷ own ++ on action.Binary m ∷ []) m
 join k n b m front own l lt r =
     let le : n ≤ m = omega (arith, r.few) in
     record {
@@ -28,7 +29,8 @@ joined front own more a b = simp (append_assoc, append-nil)
 joined_last : (front own : List Event) (a b : Event) → (front ++ (a ∷ own)) ++ (b ∷ []) ≡ front ++ (a ∷ (own ++ (b ∷ [])))
 joined_last front own a b = simp append_assoc
 
-more_some : (n b m e end : ℕ) (own more : List Event) → n < b → IsExpr b own m → IsMore m more e → e ≤ end → IsMore n (on action.Operator n ∷ (own ++ on action.Binary m ∷ (more ++ []))) end
+more_some : (n b m e end : ℕ) (own more : List Event) → n < b → IsExpr b own m → IsMore m more e → e ≤ end
+    → IsMore n (on action.Operator n ∷ (own ++ on action.Binary m ∷ (more ++ []))) end
 more_some n b m e end own more lt r h le front k l =
     subst (λ es. IsExpr k es end) (joined front own more (on action.Operator n) (on action.Binary m))
     (is_expr_up k e end _ le (h (front ++ on action.Operator n ∷ own ++ on action.Binary m ∷ []) k (join k n b m front own l lt r)))
@@ -196,14 +198,24 @@ unfolding body_of head_of
 atom_has n end c =
     let s = c.more.more.more.more.more.more.more.more in
     let e = s.means in
-    record { tree = One form.Has n c.more.more.more.end e.tree; spells = raw.has _ s.events e.spells refl; below = (omega arith, omega arith, expr_up _ end e.tree (omega arith) e.below); few = omega arith }
+    record {
+      tree = One form.Has n c.more.more.more.end e.tree;
+      spells = raw.has _ s.events e.spells refl;
+      below = (omega arith, omega arith, expr_up _ end e.tree (omega arith) e.below);
+      few = omega arith;
+    }
 
 pub atom_count : Build production.AtomCount
 unfolding body_of head_of
 atom_count n end c =
     let s = c.more.more.more.more.more.more.more.more in
     let e = s.means in
-    record { tree = One form.Count n c.more.more.more.end e.tree; spells = raw.count _ s.events e.spells refl; below = (omega arith, omega arith, expr_up _ end e.tree (omega arith) e.below); few = omega arith }
+    record {
+      tree = One form.Count n c.more.more.more.end e.tree;
+      spells = raw.count _ s.events e.spells refl;
+      below = (omega arith, omega arith, expr_up _ end e.tree (omega arith) e.below);
+      few = omega arith;
+    }
 
 pub atom_at : Build production.AtomAt
 unfolding body_of head_of
@@ -221,11 +233,21 @@ atom_at n end c =
 
 pub place_none : Build production.PlaceNone
 unfolding body_of head_of
-place_none n end c at x k at_below x_below k_below = record { tree = Leaf form.Name at x; spells = raw.name n refl; below = (omega arith, omega arith); few = omega arith }
+place_none n end c at x k at_below x_below k_below = record {
+  tree = Leaf form.Name at x;
+  spells = raw.name n refl;
+  below = (omega arith, omega arith);
+  few = omega arith;
+}
 
 pub place_some : Build production.PlaceSome
 unfolding body_of head_of
 place_some n end c at x k at_below x_below k_below =
     let s = c.more.more in
     let e = s.means in
-    record { tree = One form.Element at x e.tree; spells = raw.element _ s.events e.spells refl; below = (omega arith, omega arith, expr_up _ end e.tree (omega arith) e.below); few = omega arith }
+    record {
+      tree = One form.Element at x e.tree;
+      spells = raw.element _ s.events e.spells refl;
+      below = (omega arith, omega arith, expr_up _ end e.tree (omega arith) e.below);
+      few = omega arith;
+    }

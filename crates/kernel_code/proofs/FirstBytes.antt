@@ -38,24 +38,28 @@ is_some-cond true kind = refl
 is_some-cond false kind = refl
 
 -- with this first byte, the words are the names
-pub kind_of-name : (byte : ℕ) (others : List ℕ) → byte < 256 → begins_name byte ≡ true → kind_of (byte ∷ others) ≡ cond (list_all continues_name others) (Some (unwrap_or (spelled reserved_words (byte ∷ others)) Name)) None
+pub kind_of-name : (byte : ℕ) (others : List ℕ) → byte < 256 → begins_name byte ≡ true
+    → kind_of (byte ∷ others) ≡ cond (list_all continues_name others) (Some (unwrap_or (spelled reserved_words (byte ∷ others)) Name)) None
 unfolding kind_of is_name
 kind_of-name byte others small begins =
     let apart = and_parts _ _ (names_apart byte small begins) in
     let fore = and_parts _ _ apart.0 in
     let back = and_parts _ _ apart.1 in
     let named : is_name (byte ∷ others) ≡ list_all continues_name others = ap (λ b. b && list_all continues_name others) begins in
-    let none = cond-false _ (Some Number) _ (not_number byte others (not-true _ fore.1)) ∙ cond-false _ (Some Text) _ (not_text byte others (not-true _ back.0)) ∙ not_spelled (Line ∷ symbols) byte others back.1 in
+    let none = cond-false _ (Some Number) _ (not_number byte others (not-true _ fore.1)) ∙ cond-false _ (Some Text) _ (not_text byte others (not-true _ back.0))
+    ∙ not_spelled (Line ∷ symbols) byte others back.1 in
     (λ i. cond (named i) (Some (unwrap_or (spelled reserved_words (byte ∷ others)) Name)) (none i))
 
 pub names : (byte : ℕ) → byte < 256 → begins_name byte ≡ true → (others : List ℕ) → is_word (byte ∷ others) ≡ list_all continues_name others
 names byte small begins others =
     let apart = and_parts _ _ ((and_parts _ _ ((and_parts _ _ (names_apart byte small begins)).0)).0) in
-    let separates : (is_blank (byte ∷ others) || is_comment (byte ∷ others)) ≡ false = or_from _ _ (not_blank byte others (not-true _ apart.0)) (not_comment byte others (not-true _ apart.1)) in
+    let separates : (is_blank (byte ∷ others) || is_comment (byte ∷ others)) ≡ false =
+    or_from _ _ (not_blank byte others (not-true _ apart.0)) (not_comment byte others (not-true _ apart.1)) in
     (λ i. separates i || is_some (kind_of-name byte others small begins i)) ∙ is_some-cond _ _
 
 -- with this first byte, the words are the numbers
-pub kind_of-number : (byte : ℕ) (others : List ℕ) → byte < 256 → is_ascii_digit byte ≡ true → kind_of (byte ∷ others) ≡ cond (list_all is_ascii_digit others) (Some Number) None
+pub kind_of-number : (byte : ℕ) (others : List ℕ) → byte < 256 → is_ascii_digit byte ≡ true
+    → kind_of (byte ∷ others) ≡ cond (list_all is_ascii_digit others) (Some Number) None
 unfolding kind_of is_number
 kind_of-number byte others small begins =
     let apart = and_parts _ _ (numbers_apart byte small begins) in
@@ -68,14 +72,16 @@ kind_of-number byte others small begins =
 pub numbers : (byte : ℕ) → byte < 256 → is_ascii_digit byte ≡ true → (others : List ℕ) → is_word (byte ∷ others) ≡ list_all is_ascii_digit others
 numbers byte small begins others =
     let apart = and_parts _ _ ((and_parts _ _ ((and_parts _ _ (numbers_apart byte small begins)).0)).0) in
-    let separates : (is_blank (byte ∷ others) || is_comment (byte ∷ others)) ≡ false = or_from _ _ (not_blank byte others (not-true _ apart.0)) (not_comment byte others (not-true _ apart.1)) in
+    let separates : (is_blank (byte ∷ others) || is_comment (byte ∷ others)) ≡ false =
+    or_from _ _ (not_blank byte others (not-true _ apart.0)) (not_comment byte others (not-true _ apart.1)) in
     (λ i. separates i || is_some (kind_of-number byte others small begins i)) ∙ is_some-cond _ _
 
 -- with # as first byte, the words are the comments
 pub kind_of-comment : (others : List ℕ) → kind_of (35 ∷ others) ≡ None
 unfolding kind_of spelling_of symbols
 kind_of-comment others =
-    cond-false _ _ _ (not_name 35 others refl) ∙ cond-false _ _ _ (not_number 35 others refl) ∙ cond-false _ _ _ (not_text 35 others refl) ∙ not_spelled (Line ∷ symbols) 35 others refl
+    cond-false _ _ _ (not_name 35 others refl) ∙ cond-false _ _ _ (not_number 35 others refl) ∙ cond-false _ _ _ (not_text 35 others refl)
+    ∙ not_spelled (Line ∷ symbols) 35 others refl
 
 or-false : (b : Bool) → (b || false) ≡ b
 or-false true = refl
@@ -90,7 +96,8 @@ comments others =
 pub kind_of-text : (others : List ℕ) → kind_of (34 ∷ others) ≡ cond (is_text (34 ∷ others)) (Some Text) None
 unfolding kind_of spelling_of symbols
 kind_of-text others =
-    cond-false _ _ _ (not_name 34 others refl) ∙ cond-false _ _ _ (not_number 34 others refl) ∙ ap (λ o. cond (is_text (34 ∷ others)) (Some Text) o) (not_spelled (Line ∷ symbols) 34 others refl)
+    cond-false _ _ _ (not_name 34 others refl) ∙ cond-false _ _ _ (not_number 34 others refl)
+    ∙ ap (λ o. cond (is_text (34 ∷ others)) (Some Text) o) (not_spelled (Line ∷ symbols) 34 others refl)
 
 pub texts : (others : List ℕ) → is_word (34 ∷ others) ≡ is_text (34 ∷ others)
 texts others =

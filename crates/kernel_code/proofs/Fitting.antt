@@ -28,13 +28,15 @@ int-read (raw.reference q r a h) e = cc
 int-read (raw.map q r a h) e = cc
 int-read (raw.stream q a h) e = cc
 
-ints-read : {events : List Event} {ps : List RawParam} → SpellsParams events ps → (x : ℕ) (p : RawParam) → slice_get ps x ≡ Some p → p.kind ≡ kind.Int → p.access ≡ Read
+ints-read : {events : List Event} {ps : List RawParam} → SpellsParams events ps → (x : ℕ) (p : RawParam) → slice_get ps x ≡ Some p → p.kind ≡ kind.Int
+    → p.access ≡ Read
 ints-read (raw.none h) x p s e = cc
 ints-read (raw.param q ks rest {p = first} k more h) zero p s e =
     let same : first ≡ p = cc in subst (λ z. z.access ≡ Read) same (int-read k (ap (λ z. z.kind) same ∙ e))
 ints-read (raw.param q ks rest k more h) (suc x) p s e = ints-read more x p s e
 
-pub fits : (events : List Event) (raw : RawKernel) (k : Kernel) (earlier : List Kernel) → SpellsRaw events raw → first_fault raw earlier ≡ None → IsKernelOf raw k →
+pub fits : (events : List Event) (raw : RawKernel) (k : Kernel) (earlier : List Kernel) → SpellsRaw events raw → first_fault raw earlier ≡ None
+    → IsKernelOf raw k →
     IsTrue (all_fit (map (stmt_fits k.parallel k.params.items k.locals) k.body.statements.items) [])
 fits events raw k earlier s h is =
     let sound : IsSound raw k.parallel k.params.items k.locals = record {
@@ -47,4 +49,5 @@ fits events raw k earlier s h is =
     let all = all-kept events raw s (faultless raw earlier h).1 in
     let here = body-here events raw s all in
     let size = body-size events raw s all in
-    block-fits raw k.parallel k.params.items k.locals sound (is.body events s) None (length raw.nodes.items) [] here.stands (omega arith) (none-open raw (length raw.nodes.items))
+    block-fits raw k.parallel k.params.items k.locals sound (is.body events s) None (length raw.nodes.items) [] here.stands (omega arith)
+    (none-open raw (length raw.nodes.items))

@@ -11,7 +11,8 @@ use Rattle.kernel_code.proofs.FittingNames.{parameter-is}
 use Rattle.kernel_code.proofs.FittingStreams.{AreOpen, open-within, open-behind, open-other, open-begun, open-expr, open-parts, open-block}
 
 -- behind the node of a statement and its expressions, for the nodes that its block doesn't have
-head-behind : (raw : RawKernel) (i s e : ℕ) (node : RawNode) (parts : List RawExpr) (opened : List ℕ) → slice_get raw.nodes.items i ≡ Some node → StandsParts raw.nodes.items (i + 1) parts →
+head-behind : (raw : RawKernel) (i s e : ℕ) (node : RawNode) (parts : List RawExpr) (opened : List ℕ) → slice_get raw.nodes.items i ≡ Some node
+    → StandsParts raw.nodes.items (i + 1) parts →
     i + 1 + node.heads + node.inside ≤ s → i + (1 + parts_size parts) ≤ s → AreOpen raw i i e opened → AreOpen raw (i + (1 + parts_size parts)) s e opened
 head-behind raw i s e node parts opened at st h k o =
     let a = open-behind raw i s e node opened at h (open-within raw i i i s e e opened refl (omega arith) (omega arith) o) in
@@ -19,7 +20,8 @@ head-behind raw i s e node parts opened at st h k o =
     open-within raw _ _ s s e e opened (omega arith) (omega arith) (omega arith) b
 
 -- in the block of a statement that is no `begin`
-head-inside : (raw : RawKernel) (i e : ℕ) (node : RawNode) (parts : List RawExpr) (opened : List ℕ) → slice_get raw.nodes.items i ≡ Some node → StandsParts raw.nodes.items (i + 1) parts →
+head-inside : (raw : RawKernel) (i e : ℕ) (node : RawNode) (parts : List RawExpr) (opened : List ℕ) → slice_get raw.nodes.items i ≡ Some node
+    → StandsParts raw.nodes.items (i + 1) parts →
     is_begin node.form ≡ false → AreOpen raw i i e opened → AreOpen raw (i + (1 + parts_size parts)) (i + (1 + parts_size parts)) e opened
 head-inside raw i e node parts opened at st h o =
     let s = i + (1 + parts_size parts) in
@@ -33,7 +35,8 @@ module _ (raw : RawKernel) (i : ℕ) {owner : Option ℕ} {f : RawForm} {at name
       AreOpen raw i i e opened → AreOpen raw (i + (1 + parts_size parts)) (i + (1 + parts_size parts)) e opened
   simple-behind s st o = head-behind raw i _ e _ parts opened s st (omega arith) (omega arith) o
 
-  module _ (inner : RawBlock) (s : slice_get raw.nodes.items i ≡ Some (statement_node f at name owner (parts_size parts) (block_size inner) 0)) (st : StandsParts raw.nodes.items (i + 1) parts) where
+  module _ (inner : RawBlock) (s : slice_get raw.nodes.items i ≡ Some (statement_node f at name owner (parts_size parts) (block_size inner) 0))
+      (st : StandsParts raw.nodes.items (i + 1) parts) where
     -- behind a statement with a block
     pub nested-behind : StandsBlock raw.nodes.items (Some i) (i + (1 + parts_size parts)) inner → AreOpen raw i i e opened →
         AreOpen raw (i + (1 + parts_size parts + block_size inner)) (i + (1 + parts_size parts + block_size inner)) e opened
@@ -49,7 +52,8 @@ module _ (raw : RawKernel) (i : ℕ) {owner : Option ℕ} {f : RawForm} {at name
     begun-inside x is p h o =
         let j = i + (1 + parts_size parts) in
         let end = i + (1 + parts_size parts) + block_size inner in
-        let a = open-begun raw i j end _ x opened s is (parameter-is raw i name x p) (omega arith) (omega arith) (open-within raw i i i j e end opened refl (omega arith) (omega arith) o) in
+        let a = open-begun raw i j end _ x opened s is (parameter-is raw i name x p) (omega arith) (omega arith)
+        (open-within raw i i i j e end opened refl (omega arith) (omega arith) o) in
         let b = open-parts raw (i + 1) j end parts (x ∷ opened) st (omega arith) a in
         open-within raw _ _ j j end end (x ∷ opened) (omega arith) (omega arith) (omega arith) b
 
@@ -58,7 +62,8 @@ module _ (raw : RawKernel) (i : ℕ) {owner : Option ℕ} {f : RawForm} {at name
     nested-inside h o = head-inside raw i e _ parts opened s st h o
 
 -- in the first block of two
-pub first-inside : (raw : RawKernel) (i e : ℕ) (node : RawNode) (x : RawExpr) (opened : List ℕ) → slice_get raw.nodes.items i ≡ Some node → is_begin node.form ≡ false →
+pub first-inside : (raw : RawKernel) (i e : ℕ) (node : RawNode) (x : RawExpr) (opened : List ℕ) → slice_get raw.nodes.items i ≡ Some node
+    → is_begin node.form ≡ false →
     StandsExpr raw.nodes.items (i + 1) x → AreOpen raw i i e opened →
     AreOpen raw (i + (1 + expr_size x)) (i + (1 + expr_size x)) e opened
 first-inside raw i e node x opened at h st o =
@@ -68,7 +73,8 @@ first-inside raw i e node x opened at h st o =
     open-within raw _ _ s s e e opened (omega arith) (omega arith) (omega arith) b
 
 -- behind a block
-pub block-behind : (raw : RawKernel) (owner : Option ℕ) (i j e : ℕ) (b : RawBlock) (opened : List ℕ) → i + block_size b ≡ j → StandsBlock raw.nodes.items owner i b →
+pub block-behind : (raw : RawKernel) (owner : Option ℕ) (i j e : ℕ) (b : RawBlock) (opened : List ℕ) → i + block_size b ≡ j
+    → StandsBlock raw.nodes.items owner i b →
     AreOpen raw i i e opened → AreOpen raw j j e opened
 block-behind raw owner i j e b opened h st o =
     open-within raw _ _ j j e e opened h (omega arith) (omega arith)

@@ -43,7 +43,13 @@ fewer-taken nodes d zero (x ∷ xs) node s h =
     omega (arith, length-append (local_if (declares x.form) (local_of nodes d x)) (locals_from nodes (d + 1) xs))
 fewer-taken nodes d (suc i) (x ∷ xs) node s h =
     let head = local_if (declares x.form) (local_of nodes d x) in
-    omega (arith, fewer-taken nodes (d + 1) i xs node s h, length-append head (locals_from nodes (d + 1) (take i xs)), length-append head (locals_from nodes (d + 1) xs))
+    omega (
+      arith,
+      fewer-taken nodes (d + 1) i xs node s h,
+      length-append head (locals_from nodes (d + 1) (take i xs)),
+      length-append head
+          (locals_from nodes (d + 1) xs),
+    )
 
 pub declared-below : (raw : RawKernel) (i : ℕ) (node : RawNode) → slice_get raw.nodes.items i ≡ Some node → declares node.form ≡ true →
     length (locals_before raw.nodes.items i) < length (locals_of raw.nodes.items)
@@ -61,7 +67,8 @@ local-below : (raw : RawKernel) (i : ℕ) (text : List ℕ) (k : ℕ) (ls : List
     number_named (Some m) < k + length ls
 local-below raw i text k [] m h = cc
 local-below raw i text k (l ∷ ls) m h =
-    local-pick (in_scope i l && bytes_eq (text_at raw l.name) text) l k (length ls) (local_among raw i text (k + 1) ls) m (local-below raw i text (k + 1) ls m) h
+    local-pick (in_scope i l && bytes_eq (text_at raw l.name) text) l k (length ls) (local_among raw i text (k + 1) ls) m
+    (local-below raw i text (k + 1) ls m) h
 
 -- what is among the locals is no parameter
 as-other : (l : Local) (k x : ℕ) → Some (as_local l k) ≡ Some (Parameter x) → ⊥
@@ -88,7 +95,8 @@ named-loop : (p : Option ℕ) (o : Option Named) (k : ℕ) → option_or (option
 named-loop None o k h = h
 named-loop (Some x) o k h = cc
 
-named-parameter : (p : Option ℕ) (o : Option Named) (x : ℕ) → (o ≡ Some (Parameter x) → ⊥) → option_or (option_map (λ x. Parameter x) p) o ≡ Some (Parameter x) → p ≡ Some x
+named-parameter : (p : Option ℕ) (o : Option Named) (x : ℕ) → (o ≡ Some (Parameter x) → ⊥) → option_or (option_map (λ x. Parameter x) p) o ≡ Some (Parameter x)
+    → p ≡ Some x
 named-parameter None o x other h = absurd (other h)
 named-parameter (Some y) o x other h = cc
 
@@ -160,7 +168,8 @@ touch-met None a h = cc
 touch-met (Some t) a h = access-met t a h
 
 -- the demand is met where it has no fault
-pub demand-met : (raw : RawKernel) (params : List Param) → map param_text params ≡ map (raw_param_text raw) raw.params.items → (x : ℕ) (r : RawParam) (d : Demand) →
+pub demand-met : (raw : RawKernel) (params : List Param) → map param_text params ≡ map (raw_param_text raw) raw.params.items
+    → (x : ℕ) (r : RawParam) (d : Demand) →
     slice_get raw.params.items x ≡ Some r → demand_fault d r ≡ None → IsTrue (meets params x d)
 demand-met raw params same x r d s h =
     let l = is-like raw params raw.params.items x r same s in

@@ -62,16 +62,19 @@ module _ (raw : RawKernel) (parallel : Bool) (params : List Param) (locals : ℕ
   asked : (i name x : ℕ) (f : RawForm) → used_fault raw i f (text_at raw name) ≡ None → IsParameter raw i name x → IsTrue (meets params x (demand_of f))
   asked i name x f h p = met raw params ok.same i name x f h p
 
-  is-written : (i name x e : ℕ) (opened : List ℕ) → used_fault raw i form.Write (text_at raw name) ≡ None → IsParameter raw i name x → i < e → AreOpen raw i i e opened → member x opened ≡ true
+  is-written : (i name x e : ℕ) (opened : List ℕ) → used_fault raw i form.Write (text_at raw name) ≡ None → IsParameter raw i name x → i < e
+      → AreOpen raw i i e opened → member x opened ≡ true
   is-written i name x e opened h p l o =
       sym (is-open raw i e opened x l o) ∙ block-write (is_begun raw i x) (is-used raw i name x form.Write h p).block
 
-  is-begun : (i name x e : ℕ) (opened : List ℕ) → used_fault raw i form.Begin (text_at raw name) ≡ None → IsParameter raw i name x → i < e → AreOpen raw i i e opened → not (member x opened) ≡ true
+  is-begun : (i name x e : ℕ) (opened : List ℕ) → used_fault raw i form.Begin (text_at raw name) ≡ None → IsParameter raw i name x → i < e
+      → AreOpen raw i i e opened → not (member x opened) ≡ true
   is-begun i name x e opened h p l o =
       ap not (sym (is-open raw i e opened x l o)) ∙ block-begin (is_begun raw i x) (is-used raw i name x form.Begin h p).block
 
   -- the statements of a block that stands within these nodes fit, where these streams are open
-  pub block-fits : {i : ℕ} {b : RawBlock} {ss : List Stmt} → BlockOf raw i b ss → (owner : Option ℕ) (e : ℕ) (opened : List ℕ) → StandsBlock raw.nodes.items owner i b → i + block_size b ≤ e →
+  pub block-fits : {i : ℕ} {b : RawBlock} {ss : List Stmt} → BlockOf raw i b ss → (owner : Option ℕ) (e : ℕ) (opened : List ℕ)
+      → StandsBlock raw.nodes.items owner i b → i + block_size b ≤ e →
       AreOpen raw i i e opened → IsTrue (all_fit (map (stmt_fits parallel params locals) ss) opened)
   block-fits nothing owner e opened st l now = refl
   block-fits (var {i = i} {e = a} {s = s} k d x o rest) owner e opened st l now =
@@ -84,10 +87,12 @@ module _ (raw : RawKernel) (parallel : Bool) (params : List Param) (locals : ℕ
       and_from _ _ (stmt-is s _ opened o ∙ and_from _ _ (value-met raw parallel params locals ok i name k (name-fine i _ st.0) p) (part x st.1.0))
       (block-fits rest owner e opened st.2 (omega arith) (simple-behind raw i (a ∷ []) e opened st.0 st.1 now))
   block-fits (set_place {i = i} {name = name} {e = a} {g = g} {s = s} k p x y o rest) owner e opened st l now =
-      and_from _ _ (stmt-is s _ opened o ∙ and_from _ _ (asked i name k form.SetPlace (name-fine i _ st.0) p) (and_from _ _ (part x st.1.0) (part y (second-part raw.nodes.items i a g st.1))))
+      and_from _ _ (stmt-is s _ opened o ∙ and_from _ _ (asked i name k form.SetPlace (name-fine i _ st.0) p)
+      (and_from _ _ (part x st.1.0) (part y (second-part raw.nodes.items i a g st.1))))
       (block-fits rest owner e opened st.2 (omega arith) (simple-behind raw i (a ∷ g ∷ []) e opened st.0 st.1 now))
   block-fits (set_try_add {i = i} {at = at} {name = name} {e = a} {g = g} {s = s} j k v p x y o rest) owner e opened st l now =
-      and_from _ _ (stmt-is s _ opened o ∙ and_from _ _ (local i at j v) (and_from _ _ (asked i name k form.SetTryAdd (name-fine i _ st.0) p) (and_from _ _ (part x st.1.0) (part y (second-part raw.nodes.items i a g st.1)))))
+      and_from _ _ (stmt-is s _ opened o ∙ and_from _ _ (local i at j v) (and_from _ _ (asked i name k form.SetTryAdd (name-fine i _ st.0) p)
+      (and_from _ _ (part x st.1.0) (part y (second-part raw.nodes.items i a g st.1)))))
       (block-fits rest owner e opened st.2 (omega arith) (simple-behind raw i (a ∷ g ∷ []) e opened st.0 st.1 now))
   block-fits (set_remove {i = i} {at = at} {name = name} {e = a} {s = s} j k v p x o rest) owner e opened st l now =
       and_from _ _ (stmt-is s _ opened o ∙ and_from _ _ (local i at j v) (and_from _ _ (asked i name k form.SetRemove (name-fine i _ st.0) p) (part x st.1.0)))
@@ -96,7 +101,8 @@ module _ (raw : RawKernel) (parallel : Bool) (params : List Param) (locals : ℕ
       and_from _ _ (stmt-is s _ opened o ∙ and_from _ _ (asked i name k form.AddItem (name-fine i _ st.0) p) (part x st.1.0))
       (block-fits rest owner e opened st.2 (omega arith) (simple-behind raw i (a ∷ []) e opened st.0 st.1 now))
   block-fits (add_pair {i = i} {name = name} {e = a} {g = g} {s = s} k p x y o rest) owner e opened st l now =
-      and_from _ _ (stmt-is s _ opened o ∙ and_from _ _ (asked i name k form.AddPair (name-fine i _ st.0) p) (and_from _ _ (part x st.1.0) (part y (second-part raw.nodes.items i a g st.1))))
+      and_from _ _ (stmt-is s _ opened o ∙ and_from _ _ (asked i name k form.AddPair (name-fine i _ st.0) p)
+      (and_from _ _ (part x st.1.0) (part y (second-part raw.nodes.items i a g st.1))))
       (block-fits rest owner e opened st.2 (omega arith) (simple-behind raw i (a ∷ g ∷ []) e opened st.0 st.1 now))
   block-fits (remove {i = i} {name = name} {e = a} {s = s} k p x o rest) owner e opened st l now =
       and_from _ _ (stmt-is s _ opened o ∙ and_from _ _ (asked i name k form.Remove (name-fine i _ st.0) p) (part x st.1.0))
@@ -106,12 +112,15 @@ module _ (raw : RawKernel) (parallel : Bool) (params : List Param) (locals : ℕ
       (block-fits rest owner e opened st.2 (omega arith) (simple-behind raw i [] e opened st.0 st.1 now))
   block-fits (write {i = i} {name = name} {e = a} {s = s} k p x o rest) owner e opened st l now =
       let ok-name = name-fine i _ st.0 in
-      and_from _ _ (stmt-is s _ opened o ∙ and_from _ _ (asked i name k form.Write ok-name p) (and_from _ _ (is-written i name k e opened ok-name p (omega arith) now) (part x st.1.0)))
+      and_from _ _ (stmt-is s _ opened o ∙ and_from _ _ (asked i name k form.Write ok-name p)
+      (and_from _ _ (is-written i name k e opened ok-name p (omega arith) now) (part x st.1.0)))
       (block-fits rest owner e opened st.2 (omega arith) (simple-behind raw i (a ∷ []) e opened st.0 st.1 now))
   block-fits (begun {i = i} {name = name} {e = a} {s = s} {inner = b} k p x o inner rest) owner e opened st l now =
       let ok-name = name-fine i _ st.0 in
-      let body = block-fits inner (Some i) (i + (1 + (expr_size a + 0)) + block_size b) (k ∷ opened) st.2 (omega arith) (begun-inside raw i (a ∷ []) e opened b st.0 st.1 k refl p (omega arith) now) in
-      and_from _ _ (stmt-is s _ opened o ∙ and_from _ _ (asked i name k form.Begin ok-name p) (and_from _ _ (is-begun i name k e opened ok-name p (omega arith) now) (and_from _ _ (part x st.1.0) body)))
+      let body = block-fits inner (Some i) (i + (1 + (expr_size a + 0)) + block_size b) (k ∷ opened) st.2 (omega arith)
+      (begun-inside raw i (a ∷ []) e opened b st.0 st.1 k refl p (omega arith) now) in
+      and_from _ _ (stmt-is s _ opened o ∙ and_from _ _ (asked i name k form.Begin ok-name p)
+      (and_from _ _ (is-begun i name k e opened ok-name p (omega arith) now) (and_from _ _ (part x st.1.0) body)))
       (block-fits rest owner e opened st.3 (omega arith) (nested-behind raw i (a ∷ []) e opened b st.0 st.1 st.2 now))
   block-fits (tested {i = i} {e = a} {s = s} {inner = b} {other = other} x o inner none rest) owner e opened st l now =
       let body = block-fits inner (Some i) e opened st.2 (omega arith) (nested-inside raw i (a ∷ []) e opened b st.0 st.1 refl now) in
@@ -119,7 +128,8 @@ module _ (raw : RawKernel) (parallel : Bool) (params : List Param) (locals : ℕ
       (block-fits rest owner e opened st.3 (omega arith) (nested-behind raw i (a ∷ []) e opened b st.0 st.1 st.2 now))
   block-fits (counted {i = i} {e = a} {g = g} {s = s} {inner = b} k d x y o inner rest) owner e opened st l now =
       let body = block-fits inner (Some i) e opened st.2 (omega arith) (nested-inside raw i (a ∷ g ∷ []) e opened b st.0 st.1 refl now) in
-      and_from _ _ (stmt-is s _ opened o ∙ and_from _ _ (declared i k _ st.0 refl d) (and_from _ _ (part x st.1.0) (and_from _ _ (part y (second-part raw.nodes.items i a g st.1)) body)))
+      and_from _ _ (stmt-is s _ opened o ∙ and_from _ _ (declared i k _ st.0 refl d)
+      (and_from _ _ (part x st.1.0) (and_from _ _ (part y (second-part raw.nodes.items i a g st.1)) body)))
       (block-fits rest owner e opened st.3 (omega arith) (nested-behind raw i (a ∷ g ∷ []) e opened b st.0 st.1 st.2 now))
   block-fits (looped {i = i} {e = a} {s = s} {inner = b} x o inner rest) owner e opened st l now =
       let body = block-fits inner (Some i) e opened st.2 (omega arith) (nested-inside raw i (a ∷ []) e opened b st.0 st.1 refl now) in
@@ -128,7 +138,8 @@ module _ (raw : RawKernel) (parallel : Bool) (params : List Param) (locals : ℕ
   block-fits (branched {i = i} {e = a} {s = s} {first = first} {second = second} x o one two rest) owner e opened st l now =
       let first-open = first-inside raw i e _ a opened st.0 refl st.1 now in
       let second-open = block-behind raw (Some i) _ (i + (1 + expr_size a + block_size first)) e first opened (omega arith) st.2 first-open in
-      let rest-open = block-behind raw (Some i) _ (i + (1 + expr_size a + block_size first + block_size second)) e second opened (omega arith) st.3 second-open in
+      let rest-open = block-behind raw (Some i) _ (i + (1 + expr_size a + block_size first + block_size second)) e second opened
+      (omega arith) st.3 second-open in
       let body = block-fits one (Some i) e opened st.2 (omega arith) first-open in
       let other = block-fits two (Some i) e opened st.3 (omega arith) second-open in
       and_from _ _ (stmt-is s _ opened o ∙ and_from _ _ (part x st.1) (and_from _ _ body other))

@@ -35,7 +35,8 @@ one-more : (raw : RawKernel) (i : ℕ) (node : RawNode) (x j : ℕ) → slice_ge
 one-more raw i node x j s =
     let lt = slice_get_within raw.nodes.items i node s in
     let len : 0 + length (take i raw.nodes.items) ≡ i = omega (arith, length-take i raw.nodes.items) in
-    ap (begun_among raw x j 0) (take_more raw.nodes.items i node lt ∙ ap (λ n. take i raw.nodes.items ++ n ∷ []) (get_or_from_slice_get raw.nodes.items i node node s))
+    ap (begun_among raw x j 0) (take_more raw.nodes.items i node lt ∙ ap (λ n. take i raw.nodes.items ++ n ∷ [])
+    (get_or_from_slice_get raw.nodes.items i node node s))
     ∙ begun_among-push raw x j 0 (take i raw.nodes.items) node
     ∙ ap (λ n. begun_among raw x j 0 (take i raw.nodes.items) || is_block raw x j n node) len
 
@@ -52,7 +53,8 @@ outside : (b c : Bool) (j i h k : ℕ) → i + 1 + h + k ≤ j → (b && ((leb (
 outside b c j i h k l = grind (arith, nat_tests)
 
 -- a node tells nothing of those behind its block
-pub open-behind : (raw : RawKernel) (i s e : ℕ) (node : RawNode) (opened : List ℕ) → slice_get raw.nodes.items i ≡ Some node → i + 1 + node.heads + node.inside ≤ s →
+pub open-behind : (raw : RawKernel) (i s e : ℕ) (node : RawNode) (opened : List ℕ) → slice_get raw.nodes.items i ≡ Some node
+    → i + 1 + node.heads + node.inside ≤ s →
     AreOpen raw i s e opened → AreOpen raw (i + 1) s e opened
 open-behind raw i s e node opened at h o = record {
   tell = λ x j a b.
@@ -75,7 +77,8 @@ inside : (c : Bool) (j i h k : ℕ) → i + 1 + h ≤ j → j < i + 1 + h + k �
 inside c j i h k l m = grind (arith, nat_tests)
 
 -- a `begin` opens its stream for the nodes of its block
-pub open-begun : (raw : RawKernel) (i s e : ℕ) (node : RawNode) (stream : ℕ) (opened : List ℕ) → slice_get raw.nodes.items i ≡ Some node → is_begin node.form ≡ true →
+pub open-begun : (raw : RawKernel) (i s e : ℕ) (node : RawNode) (stream : ℕ) (opened : List ℕ) → slice_get raw.nodes.items i ≡ Some node
+    → is_begin node.form ≡ true →
     parameter raw (text_at raw node.name) ≡ Some stream → i + 1 + node.heads ≤ s → e ≤ i + 1 + node.heads + node.inside →
     AreOpen raw i s e opened → AreOpen raw (i + 1) s e (stream ∷ opened)
 open-begun raw i s e node stream opened at h p l m o = record {
@@ -119,7 +122,8 @@ open-parts raw i s e (x ∷ parts) opened st h o =
     open-within raw _ _ s s e e opened (omega arith) (omega arith) (omega arith) b
 
 -- no block is open behind the statements that it stands in
-pub open-block : (raw : RawKernel) (owner : Option ℕ) (i s e : ℕ) (b : RawBlock) (opened : List ℕ) → StandsBlock raw.nodes.items owner i b → i + block_size b ≤ s →
+pub open-block : (raw : RawKernel) (owner : Option ℕ) (i s e : ℕ) (b : RawBlock) (opened : List ℕ) → StandsBlock raw.nodes.items owner i b
+    → i + block_size b ≤ s →
     AreOpen raw i s e opened → AreOpen raw (i + block_size b) s e opened
 open-block raw owner i s e Nothing opened st h o = open-within raw _ _ s s e e opened (omega arith) (omega arith) (omega arith) o
 open-block raw owner i s e (Simple f at name parts more) opened st h o =

@@ -30,7 +30,9 @@ front_from_none text longest_is =
     let front = front_of_none text longest_is in
     record { kind_is = sym front.0; len_is = sym front.1 }
 
-pub front_name : (text : List ℕ) → 0 < length text → get_or text 0 0 < 256 → begins_name (get_or text 0 0) ≡ true → IsFront text (Some (unwrap_or (spelled reserved_words (take (1 + prefix_len continues_name (drop 1 text)) text)) Name)) (1 + prefix_len continues_name (drop 1 text))
+pub front_name : (text : List ℕ) → 0 < length text → get_or text 0 0 < 256 → begins_name (get_or text 0 0) ≡ true
+    → IsFront text (Some (unwrap_or (spelled reserved_words (take (1 + prefix_len continues_name (drop 1 text)) text)) Name))
+    (1 + prefix_len continues_name (drop 1 text))
 front_name [] some small begins = absurd (omega arith)
 front_name (byte ∷ bytes) some small begins =
     let n = prefix_len continues_name bytes in
@@ -38,7 +40,8 @@ front_name (byte ∷ bytes) some small begins =
     (front_from_word (byte ∷ bytes) n _ (longest_run continues_name byte bytes (names byte small begins))
     (kind_of-name byte (take n bytes) small begins ∙ cond-true _ _ _ (run_passes continues_name bytes)))
 
-pub front_number : (text : List ℕ) → 0 < length text → get_or text 0 0 < 256 → is_ascii_digit (get_or text 0 0) ≡ true → IsFront text (Some Number) (1 + prefix_len is_ascii_digit (drop 1 text))
+pub front_number : (text : List ℕ) → 0 < length text → get_or text 0 0 < 256 → is_ascii_digit (get_or text 0 0) ≡ true
+    → IsFront text (Some Number) (1 + prefix_len is_ascii_digit (drop 1 text))
 front_number [] some small begins = absurd (omega arith)
 front_number (byte ∷ bytes) some small begins =
     let n = prefix_len is_ascii_digit bytes in
@@ -59,9 +62,12 @@ front_comment (byte ∷ bytes) some begins = subst (λ b. IsFront (b ∷ bytes) 
 -- a tab, a carriage return or a space
 pub front_blank : (text : List ℕ) → 0 < length text → (get_or text 0 0 ≡ 9) ⊎ ((get_or text 0 0 ≡ 13) ⊎ (get_or text 0 0 ≡ 32)) → IsFront text None 1
 front_blank [] some begins = absurd (omega arith)
-front_blank (byte ∷ bytes) some (inl begins) = subst (λ b. IsFront (b ∷ bytes) None 1) (sym begins) (front_from_word (9 ∷ bytes) 0 _ (longest-tab bytes) (kind_of-tab []))
-front_blank (byte ∷ bytes) some (inr (inl begins)) = subst (λ b. IsFront (b ∷ bytes) None 1) (sym begins) (front_from_word (13 ∷ bytes) 0 _ (longest-return bytes) (kind_of-return []))
-front_blank (byte ∷ bytes) some (inr (inr begins)) = subst (λ b. IsFront (b ∷ bytes) None 1) (sym begins) (front_from_word (32 ∷ bytes) 0 _ (longest-space bytes) (kind_of-space []))
+front_blank (byte ∷ bytes) some (inl begins) = subst (λ b. IsFront (b ∷ bytes) None 1) (sym begins)
+    (front_from_word (9 ∷ bytes) 0 _ (longest-tab bytes) (kind_of-tab []))
+front_blank (byte ∷ bytes) some (inr (inl begins)) = subst (λ b. IsFront (b ∷ bytes) None 1) (sym begins)
+    (front_from_word (13 ∷ bytes) 0 _ (longest-return bytes) (kind_of-return []))
+front_blank (byte ∷ bytes) some (inr (inr begins)) = subst (λ b. IsFront (b ∷ bytes) None 1) (sym begins)
+    (front_from_word (32 ∷ bytes) 0 _ (longest-space bytes) (kind_of-space []))
 
 line_kind : kind_of (10 ∷ []) ≡ Some Line
 unfolding kind_of is_name is_number is_text spelling_of symbols
@@ -69,17 +75,20 @@ line_kind = refl
 
 pub front_line : (text : List ℕ) → 0 < length text → get_or text 0 0 ≡ 10 → IsFront text (Some Line) 1
 front_line [] some begins = absurd (omega arith)
-front_line (byte ∷ bytes) some begins = subst (λ b. IsFront (b ∷ bytes) (Some Line) 1) (sym begins) (front_from_word (10 ∷ bytes) 0 _ (longest-line bytes) line_kind)
+front_line (byte ∷ bytes) some begins = subst (λ b. IsFront (b ∷ bytes) (Some Line) 1) (sym begins)
+    (front_from_word (10 ∷ bytes) 0 _ (longest-line bytes) line_kind)
 
 -- a quote, and what stands behind it
-quoted : (bytes : List ℕ) (n : ℕ) → n ≡ prefix_len stands_in_text bytes → 0 < n → n < length bytes → get_or bytes n 0 ≡ 34 → IsFront (34 ∷ bytes) (Some Text) (suc (suc n))
+quoted : (bytes : List ℕ) (n : ℕ) → n ≡ prefix_len stands_in_text bytes → 0 < n → n < length bytes → get_or bytes n 0 ≡ 34
+    → IsFront (34 ∷ bytes) (Some Text) (suc (suc n))
 quoted bytes n is some within quote =
     subst (λ m. IsFront (34 ∷ bytes) (Some Text) (suc (suc m))) (sym is)
     (front_from_word (34 ∷ bytes) (suc (prefix_len stands_in_text bytes)) _
     (longest_text bytes (omega arith) (omega arith) (ap (λ m. get_or bytes m 0) (sym is) ∙ quote))
     (kind_of_text bytes (omega arith) (omega arith) (ap (λ m. get_or bytes m 0) (sym is) ∙ quote)))
 
-pub front_text : (text : List ℕ) (n : ℕ) → 0 < length text → get_or text 0 0 ≡ 34 → n ≡ prefix_len stands_in_text (drop 1 text) → 0 < n → n + 1 < length text → get_or text (n + 1) 0 ≡ 34 → IsFront text (Some Text) (n + 2)
+pub front_text : (text : List ℕ) (n : ℕ) → 0 < length text → get_or text 0 0 ≡ 34 → n ≡ prefix_len stands_in_text (drop 1 text) → 0 < n → n + 1 < length text
+    → get_or text (n + 1) 0 ≡ 34 → IsFront text (Some Text) (n + 2)
 front_text [] n some begins is inside within quote = absurd (omega arith)
 front_text (byte ∷ bytes) n some begins is inside within quote =
     let two : n + 2 ≡ suc (suc n) = omega arith in
@@ -88,7 +97,8 @@ front_text (byte ∷ bytes) n some begins is inside within quote =
     (subst (λ b. IsFront (b ∷ bytes) (Some Text) (suc (suc n))) (sym begins)
     (quoted bytes n is inside (omega arith) (sym (ap (λ m. get_or (byte ∷ bytes) m 0) one) ∙ quote)))
 
-pub front_quote : (text : List ℕ) (n : ℕ) → 0 < length text → get_or text 0 0 ≡ 34 → n ≡ prefix_len stands_in_text (drop 1 text) → (0 < n → n + 1 < length text → get_or text (n + 1) 0 ≡ 34 → ⊥) → IsFront text (Some Bad) 1
+pub front_quote : (text : List ℕ) (n : ℕ) → 0 < length text → get_or text 0 0 ≡ 34 → n ≡ prefix_len stands_in_text (drop 1 text)
+    → (0 < n → n + 1 < length text → get_or text (n + 1) 0 ≡ 34 → ⊥) → IsFront text (Some Bad) 1
 front_quote [] n some begins is none = absurd (omega arith)
 front_quote (byte ∷ bytes) n some begins is none =
     let one : n + 1 ≡ suc n = omega arith in
@@ -98,18 +108,22 @@ front_quote (byte ∷ bytes) n some begins is none =
     (λ inside within quote. none (omega arith) (omega arith) (ap (λ m. get_or (byte ∷ bytes) m 0) one ∙ ap (λ m. get_or bytes m 0) is ∙ quote))))
 
 -- the symbol of two bytes that a text begins with, if it does
-pub front_pair : (text : List ℕ) (kind : TokenKind) → 1 < length text → IsOther (get_or text 0 0) → spelled symbols (get_or text 0 0 ∷ get_or text 1 0 ∷ []) ≡ Some kind → IsFront text (Some kind) 2
+pub front_pair : (text : List ℕ) (kind : TokenKind) → 1 < length text → IsOther (get_or text 0 0)
+    → spelled symbols (get_or text 0 0 ∷ get_or text 1 0 ∷ []) ≡ Some kind → IsFront text (Some kind) 2
 front_pair [] kind two other pair = absurd (omega arith)
 front_pair (first ∷ []) kind two other pair = absurd (omega arith)
 front_pair (first ∷ next ∷ more) kind two other pair =
     front_from_word (first ∷ next ∷ more) 1 _ (longest_pair first next more kind other pair) (kind_of-other first (next ∷ []) other ∙ pair)
 
-no_pair : (first : ℕ) (others : List ℕ) → (1 < length (first ∷ others) → spelled symbols (first ∷ get_or others 0 0 ∷ []) ≡ None) → (next : ℕ) (more : List ℕ) → others ≡ next ∷ more → spelled symbols (first ∷ next ∷ []) ≡ None
+no_pair : (first : ℕ) (others : List ℕ) → (1 < length (first ∷ others) → spelled symbols (first ∷ get_or others 0 0 ∷ []) ≡ None) → (next : ℕ) (more : List ℕ)
+    → others ≡ next ∷ more → spelled symbols (first ∷ next ∷ []) ≡ None
 no_pair first others none next more is =
     sym (ap (λ o. spelled symbols (first ∷ get_or o 0 0 ∷ [])) is) ∙ none (omega (arith, ap length is))
 
 -- the symbol of one byte that it begins with, else the byte is no token
-pub front_single : (text : List ℕ) (kind : Option TokenKind) → 0 < length text → IsOther (get_or text 0 0) → (1 < length text → spelled symbols (get_or text 0 0 ∷ get_or text 1 0 ∷ []) ≡ None) → spelled symbols (get_or text 0 0 ∷ []) ≡ kind → IsFront text (Some (unwrap_or kind Bad)) 1
+pub front_single : (text : List ℕ) (kind : Option TokenKind) → 0 < length text → IsOther (get_or text 0 0)
+    → (1 < length text → spelled symbols (get_or text 0 0 ∷ get_or text 1 0 ∷ []) ≡ None) → spelled symbols (get_or text 0 0 ∷ []) ≡ kind
+    → IsFront text (Some (unwrap_or kind Bad)) 1
 front_single [] kind some other pair single = absurd (omega arith)
 front_single (first ∷ others) None some other pair single =
     front_from_none (first ∷ others) (longest_none first others other (no_pair first others pair) single)

@@ -22,7 +22,8 @@ use Rattle.kernel_code.proofs.Runs.{prefix_len-le}
 use Rattle.kernel_code.proofs.Values.{number_value}
 
 -- a letter that the next byte doesn't continue is all that stands there
-lone_letter : (source : List ℕ) (place : ℕ) → place + 1 < length source → get_or source place 0 < 256 → is_ascii_alphabetic (get_or source place 0) ≡ true → continues_name (get_or source (place + 1) 0) ≡ false → front_len (drop place source) ≡ 1
+lone_letter : (source : List ℕ) (place : ℕ) → place + 1 < length source → get_or source place 0 < 256 → is_ascii_alphabetic (get_or source place 0) ≡ true
+    → continues_name (get_or source (place + 1) 0) ≡ false → front_len (drop place source) ≡ 1
 lone_letter source place within small letter ended =
     let none = prefix_len-drop_no continues_name source (place + 1) 0 within ended in
     let there = at_name source place (place + 1) (omega arith) small (or_left _ _ letter) (omega (arith, none)) in
@@ -34,7 +35,8 @@ ends_behind source End start other = cc
 ends_behind source _ start other = refl
 
 -- the text of a token of one letter
-pub letter_text : (source : List ℕ) (line : ℕ) (mark : Mark) → get_or source (start_of mark) 0 < 256 → is_letter source mark ≡ true → take 1 (drop (start_of mark) source) ≡ text_of source (token_in source line mark)
+pub letter_text : (source : List ℕ) (line : ℕ) (mark : Mark) → get_or source (start_of mark) 0 < 256 → is_letter source mark ≡ true
+    → take 1 (drop (start_of mark) source) ≡ text_of source (token_in source line mark)
 letter_text source line mark small letter =
     let start = start_of mark in
     let first = is_ascii_alphabetic (get_or source start 0) in
@@ -55,7 +57,8 @@ first_byte : (source : List ℕ) (start : ℕ) → start < length source → tak
 first_byte source start within = ap (take 1) (drop-cons source start 0 within)
 
 -- a token of one letter is spelled by that letter alone
-pub letter_spelled : (source : List ℕ) (line : ℕ) (mark : Mark) (name : List ℕ) → get_or source (start_of mark) 0 < 256 → is_letter source mark ≡ true → start_of mark < length source → 0 < length name →
+pub letter_spelled : (source : List ℕ) (line : ℕ) (mark : Mark) (name : List ℕ) → get_or source (start_of mark) 0 < 256 → is_letter source mark ≡ true
+    → start_of mark < length source → 0 < length name →
     get_or source (start_of mark) 0 ≡ get_or name 0 0 → (length name == 1) ≡ bytes_eq (text_of source (token_in source line mark)) name
 letter_spelled source line mark name small letter within some first =
     one_byte (get_or source (start_of mark) 0) name some first
@@ -78,8 +81,10 @@ small_value bytes (suc n) few =
     omega (arith, grown, more, ap (λ k. value_of (take k bytes)) next, pow-suc 10 n)
 
 -- the value of a Number of no more than four digits
-pub few_digits : (source : List ℕ) (line start : ℕ) (mark : Mark) (most : ℕ) → start ≡ start_of mark → start + 4 < length source → get_or source start 0 < 256 → kind_of mark ≡ Number →
-    is_ascii_digit (get_or source start 0) ≡ true → is_ascii_digit (get_or source (start + 4) 0) ≡ false → 9999 ≤ most → false ≡ nat_lt most (value_of (text_of source (token_in source line mark)))
+pub few_digits : (source : List ℕ) (line start : ℕ) (mark : Mark) (most : ℕ) → start ≡ start_of mark → start + 4 < length source → get_or source start 0 < 256
+    → kind_of mark ≡ Number →
+    is_ascii_digit (get_or source start 0) ≡ true → is_ascii_digit (get_or source (start + 4) 0) ≡ false → 9999 ≤ most
+    → false ≡ nat_lt most (value_of (text_of source (token_in source line mark)))
 few_digits source line start mark most is within small kind digit ended great =
     let bytes = drop start source in
     let n = prefix_len is_ascii_digit bytes in

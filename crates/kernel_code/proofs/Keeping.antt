@@ -129,7 +129,8 @@ with-below joint late f w =
     below-more None late w = tt
     below-more (Some j) late w = (w.0, omega (arith, w.1))
 
-pub with-joins : (joint : Option Joint) (h f n : ℕ) → n < MOST_KEPT → (f < MOST_KEPT → joint ≡ None) → joins (joint_with joint h f) n ≡ joins joint n + one_if (eqb f n)
+pub with-joins : (joint : Option Joint) (h f n : ℕ) → n < MOST_KEPT → (f < MOST_KEPT → joint ≡ None)
+    → joins (joint_with joint h f) n ≡ joins joint n + one_if (eqb f n)
 with-joins joint h f n lt none =
     by_test (λ o. joins o n ≡ joins joint n + one_if (eqb f n)) (nat_lt f MOST_KEPT) (Some (record { height = h; first = f })) joint
     (λ e. let z : joins joint n ≡ 0 = ap (λ o. joins o n) (none (lt-of f MOST_KEPT e)) in omega (arith, z))
@@ -177,7 +178,8 @@ pub late-few : (nodes : List RawNode) (joint : Option Joint) (end : ℕ) (ns : L
 late-few nodes joint end [] h = omega arith
 late-few nodes joint end (n ∷ ns) h = omega (arith, h.0, h.1, late-few nodes joint n ns h.3)
 
-pub late-wider : (nodes : List RawNode) (joint : Option Joint) (end end' : ℕ) (ns : List ℕ) → end ≤ end' → AreLate nodes joint end ns → AreLate nodes joint end' ns
+pub late-wider : (nodes : List RawNode) (joint : Option Joint) (end end' : ℕ) (ns : List ℕ) → end ≤ end' → AreLate nodes joint end ns
+    → AreLate nodes joint end' ns
 late-wider nodes joint end end' [] le h = tt
 late-wider nodes joint end end' (n ∷ ns) le h = (h.0, omega (arith, h.1, le), h.2, h.3)
 
@@ -289,7 +291,8 @@ more-length place counts =
 
 pub more-at : (place : ℕ) (counts : List ℕ) (n : ℕ) → n < length counts → get_or (one_more place counts) n 0 ≡ get_or counts n 0 + one_if (eqb place n)
 more-at place counts n lt =
-    by_test (λ xs. get_or xs n 0 ≡ get_or counts n 0 + one_if (eqb place n)) (nat_lt place (length counts)) (set counts place (get_or counts place 0 + 1)) counts
+    by_test (λ xs. get_or xs n 0 ≡ get_or counts n 0 + one_if (eqb place n)) (nat_lt place (length counts))
+    (set counts place (get_or counts place 0 + 1)) counts
     (λ e. within (eqb place n) refl)
     (λ e. let far : one_if (eqb place n) ≡ 0 = ap one_if (of-other place n (omega (arith, ge-of place (length counts) e, lt))) in omega (arith, far))
   where

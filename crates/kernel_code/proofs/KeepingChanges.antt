@@ -20,7 +20,8 @@ early-left true [] h = tt
 early-left true (o ∷ os) h = h.1
 early-left false os h = h
 
-last-early : (b : Bool) (at before last last' : ℕ) → at < MOST_KEPT → last ≡ min MOST_KEPT last' → (if b then at - before else last) ≡ min MOST_KEPT (if b then at - before else last')
+last-early : (b : Bool) (at before last last' : ℕ) → at < MOST_KEPT → last ≡ min MOST_KEPT last'
+    → (if b then at - before else last) ≡ min MOST_KEPT (if b then at - before else last')
 last-early true at before last last' h e = omega (arith, h)
 last-early false at before last last' h e = e
 
@@ -48,7 +49,8 @@ early-replaced p k s at x y h closed early is =
       fits = h.fits;
     }
 
-early-found : (p : Part) (q count : ℕ) (k : Kept) (s : Reading) (at : ℕ) (found : Option RawNode) → Keeps k s → k.late ≡ 0 → at < MOST_KEPT → slice_get s.nodes at ≡ found →
+early-found : (p : Part) (q count : ℕ) (k : Kept) (s : Reading) (at : ℕ) (found : Option RawNode) → Keeps k s → k.late ≡ 0 → at < MOST_KEPT
+    → slice_get s.nodes at ≡ found →
     Keeps (showing (replaced_if p q count at found k.shown) k) (replaced_if p q count at found s)
 early-found p q count k s at None h closed early is = h
 early-found p q count k s at (Some x) h closed early is = early-replaced p k s at x (changed p q (count - 1 - at) x) h closed early is
@@ -61,7 +63,8 @@ early-changed p q count k s (at ∷ os) h closed early =
     subst (λ o. Keeps (showing (replaced_if p q count at o k.shown) k) (changed_in p q count (Some at) s)) (sym same)
     (early-found p q count k s at (slice_get s.nodes at) h closed early.0 refl)
 
-early-change : (p : Part) (q : ℕ) (k : Kept) (s : Reading) → Keeps k s → k.late ≡ 0 → Keeps (showing (changed_in p q k.count (top k.shown.opened) k.shown) k) (change p q s)
+early-change : (p : Part) (q : ℕ) (k : Kept) (s : Reading) → Keeps k s → k.late ≡ 0
+    → Keeps (showing (changed_in p q k.count (top k.shown.opened) k.shown) k) (change p q s)
 early-change p q k s h closed =
     let none = none-open h.lates (sym h.late ∙ closed) in
     let same : s.opened ≡ k.shown.opened = h.are_open ∙ ap (λ ns. ns ++ k.shown.opened) none in
@@ -71,7 +74,8 @@ early-change p q k s h closed =
 
 -- AN OPEN LATE NODE
 
-changed-first : (p : Part) (q behind n : ℕ) (x : RawNode) → MOST_KEPT ≤ n → min MOST_KEPT (n - (changed p q behind x).before) ≡ first_left p (min MOST_KEPT (n - x.before))
+changed-first : (p : Part) (q behind n : ℕ) (x : RawNode) → MOST_KEPT ≤ n
+    → min MOST_KEPT (n - (changed p q behind x).before) ≡ first_left p (min MOST_KEPT (n - x.before))
 changed-first part.Nothing q behind n x h = refl
 changed-first (part.Access a) q behind n x h = refl
 changed-first (part.Container c) q behind n x h = refl
@@ -146,7 +150,8 @@ record IsInner (k : Kept) (s : Reading) (n : ℕ) (ns : List ℕ) (x : RawNode) 
   first : min MOST_KEPT (n - x.before) ≡ first_at k.joint k.late
 
 -- it goes on
-late-middle : (p : Part) (k : Kept) (s : Reading) (n : ℕ) (ns : List ℕ) (x y : RawNode) → Keeps k s → IsInner k s n ns x → min MOST_KEPT (n - y.before) ≡ first_left p (min MOST_KEPT (n - x.before)) → IsMiddle p →
+late-middle : (p : Part) (k : Kept) (s : Reading) (n : ℕ) (ns : List ℕ) (x y : RawNode) → Keeps k s → IsInner k s n ns x
+    → min MOST_KEPT (n - y.before) ≡ first_left p (min MOST_KEPT (n - x.before)) → IsMiddle p →
     Keeps k (record s { nodes = set s.nodes n y; last = last_after p n y.before s.last })
 late-middle p k s n ns x y h i first m =
     let same : min MOST_KEPT (n - y.before) ≡ min MOST_KEPT (n - x.before) = first ∙ m.first _ in
@@ -178,12 +183,14 @@ late-middle p k s n ns x y h i first m =
       fits = h.fits;
     }
 
-last-late : (b : Bool) (f last last' g : ℕ) → f ≡ min MOST_KEPT g → last ≡ min MOST_KEPT last' → (if b then f else last) ≡ min MOST_KEPT (if b then g else last')
+last-late : (b : Bool) (f last last' g : ℕ) → f ≡ min MOST_KEPT g → last ≡ min MOST_KEPT last'
+    → (if b then f else last) ≡ min MOST_KEPT (if b then g else last')
 last-late true f last last' g e h = e
 last-late false f last last' g e h = h
 
 -- it is whole
-late-closed : (p : Part) (k : Kept) (s : Reading) (n : ℕ) (ns : List ℕ) (x y : RawNode) → Keeps k s → IsInner k s n ns x → min MOST_KEPT (n - y.before) ≡ first_left p (min MOST_KEPT (n - x.before)) →
+late-closed : (p : Part) (k : Kept) (s : Reading) (n : ℕ) (ns : List ℕ) (x y : RawNode) → Keeps k s → IsInner k s n ns x
+    → min MOST_KEPT (n - y.before) ≡ first_left p (min MOST_KEPT (n - x.before)) →
     Keeps (closed_late p k) (record s { nodes = set s.nodes n y; opened = drop 1 s.opened; last = last_after p n y.before s.last })
 late-closed p k s n ns x y h i first =
     let f = first_at k.joint k.late in
@@ -203,7 +210,8 @@ late-closed p k s n ns x y h i first =
       early = h.early;
       late = omega (arith, i.late);
       are_late = late-wider (set s.nodes n y) joint n (length (set s.nodes n y)) ns (omega (arith, size, i.are_late.1))
-          (late-moved s.nodes (set s.nodes n y) k.joint joint n ns (λ j lt. get-set s.nodes n j y lt) (λ j le. below-alike k.joint k.late j (omega (arith, le, i.late))) i.are_late.3);
+          (late-moved s.nodes (set s.nodes n y) k.joint joint n ns (λ j lt. get-set s.nodes n j y lt)
+          (λ j le. below-alike k.joint k.late j (omega (arith, le, i.late))) i.are_late.3);
       below = subst (λ l. IsBelow (joint_below k.joint l) (length ns)) (sym i.late) (below-below k.joint (length ns) i.below);
       alone = left-alone (is_whole p);
       joined = (λ j lt.
@@ -222,16 +230,22 @@ late-closed p k s n ns x y h i first =
     left-alone true lt = below-none k.joint k.late (left-less p _ lt)
     left-alone false lt = ap (λ o. joint_below o k.late) (h.alone lt)
 
-late-replaced : (p : Part) (k : Kept) (s : Reading) (n : ℕ) (ns : List ℕ) (x y : RawNode) → Keeps k s → IsInner k s n ns x → min MOST_KEPT (n - y.before) ≡ first_left p (min MOST_KEPT (n - x.before)) →
+late-replaced : (p : Part) (k : Kept) (s : Reading) (n : ℕ) (ns : List ℕ) (x y : RawNode) → Keeps k s → IsInner k s n ns x
+    → min MOST_KEPT (n - y.before) ≡ first_left p (min MOST_KEPT (n - x.before)) →
     Keeps (late_change p k) (replaced p n y s)
 late-replaced p k s n ns x y h i first = cases (is_last p) refl
   where
     cases : (b : Bool) → is_last p ≡ b →
-        Keeps (if b then closed_late p k else k) (record s { nodes = set s.nodes n y; opened = if b then drop 1 s.opened else s.opened; last = last_after p n y.before s.last })
+        Keeps (if b then closed_late p k else k) (record s {
+          nodes = set s.nodes n y;
+          opened = if b then drop 1 s.opened else s.opened;
+          last = last_after p n y.before s.last;
+        })
     cases true e = late-closed p k s n ns x y h i first
     cases false e = late-middle p k s n ns x y h i first (middle p e)
 
-late-changed : (p : Part) (q : ℕ) (k : Kept) (s : Reading) (lates : List ℕ) → (h : Keeps k s) → h.lates ≡ lates → 0 < k.late → Keeps (late_change p k) (change p q s)
+late-changed : (p : Part) (q : ℕ) (k : Kept) (s : Reading) (lates : List ℕ) → (h : Keeps k s) → h.lates ≡ lates → 0 < k.late
+    → Keeps (late_change p k) (change p q s)
 late-changed p q k s [] h e some = absurd (omega (arith, some, h.late, ap length e))
 late-changed p q k s (n ∷ ns) h e some =
     let are = subst (λ ls. AreLate s.nodes k.joint (length s.nodes) ls) e h.are_late in

@@ -38,7 +38,8 @@ param-keeps k s ps qs p q h are is = record {
 }
 
 described-keeps : (p : Part) (q : ℕ) (k : Kept) (s : Reading) → Keeps k s → Keeps (showing (described p q k.shown) k) (described p q s)
-described-keeps p q k s h = param-keeps k s k.shown.params s.params (param_with p q k.shown.param) (param_with p q s.param) h h.params (ap (param_with p q) h.param)
+described-keeps p q k s h = param-keeps k s k.shown.params s.params (param_with p q k.shown.param) (param_with p q s.param) h h.params
+    (ap (param_with p q) h.param)
 
 -- NODES THAT BEGIN
 
@@ -132,7 +133,8 @@ operator-keeps k s q h =
     let own = min MOST_KEPT k.count in
     let is : own ≡ min MOST_KEPT (length s.nodes) = ap (min MOST_KEPT) h.count in
     let before = k.count - k.shown.last in
-    by_test (λ x. Keeps (with_last own x) (with_part part.Operator q s)) (nat_lt k.count MOST_KEPT) (begun_kept q None before k) (begun_late (k.count - before) k)
+    by_test (λ x. Keeps (with_last own x) (with_part part.Operator q s)) (nat_lt k.count MOST_KEPT) (begun_kept q None before k)
+    (begun_late (k.count - before) k)
     (λ e.
     let few = lt-of k.count MOST_KEPT e in
     let same : length s.nodes - s.last ≡ before = omega (arith, h.count, h.last, few) in
@@ -194,7 +196,8 @@ part-keeps (part.Access a) q k s h = described-keeps (part.Access a) q k s h
 part-keeps (part.Container c) q k s h = described-keeps (part.Container c) q k s h
 part-keeps part.Stream q k s h = described-keeps part.Stream q k s h
 part-keeps part.Width q k s h = described-keeps part.Width q k s h
-part-keeps part.Parameter q k s h = param-keeps k s (k.shown.params ++ k.shown.param ∷ []) (s.params ++ s.param ∷ []) k.shown.param s.param h (λ i. h.params i ++ h.param i ∷ []) h.param
+part-keeps part.Parameter q k s h = param-keeps k s (k.shown.params ++ k.shown.param ∷ []) (s.params ++ s.param ∷ []) k.shown.param s.param h
+    (λ i. h.params i ++ h.param i ∷ []) h.param
 part-keeps part.Statement q k s h = statement-keeps k s q h
 part-keeps part.Atom q k s h = begun-plain k s q None None h (λ lt. refl)
 part-keeps part.Operator q k s h = operator-keeps k s q h

@@ -41,7 +41,8 @@ lowest-left a (Some b) = either _ a b
 two-some : (at : ℕ) (a : FaultKind) (name : ℕ) (b : Option FaultKind) → (z : StaticFault) × (first_of_two at (Some a) name b ≡ Some z)
 two-some at a name b = cases (eqb at name)
   where
-    cases : (same : Bool) → (z : StaticFault) × ((if same then fault_at at (lowest (Some a) b) else option_or (fault_at at (Some a)) (fault_at name b)) ≡ Some z)
+    cases : (same : Bool) → (z : StaticFault) × ((if same then fault_at at (lowest (Some a) b) else option_or (fault_at at (Some a)) (fault_at name b))
+        ≡ Some z)
     cases true = let low = lowest-left a b in (record { at = at; kind = low.0 }, ap (fault_at at) low.1)
     cases false = (record { at = at; kind = a }, refl)
 
@@ -148,8 +149,10 @@ length-alike i (l ∷ ls) (m ∷ ms) h = ap suc (length-alike i ls ms h.1)
 
 -- FAULTS OF THE KEPT NODES
 
-module _ (whole : RawKernel) (ns : Vec RawNode Global) (ds : Vec ℕ Global) (is : ns.items ≡ take MOST_KEPT whole.nodes.items) (deep : ds.items ≡ take MOST_KEPT whole.depths.items) where
-  among-alike : (i : ℕ) (text : List ℕ) (k : ℕ) (ls ms : List Local) → AllAlike i ls ms → local_among (record whole { nodes = ns; depths = ds }) i text k ls ≡ local_among whole i text k ms
+module _ (whole : RawKernel) (ns : Vec RawNode Global) (ds : Vec ℕ Global) (is : ns.items ≡ take MOST_KEPT whole.nodes.items)
+    (deep : ds.items ≡ take MOST_KEPT whole.depths.items) where
+  among-alike : (i : ℕ) (text : List ℕ) (k : ℕ) (ls ms : List Local) → AllAlike i ls ms
+      → local_among (record whole { nodes = ns; depths = ds }) i text k ls ≡ local_among whole i text k ms
   among-alike i text k [] [] h = refl
   among-alike i text k [] (m ∷ ms) h = absurd h
   among-alike i text k (l ∷ ls) [] h = absurd h
@@ -161,14 +164,16 @@ module _ (whole : RawKernel) (ns : Vec RawNode Global) (ds : Vec ℕ Global) (is
   before-same i h = ap (take i) is ∙ take-take i MOST_KEPT whole.nodes.items (omega (arith, h, kept-few whole.nodes.items ns.items is))
 
   before-alike : (i : ℕ) → i < length ns.items → AllAlike i (locals_before ns.items i) (locals_before whole.nodes.items i)
-  before-alike i h = subst (λ nodes. AllAlike i (locals_before ns.items i) (locals_from whole.nodes.items 0 nodes)) (before-same i h) (locals-alike whole.nodes.items ns.items is i 0 (take i ns.items) h)
+  before-alike i h = subst (λ nodes. AllAlike i (locals_before ns.items i) (locals_from whole.nodes.items 0 nodes)) (before-same i h)
+      (locals-alike whole.nodes.items ns.items is i 0 (take i ns.items) h)
 
   meaning-same : (i : ℕ) (text : List ℕ) → i < length ns.items → meaning_of (record whole { nodes = ns; depths = ds }) i text ≡ meaning_of whole i text
   meaning-same i text h = ap (option_or (option_map (λ x. Parameter x) (parameter whole text))) (among-alike i text 0 _ _ (before-alike i h))
 
   begun-same : (x i b : ℕ) (nodes : List RawNode) → begun_among (record whole { nodes = ns; depths = ds }) x i b nodes ≡ begun_among whole x i b nodes
   begun-same x i b [] = refl
-  begun-same x i b (node ∷ more) = ap (λ c. (is_begin node.form && (is_inside i b node && is_number x (parameter whole (text_at whole node.name)))) || c) (begun-same x i (b + 1) more)
+  begun-same x i b (node ∷ more) = ap (λ c. (is_begin node.form && (is_inside i b node && is_number x (parameter whole (text_at whole node.name)))) || c)
+      (begun-same x i (b + 1) more)
 
   is-begun-same : (i x : ℕ) → i < length ns.items → is_begun (record whole { nodes = ns; depths = ds }) i x ≡ is_begun whole i x
   is-begun-same i x h = begun-same x i 0 (take i ns.items) ∙ ap (begun_among whole x i 0) (before-same i h)
@@ -185,7 +190,8 @@ module _ (whole : RawKernel) (ns : Vec RawNode Global) (ds : Vec ℕ Global) (is
   use-same i f (Some (LoopVariable k)) h = refl
   use-same i f (Some (Parameter x)) h = ap (λ b. param_fault_of f b (slice_get whole.params.items x)) (is-begun-same i x h)
 
-  used-same : (i : ℕ) (f : RawForm) (text : List ℕ) → i < length ns.items → used_fault (record whole { nodes = ns; depths = ds }) i f text ≡ used_fault whole i f text
+  used-same : (i : ℕ) (f : RawForm) (text : List ℕ) → i < length ns.items
+      → used_fault (record whole { nodes = ns; depths = ds }) i f text ≡ used_fault whole i f text
   used-same i f text h = ap (λ o. lowest o (length_fault text)) (use-same i f _ h ∙ ap (use_fault whole i f) (meaning-same i text h))
 
   declared-same : (i : ℕ) (text : List ℕ) → i < length ns.items → declared_fault (record whole { nodes = ns; depths = ds }) i text ≡ declared_fault whole i text
@@ -194,7 +200,8 @@ module _ (whole : RawKernel) (ns : Vec RawNode Global) (ds : Vec ℕ Global) (is
       let count = length-alike i _ _ (before-alike i h) in
       λ j. lowest (some_if (is_some (meaning j)) DuplicateName) (lowest (some_if (nat_le MOST_LOCALS (count j)) Limit) (length_fault text))
 
-  answered-same : (i at : ℕ) → i < length ns.items → answer_fault (record whole { nodes = ns; depths = ds }) (meaning_of (record whole { nodes = ns; depths = ds }) i (text_at whole at)) ≡ answer_fault whole (meaning_of whole i (text_at whole at))
+  answered-same : (i at : ℕ) → i < length ns.items → answer_fault (record whole { nodes = ns; depths = ds })
+      (meaning_of (record whole { nodes = ns; depths = ds }) i (text_at whole at)) ≡ answer_fault whole (meaning_of whole i (text_at whole at))
   answered-same i at h = answer-same _ ∙ ap (answer_fault whole) (meaning-same i (text_at whole at) h)
 
   token-same : (i at : ℕ) (f : RawForm) → i < length ns.items → token_fault (record whole { nodes = ns; depths = ds }) i at f ≡ token_fault whole i at f
@@ -263,7 +270,8 @@ module _ (whole : RawKernel) (ns : Vec RawNode Global) (ds : Vec ℕ Global) (is
       let name = name-same i node.name node.form h in
       λ j. first_of_two node.at (lowest (token j) (some_if (nat_le MOST_NODES i || nat_lt MOST_DEPTH (depth j)) Limit)) node.name (name j)
 
-  front-same : (i : ℕ) (nodes : List RawNode) → i + length nodes ≤ length ns.items → nodes_fault (record whole { nodes = ns; depths = ds }) i nodes ≡ nodes_fault whole i nodes
+  front-same : (i : ℕ) (nodes : List RawNode) → i + length nodes ≤ length ns.items
+      → nodes_fault (record whole { nodes = ns; depths = ds }) i nodes ≡ nodes_fault whole i nodes
   front-same i [] h = refl
   front-same i (node ∷ more) h =
       let one = node-same i node (omega (arith, h)) in

@@ -32,7 +32,8 @@ abbrev ReadsKind : List Event → RawParam → Type 0
 ReadsKind ks p = (ps : List RawParam) (xs : List RawNode) (l : ℕ) → run (mk ps (fresh p.name) xs [] l) ks ≡ mk ps p xs [] l
 
 behind_access : (a : Access) (q : ℕ) (ks events : List Event) (x : ℕ) (ps : List RawParam) (p : RawParam) (xs : List RawNode) (l : ℕ) →
-    events ≡ on (access_action a) q ∷ ks → run (mk ps (record (fresh x) { access = a }) xs [] l) ks ≡ mk ps p xs [] l → run (mk ps (fresh x) xs [] l) events ≡ mk ps p xs [] l
+    events ≡ on (access_action a) q ∷ ks → run (mk ps (record (fresh x) { access = a }) xs [] l) ks ≡ mk ps p xs [] l
+    → run (mk ps (fresh x) xs [] l) events ≡ mk ps p xs [] l
 behind_access a q ks events x ps p xs l is e = ap (run (mk ps (fresh x) xs [] l)) is ∙ ap (λ s. run s ks) (access_read a q ps (fresh x) xs l) ∙ e
 
 reads_kind : {ks : List Event} {p : RawParam} → SpellsKind ks p → ReadsKind ks p
@@ -52,7 +53,8 @@ pub record AddsParams (es : List Event) (more : List RawParam) (ps : List RawPar
 abbrev ReadsParams : List Event → List RawParam → Type 0
 ReadsParams es more = (ps : List RawParam) (p : RawParam) (xs : List RawNode) (l : ℕ) → AddsParams es more ps p xs l
 
-one_param : (q : ℕ) (ks rest : List Event) (x : RawParam) (more : List RawParam) → ReadsKind ks x → ReadsParams rest more → ReadsParams (on action.Name x.name ∷ ks ++ on action.Parameter q ∷ rest) (x ∷ more)
+one_param : (q : ℕ) (ks rest : List Event) (x : RawParam) (more : List RawParam) → ReadsKind ks x → ReadsParams rest more
+    → ReadsParams (on action.Name x.name ∷ ks ++ on action.Parameter q ∷ rest) (x ∷ more)
 one_param q ks rest x more d h ps p xs l =
     let r = h (ps ++ x ∷ []) x xs l in
     record {
@@ -170,8 +172,12 @@ parts_below n (e ∷ more) h = below_append n (expr_nodes e) (parts_nodes more) 
 block_below : (n : ℕ) (owner : Option ℕ) (k : ℕ) (b : RawBlock) → BlockBelow n b → NodesBelow n (block_nodes owner k b)
 block_below n owner k Nothing h = tt
 block_below n owner k (Simple f at x parts more) h = (h.0, h.1, below_append n (parts_nodes parts) _ (parts_below n parts h.2) (block_below n owner _ more h.3))
-block_below n owner k (Nested f at x parts inner more) h =
-    (h.0, h.1, below_append n (parts_nodes parts) _ (parts_below n parts h.2) (below_append n (block_nodes (Some k) _ inner) _ (block_below n (Some k) _ inner h.3) (block_below n owner _ more h.4)))
+block_below n owner k (Nested f at x parts inner more) h = (
+  h.0,
+  h.1,
+  below_append n (parts_nodes parts) _ (parts_below n parts h.2)
+      (below_append n (block_nodes (Some k) _ inner) _ (block_below n (Some k) _ inner h.3) (block_below n owner _ more h.4)),
+)
 block_below n owner k (Branched at e first second more) h = (
   h.0,
   h.0,
@@ -193,7 +199,8 @@ param_at n (x ∷ ps) h (suc i) p e = param_at n ps h.3 i p e
 pub parts_are : {events : List Event} {n : ℕ} → (k : IsKernel events n) → take (length events - 2) (drop 2 events) ≡ parts_of k
 parts_are k = ap (λ es. take (length es - 2) (drop 2 es)) k.spelled ∙ take_all _ (parts_of k) (omega arith)
 
-pub few_nodes : {events : List Event} {n : ℕ} (k : IsKernel events n) → n < 2 ^ 32 → length (run nothing_read (take (length events - 2) (drop 2 events))).nodes < 2 ^ 32
+pub few_nodes : {events : List Event} {n : ℕ} (k : IsKernel events n) → n < 2 ^ 32
+    → length (run nothing_read (take (length events - 2) (drop 2 events))).nodes < 2 ^ 32
 few_nodes k few =
     let r = reads_kernel k in
     let size = length-block None 0 k.body in
@@ -221,7 +228,8 @@ has_all events n k s is =
     record { nodes = ap (λ t. t.nodes) all; params = ap (λ t. t.params) all; closed = ap (λ t. t.opened) all }
 
 pub spells_raw : (events : List Event) (n : ℕ) (k : IsKernel events n) (s : Reading) (raw : RawKernel) (d : Event) → HasAll events n k s →
-    raw.parallel ≡ is_parallel (get_or events 0 d).action → raw.name ≡ (get_or events 1 d).place → raw.params.items ≡ s.params → raw.nodes.items ≡ take MOST_KEPT s.nodes →
+    raw.parallel ≡ is_parallel (get_or events 0 d).action → raw.name ≡ (get_or events 1 d).place → raw.params.items ≡ s.params
+    → raw.nodes.items ≡ take MOST_KEPT s.nodes →
     raw.depths.items ≡ kept_depths (take MOST_KEPT (depths_of s.nodes)) → SpellsRaw events raw
 spells_raw events n k s raw d all parallel called params nodes depths =
     let parallel_same : k.parallel ≡ raw.parallel = sym (parallel ∙ ap (λ es. is_parallel (get_or es 0 d).action) k.spelled ∙ parallel_is k.parallel) in
@@ -233,7 +241,8 @@ spells_raw events n k s raw d all parallel called params nodes depths =
       params = k.param_events;
       statements = k.statement_events;
       body = k.body;
-      spelled = k.spelled ∙ ap (λ b. on (opening b) k.at ∷ on action.Name k.name ∷ parts_of k) parallel_same ∙ ap (λ x. on (opening raw.parallel) k.at ∷ on action.Name x ∷ parts_of k) name_same;
+      spelled = k.spelled ∙ ap (λ b. on (opening b) k.at ∷ on action.Name k.name ∷ parts_of k) parallel_same
+          ∙ ap (λ x. on (opening raw.parallel) k.at ∷ on action.Name x ∷ parts_of k) name_same;
       with_params = subst (λ ps. SpellsParams k.param_events ps) (sym (params ∙ all.params)) k.with_params;
       with_statements = k.with_statements;
       nodes = nodes ∙ ap (take MOST_KEPT) all.nodes;
@@ -246,7 +255,8 @@ slice_get_taken (suc m) [] i x e = e
 slice_get_taken (suc m) (y ∷ ys) zero x e = e
 slice_get_taken (suc m) (y ∷ ys) (suc i) x e = slice_get_taken m ys i x e
 
-pub within_raw : (events : List Event) (n : ℕ) (k : IsKernel events n) (s : Reading) (raw : RawKernel) (d : Event) → HasAll events n k s → n ≡ length (raw_tokens raw) →
+pub within_raw : (events : List Event) (n : ℕ) (k : IsKernel events n) (s : Reading) (raw : RawKernel) (d : Event) → HasAll events n k s
+    → n ≡ length (raw_tokens raw) →
     raw.name ≡ (get_or events 1 d).place → raw.params.items ≡ s.params → raw.nodes.items ≡ take MOST_KEPT s.nodes → IsWithin raw
 within_raw events n k s raw d all size called params nodes =
     let name_same : k.name ≡ raw.name = sym (called ∙ ap (λ es. (get_or es 1 d).place) k.spelled) in
@@ -254,5 +264,6 @@ within_raw events n k s raw d all size called params nodes =
       name = subst (λ m. raw.name < m) size (subst (λ x. x < n) name_same k.name_below);
       params = λ i p e. subst (λ m. ParamIsBelow m p) size (param_at n k.params k.params_below i p (ap (λ ps. slice_get ps i) (sym (params ∙ all.params)) ∙ e));
       nodes = λ i x e. subst (λ m. (x.at < m) × (x.name < m)) size
-          (below_at n (block_nodes None 0 k.body) (block_below n None 0 k.body k.body_below) i x (slice_get_taken MOST_KEPT (block_nodes None 0 k.body) i x (ap (λ xs. slice_get xs i) (sym (nodes ∙ ap (take MOST_KEPT) all.nodes)) ∙ e)));
+          (below_at n (block_nodes None 0 k.body) (block_below n None 0 k.body k.body_below) i x
+          (slice_get_taken MOST_KEPT (block_nodes None 0 k.body) i x (ap (λ xs. slice_get xs i) (sym (nodes ∙ ap (take MOST_KEPT) all.nodes)) ∙ e)));
     }

@@ -43,7 +43,8 @@ use_parameter raw i f (Some (LoopVariable k)) h v l = absurd (let e : Some KindM
 use_parameter raw i f (Some (Parameter x)) h v l = refl
 
 used : (raw : RawKernel) (i name : ℕ) (f : RawForm) → used_fault raw i f (text_at raw name) ≡ None →
-    variable_fault f ≡ Some KindMismatch → loop_variable_fault f ≡ Some KindMismatch → IsParameter raw i name (number_named (meaning_of raw i (text_at raw name)))
+    variable_fault f ≡ Some KindMismatch → loop_variable_fault f ≡ Some KindMismatch
+    → IsParameter raw i name (number_named (meaning_of raw i (text_at raw name)))
 used raw i name f h v l = use_parameter raw i f _ (lowest-none _ _ h).0 v l
 
 pub param_named : (raw : RawKernel) (i name : ℕ) (f : RawForm) → takes_parameter f ≡ true → name_fault raw i name f ≡ None →
@@ -88,7 +89,8 @@ leaf_is raw i at name form.Name named l t h e = value_is raw i at name named e (
 leaf_is raw i at name form.Length named l t h e = size (number_named named) (is_parameter raw i name form.Length named refl h e) refl
 leaf_is raw i at name f named l t h e = cc
 
-unary_is : (raw : RawKernel) (i at name : ℕ) (named : Option Named) (e : RawExpr) (y x : Expr) (m : Bool) → is_minus (kind_at raw at) ≡ m → ExprOf raw (i + 1) e y →
+unary_is : (raw : RawKernel) (i at name : ℕ) (named : Option Named) (e : RawExpr) (y x : Expr) (m : Bool) → is_minus (kind_at raw at) ≡ m
+    → ExprOf raw (i + 1) e y →
     IsOneOf raw form.Unary at named y x → ExprOf raw i (One form.Unary at name e) x
 unary_is raw i at name named e y x true h inner is = negative h inner (is.1 ∙ ap (λ b. cond b (Negative' is.0 y) (Not' is.0 y)) h)
 unary_is raw i at name named e y x false h inner is = opposite h inner (is.1 ∙ ap (λ b. cond b (Negative' is.0 y) (Not' is.0 y)) h)

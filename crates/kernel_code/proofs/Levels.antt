@@ -113,7 +113,8 @@ right n a b d c node xs ys size before after le h =
     record { at = h.at; from = omega arith; within = omega arith; deep = omega arith }
 
 -- on both sides of one
-between : (n a b d e : ℕ) (node : RawNode) (xs ys : List RawNode) → length xs ≡ a → node.before ≡ a → node.after ≡ b → IsDeep n a d xs → IsDeep (n + a + 1) b e ys →
+between : (n a b d e : ℕ) (node : RawNode) (xs ys : List RawNode) → length xs ≡ a → node.before ≡ a → node.after ≡ b → IsDeep n a d xs
+    → IsDeep (n + a + 1) b e ys →
     IsDeep n (a + (1 + b)) (1 + max d e) (xs ++ node ∷ ys)
 between n a b d e node xs ys size before after g h =
     elim (cases_lt d e) [
@@ -127,16 +128,20 @@ expr_deep : (n : ℕ) (e : RawExpr) → IsDeep n (expr_size e) (expr_levels e) (
 expr_deep n (Leaf f at name) = under n 0 0 (expr_node f at name 0 0) [] refl (inl refl)
 expr_deep n (One f at name e) = under n (expr_size e) (expr_levels e) (expr_node f at name 0 (expr_size e)) (expr_nodes e) refl (inr (expr_deep (n + 1) e))
 expr_deep n (Two f at name e g) =
-    under n (expr_size e + expr_size g) (max (expr_levels e) (expr_levels g)) (expr_node f at name 0 (expr_size e + expr_size g)) (expr_nodes e ++ expr_nodes g) refl
-    (joined (n + 1) (expr_size e) (expr_size g) (expr_levels e) (expr_levels g) (expr_nodes e) (expr_nodes g) (length-expr e) (inr (expr_deep (n + 1) e)) (inr (expr_deep (n + 1 + expr_size e) g)))
+    under n (expr_size e + expr_size g) (max (expr_levels e) (expr_levels g)) (expr_node f at name 0 (expr_size e + expr_size g))
+    (expr_nodes e ++ expr_nodes g) refl
+    (joined (n + 1) (expr_size e) (expr_size g) (expr_levels e) (expr_levels g) (expr_nodes e) (expr_nodes g) (length-expr e) (inr (expr_deep (n + 1) e))
+    (inr (expr_deep (n + 1 + expr_size e) g)))
 expr_deep n (Infix at e g) =
-    between n (expr_size e) (expr_size g) (expr_levels e) (expr_levels g) (expr_node form.Binary at at (expr_size e) (expr_size g)) (expr_nodes e) (expr_nodes g) (length-expr e) refl refl
+    between n (expr_size e) (expr_size g) (expr_levels e) (expr_levels g) (expr_node form.Binary at at (expr_size e) (expr_size g)) (expr_nodes e)
+    (expr_nodes g) (length-expr e) refl refl
     (expr_deep n e) (expr_deep (n + expr_size e + 1) g)
 
 parts_deep : (n : ℕ) (parts : List RawExpr) → Reaches n (parts_size parts) (parts_levels parts) (parts_nodes parts)
 parts_deep n [] = inl refl
 parts_deep n (e ∷ more) =
-    joined n (expr_size e) (parts_size more) (expr_levels e) (parts_levels more) (expr_nodes e) (parts_nodes more) (length-expr e) (inr (expr_deep n e)) (parts_deep (n + expr_size e) more)
+    joined n (expr_size e) (parts_size more) (expr_levels e) (parts_levels more) (expr_nodes e) (parts_nodes more) (length-expr e) (inr (expr_deep n e))
+    (parts_deep (n + expr_size e) more)
 
 -- a statement with what is under it, and the rest of its block
 statement : (n a b d e : ℕ) (node : RawNode) (xs ys : List RawNode) → length xs ≡ a → node.after ≡ a → Reaches (n + 1) a d xs → Reaches (n + (1 + a)) b e ys →
@@ -148,7 +153,8 @@ block_deep owner n Nothing = inl refl
 block_deep owner n (Simple f at name parts more) =
     let p = parts_size parts in
     along refl (omega arith) refl refl
-    (statement n p (block_size more) (parts_levels parts) (block_levels more) (statement_node f at name owner p 0 0) (parts_nodes parts) (block_nodes owner (n + (1 + p)) more) (length-parts parts) (omega arith)
+    (statement n p (block_size more) (parts_levels parts) (block_levels more) (statement_node f at name owner p 0 0) (parts_nodes parts)
+    (block_nodes owner (n + (1 + p)) more) (length-parts parts) (omega arith)
     (parts_deep (n + 1) parts) (block_deep owner (n + (1 + p)) more))
 block_deep owner n (Nested f at name parts inner more) =
     let p = parts_size parts in
@@ -157,7 +163,8 @@ block_deep owner n (Nested f at name parts inner more) =
     let body = block_nodes (Some n) (n + (1 + p)) inner in
     let rest = block_nodes owner (n + (1 + p + i)) more in
     let node = statement_node f at name owner p i 0 in
-    let below = joined (n + 1) p i (parts_levels parts) (block_levels inner) head body (length-parts parts) (parts_deep (n + 1) parts) (along (omega arith) refl refl refl (block_deep (Some n) (n + (1 + p)) inner)) in
+    let below = joined (n + 1) p i (parts_levels parts) (block_levels inner) head body (length-parts parts) (parts_deep (n + 1) parts)
+    (along (omega arith) refl refl refl (block_deep (Some n) (n + (1 + p)) inner)) in
     let size : length (head ++ body) ≡ p + i = omega (arith, length-append head body, length-parts parts, length-block (Some n) (n + (1 + p)) inner) in
     along refl (omega arith) refl (ap (λ xs. node ∷ xs) (append_assoc head body rest))
     (statement n (p + i) (block_size more) (max (parts_levels parts) (block_levels inner)) (block_levels more) node (head ++ body) rest size (omega arith) below
@@ -172,10 +179,21 @@ block_deep owner n (Branched at e first second more) =
     let rest = block_nodes owner (n + (1 + p + i + j)) more in
     let node = statement_node form.IfElse at at owner p i j in
     let blocks = joined (n + 1 + p) i j (block_levels first) (block_levels second) one two (length-block (Some n) (n + (1 + p)) first)
-    (along (omega arith) refl refl refl (block_deep (Some n) (n + (1 + p)) first)) (along (omega arith) refl refl refl (block_deep (Some n) (n + (1 + p + i)) second)) in
-    let below = joined (n + 1) p (i + j) (expr_levels e) (max (block_levels first) (block_levels second)) head (one ++ two) (length-expr e) (inr (expr_deep (n + 1) e)) blocks in
+    (along (omega arith) refl refl refl (block_deep (Some n) (n + (1 + p)) first))
+    (along (omega arith) refl refl refl (block_deep (Some n) (n + (1 + p + i)) second)) in
+    let below = joined (n + 1) p (i + j) (expr_levels e) (max (block_levels first) (block_levels second)) head (one ++ two) (length-expr e)
+    (inr (expr_deep (n + 1) e)) blocks in
     let size : length (head ++ (one ++ two)) ≡ p + (i + j) =
-    omega (arith, length-append head (one ++ two), length-append one two, length-expr e, length-block (Some n) (n + (1 + p)) first, length-block (Some n) (n + (1 + p + i)) second) in
+    omega (
+      arith,
+      length-append head (one ++ two),
+      length-append one two,
+      length-expr e,
+      length-block (Some n) (n + (1 + p)) first,
+      length-block (Some n)
+          (n + (1 + p + i)) second,
+    ) in
     along refl (omega arith) refl (ap (λ xs. node ∷ xs) (append_assoc head (one ++ two) rest ∙ ap (λ xs. head ++ xs) (append_assoc one two rest)))
-    (statement n (p + (i + j)) (block_size more) (max (expr_levels e) (max (block_levels first) (block_levels second))) (block_levels more) node (head ++ (one ++ two)) rest size (omega arith) below
+    (statement n (p + (i + j)) (block_size more) (max (expr_levels e) (max (block_levels first) (block_levels second))) (block_levels more) node
+    (head ++ (one ++ two)) rest size (omega arith) below
     (along (omega arith) refl refl refl (block_deep owner (n + (1 + p + i + j)) more)))

@@ -25,7 +25,8 @@ lexed-text source k token is named =
     names_are_text source k token (cut-keeps (tokens_of source) k token is (λ end. let clash : Name ≡ End = sym named ∙ end in cc)) named
 
 -- the kinds of the first tokens up to a Bad one, and of those behind it
-kinds_at : (front : List Token) (bad : Token) (rest : List Token) → bad.kind ≡ Bad → kinds_of ((front ++ bad ∷ []) ++ rest) ≡ (kinds_of front ++ Bad ∷ []) ++ kinds_of rest
+kinds_at : (front : List Token) (bad : Token) (rest : List Token) → bad.kind ≡ Bad
+    → kinds_of ((front ++ bad ∷ []) ++ rest) ≡ (kinds_of front ++ Bad ∷ []) ++ kinds_of rest
 kinds_at front bad rest is =
     map-append (λ (token : Token). token.kind) (front ++ bad ∷ []) rest
     ∙ ap (λ ks. ks ++ kinds_of rest) (map-append (λ (token : Token). token.kind) front (bad ∷ []) ∙ ap (λ k. kinds_of front ++ k ∷ []) is)
@@ -50,8 +51,17 @@ lexed_file_is_whole source n events found =
           let there = subst (λ ks. IsOnlySentence File ks n events) (ap kinds_of cut ∙ kinds_at front bad end bad_is) found in
           let le = sentence_short File (kinds_of front) (kinds_of end) (kinds_of rest) n events there.sentence in
           let all = only_sentence_stands File (kinds_of front) (kinds_of end) (kinds_of rest) n events there in
-          let size = file_is_whole source n events (subst (λ ks. IsOnlySentence File ks n events) (sym (ap kinds_of is ∙ kinds_at front bad rest bad_is)) all) in
-          absurd (omega (arith, le, size, length-map front (λ (token : Token). token.kind), ap length is, length-append (front ++ bad ∷ []) rest, length-append front (bad ∷ [])))
+          let size = file_is_whole source n events (subst (λ ks. IsOnlySentence File ks n events)
+          (sym (ap kinds_of is ∙ kinds_at front bad rest bad_is)) all) in
+          absurd (omega (
+            arith,
+            le,
+            size,
+            length-map front (λ (token : Token). token.kind),
+            ap length is,
+            length-append (front ++ bad ∷ []) rest,
+            length-append front (bad ∷ []),
+          ))
     ]
 
 -- their first fault is that of all
@@ -77,7 +87,13 @@ lexed_fault_token source start place d fault =
           let end = end_at bad.end bad.line ∷ [] in
           let le = fault_short start (kinds_of front) (kinds_of end) (kinds_of rest) place
           (subst (λ ks. IsFault start ks place) (ap kinds_of cut ∙ kinds_at front bad end bad_is) fault) in
-          let within : place < length (front ++ bad ∷ []) = omega (arith, le, length-map front (λ (token : Token). token.kind), length-append front (bad ∷ [])) in
+          let within : place < length (front ++ bad ∷ []) = omega (
+            arith,
+            le,
+            length-map front (λ (token : Token). token.kind),
+            length-append front
+                (bad ∷ []),
+          ) in
           ap (λ ts. get_or ts place d) cut ∙ get_or-append (front ++ bad ∷ []) end d place within
           ∙ sym (ap (λ ts. get_or ts place d) is ∙ get_or-append (front ++ bad ∷ []) rest d place within)
     ]

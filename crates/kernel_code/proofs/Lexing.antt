@@ -31,7 +31,8 @@ line_of_word bytes line some =
     ⊎_elim
     (λ feed. cond-true _ _ _ feed ∙ ap (λ k. line_behind_word k line) (front_line bytes some (eqb-true (get_or bytes 0 0) 10 feed)).kind_is)
     (λ none. cond-false _ _ _ none
-    ∙ sym (other_word (front_kind bytes) line (λ is. let feed = eq-eqb (get_or bytes 0 0) 10 (front_kind-Line bytes is) in let clash : true ≡ false = sym feed ∙ none in cc)))
+    ∙ sym (other_word (front_kind bytes) line (λ is. let feed = eq-eqb (get_or bytes 0 0) 10 (front_kind-Line bytes is) in
+    let clash : true ≡ false = sym feed ∙ none in cc)))
     (cases_Bool (get_or bytes 0 0 == 10))
 
 pub line_at_word : (source : List ℕ) (place line : ℕ) (found : Option TokenKind) → place < length source → found ≡ front_kind (drop place source) →
@@ -65,7 +66,8 @@ end_pushed source line place before mark kind_is start_is =
     ∙ (λ i. tokens_in source line before ++ record { kind = kind_is i; start = start_is i; end = same_end i; line = line + lines_in before } ∷ [])
 
 -- the line behind the marks with one more
-pub lines_pushed : (line : ℕ) (before : List Mark) (mark : Mark) (kind : TokenKind) → kind_of mark ≡ kind → line + lines_in (before ++ mark ∷ []) ≡ line_behind kind (line + lines_in before)
+pub lines_pushed : (line : ℕ) (before : List Mark) (mark : Mark) (kind : TokenKind) → kind_of mark ≡ kind
+    → line + lines_in (before ++ mark ∷ []) ≡ line_behind kind (line + lines_in before)
 lines_pushed line before mark kind kind_is =
     ap (λ n. line + n) (lines_in-append before (mark ∷ []) ∙ ap (λ k. lines_in before + line_behind k 0) kind_is) ∙ moved kind (lines_in before)
   where
@@ -90,7 +92,8 @@ nothing_turn source place end found marks all within found_is end_is some room i
     ∙ turn source place line end found tokens tokens all within found_is end_is some room (λ k e. let clash = sym is ∙ e in cc) added so_far
 
 -- one at a token that is not Bad
-pub mark_turn : (source : List ℕ) (place end : ℕ) (found : Option TokenKind) (kind : TokenKind) (before after : List Mark) (mark : Mark) (all : List Token) → place < length source →
+pub mark_turn : (source : List ℕ) (place end : ℕ) (found : Option TokenKind) (kind : TokenKind) (before after : List Mark) (mark : Mark) (all : List Token)
+    → place < length source →
     found ≡ front_kind (drop place source) → end ≡ place + front_len (drop place source) → place < end → end ≤ length source →
     found ≡ Some kind → is_bad kind ≡ false → kind_of mark ≡ kind → start_of mark ≡ place → after ≡ before ++ mark ∷ [] →
     SoFar source place before all → SoFar source end after all

@@ -23,7 +23,8 @@ use Rattle.kernel_code.proofs.ParamLimits as parameters
 
 -- LOCALS
 
-node-none : (raw : RawKernel) (i : ℕ) (node : RawNode) → nodes_fault raw 0 raw.nodes.items ≡ None → slice_get raw.nodes.items i ≡ Some node → node_fault raw i node ≡ None
+node-none : (raw : RawKernel) (i : ℕ) (node : RawNode) → nodes_fault raw 0 raw.nodes.items ≡ None → slice_get raw.nodes.items i ≡ Some node
+    → node_fault raw i node ≡ None
 node-none raw i node h s = let same : 0 + i ≡ i = omega arith in subst (λ n. node_fault raw n node ≡ None) same (none_at raw 0 i raw.nodes.items node h s)
 
 one-more : (nodes : List RawNode) (i : ℕ) (node : RawNode) → i < length nodes → slice_get nodes i ≡ Some node →
@@ -45,23 +46,28 @@ few-before raw (suc i) h w =
 
 pub few-locals : (raw : RawKernel) → nodes_fault raw 0 raw.nodes.items ≡ None → length (locals_of raw.nodes.items) ≤ 64
 few-locals raw h =
-    subst (λ ns. length (locals_from raw.nodes.items 0 ns) ≤ 64) (take_all (length raw.nodes.items) raw.nodes.items (omega arith)) (few-before raw (length raw.nodes.items) h (omega arith))
+    subst (λ ns. length (locals_from raw.nodes.items 0 ns) ≤ 64) (take_all (length raw.nodes.items) raw.nodes.items (omega arith))
+    (few-before raw (length raw.nodes.items) h (omega arith))
 
 -- KERNELS
 
 -- where the whole kernel has no fault, its parameters and its nodes have none
-pub faultless : (raw : RawKernel) (earlier : List Kernel) → first_fault raw earlier ≡ None → (params_fault raw 0 raw.params.items ≡ None) × (nodes_fault raw 0 raw.nodes.items ≡ None)
+pub faultless : (raw : RawKernel) (earlier : List Kernel) → first_fault raw earlier ≡ None
+    → (params_fault raw 0 raw.params.items ≡ None) × (nodes_fault raw 0 raw.nodes.items ≡ None)
 faultless raw earlier h = option_or-none _ _ (option_or-none _ _ h).1
 
-pub params : (events : List Event) (raw : RawKernel) (k : Kernel) (earlier : List Kernel) → SpellsRaw events raw → first_fault raw earlier ≡ None → IsKernelOf raw k →
+pub params : (events : List Event) (raw : RawKernel) (k : Kernel) (earlier : List Kernel) → SpellsRaw events raw → first_fault raw earlier ≡ None
+    → IsKernelOf raw k →
     IsTrue (list_all param_fits k.params.items)
 params events raw k earlier s h is = parameters.params raw k.params.items s.with_params (faultless raw earlier h).0 is.params
 
-pub widths : (events : List Event) (raw : RawKernel) (k : Kernel) (earlier : List Kernel) → SpellsRaw events raw → first_fault raw earlier ≡ None → IsKernelOf raw k →
+pub widths : (events : List Event) (raw : RawKernel) (k : Kernel) (earlier : List Kernel) → SpellsRaw events raw → first_fault raw earlier ≡ None
+    → IsKernelOf raw k →
     IsTrue (list_all (width_fits k.parallel) k.params.items)
 widths events raw k earlier s h is = parameters.widths raw k.parallel k.params.items is.parallel s.with_params (faultless raw earlier h).0 is.params
 
-pub count : (raw : RawKernel) (k : Kernel) (earlier : List Kernel) → first_fault raw earlier ≡ None → IsKernelOf raw k → IsTrue (nat_le (length k.params.items) 16)
+pub count : (raw : RawKernel) (k : Kernel) (earlier : List Kernel) → first_fault raw earlier ≡ None → IsKernelOf raw k
+    → IsTrue (nat_le (length k.params.items) 16)
 count raw k earlier h is =
     let same = ap length is.params in
     let few = few-params raw (faultless raw earlier h).0 in
@@ -73,14 +79,16 @@ locals raw k earlier h is =
     let few = few-locals raw (faultless raw earlier h).1 in
     le-leb k.locals 64 (omega arith)
 
-pub nodes : (events : List Event) (raw : RawKernel) (k : Kernel) (earlier : List Kernel) → SpellsRaw events raw → first_fault raw earlier ≡ None → IsKernelOf raw k →
+pub nodes : (events : List Event) (raw : RawKernel) (k : Kernel) (earlier : List Kernel) → SpellsRaw events raw → first_fault raw earlier ≡ None
+    → IsKernelOf raw k →
     IsTrue (nat_le (body_nodes k.body.statements.items) 4096)
 nodes events raw k earlier s h is =
     let count = block-count (is.body events s) in
     let few = few-nodes raw (faultless raw earlier h).1 in
     le-leb (body_nodes k.body.statements.items) 4096 (omega (arith, body-size events raw s (all-kept events raw s (faultless raw earlier h).1)))
 
-pub depth : (events : List Event) (raw : RawKernel) (k : Kernel) (earlier : List Kernel) → SpellsRaw events raw → first_fault raw earlier ≡ None → IsKernelOf raw k →
+pub depth : (events : List Event) (raw : RawKernel) (k : Kernel) (earlier : List Kernel) → SpellsRaw events raw → first_fault raw earlier ≡ None
+    → IsKernelOf raw k →
     IsTrue (nat_le (body_depth k.body.statements.items) 64)
 depth events raw k earlier s h is =
     le-leb (body_depth k.body.statements.items) 64 (depths.depth raw events s k.body.statements.items (faultless raw earlier h).1 (is.body events s))

@@ -11,19 +11,25 @@ use Rattle.kernel_code.specs.Words.{begins_name, is_name, is_number, is_text, is
 use Rattle.kernel_code.specs.Tokens.{longest_up_to, longest, front_kind, front_len}
 
 -- the longest word has n bytes where the first n bytes are one, or n is 0, and no more bytes are one
-pub longest_up_to_is : (k : ℕ) (bytes : List ℕ) (n : ℕ) → n ≤ k → (0 < n → is_word (take n bytes) ≡ true) → ((m : ℕ) → n < m → m ≤ k → is_word (take m bytes) ≡ false) → longest_up_to k bytes ≡ n
+pub longest_up_to_is : (k : ℕ) (bytes : List ℕ) (n : ℕ) → n ≤ k → (0 < n → is_word (take n bytes) ≡ true)
+    → ((m : ℕ) → n < m → m ≤ k → is_word (take m bytes) ≡ false) → longest_up_to k bytes ≡ n
 unfolding longest_up_to
 longest_up_to_is zero bytes n within word none = omega arith
 longest_up_to_is (suc k) bytes n within word none =
     ⊎_elim
     (λ greater. let whole : suc k ≡ n = omega arith in cond-true _ _ _ (ap (λ m. is_word (take m bytes)) whole ∙ word (omega arith)) ∙ whole)
-    (λ smaller. cond-false _ _ _ (none (suc k) (omega arith) (omega arith)) ∙ longest_up_to_is k bytes n smaller word (λ m above below. none m above (omega arith)))
+    (λ smaller. cond-false _ _ _ (none (suc k) (omega arith) (omega arith))
+    ∙ longest_up_to_is k bytes n smaller word (λ m above below. none m above (omega arith)))
     (cases_lt k n)
 
 -- a word stands at the front
 pub front_of_word : (bytes : List ℕ) (n : ℕ) → longest bytes ≡ suc n → (front_kind bytes ≡ kind_of (take (suc n) bytes)) × (front_len bytes ≡ suc n)
 unfolding front_kind front_len
-front_of_word bytes n is = (ap (λ m. cond (eqb m 0) (Some Bad) (kind_of (take m bytes))) is ∙ cond-false _ _ _ (ne_eqb (suc n) 0 (λ none. omega arith)), ap (λ m. max 1 m) is ∙ omega arith)
+front_of_word bytes n is = (
+  ap (λ m. cond (eqb m 0) (Some Bad) (kind_of (take m bytes))) is
+      ∙ cond-false _ _ _ (ne_eqb (suc n) 0 (λ none. omega arith)),
+  ap (λ m. max 1 m) is ∙ omega arith,
+)
 
 -- no word stands at the front
 pub front_of_none : (bytes : List ℕ) → longest bytes ≡ 0 → (front_kind bytes ≡ Some Bad) × (front_len bytes ≡ 1)
@@ -62,7 +68,8 @@ differs_at_first [] byte others apart = refl
 differs_at_first (first ∷ spelling) byte others apart = and_left _ _ apart
 
 -- a text is not spelled as any of these kinds, where no spelling begins with its first byte
-pub not_spelled : (kinds : List TokenKind) (byte : ℕ) (others : List ℕ) → list_all (λ kind. not (is_first_of byte kind)) kinds ≡ true → spelled kinds (byte ∷ others) ≡ None
+pub not_spelled : (kinds : List TokenKind) (byte : ℕ) (others : List ℕ) → list_all (λ kind. not (is_first_of byte kind)) kinds ≡ true
+    → spelled kinds (byte ∷ others) ≡ None
 not_spelled [] byte others apart = refl
 not_spelled (kind ∷ kinds) byte others apart =
     let parts = and_parts _ _ apart in

@@ -127,7 +127,8 @@ head_same : (t u : Token) (ts us : List Token) → t ∷ ts ≡ u ∷ us → t �
 head_same t u ts us same = ap (λ xs. get_or xs 0 t) same
 
 -- tokens have one list of marks
-pub marks_once : (source : List ℕ) (line : ℕ) (ms ns : List Mark) → All IsOfKind ms → All IsOfKind ns → tokens_in source line ms ≡ tokens_in source line ns → ms ≡ ns
+pub marks_once : (source : List ℕ) (line : ℕ) (ms ns : List Mark) → All IsOfKind ms → All IsOfKind ns → tokens_in source line ms ≡ tokens_in source line ns
+    → ms ≡ ns
 marks_once source line [] [] a b same = refl
 marks_once source line [] (n ∷ ns) a b same = let lengths = ap length same in absurd (omega (arith, lengths))
 marks_once source line (m ∷ ms) [] a b same = let lengths = ap length same in absurd (omega (arith, lengths))
@@ -136,7 +137,8 @@ marks_once source line (m ∷ ms) (n ∷ ns) a b same =
     let kind : kind_of m ≡ kind_of n = ap (λ t. t.kind) first in
     let here = mark_once m n (All-head IsOfKind m ms a) (All-head IsOfKind n ns b) kind (ap (λ t. t.start) first) in
     let behind = ap (drop 1) same ∙ ap (λ k. tokens_in source (line_behind k line) ns) (sym kind) in
-    ap (λ x. x ∷ ms) here ∙ ap (λ xs. n ∷ xs) (marks_once source (line_behind (kind_of m) line) ms ns (All-tail IsOfKind m ms a) (All-tail IsOfKind n ns b) behind)
+    ap (λ x. x ∷ ms) here ∙ ap (λ xs. n ∷ xs) (marks_once source (line_behind (kind_of m) line) ms ns (All-tail IsOfKind m ms a)
+    (All-tail IsOfKind n ns b) behind)
 
 -- LINES
 
@@ -153,7 +155,8 @@ lines_in-le [] = omega arith
 lines_in-le (mark ∷ marks) = omega (arith, line_behind-le (kind_of mark) (lines_in marks), lines_in-le marks)
 
 -- the lines of the tokens from a place on
-pub lines_in-drop : (marks : List Mark) (i : ℕ) (d : Mark) → i < length marks → lines_in (drop i marks) ≡ line_behind (kind_of (get_or marks i d)) (lines_in (drop (i + 1) marks))
+pub lines_in-drop : (marks : List Mark) (i : ℕ) (d : Mark) → i < length marks
+    → lines_in (drop i marks) ≡ line_behind (kind_of (get_or marks i d)) (lines_in (drop (i + 1) marks))
 lines_in-drop marks i d within = ap lines_in (drop_more marks i d within)
 
 pub line_ends : (k : TokenKind) (line : ℕ) → is_line k ≡ true → line_behind k line ≡ line + 1
@@ -162,7 +165,12 @@ line_ends _ line ends = cc
 
 -- the line behind a token and others
 pub lines_behind : (line : ℕ) (mark : Mark) (marks : List Mark) → line_behind (kind_of mark) line + lines_in marks ≡ line + lines_in (mark ∷ marks)
-lines_behind line mark marks = omega (arith, line_behind-plus (kind_of mark) line (lines_in marks), line_behind-plus (kind_of mark) (lines_in marks) line, ap (line_behind (kind_of mark)) (turned line (lines_in marks)))
+lines_behind line mark marks = omega (
+  arith,
+  line_behind-plus (kind_of mark) line (lines_in marks),
+  line_behind-plus (kind_of mark) (lines_in marks) line,
+  ap (line_behind (kind_of mark)) (turned line (lines_in marks)),
+)
   where
     turned : (a b : ℕ) → a + b ≡ b + a
     turned a b = omega arith
@@ -209,7 +217,8 @@ slice_get-tokens_in source line (mark ∷ marks) (suc at) =
 pub token_there : (source : List ℕ) (line : ℕ) (marks : List Mark) (at : ℕ) (mark : Mark) → at < length marks → mark ≡ get_or marks at mark →
     slice_get (tokens_in source line marks) at ≡ Some (token_in source (line + lines_in (take at marks)) mark)
 token_there source line marks at mark within is =
-    slice_get-tokens_in source line marks at ∙ ap (option_map (token_in source (line + lines_in (take at marks)))) (slice_get_read marks (length marks) at mark refl within is)
+    slice_get-tokens_in source line marks at ∙ ap (option_map (token_in source (line + lines_in (take at marks))))
+    (slice_get_read marks (length marks) at mark refl within is)
 
 pub no_token : (source : List ℕ) (line : ℕ) (marks : List Mark) (at : ℕ) → length marks ≤ at → slice_get (tokens_in source line marks) at ≡ None
 no_token source line marks at past = slice_get_past (tokens_in source line marks) at (omega (arith, length-tokens_in source line marks))

@@ -54,7 +54,8 @@ pub record IsStatements (k : ℕ) (es : List Event) (end : ℕ) : Type 0 where
 
 -- the events are of a statement, behind its start
 abbrev pub IsStatement : ℕ → List Event → ℕ → Type 0
-IsStatement n es end = (at : ℕ) → at ≤ n → (rest : List Event) (last : ℕ) → IsStatements end rest last → IsStatements n (on action.StartStatement at ∷ es ++ rest) last
+IsStatement n es end = (at : ℕ) → at ≤ n → (rest : List Event) (last : ℕ) → IsStatements end rest last
+    → IsStatements n (on action.StartStatement at ∷ es ++ rest) last
 
 -- The events spell a block with its braces.
 pub record IsBraced (n : ℕ) (es : List Event) (end : ℕ) : Type 0 where
@@ -66,7 +67,8 @@ pub record IsBraced (n : ℕ) (es : List Event) (end : ℕ) : Type 0 where
 
 -- the events go on with an `if` behind its block
 abbrev pub IsElse : ℕ → List Event → ℕ → Type 0
-IsElse n es end = (at h o c k : ℕ) (cond first : List Event) (e : RawExpr) (b : RawBlock) → SpellsExpr cond e → SpellsBlock first b → at < n → ExprBelow n e → BlockBelow n b →
+IsElse n es end = (at h o c k : ℕ) (cond first : List Event) (e : RawExpr) (b : RawBlock) → SpellsExpr cond e → SpellsBlock first b → at < n → ExprBelow n e
+    → BlockBelow n b →
     k + (1 + (expr_size e + block_size b)) ≤ n → (rest : List Event) (last : ℕ) → IsStatements end rest last →
     IsStatements k (on action.StartStatement at ∷ (cond ++ on action.IfHead h ∷ on action.OpenBlock o ∷ (first ++ on action.CloseBlock c ∷ (es ++ rest)))) last
 
@@ -149,7 +151,13 @@ pub block_up : (n m : ℕ) (b : RawBlock) → n ≤ m → BlockBelow n b → Blo
 block_up n m Nothing le h = tt
 block_up n m (Simple f at x parts more) le h = (omega arith, omega arith, parts_up n m parts le h.2, block_up n m more le h.3)
 block_up n m (Nested f at x parts inner more) le h = (omega arith, omega arith, parts_up n m parts le h.2, block_up n m inner le h.3, block_up n m more le h.4)
-block_up n m (Branched at e first second more) le h = (omega arith, expr_up n m e le h.1, block_up n m first le h.2, block_up n m second le h.3, block_up n m more le h.4)
+block_up n m (Branched at e first second more) le h = (
+  omega arith,
+  expr_up n m e le h.1,
+  block_up n m first le h.2,
+  block_up n m second le h.3,
+  block_up n m more le h.4,
+)
 
 pub width_up : (n m : ℕ) (w : Option ℕ) → n ≤ m → IfSome w (λ x. x < n) → IfSome w (λ x. x < m)
 width_up n m None le h = tt

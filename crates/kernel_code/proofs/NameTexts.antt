@@ -54,13 +54,15 @@ others_low (byte ∷ bytes) e = let p = and_parts _ _ e in IsAscii-cons byte byt
 pub name_text : (word : List ℕ) → is_name word ≡ true → IsUtf8 word
 unfolding is_name
 name_text [] e = cc
-name_text (first ∷ others) e = let p = and_parts _ _ e in IsUtf8-from_ascii (first ∷ others) (IsAscii-cons first others (first_low first p.0) (others_low others p.1))
+name_text (first ∷ others) e = let p = and_parts _ _ e in IsUtf8-from_ascii (first ∷ others)
+    (IsAscii-cons first others (first_low first p.0) (others_low others p.1))
 
 -- TOKENS
 
 token_text_is : (source : List ℕ) (token : Token) → IsTokenOf source token → token.kind ≡ Name → IsUtf8 (text_of source token)
 token_text_is source token is named =
-    name_text (text_of source token) (kind_of-Name (text_of source token) (is.spelled_so (λ e. let clash = sym named ∙ e in cc) (λ e. let clash = sym named ∙ e in cc) ∙ ap Some named))
+    name_text (text_of source token) (kind_of-Name (text_of source token)
+    (is.spelled_so (λ e. let clash = sym named ∙ e in cc) (λ e. let clash = sym named ∙ e in cc) ∙ ap Some named))
 
 -- the names of a file are text
 pub names_are_text : (source : List ℕ) → NamesAreText source (tokens_of source)
@@ -72,7 +74,8 @@ names_are_text source k token is named =
 pub names_are_text-drop : (source : List ℕ) (n : ℕ) (tokens : List Token) → NamesAreText source tokens → NamesAreText source (drop n tokens)
 names_are_text-drop source n tokens are k token is named = let at = among_others n tokens k token is in are at.0 token at.1 named
 
-text_is : (source : List ℕ) (tokens : List Token) (place : ℕ) (found : Option Token) → NamesAreText source tokens → slice_get tokens place ≡ found → option_map (λ token. token.kind) found ≡ Some Name →
+text_is : (source : List ℕ) (tokens : List Token) (place : ℕ) (found : Option Token) → NamesAreText source tokens → slice_get tokens place ≡ found
+    → option_map (λ token. token.kind) found ≡ Some Name →
     IsUtf8 (token_text source found)
 text_is source tokens place None are is named = cc
 text_is source tokens place (Some token) are is named = let kind : token.kind ≡ Name = cc in are place token is kind
@@ -92,21 +95,26 @@ tells_before [] behind place t = let none = t.1 in cc
 tells_before (e ∷ events) behind place (zero, is) = (0, is)
 tells_before (e ∷ events) behind place (suc k, is) = let u = tells_before events behind place (k, is) in (suc u.0, u.1)
 
-params_told : {events : List Event} {params : List RawParam} → SpellsParams events params → (k : ℕ) (p : RawParam) → slice_get params k ≡ Some p → Tells events p.name
+params_told : {events : List Event} {params : List RawParam} → SpellsParams events params → (k : ℕ) (p : RawParam) → slice_get params k ≡ Some p
+    → Tells events p.name
 params_told (raw.none is) k p e = cc
 params_told {events} (raw.param q ks rest {p = x} d r is) zero p e =
     let same : x ≡ p = cc in
     subst (λ z. Tells events z.name) same (0, ap (λ es. slice_get es 0) is)
 params_told (raw.param q ks rest {p = x} d r is) (suc k) p e =
-    subst (λ es. Tells es p.name) (sym is) (tells_behind (on action.Name x.name ∷ ks) (on action.Parameter q ∷ rest) p.name (tells_behind (on action.Parameter q ∷ []) rest p.name (params_told r k p e)))
+    subst (λ es. Tells es p.name) (sym is) (tells_behind (on action.Name x.name ∷ ks) (on action.Parameter q ∷ rest) p.name
+    (tells_behind (on action.Parameter q ∷ []) rest p.name (params_told r k p e)))
 
-text_told : (source : List ℕ) (tokens : List Token) (events : List Event) (place : ℕ) → NamesAreText source tokens → NamesStand (kinds tokens) events → Tells events place →
+text_told : (source : List ℕ) (tokens : List Token) (events : List Event) (place : ℕ) → NamesAreText source tokens → NamesStand (kinds tokens) events
+    → Tells events place →
     IsUtf8 (token_text source (slice_get tokens place))
 text_told source tokens events place are stand t =
-    text_is source tokens place (slice_get tokens place) are refl (sym (slice_get-map (λ (token : Token). token.kind) tokens place) ∙ stand t.0 (on action.Name place) t.1 refl)
+    text_is source tokens place (slice_get tokens place) are refl (sym (slice_get-map (λ (token : Token). token.kind) tokens place)
+    ∙ stand t.0 (on action.Name place) t.1 refl)
 
 -- The names of a kernel that the events spell are text.
-pub legible : (source : List ℕ) (tokens : List Token) (events : List Event) (raw : RawKernel) → raw.source.now ≡ source → raw_tokens raw ≡ tokens → SpellsRaw events raw →
+pub legible : (source : List ℕ) (tokens : List Token) (events : List Event) (raw : RawKernel) → raw.source.now ≡ source → raw_tokens raw ≡ tokens
+    → SpellsRaw events raw →
     NamesAreText source tokens → NamesStand (kinds tokens) events → IsLegible raw
 legible source tokens events raw source_is tokens_are s are stand =
     let text : (place : ℕ) → Tells events place → IsUtf8 (token_text raw.source.now (slice_get (raw_tokens raw) place)) =
@@ -122,7 +130,8 @@ legible source tokens events raw source_is tokens_are s are stand =
           (tells_behind (on (opening raw.parallel) s.at ∷ on action.Name raw.name ∷ []) s.params p.name (params_told s.with_params k p is)))));
     }
 
-pub parsed : (source : List ℕ) (tokens : List Token) (events : List Event) (raw : RawKernel) → raw.source.now ≡ source → raw_tokens raw ≡ tokens → SpellsRaw events raw → IsWithin raw →
+pub parsed : (source : List ℕ) (tokens : List Token) (events : List Event) (raw : RawKernel) → raw.source.now ≡ source → raw_tokens raw ≡ tokens
+    → SpellsRaw events raw → IsWithin raw →
     NamesAreText source tokens → NamesStand (kinds tokens) events → raw.line + length raw.marks.now < 2 ^ 32 → IsParsed raw
 parsed source tokens events raw source_is tokens_are spells within are stand few = record {
   is_raw = record { events = events; spells = spells; within = within };

@@ -62,7 +62,8 @@ passes_more _ b c more e = refl
 joined : (xs ss : List Symbol) → stand_before xs ≡ true → stand_before ss ≡ true → stand_before (xs ++ ss) ≡ true
 joined [] ss e f = f
 joined (symbol.Terminal k ∷ xs) ss e f = joined xs ss e f
-joined (symbol.Action a ∷ xs) ss e f = both (passes_more a (begins xs) (begins (xs ++ ss)) (begins_more xs ss) (and_left _ _ e)) (joined xs ss (and_right (passes a (begins xs)) _ e) f)
+joined (symbol.Action a ∷ xs) ss e f = both (passes_more a (begins xs) (begins (xs ++ ss)) (begins_more xs ss) (and_left _ _ e))
+    (joined xs ss (and_right (passes a (begins xs)) _ e) f)
 joined (symbol.Nonterminal n ∷ xs) ss e f = joined xs ss e f
 
 -- symbols that begin with a name derive tokens that do
@@ -113,7 +114,8 @@ from_none : (j place : ℕ) → place ≡ 0 + j → place ≡ j
 from_none j place e = omega arith
 
 -- each name of which the events of a sentence tell stands at a token that is a name
-pub names_stand : (start : Nonterminal) (kinds : List TokenKind) (read : ℕ) (events : List Event) → IsOnlySentence start kinds read events → NamesStand kinds events
+pub names_stand : (start : Nonterminal) (kinds : List TokenKind) (read : ℕ) (events : List Event) → IsOnlySentence start kinds read events
+    → NamesStand kinds events
 names_stand start kinds read events found k event is named =
     let at = derived found.sentence refl k event is named in
     among_first read kinds event.place Name (subst (λ j. slice_get (take read kinds) j ≡ Some Name) (sym (from_none at.0 event.place at.1)) at.2)

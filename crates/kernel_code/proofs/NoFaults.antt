@@ -42,7 +42,8 @@ two-none false f a s b h =
 
 pub node_fault-none : (raw : RawKernel) (i : ℕ) (node : RawNode) → node_fault raw i node ≡ None → IsFaultless raw i node
 node_fault-none raw i node h =
-    let both = two-none (node.at == node.name) node.at (lowest (token_fault raw i node.at node.form) (size_fault raw i)) node.name (name_fault raw i node.name node.form) h in
+    let both = two-none (node.at == node.name) node.at (lowest (token_fault raw i node.at node.form) (size_fault raw i)) node.name
+    (name_fault raw i node.name node.form) h in
     let own = lowest-none (token_fault raw i node.at node.form) (size_fault raw i) both.0 in
     record { token = own.0; size = own.1; name = both.1 }
 
@@ -53,7 +54,8 @@ or-none false b h = (refl, h)
 below : (n m : ℕ) → nat_le n m ≡ false → m < n
 below n m h = grind (arith, nat_tests)
 
-pub few-locals : (raw : RawKernel) (i name : ℕ) (f : RawForm) → name_fault raw i name f ≡ None → declares f ≡ true → length (locals_before raw.nodes.items i) < 64
+pub few-locals : (raw : RawKernel) (i name : ℕ) (f : RawForm) → name_fault raw i name f ≡ None → declares f ≡ true
+    → length (locals_before raw.nodes.items i) < 64
 few-locals raw i name form.Var h d = below 64 _ (some_if-none _ _ (lowest-none _ _ (lowest-none _ _ h).1).0)
 few-locals raw i name form.For h d = below 64 _ (some_if-none _ _ (lowest-none _ _ (lowest-none _ _ h).1).0)
 few-locals raw i name f h d = cc

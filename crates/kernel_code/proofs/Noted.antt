@@ -69,9 +69,11 @@ pub record IsMadeOf (notes : List Note) (raw : RawKernel) : Type 0 where
   pub spells : SpellsRaw (events_of notes) raw
   pub within : IsWithin raw
 
-pub made_of : (notes : List Note) (n : ℕ) (k : IsKernel (events_of notes) n) (kept : Kept) (i : ℕ) (raw : RawKernel) (d : Note) → n < 2 ^ 32 → length (parts_noted notes) ≤ i →
+pub made_of : (notes : List Note) (n : ℕ) (k : IsKernel (events_of notes) n) (kept : Kept) (i : ℕ) (raw : RawKernel) (d : Note) → n < 2 ^ 32
+    → length (parts_noted notes) ≤ i →
     Keeps kept (run nothing_read (take i (events_of (parts_noted notes)))) → n ≡ length (raw_tokens raw) →
-    raw.parallel ≡ is_parallel (event_of (get_or notes 0 d)).action → raw.name ≡ (event_of (get_or notes 1 d)).place → raw.params.items ≡ kept.shown.params → raw.nodes.items ≡ kept.shown.nodes →
+    raw.parallel ≡ is_parallel (event_of (get_or notes 0 d)).action → raw.name ≡ (event_of (get_or notes 1 d)).place → raw.params.items ≡ kept.shown.params
+    → raw.nodes.items ≡ kept.shown.nodes →
     ((all : List RawNode) → AreKeptOf all kept.shown.nodes kept.joined → raw.depths.items ≡ kept_depths (take MOST_KEPT (depths_of all))) → IsMadeOf notes raw
 made_of notes n k kept i raw d few past keeps size parallel called params nodes depths =
     let events = events_of notes in
@@ -80,6 +82,7 @@ made_of notes n k kept i raw d few past keeps size parallel called params nodes 
     let same_name = called ∙ ap (λ e. e.place) (sym (get_or-map event_of notes 1 d)) in
     let same_kind = parallel ∙ ap (λ e. is_parallel e.action) (sym (get_or-map event_of notes 0 d)) in
     record {
-      spells = spells_raw events n k s raw (event_of d) all same_kind same_name (params ∙ keeps.params) (nodes ∙ keeps.nodes) (depths s.nodes (noted_kept notes n k kept i few past keeps));
+      spells = spells_raw events n k s raw (event_of d) all same_kind same_name (params ∙ keeps.params) (nodes ∙ keeps.nodes)
+          (depths s.nodes (noted_kept notes n k kept i few past keeps));
       within = within_raw events n k s raw (event_of d) all size same_name (params ∙ keeps.params) (nodes ∙ keeps.nodes);
     }

@@ -52,11 +52,13 @@ word_wide false Read h = cc
 word_wide false WriteOnly h = cc
 word_wide false Both h = cc
 
-kind_wide : (r : RawKernel) {events : List Event} {p : RawParam} → SpellsKind events p → param_kind_fault r p p.width ≡ None → text_wide r.parallel (raw_param_text r p) ≡ true
+kind_wide : (r : RawKernel) {events : List Event} {p : RawParam} → SpellsKind events p → param_kind_fault r p p.width ≡ None
+    → text_wide r.parallel (raw_param_text r p) ≡ true
 kind_wide r (raw.int q is) h = refl
 kind_wide r (raw.array q n a is) h = refl
 kind_wide r (raw.wide {w = w} {n = at} q n a is) h =
-    or-right _ _ (word_wide r.parallel a (fault_at-none w (width_word_fault r.parallel a) (option_or-none (fault_at w (width_word_fault r.parallel a)) (fault_at at (width_fault (value_at r at))) h).0))
+    or-right _ _ (word_wide r.parallel a (fault_at-none w (width_word_fault r.parallel a)
+    (option_or-none (fault_at w (width_word_fault r.parallel a)) (fault_at at (width_fault (value_at r at))) h).0))
 kind_wide r (raw.list q n a is) h = refl
 kind_wide r (raw.reference q n a is) h = refl
 kind_wide r (raw.map q n a is) h = refl
@@ -98,11 +100,13 @@ texts_fit r (p ∷ ps) (t ∷ ts) e h =
     and_from _ _ (param_same p ∙ ap text_fits head ∙ h.0) (texts_fit r ps ts tail h.2)
 
 -- the parameters that these are fit
-pub params : (r : RawKernel) {events : List Event} (ps : List Param) → SpellsParams events r.params.items → params_fault r 0 r.params.items ≡ None → map param_text ps ≡ map (raw_param_text r) r.params.items →
+pub params : (r : RawKernel) {events : List Event} (ps : List Param) → SpellsParams events r.params.items → params_fault r 0 r.params.items ≡ None
+    → map param_text ps ≡ map (raw_param_text r) r.params.items →
     list_all param_fits ps ≡ true
 params r ps spells h same = texts_fit r ps r.params.items same (all_fit r 0 spells h)
 
-texts_wide : (r : RawKernel) (parallel : Bool) → parallel ≡ r.parallel → (ps : List Param) (ts : List RawParam) → map param_text ps ≡ map (raw_param_text r) ts → AllFit r ts →
+texts_wide : (r : RawKernel) (parallel : Bool) → parallel ≡ r.parallel → (ps : List Param) (ts : List RawParam) → map param_text ps ≡ map (raw_param_text r) ts
+    → AllFit r ts →
     list_all (width_fits parallel) ps ≡ true
 texts_wide r parallel same [] [] e h = refl
 texts_wide r parallel same [] (t ∷ ts) e h = cc
@@ -113,6 +117,7 @@ texts_wide r parallel same (p ∷ ps) (t ∷ ts) e h =
     and_from _ _ (ap (text_wide parallel) head ∙ ap (λ b. text_wide b (raw_param_text r t)) same ∙ h.1) (texts_wide r parallel same ps ts tail h.2)
 
 -- their widths stand where they may
-pub widths : (r : RawKernel) {events : List Event} (parallel : Bool) (ps : List Param) → parallel ≡ r.parallel → SpellsParams events r.params.items → params_fault r 0 r.params.items ≡ None →
+pub widths : (r : RawKernel) {events : List Event} (parallel : Bool) (ps : List Param) → parallel ≡ r.parallel → SpellsParams events r.params.items
+    → params_fault r 0 r.params.items ≡ None →
     map param_text ps ≡ map (raw_param_text r) r.params.items → list_all (width_fits parallel) ps ≡ true
 widths r parallel ps same spells h texts = texts_wide r parallel same ps r.params.items texts (all_fit r 0 spells h)

@@ -17,7 +17,8 @@ pub names_len : (raw : RawKernel) (names : List (Bor (List ℕ))) → AreNames r
 names_len raw names are = sym (length-map names (λ n. n.now)) ∙ ap length are ∙ length-map raw.params.items (λ p. text_at raw p.name)
 
 -- a text stands among them at the place of its parameter
-pub names_tell : (raw : RawKernel) (names : List (Bor (List ℕ))) (text : List ℕ) → AreNames raw names → position (λ n. bytes_eq n.now text) names ≡ parameter raw text
+pub names_tell : (raw : RawKernel) (names : List (Bor (List ℕ))) (text : List ℕ) → AreNames raw names
+    → position (λ n. bytes_eq n.now text) names ≡ parameter raw text
 names_tell raw names text are =
     sym (position-map (λ n. n.now) (λ name. bytes_eq name text) names)
     ∙ ap (position (λ name. bytes_eq name text)) are
@@ -25,6 +26,7 @@ names_tell raw names text are =
 
 -- what a text is, by them
 pub meaning_told : (raw : RawKernel) (names : List (Bor (List ℕ))) (locals : List Local) (node : ℕ) (text : List ℕ) (found : Option ℕ) → AreNames raw names →
-    found ≡ position (λ n. bytes_eq n.now text) names → option_or (option_map (λ x. Parameter x) found) (local_among raw node text 0 locals) ≡ meaning_among raw locals node text
+    found ≡ position (λ n. bytes_eq n.now text) names → option_or (option_map (λ x. Parameter x) found)
+    (local_among raw node text 0 locals) ≡ meaning_among raw locals node text
 meaning_told raw names locals node text found are is =
     ap (λ p. option_or (option_map (λ x. Parameter x) p) (local_among raw node text 0 locals)) (is ∙ names_tell raw names text are)

@@ -39,7 +39,15 @@ ahead_tokens source marks at line within line_is =
 pub ahead_lines : (source : List ℕ) (marks : List Mark) (at line : ℕ) → at < length marks → line ≡ token_line (slice_get (tokens_in source 1 marks) at) →
     line + length (take (length marks - at) (drop at marks)) ≤ length marks + 1
 ahead_lines source marks at line within line_is =
-    omega (arith, line_is, line-tokens_in source 1 marks at within, lines_in-le (take at marks), length-take at marks, ap length (ahead_is marks at), length-drop at marks)
+    omega (
+      arith,
+      line_is,
+      line-tokens_in source 1 marks at within,
+      lines_in-le (take at marks),
+      length-take at marks,
+      ap length (ahead_is marks at),
+      length-drop at marks,
+    )
 
 -- they end as the file does
 pub ahead_ended : (source : List ℕ) (at : ℕ) → at < length (up_to_bad (tokens_of source)) → IsEnded (kinds (drop at (up_to_bad (tokens_of source))))
@@ -54,19 +62,22 @@ pub ahead_few : (source : List ℕ) (at : ℕ) → length source ≤ 16777216 �
 ahead_few source at few = omega (arith, lexed-few source, length-drop at (up_to_bad (tokens_of source)))
 
 -- the events of a sentence spell a kernel among the tokens
-pub sentence_spells : (tokens : List Token) (read : ℕ) (events : List Event) → IsOnlySentence Kernel (kinds tokens) read events → IsKernel events (length tokens)
+pub sentence_spells : (tokens : List Token) (read : ℕ) (events : List Event) → IsOnlySentence Kernel (kinds tokens) read events
+    → IsKernel events (length tokens)
 sentence_spells tokens read events found =
     let k = kernel_derived found.sentence in
     is_kernel_up _ (length tokens) events (omega (arith, length-take read (kinds tokens), length-map tokens (λ token. token.kind))) k
 
-found : (tokens : List Token) (at place line : ℕ) (token : Option Token) → IsFault Kernel (kinds (drop at tokens)) place → slice_get (drop at tokens) place ≡ token → line_of token ≡ line → StopsAt tokens at line
+found : (tokens : List Token) (at place line : ℕ) (token : Option Token) → IsFault Kernel (kinds (drop at tokens)) place
+    → slice_get (drop at tokens) place ≡ token → line_of token ≡ line → StopsAt tokens at line
 found tokens at place line None fault is told =
     let none = slice_get-get_or (kinds (drop at tokens)) place Bad fault.within in
     let clash = sym none ∙ slice_get-map (λ (t : Token). t.kind) (drop at tokens) place ∙ ap (option_map (λ (t : Token). t.kind)) is in
     cc
 found tokens at place line (Some token) fault is told =
     let within = slice_get_within (drop at tokens) place token is in
-    let same : get_or tokens (at + place) token ≡ token = sym (get_or-drop at tokens place token) ∙ get_or_from_slice_get (drop at tokens) place token token is in
+    let same : get_or tokens (at + place) token ≡ token = sym (get_or-drop at tokens place token)
+    ∙ get_or_from_slice_get (drop at tokens) place token token is in
     record {
       place = place;
       token = token;
@@ -76,10 +87,15 @@ found tokens at place line (Some token) fault is told =
     }
 
 -- the token with which the parser stops is told by its line
-pub stops : (tokens ahead : List Token) (at : ℕ) (error : ParseError) (refused : KernelFault) (line : ℕ) (kind : FaultKind) → refused ≡ refusal_of error ahead → ahead ≡ drop at tokens →
-    ((place : ℕ) → error ≡ stop.Syntax place → IsFault Kernel (kinds ahead) place) → refused ≡ refusal.Refused line kind → (kind ≡ syntax.Syntax) × StopsAt tokens at line
+pub stops : (tokens ahead : List Token) (at : ℕ) (error : ParseError) (refused : KernelFault) (line : ℕ) (kind : FaultKind) → refused ≡ refusal_of error ahead
+    → ahead ≡ drop at tokens →
+    ((place : ℕ) → error ≡ stop.Syntax place → IsFault Kernel (kinds ahead) place) → refused ≡ refusal.Refused line kind
+    → (kind ≡ syntax.Syntax) × StopsAt tokens at line
 stops tokens ahead at stop.Memory refused line kind is ahead_is fault told = let clash = sym is ∙ told in cc
 stops tokens ahead at (stop.Syntax place) refused line kind is ahead_is fault told =
     let same : refusal.Refused (line_of (slice_get ahead place)) syntax.Syntax ≡ refusal.Refused line kind = sym is ∙ told in
-    let line_same : line_of (slice_get ahead place) ≡ line = cc in
-    (cc, found tokens at place line _ (subst (λ ts. IsFault Kernel (kinds ts) place) ahead_is (fault place refl)) refl (ap (λ ts. line_of (slice_get ts place)) (sym ahead_is) ∙ line_same))
+    let line_same : line_of (slice_get ahead place) ≡ line = cc in (
+      cc,
+      found tokens at place line _ (subst (λ ts. IsFault Kernel (kinds ts) place) ahead_is (fault place refl)) refl
+          (ap (λ ts. line_of (slice_get ts place)) (sym ahead_is) ∙ line_same),
+    )

@@ -73,7 +73,8 @@ Chain M n (symbol.Terminal k ∷ ss) end = Taken n (λ m. Chain M m ss end)
 Chain M n (symbol.Action a ∷ ss) end = Chain M n ss end
 Chain M n (symbol.Nonterminal p ∷ ss) end = ChainOf (is_lines p) M p n (λ m. Chain M m ss end)
 
-abbrev pub events_behind : (b : Bool) (M : Meaning) (p : Nonterminal) (n : ℕ) (More : ℕ → Type 0) → ((m : ℕ) → More m → List Event) → ChainOf b M p n More → List Event
+abbrev pub events_behind : (b : Bool) (M : Meaning) (p : Nonterminal) (n : ℕ) (More : ℕ → Type 0) → ((m : ℕ) → More m → List Event) → ChainOf b M p n More
+    → List Event
 events_behind true M p n More events c = events c.end c.more
 events_behind false M p n More events c = c.events ++ events c.end c.more
 
@@ -143,7 +144,8 @@ chained_of false M p n es ss end h d =
 
 chained : (M : Meaning) (n : ℕ) (es : List Event) (ss : List Symbol) (end : ℕ) → Parts M n es ss end → Chained M n es ss end
 chained M n es [] end d = record { chain = d.1; are = d.0 }
-chained M n es (symbol.Terminal k ∷ ss) end d = let c = chained M d.end es ss end d.more in record { chain = record { end = d.end; after = d.after; more = c.chain }; are = c.are }
+chained M n es (symbol.Terminal k ∷ ss) end d = let c = chained M d.end es ss end d.more in
+    record { chain = record { end = d.end; after = d.after; more = c.chain }; are = c.are }
 chained M n es (symbol.Action a ∷ ss) end d = let c = chained M n d.rest ss end d.more in record { chain = c.chain; are = d.is ∙ ap (λ r. on a n ∷ r) c.are }
 chained M n es (symbol.Nonterminal p ∷ ss) end d =
     let c = chained_of (is_lines p) M p n es ss end (λ m rest e. chained M m rest ss end e) d in
@@ -163,7 +165,8 @@ moved n l = omega arith
 stayed : (n : ℕ) → n ≤ n + 0
 stayed n = omega arith
 
-expanded_of : (b : Bool) (M : Meaning) (p : Nonterminal) (n : ℕ) (es own rest : List Event) (middle : ℕ) (ss : List Symbol) (end : ℕ) → is_lines p ≡ b → SkipsLines M →
+expanded_of : (b : Bool) (M : Meaning) (p : Nonterminal) (n : ℕ) (es own rest : List Event) (middle : ℕ) (ss : List Symbol) (end : ℕ) → is_lines p ≡ b
+    → SkipsLines M →
     es ≡ own ++ rest → M p n own middle → Parts M middle rest ss end → OfNonterminal b M p n es (λ m r. Parts M m r ss end)
 expanded_of true M p n es own rest middle ss end e skips is means more =
     let s = skips p n own middle e means in
@@ -172,7 +175,8 @@ expanded_of true M p n es own rest middle ss end e skips is means more =
 expanded_of false M p n es own rest middle ss end e skips is means more = record { own = own; rest = rest; end = middle; is = is; means = means; more = more }
 
 -- What is derived means what it is to.
-pub parts : (M : Meaning) → Builds M → SkipsLines M → {n : ℕ} {es : List Event} {ss : List Symbol} {ks : List TokenKind} → Derives n es ss ks → Parts M n es ss (n + length ks)
+pub parts : (M : Meaning) → Builds M → SkipsLines M → {n : ℕ} {es : List Event} {ss : List Symbol} {ks : List TokenKind} → Derives n es ss ks
+    → Parts M n es ss (n + length ks)
 parts M builds skips (nothing {n = n}) = (refl, stayed n)
 parts M builds skips (terminal {n = n} {events = es} {ss = ss} {ks = ks} k d) =
     record { end = suc n; after = omega arith; more = subst (λ m. Parts M (suc n) es ss m) (moved n (length ks)) (parts M builds skips d) }

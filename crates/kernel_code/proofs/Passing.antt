@@ -22,8 +22,10 @@ pub locals_from-push : (nodes : List RawNode) (d : ℕ) (xs : List RawNode) (y :
 locals_from-push nodes d [] y = append-nil _ ∙ ap (λ n. local_if (declares y.form) (local_of nodes n y)) (omega arith)
 locals_from-push nodes d (x ∷ xs) y =
     ap (λ ls. local_if (declares x.form) (local_of nodes d x) ++ ls) (locals_from-push nodes (d + 1) xs y)
-    ∙ sym (append_assoc (local_if (declares x.form) (local_of nodes d x)) (locals_from nodes (d + 1) xs) (local_if (declares y.form) (local_of nodes (d + 1 + length xs) y)))
-    ∙ ap (λ n. (local_if (declares x.form) (local_of nodes d x) ++ locals_from nodes (d + 1) xs) ++ local_if (declares y.form) (local_of nodes n y)) (later d x xs)
+    ∙ sym (append_assoc (local_if (declares x.form) (local_of nodes d x)) (locals_from nodes (d + 1) xs)
+    (local_if (declares y.form) (local_of nodes (d + 1 + length xs) y)))
+    ∙ ap (λ n. (local_if (declares x.form) (local_of nodes d x) ++ locals_from nodes (d + 1) xs) ++ local_if (declares y.form) (local_of nodes n y))
+    (later d x xs)
 
 pub meanings_from-push : (raw : RawKernel) (d : ℕ) (xs : List RawNode) (y : RawNode) →
     meanings_from raw d (xs ++ y ∷ []) ≡ meanings_from raw d xs ++ meaning_at raw (d + length xs) y ∷ []
@@ -59,14 +61,16 @@ room raw i node true locals l d none is few =
     omega (arith, length_push locals l, ap length is)
 room raw i node false locals l d none is few = omega (arith, ap length (append-nil locals))
 
-pub known_next : (raw : RawKernel) (i : ℕ) (node d : RawNode) (locals locals' : List Local) (blocks blocks' : List StreamBlock) (meanings meanings' : List Meaning) →
+pub known_next : (raw : RawKernel) (i : ℕ) (node d : RawNode) (locals locals' : List Local) (blocks blocks' : List StreamBlock)
+    (meanings meanings' : List Meaning) →
     IsKnown raw i locals blocks meanings → i < length raw.nodes.items → node ≡ get_or raw.nodes.items i d → node_fault raw i node ≡ None →
     locals' ≡ locals ++ local_if (declares node.form) (local_of raw.nodes.items i node) →
     ((x j : ℕ) → stands_in x j blocks' ≡ (stands_in x j blocks || is_block raw x j i node)) →
     meanings' ≡ meanings ++ meaning_at raw i node ∷ [] →
     IsKnown raw (i + 1) locals' blocks' meanings'
 known_next raw i node d locals locals' blocks blocks' meanings meanings' known h is none ls bs ms =
-    let more : take (i + 1) raw.nodes.items ≡ take i raw.nodes.items ++ node ∷ [] = take_more raw.nodes.items i d h ∙ ap (λ n. take i raw.nodes.items ++ n ∷ []) (sym is) in
+    let more : take (i + 1) raw.nodes.items ≡ take i raw.nodes.items ++ node ∷ [] = take_more raw.nodes.items i d h
+    ∙ ap (λ n. take i raw.nodes.items ++ n ∷ []) (sym is) in
     let len : 0 + length (take i raw.nodes.items) ≡ i = omega (arith, length-take i raw.nodes.items) in
     record {
       locals =
@@ -94,13 +98,15 @@ pub nodes_fault-step : (raw : RawKernel) (i : ℕ) (nodes : List RawNode) (d : R
     nodes_fault raw i (drop i nodes) ≡ option_or (node_fault raw i (get_or nodes i d)) (nodes_fault raw (i + 1) (drop (i + 1) nodes))
 nodes_fault-step raw i nodes d h = ap (nodes_fault raw i) (drop-cons nodes i d h) ∙ rw (add-one i) refl
 
-pub nodes_fault-passed : (raw : RawKernel) (i : ℕ) (nodes : List RawNode) (node d : RawNode) → i < length nodes → node ≡ get_or nodes i d → node_fault raw i node ≡ None →
+pub nodes_fault-passed : (raw : RawKernel) (i : ℕ) (nodes : List RawNode) (node d : RawNode) → i < length nodes → node ≡ get_or nodes i d
+    → node_fault raw i node ≡ None →
     nodes_fault raw i (drop i nodes) ≡ nodes_fault raw (i + 1) (drop (i + 1) nodes)
 nodes_fault-passed raw i nodes node d h is none =
     nodes_fault-step raw i nodes d h ∙ ap (λ n. option_or (node_fault raw i n) (nodes_fault raw (i + 1) (drop (i + 1) nodes))) (sym is)
     ∙ ap (λ f. option_or f (nodes_fault raw (i + 1) (drop (i + 1) nodes))) none
 
-pub nodes_fault-found : (raw : RawKernel) (i : ℕ) (nodes : List RawNode) (node d : RawNode) (f : StaticFault) → i < length nodes → node ≡ get_or nodes i d → node_fault raw i node ≡ Some f →
+pub nodes_fault-found : (raw : RawKernel) (i : ℕ) (nodes : List RawNode) (node d : RawNode) (f : StaticFault) → i < length nodes → node ≡ get_or nodes i d
+    → node_fault raw i node ≡ Some f →
     nodes_fault raw i (drop i nodes) ≡ Some f
 nodes_fault-found raw i nodes node d f h is some =
     nodes_fault-step raw i nodes d h ∙ ap (λ n. option_or (node_fault raw i n) (nodes_fault raw (i + 1) (drop (i + 1) nodes))) (sym is)

@@ -31,20 +31,38 @@ chosen : (fault : Option FaultKind) (a b : Option Named) → cond (is_none fault
 chosen None a b h = (refl, cc)
 chosen (Some k) a b h = cc
 
-of_use : (raw : RawKernel) (i at name : ℕ) (f : RawForm) (named : Option Named) → token_fault raw i at f ≡ None → name_fault raw i name f ≡ used_fault raw i f (text_at raw name) →
-    has_answer f ≡ false → declares f ≡ false → is_begin f ≡ false → has_name f ≡ true → used_name raw i f (text_at raw name) ≡ Some named → IsPlain raw i at name f named
+of_use : (raw : RawKernel) (i at name : ℕ) (f : RawForm) (named : Option Named) → token_fault raw i at f ≡ None
+    → name_fault raw i name f ≡ used_fault raw i f (text_at raw name) →
+    has_answer f ≡ false → declares f ≡ false → is_begin f ≡ false → has_name f ≡ true → used_name raw i f (text_at raw name) ≡ Some named
+    → IsPlain raw i at name f named
 of_use raw i at name f named token called answer local block has h =
     let found = chosen (used_fault raw i f (text_at raw name)) (meaning_of raw i (text_at raw name)) named h in
-    record { token = token; called = called ∙ found.0; no_answer = answer; no_local = local; no_block = block; is = found.1 ∙ sym (ap (λ b. meaning_if b raw i name) has) }
+    record {
+      token = token;
+      called = called ∙ found.0;
+      no_answer = answer;
+      no_local = local;
+      no_block = block;
+      is = found.1 ∙ sym (ap (λ b. meaning_if b raw i name) has);
+    }
 
-of_none : (raw : RawKernel) (i at name : ℕ) (f : RawForm) (named : Option Named) → name_fault raw i name f ≡ None → has_answer f ≡ false → declares f ≡ false → is_begin f ≡ false → has_name f ≡ false →
+of_none : (raw : RawKernel) (i at name : ℕ) (f : RawForm) (named : Option Named) → name_fault raw i name f ≡ None → has_answer f ≡ false → declares f ≡ false
+    → is_begin f ≡ false → has_name f ≡ false →
     cond (is_none (token_fault raw i at f)) (Some None) None ≡ Some named → IsPlain raw i at name f named
 of_none raw i at name f named called answer local block has h =
     let found = chosen (token_fault raw i at f) None named h in
-    record { token = found.0; called = called; no_answer = answer; no_local = local; no_block = block; is = found.1 ∙ sym (ap (λ b. meaning_if b raw i name) has) }
+    record {
+      token = found.0;
+      called = called;
+      no_answer = answer;
+      no_local = local;
+      no_block = block;
+      is = found.1 ∙ sym (ap (λ b. meaning_if b raw i name) has);
+    }
 
 plain : (raw : RawKernel) (i at name : ℕ) (f : RawForm) (named : Option Named) →
-    cond (not (has_name f)) (cond (is_none (token_fault raw i at f)) (Some None) None) (cond (only_uses f) (used_name raw i f (text_at raw name)) None) ≡ Some named → IsPlain raw i at name f named
+    cond (not (has_name f)) (cond (is_none (token_fault raw i at f)) (Some None) None)
+    (cond (only_uses f) (used_name raw i f (text_at raw name)) None) ≡ Some named → IsPlain raw i at name f named
 plain raw i at name form.Number named h = of_none raw i at name form.Number named refl refl refl refl refl h
 plain raw i at name form.Index named h = of_none raw i at name form.Index named refl refl refl refl refl h
 plain raw i at name form.Unary named h = of_none raw i at name form.Unary named refl refl refl refl refl h
@@ -71,7 +89,8 @@ no_faults true first second = refl
 no_faults false first second = refl
 
 -- nothing is wrong with a plain node that isn't one too many or too deep
-plain_faultless : (raw : RawKernel) (i : ℕ) (node : RawNode) (named : Option Named) → IsPlain raw i node.at node.name node.form named → size_fault raw i ≡ None → node_fault raw i node ≡ None
+plain_faultless : (raw : RawKernel) (i : ℕ) (node : RawNode) (named : Option Named) → IsPlain raw i node.at node.name node.form named → size_fault raw i ≡ None
+    → node_fault raw i node ≡ None
 plain_faultless raw i node named p small =
     (λ j. first_of_two node.at (lowest (p.token j) (small j)) node.name (p.called j)) ∙ no_faults (node.at == node.name) node.at node.name
 
@@ -83,15 +102,18 @@ or-false true = refl
 or-false false = refl
 
 -- one plain node more
-pub plain_next : (raw : RawKernel) (i : ℕ) (node : RawNode) (named : Option Named) (locals : List Local) (blocks : List StreamBlock) (meanings meanings' : List Meaning) →
+pub plain_next : (raw : RawKernel) (i : ℕ) (node : RawNode) (named : Option Named) (locals : List Local) (blocks : List StreamBlock)
+    (meanings meanings' : List Meaning) →
     IsKnown raw i locals blocks meanings → slice_get raw.nodes.items i ≡ Some node → plain_name raw i node ≡ Some named → size_fault raw i ≡ None →
     meanings' ≡ meanings ++ (record { answer = None; name = named }) ∷ [] → IsKnown raw (i + 1) locals blocks meanings'
 plain_next raw i node named locals blocks meanings meanings' known here is small pushed =
     let p = plain raw i node.at node.name node.form named is in
     let local = local_of raw.nodes.items i node in
-    let stored : named ≡ name_stored raw i node = p.is ∙ sym (ap (λ b. if b then Some (as_local local (length (locals_before raw.nodes.items i))) else name_named raw i node) p.no_local) in
+    let stored : named ≡ name_stored raw i node = p.is ∙ sym (ap (λ b. if b then Some
+    (as_local local (length (locals_before raw.nodes.items i))) else name_named raw i node) p.no_local) in
     known_next raw i node node locals locals blocks blocks meanings meanings' known
     (slice_get_within raw.nodes.items i node here) (sym (get_or_from_slice_get raw.nodes.items i node node here)) (plain_faultless raw i node named p small)
     (sym (append-nil locals) ∙ sym (ap (λ b. locals ++ local_if b local) p.no_local))
-    (λ x j. or-false (stands_in x j blocks) ∙ sym (ap (λ b. stands_in x j blocks || (b && (is_inside j i node && is_number x (parameter raw (text_at raw node.name))))) p.no_block))
+    (λ x j. or-false (stands_in x j blocks) ∙ sym (ap (λ b. stands_in x j blocks
+    || (b && (is_inside j i node && is_number x (parameter raw (text_at raw node.name))))) p.no_block))
     (meaning_pushed raw i node None named meanings meanings' (sym (ap (λ b. meaning_if b raw i node.at) p.no_answer)) stored pushed)

@@ -35,11 +35,14 @@ length-more xs n ys = omega (arith, length-append xs (n ∷ ys))
 -- the innermost open node changes where it stands
 pub change_seam : (pt : Part) (q : ℕ) (ps : List RawParam) (p : RawParam) (xs : List RawNode) (n : RawNode) (ys : List RawNode) (os : List ℕ) (l : ℕ) →
     change pt q (mk ps p (xs ++ n ∷ ys) (length xs ∷ os) l)
-    ≡ mk ps p (xs ++ changed pt q (length ys) n ∷ ys) (if is_last pt then os else length xs ∷ os) (last_after pt (length xs) (changed pt q (length ys) n).before l)
+    ≡ mk ps p (xs ++ changed pt q (length ys) n ∷ ys) (if is_last pt then os else length xs ∷ os)
+    (last_after pt (length xs) (changed pt q (length ys) n).before l)
 change_seam pt q ps p xs n ys os l =
     ap (λ o. replaced_if pt q (length (xs ++ n ∷ ys)) (length xs) o (mk ps p (xs ++ n ∷ ys) (length xs ∷ os) l)) (slice_get-seam xs n ys)
-    ∙ ap (λ k. mk ps p (set (xs ++ n ∷ ys) (length xs) (changed pt q k n)) (if is_last pt then os else length xs ∷ os) (last_after pt (length xs) (changed pt q k n).before l)) (behind-seam xs n ys)
-    ∙ ap (λ zs. mk ps p zs (if is_last pt then os else length xs ∷ os) (last_after pt (length xs) (changed pt q (length ys) n).before l)) (set-append_seam xs n ys (changed pt q (length ys) n))
+    ∙ ap (λ k. mk ps p (set (xs ++ n ∷ ys) (length xs) (changed pt q k n)) (if is_last pt then os else length xs ∷ os)
+    (last_after pt (length xs) (changed pt q k n).before l)) (behind-seam xs n ys)
+    ∙ ap (λ zs. mk ps p zs (if is_last pt then os else length xs ∷ os) (last_after pt (length xs) (changed pt q (length ys) n).before l))
+    (set-append_seam xs n ys (changed pt q (length ys) n))
 
 pub length-expr : (e : RawExpr) → length (expr_nodes e) ≡ expr_size e
 length-expr (Leaf f at name) = refl
@@ -66,7 +69,8 @@ named_node ps p xs n os l x = change_seam part.Name x ps p xs n [] os l
 less_none : (n : ℕ) → n - 0 ≡ n
 less_none n = omega arith
 
-ended : (f : RawForm) (q : ℕ) (ps : List RawParam) (p : RawParam) (xs : List RawNode) (at name before k : ℕ) (ys : List RawNode) (os : List ℕ) (l : ℕ) → length ys ≡ k →
+ended : (f : RawForm) (q : ℕ) (ps : List RawParam) (p : RawParam) (xs : List RawNode) (at name before k : ℕ) (ys : List RawNode) (os : List ℕ) (l : ℕ)
+    → length ys ≡ k →
     change (part.Ends f) q (mk ps p (xs ++ blank at name None before ∷ ys) (length xs ∷ os) l) ≡ mk ps p (xs ++ expr_node f at name 0 k ∷ ys) os (length xs)
 ended f q ps p xs at name before k ys os l e =
     change_seam (part.Ends f) q ps p xs (blank at name None before) ys os l
@@ -74,14 +78,16 @@ ended f q ps p xs at name before k ys os l e =
     ∙ ap (λ j. mk ps p (xs ++ expr_node f at name 0 k ∷ ys) os j) (less_none (length xs))
 
 -- reading an expression behind a node
-pub one_part : (es : List Event) (e : RawExpr) → Reads es e → (ps : List RawParam) (p : RawParam) (xs : List RawNode) (n : RawNode) (os : List ℕ) (l : ℕ) (rest : List Event) →
+pub one_part : (es : List Event) (e : RawExpr) → Reads es e → (ps : List RawParam) (p : RawParam) (xs : List RawNode) (n : RawNode) (os : List ℕ) (l : ℕ)
+    (rest : List Event) →
     run (mk ps p (xs ++ n ∷ []) (length xs ∷ os) l) (es ++ rest) ≡ run (mk ps p (xs ++ n ∷ expr_nodes e) (length xs ∷ os) (length (xs ++ n ∷ []))) rest
 one_part es e h ps p xs n os l rest =
     run-append (mk ps p (xs ++ n ∷ []) (length xs ∷ os) l) es rest
     ∙ ap (λ s. run s rest) (h ps p (xs ++ n ∷ []) (length xs) os l)
     ∙ ap (λ zs. run (mk ps p zs (length xs ∷ os) (length (xs ++ n ∷ []))) rest) (append_assoc xs (n ∷ []) (expr_nodes e))
 
-pub two_parts : (es gs : List Event) (e g : RawExpr) → Reads es e → Reads gs g → (ps : List RawParam) (p : RawParam) (xs : List RawNode) (n : RawNode) (os : List ℕ) (l : ℕ) (rest : List Event) →
+pub two_parts : (es gs : List Event) (e g : RawExpr) → Reads es e → Reads gs g
+    → (ps : List RawParam) (p : RawParam) (xs : List RawNode) (n : RawNode) (os : List ℕ) (l : ℕ) (rest : List Event) →
     run (mk ps p (xs ++ n ∷ []) (length xs ∷ os) l) (es ++ (gs ++ rest))
     ≡ run (mk ps p (xs ++ (n ∷ expr_nodes e ++ expr_nodes g)) (length xs ∷ os) (length (xs ++ n ∷ expr_nodes e))) rest
 two_parts es gs e g h i ps p xs n os l rest =
@@ -115,7 +121,8 @@ reads_two : (f : RawForm) (at x q : ℕ) (a : Action) (es gs : List Event) (e g 
 reads_two f at x q a es gs e g is h i ps p xs o os l =
     ap (λ s. run s (es ++ (gs ++ on a q ∷ []))) (named_node ps p xs (blank at at None 0) (o ∷ os) l x)
     ∙ two_parts es gs e g h i ps p xs (blank at x None 0) (o ∷ os) l (on a q ∷ [])
-    ∙ ap (λ t. with_part t q (mk ps p (xs ++ (blank at x None 0 ∷ expr_nodes e ++ expr_nodes g)) (length xs ∷ o ∷ os) (length (xs ++ blank at x None 0 ∷ expr_nodes e)))) is
+    ∙ ap (λ t. with_part t q (mk ps p (xs ++ (blank at x None 0 ∷ expr_nodes e ++ expr_nodes g)) (length xs ∷ o ∷ os)
+    (length (xs ++ blank at x None 0 ∷ expr_nodes e)))) is
     ∙ ended f q ps p xs at x 0 (expr_size e + expr_size g) (expr_nodes e ++ expr_nodes g) (o ∷ os) _ (length-two e g)
 
 reads_unary : (at q : ℕ) (es : List Event) (e : RawExpr) → Reads es e → Reads (on action.Operator at ∷ es ++ on action.Unary q ∷ []) (One form.Unary at at e)
@@ -135,7 +142,8 @@ reads_between at q es gs e g h i ps p xs o os l =
     ∙ ap (λ s. run s (on action.Operator at ∷ gs)) (h ps p xs o os l)
     ∙ ap (λ k. run (mk ps p (zs ++ blank at at None k ∷ []) (length zs ∷ o ∷ os) (length zs)) gs) size
     ∙ i ps p (zs ++ blank at at None (expr_size e) ∷ []) (length zs) (o ∷ os) (length zs)
-    ∙ ap (λ ys. mk ps p ys (length zs ∷ o ∷ os) (length (zs ++ blank at at None (expr_size e) ∷ []))) (append_assoc zs (blank at at None (expr_size e) ∷ []) (expr_nodes g)))
+    ∙ ap (λ ys. mk ps p ys (length zs ∷ o ∷ os) (length (zs ++ blank at at None (expr_size e) ∷ [])))
+    (append_assoc zs (blank at at None (expr_size e) ∷ []) (expr_nodes g)))
     ∙ change_seam part.Joins q ps p zs (blank at at None (expr_size e)) (expr_nodes g) (o ∷ os) (length (zs ++ blank at at None (expr_size e) ∷ []))
     ∙ ap (λ k. mk ps p (zs ++ expr_node form.Binary at at (expr_size e) k ∷ expr_nodes g) (o ∷ os) (length zs - expr_size e)) (length-expr g)
     ∙ ap (λ k. mk ps p (zs ++ expr_node form.Binary at at (expr_size e) (expr_size g) ∷ expr_nodes g) (o ∷ os) k) first
@@ -149,7 +157,8 @@ reads (raw.number {at = at} q is) = along _ _ (Leaf form.Number at at) is (λ ps
 reads (raw.index {at = at} q is) = along _ _ (Leaf form.Index at at) is (λ ps p xs o os l. ended form.Index q ps p xs at at 0 0 [] (o ∷ os) l refl)
 reads (raw.name {at = at} {x = x} q is) = along _ _ (Leaf form.Name at x) is (reads_leaf form.Name at x q action.NameAtom refl)
 reads (raw.size {at = at} {x = x} q is) = along _ _ (Leaf form.Length at x) is (reads_leaf form.Length at x q action.LenAtom refl)
-reads (raw.element {at = at} {x = x} q es {e = e} d is) = along _ _ (One form.Element at x e) is (reads_one form.Element at x q action.PlaceAtom es e refl (reads d))
+reads (raw.element {at = at} {x = x} q es {e = e} d is) = along _ _ (One form.Element at x e) is
+    (reads_one form.Element at x q action.PlaceAtom es e refl (reads d))
 reads (raw.has {at = at} {x = x} q es {e = e} d is) = along _ _ (One form.Has at x e) is (reads_one form.Has at x q action.HasAtom es e refl (reads d))
 reads (raw.count {at = at} {x = x} q es {e = e} d is) = along _ _ (One form.Count at x e) is (reads_one form.Count at x q action.CountAtom es e refl (reads d))
 reads (raw.item {at = at} {x = x} q es gs {e = e} {g = g} d c is) =

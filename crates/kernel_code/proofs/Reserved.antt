@@ -35,7 +35,8 @@ differs_in_length spelling word more one =
     (λ differs. differs)
     (cases_Bool (bytes_eq spelling word))
 
-longer_not_spelled : (kinds : List TokenKind) (word : List ℕ) → length word ≡ 1 → list_all (λ kind. nat_le 2 (length (spelling_of kind))) kinds ≡ true → spelled kinds word ≡ None
+longer_not_spelled : (kinds : List TokenKind) (word : List ℕ) → length word ≡ 1 → list_all (λ kind. nat_le 2 (length (spelling_of kind))) kinds ≡ true
+    → spelled kinds word ≡ None
 longer_not_spelled [] word one longer = refl
 longer_not_spelled (kind ∷ kinds) word one longer =
     let parts = and_parts _ _ longer in

@@ -16,7 +16,8 @@ use Rattle.kernel_code.proofs.DepthLimits.{block-depth}
 use Rattle.kernel_code.proofs.Limits.{faultless}
 
 -- It has as many.
-pub nodes : (events : List Event) (raw : RawKernel) (k : Kernel) (earlier : List Kernel) → SpellsRaw events raw → first_fault raw earlier ≡ None → IsKernelOf raw k →
+pub nodes : (events : List Event) (raw : RawKernel) (k : Kernel) (earlier : List Kernel) → SpellsRaw events raw → first_fault raw earlier ≡ None
+    → IsKernelOf raw k →
     body_nodes k.body.statements.items ≡ length raw.nodes.items
 nodes events raw k earlier s h is =
     let count = block-count (is.body events s) in
@@ -32,7 +33,8 @@ few-levels nodes n levels d h (inr r) =
     omega arith
 
 -- It is no deeper than all of them are.
-pub depth : (events : List Event) (raw : RawKernel) (k : Kernel) (earlier : List Kernel) → SpellsRaw events raw → first_fault raw earlier ≡ None → IsKernelOf raw k →
+pub depth : (events : List Event) (raw : RawKernel) (k : Kernel) (earlier : List Kernel) → SpellsRaw events raw → first_fault raw earlier ≡ None
+    → IsKernelOf raw k →
     (d : ℕ) → ((i : ℕ) → depth_of raw.nodes.items i ≤ d) → body_depth k.body.statements.items ≤ d
 depth events raw k earlier s h is d shallow =
     let all = all-kept events raw s (faultless raw earlier h).1 in

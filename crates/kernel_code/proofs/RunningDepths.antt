@@ -52,7 +52,8 @@ span-first first last h = grind (arith, nat_tests)
 never-before-first : (last : ℕ) → one_if (eqb (last + 1) 0) ≡ 0
 never-before-first last = grind (arith, nat_tests)
 
-node-next : (i j : ℕ) (node : RawNode) → one_if (spans (i + 1) j node) + one_if (j + node.after + 1 == i + 1) ≡ one_if (spans i j node) + one_if (j - node.before == i + 1)
+node-next : (i j : ℕ) (node : RawNode) → one_if (spans (i + 1) j node) + one_if (j + node.after + 1 == i + 1) ≡ one_if (spans i j node) + one_if
+    (j - node.before == i + 1)
 node-next i j node = span-next i (j - node.before) (j + node.after) (omega arith)
 
 node-within : (i j : ℕ) (node : RawNode) → one_if (j + node.after + 1 == i + 1) ≤ one_if (spans i j node)
@@ -139,7 +140,8 @@ pub kept-few : (all nodes : List RawNode) (joined : List ℕ) → AreKeptOf all 
 kept-few all nodes joined are = omega (arith, ap length are.first, length-take MOST_KEPT all)
 
 -- where a kept node begins with so many, no more begin than there are nodes
-pub begin-few : (all nodes : List RawNode) (joined : List ℕ) → AreKeptOf all nodes joined → (k : ℕ) → k < length nodes → get_or joined k 0 + opened k 0 nodes < 2 ^ 32
+pub begin-few : (all nodes : List RawNode) (joined : List ℕ) → AreKeptOf all nodes joined → (k : ℕ) → k < length nodes
+    → get_or joined k 0 + opened k 0 nodes < 2 ^ 32
 begin-few all nodes joined are k h = omega (arith, are.begin k (omega (arith, h, kept-few all nodes joined are)), opened-le k 0 all, are.few)
 
 pub closed-kept : (all nodes : List RawNode) (joined : List ℕ) → AreKeptOf all nodes joined → (k : ℕ) → k < length nodes → closed k 0 nodes ≡ closed k 0 all
@@ -153,15 +155,19 @@ length-depths all i (node ∷ more) = omega (arith, length-depths all (i + 1) mo
 depths-get : (all : List RawNode) (j : ℕ) (nodes : List RawNode) (i : ℕ) → i < length nodes → get_or (depths_from all j nodes) i 0 ≡ depth_of all (j + i)
 depths-get all j [] i h = absurd (omega arith)
 depths-get all j (node ∷ more) zero h = let same : j ≡ j + zero = omega arith in ap (depth_of all) same
-depths-get all j (node ∷ more) (suc i) h = let same : j + 1 + i ≡ j + suc i = omega arith in depths-get all (j + 1) more i (omega arith) ∙ ap (depth_of all) same
+depths-get all j (node ∷ more) (suc i) h = let same : j + 1 + i ≡ j + suc i = omega arith in
+    depths-get all (j + 1) more i (omega arith) ∙ ap (depth_of all) same
 
-pub depths-at : (all : List RawNode) (j : ℕ) (nodes : List RawNode) (i : ℕ) → i < length nodes → slice_get (depths_from all j nodes) i ≡ Some (depth_of all (j + i))
+pub depths-at : (all : List RawNode) (j : ℕ) (nodes : List RawNode) (i : ℕ) → i < length nodes
+    → slice_get (depths_from all j nodes) i ≡ Some (depth_of all (j + i))
 depths-at all j [] i h = absurd (omega arith)
 depths-at all j (node ∷ more) zero h = let same : j ≡ j + zero = omega arith in ap (λ k. Some (depth_of all k)) same
-depths-at all j (node ∷ more) (suc i) h = let same : j + 1 + i ≡ j + suc i = omega arith in depths-at all (j + 1) more i (omega arith) ∙ ap (λ k. Some (depth_of all k)) same
+depths-at all j (node ∷ more) (suc i) h = let same : j + 1 + i ≡ j + suc i = omega arith in
+    depths-at all (j + 1) more i (omega arith) ∙ ap (λ k. Some (depth_of all k)) same
 
 -- the depths of the kept nodes, one after another
-pub depths-kept : (all nodes : List RawNode) (joined v : List ℕ) → AreKeptOf all nodes joined → length v ≡ length nodes → ((k : ℕ) → k < length nodes → get_or v k 0 ≡ depth_of all k) →
+pub depths-kept : (all nodes : List RawNode) (joined v : List ℕ) → AreKeptOf all nodes joined → length v ≡ length nodes
+    → ((k : ℕ) → k < length nodes → get_or v k 0 ≡ depth_of all k) →
     v ≡ take MOST_KEPT (depths_of all)
 depths-kept all nodes joined v are size at =
     let whole = length-depths all 0 all in

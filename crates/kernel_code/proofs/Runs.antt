@@ -50,12 +50,14 @@ run_stops p (x ∷ xs) (suc m) above within =
     (λ fail. and_left _ _ fail)
     (cases_Bool (p x))
 
-longer_fails : (p : ℕ → Bool) (first : ℕ) (others : List ℕ) → ((word : List ℕ) → is_word (first ∷ word) ≡ list_all p word) → (m : ℕ) → suc (prefix_len p others) < m → m ≤ length (first ∷ others) → is_word (take m (first ∷ others)) ≡ false
+longer_fails : (p : ℕ → Bool) (first : ℕ) (others : List ℕ) → ((word : List ℕ) → is_word (first ∷ word) ≡ list_all p word) → (m : ℕ)
+    → suc (prefix_len p others) < m → m ≤ length (first ∷ others) → is_word (take m (first ∷ others)) ≡ false
 longer_fails p first others words zero above within = absurd (omega arith)
 longer_fails p first others words (suc m) above within = words (take m others) ∙ run_stops p others m (omega arith) (omega arith)
 
 -- where the words with this first byte are the runs, the longest is the run
-pub longest_run : (p : ℕ → Bool) (first : ℕ) (others : List ℕ) → ((word : List ℕ) → is_word (first ∷ word) ≡ list_all p word) → longest (first ∷ others) ≡ suc (prefix_len p others)
+pub longest_run : (p : ℕ → Bool) (first : ℕ) (others : List ℕ) → ((word : List ℕ) → is_word (first ∷ word) ≡ list_all p word)
+    → longest (first ∷ others) ≡ suc (prefix_len p others)
 longest_run p first others words =
     longest_up_to_is (length (first ∷ others)) (first ∷ others) (suc (prefix_len p others))
     (omega (arith, prefix_len-le p others))

@@ -14,7 +14,8 @@ use Rattle.kernel_code.proofs.Meanings.{IsSimple, IsStatements, IsBraced, Build,
 -- SIMPLE STATEMENTS
 
 -- a statement without a block begins those of a block
-simple_first : (n at end last : ℕ) (es rest : List Event) → at ≤ n → IsSimple (suc n) es end → IsStatements end rest last → IsStatements n (on action.StartStatement at ∷ es ++ rest) last
+simple_first : (n at end last : ℕ) (es rest : List Event) → at ≤ n → IsSimple (suc n) es end → IsStatements end rest last
+    → IsStatements n (on action.StartStatement at ∷ es ++ rest) last
 simple_first n at end last es rest le s more = record {
   block = Simple s.form at s.called s.parts more.block;
   spells = raw.simple es rest s.spells more.spells refl;
@@ -57,12 +58,18 @@ unfolding body_of head_of
 add_statement n end c at le rest last more =
     let s = c.more.more.more.more.more.more.more.more in
     let a = s.more in
-    let t = a.means c.more.more.more.end (suc n) s.events (omega arith) (record { tree = s.means.tree; spells = s.means.spells; below = s.means.below; few = omega arith }) in
+    let t = a.means c.more.more.more.end (suc n) s.events (omega arith) (record {
+      tree = s.means.tree;
+      spells = s.means.spells;
+      below = s.means.below;
+      few = omega arith;
+    }) in
     simple_first n at end last _ rest le (record {
       form = t.form;
       called = t.called;
       parts = t.parts;
-      spells = subst (λ es. raw.SpellsSimple (on action.Name c.more.more.more.end ∷ (s.events ++ es)) t.form t.called t.parts) (sym (append-nil a.events)) t.spells;
+      spells = subst (λ es. raw.SpellsSimple (on action.Name c.more.more.more.end ∷ (s.events ++ es)) t.form t.called t.parts)
+          (sym (append-nil a.events)) t.spells;
       called_below = omega arith;
       below = parts_up _ end t.parts (omega arith) t.below;
       few = omega arith;
@@ -229,7 +236,12 @@ unfolding body_of head_of
 statements_more n end c =
     let more = c.more.means in
     subst (λ es. IsStatements n (on action.StartStatement n ∷ (c.events ++ es)) end) (sym (append-nil c.more.events))
-    (c.means n (omega arith) c.more.events end (record { block = more.block; spells = more.spells; below = block_up _ end more.block c.more.more more.below; few = omega arith }))
+    (c.means n (omega arith) c.more.events end (record {
+      block = more.block;
+      spells = more.spells;
+      below = block_up _ end more.block c.more.more more.below;
+      few = omega arith;
+    }))
 
 pub block : Build production.Block
 unfolding body_of head_of
@@ -251,14 +263,16 @@ braced : (start : Event) (head rest inside body : List Event) (o c q : Event) �
 braced start head rest inside body o c q is = rw is (simp append_assoc)
 
 -- a statement with one block begins those of a block
-nested_first : (n at x q b m end last : ℕ) (f : RawForm) (a : Action) (parts : List RawExpr) (head body rest : List Event) → at ≤ n → n < b → x < b → SpellsHead head a f at x parts → PartsBelow b parts → n + (1 + parts_size parts) ≤ b →
+nested_first : (n at x q b m end last : ℕ) (f : RawForm) (a : Action) (parts : List RawExpr) (head body rest : List Event) → at ≤ n → n < b → x < b
+    → SpellsHead head a f at x parts → PartsBelow b parts → n + (1 + parts_size parts) ≤ b →
     IsBraced b body m → m ≤ end → IsStatements end rest last → IsStatements n (on action.StartStatement at ∷ ((head ++ (body ++ (on a q ∷ []))) ++ rest)) last
 nested_first n at x q b m end last f a parts head body rest le lt called spells below few inner within more =
     let i = inner.inner in
     record {
       block = Nested f at x parts i.block more.block;
       spells = raw.nested inner.opened inner.closed q head inner.inside rest spells i.spells more.spells
-          (braced (on action.StartStatement at) head rest inner.inside body (on action.OpenBlock inner.opened) (on action.CloseBlock inner.closed) (on a q) inner.is);
+          (braced (on action.StartStatement at) head rest inner.inside body (on action.OpenBlock inner.opened) (on action.CloseBlock inner.closed)
+          (on a q) inner.is);
       below = (
         omega (arith, i.few, more.few),
         omega (arith, i.few, more.few),
@@ -288,7 +302,8 @@ begin_statement n end c at le rest last more =
     let first : n < s.more.more.end = omega arith in
     subst (λ es. IsStatements n (on action.StartStatement at ∷ ((on action.Name x ∷ es) ++ rest)) last)
     (headed s.events t.events (on action.BeginStatement t.end ∷ []) h)
-    (nested_first n at x t.end s.more.more.end t.end end last form.Begin action.BeginStatement (e.tree ∷ []) (on action.Name x ∷ s.events ++ h ∷ []) t.events rest le first lt
+    (nested_first n at x t.end s.more.more.end t.end end last form.Begin action.BeginStatement (e.tree ∷ [])
+    (on action.Name x ∷ s.events ++ h ∷ []) t.events rest le first lt
     (raw.begun _ s.events e.spells refl) (expr_up _ s.more.more.end e.tree (omega arith) e.below, tt) from t.means t.more more)
 
 pub for_statement : Build production.ForStatement
@@ -306,7 +321,8 @@ for_statement n end c at le rest last more =
     let first : n < t.end = omega arith in
     subst (λ es. IsStatements n (on action.StartStatement at ∷ ((on action.Name x ∷ es) ++ rest)) last)
     (headed_two s.events t.events u.events (on action.ForStatement u.end ∷ []) h)
-    (nested_first n at x u.end t.end u.end end last form.For action.ForStatement (e.tree ∷ g.tree ∷ []) (on action.Name x ∷ s.events ++ (t.events ++ h ∷ [])) u.events rest le first lt
+    (nested_first n at x u.end t.end u.end end last form.For action.ForStatement (e.tree ∷ g.tree ∷ [])
+    (on action.Name x ∷ s.events ++ (t.events ++ h ∷ [])) u.events rest le first lt
     (raw.counted _ s.events t.events e.spells g.spells refl) (expr_up _ t.end e.tree (omega arith) e.below, (g.below, tt)) from u.means u.more more)
 
 pub while_statement : Build production.WhileStatement
@@ -326,10 +342,12 @@ while_statement n end c at le rest last more =
 
 -- CHOICES
 
-else_behind : (o c : Event) (body inside els rest : List Event) → body ≡ o ∷ inside ++ c ∷ [] → (body ++ (els ++ [])) ++ rest ≡ o ∷ (inside ++ c ∷ (els ++ rest))
+else_behind : (o c : Event) (body inside els rest : List Event) → body ≡ o ∷ inside ++ c ∷ []
+    → (body ++ (els ++ [])) ++ rest ≡ o ∷ (inside ++ c ∷ (els ++ rest))
 else_behind o c body inside els rest is =
     ap (λ b. (b ++ (els ++ [])) ++ rest) is
-    ∙ ap (λ zs. o ∷ zs) (append_assoc (inside ++ c ∷ []) (els ++ []) rest ∙ append_assoc inside (c ∷ []) ((els ++ []) ++ rest) ∙ ap (λ zs. inside ++ c ∷ (zs ++ rest)) (append-nil els))
+    ∙ ap (λ zs. o ∷ zs) (append_assoc (inside ++ c ∷ []) (els ++ []) rest ∙ append_assoc inside (c ∷ []) ((els ++ []) ++ rest)
+    ∙ ap (λ zs. inside ++ c ∷ (zs ++ rest)) (append-nil els))
 
 if_events : (start h o c : Event) (cond body inside els rest : List Event) → body ≡ o ∷ inside ++ c ∷ [] →
     start ∷ (cond ++ h ∷ o ∷ (inside ++ c ∷ (els ++ rest))) ≡ start ∷ ((cond ++ (h ∷ (body ++ (els ++ [])))) ++ rest)
@@ -347,8 +365,10 @@ if_statement n end c at le rest last more =
     let i = b.inner in
     let next : IsStatements u.end rest last = record { block = more.block; spells = more.spells; below = more.below; few = omega arith } in
     subst (λ es. IsStatements n es last)
-    (if_events (on action.StartStatement at) (on action.IfHead s.end) (on action.OpenBlock b.opened) (on action.CloseBlock b.closed) s.events t.events b.inside u.events rest b.is)
-    (u.means at s.end b.opened b.closed n s.events b.inside e.tree i.block e.spells i.spells (omega arith) (expr_up _ t.end e.tree (omega arith) e.below) i.below (omega arith) rest last next)
+    (if_events (on action.StartStatement at) (on action.IfHead s.end) (on action.OpenBlock b.opened)
+    (on action.CloseBlock b.closed) s.events t.events b.inside u.events rest b.is)
+    (u.means at s.end b.opened b.closed n s.events b.inside e.tree i.block e.spells i.spells (omega arith)
+    (expr_up _ t.end e.tree (omega arith) e.below) i.below (omega arith) rest last next)
 
 else_none_events : (start h o c q : Event) (cond inside rest : List Event) →
     start ∷ (cond ++ h ∷ o ∷ (inside ++ c ∷ ((q ∷ []) ++ rest))) ≡ start ∷ (cond ++ h ∷ []) ++ o ∷ inside ++ c ∷ q ∷ rest
@@ -359,8 +379,16 @@ unfolding body_of head_of
 else_none n end le at h o c k cond inside e b spells inner at_below e_below b_below few rest last more = record {
   block = Nested form.If at at (e ∷ []) b more.block;
   spells = raw.nested o c n (cond ++ on action.IfHead h ∷ []) inside rest (raw.tested h cond spells refl) inner more.spells
-      (else_none_events (on action.StartStatement at) (on action.IfHead h) (on action.OpenBlock o) (on action.CloseBlock c) (on action.IfStatement n) cond inside rest);
-  below = (omega (arith, more.few), omega (arith, more.few), (expr_up n last e (omega (arith, more.few)) e_below, tt), block_up n last b (omega (arith, more.few)) b_below, more.below);
+      (else_none_events (on action.StartStatement at) (on action.IfHead h) (on action.OpenBlock o) (on action.CloseBlock c)
+      (on action.IfStatement n) cond inside rest);
+  below = (
+    omega (arith, more.few),
+    omega (arith, more.few),
+    (expr_up n last e (omega (arith, more.few)) e_below, tt),
+    block_up n last b
+        (omega (arith, more.few)) b_below,
+    more.below,
+  );
   few = omega (arith, more.few);
 }
 
@@ -377,8 +405,15 @@ else_some n end c' at h o c k cond inside e b spells inner at_below e_below b_be
     record {
       block = Branched at e b i.block more.block;
       spells = raw.branched h o c second.opened second.closed s.end cond inside second.inside rest spells inner i.spells more.spells
-          (else_some_events (on action.StartStatement at) (on action.IfHead h) (on action.OpenBlock o) (on action.CloseBlock c) (on action.OpenBlock second.opened) (on action.CloseBlock second.closed)
+          (else_some_events (on action.StartStatement at) (on action.IfHead h) (on action.OpenBlock o) (on action.CloseBlock c)
+          (on action.OpenBlock second.opened) (on action.CloseBlock second.closed)
           (on action.IfElseStatement s.end) cond inside s.events second.inside rest second.is);
-      below = (omega arith, expr_up n last e (omega arith) e_below, block_up n last b (omega arith) b_below, block_up s.end last i.block (omega arith) i.below, more.below);
+      below = (
+        omega arith,
+        expr_up n last e (omega arith) e_below,
+        block_up n last b (omega arith) b_below,
+        block_up s.end last i.block (omega arith) i.below,
+        more.below,
+      );
       few = omega arith;
     }

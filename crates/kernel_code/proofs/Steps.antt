@@ -22,7 +22,8 @@ drop-front (suc n) byte bytes some = let less : suc n - 1 ≡ n = omega arith in
 
 -- the word at the front, and the tokens behind it
 pub tokens_from-front : (place line : ℕ) (bytes : List ℕ) → 0 < length bytes → 0 < front_len bytes → front_len bytes ≤ length bytes →
-    tokens_from 0 place line bytes ≡ token_at (front_kind bytes) place (place + front_len bytes) line ++ tokens_from 0 (place + front_len bytes) (line_after (get_or bytes 0 0) line) (drop (front_len bytes) bytes)
+    tokens_from 0 place line bytes ≡ token_at (front_kind bytes) place (place + front_len bytes) line
+    ++ tokens_from 0 (place + front_len bytes) (line_after (get_or bytes 0 0) line) (drop (front_len bytes) bytes)
 unfolding tokens_from
 tokens_from-front place line [] some moves within = absurd (omega arith)
 tokens_from-front place line (byte ∷ bytes) some moves within =
@@ -35,7 +36,8 @@ tokens_from-front place line (byte ∷ bytes) some moves within =
 -- the word at this place, and the tokens behind it
 word_at : (source : List ℕ) (place line len : ℕ) (kind : Option TokenKind) → place < length source →
     kind ≡ front_kind (drop place source) → len ≡ front_len (drop place source) → 0 < len → place + len ≤ length source →
-    tokens_from 0 place line (drop place source) ≡ token_at kind place (place + len) line ++ tokens_from 0 (place + len) (line_after (get_or source place 0) line) (drop (place + len) source)
+    tokens_from 0 place line (drop place source) ≡ token_at kind place (place + len) line
+    ++ tokens_from 0 (place + len) (line_after (get_or source place 0) line) (drop (place + len) source)
 word_at source place line len kind within kind_is len_is some room =
     let rest = drop place source in
     let length_rest = length-drop place source in
@@ -48,7 +50,8 @@ word_at source place line len kind within kind_is len_is some room =
 pub one_word : (source : List ℕ) (place line len : ℕ) (kind : Option TokenKind) (before all : List Token) → place < length source →
     kind ≡ front_kind (drop place source) → len ≡ front_len (drop place source) → 0 < len → place + len ≤ length source →
     ((k : TokenKind) → kind ≡ Some k → is_bad k ≡ false) → before ++ up_to_bad (tokens_from 0 place line (drop place source)) ≡ all →
-    (before ++ token_at kind place (place + len) line) ++ up_to_bad (tokens_from 0 (place + len) (line_after (get_or source place 0) line) (drop (place + len) source)) ≡ all
+    (before ++ token_at kind place (place + len) line) ++ up_to_bad (tokens_from 0 (place + len) (line_after (get_or source place 0) line)
+    (drop (place + len) source)) ≡ all
 one_word source place line len kind before all within kind_is len_is some room fine so_far =
     append_assoc before _ _
     ∙ ap (λ ts. before ++ ts)
@@ -62,7 +65,8 @@ tokens_from-end place line = cut_end place line
 
 pub tokens_of-start : (source : List ℕ) → mark_len source ≤ length source → tokens_from 0 (mark_len source) 1 (drop (mark_len source) source) ≡ tokens_of source
 unfolding tokens_of
-tokens_of-start source within = sym (tokens_from-skip (mark_len source) 0 1 source within ∙ ap (λ p. tokens_from 0 p 1 (drop (mark_len source) source)) (zero-add (mark_len source)))
+tokens_of-start source within = sym (tokens_from-skip (mark_len source) 0 1 source within
+    ∙ ap (λ p. tokens_from 0 p 1 (drop (mark_len source) source)) (zero-add (mark_len source)))
 
 pub mark_len-le : (source : List ℕ) → mark_len source ≤ length source
 mark_len-le source = grind (arith, common_steps)
@@ -70,11 +74,13 @@ mark_len-le source = grind (arith, common_steps)
 -- one turn of the lexer, as its loop has it
 pub turn : (source : List ℕ) (place line end : ℕ) (kind : Option TokenKind) (before after all : List Token) → place < length source →
     kind ≡ front_kind (drop place source) → end ≡ place + front_len (drop place source) → place < end → end ≤ length source →
-    ((k : TokenKind) → kind ≡ Some k → is_bad k ≡ false) → after ≡ before ++ token_at kind place end line → before ++ up_to_bad (tokens_from 0 place line (drop place source)) ≡ all →
+    ((k : TokenKind) → kind ≡ Some k → is_bad k ≡ false) → after ≡ before ++ token_at kind place end line
+    → before ++ up_to_bad (tokens_from 0 place line (drop place source)) ≡ all →
     after ++ up_to_bad (tokens_from 0 end (line_after (get_or source place 0) line) (drop end source)) ≡ all
 turn source place line end kind before after all within kind_is end_is some room fine after_is so_far =
     (λ i. after_is i ++ up_to_bad (tokens_from 0 end (line_after (get_or source place 0) line) (drop end source)))
-    ∙ (λ i. (before ++ token_at kind place (end_is i) line) ++ up_to_bad (tokens_from 0 (end_is i) (line_after (get_or source place 0) line) (drop (end_is i) source)))
+    ∙ (λ i. (before ++ token_at kind place (end_is i) line) ++ up_to_bad (tokens_from 0 (end_is i) (line_after (get_or source place 0) line)
+    (drop (end_is i) source)))
     ∙ one_word source place line (front_len (drop place source)) kind before all within kind_is refl (omega (arith, end_is)) (omega (arith, end_is)) fine so_far
 
 -- its last turn, at a Bad token

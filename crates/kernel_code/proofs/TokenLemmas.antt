@@ -60,7 +60,8 @@ form_of word kind is =
     (cases_Bool (is_name word))
 
 -- a name that is no reserved word is a Name
-named_kind : (found : Option TokenKind) (word : List ℕ) (kind : TokenKind) → spelled reserved_words word ≡ found → unwrap_or found Name ≡ kind → spelling_of kind ≡ [] → kind_of word ≡ Some kind → kind ≡ Name
+named_kind : (found : Option TokenKind) (word : List ℕ) (kind : TokenKind) → spelled reserved_words word ≡ found → unwrap_or found Name ≡ kind
+    → spelling_of kind ≡ [] → kind_of word ≡ Some kind → kind ≡ Name
 named_kind None word kind found is none kind_is = sym is
 named_kind (Some reserved) word kind found is none kind_is = absurd (unspelled reserved_words word kind none kind_is (found ∙ ap Some is))
 
@@ -124,7 +125,8 @@ unfolding front_len
 front_len-some bytes = omega arith
 
 -- where the front is a token other than Bad, its bytes are a word of that kind
-front_kind_of : (n : ℕ) (bytes : List ℕ) (kind : TokenKind) → longest bytes ≡ n → front_kind bytes ≡ Some kind → (kind ≡ Bad) ⊎ (kind_of (take (front_len bytes) bytes) ≡ Some kind)
+front_kind_of : (n : ℕ) (bytes : List ℕ) (kind : TokenKind) → longest bytes ≡ n → front_kind bytes ≡ Some kind
+    → (kind ≡ Bad) ⊎ (kind_of (take (front_len bytes) bytes) ≡ Some kind)
 front_kind_of zero bytes kind longest_is is =
     let same : Some Bad ≡ Some kind = sym (front_of_none bytes longest_is).0 ∙ is in
     inl (cc)
@@ -176,7 +178,8 @@ pub record IsTokenOf (source : List ℕ) (token : Token) : Type 0 where
   pub last_line : token.line ≤ length source + 1
   pub spelled_so : token.kind ≢ End → token.kind ≢ Bad → kind_of (text_of source token) ≡ Some token.kind
 
-token_at-is : (source : List ℕ) (place line : ℕ) (bytes : List ℕ) (found : Option TokenKind) → drop place source ≡ bytes → place + length bytes ≡ length source → 0 < length bytes → 1 ≤ line → line ≤ place + 1 → front_kind bytes ≡ found →
+token_at-is : (source : List ℕ) (place line : ℕ) (bytes : List ℕ) (found : Option TokenKind) → drop place source ≡ bytes → place + length bytes ≡ length source
+    → 0 < length bytes → 1 ≤ line → line ≤ place + 1 → front_kind bytes ≡ found →
     All (IsTokenOf source) (token_at found place (place + front_len bytes) line)
 token_at-is source place line bytes None rest_is room some first last is = All-nil (IsTokenOf source)
 token_at-is source place line bytes (Some kind) rest_is room some first last is =
@@ -198,12 +201,20 @@ token_at-is source place line bytes (Some kind) rest_is room some first last is 
 drop-next : (place : ℕ) (source : List ℕ) (byte : ℕ) (bytes : List ℕ) → drop place source ≡ byte ∷ bytes → drop (place + 1) source ≡ bytes
 drop-next place source byte bytes rest_is = sym (drop-drop 1 place source) ∙ ap (λ xs. drop 1 xs) rest_is
 
-tokens_from-are : (source : List ℕ) (begun place line : ℕ) (bytes : List ℕ) → drop place source ≡ bytes → place + length bytes ≡ length source → begun ≤ length bytes → 1 ≤ line → line ≤ place + 1 →
+tokens_from-are : (source : List ℕ) (begun place line : ℕ) (bytes : List ℕ) → drop place source ≡ bytes → place + length bytes ≡ length source
+    → begun ≤ length bytes → 1 ≤ line → line ≤ place + 1 →
     All (IsTokenOf source) (tokens_from begun place line bytes)
 unfolding tokens_from
 tokens_from-are source begun place line [] rest_is room within first last =
     All-cons (IsTokenOf source) _ []
-    (record { ordered = omega arith; within = omega arith; some = λ no_end. absurd (no_end refl); first_line = first; last_line = omega arith; spelled_so = λ no_end no_bad. absurd (no_end refl) })
+    (record {
+      ordered = omega arith;
+      within = omega arith;
+      some = λ no_end. absurd (no_end refl);
+      first_line = first;
+      last_line = omega arith;
+      spelled_so = λ no_end no_bad. absurd (no_end refl);
+    })
     (All-nil (IsTokenOf source))
 tokens_from-are source (suc begun) place line (byte ∷ bytes) rest_is room within first last =
     tokens_from-are source begun (place + 1) line bytes (drop-next place source byte bytes rest_is) (omega arith) (omega arith) first (omega arith)
@@ -212,7 +223,8 @@ tokens_from-are source zero place line (byte ∷ bytes) rest_is room within firs
     let next = line_after-le byte line in
     All-append (IsTokenOf source) _ _
     (token_at-is source place line (byte ∷ bytes) _ rest_is room (omega arith) first last refl)
-    (tokens_from-are source (front_len (byte ∷ bytes) - 1) (place + 1) (line_after byte line) bytes (drop-next place source byte bytes rest_is) (omega arith) (omega arith) (omega (arith, line_after-ge byte line)) (omega arith))
+    (tokens_from-are source (front_len (byte ∷ bytes) - 1) (place + 1) (line_after byte line) bytes (drop-next place source byte bytes rest_is) (omega arith)
+    (omega arith) (omega (arith, line_after-ge byte line)) (omega arith))
 
 -- each token of a file
 pub tokens_of-are : (source : List ℕ) → All (IsTokenOf source) (tokens_of source)
@@ -227,14 +239,22 @@ pub record AreEnded (tokens : List Token) : Type 0 where
   pub last_is : last.kind ≡ End
   pub no_other : All (λ token. token.kind ≢ End) front
 
-token_at-goes_on : (bytes : List ℕ) (found : Option TokenKind) (start end line : ℕ) → front_kind bytes ≡ found → All (λ token. token.kind ≢ End) (token_at found start end line)
+token_at-goes_on : (bytes : List ℕ) (found : Option TokenKind) (start end line : ℕ) → front_kind bytes ≡ found
+    → All (λ token. token.kind ≢ End) (token_at found start end line)
 token_at-goes_on bytes None start end line is = All-nil (λ token. token.kind ≢ End)
-token_at-goes_on bytes (Some kind) start end line is = All-cons (λ token. token.kind ≢ End) _ [] (front_kind-End bytes kind is) (All-nil (λ token. token.kind ≢ End))
+token_at-goes_on bytes (Some kind) start end line is = All-cons (λ token. token.kind ≢ End) _ [] (front_kind-End bytes kind is)
+    (All-nil (λ token. token.kind ≢ End))
 
 tokens_from-ended : (begun place line : ℕ) (bytes : List ℕ) → AreEnded (tokens_from begun place line bytes)
 unfolding tokens_from
 tokens_from-ended begun place line [] =
-    record { front = []; last = record { kind = End; start = place; end = place; line = line }; whole = refl; last_is = refl; no_other = All-nil (λ token. token.kind ≢ End) }
+    record {
+      front = [];
+      last = record { kind = End; start = place; end = place; line = line };
+      whole = refl;
+      last_is = refl;
+      no_other = All-nil (λ token. token.kind ≢ End);
+    }
 tokens_from-ended (suc begun) place line (byte ∷ bytes) = tokens_from-ended begun (place + 1) line bytes
 tokens_from-ended zero place line (byte ∷ bytes) =
     let len = front_len (byte ∷ bytes) in
@@ -257,15 +277,18 @@ abbrev pub AreInOrder : (place line : ℕ) → List Token → Type 0
 AreInOrder place line [] = Unit {0}
 AreInOrder place line (token ∷ tokens) = (place ≤ token.start) × (line ≤ token.line) × AreInOrder token.end token.line tokens
 
-token_before : (found : Option TokenKind) (start end line next : ℕ) (place low : ℕ) (tokens : List Token) → place ≤ start → start ≤ end → low ≤ line → line ≤ next →
+token_before : (found : Option TokenKind) (start end line next : ℕ) (place low : ℕ) (tokens : List Token) → place ≤ start → start ≤ end → low ≤ line
+    → line ≤ next →
     ((p l : ℕ) → p ≤ end → l ≤ next → AreInOrder p l tokens) → AreInOrder place low (token_at found start end line ++ tokens)
 token_before None start end line next place low tokens after ordered rises step behind = behind place low (omega arith) (omega arith)
 token_before (Some kind) start end line next place low tokens after ordered rises step behind = (after, rises, behind end line (omega arith) step)
 
-tokens_from-in_order : (begun place line : ℕ) (bytes : List ℕ) (p l : ℕ) → p ≤ place + begun → l ≤ line → begun ≤ length bytes → AreInOrder p l (tokens_from begun place line bytes)
+tokens_from-in_order : (begun place line : ℕ) (bytes : List ℕ) (p l : ℕ) → p ≤ place + begun → l ≤ line → begun ≤ length bytes
+    → AreInOrder p l (tokens_from begun place line bytes)
 unfolding tokens_from
 tokens_from-in_order begun place line [] p l after rises within = (omega arith, rises, tt)
-tokens_from-in_order (suc begun) place line (byte ∷ bytes) p l after rises within = tokens_from-in_order begun (place + 1) line bytes p l (omega arith) rises (omega arith)
+tokens_from-in_order (suc begun) place line (byte ∷ bytes) p l after rises within =
+    tokens_from-in_order begun (place + 1) line bytes p l (omega arith) rises (omega arith)
 tokens_from-in_order zero place line (byte ∷ bytes) p l after rises within =
     let len = front_len (byte ∷ bytes) in
     let len_le = front_len-le (byte ∷ bytes) (omega arith) in
@@ -284,8 +307,11 @@ from_line (token ∷ tokens) place line zero d in_order within = in_order.1
 from_line (token ∷ tokens) place line (suc j) d in_order within = omega (arith, in_order.1, from_line tokens token.end token.line j d in_order.2 (omega arith))
 
 -- lines don't fall
-pub lines_rise : (tokens : List Token) (place line : ℕ) (i j : ℕ) (d : Token) → AreInOrder place line tokens → i ≤ j → j < length tokens → (get_or tokens i d).line ≤ (get_or tokens j d).line
+pub lines_rise : (tokens : List Token) (place line : ℕ) (i j : ℕ) (d : Token) → AreInOrder place line tokens → i ≤ j → j < length tokens
+    → (get_or tokens i d).line ≤ (get_or tokens j d).line
 lines_rise [] place line i j d in_order below within = absurd (omega arith)
-lines_rise (token ∷ tokens) place line zero j d in_order below within = from_line (token ∷ tokens) place token.line j d (omega arith, omega arith, in_order.2) within
+lines_rise (token ∷ tokens) place line zero j d in_order below within = from_line (token ∷ tokens) place token.line j d
+    (omega arith, omega arith, in_order.2) within
 lines_rise (token ∷ tokens) place line (suc i) zero d in_order below within = absurd (omega arith)
-lines_rise (token ∷ tokens) place line (suc i) (suc j) d in_order below within = lines_rise tokens token.end token.line i j d in_order.2 (omega arith) (omega arith)
+lines_rise (token ∷ tokens) place line (suc i) (suc j) d in_order below within =
+    lines_rise tokens token.end token.line i j d in_order.2 (omega arith) (omega arith)

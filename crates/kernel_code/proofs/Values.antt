@@ -42,11 +42,13 @@ digits_stand bytes small some =
     (cases_lt 0 (length bytes))
 
 -- a Number, where it has a value
-pub number_value : (source : List ℕ) (line : ℕ) (mark : Mark) (value most : ℕ) → get_or source (start_of mark) 0 < 256 → kind_of mark ≡ Number → Some value ≡ front_value most (drop (start_of mark) source) → value ≡ value_of (text_of source (token_in source line mark))
+pub number_value : (source : List ℕ) (line : ℕ) (mark : Mark) (value most : ℕ) → get_or source (start_of mark) 0 < 256 → kind_of mark ≡ Number
+    → Some value ≡ front_value most (drop (start_of mark) source) → value ≡ value_of (text_of source (token_in source line mark))
 number_value source line mark value most small kind is =
     let start = start_of mark in
     let bytes = drop start source in
     let h = has_value most value bytes is in
     let first : get_or bytes 0 0 < 256 = omega (arith, get_or-drop start source 0 0, ap (λ n. get_or source n 0) (add-zero start)) in
-    let len : end_in source (kind_of mark) start - start ≡ prefix_len is_ascii_digit bytes = omega (arith, ap (λ k. end_in source k start) kind, digits_stand bytes first h.some) in
+    let len : end_in source (kind_of mark) start - start ≡ prefix_len is_ascii_digit bytes =
+    omega (arith, ap (λ k. end_in source k start) kind, digits_stand bytes first h.some) in
     h.value_is ∙ ap (λ n. value_of (take n bytes)) (sym len)

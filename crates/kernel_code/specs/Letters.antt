@@ -16,4 +16,5 @@ abbrev pub is_letter : List ℕ → Mark → Bool
 is_letter source mark =
     let start = start_of mark in
     nat_lt (start + 1) (length source)
-    && (not (is_end (kind_of mark)) && (is_ascii_alphabetic (slice_index source start) && not (continues_name (slice_index source (start + 1)))))
+    && (not (is_end (kind_of mark)) && (is_ascii_alphabetic (slice_index source start)
+    && not (continues_name (slice_index source (start + 1)))))

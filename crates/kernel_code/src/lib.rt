@@ -7,15 +7,11 @@
 
 mod changes;
 mod check;
-#[cfg(test)]
-mod check_tests;
 mod decimal;
 mod depths;
 mod fault;
 mod first;
 mod kernel;
-#[cfg(test)]
-mod kernel_tests;
 mod late;
 mod lexer;
 mod mark;
@@ -23,8 +19,6 @@ mod part;
 mod raw;
 mod reader;
 mod spelling;
-#[cfg(test)]
-mod tests;
 mod token;
 mod word;
 

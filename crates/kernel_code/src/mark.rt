@@ -238,8 +238,8 @@ impl Mark {
     }
 
     /// Whether it is spelled so.
-    // Names that differ mostly differ in their first bytes, and then the token isn't read again. The bytes of an end, which
-    // are none, are no name either, whatever stands there.
+    // Names that differ mostly differ in their first bytes, and then the token isn't read again. The bytes of an end,
+    // which are none, are no name either, whatever stands there.
     #[inline(always)]
     pub fn is_spelled(self, source: &[u8], name: &[u8]) -> bool
         ensures { (line : ℕ) → result ≡ bytes_eq (text_of source.now (token_in source.now line self)) name.now }

@@ -121,7 +121,7 @@ pub struct RawKernel<'a> {
     pub params: Vec<RawParam>,
     /// The first nodes of its statements, in the order of their tokens, and no more than MOST_KEPT.
     pub nodes: Vec<RawNode>,
-    /// How deep each of them stands among all nodes of the kernel, counted from 1. Empty where none of them stands deeper
-    /// than MOST_DEPTH, as in most kernels.
+    /// How deep each of them stands among all nodes of the kernel, counted from 1. Empty where none of them stands
+    /// deeper than MOST_DEPTH, as in most kernels.
     pub depths: Vec<u32>,
 }

@@ -35,8 +35,8 @@ pub struct Begun {
     pub end: usize,
 }
 
-/// The kind of the token that begins with each byte: `N` with a letter a name, `D` with a digit a number, and `X`, which
-/// is `Bad`, where the byte alone doesn't tell it.
+/// The kind of the token that begins with each byte: `N` with a letter a name, `D` with a digit a number, and `X`,
+/// which is `Bad`, where the byte alone doesn't tell it.
 const KINDS_BEGUN: [TokenKind; 256] = [
     X, X, X, X, X, X, X, X, X, X, Line, X, X, X, X, X, // 0x00
     X, X, X, X, X, X, X, X, X, X, X, X, X, X, X, X, // 0x10
@@ -243,8 +243,8 @@ fn other_at(source: &[u8], place: usize) -> Front
 }
 
 /// The token that stands at this place, where its first byte alone tells what it is, and none where it doesn't.
-// In line in the lexer's loop: it has nearly all tokens from here, and then asks neither whether one is there nor whether
-// it is `Bad`.
+// In line in the lexer's loop: it has nearly all tokens from here, and then asks neither whether one is there nor
+// whether it is `Bad`.
 #[inline(always)]
 pub fn begun_at(source: &[u8], place: usize) -> Option<Begun>
     requires { place < length source.now }

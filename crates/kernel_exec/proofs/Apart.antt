@@ -25,7 +25,8 @@ module _ (from to from' to' : ℕ) (away : (to ≤ from') ⊎ (to' ≤ from)) wh
   -- an index of a stream has words of its own
   same_index : (at : StreamAt) (own own' : Bool) (w : ℕ) (u : Uses (Stream at own) from to w) (v : Uses (Stream at own') from' to' w) → u.index ≡ v.index
   same_index at own own' w u v =
-      ⊎_elim (λ e. e) (λ ne. absurd (⊎_elim (λ lt. omega (arith, lt, v.start)) (λ ge. omega (arith, ge, v.end)) (apart at u.index v.index w ne u.start u.end))) (same_or u.index v.index)
+      ⊎_elim (λ e. e) (λ ne. absurd (⊎_elim (λ lt. omega (arith, lt, v.start)) (λ ge. omega (arith, ge, v.end)) (apart at u.index v.index w ne u.start u.end)))
+      (same_or u.index v.index)
 
   uses_once : (b : Bind) (w : ℕ) → own_of b ≢ 0 → Uses b from to w → Uses b from' to' w → ⊥
   uses_once (Int z) w some u v = absurd u
@@ -34,7 +35,8 @@ module _ (from to from' to' : ℕ) (away : (to ≤ from') ⊎ (to' ≤ from)) wh
   uses_once (WholeList at) w some u v = some refl
   uses_once (Ref at) w some u v = some refl
   uses_once (Map at) w some u v = some refl
-  uses_once (Stream at own) w some u v = not_both (width_if own) u.index some u.owned (subst (λ k. Own (width_if own) from' to' k) (sym (same_index at own own w u v)) v.owned)
+  uses_once (Stream at own) w some u v = not_both (width_if own) u.index some u.owned
+      (subst (λ k. Own (width_if own) from' to' k) (sym (same_index at own own w u v)) v.owned)
 
 -- the length word of a view is no element
 not_length : (b : Bind) (from to w : ℕ) → Uses b from to w → IsLength b w → ⊥
@@ -65,7 +67,8 @@ own_parts_are_apart kernel binds from to from' to' w fit own away x y = by (same
 
     reads_it : (r : Bool) (b : Bind) → r ≡ false → x.bind ≡ b → ReadsBy r b from' to' w → ⊥
     reads_it true b never same u = cc
-    reads_it false b never same (inl u) = uses_once from to from' to' away b w (subst (λ b. own_of b ≢ 0) same (own x.number x.bind may x.has_bind)) (subst (λ b. Uses b from to w) same use_.1) u
+    reads_it false b never same (inl u) = uses_once from to from' to' away b w (subst (λ b. own_of b ≢ 0) same (own x.number x.bind may x.has_bind))
+        (subst (λ b. Uses b from to w) same use_.1) u
     reads_it false b never same (inr u) = not_length b from to w (subst (λ b. Uses b from to w) same use_.1) u
 
     by : (x.number ≡ y.number) ⊎ (x.number ≢ y.number) → ⊥
@@ -73,4 +76,5 @@ own_parts_are_apart kernel binds from to from' to' w fit own away x y = by (same
         let param : x.param ≡ y.param = one_of x.param y.param (sym x.has_param ∙ ap (slice_get kernel.params.items) e ∙ y.has_param) in
         let bind : x.bind ≡ y.bind = one_of x.bind y.bind (sym x.has_bind ∙ ap (slice_get binds) e ∙ y.has_bind) in
         reads_it (is_read y.param.access) y.bind (ap (λ p. is_read p.access) (sym param) ∙ use_.0) bind y.reads
-    by (inr ne) = fit.apart x.number y.number x.bind y.bind w may ne x.has_bind y.has_bind (uses_word x.bind from to w use_.1) (not_length x.bind from to w use_.1) (reads_word (is_read y.param.access) y.bind from' to' w y.reads)
+    by (inr ne) = fit.apart x.number y.number x.bind y.bind w may ne x.has_bind y.has_bind (uses_word x.bind from to w use_.1)
+        (not_length x.bind from to w use_.1) (reads_word (is_read y.param.access) y.bind from' to' w y.reads)

@@ -10,7 +10,8 @@ told_value None z = record { trap = refl; value = λ e. refl }
 told_value (Some u) z = record { trap = refl; value = λ e. refl }
 
 -- one outcome, and then another that rests on its value
-pub told_then : (t t' t'' : Option Trap) (m z : ℤ) (first : Result ℤ Trap) (next : ℤ → Result ℤ Trap) → Told t m t' first → Told t' z t'' (next m) → Told t z t'' (then_value first next)
+pub told_then : (t t' t'' : Option Trap) (m z : ℤ) (first : Result ℤ Trap) (next : ℤ → Result ℤ Trap) → Told t m t' first → Told t' z t'' (next m)
+    → Told t z t'' (then_value first next)
 told_then (Some u) t' t'' m z first next a b =
     let e : t' ≡ Some u = a.trap in
     let f : t'' ≡ Some u = b.trap ∙ ap (λ t. aside_after t (next m)) e in

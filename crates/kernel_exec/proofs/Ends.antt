@@ -23,13 +23,19 @@ use Rattle.kernel_exec.specs.Conditions.{BindsFit, BlockFits, IsUnwritten}
 use Rattle.kernel_exec.proofs.Stand.{AnyIndex, words_stand}
 use Rattle.kernel_exec.proofs.Keeping.{Kept, words_keep}
 
-pub is_execution : (p : Operations (ℕ → ℤ)) (index : ℕ) (body code : List Stmt) (machine : Machine) (cells : ℕ → ℤ) (o : Outcome (ℕ → ℤ)) → IsFresh machine → code ≡ body → body_meaning p index code (state_of machine cells) ≡ o → execution p body full_steps index cells ≡ o
+pub is_execution : (p : Operations (ℕ → ℤ)) (index : ℕ) (body code : List Stmt) (machine : Machine) (cells : ℕ → ℤ) (o : Outcome (ℕ → ℤ)) → IsFresh machine
+    → code ≡ body → body_meaning p index code (state_of machine cells) ≡ o → execution p body full_steps index cells ≡ o
 unfolding fresh full_steps
 is_execution p index body code machine cells o is same run =
     let locals = is.locals in
     let begun = is.begun in
     let steps = is.steps in
-    let from : body_meaning p index code (record { steps = MOST_STEPS; locals = replicate MOST_LOCALS (pos 0); begun = replicate MOST_PARAMS (pos 0); store = cells }) ≡ body_meaning p index code (state_of machine cells) = rw (locals, begun, steps) refl in
+    let from : body_meaning p index code (record {
+      steps = MOST_STEPS;
+      locals = replicate MOST_LOCALS (pos 0);
+      begun = replicate MOST_PARAMS (pos 0);
+      store = cells;
+    }) ≡ body_meaning p index code (state_of machine cells) = rw (locals, begun, steps) refl in
     rw (← same) (from ∙ run)
 
 pub ended_trap : {T : Type 0} (r : Option T) (machine : Machine) (cells : ℕ → ℤ) → trap_of (valued r machine) ≡ trap_after (outcome_of r machine cells)
@@ -41,17 +47,22 @@ ended_cells (Some x) machine cells = refl
 ended_cells None machine cells = refl
 
 -- the body of a checked kernel stands in no `begin` block
-pub body_fits : (kernel : Kernel) (binds : List Bind) (index : ℕ) (begun : List ℤ) (code : List Stmt) → IsChecked kernel → code ≡ kernel.body.statements.items → BlockFits kernel binds index begun code
+pub body_fits : (kernel : Kernel) (binds : List Bind) (index : ℕ) (begun : List ℤ) (code : List Stmt) → IsChecked kernel → code ≡ kernel.body.statements.items
+    → BlockFits kernel binds index begun code
 body_fits kernel binds index begun code is same = rw same (record { open_ = []; fits = is.fits; have = λ x m. cc })
 
 module _ (kernel : Kernel) (binds : List Bind) (is : IsChecked kernel) (fit : BindsFit kernel binds) (index : ℕ) where
-  pub stands_after : (steps : ℕ) (cells : ℕ → ℤ) (s : List Contents) → StandFor binds cells s → AlikeEnds (StandFor binds) (execution (words binds index) kernel.body.statements.items steps index cells) (execution (arguments (widths binds) index) kernel.body.statements.items steps index s)
+  pub stands_after : (steps : ℕ) (cells : ℕ → ℤ) (s : List Contents) → StandFor binds cells s
+      → AlikeEnds (StandFor binds) (execution (words binds index) kernel.body.statements.items steps index cells)
+      (execution (arguments (widths binds) index) kernel.body.statements.items steps index s)
   stands_after steps cells s r =
       execution_alike (StandFor binds) kernel is AnyIndex _ _ (words_stand kernel binds is fit index) steps index cells s r
 
-  pub unwritten_after : (cells : ℕ → ℤ) (w : ℕ) → IsUnwritten kernel binds w → store_after (execution (words binds index) kernel.body.statements.items full_steps index cells) w ≡ cells w
+  pub unwritten_after : (cells : ℕ → ℤ) (w : ℕ) → IsUnwritten kernel binds w
+      → store_after (execution (words binds index) kernel.body.statements.items full_steps index cells) w ≡ cells w
   unwritten_after cells w out =
-      (execution_alike (Kept kernel binds cells) kernel is AnyIndex _ _ (words_keep kernel binds fit cells index) full_steps index cells cells (record { same = refl; unwritten = λ w out. refl })).store.unwritten w out
+      (execution_alike (Kept kernel binds cells) kernel is AnyIndex _ _ (words_keep kernel binds fit cells index) full_steps index cells cells
+      (record { same = refl; unwritten = λ w out. refl })).store.unwritten w out
 
 pub index_same : (o : Option ℕ) → unwrap_or o 0 ≡ index_of o
 index_same None = refl

@@ -43,7 +43,9 @@ begun_is (Ref at) index i cells new e = tt
 begun_is (Map at) index i cells new e = tt
 begun_is (Stream at own) index i cells new e = by (place_in at.count i) refl (owns (width_if own) index i) refl e
   where
-    by : (p : Result ℕ Trap) → place_in at.count i ≡ p → (o : Bool) → owns (width_if own) index i ≡ o → then_value (then_value p (λ k. if o then Ok k else Err OwnIndex)) (λ k. after_call (begin_words at cells i)) ≡ Ok new → IsBegun (Stream at own) index i
+    by : (p : Result ℕ Trap) → place_in at.count i ≡ p → (o : Bool) → owns (width_if own) index i ≡ o
+        → then_value (then_value p (λ k. if o then Ok k else Err OwnIndex)) (λ k. after_call (begin_words at cells i)) ≡ Ok new
+        → IsBegun (Stream at own) index i
     by (Ok k) e true f q = (k, place_is at.count k i e, in_place at.count k i e, owned_place at.count (width_if own) index k i e f)
     by (Ok k) e false f q = cc
     by (Err t) e o f q = cc
@@ -88,7 +90,8 @@ module _ (kernel : Kernel) (binds : List Bind) (index : ℕ) (checked : IsChecke
       right = λ w out. m.right w (λ u. out (written_word kernel binds index checked fit x w may u)) ∙ r.right w out;
     }
 
-    goes : (x : ℕ) (c d : ℕ → ℤ) (p q : Result (ℕ → ℤ) Trap) → IsTrue (may_write params x) → R c d → AlikeResults (Moved index (bind_at binds x) c d) p q → AlikeResults R p q
+    goes : (x : ℕ) (c d : ℕ → ℤ) (p q : Result (ℕ → ℤ) Trap) → IsTrue (may_write params x) → R c d → AlikeResults (Moved index (bind_at binds x) c d) p q
+        → AlikeResults R p q
     goes x c d (Ok new) (Ok new') may r m = moves x c d new new' may r m
     goes x c d (Ok new) (Err u) may r m = absurd m
     goes x c d (Err t) (Ok new') may r m = absurd m
@@ -114,7 +117,9 @@ module _ (kernel : Kernel) (binds : List Bind) (index : ℕ) (checked : IsChecke
       write = λ x i v c d may begun r. goes x c d _ _ may r (t.write_moved index c d (bind_at binds x) i v begun (agree x c d r));
     }
 
-    pub alike_ends : (steps : ℕ) → (trap_after (at_index kernel binds steps index a) ≡ trap_after (at_index kernel binds steps index b)) × Alike kernel binds index a b (store_after (at_index kernel binds steps index a)) (store_after (at_index kernel binds steps index b))
+    pub alike_ends : (steps : ℕ) → (trap_after (at_index kernel binds steps index a) ≡ trap_after (at_index kernel binds steps index b))
+        × Alike kernel binds index a b (store_after (at_index kernel binds steps index a)) (store_after (at_index kernel binds steps index b))
     alike_ends steps =
-        let ends = execution_alike R kernel checked (λ x i. IsBegun (bind_at binds x) index i) (words binds index) (words binds index) words_alike steps index a b (record { same = λ w e. e; left = λ w out. refl; right = λ w out. refl }) in
+        let ends = execution_alike R kernel checked (λ x i. IsBegun (bind_at binds x) index i) (words binds index)
+        (words binds index) words_alike steps index a b (record { same = λ w e. e; left = λ w out. refl; right = λ w out. refl }) in
         (ends.trap, ends.store)

@@ -34,7 +34,8 @@ abbrev pub Stays : Bind → (ℕ → ℤ) → Result (ℕ → ℤ) Trap → Type
 Stays b old (Ok new) = (w : ℕ) → IsBeyond b w → new w ≡ old w
 Stays b old (Err t) = Unit {0}
 
-from_call : {A : Type 0} (b : Bind) (old : ℕ → ℤ) (f : Result A Trap × (ℕ → ℤ)) → ((w : ℕ) → IsLength b w → ⊥) → SameBeyond (start_of b) (end_of b) old f.1 → Stays b old (after_call f)
+from_call : {A : Type 0} (b : Bind) (old : ℕ → ℤ) (f : Result A Trap × (ℕ → ℤ)) → ((w : ℕ) → IsLength b w → ⊥) → SameBeyond (start_of b) (end_of b) old f.1
+    → Stays b old (after_call f)
 from_call {A} b old f whole same = cases f.0 f.1 same
   where
     cases : (r : Result A Trap) (new : ℕ → ℤ) → SameBeyond (start_of b) (end_of b) old new → Stays b old (after_call (r, new))
@@ -49,7 +50,8 @@ owned b old width index i (Ok new) s = by (owns width index i)
     by false = tt
 owned b old width index i (Err t) s = tt
 
-then_stays : {A : Type 0} (b : Bind) (old : ℕ → ℤ) (p : Result A Trap) (r : A → Result (ℕ → ℤ) Trap) → ((a : A) → p ≡ Ok a → Stays b old (r a)) → Stays b old (then_value p r)
+then_stays : {A : Type 0} (b : Bind) (old : ℕ → ℤ) (p : Result A Trap) (r : A → Result (ℕ → ℤ) Trap) → ((a : A) → p ≡ Ok a → Stays b old (r a))
+    → Stays b old (then_value p r)
 then_stays b old (Ok a) r s = s a refl
 then_stays b old (Err t) r s = tt
 
@@ -66,14 +68,18 @@ module _ (old : ℕ → ℤ) where
   view_set : (at : _) (own : ℕ) (i v : ℤ) → Stays (View at own) old (after_call (list_set at old i v))
   view_set at own i v = cases (list_set at old i v).0 (list_set at old i v).1 ((array_set_form (array_words at old) i v).changes old)
     where
-      cases : (r : Result (Unit {0}) Trap) (new : ℕ → ℤ) → SameBeyond (at.start + 1) (at.start + 1 + len_words at old) old new → Stays (View at own) old (after_call (r, new))
+      cases : (r : Result (Unit {0}) Trap) (new : ℕ → ℤ) → SameBeyond (at.start + 1) (at.start + 1 + len_words at old) old new
+          → Stays (View at own) old (after_call (r, new))
       cases (Ok u) new s =
-          λ w out. s w (outside (at.start + 1) (at.start + 1 + len_words at old) w (λ lo hi. let r : len_words at old ≤ at.cap = length_within at.cap (old at.start) in out (record { from = omega arith; below = omega arith }) (λ e. omega arith)))
+          λ w out. s w (outside (at.start + 1) (at.start + 1 + len_words at old) w
+          (λ lo hi. let r : len_words at old ≤ at.cap = length_within at.cap (old at.start) in
+          out (record { from = omega arith; below = omega arith }) (λ e. omega arith)))
       cases (Err t) new s = tt
 
   put_stays : (b : Bind) (index : ℕ) (i v : ℤ) → end_of b < 2 ^ 32 → Stays b old (put_word index i v b old)
   put_stays (Int z) index i v fits = tt
-  put_stays (Array at own) index i v fits = owned (Array at own) old own index i _ (from_call (Array at own) old (array_set at old i v) (λ w l. l) ((array_set_form at i v).changes old))
+  put_stays (Array at own) index i v fits = owned (Array at own) old own index i _
+      (from_call (Array at own) old (array_set at old i v) (λ w l. l) ((array_set_form at i v).changes old))
   put_stays (View at own) index i v fits = owned (View at own) old own index i _ (view_set at own i v)
   put_stays (WholeList at) index i v fits = from_call (WholeList at) old (list_set at old i v) (λ w l. l) ((list_set_form at i v).changes old)
   put_stays (Ref at) index i v fits = tt
@@ -133,7 +139,8 @@ module _ (old : ℕ → ℤ) where
   begin_stays (Ref at) index i = tt
   begin_stays (Map at) index i = tt
   begin_stays (Stream at own) index i =
-      then_stays (Stream at own) old (if_owned (width_if own) index i (place_in at.count i)) (λ k. after_call (begin_words at old i)) (λ k e. from_call (Stream at own) old (begin_words at old i) (λ w l. l) ((begin_form at i).changes old))
+      then_stays (Stream at own) old (if_owned (width_if own) index i (place_in at.count i)) (λ k. after_call (begin_words at old i))
+      (λ k e. from_call (Stream at own) old (begin_words at old i) (λ w l. l) ((begin_form at i).changes old))
 
   write_stays : (b : Bind) (i v : ℤ) → Stays b old (write_word i v b old)
   write_stays (Int z) i v = tt
@@ -143,7 +150,8 @@ module _ (old : ℕ → ℤ) where
   write_stays (Ref at) i v = tt
   write_stays (Map at) i v = tt
   write_stays (Stream at own) i v =
-      then_stays (Stream at own) old (place_in at.count i) (λ k. after_call (write_words at old k v)) (λ k e. from_call (Stream at own) old (write_words at old k v) (λ w l. l) ((write_form at k v (in_place at.count k i e)).changes old))
+      then_stays (Stream at own) old (place_in at.count i) (λ k. after_call (write_words at old k v))
+      (λ k e. from_call (Stream at own) old (write_words at old k v) (λ w l. l) ((write_form at k v (in_place at.count k i e)).changes old))
 
 -- The same cells, which are those from before at each word that may not be written.
 pub record Kept (kernel : Kernel) (binds : List Bind) (before c d : ℕ → ℤ) : Type 0 where
@@ -157,13 +165,15 @@ module _ (kernel : Kernel) (binds : List Bind) (fit : BindsFit kernel binds) (be
   fits : (x : ℕ) → IsTrue (may x) → end_of (bind_at binds x) < 2 ^ 32
   fits x h = fit.ends x (bind_at binds x) (written_bind kernel binds fit x h)
 
-  keeps : (x : ℕ) (c d new new' : ℕ → ℤ) → IsTrue (may x) → Kept kernel binds before c d → new ≡ new' → ((w : ℕ) → IsBeyond (bind_at binds x) w → new w ≡ c w) → Kept kernel binds before new new'
+  keeps : (x : ℕ) (c d new new' : ℕ → ℤ) → IsTrue (may x) → Kept kernel binds before c d → new ≡ new' → ((w : ℕ) → IsBeyond (bind_at binds x) w → new w ≡ c w)
+      → Kept kernel binds before new new'
   keeps x c d new new' h r same stays = record {
     same = same;
     unwritten = λ w out. stays w (λ word. out.each x (bind_at binds x) h (written_bind kernel binds fit x h) word) ∙ r.unwritten w out;
   }
 
-  goes : (x : ℕ) (c d : ℕ → ℤ) (op : (ℕ → ℤ) → Result (ℕ → ℤ) Trap) → IsTrue (may x) → Kept kernel binds before c d → Stays (bind_at binds x) c (op c) → AlikeResults (Kept kernel binds before) (op c) (op d)
+  goes : (x : ℕ) (c d : ℕ → ℤ) (op : (ℕ → ℤ) → Result (ℕ → ℤ) Trap) → IsTrue (may x) → Kept kernel binds before c d → Stays (bind_at binds x) c (op c)
+      → AlikeResults (Kept kernel binds before) (op c) (op d)
   goes x c d op h r s = subst (λ e. AlikeResults (Kept kernel binds before) (op c) (op e)) r.same (by (op c) s)
     where
       by : (o : Result (ℕ → ℤ) Trap) → Stays (bind_at binds x) c o → AlikeResults (Kept kernel binds before) o o
@@ -183,8 +193,10 @@ module _ (kernel : Kernel) (binds : List Bind) (fit : BindsFit kernel binds) (be
     add = λ x v c d h r. goes x c d ((words binds index).add x v) h r (add_stays c (bind_at binds x) v);
     remove_at = λ x i c d h r. goes x c d ((words binds index).remove_at x i) h r (remove_at_stays c (bind_at binds x) i);
     add_pair = λ x k v c d h r. goes x c d ((words binds index).add_pair x k v) h r (add_pair_stays c (bind_at binds x) k v (fits x h));
-    remove_key = λ x k c d h r. keeps x c d _ _ h r (ap (λ (m : ℕ → ℤ). (words binds index).remove_key x k m) r.same) (remove_key_stays c (bind_at binds x) k (fits x h));
-    clear = λ x c d h r. keeps x c d _ _ (written kernel.params.items x clearable refl h) r (ap (λ (m : ℕ → ℤ). (words binds index).clear x m) r.same) (clear_stays c (bind_at binds x));
+    remove_key = λ x k c d h r. keeps x c d _ _ h r (ap (λ (m : ℕ → ℤ). (words binds index).remove_key x k m) r.same)
+        (remove_key_stays c (bind_at binds x) k (fits x h));
+    clear = λ x c d h r. keeps x c d _ _ (written kernel.params.items x clearable refl h) r (ap (λ (m : ℕ → ℤ). (words binds index).clear x m) r.same)
+        (clear_stays c (bind_at binds x));
     begin = λ x i c d h r. goes x c d ((words binds index).begin x i) h r (begin_stays c (bind_at binds x) index i);
     begun = λ x i c new e. tt;
     write = λ x i v c d h begun r. goes x c d ((words binds index).write x i v) h r (write_stays c (bind_at binds x) i v);

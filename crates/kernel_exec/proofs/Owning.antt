@@ -66,12 +66,15 @@ module _ (b : Bind) (at : ArrayAt) (index : ℕ) (own : IsOwn b at) (h : index <
   pub own_use : Uses (Array at own.width) index (index + 1) (at.start + index)
   own_use = array_element at own.width index index (pos index) (at_place at.len index h) (owns_itself own.width index own.narrow)
 
-module _ (kernel : Kernel) (binds : List Bind) (index : ℕ) (may_load may_store : ℕ → Bool) (call : IsCall kernel binds index may_load may_store) (x : ℕ) (at : ArrayAt) (own : IsOwn (bind_at binds x) at) (inside : x < length kernel.params.items) (h : index < at.len) where
+module _ (kernel : Kernel) (binds : List Bind) (index : ℕ) (may_load may_store : ℕ → Bool) (call : IsCall kernel binds index may_load may_store) (x : ℕ)
+    (at : ArrayAt) (own : IsOwn (bind_at binds x) at) (inside : x < length kernel.params.items) (h : index < at.len) where
   pub own_fits : at.start + at.len < 2 ^ 32
   own_fits = fits kernel binds index may_load may_store call x (Array at own.width) own.is inside
 
   pub own_readable : IsTrue (may_load (at.start + index))
-  own_readable = may_use kernel binds index may_load may_store call x (Array at own.width) own.is inside (at.start + index) (inl (own_use (bind_at binds x) at index own h))
+  own_readable = may_use kernel binds index may_load may_store call x (Array at own.width) own.is inside (at.start + index)
+      (inl (own_use (bind_at binds x) at index own h))
 
   pub own_writable : IsTrue (may_write kernel.params.items x) → IsTrue (may_store (at.start + index))
-  own_writable may = may_change kernel binds index may_load may_store call x (Array at own.width) own.is inside may (at.start + index) (own_use (bind_at binds x) at index own h)
+  own_writable may = may_change kernel binds index may_load may_store call x (Array at own.width) own.is inside may (at.start + index)
+      (own_use (bind_at binds x) at index own h)

@@ -45,8 +45,22 @@ module _ (from to from' to' : ℕ) (first : from' ≤ from) (last : to ≤ to') 
 
 pub footprints_grow : FootprintsGrow
 footprints_grow = record {
-  read = λ params binds from to from' to' w first last h. record { number = h.number; param = h.param; bind = h.bind; has_param = h.has_param; has_bind = h.has_bind; reads = reads_more from to from' to' first last (is_read h.param.access) h.bind w h.reads };
-  written = λ params binds from to from' to' w first last h. record { number = h.number; param = h.param; bind = h.bind; has_param = h.has_param; has_bind = h.has_bind; writes = writes_more from to from' to' first last (is_read h.param.access) h.bind w h.writes };
+  read = λ params binds from to from' to' w first last h. record {
+    number = h.number;
+    param = h.param;
+    bind = h.bind;
+    has_param = h.has_param;
+    has_bind = h.has_bind;
+    reads = reads_more from to from' to' first last (is_read h.param.access) h.bind w h.reads;
+  };
+  written = λ params binds from to from' to' w first last h. record {
+    number = h.number;
+    param = h.param;
+    bind = h.bind;
+    has_param = h.has_param;
+    has_bind = h.has_bind;
+    writes = writes_more from to from' to' first last (is_read h.param.access) h.bind w h.writes;
+  };
 }
 
 reads_written : (r : Bool) (b : Bind) (from to w : ℕ) → WritesBy r b from to w → ReadsBy r b from to w
@@ -55,7 +69,14 @@ reads_written false b from to w u = inl u
 
 pub written_words_are_read : WrittenWordsAreRead
 written_words_are_read params binds from to w h =
-    record { number = h.number; param = h.param; bind = h.bind; has_param = h.has_param; has_bind = h.has_bind; reads = reads_written (is_read h.param.access) h.bind from to w h.writes }
+    record {
+      number = h.number;
+      param = h.param;
+      bind = h.bind;
+      has_param = h.has_param;
+      has_bind = h.has_bind;
+      reads = reads_written (is_read h.param.access) h.bind from to w h.writes;
+    }
 
 -- ---- indexes
 
@@ -69,21 +90,28 @@ module _ (kernel : Kernel) (binds : List Bind) (steps : ℕ) (checked : IsChecke
   changes_one : (index : ℕ) (cells : ℕ → ℤ) (w : ℕ) → (IsWritten params binds index (index + 1) w → ⊥) → after index cells w ≡ cells w
   changes_one index cells w out = (alike_ends kernel binds index checked fit cells cells (λ w read. refl) steps).1.left w out
 
-  changes_many : (n from : ℕ) (cells : ℕ → ℤ) (w : ℕ) → (IsWritten params binds from (from + n) w → ⊥) → (at_indexes kernel binds steps n from cells).store w ≡ cells w
+  changes_many : (n from : ℕ) (cells : ℕ → ℤ) (w : ℕ) → (IsWritten params binds from (from + n) w → ⊥)
+      → (at_indexes kernel binds steps n from cells).store w ≡ cells w
   changes_many zero from cells w out = refl
   changes_many (suc n) from cells w out =
-      changes_many n (from + 1) (after from cells) w (λ h. out (footprints_grow.written params binds (from + 1) (from + 1 + n) from (from + suc n) w (omega arith) (omega arith) h))
+      changes_many n (from + 1) (after from cells) w (λ h. out (footprints_grow.written params binds (from + 1) (from + 1 + n) from (from + suc n) w
+      (omega arith) (omega arith) h))
       ∙ changes_one from cells w (λ h. out (footprints_grow.written params binds from (from + 1) from (from + suc n) w (omega arith) (omega arith) h))
 
-  decides_one : (index : ℕ) (a b : ℕ → ℤ) → AgreeOn (IsRead params binds index (index + 1)) a b → (trap_after (at_index kernel binds steps index a) ≡ trap_after (at_index kernel binds steps index b)) × StayAlike a b (after index a) (after index b)
+  decides_one : (index : ℕ) (a b : ℕ → ℤ) → AgreeOn (IsRead params binds index (index + 1)) a b
+      → (trap_after (at_index kernel binds steps index a) ≡ trap_after (at_index kernel binds steps index b)) × StayAlike a b (after index a) (after index b)
   decides_one index a b alike = let end = alike_ends kernel binds index checked fit a b alike steps in (end.0, end.1.same)
 
-  decides_many : (n from : ℕ) (a b : ℕ → ℤ) → AgreeOn (IsRead params binds from (from + n)) a b → ((at_indexes kernel binds steps n from a).traps ≡ (at_indexes kernel binds steps n from b).traps) × StayAlike a b (at_indexes kernel binds steps n from a).store (at_indexes kernel binds steps n from b).store
+  decides_many : (n from : ℕ) (a b : ℕ → ℤ) → AgreeOn (IsRead params binds from (from + n)) a b
+      → ((at_indexes kernel binds steps n from a).traps ≡ (at_indexes kernel binds steps n from b).traps)
+      × StayAlike a b (at_indexes kernel binds steps n from a).store (at_indexes kernel binds steps n from b).store
   decides_many zero from a b alike = (refl, λ w e. e)
   decides_many (suc n) from a b alike =
       let end = decides_one from a b (λ w h. alike w (footprints_grow.read params binds from (from + 1) from (from + suc n) w (omega arith) (omega arith) h)) in
-      let rest = decides_many n (from + 1) (after from a) (after from b) (λ w h. end.1 w (alike w (footprints_grow.read params binds (from + 1) (from + 1 + n) from (from + suc n) w (omega arith) (omega arith) h))) in (
-        ap (λ o. trap_at from o ++ (at_indexes kernel binds steps n (from + 1) (after from a)).traps) end.0 ∙ ap (λ ts. trap_at from (trap_after (at_index kernel binds steps from b)) ++ ts) rest.0,
+      let rest = decides_many n (from + 1) (after from a) (after from b) (λ w h. end.1 w
+      (alike w (footprints_grow.read params binds (from + 1) (from + 1 + n) from (from + suc n) w (omega arith) (omega arith) h))) in (
+        ap (λ o. trap_at from o ++ (at_indexes kernel binds steps n (from + 1) (after from a)).traps) end.0
+            ∙ ap (λ ts. trap_at from (trap_after (at_index kernel binds steps from b)) ++ ts) rest.0,
         λ w e. rest.1 w (end.1 w e),
       )
 
@@ -107,7 +135,8 @@ module _ (kernel : Kernel) (binds : List Bind) (steps : ℕ) where
   cut_store (suc m) n from cells =
       let one : suc m + n ≡ suc (m + n) = omega arith in
       let here : from + 1 + m ≡ from + suc m = omega arith in
-      ap (λ k. (go k from cells).store) one ∙ cut_store m n (from + 1) (next from cells) ∙ ap (λ k. (go n k (go m (from + 1) (next from cells)).store).store) here
+      ap (λ k. (go k from cells).store) one ∙ cut_store m n (from + 1) (next from cells)
+      ∙ ap (λ k. (go n k (go m (from + 1) (next from cells)).store).store) here
 
   cut_traps : (m n from : ℕ) (cells : ℕ → ℤ) → (go (m + n) from cells).traps ≡ (go m from cells).traps ++ (go n (from + m) (go m from cells).store).traps
   cut_traps zero n from cells =
@@ -117,7 +146,8 @@ module _ (kernel : Kernel) (binds : List Bind) (steps : ℕ) where
   cut_traps (suc m) n from cells =
       let one : suc m + n ≡ suc (m + n) = omega arith in
       let here : from + 1 + m ≡ from + suc m = omega arith in
-      let rest = cut_traps m n (from + 1) (next from cells) ∙ ap (λ k. (go m (from + 1) (next from cells)).traps ++ (go n k (go m (from + 1) (next from cells)).store).traps) here in
+      let rest = cut_traps m n (from + 1) (next from cells) ∙ ap (λ k. (go m (from + 1) (next from cells)).traps
+      ++ (go n k (go m (from + 1) (next from cells)).store).traps) here in
       ap (λ k. (go k from cells).traps) one ∙ ap (λ ts. met from cells ++ ts) rest ∙ sym (append_assoc (met from cells) _ _)
 
 pub indexes_are_cut : IndexesAreCut

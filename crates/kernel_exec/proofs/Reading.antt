@@ -53,7 +53,8 @@ module _ (cells : ℕ → ℤ) where
   pub get_same : (b : Bind) (c : Contents) (index : ℕ) (i : ℤ) → Holds cells b c → get_word index i b cells ≡ get_in (own_of b) index i c
   get_same (Int z) c index i h = sym (ap (get_in 0 index i) h)
   get_same (Array at own) c index i h = ap (if_owned own index i) ((array_get_form at i).stands cells c h).0 ∙ in_cells own index i c _ h
-  get_same (View at own) c index i h = ap (if_owned own index i) ((list_get_form at i).stands cells (Items at.cap h.0) (h.0, refl, h.2)).0 ∙ sym (ap (get_in own index i) h.1)
+  get_same (View at own) c index i h = ap (if_owned own index i) ((list_get_form at i).stands cells (Items at.cap h.0) (h.0, refl, h.2)).0
+      ∙ sym (ap (get_in own index i) h.1)
   get_same (WholeList at) c index i h = ((list_get_form at i).stands cells c h).0 ∙ in_items 0 index i at.cap c h.0 h.1
   get_same (Ref at) c index i h = sym (ap (get_in 0 index i) h)
   get_same (Map at) c index i h = ((map_get_form at i).stands cells c h).0 ∙ sym (get_in-is at cells c h 0 index i)

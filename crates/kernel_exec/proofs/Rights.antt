@@ -41,7 +41,8 @@ own_place (suc n) index k h =
     (grind (arith, nat_tests, lo), grind (arith, nat_tests, hi))
 
 pub owned_place : (n width index k : ℕ) (i : ℤ) → place_in n i ≡ Ok k → IsTrue (owns width index i) → Own width index (index + 1) k
-owned_place n width index k (pos i) e h = let same : i ≡ k = grind (arith, nat_tests, e) in own_place width index k (subst (λ j. IsTrue (owns width index (pos j))) same h)
+owned_place n width index k (pos i) e h = let same : i ≡ k = grind (arith, nat_tests, e) in
+    own_place width index k (subst (λ j. IsTrue (owns width index (pos j))) same h)
 owned_place n width index k (negsuc i) e h = cc
 
 pub in_stream : (at : StreamAt) (k w : ℕ) → k < at.count → mark_word at k ≤ w → w < index_end at k → IsWordOf (Stream at true) w
@@ -69,10 +70,12 @@ length_word_of (Map at) w u = absurd u
 length_word_of (Stream at own) w u = absurd u
 
 -- the words of places of an array, of a view and of a list
-pub array_element : (at : ArrayAt) (width index k : ℕ) (i : ℤ) → place_in at.len i ≡ Ok k → IsTrue (owns width index i) → Uses (Array at width) index (index + 1) (at.start + k)
+pub array_element : (at : ArrayAt) (width index k : ℕ) (i : ℤ) → place_in at.len i ≡ Ok k → IsTrue (owns width index i)
+    → Uses (Array at width) index (index + 1) (at.start + k)
 array_element at width index k i e own = record { place = k; is = refl; within = in_place at.len k i e; owned = owned_place at.len width index k i e own }
 
-pub view_element : (at : ListAt) (array : ArrayAt) (width index k : ℕ) (i : ℤ) → array.start ≡ at.start + 1 → array.len ≤ at.cap → place_in array.len i ≡ Ok k → IsTrue (owns width index i) → Uses (View at width) index (index + 1) (array.start + k)
+pub view_element : (at : ListAt) (array : ArrayAt) (width index k : ℕ) (i : ℤ) → array.start ≡ at.start + 1 → array.len ≤ at.cap → place_in array.len i ≡ Ok k
+    → IsTrue (owns width index i) → Uses (View at width) index (index + 1) (array.start + k)
 view_element at array width index k i start within e own =
     let below : k < array.len = in_place array.len k i e in
     record { place = k; is = omega arith; within = omega arith; owned = owned_place array.len width index k i e own }
@@ -127,7 +130,14 @@ module _ (kernel : Kernel) (binds : List Bind) (index : ℕ) (checked : IsChecke
           let inside = slice_get_within binds x b e in
           let n = fit.count in
           let p = param_at params x (omega arith) in
-          record { number = x; param = p.0; bind = b; has_param = p.1; has_bind = e; reads = reads (is_read p.0.access) b w (subst (λ b. Uses b index (index + 1) w ⊎ IsLength b w) (bind_is binds x b e) u) }
+          record {
+            number = x;
+            param = p.0;
+            bind = b;
+            has_param = p.1;
+            has_bind = e;
+            reads = reads (is_read p.0.access) b w (subst (λ b. Uses b index (index + 1) w ⊎ IsLength b w) (bind_is binds x b e) u);
+          }
 
   -- a stream that is read is read whole
   pub stream_word : (x w : ℕ) → IsTrue (meets params x read_stream) → IsWordOf (bind_at binds x) w → IsRead params binds index (index + 1) w
@@ -138,14 +148,29 @@ module _ (kernel : Kernel) (binds : List Bind) (index : ℕ) (checked : IsChecke
       let met : IsTrue (param_meets read_stream (Some p.0)) = subst (λ o. IsTrue (param_meets read_stream o)) p.1 h in
       let fits = each_of param_fits params x p.0 checked.params p.1 in
       let only = only_read p.0.kind p.0 met (and_left (kind_fits p.0 p.0.kind) _ fits) in
-      record { number = x; param = p.0; bind = bind_at binds x; has_param = p.1; has_bind = bind_here binds x (omega arith); reads = subst (λ r. ReadsBy r (bind_at binds x) index (index + 1) w) (sym only) i }
+      record {
+        number = x;
+        param = p.0;
+        bind = bind_at binds x;
+        has_param = p.1;
+        has_bind = bind_here binds x (omega arith);
+        reads = subst (λ r. ReadsBy r (bind_at binds x) index (index + 1) w) (sym only) i;
+      }
 
   pub written_word : (x w : ℕ) → IsTrue (may_write params x) → Uses (bind_at binds x) index (index + 1) w → IsWritten params binds index (index + 1) w
   written_word x w may u =
       let p = param_of (slice_get params x) may in
-      record { number = x; param = p.0; bind = bind_at binds x; has_param = p.1; has_bind = written_bind kernel binds fit x may; writes = subst (λ r. WritesBy r (bind_at binds x) index (index + 1) w) (sym p.2) u }
+      record {
+        number = x;
+        param = p.0;
+        bind = bind_at binds x;
+        has_param = p.1;
+        has_bind = written_bind kernel binds fit x may;
+        writes = subst (λ r. WritesBy r (bind_at binds x) index (index + 1) w) (sym p.2) u;
+      }
 
-module _ (kernel : Kernel) (binds : List Bind) (index : ℕ) (may_load may_store : ℕ → Bool) (call : IsCall kernel binds index may_load may_store) (x : ℕ) (b : Bind) (is : b ≡ bind_at binds x) (inside : x < length kernel.params.items) where
+module _ (kernel : Kernel) (binds : List Bind) (index : ℕ) (may_load may_store : ℕ → Bool) (call : IsCall kernel binds index may_load may_store) (x : ℕ)
+    (b : Bind) (is : b ≡ bind_at binds x) (inside : x < length kernel.params.items) where
   pub fits : end_of b < 2 ^ 32
   fits = let n = call.fit.count in call.fit.ends x b (bind_here binds x (omega arith) ∙ ap Some (sym is))
 
@@ -159,8 +184,15 @@ module _ (kernel : Kernel) (binds : List Bind) (index : ℕ) (may_load may_store
   may_change h w u = call.stores w (written_word kernel binds index call.checked call.fit x w h (subst (λ b. Uses b index (index + 1) w) is u))
 
 -- the words of an index of a stream
-pub stream_index : (at : StreamAt) (own : Bool) (index k : ℕ) (i : ℤ) → place_in at.count i ≡ Ok k → IsTrue (owns (width_if own) index i) → (w : ℕ) → mark_word at k ≤ w → w < index_end at k → Uses (Stream at own) index (index + 1) w
-stream_index at own index k i e may w lo hi = record { index = k; within = in_place at.count k i e; owned = owned_place at.count (width_if own) index k i e may; start = lo; end = hi }
+pub stream_index : (at : StreamAt) (own : Bool) (index k : ℕ) (i : ℤ) → place_in at.count i ≡ Ok k → IsTrue (owns (width_if own) index i) → (w : ℕ)
+    → mark_word at k ≤ w → w < index_end at k → Uses (Stream at own) index (index + 1) w
+stream_index at own index k i e may w lo hi = record {
+  index = k;
+  within = in_place at.count k i e;
+  owned = owned_place at.count (width_if own) index k i e may;
+  start = lo;
+  end = hi;
+}
 
 -- what a change of a list's length uses
 pub may_add : (at : ListAt) (cells : ℕ → ℤ) (allowed : ℕ → Bool) → ((w : ℕ) → IsWordOf (WholeList at) w → IsTrue (allowed w)) → MayAdd at cells allowed
@@ -171,7 +203,8 @@ may_add at cells allowed h =
       element = λ below. h (at.start + 1 + len_words at cells) (record { from = omega arith; below = omega arith });
     }
 
-pub may_remove : (at : ListAt) (cells : ℕ → ℤ) (i : ℤ) (readable writable : ℕ → Bool) → ((w : ℕ) → IsWordOf (WholeList at) w → IsTrue (readable w)) → ((w : ℕ) → IsWordOf (WholeList at) w → IsTrue (writable w)) → MayRemove at cells i readable writable
+pub may_remove : (at : ListAt) (cells : ℕ → ℤ) (i : ℤ) (readable writable : ℕ → Bool) → ((w : ℕ) → IsWordOf (WholeList at) w → IsTrue (readable w))
+    → ((w : ℕ) → IsWordOf (WholeList at) w → IsTrue (writable w)) → MayRemove at cells i readable writable
 may_remove at cells i readable writable r h =
     let within : len_words at cells ≤ at.cap = length_within at.cap (cells at.start) in
     record {
@@ -189,7 +222,8 @@ not_stream RefKind a h e = cc
 not_stream MapKind a h e = cc
 not_stream StreamKind a h e = cc
 
-clears_none : (b : Bind) (cells : ℕ → ℤ) → kind_of b ≢ StreamKind → ((at : ListAt) → b ≢ WholeList at) → ((at : MapAt) → b ≢ Map at) → cells ≡ clear_word b cells
+clears_none : (b : Bind) (cells : ℕ → ℤ) → kind_of b ≢ StreamKind → ((at : ListAt) → b ≢ WholeList at) → ((at : MapAt) → b ≢ Map at)
+    → cells ≡ clear_word b cells
 clears_none (Int z) cells kind list map = refl
 clears_none (Array at own) cells kind list map = refl
 clears_none (View at own) cells kind list map = refl
@@ -198,7 +232,9 @@ clears_none (Ref at) cells kind list map = refl
 clears_none (Map at) cells kind list map = absurd (map at refl)
 clears_none (Stream at own) cells kind list map = absurd (kind refl)
 
-pub clear_other : (kernel : Kernel) (binds : List Bind) (x : ℕ) (b : Bind) (cells : ℕ → ℤ) → BindsFit kernel binds → b ≡ bind_at binds x → IsTrue (meets kernel.params.items x clearable) → ((at : ListAt) → b ≢ WholeList at) → ((at : MapAt) → b ≢ Map at) → cells ≡ clear_word (bind_at binds x) cells
+pub clear_other : (kernel : Kernel) (binds : List Bind) (x : ℕ) (b : Bind) (cells : ℕ → ℤ) → BindsFit kernel binds → b ≡ bind_at binds x
+    → IsTrue (meets kernel.params.items x clearable) → ((at : ListAt) → b ≢ WholeList at) → ((at : MapAt) → b ≢ Map at)
+    → cells ≡ clear_word (bind_at binds x) cells
 clear_other kernel binds x b cells fit is h list map =
     let p = param_met clearable (slice_get kernel.params.items x) h in
     let inside = slice_get_within kernel.params.items x p.0 p.1 in
@@ -209,7 +245,8 @@ clear_other kernel binds x b cells fit is h list map =
     clears_none (bind_at binds x) cells (λ e. not_stream p.0.kind p.0.access met (sym kind ∙ e)) (λ at e. list at (is ∙ e)) (λ at e. map at (is ∙ e))
 
 -- the words of an index that was begun
-pub begun_index : (at : StreamAt) (own : Bool) (b : Bind) (index : ℕ) (i z : ℤ) → Stream at own ≡ b → z ≡ i → IsBegun b index i → (w : ℕ) → mark_word at (nat_abs z) ≤ w → w < index_end at (nat_abs z) → Uses (Stream at own) index (index + 1) w
+pub begun_index : (at : StreamAt) (own : Bool) (b : Bind) (index : ℕ) (i z : ℤ) → Stream at own ≡ b → z ≡ i → IsBegun b index i → (w : ℕ)
+    → mark_word at (nat_abs z) ≤ w → w < index_end at (nat_abs z) → Uses (Stream at own) index (index + 1) w
 begun_index at own b index i z is e h w lo hi =
     let begun : IsBegun (Stream at own) index i = subst (λ b. IsBegun b index i) (sym is) h in
     let same : begun.0 ≡ nat_abs z = sym (ap nat_abs (e ∙ begun.1)) in

@@ -68,7 +68,8 @@ each_of f (q ∷ ps) (suc x) p h e = each_of f ps x p (and_right (f q) _ h) e
 int_reads : (p : Param) → p.kind ≡ IntKind → IsTrue (param_fits p) → is_read p.access ≡ false → ⊥
 int_reads p k h not_read = let e : is_read p.access ≡ true = subst (λ k. IsTrue (kind_fits p k)) k (and_left (kind_fits p p.kind) _ h) in cc
 
-pub written_bind : (kernel : Kernel) (binds : List Bind) → BindsFit kernel binds → (x : ℕ) → IsTrue (may_write kernel.params.items x) → slice_get binds x ≡ Some (bind_at binds x)
+pub written_bind : (kernel : Kernel) (binds : List Bind) → BindsFit kernel binds → (x : ℕ) → IsTrue (may_write kernel.params.items x)
+    → slice_get binds x ≡ Some (bind_at binds x)
 written_bind kernel binds fit x h =
     let p = param_of (slice_get kernel.params.items x) h in
     let w = slice_get_within kernel.params.items x p.0 p.1 in
@@ -90,7 +91,8 @@ module _ (kernel : Kernel) (binds : List Bind) (is : IsChecked kernel) (fit : Bi
   fits x h = fit.ends x (bind_at binds x) (here x h)
 
   -- the new contents stand for the new cells, beside those of the other parameters
-  stands : (x : ℕ) (old new : ℕ → ℤ) (s : List Contents) (c : Contents) → IsTrue (may x) → StandFor binds old s → Becomes (bind_at binds x) old new c → StandFor binds new (set s x c)
+  stands : (x : ℕ) (old new : ℕ → ℤ) (s : List Contents) (c : Contents) → IsTrue (may x) → StandFor binds old s → Becomes (bind_at binds x) old new c
+      → StandFor binds new (set s x c)
   stands x old new s c h r to = record {
     count = simp length-set r.count;
     each = λ y b e. holds y b e (same_or y x);
@@ -105,9 +107,11 @@ module _ (kernel : Kernel) (binds : List Bind) (is : IsChecked kernel) (fit : Bi
           subst (λ t. Holds new b t) (sym (get_or-set_at s x y c (Cells []) q inside)) (subst (λ t. Holds new t c) same to.holds)
       holds y b e (inr q) =
           subst (λ t. Holds new b t) (sym (get_or-set_other s x y c (Cells []) q))
-          (still b old new (argument s y) (r.each y b e) (λ w in_b. to.stays w (λ in_a no. fit.apart x y (bind_at binds x) b w h (λ z. q (sym z)) (here x h) e in_a no in_b)))
+          (still b old new (argument s y) (r.each y b e) (λ w in_b. to.stays w
+          (λ in_a no. fit.apart x y (bind_at binds x) b w h (λ z. q (sym z)) (here x h) e in_a no in_b)))
 
-  goes : (x : ℕ) (old : ℕ → ℤ) (s : List Contents) (r : Result (ℕ → ℤ) Trap) (op : Result Contents Trap) → IsTrue (may x) → StandFor binds old s → Goes (bind_at binds x) old r op → AlikeResults (StandFor binds) r (changed s x op)
+  goes : (x : ℕ) (old : ℕ → ℤ) (s : List Contents) (r : Result (ℕ → ℤ) Trap) (op : Result Contents Trap) → IsTrue (may x) → StandFor binds old s
+      → Goes (bind_at binds x) old r op → AlikeResults (StandFor binds) r (changed s x op)
   goes x old s (Ok new) (Ok c) h r g = stands x old new s c h r g
   goes x old s (Ok new) (Err u) h r g = absurd g
   goes x old s (Err t) (Ok c) h r g = absurd g
@@ -124,18 +128,23 @@ module _ (kernel : Kernel) (binds : List Bind) (is : IsChecked kernel) (fit : Bi
   words_stand index = record {
     value = λ x c s r. value_same c (bind_at binds x) (argument s x) (holds_at binds c s x r);
     len = λ x c s r. length_same c (bind_at binds x) (argument s x) (holds_at binds c s x r);
-    get = λ x i c s r. get_same c (bind_at binds x) (argument s x) index i (holds_at binds c s x r) ∙ ap (λ w. get_in w index i (argument s x)) (sym (width_is binds x));
+    get = λ x i c s r. get_same c (bind_at binds x) (argument s x) index i (holds_at binds c s x r)
+        ∙ ap (λ w. get_in w index i (argument s x)) (sym (width_is binds x));
     has = λ x k c s r. has_same c (bind_at binds x) (argument s x) k (holds_at binds c s x r);
     count = λ x i c s read r. count_same c (bind_at binds x) (argument s x) i (holds_at binds c s x r);
     item = λ x i k c s read r. item_same c (bind_at binds x) (argument s x) i k (holds_at binds c s x r);
     set_value = λ x v c s h r. stands x c _ s _ h r (set_value_goes c (bind_at binds x) (argument s x) v (not_int x h) (holds_at binds c s x r));
-    put = λ x i v c s h r. goes x c s _ _ h r (subst (λ w. Goes (bind_at binds x) c (put_word index i v (bind_at binds x) c) (put_in w index i v (argument s x))) (sym (width_is binds x)) (put_goes c (bind_at binds x) (argument s x) index i v (fits x h) (holds_at binds c s x r)));
+    put = λ x i v c s h r. goes x c s _ _ h r (subst (λ w. Goes (bind_at binds x) c (put_word index i v (bind_at binds x) c)
+        (put_in w index i v (argument s x))) (sym (width_is binds x)) (put_goes c (bind_at binds x) (argument s x) index i v (fits x h)
+        (holds_at binds c s x r)));
     add = λ x v c s h r. goes x c s _ _ h r (add_goes c (bind_at binds x) (argument s x) v (holds_at binds c s x r));
     remove_at = λ x i c s h r. goes x c s _ _ h r (remove_at_goes c (bind_at binds x) (argument s x) i (holds_at binds c s x r));
     add_pair = λ x k v c s h r. goes x c s _ _ h r (add_pair_goes c (bind_at binds x) (argument s x) k v (fits x h) (holds_at binds c s x r));
     remove_key = λ x k c s h r. stands x c _ s _ h r (remove_key_goes c (bind_at binds x) (argument s x) k (fits x h) (holds_at binds c s x r));
-    clear = λ x c s h r. stands x c _ s _ (written kernel.params.items x clearable refl h) r (clear_goes c (bind_at binds x) (argument s x) (holds_at binds c s x r));
-    begin = λ x i c s h r. goes x c s _ _ h r (subst (λ w. Goes (bind_at binds x) c (begin_word index i (bind_at binds x) c) (begin_in w index i (argument s x))) (sym (width_is binds x)) (begin_goes c (bind_at binds x) (argument s x) index i (holds_at binds c s x r)));
+    clear = λ x c s h r. stands x c _ s _ (written kernel.params.items x clearable refl h) r
+        (clear_goes c (bind_at binds x) (argument s x) (holds_at binds c s x r));
+    begin = λ x i c s h r. goes x c s _ _ h r (subst (λ w. Goes (bind_at binds x) c (begin_word index i (bind_at binds x) c)
+        (begin_in w index i (argument s x))) (sym (width_is binds x)) (begin_goes c (bind_at binds x) (argument s x) index i (holds_at binds c s x r)));
     begun = λ x i c new e. tt;
     write = λ x i v c s h begun r. goes x c s _ _ h r (write_goes c (bind_at binds x) (argument s x) i v (holds_at binds c s x r));
   }

@@ -27,7 +27,8 @@ pub record IsMade (own : List ArrayAt) (binds : List Bind) (n : ℕ) : Type 0 wh
   pub full : length own ≡ MOST_PARAMS
   pub rest : (x : ℕ) → n ≤ x → get_or own x no_array ≡ no_array
 
-pub one_more : (own : List ArrayAt) (binds : List Bind) (n : ℕ) (at : ArrayAt) → n < MOST_PARAMS → at ≡ own_array (bind_at binds n) → IsMade own binds n → IsMade (set own n at) binds (n + 1)
+pub one_more : (own : List ArrayAt) (binds : List Bind) (n : ℕ) (at : ArrayAt) → n < MOST_PARAMS → at ≡ own_array (bind_at binds n) → IsMade own binds n
+    → IsMade (set own n at) binds (n + 1)
 one_more own binds n at inside is so_far = record { made = λ x h. made x h (same_or x n); full = rw (length-set own n at) so_far.full; rest = rest }
   where
     made : (x : ℕ) → x < n + 1 → (x ≡ n) ⊎ (x ≢ n) → get_or (set own n at) x no_array ≡ own_array (bind_at binds x)

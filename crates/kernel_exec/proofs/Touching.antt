@@ -88,7 +88,8 @@ module _ (index : ℕ) (c d : ℕ → ℤ) where
   set_value_moved (Map at) v = stay index (Map at) c d
   set_value_moved (Stream at own) v = stay index (Stream at own) c d
 
-  pub put_moved : (b : Bind) (i v : ℤ) → end_of b < 2 ^ 32 → AgreeAt index b c d → AlikeResults (Moved index b c d) (put_word index i v b c) (put_word index i v b d)
+  pub put_moved : (b : Bind) (i v : ℤ) → end_of b < 2 ^ 32 → AgreeAt index b c d
+      → AlikeResults (Moved index b c d) (put_word index i v b c) (put_word index i v b d)
   put_moved (Int z) i v fits agree = refl
   put_moved (Array at own) i v fits agree = element_moved index (Array at own) at own i v c d (λ k e may. array_element at own index k i e may)
   put_moved (View at own) i v fits agree = view_moved index at own c d agree i v
@@ -115,7 +116,8 @@ module _ (index : ℕ) (c d : ℕ → ℤ) where
   remove_at_moved (Map at) i agree = refl
   remove_at_moved (Stream at own) i agree = refl
 
-  pub add_pair_moved : (b : Bind) (k v : ℤ) → end_of b < 2 ^ 32 → AgreeAt index b c d → AlikeResults (Moved index b c d) (add_pair_word k v b c) (add_pair_word k v b d)
+  pub add_pair_moved : (b : Bind) (k v : ℤ) → end_of b < 2 ^ 32 → AgreeAt index b c d
+      → AlikeResults (Moved index b c d) (add_pair_word k v b c) (add_pair_word k v b d)
   add_pair_moved (Int z) k v fits agree = refl
   add_pair_moved (Array at own) k v fits agree = refl
   add_pair_moved (View at own) k v fits agree = refl
@@ -132,7 +134,8 @@ module _ (index : ℕ) (c d : ℕ → ℤ) where
   remove_key_moved (Ref at) k fits agree = stay index (Ref at) c d
   remove_key_moved (Map at) k fits agree =
       let form = map_remove_form at k fits in
-      window index (Map at) c d (remove_words at c k).1 (remove_words at d k).1 (λ w u. u) (form.changes c) (form.changes d) (form.reads c d (within (Map at) (λ w u. agree w (inl u))))
+      window index (Map at) c d (remove_words at c k).1 (remove_words at d k).1 (λ w u. u) (form.changes c) (form.changes d)
+      (form.reads c d (within (Map at) (λ w u. agree w (inl u))))
   remove_key_moved (Stream at own) k fits agree = stay index (Stream at own) c d
 
   -- a stream isn't cleared
@@ -140,11 +143,13 @@ module _ (index : ℕ) (c d : ℕ → ℤ) where
   clear_moved (Int z) kind agree = stay index (Int z) c d
   clear_moved (Array at own) kind agree = stay index (Array at own) c d
   clear_moved (View at own) kind agree = stay index (View at own) c d
-  clear_moved (WholeList at) kind agree = one_more index (WholeList at) c d c d at.start (pos 0) (pos 0) (record { from = omega arith; below = omega arith }) refl (stay index (WholeList at) c d)
+  clear_moved (WholeList at) kind agree = one_more index (WholeList at) c d c d at.start (pos 0) (pos 0)
+      (record { from = omega arith; below = omega arith }) refl (stay index (WholeList at) c d)
   clear_moved (Ref at) kind agree = stay index (Ref at) c d
   clear_moved (Map at) kind agree =
       let form = map_clear_form at in
-      window index (Map at) c d (map_clear at c) (map_clear at d) (λ w u. u) (form.changes c) (form.changes d) (form.reads c d (within (Map at) (λ w u. agree w (inl u))))
+      window index (Map at) c d (map_clear at c) (map_clear at d) (λ w u. u) (form.changes c) (form.changes d)
+      (form.reads c d (within (Map at) (λ w u. agree w (inl u))))
   clear_moved (Stream at own) kind agree = absurd (kind refl)
 
   pub begin_moved : (b : Bind) (i : ℤ) → AgreeAt index b c d → AlikeResults (Moved index b c d) (begin_word index i b c) (begin_word index i b d)

@@ -9,7 +9,8 @@ aside_after (Some t) outcome = Some t
 aside_after None (Ok z) = None
 aside_after None (Err t) = Some t
 
--- An outcome was told by a number, from one trap aside, or none, to another. The number is the value unless a trap stands aside.
+-- An outcome was told by a number, from one trap aside, or none, to another. The number is the value unless a trap
+-- stands aside.
 pub record Told (old : Option Trap) (z : ℤ) (new : Option Trap) (outcome : Result ℤ Trap) : Type 0 where
   pub trap : new ≡ aside_after old outcome
   pub value : new ≡ None → outcome ≡ Ok z

@@ -13,17 +13,21 @@ use Rattle.kernel_exec.specs.Footprint.{Own, IsLength, IsRead, IsWritten}
 -- Binds fit the parameters of a kernel: one for each, in order, of its kind, and within the words of 32 bits.
 pub record BindsFit (kernel : Kernel) (binds : List Bind) : Type 0 where
   pub count : length binds ≡ length kernel.params.items
-  pub kinds : (x : ℕ) (p : Param) (b : Bind) → slice_get kernel.params.items x ≡ Some p → slice_get binds x ≡ Some b → kind_of b ≡ p.kind
+  pub kinds : (x : ℕ) (p : Param) (b : Bind) → slice_get kernel.params.items x ≡ Some p → slice_get binds x ≡ Some b
+      → kind_of b ≡ p.kind
   pub ends : (x : ℕ) (b : Bind) → slice_get binds x ≡ Some b → end_of b < 2 ^ 32
   -- no word that may be written through one bind is a word of another; of a view its elements alone are written
-  pub apart : (x y : ℕ) (a b : Bind) (w : ℕ) → IsTrue (may_write kernel.params.items x) → x ≢ y → slice_get binds x ≡ Some a → slice_get binds y ≡ Some b → IsWordOf a w → (IsLength a w → ⊥) → IsWordOf b w → ⊥
+  pub apart : (x y : ℕ) (a b : Bind) (w : ℕ) → IsTrue (may_write kernel.params.items x) → x ≢ y
+      → slice_get binds x ≡ Some a → slice_get binds y ≡ Some b → IsWordOf a w → (IsLength a w → ⊥) → IsWordOf b w → ⊥
 
 -- at an index, the words that it reads are readable, and those that it writes writable
 abbrev pub MayRead : Kernel → List Bind → ℕ → (ℕ → Bool) → Type 0
-MayRead kernel binds index readable = (w : ℕ) → IsRead kernel.params.items binds index (index + 1) w → IsTrue (readable w)
+MayRead kernel binds index readable = (w : ℕ) → IsRead kernel.params.items binds index (index + 1) w
+    → IsTrue (readable w)
 
 abbrev pub MayWrite : Kernel → List Bind → ℕ → (ℕ → Bool) → Type 0
-MayWrite kernel binds index writable = (w : ℕ) → IsWritten kernel.params.items binds index (index + 1) w → IsTrue (writable w)
+MayWrite kernel binds index writable = (w : ℕ) → IsWritten kernel.params.items binds index (index + 1) w
+    → IsTrue (writable w)
 
 -- what stays so through an Execute: a checked kernel, binds that fit, and the rights that it needs at its index
 pub record IsCall (kernel : Kernel) (binds : List Bind) (index : ℕ) (may_load may_store : ℕ → Bool) : Type 0 where
@@ -39,7 +43,8 @@ IsBegun _ index i = Unit {0}
 
 -- every stream of these parameters has such an index
 abbrev pub AreBegun : List Bind → ℕ → List ℕ → List ℤ → Type 0
-AreBegun binds index open_ begun = (x : ℕ) → IsTrue (member x open_) → IsBegun (bind_at binds x) index (get_or begun x (pos 0))
+AreBegun binds index open_ begun = (x : ℕ) → IsTrue (member x open_)
+    → IsBegun (bind_at binds x) index (get_or begun x (pos 0))
 
 -- a statement fits inside `begin` blocks of some streams, each of which has begun an index; and a block likewise
 pub record StatementFits (kernel : Kernel) (binds : List Bind) (index : ℕ) (begun : List ℤ) (s : Stmt) : Type 0 where
@@ -47,15 +52,18 @@ pub record StatementFits (kernel : Kernel) (binds : List Bind) (index : ℕ) (be
   pub fits : IsTrue (stmt_fits kernel.parallel kernel.params.items kernel.locals s open_)
   pub have : AreBegun binds index open_ begun
 
-pub record BlockFits (kernel : Kernel) (binds : List Bind) (index : ℕ) (begun : List ℤ) (body : List Stmt) : Type 0 where
+pub record BlockFits (kernel : Kernel) (binds : List Bind) (index : ℕ) (begun : List ℤ)
+    (body : List Stmt) : Type 0 where
   pub open_ : List ℕ
   pub fits : IsTrue (all_fit (map (stmt_fits kernel.parallel kernel.params.items kernel.locals) body) open_)
   pub have : AreBegun binds index open_ begun
 
 -- such an index stays one, or another takes its place
 abbrev pub KeepsBegun : List Bind → ℕ → List ℤ → List ℤ → Type 0
-KeepsBegun binds index old new = (x : ℕ) → IsBegun (bind_at binds x) index (get_or old x (pos 0)) → IsBegun (bind_at binds x) index (get_or new x (pos 0))
+KeepsBegun binds index old new = (x : ℕ) → IsBegun (bind_at binds x) index (get_or old x (pos 0))
+    → IsBegun (bind_at binds x) index (get_or new x (pos 0))
 
 -- a word that it may not write
 pub record IsUnwritten (kernel : Kernel) (binds : List Bind) (w : ℕ) : Type 0 where
-  pub each : (x : ℕ) (b : Bind) → IsTrue (may_write kernel.params.items x) → slice_get binds x ≡ Some b → IsWordOf b w → (IsLength b w → ⊥) → ⊥
+  pub each : (x : ℕ) (b : Bind) → IsTrue (may_write kernel.params.items x) → slice_get binds x ≡ Some b → IsWordOf b w
+      → (IsLength b w → ⊥) → ⊥

@@ -1,5 +1,6 @@
--- The footprint of a job on its binds: which words the indexes from one on to before another read, and which they write. A job that waives the
--- own-index rule has width 0 at the binds that it waives; this file speaks of the widths that binds have.
+-- The footprint of a job on its binds: which words the indexes from one on to before another read, and which they
+-- write. A job that waives the own-index rule has width 0 at the binds that it waives; this file speaks of the widths
+-- that binds have.
 use Rattle.std.specs.Prelude.{◌≡◌, ℕ, zero, suc, ◌+◌, ◌*◌, ◌≤◌, ◌<◌, ◌⊎◌, Bool, true, false, List, Some, slice_get}
 use Rattle.job_base.specs.declared.Access.{Access}
 use Rattle.frame_ast.specs.declared.kernel.Param.{Param}
@@ -10,8 +11,8 @@ use Rattle.kernel_exec.specs.declared.binds.Bind.{Bind}
 use Rattle.kernel_exec.specs.declared.binds.Bind.TheVariants.{Int, Array, View, List as WholeList, Ref, Map, Stream}
 use Rattle.kernel_exec.specs.Binds.{IsWordOf, width_if}
 
--- The indexes from one on to before another own the places from the first one's to before the last one's, as many for each as the width;
--- at width 0, where no rule holds, every place.
+-- The indexes from one on to before another own the places from the first one's to before the last one's, as many for
+-- each as the width; at width 0, where no rule holds, every place.
 abbrev pub Own : ℕ → ℕ → ℕ → ℕ → Type 0
 Own zero from to k = Unit {0}
 Own (suc n) from to k = (from * suc n ≤ k) × (k < to * suc n)
@@ -31,8 +32,8 @@ pub record IsOfStream (at : StreamAt) (own : Bool) (from to w : ℕ) : Type 0 wh
   pub start : mark_word at index ≤ w
   pub end : w < index_end at index
 
--- What they use of a bind: an array's elements and a stream's indexes that they own, and else every word. A view has no more than its
--- elements.
+-- What they use of a bind: an array's elements and a stream's indexes that they own, and else every word. A view has no
+-- more than its elements.
 abbrev pub Uses : Bind → ℕ → ℕ → ℕ → Type 0
 Uses (Int z) from to w = ⊥
 Uses (Array at own) from to w = IsElement at.start at.len own from to w
@@ -47,7 +48,8 @@ abbrev pub IsLength : Bind → ℕ → Type 0
 IsLength (View at own) w = w ≡ at.start
 IsLength _ w = ⊥
 
--- Through a bind that a kernel only reads they read every word; else what they use and, through a view, the list's length.
+-- Through a bind that a kernel only reads they read every word; else what they use and, through a view, the list's
+-- length.
 abbrev pub ReadsBy : Bool → Bind → ℕ → ℕ → ℕ → Type 0
 ReadsBy true b from to w = IsWordOf b w
 ReadsBy false b from to w = Uses b from to w ⊎ IsLength b w

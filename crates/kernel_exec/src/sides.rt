@@ -7,8 +7,9 @@
 //
 // - Numbers and locals come first. No frame is made before both sides have turned out not to be such (`eval_binary`,
 //   `with_right`).
-// - Then comes `x[index]`, which one comparison finds (`in_place`). With that, and with a local beside a deep side handed
-//   on as a number, 1,611 instructions became 1,460. With `index` read in place too they were 1,508: a third kind of side
+// - Then comes `x[index]`, which one comparison finds (`in_place`). With that, and with a local beside a deep side
+// handed
+// on as a number, 1,611 instructions became 1,460. With `index` read in place too they were 1,508: a third kind of side
 //   makes the test of every other side longer.
 // - Where one side alone is deep, the other goes along as a number (`near`, `behind`). Only two deep sides need a frame
 //   with all that a walk stands on (`far`).

@@ -25,10 +25,12 @@ may_read kernel binds index n below w r = word_below binds n r.number w r.bind b
 pub may_write_all : (kernel : Kernel) (binds : List Bind) (index n : ℕ) → AreBelow binds n → MayWrite kernel binds index (λ w. nat_lt w n)
 may_write_all kernel binds index n below w r = word_below binds n r.number w r.bind below r.has_bind (writes_word _ r.bind _ _ w r.writes)
 
-pub may_read_span : (kernel : Kernel) (binds : List Bind) (from to n : ℕ) → AreBelow binds n → (w : ℕ) → IsRead kernel.params.items binds from to w → IsTrue (nat_lt w n)
+pub may_read_span : (kernel : Kernel) (binds : List Bind) (from to n : ℕ) → AreBelow binds n → (w : ℕ) → IsRead kernel.params.items binds from to w
+    → IsTrue (nat_lt w n)
 may_read_span kernel binds from to n below w r = word_below binds n r.number w r.bind below r.has_bind (reads_word _ r.bind _ _ w r.reads)
 
-pub may_write_span : (kernel : Kernel) (binds : List Bind) (from to n : ℕ) → AreBelow binds n → (w : ℕ) → IsWritten kernel.params.items binds from to w → IsTrue (nat_lt w n)
+pub may_write_span : (kernel : Kernel) (binds : List Bind) (from to n : ℕ) → AreBelow binds n → (w : ℕ) → IsWritten kernel.params.items binds from to w
+    → IsTrue (nat_lt w n)
 may_write_span kernel binds from to n below w r = word_below binds n r.number w r.bind below r.has_bind (writes_word _ r.bind _ _ w r.writes)
 
 -- as many words that may be used are as many words
@@ -57,7 +59,8 @@ last_or m x h = by (nat_lt x m) refl
 pub one_more : (P : ℕ → Type 0) (m : ℕ) → ((x : ℕ) → x < m → P x) → P m → (x : ℕ) → x < m + 1 → P x
 one_more P m before here x h = ⊎_elim (before x) (λ e. subst P (sym e) here) (last_or m x h)
 
-pub fit_all : (kernel : Kernel) (binds : List Bind) (n : ℕ) → n < 2 ^ 32 → length binds ≡ length kernel.params.items → AreOfKinds kernel.params.items binds → AreBelow binds n → AreApart binds → BindsFit kernel binds
+pub fit_all : (kernel : Kernel) (binds : List Bind) (n : ℕ) → n < 2 ^ 32 → length binds ≡ length kernel.params.items → AreOfKinds kernel.params.items binds
+    → AreBelow binds n → AreApart binds → BindsFit kernel binds
 fit_all kernel binds n few count kinds below apart = record {
   count = count;
   kinds = kinds;
@@ -75,9 +78,11 @@ fit_all kernel binds n few count kinds below apart = record {
             at true e = inl (grind (arith, nat_tests, e))
             at false e = inr (grind (arith, nat_tests, e, ne))
 
-pub kind_here : (params : List Param) (binds : List Bind) (m : ℕ) (q p : Param) (d b : Bind) → kind_of (get_or binds m d) ≡ (get_or params m q).kind → slice_get params m ≡ Some p → slice_get binds m ≡ Some b → kind_of b ≡ p.kind
+pub kind_here : (params : List Param) (binds : List Bind) (m : ℕ) (q p : Param) (d b : Bind) → kind_of (get_or binds m d) ≡ (get_or params m q).kind
+    → slice_get params m ≡ Some p → slice_get binds m ≡ Some b → kind_of b ≡ p.kind
 kind_here params binds m q p d b h ep eb =
-    subst (λ b. kind_of b ≡ p.kind) (get_or_from_slice_get binds m b d eb) (subst (λ p. kind_of (get_or binds m d) ≡ p.kind) (get_or_from_slice_get params m p q ep) h)
+    subst (λ b. kind_of b ≡ p.kind) (get_or_from_slice_get binds m b d eb)
+    (subst (λ p. kind_of (get_or binds m d) ≡ p.kind) (get_or_from_slice_get params m p q ep) h)
 
 pub apart_here : (a : Bind) (binds : List Bind) (m : ℕ) (d b : Bind) → Apart a (get_or binds m d) → slice_get binds m ≡ Some b → Apart a b
 apart_here a binds m d b h is = subst (Apart a) (get_or_from_slice_get binds m b d is) h
@@ -89,6 +94,7 @@ among_first (b ∷ binds) (suc m) zero h = refl
 among_first (b ∷ binds) (suc m) (suc x) h = among_first binds m x (omega arith)
 
 -- a bind that shares no word with those before it
-pub apart_from_first : (binds : List Bind) (m x : ℕ) (d a b : Bind) → ApartFrom (get_or binds m d) (take m binds) → x < m → slice_get binds x ≡ Some a → slice_get binds m ≡ Some b → Apart b a
+pub apart_from_first : (binds : List Bind) (m x : ℕ) (d a b : Bind) → ApartFrom (get_or binds m d) (take m binds) → x < m → slice_get binds x ≡ Some a
+    → slice_get binds m ≡ Some b → Apart b a
 apart_from_first binds m x d a b h less ea eb =
     subst (λ b. Apart b a) (get_or_from_slice_get binds m b d eb) (h x a (among_first binds m x less ∙ ea))

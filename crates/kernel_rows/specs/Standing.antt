@@ -10,7 +10,8 @@ AreBelow binds n = (x : ℕ) (b : Bind) → slice_get binds x ≡ Some b → end
 
 -- each bind is of the kind of its parameter
 abbrev pub AreOfKinds : List Param → List Bind → Type 0
-AreOfKinds params binds = (x : ℕ) (p : Param) (b : Bind) → slice_get params x ≡ Some p → slice_get binds x ≡ Some b → kind_of b ≡ p.kind
+AreOfKinds params binds = (x : ℕ) (p : Param) (b : Bind) → slice_get params x ≡ Some p → slice_get binds x ≡ Some b
+    → kind_of b ≡ p.kind
 
 -- no word is of both binds
 abbrev pub Apart : Bind → Bind → Type 0

@@ -25,4 +25,5 @@ pub record HasFaultAt (source : List ℕ) (tokens : List Token) (at line : ℕ) 
 
 -- no kernel stands there, or it has a fault
 abbrev pub IsRefusedAt : List ℕ → List Token → (at line : ℕ) → FaultKind → Type 0
-IsRefusedAt source tokens at line kind = ((kind ≡ Syntax) × StopsAt tokens at line) ⊎ HasFaultAt source tokens at line kind
+IsRefusedAt source tokens at line kind = ((kind ≡ Syntax) × StopsAt tokens at line)
+    ⊎ HasFaultAt source tokens at line kind

@@ -22,7 +22,8 @@ pub fn kernel_at(
     requires lexed { tokens_in source.now 1 marks.now ≡ up_to_bad (tokens_of source.now) }
     requires within { at < length marks.now }
     ensures checked { IfOk result (λ found. IsChecked found.0) }
-    ensures kernel { IfOk result (λ found. IsKernelAt source.now (tokens_in source.now 1 marks.now) at found.1 found.0) }
+    ensures kernel { IfOk result (λ found.
+        IsKernelAt source.now (tokens_in source.now 1 marks.now) at found.1 found.0) }
     ensures refused { (line : ℕ) (kind : FaultKind) → result ≡ Err (KernelFault.Refused line kind)
         → IsRefusedAt source.now (tokens_in source.now 1 marks.now) at line kind }
 {

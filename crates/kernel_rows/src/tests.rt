@@ -249,7 +249,8 @@ fn traps_of_forms(rt: HostRuntime) -> Result<(), Fail> {
     let element = "job element_of(a: wo array, l: rw list) { a[0] = 1; a[1] = l[0]; a[0] = 9; }";
     let set = "job setting(a: wo array, l: rw list) { a[0] = 1; l[0] = 2; a[0] = 9; }";
     let try_add =
-        "job tried(a: wo array, m: rw map) { var y = 0; y = try_add(m, 1, 2); a[0] = y; y = try_add(m, 2, 3); a[0] = 9; }";
+        "job tried(a: wo array, m: rw map) { var y = 0; y = try_add(m, 1, 2); a[0] = y; y = try_add(m, 2, 3); a[0] = \
+         9; }";
     let put = "job putting(a: wo array, m: rw map) { m[1] = 2; a[0] = 1; m[2] = 3; a[0] = 9; }";
     let begin = "job begin_at(a: wo array, s: wo stream) { a[0] = 1; begin s[1] { a[0] = 9; } }";
     let count =
@@ -338,7 +339,8 @@ fn containers(rt: HostRuntime) -> Result<(), Fail> {
         job tell(m: ro map, t: ro ref, o: wo array) { o[0] = len(m); o[1] = m[1]; o[2] = m[2]; o[3] = has(m, 3); }";
     let removal =
         "job removal(m: rw map, t: wo ref, o: wo array) { var y = 9; add(m, 1, 5); y = remove(m, 1); o[0] = y;
-            y = remove(m, 1); o[1] = y; o[2] = len(m); y = try_add(m, 4, 8); o[3] = y; clear(m); t = has(m, 4); m[4] = 1; m[4] = 2; t = m[4]; t = m[3]; }";
+            y = remove(m, 1); o[1] = y; o[2] = len(m); y = try_add(m, 4, 8); o[3] = y; clear(m); t = has(m, 4);
+            m[4] = 1; m[4] = 2; t = m[4]; t = m[3]; }";
     let items =
         "job items(l: rw list, o: wo array) { add(l, 5); add(l, 6); add(l, 7); remove(l, 0); o[0] = len(l);
             o[1] = l[0]; o[2] = l[1]; o[3] = l[2]; }";
@@ -346,7 +348,8 @@ fn containers(rt: HostRuntime) -> Result<(), Fail> {
         "job cleared(l: rw list, o: wo array) { add(l, 5); l[0] = 6; o[0] = l[0]; clear(l); o[1] = len(l) + 1;
             remove(l, 0); }";
     let entries = "job entries(s: wo stream) { begin s[1] { write(s, 8); write(s, 9); } }
-        job tell(s: ro stream, o: wo array) { o[0] = count(s, 0) + 1; o[1] = count(s, 1); o[2] = at(s, 1, 1); o[3] = at(s, 1, 2); }";
+        job tell(s: ro stream, o: wo array) { o[0] = count(s, 0) + 1; o[1] = count(s, 1);
+            o[2] = at(s, 1, 1); o[3] = at(s, 1, 2); }";
     let indexes = "job tell(s: ro stream, o: wo array) { o[0] = len(s); o[1] = count(s, 2); }";
     let rows: [Row<'_>; 6] = [
         (

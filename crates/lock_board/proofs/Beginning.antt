@@ -50,7 +50,8 @@ module _ (plan : Plan) (states : List State) (cells : List ℤ) (rests waits due
   -- on its footprint the cells are those before the piece in script order
   pub begun_cells : (w : ℕ) → reads plan p w ≡ true → cells_of cells w ≡ before_number plan p w
   begun_cells w r =
-      (what_may_begin_is_clear (graph_of plan) c (plans_meet_the_laws plan C.well).ordered C.consistent at may_begin).cells w (reads_there plan named p low w ∙ r)
+      (what_may_begin_is_clear (graph_of plan) c (plans_meet_the_laws plan C.well).ordered C.consistent at may_begin).cells w
+      (reads_there plan named p low w ∙ r)
       ∙ sym (before_there plan named p low w)
 
   module _ (seat : ℕ) where
@@ -79,11 +80,14 @@ module _ (plan : Plan) (states : List State) (cells : List ℤ) (rests waits due
     pub begun_kept : IsKept plan (locked now cells rests waits dues)
     begun_kept = record {
       well = C.well;
-      consistent = (begins_keep_the_merge (graph_of plan) c (core_of plan now (cells_of cells)) (plans_meet_the_laws plan C.well).ordered C.consistent at at may_begin begins).0;
+      consistent = (begins_keep_the_merge (graph_of plan) c (core_of plan now (cells_of cells))
+          (plans_meet_the_laws plan C.well).ordered C.consistent at at may_begin begins).0;
       ready = λ n lt live r b. same_over r ∙ C.ready n lt (λ z. live (still n z)) r b;
-      rest_is = λ j lt. C.rest_is j lt ∙ sym (uncounted_same plan states now j (test_kept states p (Begun seat) there is_counted (sym (ap is_counted is_open))));
+      rest_is = λ j lt. C.rest_is j lt ∙ sym (uncounted_same plan states now j
+          (test_kept states p (Begun seat) there is_counted (sym (ap is_counted is_open))));
       wait_is = λ j lt. C.wait_is j lt
-          ∙ ap (λ n. n + slice_index dues j) (sym (unfinished_same plan states now rests j (test_kept states p (Begun seat) there is_over (sym (ap is_over is_open)) (starter_number plan j))));
+          ∙ ap (λ n. n + slice_index dues j) (sym (unfinished_same plan states now rests j
+          (test_kept states p (Begun seat) there is_over (sym (ap is_over is_open)) (starter_number plan j))));
       fits = C.fits;
     }
       where

@@ -55,7 +55,8 @@ module _ (plan : Plan) (states : List State) (cells : List ℤ) (rests waits due
       (λ i. ap (λ n. is_over (state_at plan now n)) i ∙ ap is_over (at_here states p Ended there plan named low))
       (λ ne. ap is_over (at_there states p Ended there plan named low q ne) ∙ e)
 
-  module _ (cells' : List ℤ) (written : (w : ℕ) → writes plan p w ≡ true → cells_of cells' w ≡ piece_cells plan (piece_numbered plan p) (before_number plan p) w)
+  module _ (cells' : List ℤ) (written : (w : ℕ) → writes plan p w ≡ true → cells_of cells' w ≡ piece_cells plan (piece_numbered plan p)
+      (before_number plan p) w)
       (others : (w : ℕ) → writes plan p w ≡ false → cells_of cells' w ≡ cells_of cells w) where
     abbrev d : Core
     d = core_of plan now (cells_of cells')
@@ -76,7 +77,8 @@ module _ (plan : Plan) (states : List State) (cells : List ℤ) (rests waits due
       others = λ w t. others w (sym (writes_there plan named p low w) ∙ t);
     }
 
-    pub ended_kept : (dues' : List ℕ) → ((j : ℕ) → j < length plan.jobs.items → unfinished plan states rests j + slice_index dues j ≡ unfinished plan now rests j + slice_index dues' j)
+    pub ended_kept : (dues' : List ℕ) → ((j : ℕ) → j < length plan.jobs.items
+        → unfinished plan states rests j + slice_index dues j ≡ unfinished plan now rests j + slice_index dues' j)
         → IsKept plan (locked now cells' rests waits dues')
     ended_kept dues' due = record {
       well = C.well;
@@ -95,7 +97,8 @@ module _ (plan : Plan) (states : List State) (cells : List ℤ) (rests waits due
   other_stays j ne = unfinished_same plan states now rests j (ap is_over (set_there states p Ended there (starter_number plan j) ne))
 
   -- a piece of a job starts none
-  pub part_dues : p < job_pieces plan → (j : ℕ) → j < length plan.jobs.items → unfinished plan states rests j + slice_index dues j ≡ unfinished plan now rests j + slice_index dues j
+  pub part_dues : p < job_pieces plan → (j : ℕ) → j < length plan.jobs.items
+      → unfinished plan states rests j + slice_index dues j ≡ unfinished plan now rests j + slice_index dues j
   part_dues part j lt = ap (λ n. n + slice_index dues j) (sym (other_stays j (λ e. omega arith)))
 
   -- a segment starts a job, whose release is due
@@ -108,10 +111,13 @@ module _ (plan : Plan) (states : List State) (cells : List ℤ) (rests waits due
       let one : due_once (starts_in (segment_at plan k)) (suc j) ≡ 1 = ap (λ (b : Bool). cond b 1 0) t in
       let m = more j lt in
       let was : unfinished plan states rests j ≡ 1 + tally (is_unfinished plan rests j) (length plan.jobs.items) =
-      ap (λ (b : Bool). cond b 0 1 + tally (is_unfinished plan rests j) (length plan.jobs.items)) (ap (λ n. is_over (state_of states n)) here ∙ ap is_over is_begun) in
+      ap (λ (b : Bool). cond b 0 1 + tally (is_unfinished plan rests j) (length plan.jobs.items))
+      (ap (λ n. is_over (state_of states n)) here ∙ ap is_over is_begun) in
       let is_now : unfinished plan now rests j ≡ 0 + tally (is_unfinished plan rests j) (length plan.jobs.items) =
-      ap (λ (b : Bool). cond b 0 1 + tally (is_unfinished plan rests j) (length plan.jobs.items)) (ap (λ n. is_over (state_of now n)) here ∙ ap is_over (set_here states p Ended there)) in
-      by_numbers (unfinished plan states rests j) (unfinished plan now rests j) (tally (is_unfinished plan rests j) (length plan.jobs.items)) (slice_index dues j) (slice_index dues' j) was is_now (m ∙ ap (λ n. slice_index dues j + n) one))
+      ap (λ (b : Bool). cond b 0 1 + tally (is_unfinished plan rests j) (length plan.jobs.items))
+      (ap (λ n. is_over (state_of now n)) here ∙ ap is_over (set_here states p Ended there)) in
+      by_numbers (unfinished plan states rests j) (unfinished plan now rests j) (tally (is_unfinished plan rests j) (length plan.jobs.items))
+      (slice_index dues j) (slice_index dues' j) was is_now (m ∙ ap (λ n. slice_index dues j + n) one))
       (λ f. let ne : starter_number plan j ≢ p = λ e. let same : k ≡ starter_of plan j = omega arith in
       not_both (subst (λ n. is_job (starts_in (segment_at plan n)) (suc j) ≡ true) (sym same) (starter_starts plan C.well.order.starts j lt)) f in
       let none : due_once (starts_in (segment_at plan k)) (suc j) ≡ 0 = ap (λ (b : Bool). cond b 1 0) f in
@@ -147,7 +153,8 @@ module _ (plan : Plan) (states : List State) (cells : List ℤ) (rests waits due
       (λ le. let k : ℕ = p - job_pieces plan in
       let w = C.wait_is j lt in
       let f = C.fits j lt in
-      let some : started_by plan p (suc j) ≡ due_once (starts_in (segment_at plan k)) (suc j) = ap (λ x. started_in plan x (suc j)) (segment_numbered plan p le) in
+      let some : started_by plan p (suc j) ≡ due_once (starts_in (segment_at plan k)) (suc j) =
+      ap (λ x. started_in plan x (suc j)) (segment_numbered plan p le) in
       at_segment k (omega arith) w f some)
       (cases_lt p (job_pieces plan))
     where
@@ -156,12 +163,14 @@ module _ (plan : Plan) (states : List State) (cells : List ℤ) (rests waits due
 
       at_segment : (k : ℕ) → p ≡ job_pieces plan + k → slice_index waits j ≡ unfinished plan states rests j + slice_index dues j → slice_index waits j < 2 ^ 32
           → started_by plan p (suc j) ≡ due_once (starts_in (segment_at plan k)) (suc j) → slice_index dues j + started_by plan p (suc j) < 2 ^ 32
-      at_segment k is w f some = by_less (slice_index waits j) (unfinished plan states rests j) (slice_index dues j) (started_by plan p (suc j)) (2 ^ 32) w f (subst (λ n. n ≤ unfinished plan states rests j) (sym some) (⊎_elim
+      at_segment k is w f some = by_less (slice_index waits j) (unfinished plan states rests j) (slice_index dues j) (started_by plan p (suc j)) (2 ^ 32) w f
+          (subst (λ n. n ≤ unfinished plan states rests j) (sym some) (⊎_elim
           (λ t. let same : k ≡ starter_of plan j = starter_alone plan C.well.order.starts j k t in
           let here : starter_number plan j ≡ p = omega arith in
           let one : due_once (starts_in (segment_at plan k)) (suc j) ≡ 1 = ap (λ (b : Bool). cond b 1 0) t in
           let was : unfinished plan states rests j ≡ 1 + tally (is_unfinished plan rests j) (length plan.jobs.items) =
-          ap (λ (b : Bool). cond b 0 1 + tally (is_unfinished plan rests j) (length plan.jobs.items)) (ap (λ n. is_over (state_of states n)) here ∙ ap is_over is_begun) in
+          ap (λ (b : Bool). cond b 0 1 + tally (is_unfinished plan rests j) (length plan.jobs.items))
+          (ap (λ n. is_over (state_of states n)) here ∙ ap is_over is_begun) in
           omega arith)
           (λ no. let none : due_once (starts_in (segment_at plan k)) (suc j) ≡ 0 = ap (λ (b : Bool). cond b 1 0) no in omega arith)
           (either_bool (is_job (starts_in (segment_at plan k)) (suc j)))))

@@ -38,7 +38,8 @@ times_push e (y ∷ l) x =
     r
 
 -- in the first ones, and in one more
-pub times_next : (e : ℕ) (l : List JobId) (i : ℕ) (d : JobId) → i < length l → times e (take (i + 1) l) ≡ times e (take i l) + cond (nat_eq (get_or l i d).0 e) 1 0
+pub times_next : (e : ℕ) (l : List JobId) (i : ℕ) (d : JobId) → i < length l
+    → times e (take (i + 1) l) ≡ times e (take i l) + cond (nat_eq (get_or l i d).0 e) 1 0
 times_next e l i d lt =
     let up : i + 1 ≡ suc i = omega arith in
     ap (λ n. times e (take n l)) up ∙ (ap (times e) (take-suc l i d lt) ∙ times_push e (take i l) (get_or l i d))
@@ -122,7 +123,8 @@ nothing : (b : Bool) → pick b 0 ≡ 0
 nothing true = refl
 nothing false = refl
 
-pub row_added : (rows : List (Vec JobId Global)) (v w : Vec JobId Global) (k : ℕ) (dep job : JobId) → k < length rows → v ≡ get_or rows k v → w.items ≡ v.items ++ job ∷ [] → dep.0 ≡ suc k
+pub row_added : (rows : List (Vec JobId Global)) (v w : Vec JobId Global) (k : ℕ) (dep job : JobId) → k < length rows → v ≡ get_or rows k v
+    → w.items ≡ v.items ++ job ∷ [] → dep.0 ≡ suc k
     → (j e : ℕ) → times e (row (set rows k w) j) ≡ times e (row rows j) + cond (nat_eq job.0 e) (cond (nat_eq dep.0 (suc j)) 1 0) 0
 row_added rows v w k dep job lt at grown is j e = dite (ℕ_discrete j k)
     (λ same. let yes : bit (nat_eq dep.0 (suc j)) ≡ 1 = ap bit (eq-eqb dep.0 (suc j) (is ∙ ap suc (sym same))) in
@@ -173,7 +175,8 @@ by_test : (e d t n x : ℕ) → t ≡ cond (nat_lt e (d + 1)) x 0 → (d + 1 ≡
 by_test e d t n x h k = grind (arith, nat_tests)
 
 pub filled_next : (plan : Plan) → IsWellOrderedPlan plan → (old new : List (Vec JobId Global)) (d : ℕ) (x : JobPlan) → job_at plan d ≡ Some x
-    → ((j e : ℕ) → times e (row new j) ≡ times e (row old j) + cond (nat_eq (d + 1) e) (times (suc j) x.deps.items) 0) → Filled plan d old → Filled plan (d + 1) new
+    → ((j e : ℕ) → times e (row new j) ≡ times e (row old j) + cond (nat_eq (d + 1) e) (times (suc j) x.deps.items) 0) → Filled plan d old
+    → Filled plan (d + 1) new
 filled_next plan well old new d x there more filled j e =
     let jobs = deps_of plan well d x there in
     let due : times (suc j) x.deps.items ≡ due_after plan (suc j) (suc d) =
@@ -214,7 +217,8 @@ pub one_added : (dues : List ℕ) (k d n old t t' : ℕ) → k < length dues →
 one_added dues k d n old t t' low is before next = dite (ℕ_discrete d k)
     (λ e. let yes : bit (nat_eq n (suc d)) ≡ 1 = ap bit (eq-eqb n (suc d) (is ∙ ap suc (sym e))) in
     let here : slice_index (set dues k (slice_index dues k + 1)) d ≡ slice_index dues d + 1 =
-    ap (slice_index (set dues k (slice_index dues k + 1))) e ∙ (get_or-set_same dues k (slice_index dues k + 1) 0 low ∙ ap (λ m. slice_index dues m + 1) (sym e)) in
+    ap (slice_index (set dues k (slice_index dues k + 1))) e ∙ (get_or-set_same dues k (slice_index dues k + 1) 0 low
+    ∙ ap (λ m. slice_index dues m + 1) (sym e)) in
     omega (arith, here, yes, next, before))
     (λ ne. let out : bit (nat_eq n (suc d)) ≡ 0 = ap bit (ne_eqb n (suc d) (λ q. ne (omega arith))) in
     let there : slice_index (set dues k (slice_index dues k + 1)) d ≡ slice_index dues d = get_or-set_other dues k d (slice_index dues k + 1) 0 ne in

@@ -45,8 +45,10 @@ below_or a b = grind arith
 
 module _ (plan : Plan) (owed : Option JobId) (dues : List ℕ) (rights seen : List Bool) (first : Bool) (ended_count : ℕ) (was_opened : Bool) where
   -- BEGIN
-  pub know_begun : (lease : Option PieceId) (old room : List ℤ) (p : PieceId) → ((w : ℕ) → reads plan p.0 w ≡ true → cells_of room (place_of plan p.0 w) ≡ before_number plan p.0 w)
-      → knows plan (Some p) room owed dues rights seen first ended_count was_opened ≡ begun plan (knows plan lease old owed dues rights seen first ended_count was_opened) p.0 true
+  pub know_begun : (lease : Option PieceId) (old room : List ℤ) (p : PieceId)
+      → ((w : ℕ) → reads plan p.0 w ≡ true → cells_of room (place_of plan p.0 w) ≡ before_number plan p.0 w)
+      → knows plan (Some p) room owed dues rights seen first ended_count was_opened ≡ begun plan
+      (knows plan lease old owed dues rights seen first ended_count was_opened) p.0 true
   know_begun lease old room p copied = λ y. record {
     lease = Some p.0;
     cells = λ w. point w y;
@@ -73,7 +75,8 @@ module _ (plan : Plan) (owed : Option JobId) (dues : List ℕ) (rights seen : Li
   unread p room w f = ap (λ (b : Bool). cond b (cells_of room (place_of plan p.0 w)) (before_number plan p.0 w)) f
 
   pub know_stored : (p : PieceId) (room : List ℤ) (w : ℕ) (v : ℤ) → room_of (spans_of plan p.0) ≤ length room → reads plan p.0 w ≡ true
-      → knows plan (Some p) (set room (place_of plan p.0 w) v) owed dues rights seen first ended_count was_opened ≡ stored (knows plan (Some p) room owed dues rights seen first ended_count was_opened) w v
+      → knows plan (Some p) (set room (place_of plan p.0 w) v) owed dues rights seen first ended_count was_opened ≡ stored
+      (knows plan (Some p) room owed dues rights seen first ended_count was_opened) w v
   know_stored p room w v fits r = λ y. record {
     lease = Some p.0;
     cells = λ u. point u y;
@@ -98,7 +101,8 @@ module _ (plan : Plan) (owed : Option JobId) (dues : List ℕ) (rights seen : Li
 
   -- END
   pub know_part_ended : (lease : Option PieceId) (old room : List ℤ) (p j i job : ℕ) → piece_numbered plan p ≡ OfJob j i → job ≡ suc j
-      → knows plan None room (Some record { 0 = job }) dues rights seen first ended_count was_opened ≡ ended plan (knows plan lease old owed dues rights seen first ended_count was_opened) p
+      → knows plan None room (Some record { 0 = job }) dues rights seen first ended_count was_opened ≡ ended plan
+      (knows plan lease old owed dues rights seen first ended_count was_opened) p
   know_part_ended lease old room p j i job is e =
       ap (λ n. knows plan None room (Some record { 0 = n }) dues rights seen first ended_count was_opened) e
       ∙ ap (ended_piece plan (knows plan lease old owed dues rights seen first ended_count was_opened)) (sym is)
@@ -111,15 +115,18 @@ due_more dues id zero low lt = let e : due_once (Some id) 0 ≡ 0 = ap (λ (b : 
 due_more dues id (suc j) low lt = dite (ℕ_discrete j (id.0 - 1))
     (λ e. let one : due_once (Some id) (suc j) ≡ 1 = ap (λ (b : Bool). cond b 1 0) (eq-eqb id.0 (suc j) (omega arith)) in
     let here : slice_index (set dues (id.0 - 1) (slice_index dues (id.0 - 1) + 1)) j ≡ slice_index dues j + 1 =
-    ap (slice_index (set dues (id.0 - 1) (slice_index dues (id.0 - 1) + 1))) e ∙ (get_or-set_same dues (id.0 - 1) (slice_index dues (id.0 - 1) + 1) 0 lt ∙ ap (λ n. slice_index dues n + 1) (sym e)) in
+    ap (slice_index (set dues (id.0 - 1) (slice_index dues (id.0 - 1) + 1))) e
+    ∙ (get_or-set_same dues (id.0 - 1) (slice_index dues (id.0 - 1) + 1) 0 lt ∙ ap (λ n. slice_index dues n + 1) (sym e)) in
     here ∙ ap (λ n. slice_index dues j + n) (sym one))
     (λ ne. let none : due_once (Some id) (suc j) ≡ 0 = ap (λ (b : Bool). cond b 1 0) (ne_eqb id.0 (suc j) (λ q. ne (omega arith))) in
-    let there : slice_index (set dues (id.0 - 1) (slice_index dues (id.0 - 1) + 1)) j ≡ slice_index dues j = get_or-set_other dues (id.0 - 1) j (slice_index dues (id.0 - 1) + 1) 0 ne in
+    let there : slice_index (set dues (id.0 - 1) (slice_index dues (id.0 - 1) + 1)) j ≡ slice_index dues j =
+    get_or-set_other dues (id.0 - 1) j (slice_index dues (id.0 - 1) + 1) 0 ne in
     omega arith)
 
 module _ (plan : Plan) (owed : Option JobId) (rights seen : List Bool) (first : Bool) where
   -- the end of a segment
-  pub know_segment_ended : (lease : Option PieceId) (old room : List ℤ) (dues dues' : List ℕ) (n : ℕ) (was_opened : Bool) (p s : ℕ) → piece_numbered plan p ≡ OfScript s
+  pub know_segment_ended : (lease : Option PieceId) (old room : List ℤ) (dues dues' : List ℕ) (n : ℕ) (was_opened : Bool) (p s : ℕ)
+      → piece_numbered plan p ≡ OfScript s
       → ((j : ℕ) → due_of dues' j ≡ due_of dues j + due_once (starts_in (segment_at plan s)) j)
       → knows plan None room owed dues' rights seen first (n + 1) false ≡ ended plan (knows plan lease old owed dues rights seen first n was_opened) p
   know_segment_ended lease old room dues dues' n was_opened p s is more = (λ y. record {
@@ -136,7 +143,8 @@ module _ (plan : Plan) (owed : Option JobId) (rights seen : List Bool) (first : 
 
   module _ (lease : Option PieceId) (room : List ℤ) (n : ℕ) (was_opened : Bool) where
     pub know_counted : (dues dues' : List ℕ) (id : JobId) → ((d : ℕ) → due_of dues' d ≡ due_of dues d + due_after plan id.0 d)
-        → knows plan lease room None dues' rights seen first n was_opened ≡ counted plan (knows plan lease room owed dues rights seen first n was_opened) (Some id)
+        → knows plan lease room None dues' rights seen first n was_opened ≡ counted plan (knows plan lease room owed dues rights seen first n was_opened)
+        (Some id)
     know_counted dues dues' id more = λ y. record {
       lease = piece_of lease;
       cells = seen_cells plan lease room;
@@ -151,7 +159,8 @@ module _ (plan : Plan) (owed : Option JobId) (rights seen : List Bool) (first : 
 
     pub know_released : (dues dues' : List ℕ) (rights' : List Bool) (j : ℕ) → ((d : ℕ) → due_of dues' d ≡ less_once (λ k. due_of dues k) j d)
         → ((p : ℕ) → slice_index_or rights' p false ≡ (slice_index_or rights p false || is_of plan j p))
-        → knows plan lease room owed dues' rights' seen first n was_opened ≡ released plan (knows plan lease room owed dues rights seen first n was_opened) j true
+        → knows plan lease room owed dues' rights' seen first n was_opened ≡ released plan
+        (knows plan lease room owed dues rights seen first n was_opened) j true
     know_released dues dues' rights' j less more = λ y. record {
       lease = piece_of lease;
       cells = seen_cells plan lease room;
@@ -165,7 +174,8 @@ module _ (plan : Plan) (owed : Option JobId) (rights seen : List Bool) (first : 
     }
 
     pub know_not_released : (dues dues' : List ℕ) (j : ℕ) → ((d : ℕ) → due_of dues' d ≡ less_once (λ k. due_of dues k) j d)
-        → knows plan lease room owed dues' rights seen first n was_opened ≡ released plan (knows plan lease room owed dues rights seen first n was_opened) j false
+        → knows plan lease room owed dues' rights seen first n was_opened ≡ released plan
+        (knows plan lease room owed dues rights seen first n was_opened) j false
     know_not_released dues dues' j less = λ y. record {
       lease = piece_of lease;
       cells = seen_cells plan lease room;
@@ -179,7 +189,8 @@ module _ (plan : Plan) (owed : Option JobId) (rights seen : List Bool) (first : 
     }
 
     module _ (dues : List ℕ) where
-      pub know_part_opened : (rights' : List Bool) (p j i : ℕ) → piece_numbered plan p ≡ OfJob j i → ((q : ℕ) → slice_index_or rights' q false ≡ (slice_index_or rights q false && not (nat_eq q p)))
+      pub know_part_opened : (rights' : List Bool) (p j i : ℕ) → piece_numbered plan p ≡ OfJob j i
+          → ((q : ℕ) → slice_index_or rights' q false ≡ (slice_index_or rights q false && not (nat_eq q p)))
           → knows plan lease room owed dues rights' seen first n was_opened ≡ opened plan (knows plan lease room owed dues rights seen first n was_opened) p
       know_part_opened rights' p j i is less = (λ y. record {
         lease = piece_of lease;
@@ -240,16 +251,19 @@ dues_counted plan dues dues' job size same each (suc d) = ⊎_elim
     no_plan (x ∷ xs) (suc i) le = no_plan xs i (omega arith)
 
 -- a duty less
-pub dues_less : (dues : List ℕ) (j : ℕ) → 0 < j → j - 1 < length dues → (d : ℕ) → due_of (set dues (j - 1) (slice_index dues (j - 1) - 1)) d ≡ less_once (λ k. due_of dues k) j d
+pub dues_less : (dues : List ℕ) (j : ℕ) → 0 < j → j - 1 < length dues → (d : ℕ)
+    → due_of (set dues (j - 1) (slice_index dues (j - 1) - 1)) d ≡ less_once (λ k. due_of dues k) j d
 dues_less dues j low lt zero = sym (ap (λ (b : Bool). cond b (0 - 1) 0) (ne_eqb 0 j (λ e. omega arith)))
 dues_less dues j low lt (suc d) = dite (ℕ_discrete d (j - 1))
     (λ e. ap (slice_index (set dues (j - 1) (slice_index dues (j - 1) - 1))) e ∙ (get_or-set_same dues (j - 1) (slice_index dues (j - 1) - 1) 0 lt
-    ∙ (ap (λ n. slice_index dues n - 1) (sym e) ∙ sym (ap (λ (b : Bool). cond b (slice_index dues d - 1) (slice_index dues d)) (eq-eqb (suc d) j (omega arith))))))
+    ∙ (ap (λ n. slice_index dues n - 1) (sym e) ∙ sym (ap (λ (b : Bool). cond b (slice_index dues d - 1) (slice_index dues d))
+    (eq-eqb (suc d) j (omega arith))))))
     (λ ne. get_or-set_other dues (j - 1) d (slice_index dues (j - 1) - 1) 0 ne
     ∙ sym (ap (λ (b : Bool). cond b (slice_index dues d - 1) (slice_index dues d)) (ne_eqb (suc d) j (λ e. ne (omega arith)))))
 
 -- the rights to a range of pieces
-pub rights_more : (plan : Plan) (rights rights' : List Bool) (j from end : ℕ) → from ≡ pieces_before plan.jobs.items j → end ≡ pieces_before plan.jobs.items (suc j)
+pub rights_more : (plan : Plan) (rights rights' : List Bool) (j from end : ℕ) → from ≡ pieces_before plan.jobs.items j
+    → end ≡ pieces_before plan.jobs.items (suc j)
     → ((p : ℕ) → from ≤ p → p < end → slice_index_or rights' p false ≡ true)
     → ((p : ℕ) → p < from → slice_index_or rights' p false ≡ slice_index_or rights p false)
     → ((p : ℕ) → end ≤ p → slice_index_or rights' p false ≡ slice_index_or rights p false)
@@ -273,10 +287,12 @@ rights_more plan rights rights' j from end ef ee inside before behind p = ⊎_el
     same : is_of plan (suc j) p ≡ false → slice_index_or rights p false ≡ (slice_index_or rights p false || is_of plan (suc j) p)
     same f = sym (ap (λ (b : Bool). slice_index_or rights p false || b) f ∙ or_false (slice_index_or rights p false))
 
-    outside : is_of plan (suc j) p ≡ false → (p < from) ⊎ (from ≤ p) → (p < end) ⊎ (end ≤ p) → slice_index_or rights' p false ≡ (slice_index_or rights p false || is_of plan (suc j) p)
+    outside : is_of plan (suc j) p ≡ false → (p < from) ⊎ (from ≤ p) → (p < end) ⊎ (end ≤ p)
+        → slice_index_or rights' p false ≡ (slice_index_or rights p false || is_of plan (suc j) p)
     outside f (inl lt) y = before p lt ∙ same f
     outside f (inr le) (inr ge) = behind p ge ∙ same f
-    outside f (inr le) (inl lt) = absurd (not_both (and_from (leb (pieces_before plan.jobs.items j) p) (ltb p (pieces_before plan.jobs.items (suc j))) (le-leb (pieces_before plan.jobs.items j) p (omega arith)) (lt-ltb p (pieces_before plan.jobs.items (suc j)) (omega arith))) f)
+    outside f (inr le) (inl lt) = absurd (not_both (and_from (leb (pieces_before plan.jobs.items j) p) (ltb p (pieces_before plan.jobs.items (suc j)))
+        (le-leb (pieces_before plan.jobs.items j) p (omega arith)) (lt-ltb p (pieces_before plan.jobs.items (suc j)) (omega arith))) f)
 
 -- a right less
 pub rights_less : (rights : List Bool) (p q : ℕ) → slice_index_or (set rights p false) q false ≡ (slice_index_or rights q false && not (nat_eq q p))
@@ -286,7 +302,8 @@ rights_less rights p q = dite (ℕ_discrete q p)
     (λ le. past (set rights p false) q false (let same = Rattle.std.proofs.Common.length-set rights p false in omega arith))
     (below_or p (length rights))
     ∙ sym (ap (λ (b : Bool). slice_index_or rights q false && not b) (eq-eqb q p e) ∙ and_no (slice_index_or rights q false)))
-    (λ ne. get_or-set_other rights p q false false ne ∙ sym (ap (λ (b : Bool). slice_index_or rights q false && not b) (ne_eqb q p ne) ∙ and_yes (slice_index_or rights q false)))
+    (λ ne. get_or-set_other rights p q false false ne ∙ sym (ap (λ (b : Bool). slice_index_or rights q false && not b) (ne_eqb q p ne)
+    ∙ and_yes (slice_index_or rights q false)))
   where
     and_no : (b : Bool) → (b && false) ≡ false
     and_no true = refl
@@ -297,7 +314,8 @@ rights_less rights p q = dite (ℕ_discrete q p)
     and_yes false = refl
 
 -- a job more that is seen
-pub seen_more : (seen : List Bool) (j : ℕ) → 0 < j → j - 1 < length seen → (i : ℕ) → seen_of (set seen (j - 1) true) i ≡ (seen_of seen i || (nat_eq i j && true))
+pub seen_more : (seen : List Bool) (j : ℕ) → 0 < j → j - 1 < length seen → (i : ℕ)
+    → seen_of (set seen (j - 1) true) i ≡ (seen_of seen i || (nat_eq i j && true))
 seen_more seen j low lt zero = sym (ap (λ (b : Bool). b && true) (ne_eqb 0 j (λ e. omega arith)))
 seen_more seen j low lt (suc i) = dite (ℕ_discrete i (j - 1))
     (λ e. ap (λ n. slice_index_or (set seen (j - 1) true) n false) e ∙ (get_or-set_same seen (j - 1) true false lt
@@ -331,7 +349,8 @@ repeated_at zero i x = refl
 repeated_at (suc n) zero x = refl
 repeated_at (suc n) (suc i) x = repeated_at n i x
 
-pub know_new_seat : (plan : Plan) (room : List ℤ) (dues : List ℕ) (rights seen : List Bool) (first : Bool) → ((j : ℕ) → slice_index dues j ≡ 0) → ((p : ℕ) → slice_index_or rights p false ≡ false) → ((j : ℕ) → slice_index_or seen j false ≡ false)
+pub know_new_seat : (plan : Plan) (room : List ℤ) (dues : List ℕ) (rights seen : List Bool) (first : Bool) → ((j : ℕ) → slice_index dues j ≡ 0)
+    → ((p : ℕ) → slice_index_or rights p false ≡ false) → ((j : ℕ) → slice_index_or seen j false ≡ false)
     → knows plan None room None dues rights seen first 0 false ≡ Rattle.frame_core.specs.Know.new_seat first
 know_new_seat plan room dues rights seen first d r s = λ y. record {
   lease = None;
@@ -376,10 +395,12 @@ held_cells plan o p q room e l each w t =
     let same : p.0 ≡ q = Rattle.frame_core.proofs.Small.some_is (ap piece_of (sym e) ∙ l) in
     let r : reads plan p.0 w ≡ true = writes_read (touches plan (piece_numbered plan p.0)) w t in
     sym (ap (λ (b : Bool). cond b (cells_of room (place_of plan p.0 w)) (before_number plan p.0 w)) r)
-    ∙ (ap (λ x. seen_cells plan x room w) (sym e) ∙ (each w (subst (λ n. writes plan n w ≡ true) same t) ∙ ap (λ n. piece_cells plan (piece_numbered plan n) (before_number plan n) w) (sym same)))
+    ∙ (ap (λ x. seen_cells plan x room w) (sym e) ∙ (each w (subst (λ n. writes plan n w ≡ true) same t)
+    ∙ ap (λ n. piece_cells plan (piece_numbered plan n) (before_number plan n) w) (sym same)))
 
 -- the leased piece reads a word
-pub leased_reads : (plan : Plan) (o : Option PieceId) (p : PieceId) (q w : ℕ) → o ≡ Some p → piece_of o ≡ Some q → reads plan q w ≡ true → reads plan p.0 w ≡ true
+pub leased_reads : (plan : Plan) (o : Option PieceId) (p : PieceId) (q w : ℕ) → o ≡ Some p → piece_of o ≡ Some q → reads plan q w ≡ true
+    → reads plan p.0 w ≡ true
 leased_reads plan o p q w e l r =
     let same : p.0 ≡ q = Rattle.frame_core.proofs.Small.some_is (ap piece_of (sym e) ∙ l) in
     ap (λ n. reads plan n w) same ∙ r

@@ -53,7 +53,8 @@ pub record AreNew (plan : Plan) (ss : List State) (cs : List ℤ) (rs ws ds : Li
   pub waits : (j : ℕ) → j < length plan.jobs.items → slice_index ws j ≡ 1 + length (deps_in (job_at plan j))
   pub dues : (j : ℕ) → slice_index ds j ≡ 0
 
-module _ (plan : Plan) (well : IsWellOrderedPlan plan) (states : List State) (cells : List ℤ) (rests waits dues : List ℕ) (N : AreNew plan states cells rests waits dues) where
+module _ (plan : Plan) (well : IsWellOrderedPlan plan) (states : List State) (cells : List ℤ) (rests waits dues : List ℕ)
+    (N : AreNew plan states cells rests waits dues) where
   closed_at : (q : ℕ) → state_at plan states q ≡ Closed
   closed_at q = by (piece_at plan q)
     where
@@ -104,8 +105,10 @@ module _ (plan : Plan) (well : IsWellOrderedPlan plan) (states : List State) (ce
       let t : ℕ = tally (λ d. has_job (deps_in (job_at plan j)) (suc d) && not (nat_eq (slice_index rests d) 0)) (length plan.jobs.items) in
       let starter : cond (is_over (state_of states (starter_number plan j))) 0 1 ≡ 1 = ap (λ s. cond (is_over s) 0 1) (N.states (starter_number plan j)) in
       let all : t ≡ length (deps_in (job_at plan j)) =
-      tally_same (λ d. has_job (deps_in (job_at plan j)) (suc d) && not (nat_eq (slice_index rests d) 0)) (λ d. has_job (deps_in (job_at plan j)) (suc d)) (length plan.jobs.items)
-      (λ d l. ap (λ (b : Bool). has_job (deps_in (job_at plan j)) (suc d) && not b) (ne_eqb (slice_index rests d) 0 (rest_some d l)) ∙ and_true (has_job (deps_in (job_at plan j)) (suc d)))
+      tally_same (λ d. has_job (deps_in (job_at plan j)) (suc d) && not (nat_eq (slice_index rests d) 0)) (λ d. has_job (deps_in (job_at plan j)) (suc d))
+      (length plan.jobs.items)
+      (λ d l. ap (λ (b : Bool). has_job (deps_in (job_at plan j)) (suc d) && not b) (ne_eqb (slice_index rests d) 0 (rest_some d l))
+      ∙ and_true (has_job (deps_in (job_at plan j)) (suc d)))
       ∙ (ap (λ (l : List JobId). tally (λ d. has_job l (suc d)) (length plan.jobs.items)) is
       ∙ (deps_counted x.0.deps.items 0 (length plan.jobs.items) deps.0 deps.1 ∙ ap length (sym is))) in
       N.waits j lt ∙ by (cond (is_over (state_of states (starter_number plan j))) 0 1) t (length (deps_in (job_at plan j))) (slice_index dues j) starter all due

@@ -91,11 +91,13 @@ module _ (plan : Plan) (states : List State) (cells : List ℤ) (rests waits due
 
         over : is_over (state_of states (starter_number plan j)) ≡ true
         over = ⊎_elim (λ y. y)
-            (λ f. let one : unfinished plan states rests j ≡ 1 + tally (is_unfinished plan rests j) (length plan.jobs.items) = ap (λ (b : Bool). cond b 0 1 + tally (is_unfinished plan rests j) (length plan.jobs.items)) f in absurd (omega arith))
+            (λ f. let one : unfinished plan states rests j ≡ 1 + tally (is_unfinished plan rests j) (length plan.jobs.items) =
+            ap (λ (b : Bool). cond b 0 1 + tally (is_unfinished plan rests j) (length plan.jobs.items)) f in absurd (omega arith))
             (either_bool (is_over (state_of states (starter_number plan j))))
 
         deps_done : tally (is_unfinished plan rests j) (length plan.jobs.items) ≡ 0
-        deps_done = let one : unfinished plan states rests j ≡ 0 + tally (is_unfinished plan rests j) (length plan.jobs.items) = ap (λ (b : Bool). cond b 0 1 + tally (is_unfinished plan rests j) (length plan.jobs.items)) over in omega arith
+        deps_done = let one : unfinished plan states rests j ≡ 0 + tally (is_unfinished plan rests j) (length plan.jobs.items) =
+            ap (λ (b : Bool). cond b 0 1 + tally (is_unfinished plan rests j) (length plan.jobs.items)) over in omega arith
 
         below : starter_of plan j < length plan.segments.items
         below = Rattle.frame_core.proofs.Orders.starter_below plan C.well.order.starts j lt
@@ -108,13 +110,16 @@ module _ (plan : Plan) (states : List State) (cells : List ℤ) (rests waits due
             ap (λ n. is_over (state_at plan states n)) here ∙ segment_over (starter_of plan j) below over
         by (feeds i' j' li lj part dep lr from) =
             let same = mine j' part in
-            let dep' : (ltb i' (length plan.jobs.items) && has_job (deps_in (job_at plan j)) (suc i')) ≡ true = sym (dependency_is plan i' j) ∙ subst (λ n. (jobs_of plan).is_dependency i' n ≡ true) same dep in
+            let dep' : (ltb i' (length plan.jobs.items) && has_job (deps_in (job_at plan j)) (suc i')) ≡ true = sym (dependency_is plan i' j)
+            ∙ subst (λ n. (jobs_of plan).is_dependency i' n ≡ true) same dep in
             let has = (and_parts (ltb i' (length plan.jobs.items)) (has_job (deps_in (job_at plan j)) (suc i')) dep').1 in
             let li' : i' < length plan.jobs.items = subst (λ n. i' < n) (jobs_are plan) li in
-            let done = and_false (has_job (deps_in (job_at plan j)) (suc i')) (not (nat_eq (slice_index rests i') 0)) has (tally_none (is_unfinished plan rests j) (length plan.jobs.items) deps_done i' li') in
+            let done = and_false (has_job (deps_in (job_at plan j)) (suc i')) (not (nat_eq (slice_index rests i') 0)) has
+            (tally_none (is_unfinished plan rests j) (length plan.jobs.items) deps_done i' li') in
             finished_over i' r li' (eqb-true (slice_index rests i') 0 (no_test (nat_eq (slice_index rests i') 0) done)) from
         by (comes_before k lk here e) = absurd (not_both (subst (λ n. (jobs_of plan).is_part n j ≡ true) here (at_part j i is)) (laws.jobs.no_job (suc k) j lk))
-        by (is_awaited i' k li lk here w lr from) = absurd (not_both (subst (λ n. (jobs_of plan).is_part n j ≡ true) here (at_part j i is)) (laws.jobs.no_job k j lk))
+        by (is_awaited i' k li lk here w lr from) = absurd (not_both (subst (λ n. (jobs_of plan).is_part n j ≡ true) here (at_part j i is))
+            (laws.jobs.no_job k j lk))
 
     -- A SEGMENT
 
@@ -132,14 +137,16 @@ module _ (plan : Plan) (states : List State) (cells : List ℤ) (rests waits due
 
         by : IsPredecessor (jobs_of plan) r at → is_over (state_at plan states r) ≡ true
         by (starts j' lj part e) = absurd (not_both (subst (λ n. (jobs_of plan).is_part n j' ≡ true) (at_segment k is) part) (laws.jobs.no_job k j' lt'))
-        by (feeds i' j' li lj part dep lr from) = absurd (not_both (subst (λ n. (jobs_of plan).is_part n j' ≡ true) (at_segment k is) part) (laws.jobs.no_job k j' lt'))
+        by (feeds i' j' li lj part dep lr from) = absurd (not_both (subst (λ n. (jobs_of plan).is_part n j' ≡ true) (at_segment k is) part)
+            (laws.jobs.no_job k j' lt'))
         by (comes_before l ll here e) =
             let next = mine (suc l) ll here in
             ap (λ n. is_over (state_at plan states n)) (e ∙ segment_is plan l) ∙ segment_over l (omega arith) (before l next)
         by (is_awaited i' l li ll here w lr from) =
             let same = mine l ll here in
             let li' : i' < length plan.jobs.items = subst (λ n. i' < n) (jobs_are plan) li in
-            let has : has_job (waits_in (segment_at plan k)) (suc i') ≡ true = sym (waits_are plan k i') ∙ subst (λ n. (jobs_of plan).waits n i' ≡ true) same w in
+            let has : has_job (waits_in (segment_at plan k)) (suc i') ≡ true = sym (waits_are plan k i')
+            ∙ subst (λ n. (jobs_of plan).waits n i' ≡ true) same w in
             finished_over i' r li' (waited i' li' has) from
 
     -- THE CONTENT AFTERWARDS
@@ -167,12 +174,14 @@ module _ (plan : Plan) (states : List State) (cells : List ℤ) (rests waits due
             (λ ne. C.ready n lt (λ z. live (set_there states p Open there n ne ∙ z)) q b);
         rest_is = λ j lt. C.rest_is j lt ∙ sym (uncounted_same plan states now j (test_kept states p Open there is_counted (sym (ap is_counted is_closed))));
         wait_is = λ j lt. C.wait_is j lt
-            ∙ ap (λ n. n + slice_index dues j) (sym (unfinished_same plan states now rests j (test_kept states p Open there is_over (sym (ap is_over is_closed)) (starter_number plan j))));
+            ∙ ap (λ n. n + slice_index dues j) (sym (unfinished_same plan states now rests j
+            (test_kept states p Open there is_over (sym (ap is_over is_closed)) (starter_number plan j))));
         fits = C.fits;
       }
 
       -- a job that waits for nothing more
-      pub part_opened : (j i : ℕ) → j < length plan.jobs.items → piece_numbered plan p ≡ OfJob j i → slice_index waits j ≡ 0 → IsKept plan (locked now cells rests waits dues)
+      pub part_opened : (j i : ℕ) → j < length plan.jobs.items → piece_numbered plan p ≡ OfJob j i → slice_index waits j ≡ 0
+          → IsKept plan (locked now cells rests waits dues)
       part_opened j i lt is none = let e = C.wait_is j lt in opened_kept (part_ready j i lt is (omega arith))
 
       pub segment_opened : (k : ℕ) → k < length plan.segments.items → piece_numbered plan p ≡ OfScript k

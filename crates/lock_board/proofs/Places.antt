@@ -21,7 +21,8 @@ use Rattle.lock_board.specs.declared.state.State.TheVariants.{Closed, Open, Begu
 use Rattle.lock_board.specs.States.{is_over, is_counted, state_of, state_in, state_at}
 use Rattle.lock_board.specs.Locked.{leased, uncounted, unfinished, starter_number}
 
-pub state_there : (plan : Plan) (named : IsNamed plan) (p : ℕ) → p < piece_count plan → (states : List State) → state_at plan states (place_numbered plan p) ≡ state_of states p
+pub state_there : (plan : Plan) (named : IsNamed plan) (p : ℕ) → p < piece_count plan → (states : List State)
+    → state_at plan states (place_numbered plan p) ≡ state_of states p
 state_there plan named p low states = ap (state_in states plan) (stands plan named p low) ∙ ap (state_of states) (named.numbered p low).1
 
 -- A STATE CHANGES
@@ -78,7 +79,8 @@ lease_is plan q Counted l e = absurd (none_some e)
 
 pub uncounted_same : (plan : Plan) (states states' : List State) (j : ℕ) → ((q : ℕ) → is_counted (state_of states' q) ≡ is_counted (state_of states q))
     → uncounted plan states' j ≡ uncounted plan states j
-uncounted_same plan states states' j same = tally_same (λ q. is_of plan (suc j) q && not (is_counted (state_of states' q))) (λ q. is_of plan (suc j) q && not (is_counted (state_of states q)))
+uncounted_same plan states states' j same = tally_same (λ q. is_of plan (suc j) q && not (is_counted (state_of states' q)))
+    (λ q. is_of plan (suc j) q && not (is_counted (state_of states q)))
     (piece_count plan) (λ q lt. ap (λ (b : Bool). is_of plan (suc j) q && not b) (same q))
 
 abbrev pub is_unfinished : Plan → List ℕ → ℕ → ℕ → Bool
@@ -87,4 +89,5 @@ is_unfinished plan rests j d = has_job (deps_in (job_at plan j)) (suc d) && not 
 pub unfinished_same : (plan : Plan) (states states' : List State) (rests : List ℕ) (j : ℕ)
     → is_over (state_of states' (starter_number plan j)) ≡ is_over (state_of states (starter_number plan j))
     → unfinished plan states' rests j ≡ unfinished plan states rests j
-unfinished_same plan states states' rests j same = ap (λ (b : Bool). Rattle.std.proofs.Common.cond b 0 1 + tally (is_unfinished plan rests j) (length plan.jobs.items)) same
+unfinished_same plan states states' rests j same = ap (λ (b : Bool). Rattle.std.proofs.Common.cond b 0 1 + tally (is_unfinished plan rests j)
+    (length plan.jobs.items)) same

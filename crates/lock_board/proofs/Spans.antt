@@ -88,7 +88,8 @@ module _ (only : Bool) (w : ℕ) where
 
   joined_hits : (spans ts : List Touch) → hits only (joined_to spans ts) w ≡ (hits only spans w || hits only ts w)
   joined_hits spans [] = or_none (hits only spans w)
-  joined_hits spans (t ∷ ts) = joined_hits (with_touch spans t) ts ∙ (ap (λ b. b || hits only ts w) (more_hits spans t) ∙ or_last (hits only spans w) (hit t) (hits only ts w))
+  joined_hits spans (t ∷ ts) = joined_hits (with_touch spans t) ts ∙ (ap (λ b. b || hits only ts w) (more_hits spans t)
+      ∙ or_last (hits only spans w) (hit t) (hits only ts w))
 
   pub spans_hit : (plan : Plan) (p : ℕ) → hits only (spans_of plan p) w ≡ hits only (touches plan (piece_numbered plan p)) w
   spans_hit plan p = joined_hits [] (touches plan (piece_numbered plan p))
@@ -100,7 +101,8 @@ pub spans_write : (plan : Plan) (p w : ℕ) → hits true (spans_of plan p) w �
 spans_write plan p w = spans_hit true w plan p ∙ hits_write (touches plan (piece_numbered plan p)) w
 
 -- the spans of a piece in a table of all
-pub spans_here : (plan : Plan) (lists : List (Vec Touch Global)) (p : ℕ) (v : Vec Touch Global) (l : List Touch) → AreSpans plan lists → p < length lists → v ≡ get_or lists p v → l ≡ v.items → l ≡ spans_of plan p
+pub spans_here : (plan : Plan) (lists : List (Vec Touch Global)) (p : ℕ) (v : Vec Touch Global) (l : List Touch) → AreSpans plan lists → p < length lists
+    → v ≡ get_or lists p v → l ≡ v.items → l ≡ spans_of plan p
 spans_here plan lists p v l are low at is = is ∙ are p v (got lists p v low at)
 
 -- ONE MORE SPAN, BY ITS INDEX
@@ -129,7 +131,8 @@ unmet_more ts t s i at m u = record {
 tail_unmet : (x : Touch) (ts : List Touch) (t : Touch) (i : ℕ) → Unmet (x ∷ ts) t (suc i) → Unmet ts t i
 tail_unmet x ts t i u = record { each = λ k s lt low is. u.each (suc k) s (omega arith) (omega arith) is }
 
-pub met_at : (ts : List Touch) (t s : Touch) (i : ℕ) → i < length ts → s ≡ get_or ts i s → meet s t ≡ true → Unmet ts t i → set ts i (hull s t) ≡ with_touch ts t
+pub met_at : (ts : List Touch) (t s : Touch) (i : ℕ) → i < length ts → s ≡ get_or ts i s → meet s t ≡ true → Unmet ts t i
+    → set ts i (hull s t) ≡ with_touch ts t
 met_at [] t s i lt at m u = absurd (omega arith)
 met_at (x ∷ ts) t s zero lt at m u = ap (λ y. hull y t ∷ ts) at ∙ sym (by_test x t ts true (ap (λ y. meet y t) (sym at) ∙ m))
 met_at (x ∷ ts) t s (suc i) lt at m u =
@@ -143,7 +146,8 @@ met_nowhere (x ∷ ts) t (suc i) le u =
     ap (λ l. x ∷ l) (met_nowhere ts t i (omega arith) (tail_unmet x ts t i u))
     ∙ sym (by_test x t ts false (u.each 0 x (omega arith) (omega arith) refl))
 
-pub joined_next : (spans new ts : List Touch) (i : ℕ) (t : Touch) → i < length ts → t ≡ get_or ts i t → new ≡ with_touch spans t → joined_to spans (drop i ts) ≡ joined_to new (drop (i + 1) ts)
+pub joined_next : (spans new ts : List Touch) (i : ℕ) (t : Touch) → i < length ts → t ≡ get_or ts i t → new ≡ with_touch spans t
+    → joined_to spans (drop i ts) ≡ joined_to new (drop (i + 1) ts)
 joined_next spans new ts i t lt at is =
     let up : suc i ≡ i + 1 = omega arith in
     ap (joined_to spans) (drop-cons ts i t lt)
@@ -171,9 +175,11 @@ place_below (t ∷ ts) w h = by (has_word t w) refl (λ out. place_below ts w (o
 
 pub places_differ : (ts : List Touch) (u w : ℕ) → hits false ts u ≡ true → hits false ts w ≡ true → u ≢ w → place_in ts u ≢ place_in ts w
 places_differ [] u w hu hw ne = absurd (not_both hu refl)
-places_differ (t ∷ ts) u w hu hw ne = by (has_word t u) (has_word t w) refl refl (λ a b. places_differ ts u w (other_hit t ts u a hu) (other_hit t ts w b hw) ne)
+places_differ (t ∷ ts) u w hu hw ne = by (has_word t u) (has_word t w) refl refl
+    (λ a b. places_differ ts u w (other_hit t ts u a hu) (other_hit t ts w b hw) ne)
   where
-    by : (a b : Bool) → has_word t u ≡ a → has_word t w ≡ b → (has_word t u ≡ false → has_word t w ≡ false → place_in ts u ≢ place_in ts w) → place_in (t ∷ ts) u ≢ place_in (t ∷ ts) w
+    by : (a b : Bool) → has_word t u ≡ a → has_word t w ≡ b → (has_word t u ≡ false → has_word t w ≡ false → place_in ts u ≢ place_in ts w)
+        → place_in (t ∷ ts) u ≢ place_in (t ∷ ts) w
     by true true d e rest q =
         let i = word_in t u d in let j = word_in t w e in let x = first_place t ts u true d in let y = first_place t ts w true e in
         let a = i.0 in let b = j.0 in absurd (ne (omega (arith, q, x, y, a, b)))
@@ -193,7 +199,8 @@ pub stored_at : (ts : List Touch) (room : List ℤ) (w u : ℕ) (v : ℤ) → ro
 stored_at ts room w u v fits hw hu = dite (ℕ_discrete u w)
     (λ e. let low = place_below ts w hw in
     ap (λ n. cells_of (set room (place_in ts w) v) (place_in ts n)) e
-    ∙ (get_or-set_same room (place_in ts w) v (pos 0) (omega (arith, low, fits)) ∙ sym (ap (λ (b : Bool). cond b v (cells_of room (place_in ts u))) (eq-eqb u w e))))
+    ∙ (get_or-set_same room (place_in ts w) v (pos 0) (omega (arith, low, fits))
+    ∙ sym (ap (λ (b : Bool). cond b v (cells_of room (place_in ts u))) (eq-eqb u w e))))
     (λ ne. get_or-set_other room (place_in ts w) (place_in ts u) v (pos 0) (places_differ ts u w hu hw ne)
     ∙ sym (ap (λ (b : Bool). cond b v (cells_of room (place_in ts u))) (ne_eqb u w ne)))
 
@@ -206,14 +213,17 @@ copied_more ts room cells w fits hw u hu before = stored_at ts room w u (cells_o
 
 -- BY THE INDEX OF A SPAN
 
-pub hits_at : (only : Bool) (ts : List Touch) (i : ℕ) (d : Touch) (w : ℕ) → i < length ts → counts only (get_or ts i d) ≡ true → (get_or ts i d).from ≤ w → w < (get_or ts i d).end → hits only ts w ≡ true
+pub hits_at : (only : Bool) (ts : List Touch) (i : ℕ) (d : Touch) (w : ℕ) → i < length ts → counts only (get_or ts i d) ≡ true → (get_or ts i d).from ≤ w
+    → w < (get_or ts i d).end → hits only ts w ≡ true
 hits_at only [] i d w lt c lo hi = absurd (omega (arith, lt))
 hits_at only (t ∷ ts) zero d w lt c lo hi =
-    or_left (counts only t && has_word t w) (hits only ts w) (and_from (counts only t) (has_word t w) c (and_from (leb t.from w) (ltb w t.end) (le-leb t.from w lo) (lt-ltb w t.end hi)))
+    or_left (counts only t && has_word t w) (hits only ts w) (and_from (counts only t) (has_word t w) c
+    (and_from (leb t.from w) (ltb w t.end) (le-leb t.from w lo) (lt-ltb w t.end hi)))
 hits_at only (t ∷ ts) (suc i) d w lt c lo hi = or_right (counts only t && has_word t w) (hits only ts w) (hits_at only ts i d w (omega (arith, lt)) c lo hi)
 
 -- the first ones, and one more
-pub hits_next : (only : Bool) (ts : List Touch) (i : ℕ) (d : Touch) (w : ℕ) → i < length ts → hits only (take (i + 1) ts) w ≡ (hits only (take i ts) w || (counts only (get_or ts i d) && has_word (get_or ts i d) w))
+pub hits_next : (only : Bool) (ts : List Touch) (i : ℕ) (d : Touch) (w : ℕ) → i < length ts
+    → hits only (take (i + 1) ts) w ≡ (hits only (take i ts) w || (counts only (get_or ts i d) && has_word (get_or ts i d) w))
 hits_next only ts i d w lt =
     let up : i + 1 ≡ suc i = omega arith in
     ap (λ n. hits only (take n ts) w) up
@@ -223,7 +233,8 @@ hits_next only ts i d w lt =
 
 pub hits_taken : (only : Bool) (ts : List Touch) (i w : ℕ) → hits only (take i ts) w ≡ true → hits only ts w ≡ true
 hits_taken only ts i w h =
-    ap (λ l. hits only l w) (sym (take-append-drop i ts)) ∙ (hits_append only (take i ts) (drop i ts) w ∙ or_left (hits only (take i ts) w) (hits only (drop i ts) w) h)
+    ap (λ l. hits only l w) (sym (take-append-drop i ts)) ∙ (hits_append only (take i ts) (drop i ts) w
+    ∙ or_left (hits only (take i ts) w) (hits only (drop i ts) w) h)
 
 -- there is an element below the length
 there : {A : Type 0} (l : List A) (i : ℕ) → i < length l → (x : A) × (slice_get l i ≡ Some x)
@@ -231,7 +242,8 @@ there [] i lt = absurd (omega (arith, lt))
 there (x ∷ l) zero lt = (x, refl)
 there (x ∷ l) (suc i) lt = there l i (omega (arith, lt))
 
-pub room_there : (plan : Plan) (lists : List (Vec Touch Global)) (room : ℕ) → AreSpans plan lists → ((p : ℕ) (v : Vec Touch Global) → slice_get lists p ≡ Some v → room_of v.items ≤ room)
+pub room_there : (plan : Plan) (lists : List (Vec Touch Global)) (room : ℕ) → AreSpans plan lists
+    → ((p : ℕ) (v : Vec Touch Global) → slice_get lists p ≡ Some v → room_of v.items ≤ room)
     → (p : ℕ) → p < length lists → room_of (spans_of plan p) ≤ room
 room_there plan lists room are all p lt = let x = there lists p lt in subst (λ l. room_of l ≤ room) (are p x.0 x.1) (all p x.0 x.1)
 
@@ -255,18 +267,21 @@ module _ (ts : List Touch) (room old now : List ℤ) (i : ℕ) (d : Touch) (low 
   abbrev t : Touch
   t = get_or ts i d
 
-  kept : (u : ℕ) → hits true (take (i + 1) ts) u ≡ hits true (take i ts) u → cells_of now u ≡ cond (hits true (take (i + 1) ts) u) (cells_of room (place_in ts u)) (cells_of old u)
+  kept : (u : ℕ) → hits true (take (i + 1) ts) u ≡ hits true (take i ts) u
+      → cells_of now u ≡ cond (hits true (take (i + 1) ts) u) (cells_of room (place_in ts u)) (cells_of old u)
   kept u e = done u ∙ ap (λ (b : Bool). cond b (cells_of room (place_in ts u)) (cells_of old u)) (sym e)
 
   pub not_copied : t.written ≡ false → (u : ℕ) → cells_of now u ≡ cond (hits true (take (i + 1) ts) u) (cells_of room (place_in ts u)) (cells_of old u)
-  not_copied read u = kept u (hits_next true ts i d u low ∙ (ap (λ (b : Bool). hits true (take i ts) u || (b && has_word t u)) read ∙ sym (or_none (hits true (take i ts) u))))
+  not_copied read u = kept u (hits_next true ts i d u low ∙ (ap (λ (b : Bool). hits true (take i ts) u || (b && has_word t u)) read
+      ∙ sym (or_none (hits true (take i ts) u))))
 
   pub copied_out : (new : List ℤ) → t.written ≡ true → ((u : ℕ) → t.from ≤ u → u < t.end → cells_of new u ≡ cells_of room (place_in ts u))
       → ((u : ℕ) → u < t.from → cells_of new u ≡ cells_of now u) → ((u : ℕ) → t.end ≤ u → cells_of new u ≡ cells_of now u)
       → (u : ℕ) → cells_of new u ≡ cond (hits true (take (i + 1) ts) u) (cells_of room (place_in ts u)) (cells_of old u)
   copied_out new written inside before behind u = ⊎_elim
       (λ e. let b = word_in t u e in
-      let hit : hits true (take (i + 1) ts) u ≡ true = hits_next true ts i d u low ∙ or_right (hits true (take i ts) u) (t.written && has_word t u) (and_from t.written (has_word t u) written e) in
+      let hit : hits true (take (i + 1) ts) u ≡ true = hits_next true ts i d u low
+      ∙ or_right (hits true (take i ts) u) (t.written && has_word t u) (and_from t.written (has_word t u) written e) in
       inside u b.0 b.1 ∙ sym (ap (λ (c : Bool). cond c (cells_of room (place_in ts u)) (cells_of old u)) hit))
       (λ e. let same : hits true (take (i + 1) ts) u ≡ hits true (take i ts) u =
       hits_next true ts i d u low ∙ (ap (λ (b : Bool). hits true (take i ts) u || (t.written && b)) e ∙ or_nothing (hits true (take i ts) u) t.written) in

@@ -31,7 +31,8 @@ AreSpans plan lists = (p : ℕ) (v : Vec Touch Global) → slice_get lists p ≡
 
 -- the touched words are the plan's
 abbrev pub AreWithin : Plan → List (Vec Touch Global) → Type 0
-AreWithin plan lists = (p i : ℕ) (v : Vec Touch Global) (t : Touch) → slice_get lists p ≡ Some v → slice_get v.items i ≡ Some t
+AreWithin plan lists = (p i : ℕ) (v : Vec Touch Global) (t : Touch) → slice_get lists p ≡ Some v
+    → slice_get v.items i ≡ Some t
     → t.from < t.end → t.end ≤ plan.words
 
 -- how often the job of that number stands in a list
@@ -62,15 +63,18 @@ AreWaits plan lists = (k j : ℕ) (v : Vec JobId Global) → slice_get lists k �
 
 -- the numbers in a list are those of jobs
 abbrev pub NameJobs : Plan → List (Vec JobId Global) → Type 0
-NameJobs plan lists = (k i : ℕ) (v : Vec JobId Global) (id : JobId) → slice_get lists k ≡ Some v → slice_get v.items i ≡ Some id
+NameJobs plan lists = (k i : ℕ) (v : Vec JobId Global) (id : JobId) → slice_get lists k ≡ Some v
+    → slice_get v.items i ≡ Some id
     → (0 < id.0) × (id.0 ≤ length plan.jobs.items)
 
 -- the job that each segment starts
 abbrev pub AreStarts : Plan → List (Option JobId) → Type 0
-AreStarts plan starts = (k : ℕ) (o : Option JobId) (j : ℕ) → slice_get starts k ≡ Some o → is_job o j ≡ is_job (starts_in (segment_at plan k)) j
+AreStarts plan starts = (k : ℕ) (o : Option JobId) (j : ℕ) → slice_get starts k ≡ Some o
+    → is_job o j ≡ is_job (starts_in (segment_at plan k)) j
 
 abbrev pub StartJobs : Plan → List (Option JobId) → Type 0
-StartJobs plan starts = (k : ℕ) (id : JobId) → slice_get starts k ≡ Some (Some id) → (0 < id.0) × (id.0 ≤ length plan.jobs.items)
+StartJobs plan starts = (k : ℕ) (id : JobId) → slice_get starts k ≡ Some (Some id)
+    → (0 < id.0) × (id.0 ≤ length plan.jobs.items)
 
 -- the words that pieces read are the plan's
 abbrev pub ReadsWithin : Plan → Type 0

@@ -22,7 +22,8 @@ job_of (Some j) = Some j.0
 -- count as those before the piece in script order.
 abbrev pub seen_cells : Plan → Option PieceId → List ℤ → Cells
 seen_cells plan None room w = pos 0
-seen_cells plan (Some p) room w = if reads plan p.0 w then cells_of room (place_of plan p.0 w) else before_number plan p.0 w
+seen_cells plan (Some p) room w = if reads plan p.0 w then cells_of room
+    (place_of plan p.0 w) else before_number plan p.0 w
 
 -- by the numbers of jobs, from 1; there is no job 0
 abbrev pub due_of : List ℕ → ℕ → ℕ

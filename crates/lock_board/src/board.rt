@@ -31,8 +31,8 @@ fn shared_by_threads<T: Send + Sync>(_it: &T) {}
 
 fn sent_to_threads<T: Send>(_it: &T) {}
 
-/// A board is shared by threads, and a seat goes to one. It does nothing: that it is accepted shows it.
-pub fn crosses<R: Wait + Send + Sync, K: PlanName + BoardName + Send + Sync>(
+// A board is shared by threads, and a seat goes to one. Nothing calls it: that it is accepted shows it.
+fn crosses<R: Wait + Send + Sync, K: PlanName + BoardName + Send + Sync>(
     board: &LockBoard<R, K>,
     seat: &LockSeat<R, K>,
 ) {
@@ -135,8 +135,8 @@ impl Held {
 }
 
 impl<R: Wait + Copy + Drop, K: PlanName + BoardName> LockBoard<R, K> {
-    /// A board of the plan that K names, with its seats, of which the first runs the segments. All pieces are closed and
-    /// all cells 0. The board owns the token, after which K names the board.
+    /// A board of the plan that K names, with its seats, of which the first runs the segments. All pieces are closed
+    /// and all cells 0. The board owns the token, after which K names the board.
     pub fn make(
         rt: R,
         alloc: Global,

@@ -113,8 +113,8 @@ impl<K: PlanName + BoardName> Content<K> {
         self.states[p as usize].is_uncounted()
     }
 
-    /// Counts an ended piece of the job of that number. `Some(true)` says that this was the last piece of it, and `None`
-    /// that no count of the piece is owed; then nothing changes.
+    /// Counts an ended piece of the job of that number. `Some(true)` says that this was the last piece of it, and
+    /// `None` that no count of the piece is owed; then nothing changes.
     pub fn count(&mut self, layout: &Layout<K>, p: u32, job: u32) -> Option<bool>
         requires job { (0 < job) × (job < length K.plan.jobs.items + 1) }
 
@@ -141,7 +141,8 @@ impl<K: PlanName + BoardName> Content<K> {
         Some(true)
     }
 
-    /// Releases the job at a place, from 0, by one predecessor. `Some(true)` says that this was the last predecessor, and
+    /// Releases the job at a place, from 0, by one predecessor. `Some(true)` says that this was the last predecessor,
+    /// and
     /// `None` that nobody has the duty; then nothing changes.
     pub fn release(&mut self, j: u32) -> Option<bool>
         requires job { j < length K.plan.jobs.items }

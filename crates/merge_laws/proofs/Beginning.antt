@@ -16,7 +16,8 @@ begins_stay_exact h state rest wait state' claims C p B =
     let now = P.here in
     let L : IsLed h state claims = C.led in
     let same : (q : ℕ) → is_unended (state' q) ≡ is_unended (state q) = λ q. by_equal q p
-    (λ e. ap (λ x. is_unended (state' x)) e ∙ (ap is_unended now ∙ sym (ap (λ x. is_unended (state x)) e ∙ ap is_unended was))) (λ n. ap is_unended (P.there q n)) in
+    (λ e. ap (λ x. is_unended (state' x)) e ∙ (ap is_unended now ∙ sym (ap (λ x. is_unended (state x)) e ∙ ap is_unended was)))
+    (λ n. ap is_unended (P.there q n)) in
     let closed_now : (q : ℕ) → state q ≡ 0 → state' q ≡ 0 = λ q z. P.there q (λ e. let o : state q ≡ 1 = ap state e ∙ was in omega arith) ∙ z in
     let closed_was : (q : ℕ) → state' q ≡ 0 → state q ≡ 0 = λ q z. sym (P.there q (λ e. let o : state' q ≡ 2 = ap state' e ∙ now in omega arith)) ∙ z in
     let ended_now : (q : ℕ) → state q ≡ 3 → state' q ≡ 3 = λ q z. P.there q (λ e. let o : state q ≡ 1 = ap state e ∙ was in omega arith) ∙ z in
@@ -36,7 +37,8 @@ begins_stay_exact h state rest wait state' claims C p B =
         is_first = L.is_first;
         only = L.only;
         below = λ i lt b. ended_now (h.segment_at i) (L.below i lt b);
-        next_opened = λ lt o. by_equal (h.segment_at L.first.ended) p (λ e. inr (ap state' e ∙ now)) (λ n. ⊎_elim (λ t. inl (P.there (h.segment_at L.first.ended) n ∙ t)) (λ t. inr (P.there (h.segment_at L.first.ended) n ∙ t)) (L.next_opened lt o));
+        next_opened = λ lt o. by_equal (h.segment_at L.first.ended) p (λ e. inr (ap state' e ∙ now))
+            (λ n. ⊎_elim (λ t. inl (P.there (h.segment_at L.first.ended) n ∙ t)) (λ t. inr (P.there (h.segment_at L.first.ended) n ∙ t)) (L.next_opened lt o));
         next_closed = λ lt o. closed_now (h.segment_at L.first.ended) (L.next_closed lt o);
         later = λ i lt b. closed_now (h.segment_at i) (L.later i lt b);
       };
@@ -47,9 +49,11 @@ pub looks_stay_exact : LooksStayExact
 looks_stay_exact h state rest wait claims C k j v w at W = record {
   rest_is = λ i lt. C.rest_is i lt ∙ ap (λ m. unended_parts h state i + m) (sym (total_same (owes i) claims k v w at (ap (owed_for i) W.owed)));
   wait_is = λ i lt. C.wait_is i lt ∙ ap (λ m. unfinished h state rest i + m) (sym (total_same (dues i) claims k v w at (ap (duties_on i) W.duties)));
-  rights_are = λ i p u e a. let x = from_old h state rest wait claims C k v w at (λ (y : Claims). y.rights) W.rights i u e in C.rights_are i p x.0 x.1 (ap (has p) x.2 ∙ a);
+  rights_are = λ i p u e a. let x = from_old h state rest wait claims C k v w at (λ (y : Claims). y.rights) W.rights i u e in
+      C.rights_are i p x.0 x.1 (ap (has p) x.2 ∙ a);
   rights_once = rights_once_kept h state rest wait claims C k v w at W.rights;
-  rights_all = λ p i pl il part z st. let r = C.rights_all p i pl il part z st in rights_found h state rest wait claims C k v w at (λ q a. ap (has q) W.rights ∙ a) p r.0 r.1 r.2 r.3;
+  rights_all = λ p i pl il part z st. let r = C.rights_all p i pl il part z st in
+      rights_found h state rest wait claims C k v w at (λ q a. ap (has q) W.rights ∙ a) p r.0 r.1 r.2 r.3;
   unblocked = C.unblocked;
   started = C.started;
   seen = λ i x u e a. ⊎_elim
@@ -65,17 +69,20 @@ pub splits_stay_exact : SplitsStayExact
 splits_stay_exact h state rest wait claims C u F =
     let L : IsLed h state claims = C.led in
     let N = F.nothing in
-    let no_right : (p : ℕ) (v : Claims) → u ≡ v → has p v.rights ≡ true → ⊥ = λ p v t a. not_both a (ap (λ (x : Claims). has p x.rights) (sym t) ∙ ap (has p) N.rights) in
+    let no_right : (p : ℕ) (v : Claims) → u ≡ v → has p v.rights ≡ true → ⊥ =
+    λ p v t a. not_both a (ap (λ (x : Claims). has p x.rights) (sym t) ∙ ap (has p) N.rights) in
     record {
       rest_is = λ j lt. C.rest_is j lt ∙ ap (λ m. unended_parts h state j + m) (sym (total_longer (owes j) claims u (ap (owed_for j) N.owed)));
       wait_is = λ j lt. C.wait_is j lt ∙ ap (λ m. unfinished h state rest j + m) (sym (total_longer (dues j) claims u (ap (duties_on j) N.duties)));
       rights_are = λ k p v e a. ⊎_elim (λ t. C.rights_are k p v t a) (λ t. absurd (no_right p v t a)) (longer_cases claims u v k e);
-      rights_once = λ i k p t v e f a b. ⊎_elim (λ x. ⊎_elim (λ y. C.rights_once i k p t v x y a b) (λ y. absurd (no_right p v y b)) (longer_cases claims u v k f))
+      rights_once = λ i k p t v e f a b. ⊎_elim (λ x. ⊎_elim (λ y. C.rights_once i k p t v x y a b) (λ y. absurd (no_right p v y b))
+          (longer_cases claims u v k f))
           (λ x. absurd (no_right p t x a)) (longer_cases claims u t i e);
       rights_all = λ p j pl jl part z st. let r = C.rights_all p j pl jl part z st in (r.0, r.1, longer_at claims (u ∷ []) r.0 r.1 r.2, r.3);
       unblocked = C.unblocked;
       started = C.started;
-      seen = λ k j v e a. ⊎_elim (λ t. C.seen k j v t a) (λ t. absurd (not_both a (ap (λ (x : Claims). has j x.seen) (sym t) ∙ ap (has j) F.seen))) (longer_cases claims u v k e);
+      seen = λ k j v e a. ⊎_elim (λ t. C.seen k j v t a) (λ t. absurd (not_both a (ap (λ (x : Claims). has j x.seen) (sym t) ∙ ap (has j) F.seen)))
+          (longer_cases claims u v k e);
       led = record {
         place = L.place;
         first = L.first;
@@ -87,5 +94,6 @@ splits_stay_exact h state rest wait claims C u F =
         next_closed = L.next_closed;
         later = L.later;
       };
-      segment_duties = λ k v e a. ⊎_elim (λ t. C.segment_duties k v t a) (λ t. absurd (not_both a (ap (λ (x : Claims). has_segment_duty x.duties) (sym t) ∙ ap has_segment_duty N.duties))) (longer_cases claims u v k e);
+      segment_duties = λ k v e a. ⊎_elim (λ t. C.segment_duties k v t a) (λ t. absurd
+          (not_both a (ap (λ (x : Claims). has_segment_duty x.duties) (sym t) ∙ ap has_segment_duty N.duties))) (longer_cases claims u v k e);
     }

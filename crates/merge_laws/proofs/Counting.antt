@@ -14,7 +14,8 @@ use Rattle.merge_laws.proofs.Holding.{set_cases, set_at, led_kept, from_old, rig
 
 -- COUNT
 
-module _ (h : JobGraph) (state rest wait rest' : ℕ → ℕ) (claims : List Claims) (C : AreExact h state rest wait claims) (k j : ℕ) (v w : Claims) (at : slice_get claims k ≡ Some v) (W : Counts h rest rest' v w j) where
+module _ (h : JobGraph) (state rest wait rest' : ℕ → ℕ) (claims : List Claims) (C : AreExact h state rest wait claims) (k j : ℕ) (v w : Claims)
+    (at : slice_get claims k ≡ Some v) (W : Counts h rest rest' v w j) where
   -- what was 0 is 0
   count_past : (i : ℕ) → rest i ≡ 0 → rest' i ≡ 0
   count_past i z = W.rests.there i (λ q. let f : rest i ≡ suc W.remaining = ap rest q ∙ W.found in omega arith) ∙ z
@@ -51,8 +52,10 @@ module _ (h : JobGraph) (state rest wait rest' : ℕ → ℕ) (claims : List Cla
   left_even : (i : ℕ) → (h.is_dependency j i ≡ false) ⊎ (W.remaining ≢ 0) → tally (is_left i) h.jobs ≡ tally (is_left' i) h.jobs
   left_even i out = tally_same (is_left i) (is_left' i) h.jobs (λ x l. by_equal x j
       (λ q. ⊎_elim
-      (λ d. let none : h.is_dependency x i ≡ false = ap (λ y. h.is_dependency y i) q ∙ d in and_none (h.is_dependency x i) (not (eqb (rest x) 0)) none ∙ sym (and_none (h.is_dependency x i) (not (eqb (rest' x) 0)) none))
-      (λ n. same_and (h.is_dependency x i) (not_zero (rest x) (λ e. let y : rest x ≡ suc W.remaining = ap rest q ∙ W.found in omega arith) ∙ sym (not_zero (rest' x) (λ e. n (sym W.rests.here ∙ (ap rest' (sym q) ∙ e)))))) out)
+      (λ d. let none : h.is_dependency x i ≡ false = ap (λ y. h.is_dependency y i) q ∙ d in
+      and_none (h.is_dependency x i) (not (eqb (rest x) 0)) none ∙ sym (and_none (h.is_dependency x i) (not (eqb (rest' x) 0)) none))
+      (λ n. same_and (h.is_dependency x i) (not_zero (rest x) (λ e. let y : rest x ≡ suc W.remaining = ap rest q ∙ W.found in omega arith)
+      ∙ sym (not_zero (rest' x) (λ e. n (sym W.rests.here ∙ (ap rest' (sym q) ∙ e)))))) out)
       (left_same i x))
 
   -- `wait` stays: where the count was the last, a predecessor less is unfinished and a duty more is held
@@ -63,7 +66,8 @@ module _ (h : JobGraph) (state rest wait rest' : ℕ → ℕ) (claims : List Cla
       let T : ℕ = tally (is_left i) h.jobs in
       let U : ℕ = tally (is_left' i) h.jobs in
       let old : wait i ≡ (start + T) + total (dues i) claims = c in
-      let even : T ≡ U → dues i w ≡ dues i v → wait i ≡ (start + U) + total (dues i) (slice_set claims k w) = λ same d. let s = total_same (dues i) claims k v w at d in omega arith in
+      let even : T ≡ U → dues i w ≡ dues i v → wait i ≡ (start + U) + total (dues i) (slice_set claims k w) = λ same d. let s =
+      total_same (dues i) claims k v w at d in omega arith in
       by_equal W.remaining 0
       (λ z. ⊎_elim
       (λ d. let less : T ≡ suc U = left_less z i d in
@@ -79,9 +83,11 @@ counts_stay_exact h state rest wait rest' claims G C k j v w at W =
     record {
       rest_is = count_rest h state rest wait rest' claims C k j v w at W;
       wait_is = count_wait h state rest wait rest' claims C k j v w at W;
-      rights_are = λ i p u e a. let x = from_old h state rest wait claims C k v w at (λ (y : Claims). y.rights) W.rights i u e in C.rights_are i p x.0 x.1 (ap (has p) x.2 ∙ a);
+      rights_are = λ i p u e a. let x = from_old h state rest wait claims C k v w at (λ (y : Claims). y.rights) W.rights i u e in
+          C.rights_are i p x.0 x.1 (ap (has p) x.2 ∙ a);
       rights_once = rights_once_kept h state rest wait claims C k v w at W.rights;
-      rights_all = λ p i pl il part z st. let r = C.rights_all p i pl il part z st in rights_found h state rest wait claims C k v w at (λ q a. ap (has q) W.rights ∙ a) p r.0 r.1 r.2 r.3;
+      rights_all = λ p i pl il part z st. let r = C.rights_all p i pl il part z st in
+          rights_found h state rest wait claims C k v w at (λ q a. ap (has q) W.rights ∙ a) p r.0 r.1 r.2 r.3;
       unblocked = λ p z. let r = C.unblocked p z in record {
         starter = r.starter;
         dependencies = λ i x lt part d. past i (r.dependencies i x lt part d);
@@ -96,7 +102,8 @@ counts_stay_exact h state rest wait rest' claims G C k j v w at W =
 
 -- RELEASE
 
-module _ (h : JobGraph) (state rest wait wait' : ℕ → ℕ) (claims : List Claims) (G : IsJobGraph h) (C : AreExact h state rest wait claims) (k j : ℕ) (v w : Claims) (at : slice_get claims k ≡ Some v) (W : Releases h wait wait' v w j) where
+module _ (h : JobGraph) (state rest wait wait' : ℕ → ℕ) (claims : List Claims) (G : IsJobGraph h) (C : AreExact h state rest wait claims) (k j : ℕ)
+    (v w : Claims) (at : slice_get claims k ≡ Some v) (W : Releases h wait wait' v w j) where
   -- a job that waits for nothing isn't the one that is released
   release_other : (i : ℕ) → wait i ≡ 0 → i ≢ j
   release_other i z q = let f = W.found in let x : wait i ≡ suc W.remaining = ap wait q ∙ f in omega arith
@@ -146,7 +153,8 @@ module _ (h : JobGraph) (state rest wait wait' : ℕ → ℕ) (claims : List Cla
         (λ x. ⊎_elim (λ y. absurd (release_nobody l p y.0 y.1 y.2 x.3)) (λ y. x.0 ∙ sym y.0) (release_rights l p u f b)) (release_rights i p t e a);
     rights_all = λ p i pl il part z st. by_equal i j
         (λ q. (k, w, set_at claims k v w at, W.rights_come (sym W.waits.here ∙ (ap wait' (sym q) ∙ z)) p pl (subst (λ m. h.is_part p m ≡ true) q part)))
-        (λ n. let r = C.rights_all p i pl il part (sym (W.waits.there i n) ∙ z) st in rights_found h state rest wait claims C k v w at W.rights_stay p r.0 r.1 r.2 r.3);
+        (λ n. let r = C.rights_all p i pl il part (sym (W.waits.there i n) ∙ z) st in
+        rights_found h state rest wait claims C k v w at W.rights_stay p r.0 r.1 r.2 r.3);
     unblocked = C.unblocked;
     started = λ p i pl il part z. release_past i (C.started p i pl il part z);
     seen = seen_kept h state rest wait claims C k v w at W.seen;

@@ -21,8 +21,10 @@ framed_at : (e : List Piece) → AreFramed e → (p : ℕ) → p < length e → 
 framed_at [] F p lt = absurd (omega arith)
 framed_at (x ∷ e) F p lt = by_equal p (length e)
     (λ q. subst (λ k. IsFramed (piece_at (x ∷ e) k) (cells_before (graph_of (x ∷ e)) k)) (sym q)
-    (subst (λ y. IsFramed y (cells_before (graph_of (x ∷ e)) (length e))) (sym (at_new x e)) (subst (λ c. IsFramed x c) (sym (cells_old x e (length e) (omega arith) ∙ cells_before_all e)) F.0)))
-    (λ n. subst (λ y. IsFramed y (cells_before (graph_of (x ∷ e)) p)) (sym (at_old x e p n)) (subst (λ c. IsFramed (piece_at e p) c) (sym (cells_old x e p (omega arith))) (framed_at e F.1 p (omega arith))))
+    (subst (λ y. IsFramed y (cells_before (graph_of (x ∷ e)) (length e))) (sym (at_new x e))
+    (subst (λ c. IsFramed x c) (sym (cells_old x e (length e) (omega arith) ∙ cells_before_all e)) F.0)))
+    (λ n. subst (λ y. IsFramed y (cells_before (graph_of (x ∷ e)) p)) (sym (at_old x e p n))
+    (subst (λ c. IsFramed (piece_at e p) c) (sym (cells_old x e p (omega arith))) (framed_at e F.1 p (omega arith))))
 
 pub plans_are_well_ordered : PlansAreWellOrdered
 plans_are_well_ordered l e D F = record {
@@ -45,4 +47,5 @@ reclaimed_words_are_ordered g o p m q w le ge lt below a b c = by_equal p m
 -- what leads to a leased piece is ended, so it isn't leased
 pub reclaimed_words_are_held_once : ReclaimedWordsAreHeldOnce
 reclaimed_words_are_held_once g c o S j k m w l n e f le ge lt a b r =
-    not_both (leads_ended g c.ended S.ended_ready (reclaimed_words_are_ordered g o l.piece m n.piece w le ge lt (S.lease_below k n f) a b r) (S.lease_ready k n f)) (S.lease_unended j l e)
+    not_both (leads_ended g c.ended S.ended_ready (reclaimed_words_are_ordered g o l.piece m n.piece w le ge lt (S.lease_below k n f) a b r)
+    (S.lease_ready k n f)) (S.lease_unended j l e)

@@ -7,7 +7,8 @@ use Rattle.merge_laws.proofs.Tests.{none_some, by_equal}
 use Rattle.merge_laws.proofs.Order.{merged_same}
 
 -- a lease after was one before, of the same key or the one that was handed over
-pub handed_from : (f h : ℕ → Option Lease) (k j : ℕ) → HandsOver f h k j → (i : ℕ) (l : Lease) → h i ≡ Some l → ((i ≡ j) × (f k ≡ Some l)) ⊎ ((i ≢ j) × (i ≢ k) × (f i ≡ Some l))
+pub handed_from : (f h : ℕ → Option Lease) (k j : ℕ) → HandsOver f h k j → (i : ℕ) (l : Lease) → h i ≡ Some l
+    → ((i ≡ j) × (f k ≡ Some l)) ⊎ ((i ≢ j) × (i ≢ k) × (f i ≡ Some l))
 handed_from f h k j H i l e = by_equal i j
     (λ q. inl (q, sym H.here ∙ (ap h (sym q) ∙ e)))
     (λ n. by_equal i k (λ q. absurd (none_some (sym H.gone ∙ (ap h (sym q) ∙ e)))) (λ m. inr (n, m, sym (H.there i n m) ∙ e)))
@@ -34,9 +35,11 @@ hands_keep_the_merge g c d C k j apart H ended cells =
           lease_unended = λ i l e. let o = old i l e in ended l.piece ∙ S.lease_unended o.0 l o.1;
           lease_once = λ a b l m e f q. ⊎_elim
               (λ x. ⊎_elim (λ y. x.0 ∙ sym y.0) (λ y. absurd (y.1 (sym (S.lease_once k b l m x.1 y.2 q)))) (handed_from c.lease d.lease k j H b m f))
-              (λ x. ⊎_elim (λ y. absurd (x.1 (S.lease_once a k l m x.2 y.1 q))) (λ y. S.lease_once a b l m x.2 y.2 q) (handed_from c.lease d.lease k j H b m f)) (handed_from c.lease d.lease k j H a l e);
+              (λ x. ⊎_elim (λ y. absurd (x.1 (S.lease_once a k l m x.2 y.1 q))) (λ y. S.lease_once a b l m x.2 y.2 q) (handed_from c.lease d.lease k j H b m f))
+              (handed_from c.lease d.lease k j H a l e);
         };
-        merged = λ w none. cells w ∙ (C.merged w (λ i l e. let t = handed_to c.lease d.lease k j H i l e in none t.0 l t.1) ∙ merged_same g c.ended d.ended w (λ q t. sym (ended q)));
+        merged = λ w none. cells w ∙ (C.merged w (λ i l e. let t = handed_to c.lease d.lease k j H i l e in none t.0 l t.1)
+            ∙ merged_same g c.ended d.ended w (λ q t. sym (ended q)));
       },
       (λ I i l w e r. let o = old i l e in cells w ∙ I o.0 l w o.1 r),
     )

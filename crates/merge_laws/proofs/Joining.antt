@@ -16,8 +16,10 @@ module _ (claims : List Claims) (i k : ℕ) (u v w x : Claims) (apart : i ≢ k)
   abbrev joined : List Claims
   joined = slice_set (slice_set claims i w) k x
 
-  pub joined_cases : (j : ℕ) (t : Claims) → slice_get joined j ≡ Some t → ((j ≡ k) × (x ≡ t)) ⊎ (((j ≡ i) × (w ≡ t)) ⊎ ((j ≢ i) × (j ≢ k) × (slice_get claims j ≡ Some t)))
-  joined_cases j t e = ⊎_elim (λ y. inl y) (λ y. ⊎_elim (λ z. inr (inl z)) (λ z. inr (inr (z.0, y.0, z.1))) (set_cases claims i j w t y.1)) (set_cases (slice_set claims i w) k j x t e)
+  pub joined_cases : (j : ℕ) (t : Claims) → slice_get joined j ≡ Some t → ((j ≡ k) × (x ≡ t))
+      ⊎ (((j ≡ i) × (w ≡ t)) ⊎ ((j ≢ i) × (j ≢ k) × (slice_get claims j ≡ Some t)))
+  joined_cases j t e = ⊎_elim (λ y. inl y) (λ y. ⊎_elim (λ z. inr (inl z)) (λ z. inr (inr (z.0, y.0, z.1))) (set_cases claims i j w t y.1))
+      (set_cases (slice_set claims i w) k j x t e)
 
   k_after_i : slice_get (slice_set claims i w) k ≡ Some v
   k_after_i = set_off claims i k w (λ q. apart (sym q)) ∙ at_k
@@ -34,9 +36,11 @@ module _ (claims : List Claims) (i k : ℕ) (u v w x : Claims) (apart : i ≢ k)
 
   -- whom what is at a place after the join comes from
   pub place_after : (j : ℕ) (t : Claims) → slice_get claims j ≡ Some t → ((j ≡ i) × (u ≡ t)) ⊎ (((j ≡ k) × (v ≡ t)) ⊎ ((j ≢ i) × (j ≢ k)))
-  place_after j t e = by_equal j i (λ q. inl (q, one_at claims i j t u q at_i e)) (λ n. by_equal j k (λ q. inr (inl (q, one_at claims k j t v q at_k e))) (λ m. inr (inr (n, m))))
+  place_after j t e = by_equal j i (λ q. inl (q, one_at claims i j t u q at_i e))
+      (λ n. by_equal j k (λ q. inr (inl (q, one_at claims k j t v q at_k e))) (λ m. inr (inr (n, m))))
 
-module _ (h : JobGraph) (state rest wait : ℕ → ℕ) (claims : List Claims) (C : AreExact h state rest wait claims) (i k : ℕ) (u v w x : Claims) (apart : i ≢ k) (at_i : slice_get claims i ≡ Some u) (at_k : slice_get claims k ≡ Some v) (J : Joins u v w x) where
+module _ (h : JobGraph) (state rest wait : ℕ → ℕ) (claims : List Claims) (C : AreExact h state rest wait claims) (i k : ℕ) (u v w x : Claims) (apart : i ≢ k)
+    (at_i : slice_get claims i ≡ Some u) (at_k : slice_get claims k ≡ Some v) (J : Joins u v w x) where
   no_right : (p : ℕ) (t : Claims) → x ≡ t → has p t.rights ≡ true → ⊥
   no_right p t q a = let N = J.left in not_both (ap (λ (y : Claims). has p y.rights) q ∙ a) (ap (has p) N.rights)
 
@@ -51,7 +55,8 @@ module _ (h : JobGraph) (state rest wait : ℕ → ℕ) (claims : List Claims) (
       (λ z. (j, t, z.2, a, inr (z.0, z.1, refl))) y)
       (joined_cases claims i k u v w x apart at_i at_k j t e)
 
-  rights_once' : (j l p : ℕ) (s t : Claims) → slice_get (slice_set (slice_set claims i w) k x) j ≡ Some s → slice_get (slice_set (slice_set claims i w) k x) l ≡ Some t → has p s.rights ≡ true → has p t.rights ≡ true → j ≡ l
+  rights_once' : (j l p : ℕ) (s t : Claims) → slice_get (slice_set (slice_set claims i w) k x) j ≡ Some s
+      → slice_get (slice_set (slice_set claims i w) k x) l ≡ Some t → has p s.rights ≡ true → has p t.rights ≡ true → j ≡ l
   rights_once' j l p s t e f a b =
       let y = right_from j p s e a in let z = right_from l p t f b in
       let same : y.0 ≡ z.0 = C.rights_once y.0 z.0 p y.1 z.1 y.2 z.2 y.3 z.3 in
@@ -60,11 +65,24 @@ module _ (h : JobGraph) (state rest wait : ℕ → ℕ) (claims : List Claims) (
       (λ c. ⊎_elim (λ d. absurd (⊎_elim (λ q. c.0 (sym c.2 ∙ (same ∙ q))) (λ q. c.1 (sym c.2 ∙ (same ∙ q))) d.1)) (λ d. sym c.2 ∙ (same ∙ d.2)) z.4) y.4
 
   -- who had a right, or the one that it was joined to, has it
-  rights_found' : (p j : ℕ) (t : Claims) → slice_get claims j ≡ Some t → has p t.rights ≡ true → (a : ℕ) × (y : Claims) × (slice_get (slice_set (slice_set claims i w) k x) a ≡ Some y) × (has p y.rights ≡ true)
+  rights_found' : (p j : ℕ) (t : Claims) → slice_get claims j ≡ Some t → has p t.rights ≡ true
+      → (a : ℕ) × (y : Claims) × (slice_get (slice_set (slice_set claims i w) k x) a ≡ Some y) × (has p y.rights ≡ true)
   rights_found' p j t e a = ⊎_elim
-      (λ y. (i, w, joined_i claims i k u v w x apart at_i at_k, J.rights p ∙ or_left (has p u.rights) (has p v.rights) (ap (λ (s : Claims). has p s.rights) y.1 ∙ a)))
+      (λ y. (
+        i,
+        w,
+        joined_i claims i k u v w x apart at_i at_k,
+        J.rights p
+            ∙ or_left (has p u.rights) (has p v.rights) (ap (λ (s : Claims). has p s.rights) y.1 ∙ a),
+      ))
       (λ y. ⊎_elim
-      (λ z. (i, w, joined_i claims i k u v w x apart at_i at_k, J.rights p ∙ or_right (has p u.rights) (has p v.rights) (ap (λ (s : Claims). has p s.rights) z.1 ∙ a)))
+      (λ z. (
+        i,
+        w,
+        joined_i claims i k u v w x apart at_i at_k,
+        J.rights p
+            ∙ or_right (has p u.rights) (has p v.rights) (ap (λ (s : Claims). has p s.rights) z.1 ∙ a),
+      ))
       (λ z. (j, t, joined_off claims i k u v w x apart at_i at_k j z.0 z.1 ∙ e, a)) y)
       (place_after claims i k u v w x apart at_i at_k j t e)
 
@@ -83,20 +101,26 @@ module _ (h : JobGraph) (state rest wait : ℕ → ℕ) (claims : List Claims) (
 
   join_led : IsLed h state (slice_set (slice_set claims i w) k x)
   join_led = let L : IsLed h state claims = C.led in
-      let whole : (place : ℕ) (first : Claims) → slice_get (slice_set (slice_set claims i w) k x) place ≡ Some first → IsFirst first → first.ended ≡ L.first.ended → first.opened ≡ L.first.opened
-      → ((j : ℕ) (t : Claims) → slice_get (slice_set (slice_set claims i w) k x) j ≡ Some t → IsFirst t → j ≡ place) → IsLed h state (slice_set (slice_set claims i w) k x) = λ place first there f ended opened only. record {
+      let whole : (place : ℕ) (first : Claims) → slice_get (slice_set (slice_set claims i w) k x) place ≡ Some first → IsFirst first
+      → first.ended ≡ L.first.ended → first.opened ≡ L.first.opened
+      → ((j : ℕ) (t : Claims) → slice_get (slice_set (slice_set claims i w) k x) j ≡ Some t → IsFirst t → j ≡ place)
+      → IsLed h state (slice_set (slice_set claims i w) k x) = λ place first there f ended opened only. record {
         place = place;
         first = first;
         there = there;
         is_first = f;
         only = only;
         below = λ j lt b. L.below j lt (subst (λ n. j < n) ended b);
-        next_opened = λ lt o. let lt' : L.first.ended < h.segments = subst (λ n. n < h.segments) ended lt in ⊎_elim (λ t. inl (ap (λ n. state (h.segment_at n)) ended ∙ t)) (λ t. inr (ap (λ n. state (h.segment_at n)) ended ∙ t)) (L.next_opened lt' (sym opened ∙ o));
-        next_closed = λ lt o. let lt' : L.first.ended < h.segments = subst (λ n. n < h.segments) ended lt in ap (λ n. state (h.segment_at n)) ended ∙ L.next_closed lt' (sym opened ∙ o);
+        next_opened = λ lt o. let lt' : L.first.ended < h.segments = subst (λ n. n < h.segments) ended lt in
+            ⊎_elim (λ t. inl (ap (λ n. state (h.segment_at n)) ended ∙ t)) (λ t. inr (ap (λ n. state (h.segment_at n)) ended ∙ t))
+            (L.next_opened lt' (sym opened ∙ o));
+        next_closed = λ lt o. let lt' : L.first.ended < h.segments = subst (λ n. n < h.segments) ended lt in
+            ap (λ n. state (h.segment_at n)) ended ∙ L.next_closed lt' (sym opened ∙ o);
         later = λ j lt b. L.later j lt (subst (λ n. n < j) ended b);
       } in
       -- after the join only the place i can be first where one of both was, and no place but those of before else
-      let at_i_only : (L.place ≡ i) ⊎ (L.place ≡ k) → (j : ℕ) (t : Claims) → slice_get (slice_set (slice_set claims i w) k x) j ≡ Some t → IsFirst t → j ≡ i = λ c j t e f. ⊎_elim
+      let at_i_only : (L.place ≡ i) ⊎ (L.place ≡ k) → (j : ℕ) (t : Claims) → slice_get (slice_set (slice_set claims i w) k x) j ≡ Some t → IsFirst t
+      → j ≡ i = λ c j t e f. ⊎_elim
       (λ y. absurd (spent_first (subst (λ s. IsFirst s) (sym y.1) f)))
       (λ y. ⊎_elim (λ z. z.0) (λ z. absurd (let q = L.only j t z.2 f in ⊎_elim (λ r. z.0 (q ∙ r)) (λ r. z.1 (q ∙ r)) c)) y)
       (joined_cases claims i k u v w x apart at_i at_k j t e) in
@@ -135,7 +159,8 @@ module _ (h : JobGraph) (state rest wait : ℕ → ℕ) (claims : List Claims) (
     segment_duties = λ j t e a. ⊎_elim
         (λ y. absurd (not_both (ap (λ (s : Claims). has_segment_duty s.duties) y.1 ∙ a) (ap has_segment_duty N.duties)))
         (λ y. ⊎_elim
-        (λ z. subst (λ s. IsFirst s) z.1 (⊎_elim (λ c. first_u (C.segment_duties i u at_i c)) (λ c. first_v (C.segment_duties k v at_k c)) (J.segment_duties (ap (λ (s : Claims). has_segment_duty s.duties) z.1 ∙ a))))
+        (λ z. subst (λ s. IsFirst s) z.1 (⊎_elim (λ c. first_u (C.segment_duties i u at_i c)) (λ c. first_v (C.segment_duties k v at_k c))
+        (J.segment_duties (ap (λ (s : Claims). has_segment_duty s.duties) z.1 ∙ a))))
         (λ z. C.segment_duties j t z.2 a) y)
         (joined_cases claims i k u v w x apart at_i at_k j t e);
   }

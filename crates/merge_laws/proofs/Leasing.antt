@@ -45,13 +45,19 @@ module _ (g : PieceGraph) (m n : Moment) (H : AreHeld g m) (ready : (p : ℕ) �
   held_opened p was S c l =
       let now = S.here in
       let same : (q : ℕ) → eqb (n.state q) 3 ≡ eqb (m.state q) 3 = λ q. by_equal q p
-      (λ e. ap (λ (x : ℕ). eqb (n.state x) 3) e ∙ (ap (λ (x : ℕ). eqb x 3) now ∙ (sym (ap (λ (x : ℕ). eqb x 3) was) ∙ ap (λ (x : ℕ). eqb (m.state x) 3) (sym e))))
+      (λ e. ap (λ (x : ℕ). eqb (n.state x) 3) e ∙ (ap (λ (x : ℕ). eqb x 3) now
+      ∙ (sym (ap (λ (x : ℕ). eqb x 3) was) ∙ ap (λ (x : ℕ). eqb (m.state x) 3) (sym e))))
       (λ ne. ap (λ (x : ℕ). eqb x 3) (S.there q ne)) in
       let cores : core_at m ≡ core_at n = λ i. record { ended = λ q. sym (same q) i; lease = sym l i; cells = sym c i } in
       let old_lease : (k : ℕ) (x : Lease) → n.lease k ≡ Some x → m.lease k ≡ Some x = λ k x e. sym (ap (λ (f : ℕ → Option Lease). f k) l) ∙ e in
       record {
-        begun = λ k x e. let old = H.begun k x (old_lease k x e) in (S.there x.piece (λ q. let z : m.state x.piece ≡ 0 = ap m.state q ∙ was in let two = old.0 in omega arith) ∙ old.0, old.1);
-        leased = λ q e. let old = H.leased q (sym (S.there q (λ i. let x : n.state q ≡ 1 = ap n.state i ∙ now in omega arith)) ∙ e) in (old.0, old.1, ap (λ (f : ℕ → Option Lease). f old.0) l ∙ old.2, old.3);
+        begun = λ k x e. let old = H.begun k x (old_lease k x e) in (
+          S.there x.piece
+              (λ q. let z : m.state x.piece ≡ 0 = ap m.state q ∙ was in let two = old.0 in omega arith) ∙ old.0,
+          old.1,
+        );
+        leased = λ q e. let old = H.leased q (sym (S.there q (λ i. let x : n.state q ≡ 1 = ap n.state i ∙ now in omega arith)) ∙ e) in
+            (old.0, old.1, ap (λ (f : ℕ → Option Lease). f old.0) l ∙ old.2, old.3);
         once = λ j k x y e f. H.once j k x y (old_lease j x e) (old_lease k y f);
         ready = ready;
         merged = subst (λ (c : Core). IsMerged g c) cores H.merged;
@@ -62,7 +68,8 @@ module _ (g : PieceGraph) (m n : Moment) (H : AreHeld g m) (ready : (p : ℕ) �
   pub held_handed : (k j : ℕ) → j ≢ k → HandsOver m.lease n.lease k j → n.state ≡ m.state → n.cells ≡ m.cells → AreHeld g n
   held_handed k j apart X s c =
       let state : (q : ℕ) → n.state q ≡ m.state q = λ q. ap (λ (f : ℕ → ℕ). f q) s in
-      let law = hands_keep_the_merge g (core_at m) (core_at n) (held_consistent g m H) k j apart X (λ q. ap (λ (x : ℕ). eqb x 3) (state q)) (λ w. ap (λ (f : ℕ → _). f w) c) in
+      let law = hands_keep_the_merge g (core_at m) (core_at n) (held_consistent g m H) k j apart X (λ q. ap (λ (x : ℕ). eqb x 3) (state q))
+      (λ w. ap (λ (f : ℕ → _). f w) c) in
       let L = law.0 in let S = L.sound in
       record {
         begun = λ i l e. let old = handed_key m.lease n.lease k j X i l e in let was = H.begun old.0 l old.1 in (state l.piece ∙ was.0, was.1);
@@ -83,7 +90,8 @@ module _ (g : PieceGraph) (m n : Moment) (H : AreHeld g m) (ready : (p : ℕ) �
       let L = law.0 in let S = L.sound in
       record {
         begun = λ j l e. ⊎_elim
-            (λ y. let q : l.piece ≡ W.was.piece = sym (same_piece y.1) ∙ W.piece in (state l.piece ∙ (ap m.state q ∙ mine.0), subst (λ x. x < g.count) (sym q) mine.1))
+            (λ y. let q : l.piece ≡ W.was.piece = sym (same_piece y.1) ∙ W.piece in
+            (state l.piece ∙ (ap m.state q ∙ mine.0), subst (λ x. x < g.count) (sym q) mine.1))
             (λ y. let old = H.begun j l y.1 in (state l.piece ∙ old.0, old.1)) (changed W.leases j l e);
         leased = λ p e. let old = H.leased p (sym (state p) ∙ e) in by_equal old.0 k
             (λ q. (k, W.now, W.leases.here, W.piece ∙ (same_piece (sym W.lease ∙ (ap m.lease (sym q) ∙ old.2)) ∙ old.3)))
@@ -98,7 +106,8 @@ module _ (g : PieceGraph) (m n : Moment) (H : AreHeld g m) (ready : (p : ℕ) �
 module _ (g : PieceGraph) (h : JobGraph) (m n : Moment) (H : AreHeld g m) (k : ℕ) (B : IsBegin g h m n k) where
   begin_ended : (q : ℕ) → eqb (n.state q) 3 ≡ eqb (m.state q) 3
   begin_ended q = by_equal q B.piece
-      (λ e. ap (λ (x : ℕ). eqb (n.state x) 3) e ∙ (ap (λ (x : ℕ). eqb x 3) B.states.here ∙ (sym (ap (λ (x : ℕ). eqb x 3) B.found) ∙ ap (λ (x : ℕ). eqb (m.state x) 3) (sym e))))
+      (λ e. ap (λ (x : ℕ). eqb (n.state x) 3) e ∙ (ap (λ (x : ℕ). eqb x 3) B.states.here
+      ∙ (sym (ap (λ (x : ℕ). eqb x 3) B.found) ∙ ap (λ (x : ℕ). eqb (m.state x) 3) (sym e))))
       (λ ne. ap (λ (x : ℕ). eqb x 3) (B.states.there q ne))
 
   begin_other : (j : ℕ) (l : Lease) → m.lease j ≡ Some l → l.piece ≢ B.piece
@@ -113,7 +122,14 @@ module _ (g : PieceGraph) (h : JobGraph) (m n : Moment) (H : AreHeld g m) (k : �
   }
 
   pub begin_core : Begins g (core_at m) (core_at n) k B.piece
-  begin_core = record { free = B.free; local = B.local; local_is = B.local_is; leases = B.leases; ended = begin_ended; cells = λ w. ap (λ (f : ℕ → _). f w) B.cells }
+  begin_core = record {
+    free = B.free;
+    local = B.local;
+    local_is = B.local_is;
+    leases = B.leases;
+    ended = begin_ended;
+    cells = λ w. ap (λ (f : ℕ → _). f w) B.cells;
+  }
 
   pub held_begun : IsWellOrdered g → ((p : ℕ) → n.state p ≢ closed_state → IsReady g (core_at n).ended p) → AreHeld g n
   held_begun o ready =
@@ -135,7 +151,8 @@ module _ (g : PieceGraph) (h : JobGraph) (m n : Moment) (H : AreHeld g m) (k : �
       }
 
 -- A board's end is an end of the core. The cells already hold the local ones.
-module _ (g : PieceGraph) (m n : Moment) (o : IsWellOrdered g) (H : AreHeld g m) (k p : ℕ) (E : GivesUp g m n k p) (S : ChangesWord m.state n.state p ended_state) where
+module _ (g : PieceGraph) (m n : Moment) (o : IsWellOrdered g) (H : AreHeld g m) (k p : ℕ) (E : GivesUp g m n k p)
+    (S : ChangesWord m.state n.state p ended_state) where
   pub end_core : Ends g (core_at m) (core_at n) k
   end_core =
       let q : E.lease.piece ≡ p = E.piece in

@@ -10,7 +10,8 @@ use Rattle.merge_laws.proofs.Tests.{not_both, some_is, none_some}
 use Rattle.merge_laws.proofs.Order.{leads_ended, apart, merged_up_to, merged_same}
 
 -- a lease after a change is the changed one or one of before
-pub changed : {f h : ℕ → Option Lease} {k : ℕ} {x : Option Lease} → ChangesLease f h k x → (j : ℕ) (m : Lease) → h j ≡ Some m → ((j ≡ k) × (x ≡ Some m)) ⊎ ((j ≢ k) × (f j ≡ Some m))
+pub changed : {f h : ℕ → Option Lease} {k : ℕ} {x : Option Lease} → ChangesLease f h k x → (j : ℕ) (m : Lease) → h j ≡ Some m
+    → ((j ≡ k) × (x ≡ Some m)) ⊎ ((j ≢ k) × (f j ≡ Some m))
 changed {h = h} {k = k} ch j m e = ⊎_elim (λ q. inl (q, sym ch.here ∙ (ap h (sym q) ∙ e))) (λ n. inr (n, sym (ch.there j n) ∙ e)) (cases_eq j k)
 
 pub same_piece : {l m : Lease} → Some l ≡ Some m → l.piece ≡ m.piece
@@ -25,25 +26,30 @@ what_may_begin_is_clear g c o C p B =
     let S : IsSound g c = C.sound in
     let below = B.below in
     let unwritten : (k : ℕ) (l : Lease) (w : ℕ) → c.lease k ≡ Some l → g.reads p w ≡ true → g.writes l.piece w ≡ false = λ k l w e r. ⊎_elim
-    (λ t. absurd (not_both r (apart g c.ended S.ended_ready o l.piece p w (S.lease_below k l e) B.below (B.unleased k l e) (S.lease_ready k l e) B.ready (S.lease_unended k l e) B.unended t)))
+    (λ t. absurd (not_both r (apart g c.ended S.ended_ready o l.piece p w (S.lease_below k l e) B.below (B.unleased k l e) (S.lease_ready k l e) B.ready
+    (S.lease_unended k l e) B.unended t)))
     (λ f. f) (cases_Bool (g.writes l.piece w)) in
     record {
       unwritten = unwritten;
-      unread = λ k l w e t. apart g c.ended S.ended_ready o p l.piece w B.below (S.lease_below k l e) (λ q. B.unleased k l e (sym q)) B.ready (S.lease_ready k l e) B.unended (S.lease_unended k l e) t;
+      unread = λ k l w e t. apart g c.ended S.ended_ready o p l.piece w B.below (S.lease_below k l e) (λ q. B.unleased k l e (sym q)) B.ready
+          (S.lease_ready k l e) B.unended (S.lease_unended k l e) t;
       cells = λ w r. C.merged w (λ k l e. unwritten k l w e r) ∙ merged_up_to g w o c.ended g.count p (omega arith) (omega arith)
           (λ q lt t. leads_ended g c.ended S.ended_ready (o.conflicts_lead q p w lt B.below (inl (t, r))) B.ready)
           (λ q le lt t. ⊎_elim (λ e. ⊎_elim
           (λ i. absurd (not_both (subst (λ k. c.ended k ≡ true) i e) B.unended))
-          (λ n. absurd (not_both (leads_ended g c.ended S.ended_ready (o.conflicts_lead p q w (omega arith) lt (inr (r, t))) (S.ended_ready q e)) B.unended)) (cases_eq q p))
+          (λ n. absurd (not_both (leads_ended g c.ended S.ended_ready (o.conflicts_lead p q w (omega arith) lt (inr (r, t))) (S.ended_ready q e)) B.unended))
+          (cases_eq q p))
           (λ f. f) (cases_Bool (c.ended q)));
     }
 
 -- The premise on pieces stays where the key k gets a lease of a piece that no other key has.
 sound_with : (g : PieceGraph) (c d : Core) (k : ℕ) (now : Lease) → IsSound g c → ((q : ℕ) → d.ended q ≡ c.ended q) → ChangesLease c.lease d.lease k (Some now)
-    → now.piece < g.count → c.ended now.piece ≡ false → IsReady g c.ended now.piece → ((j : ℕ) (m : Lease) → j ≢ k → c.lease j ≡ Some m → m.piece ≢ now.piece) → IsSound g d
+    → now.piece < g.count → c.ended now.piece ≡ false → IsReady g c.ended now.piece → ((j : ℕ) (m : Lease) → j ≢ k → c.lease j ≡ Some m → m.piece ≢ now.piece)
+    → IsSound g d
 sound_with g c d k now S en ch hp ep rp un = record {
   ended_ready = λ q e r b. en r ∙ S.ended_ready q (sym (en q) ∙ e) r b;
-  lease_ready = λ j m e r b. en r ∙ ⊎_elim (λ h. rp r (subst (λ x. g.precedes r x ≡ true) (sym (same_piece h.1)) b)) (λ h. S.lease_ready j m h.1 r b) (changed ch j m e);
+  lease_ready = λ j m e r b. en r ∙ ⊎_elim (λ h. rp r (subst (λ x. g.precedes r x ≡ true) (sym (same_piece h.1)) b)) (λ h. S.lease_ready j m h.1 r b)
+      (changed ch j m e);
   lease_below = λ j m e. ⊎_elim (λ h. subst (λ x. x < g.count) (same_piece h.1) hp) (λ h. S.lease_below j m h.1) (changed ch j m e);
   lease_unended = λ j m e. en m.piece ∙ ⊎_elim (λ h. subst (λ x. c.ended x ≡ false) (same_piece h.1) ep) (λ h. S.lease_unended j m h.1) (changed ch j m e);
   lease_once = λ i j l m e f q. ⊎_elim
@@ -87,12 +93,16 @@ module _ (g : PieceGraph) (c d : Core) (o : IsWellOrdered g) (C : IsConsistent g
   stored_in_place j m u e r = ⊎_elim
       (λ h. let local : W.now.local u ≡ m.local u = ap (λ (x : Lease). x.local u) (some_is h.1) in ⊎_elim
       (λ q. ap d.cells q ∙ (W.here ∙ (sym W.local_here ∙ (ap W.now.local (sym q) ∙ local))))
-      (λ n. W.there u n ∙ (I k W.was u W.lease (subst (λ x. g.reads x u ≡ true) (sym (same_piece h.1) ∙ W.piece) r) ∙ (sym (W.local_there u n) ∙ local))) (cases_eq u w))
+      (λ n. W.there u n ∙ (I k W.was u W.lease (subst (λ x. g.reads x u ≡ true) (sym (same_piece h.1) ∙ W.piece) r) ∙ (sym (W.local_there u n) ∙ local)))
+      (cases_eq u w))
       (λ h. W.there u (λ q. not_both (subst (λ x. g.reads m.piece x ≡ true) q r)
       (leases_are_apart g c o C.sound k j w W.was m W.lease h.1 (λ i. h.0 (sym i)) W.written)) ∙ I j m u h.1 r) (changed W.leases j m e)
 
 pub stores_keep_the_merge : StoresKeepTheMerge
-stores_keep_the_merge g c d o C I k w v W = (record { sound = stored_sound g c d o C I k w W; merged = stored_merged g c d o C I k w W }, stored_in_place g c d o C I k w W)
+stores_keep_the_merge g c d o C I k w v W = (
+  record { sound = stored_sound g c d o C I k w W; merged = stored_merged g c d o C I k w W },
+  stored_in_place g c d o C I k w W,
+)
 
 module _ (g : PieceGraph) (c d : Core) (o : IsWellOrdered g) (k : ℕ) (S : IsSound g c) (E : Ends g c d k) where
   -- a lease after the end is one of before, of another piece
@@ -118,9 +128,11 @@ module _ (g : PieceGraph) (c d : Core) (o : IsWellOrdered g) (k : ℕ) (S : IsSo
   ended_value w t = let p : ℕ = E.was.piece in let hp : p < g.count = S.lease_below k E.was E.lease in
       sym (merged_up_to g w o d.ended g.count (suc p) hp (omega arith)
       (λ q lt u. ⊎_elim (λ i. ap d.ended i ∙ E.ended_here)
-      (λ n. more_ended q (leads_ended g c.ended S.ended_ready (o.conflicts_lead q p w (omega arith) hp (inl (u, o.reads_written p w hp t))) (S.lease_ready k E.was E.lease))) (cases_eq q p))
+      (λ n. more_ended q (leads_ended g c.ended S.ended_ready (o.conflicts_lead q p w (omega arith) hp (inl (u, o.reads_written p w hp t)))
+      (S.lease_ready k E.was E.lease))) (cases_eq q p))
       (λ q le lt u. ⊎_elim
-      (λ e. absurd (not_both (leads_ended g c.ended S.ended_ready (o.conflicts_lead p q w le lt (inl (t, o.reads_written q w lt u))) (S.ended_ready q e)) (S.lease_unended k E.was E.lease)))
+      (λ e. absurd (not_both (leads_ended g c.ended S.ended_ready (o.conflicts_lead p q w le lt (inl (t, o.reads_written q w lt u))) (S.ended_ready q e))
+      (S.lease_unended k E.was E.lease)))
       (λ e. E.ended_there q (λ i. let ne : q ≡ p = i in absurd (omega arith)) ∙ e) (cases_Bool (c.ended q))))
 
   ended_merged : IsMerged g c → IsMerged g d
@@ -129,7 +141,8 @@ module _ (g : PieceGraph) (c d : Core) (o : IsWellOrdered g) (k : ℕ) (S : IsSo
       (λ t. E.others w t ∙ (M w (λ j l e. ⊎_elim
       (λ q. subst (λ x. g.writes x w ≡ false) (same_piece (sym E.lease ∙ (ap c.lease (sym q) ∙ e))) t)
       (λ n. none j l (E.leases.there j n ∙ e)) (cases_eq j k))
-      ∙ merged_same g c.ended d.ended w (λ q u. sym (E.ended_there q (λ i. not_both (subst (λ x. g.writes x w ≡ true) i u) t))))) (cases_Bool (g.writes E.was.piece w))
+      ∙ merged_same g c.ended d.ended w (λ q u. sym (E.ended_there q (λ i. not_both (subst (λ x. g.writes x w ≡ true) i u) t)))))
+      (cases_Bool (g.writes E.was.piece w))
 
   ended_in_place : IsInPlace g c → IsInPlace g d
   ended_in_place I j m w e r = let was = left_over j m e in ⊎_elim
@@ -137,4 +150,7 @@ module _ (g : PieceGraph) (c d : Core) (o : IsWellOrdered g) (k : ℕ) (S : IsSo
       (λ t. E.others w t ∙ I j m w was.0 r) (cases_Bool (g.writes E.was.piece w))
 
 pub ends_keep_the_merge : EndsKeepTheMerge
-ends_keep_the_merge g c d o C k E = (record { sound = ended_sound g c d o k C.sound E; merged = ended_merged g c d o k C.sound E C.merged }, ended_in_place g c d o k C.sound E)
+ends_keep_the_merge g c d o C k E = (
+  record { sound = ended_sound g c d o k C.sound E; merged = ended_merged g c d o k C.sound E C.merged },
+  ended_in_place g c d o k C.sound E,
+)

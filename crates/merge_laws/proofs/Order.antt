@@ -35,7 +35,8 @@ module _ (g : PieceGraph) (w : ℕ) where
   pub latest_same : (f h : ℕ → Bool) → ((q : ℕ) → g.writes q w ≡ true → f q ≡ h q) → (n : ℕ) → after_latest g f w n ≡ after_latest g h w n
   latest_same f h same zero = refl
   latest_same f h same (suc n) = let r = latest_same f h same n in ⊎_elim
-      (λ t. let e = same n t in ⊎_elim (λ y. counts f n t y ∙ sym (counts h n t (sym e ∙ y))) (λ y. passes f n t y ∙ (r ∙ sym (passes h n t (sym e ∙ y)))) (cases_Bool (f n)))
+      (λ t. let e = same n t in ⊎_elim (λ y. counts f n t y ∙ sym (counts h n t (sym e ∙ y))) (λ y. passes f n t y ∙ (r ∙ sym (passes h n t (sym e ∙ y))))
+      (cases_Bool (f n)))
       (λ t. skips f n t ∙ (r ∙ sym (skips h n t))) (cases_Bool (g.writes n w))
 
   pub latest_none : (n : ℕ) → after_latest g (λ p. false) w n ≡ 0
@@ -51,7 +52,8 @@ module _ (g : PieceGraph) (w : ℕ) where
   merged_up_to o ended (suc n) p le top below above = ⊎_elim
       (λ t. ⊎_elim
       (λ e. ap (λ k. cells_before g k w) (counts ended n t (below n (omega arith) t) ∙ sym e))
-      (λ ne. ap (λ k. cells_before g k w) (passes ended n t (above n (omega arith) (omega arith) t)) ∙ merged_up_to o ended n p (omega arith) (omega arith) below above) (cases_eq p (suc n)))
+      (λ ne. ap (λ k. cells_before g k w) (passes ended n t (above n (omega arith) (omega arith) t))
+      ∙ merged_up_to o ended n p (omega arith) (omega arith) below above) (cases_eq p (suc n)))
       (λ t. ap (λ k. cells_before g k w) (skips ended n t) ∙ ⊎_elim
       (λ e. merged_up_to o ended n n (omega arith) (omega arith) (λ q h. below q (omega arith))
       (λ q h lt u. ⊎_elim (λ i. absurd (not_both (subst (λ k. g.writes k w ≡ true) i u) t)) (λ i. above q (omega arith) lt u) (cases_eq q n))

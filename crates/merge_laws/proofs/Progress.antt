@@ -21,7 +21,15 @@ first_unended ended (suc n) = ⊎_elim
 -- the first piece that isn't ended may begin, since its predecessors are earlier
 pub a_piece_may_begin : APieceMayBegin
 a_piece_may_begin g c o none = ⊎_elim inl
-    (λ t. inr (t.0, record { below = t.1; unended = t.2; unleased = λ k l e. absurd (none_some (sym (none k) ∙ e)); ready = λ q b. t.3 q (o.earlier q t.0 t.1 b) })) (first_unended c.ended g.count)
+    (λ t. inr (
+      t.0,
+      record {
+        below = t.1;
+        unended = t.2;
+        unleased = λ k l e. absurd (none_some (sym (none k) ∙ e));
+        ready = λ q b. t.3 q (o.earlier q t.0 t.1 b);
+      },
+    )) (first_unended c.ended g.count)
 
 -- LEASES OF SEATS
 
@@ -46,8 +54,10 @@ finished_below g s B k None = B
 finished_below g s B k (Some x) = λ j l e. ⊎_elim (λ y. absurd (none_some y.1)) (λ y. B j l y.1) (changed (with_lease_changes s.lease k None) j l e)
 
 after_below : (g : PieceGraph) (s : RunState) → SeatsAreBelow s → (e : Event) → IsLegal g s e → SeatsAreBelow (after g s e)
-after_below g s B (take k p) M = λ j l e. ⊎_elim (λ y. subst (λ i. i < 64) (sym y.0) M.seat_below) (λ y. B j l y.1) (changed (with_lease_changes s.lease k (Some record { piece = p; local = s.cells })) j l e)
-after_below g s B (steal k v p) M = λ j l e. ⊎_elim (λ y. subst (λ i. i < 64) (sym y.0) M.seat_below) (λ y. B j l y.1) (changed (with_lease_changes s.lease k (Some record { piece = p; local = s.cells })) j l e)
+after_below g s B (take k p) M = λ j l e. ⊎_elim (λ y. subst (λ i. i < 64) (sym y.0) M.seat_below) (λ y. B j l y.1)
+    (changed (with_lease_changes s.lease k (Some record { piece = p; local = s.cells })) j l e)
+after_below g s B (steal k v p) M = λ j l e. ⊎_elim (λ y. subst (λ i. i < 64) (sym y.0) M.seat_below) (λ y. B j l y.1)
+    (changed (with_lease_changes s.lease k (Some record { piece = p; local = s.cells })) j l e)
 after_below g s B (finish k p) M = finished_below g s B k (s.lease k)
 
 run_below : (g : PieceGraph) (s : RunState) → SeatsAreBelow s → (es : List Event) → IsLegalRun g s es → SeatsAreBelow (run g s es)
@@ -62,5 +72,6 @@ runs_can_go_on g o es h =
     ⊎_elim
     (λ none.
     let free : (k : ℕ) → s.lease k ≡ None = λ k. ⊎_elim (λ e. e) (λ t. none k (below k t.0 t.1)) (either_lease (s.lease k)) in
-    ⊎_elim inl (λ t. inr (take 0 t.0, record { may_begin = t.1; seat_below = omega arith; seat_free = free 0; segment_first = λ b. refl })) (a_piece_may_begin g (core_of s) o free))
+    ⊎_elim inl (λ t. inr (take 0 t.0, record { may_begin = t.1; seat_below = omega arith; seat_free = free 0; segment_first = λ b. refl }))
+    (a_piece_may_begin g (core_of s) o free))
     (λ t. inr (finish t.0 t.1.piece, record { local = t.1.local; lease = t.2 })) (either_seat s.lease 64)

@@ -46,7 +46,8 @@ module _ (h : JobGraph) (m : Moment) (full : HasParts h) (O : IsOpening h m) whe
       (λ p l. sym (ap (λ (b : Bool). h.is_part p j && b) (opening_unended p) ∙ and_true (h.is_part p j))) in
       let r : m.rest j ≡ L = O.rests j lt ∙ same in omega arith
 
-  opening_wait : (j : ℕ) → j < h.jobs → m.wait j ≡ (cond (is_unended (m.state (h.segment_at (h.starter j)))) 1 0 + tally (λ i. h.is_dependency i j && not (eqb (m.rest i) 0)) h.jobs) + (0 + 0)
+  opening_wait : (j : ℕ) → j < h.jobs → m.wait j ≡ (cond (is_unended (m.state (h.segment_at (h.starter j)))) 1 0 + tally
+      (λ i. h.is_dependency i j && not (eqb (m.rest i) 0)) h.jobs) + (0 + 0)
   opening_wait j lt =
       let T : ℕ = tally (λ i. h.is_dependency i j && not (eqb (m.rest i) 0)) h.jobs in
       let same : tally (λ i. h.is_dependency i j) h.jobs ≡ T = tally_same (λ i. h.is_dependency i j) (λ i. h.is_dependency i j && not (eqb (m.rest i) 0)) h.jobs
@@ -76,7 +77,8 @@ module _ (h : JobGraph) (m : Moment) (full : HasParts h) (O : IsOpening h m) whe
       next_closed = λ lt e. O.states (h.segment_at 0);
       later = λ k lt b. O.states (h.segment_at k);
     };
-    segment_duties = λ k u e a. absurd (not_both (ap (λ (x : Claims). Rattle.merge_laws.specs.Claims.has_segment_duty x.duties) (one_at_first first_claims u k e).1 ∙ a) refl);
+    segment_duties = λ k u e a. absurd (not_both (ap (λ (x : Claims). Rattle.merge_laws.specs.Claims.has_segment_duty x.duties)
+        (one_at_first first_claims u k e).1 ∙ a) refl);
   }
 
 pub new_boards_are_ruled : NewBoardsAreRuled
@@ -89,7 +91,8 @@ new_boards_are_ruled g h m full O =
         leased = λ p e. let z = O.states p in absurd (omega arith);
         once = λ j k l n e f q. absurd (no_lease j l e);
         ready = λ p z. absurd (z (O.states p));
-        merged = λ w none. O.cells w ∙ sym (ap (λ (f : ℕ → Bool). cells_before g (after_latest g f w g.count) w) none_ended ∙ ap (λ k. cells_before g k w) (latest_none g w g.count));
+        merged = λ w none. O.cells w ∙ sym (ap (λ (f : ℕ → Bool). cells_before g (after_latest g f w g.count) w) none_ended
+            ∙ ap (λ k. cells_before g k w) (latest_none g w g.count));
         in_place = λ k l w e r. absurd (no_lease k l e);
       };
       exact = subst (λ c. AreExact h m.state m.rest m.wait c) (sym O.claims) (opening_exact h m full O);
@@ -102,7 +105,8 @@ new_boards_are_ruled g h m full O =
 same_core : (g : PieceGraph) (m n : Moment) → n.state ≡ m.state → n.lease ≡ m.lease → n.cells ≡ m.cells → CoreStep g (core_at m) (core_at n)
 same_core g m n s l c = laws.stays (λ p. ap (λ (f : ℕ → ℕ). eqb (f p) 3) s) l c
 
-opened_core : (g : PieceGraph) (m n : Moment) (p : ℕ) → m.state p ≡ 0 → ChangesWord m.state n.state p 1 → n.lease ≡ m.lease → n.cells ≡ m.cells → CoreStep g (core_at m) (core_at n)
+opened_core : (g : PieceGraph) (m n : Moment) (p : ℕ) → m.state p ≡ 0 → ChangesWord m.state n.state p 1 → n.lease ≡ m.lease → n.cells ≡ m.cells
+    → CoreStep g (core_at m) (core_at n)
 opened_core g m n p z S l c = laws.stays (λ q. by_equal q p
     (λ e. ap (λ x. eqb (n.state x) 3) e ∙ (ap (λ (x : ℕ). eqb x 3) S.here ∙ (sym (ap (λ (x : ℕ). eqb x 3) z) ∙ ap (λ x. eqb (m.state x) 3) (sym e))))
     (λ ne. ap (λ (x : ℕ). eqb x 3) (S.there q ne))) l c
@@ -114,9 +118,11 @@ steps_are_core_steps g h o G T m n R (ends_part k E) = let W = E.ends in laws.en
 steps_are_core_steps g h o G T m n R (ends_segment k E) = let W = E.ends in laws.ends k (end_core g m n o R.held k (h.segment_at E.segment) E.gives_up W.states)
 steps_are_core_steps g h o G T m n R (counts k X) = same_core g m n X.core.state X.core.lease X.core.cells
 steps_are_core_steps g h o G T m n R (releases k X) = same_core g m n X.core.state X.core.lease X.core.cells
-steps_are_core_steps g h o G T m n R (opens_part k X) = let W = X.opens in let E = R.exact in opened_core g m n X.piece (E.rights_are k X.piece X.was X.claims.was W.right).0 W.states X.lease X.cells
+steps_are_core_steps g h o G T m n R (opens_part k X) = let W = X.opens in let E = R.exact in
+    opened_core g m n X.piece (E.rights_are k X.piece X.was X.claims.was W.right).0 W.states X.lease X.cells
 steps_are_core_steps g h o G T m n R (opens_segment k X) = let W = X.opens in
-    opened_core g m n (h.segment_at X.was.ended) (segment_open_closed h m.state m.rest m.wait n.state m.claims G R.exact k X.was X.now X.claims.was W) W.states X.lease X.cells
+    opened_core g m n (h.segment_at X.was.ended) (segment_open_closed h m.state m.rest m.wait n.state m.claims G R.exact k X.was X.now X.claims.was W) W.states
+    X.lease X.cells
 steps_are_core_steps g h o G T m n R (sees k X) = same_core g m n X.core.state X.core.lease X.core.cells
 steps_are_core_steps g h o G T m n R (splits X) = same_core g m n X.core.state X.core.lease X.core.cells
 steps_are_core_steps g h o G T m n R (joins k j X) = ⊎_elim (λ t. same_core g m n X.state t.1 X.cells)
@@ -126,7 +132,8 @@ same_state : (m n : Moment) → n.state ≡ m.state → (p : ℕ) → (n.state p
 same_state m n s p = inl (ap (λ (f : ℕ → ℕ). f p) s)
 
 -- one piece goes to the next state
-next_state : (m n : Moment) (q x : ℕ) → m.state q ≡ x → ChangesWord m.state n.state q (suc x) → (p : ℕ) → (n.state p ≡ m.state p) ⊎ (n.state p ≡ suc (m.state p))
+next_state : (m n : Moment) (q x : ℕ) → m.state q ≡ x → ChangesWord m.state n.state q (suc x) → (p : ℕ)
+    → (n.state p ≡ m.state p) ⊎ (n.state p ≡ suc (m.state p))
 next_state m n q x was S p = by_equal p q
     (λ e. inr (ap n.state e ∙ (S.here ∙ ap suc (sym was ∙ ap m.state (sym e)))))
     (λ ne. inl (S.there p ne))
@@ -138,7 +145,8 @@ states_go_one_by_one g h o G T m n R (ends_part k E) = let W = E.ends in next_st
 states_go_one_by_one g h o G T m n R (ends_segment k E) = let W = E.ends in next_state m n (h.segment_at E.segment) 2 W.begun W.states
 states_go_one_by_one g h o G T m n R (counts k X) = same_state m n X.core.state
 states_go_one_by_one g h o G T m n R (releases k X) = same_state m n X.core.state
-states_go_one_by_one g h o G T m n R (opens_part k X) = let W = X.opens in let E = R.exact in next_state m n X.piece 0 (E.rights_are k X.piece X.was X.claims.was W.right).0 W.states
+states_go_one_by_one g h o G T m n R (opens_part k X) = let W = X.opens in let E = R.exact in
+    next_state m n X.piece 0 (E.rights_are k X.piece X.was X.claims.was W.right).0 W.states
 states_go_one_by_one g h o G T m n R (opens_segment k X) = let W = X.opens in
     next_state m n (h.segment_at X.was.ended) 0 (segment_open_closed h m.state m.rest m.wait n.state m.claims G R.exact k X.was X.now X.claims.was W) W.states
 states_go_one_by_one g h o G T m n R (sees k X) = same_state m n X.core.state
@@ -176,7 +184,8 @@ pieces_begin_once g h o G T m n l q R j k A r B same =
 -- COUNTDOWNS
 
 same_counts : (m n : Moment) → n.rest ≡ m.rest → n.wait ≡ m.wait → (j : ℕ) → (n.rest j ≤ m.rest j) × (n.wait j ≤ m.wait j)
-same_counts m n r w j = let a : n.rest j ≡ m.rest j = ap (λ (f : ℕ → ℕ). f j) r in let b : n.wait j ≡ m.wait j = ap (λ (f : ℕ → ℕ). f j) w in (omega arith, omega arith)
+same_counts m n r w j = let a : n.rest j ≡ m.rest j = ap (λ (f : ℕ → ℕ). f j) r in let b : n.wait j ≡ m.wait j = ap (λ (f : ℕ → ℕ). f j) w in
+    (omega arith, omega arith)
 
 -- a word that falls by one
 falls_by_one : (f h : ℕ → ℕ) (i x : ℕ) → f i ≡ suc x → ChangesWord f h i x → (j : ℕ) → h j ≤ f j
@@ -189,8 +198,10 @@ step_lower g h m n (stores k X) = same_counts m n X.counts.rest X.counts.wait
 step_lower g h m n (begins k X) = same_counts m n X.counts.rest X.counts.wait
 step_lower g h m n (ends_part k X) = let U = X.gives_up in same_counts m n U.counts.rest U.counts.wait
 step_lower g h m n (ends_segment k X) = let U = X.gives_up in same_counts m n U.counts.rest U.counts.wait
-step_lower g h m n (counts k X) = λ j. let W = X.falls in let b : n.wait j ≡ m.wait j = ap (λ (f : ℕ → ℕ). f j) X.wait in (falls_by_one m.rest n.rest X.job W.remaining W.found W.rests j, omega arith)
-step_lower g h m n (releases k X) = λ j. let W = X.falls in let a : n.rest j ≡ m.rest j = ap (λ (f : ℕ → ℕ). f j) X.rest in (omega arith, falls_by_one m.wait n.wait X.job W.remaining W.found W.waits j)
+step_lower g h m n (counts k X) = λ j. let W = X.falls in let b : n.wait j ≡ m.wait j = ap (λ (f : ℕ → ℕ). f j) X.wait in
+    (falls_by_one m.rest n.rest X.job W.remaining W.found W.rests j, omega arith)
+step_lower g h m n (releases k X) = λ j. let W = X.falls in let a : n.rest j ≡ m.rest j = ap (λ (f : ℕ → ℕ). f j) X.rest in
+    (omega arith, falls_by_one m.wait n.wait X.job W.remaining W.found W.waits j)
 step_lower g h m n (opens_part k X) = same_counts m n X.counts.rest X.counts.wait
 step_lower g h m n (opens_segment k X) = same_counts m n X.counts.rest X.counts.wait
 step_lower g h m n (sees k X) = same_counts m n X.counts.rest X.counts.wait
@@ -200,7 +211,8 @@ step_lower g h m n (joins k j X) = same_counts m n X.counts.rest X.counts.wait
 pub countdowns_never_rise : CountdownsNeverRise
 countdowns_never_rise g h m n here j = (omega arith, omega arith)
 countdowns_never_rise g h m n (onward {n = l} r s) j = let a = countdowns_never_rise g h m l r j in let b = step_lower g h l n s j in
-    let r0 : l.rest j ≤ m.rest j = a.0 in let r1 : n.rest j ≤ l.rest j = b.0 in let w0 : l.wait j ≤ m.wait j = a.1 in let w1 : n.wait j ≤ l.wait j = b.1 in (omega arith, omega arith)
+    let r0 : l.rest j ≤ m.rest j = a.0 in let r1 : n.rest j ≤ l.rest j = b.0 in let w0 : l.wait j ≤ m.wait j = a.1 in let w1 : n.wait j ≤ l.wait j = b.1 in
+    (omega arith, omega arith)
 
 -- after the last release the job's `wait` is 0 for good, and who releases a job finds more
 pub rights_come_once : RightsComeOnce

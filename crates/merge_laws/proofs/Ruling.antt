@@ -37,23 +37,31 @@ unblocked_ready g h state rest wait claims T C p U q b = of_kind (T.predecessor 
 pub unblocked_pieces_are_ready : UnblockedPiecesAreReady
 unblocked_pieces_are_ready g h m T R p U q b = eq-eqb (m.state q) 3 (unblocked_ready g h m.state m.rest m.wait m.claims T R.exact p U q b)
 
-ready_all : (g : PieceGraph) (h : JobGraph) (n : Moment) → IsOf h g → AreExact h n.state n.rest n.wait n.claims → (p : ℕ) → n.state p ≢ closed_state → IsReady g (core_at n).ended p
+ready_all : (g : PieceGraph) (h : JobGraph) (n : Moment) → IsOf h g → AreExact h n.state n.rest n.wait n.claims → (p : ℕ) → n.state p ≢ closed_state
+    → IsReady g (core_at n).ended p
 ready_all g h n T C p z q b = eq-eqb (n.state q) 3 (unblocked_ready g h n.state n.rest n.wait n.claims T C p (C.unblocked p z) q b)
 
 -- EXACT
 
 -- countdowns are exact of equal words and claims
-exact_moved : (h : JobGraph) (state rest wait : ℕ → ℕ) (claims : List Claims) (n : Moment) → n.state ≡ state → n.rest ≡ rest → n.wait ≡ wait → n.claims ≡ claims → AreExact h state rest wait claims → AreExact h n.state n.rest n.wait n.claims
+exact_moved : (h : JobGraph) (state rest wait : ℕ → ℕ) (claims : List Claims) (n : Moment) → n.state ≡ state → n.rest ≡ rest → n.wait ≡ wait → n.claims ≡ claims
+    → AreExact h state rest wait claims → AreExact h n.state n.rest n.wait n.claims
 exact_moved h state rest wait claims n s r w c C = subst (λ (x : Moment). AreExact h x.state x.rest x.wait x.claims)
     (λ i. record { state = sym s i; rest = sym r i; wait = sym w i; cells = n.cells; lease = n.lease; claims = sym c i }) C
 
 -- FIRST
 
 -- who was first is still at its place, and first
-first_kept : (m n : Moment) (k : ℕ) (v w : Claims) → ChangesClaims m n k v w → (IsFirst v → IsFirst w) → (j : ℕ) (u : Claims) → slice_get m.claims j ≡ Some u → IsFirst u
+first_kept : (m n : Moment) (k : ℕ) (v w : Claims) → ChangesClaims m n k v w → (IsFirst v → IsFirst w) → (j : ℕ) (u : Claims) → slice_get m.claims j ≡ Some u
+    → IsFirst u
     → (x : Claims) × (slice_get n.claims j ≡ Some x) × IsFirst x
 first_kept m n k v w Ch keep j u e f = by_equal j k
-    (λ q. (w, ap (λ l. slice_get l j) Ch.now ∙ (ap (slice_get (slice_set m.claims k w)) q ∙ set_at m.claims k v w Ch.was), keep (subst (λ x. IsFirst x) (sym (one_at m.claims k j u v q Ch.was e)) f)))
+    (λ q. (
+      w,
+      ap (λ l. slice_get l j) Ch.now ∙ (ap (slice_get (slice_set m.claims k w)) q ∙ set_at m.claims k v w Ch.was),
+      keep
+          (subst (λ x. IsFirst x) (sym (one_at m.claims k j u v q Ch.was e)) f),
+    ))
     (λ ne. (u, ap (λ l. slice_get l j) Ch.now ∙ (set_off m.claims k j w ne ∙ e), f))
 
 -- THE STEPS
@@ -68,7 +76,8 @@ module _ (g : PieceGraph) (h : JobGraph) (o : IsWellOrdered g) (G : IsJobGraph h
   same_lease : n.lease ≡ m.lease → (k : ℕ) (l : Lease) → n.lease k ≡ Some l → (was : Lease) × (m.lease k ≡ Some was) × (l.piece ≡ was.piece)
   same_lease s k l e = (l, sym (ap (λ f. f k) s) ∙ e, refl)
 
-  same_claims : n.claims ≡ m.claims → (j : ℕ) (u : Claims) → slice_get m.claims j ≡ Some u → IsFirst u → (x : Claims) × (slice_get n.claims j ≡ Some x) × IsFirst x
+  same_claims : n.claims ≡ m.claims → (j : ℕ) (u : Claims) → slice_get m.claims j ≡ Some u → IsFirst u
+      → (x : Claims) × (slice_get n.claims j ≡ Some x) × IsFirst x
   same_claims s j u e f = (u, ap (λ l. slice_get l j) s ∙ e, f)
 
   stored_ruled : (k : ℕ) → IsStore g m n k → IsRuled g h n
@@ -77,7 +86,8 @@ module _ (g : PieceGraph) (h : JobGraph) (o : IsWellOrdered g) (G : IsJobGraph h
       let W = X.stores in record {
         held = held_stored g m n R.held (ready_all g h n T C) o k X;
         exact = C;
-        segment_leases = leases_kept (λ j l e. ⊎_elim (λ y. (W.was, ap m.lease y.0 ∙ W.lease, sym (same_piece y.1) ∙ W.piece)) (λ y. (l, y.1, refl)) (changed W.leases j l e)) (same_claims X.claims);
+        segment_leases = leases_kept (λ j l e. ⊎_elim (λ y. (W.was, ap m.lease y.0 ∙ W.lease, sym (same_piece y.1) ∙ W.piece)) (λ y. (l, y.1, refl))
+            (changed W.leases j l e)) (same_claims X.claims);
       }
 
   begun_ruled : (k : ℕ) → IsBegin g h m n k → IsRuled g h n
@@ -94,17 +104,20 @@ module _ (g : PieceGraph) (h : JobGraph) (o : IsWellOrdered g) (G : IsJobGraph h
   part_ended_ruled : (k : ℕ) → IsPartEnd g h m n k → IsRuled g h n
   part_ended_ruled k E =
       let U = E.gives_up in let W = E.ends in
-      let C : AreExact h n.state n.rest n.wait n.claims = exact_moved h n.state m.rest m.wait (slice_set m.claims k E.now) n refl U.counts.rest U.counts.wait E.claims.now
+      let C : AreExact h n.state n.rest n.wait n.claims = exact_moved h n.state m.rest m.wait
+      (slice_set m.claims k E.now) n refl U.counts.rest U.counts.wait E.claims.now
       (part_ends_stay_exact h m.state m.rest m.wait n.state m.claims G R.exact k E.piece E.job E.was E.now E.claims.was W) in record {
         held = held_ended g m n o R.held k E.piece U W.states (ready_all g h n T C);
         exact = C;
-        segment_leases = leases_kept (λ j l e. ⊎_elim (λ y. absurd (none_some y.1)) (λ y. (l, y.1, refl)) (changed U.leases j l e)) (first_kept m n k E.was E.now E.claims (still_first W.segments));
+        segment_leases = leases_kept (λ j l e. ⊎_elim (λ y. absurd (none_some y.1)) (λ y. (l, y.1, refl)) (changed U.leases j l e))
+            (first_kept m n k E.was E.now E.claims (still_first W.segments));
       }
 
   segment_ended_ruled : (k : ℕ) → IsSegmentEnd g h m n k → IsRuled g h n
   segment_ended_ruled k E =
       let U = E.gives_up in let W = E.ends in
-      let C : AreExact h n.state n.rest n.wait n.claims = exact_moved h n.state m.rest m.wait (slice_set m.claims k E.now) n refl U.counts.rest U.counts.wait E.claims.now
+      let C : AreExact h n.state n.rest n.wait n.claims = exact_moved h n.state m.rest m.wait
+      (slice_set m.claims k E.now) n refl U.counts.rest U.counts.wait E.claims.now
       (segment_ends_stay_exact h m.state m.rest m.wait n.state m.claims G R.exact k E.segment E.was E.now E.claims.was W) in record {
         held = held_ended g m n o R.held k (h.segment_at E.segment) U W.states (ready_all g h n T C);
         exact = C;
@@ -135,7 +148,8 @@ module _ (g : PieceGraph) (h : JobGraph) (o : IsWellOrdered g) (G : IsJobGraph h
   part_opened_ruled : (k : ℕ) → IsPartOpening m n k → IsRuled g h n
   part_opened_ruled k X =
       let W = X.opens in let E = R.exact in
-      let C : AreExact h n.state n.rest n.wait n.claims = exact_moved h n.state m.rest m.wait (slice_set m.claims k X.now) n refl X.counts.rest X.counts.wait X.claims.now
+      let C : AreExact h n.state n.rest n.wait n.claims = exact_moved h n.state m.rest m.wait
+      (slice_set m.claims k X.now) n refl X.counts.rest X.counts.wait X.claims.now
       (part_openings_stay_exact h m.state m.rest m.wait n.state m.claims G R.exact k X.piece X.was X.now X.claims.was W) in record {
         held = held_opened g m n R.held (ready_all g h n T C) X.piece (E.rights_are k X.piece X.was X.claims.was W.right).0 W.states X.cells X.lease;
         exact = C;
@@ -145,9 +159,11 @@ module _ (g : PieceGraph) (h : JobGraph) (o : IsWellOrdered g) (G : IsJobGraph h
   segment_opened_ruled : (k : ℕ) → IsSegmentOpening h m n k → IsRuled g h n
   segment_opened_ruled k X =
       let W = X.opens in
-      let C : AreExact h n.state n.rest n.wait n.claims = exact_moved h n.state m.rest m.wait (slice_set m.claims k X.now) n refl X.counts.rest X.counts.wait X.claims.now
+      let C : AreExact h n.state n.rest n.wait n.claims = exact_moved h n.state m.rest m.wait
+      (slice_set m.claims k X.now) n refl X.counts.rest X.counts.wait X.claims.now
       (segment_openings_stay_exact h m.state m.rest m.wait n.state m.claims G R.exact k X.was X.now X.claims.was W) in record {
-        held = held_opened g m n R.held (ready_all g h n T C) (h.segment_at X.was.ended) (segment_open_closed h m.state m.rest m.wait n.state m.claims G R.exact k X.was X.now X.claims.was W) W.states X.cells X.lease;
+        held = held_opened g m n R.held (ready_all g h n T C) (h.segment_at X.was.ended)
+            (segment_open_closed h m.state m.rest m.wait n.state m.claims G R.exact k X.was X.now X.claims.was W) W.states X.cells X.lease;
         exact = C;
         segment_leases = leases_kept (same_lease X.lease) (first_kept m n k X.was X.now X.claims (λ f. (W.number ∙ f.0, W.spent ∙ f.1)));
       }
@@ -155,7 +171,8 @@ module _ (g : PieceGraph) (h : JobGraph) (o : IsWellOrdered g) (G : IsJobGraph h
   seen_ruled : (k : ℕ) → IsLook h m n k → IsRuled g h n
   seen_ruled k X =
       let W = X.sees in let S = X.core in
-      let C : AreExact h n.state n.rest n.wait n.claims = exact_moved h m.state m.rest m.wait (slice_set m.claims k X.now) n S.state X.counts.rest X.counts.wait X.claims.now
+      let C : AreExact h n.state n.rest n.wait n.claims = exact_moved h m.state m.rest m.wait
+      (slice_set m.claims k X.now) n S.state X.counts.rest X.counts.wait X.claims.now
       (looks_stay_exact h m.state m.rest m.wait m.claims R.exact k X.job X.was X.now X.claims.was W) in record {
         held = held_same g m n R.held (ready_all g h n T C) S.state S.cells S.lease;
         exact = C;
@@ -165,7 +182,8 @@ module _ (g : PieceGraph) (h : JobGraph) (o : IsWellOrdered g) (G : IsJobGraph h
   split_ruled : IsSplit m n → IsRuled g h n
   split_ruled X =
       let S = X.core in
-      let C : AreExact h n.state n.rest n.wait n.claims = exact_moved h m.state m.rest m.wait (m.claims ++ X.new ∷ []) n S.state X.counts.rest X.counts.wait X.claims
+      let C : AreExact h n.state n.rest n.wait n.claims = exact_moved h m.state m.rest m.wait
+      (m.claims ++ X.new ∷ []) n S.state X.counts.rest X.counts.wait X.claims
       (splits_stay_exact h m.state m.rest m.wait m.claims R.exact X.new X.fresh) in record {
         held = held_same g m n R.held (ready_all g h n T C) S.state S.cells S.lease;
         exact = C;
@@ -176,18 +194,29 @@ module _ (g : PieceGraph) (h : JobGraph) (o : IsWellOrdered g) (G : IsJobGraph h
   joined_at : (k j : ℕ) (X : IsJoin m n k j) → slice_get n.claims j ≡ Some X.w
   joined_at k j X = ap (λ l. slice_get l j) X.claims ∙ joined_i m.claims j k X.u X.v X.w X.x X.apart X.at_j X.at_k
 
-  joined_stays : (k j : ℕ) (X : IsJoin m n k j) (a : ℕ) (t : Claims) → a ≢ k → slice_get m.claims a ≡ Some t → IsFirst t → (x : Claims) × (slice_get n.claims a ≡ Some x) × IsFirst x
+  joined_stays : (k j : ℕ) (X : IsJoin m n k j) (a : ℕ) (t : Claims) → a ≢ k → slice_get m.claims a ≡ Some t → IsFirst t
+      → (x : Claims) × (slice_get n.claims a ≡ Some x) × IsFirst x
   joined_stays k j X a t ne e f = by_equal a j
-      (λ s. let same : X.u ≡ t = one_at m.claims j a t X.u s X.at_j e in
-      (X.w, ap (slice_get n.claims) s ∙ joined_at k j X, first_u h m.state m.rest m.wait m.claims R.exact j k X.u X.v X.w X.x X.apart X.at_j X.at_k X.joins (subst (λ c. IsFirst c) (sym same) f)))
+      (λ s. let same : X.u ≡ t = one_at m.claims j a t X.u s X.at_j e in (
+        X.w,
+        ap (slice_get n.claims) s ∙ joined_at k j X,
+        first_u h m.state m.rest m.wait m.claims R.exact j k X.u X.v X.w X.x X.apart X.at_j X.at_k X.joins
+            (subst (λ c. IsFirst c) (sym same) f),
+      ))
       (λ ns. (t, ap (λ l. slice_get l a) X.claims ∙ (joined_off m.claims j k X.u X.v X.w X.x X.apart X.at_j X.at_k a ns ne ∙ e), f))
 
-  joined_comes : (k j : ℕ) (X : IsJoin m n k j) (t : Claims) → slice_get m.claims k ≡ Some t → IsFirst t → (a : ℕ) → a ≡ j → (x : Claims) × (slice_get n.claims a ≡ Some x) × IsFirst x
-  joined_comes k j X t e f a s = let same : t ≡ X.v = some_is (sym e ∙ X.at_k) in
-      (X.w, ap (slice_get n.claims) s ∙ joined_at k j X, first_v h m.state m.rest m.wait m.claims R.exact j k X.u X.v X.w X.x X.apart X.at_j X.at_k X.joins (subst (λ c. IsFirst c) same f))
+  joined_comes : (k j : ℕ) (X : IsJoin m n k j) (t : Claims) → slice_get m.claims k ≡ Some t → IsFirst t → (a : ℕ) → a ≡ j
+      → (x : Claims) × (slice_get n.claims a ≡ Some x) × IsFirst x
+  joined_comes k j X t e f a s = let same : t ≡ X.v = some_is (sym e ∙ X.at_k) in (
+    X.w,
+    ap (slice_get n.claims) s ∙ joined_at k j X,
+    first_v h m.state m.rest m.wait m.claims R.exact j k X.u X.v X.w X.x X.apart X.at_j X.at_k X.joins
+        (subst (λ c. IsFirst c) same f),
+  )
 
   -- so a lease of a segment, under its old key or handed over, is the first participant's
-  joined_segments : (k j : ℕ) (X : IsJoin m n k j) (a i : ℕ) (l : Lease) → n.lease a ≡ Some l → i < h.segments → l.piece ≡ h.segment_at i → (x : Claims) × (slice_get n.claims a ≡ Some x) × IsFirst x
+  joined_segments : (k j : ℕ) (X : IsJoin m n k j) (a i : ℕ) (l : Lease) → n.lease a ≡ Some l → i < h.segments → l.piece ≡ h.segment_at i
+      → (x : Claims) × (slice_get n.claims a ≡ Some x) × IsFirst x
   joined_segments k j X a i l e lt q = ⊎_elim
       (λ t. let leases : n.lease a ≡ m.lease a = ap (λ f. f a) t.1 in
       let old : m.lease a ≡ Some l = sym leases ∙ e in
@@ -199,9 +228,11 @@ module _ (g : PieceGraph) (h : JobGraph) (o : IsWellOrdered g) (G : IsJobGraph h
 
   joined_ruled : (k j : ℕ) → IsJoin m n k j → IsRuled g h n
   joined_ruled k j X =
-      let C : AreExact h n.state n.rest n.wait n.claims = exact_moved h m.state m.rest m.wait (slice_set (slice_set m.claims j X.w) k X.x) n X.state X.counts.rest X.counts.wait X.claims
+      let C : AreExact h n.state n.rest n.wait n.claims = exact_moved h m.state m.rest m.wait
+      (slice_set (slice_set m.claims j X.w) k X.x) n X.state X.counts.rest X.counts.wait X.claims
       (joins_stay_exact h m.state m.rest m.wait m.claims R.exact j k X.u X.v X.w X.x X.apart X.at_j X.at_k X.joins) in record {
-        held = ⊎_elim (λ t. held_same g m n R.held (ready_all g h n T C) X.state X.cells t.1) (λ t. held_handed g m n R.held (ready_all g h n T C) k j X.apart t X.state X.cells) X.leases;
+        held = ⊎_elim (λ t. held_same g m n R.held (ready_all g h n T C) X.state X.cells t.1)
+            (λ t. held_handed g m n R.held (ready_all g h n T C) k j X.apart t X.state X.cells) X.leases;
         exact = C;
         segment_leases = joined_segments k j X;
       }

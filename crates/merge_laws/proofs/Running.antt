@@ -37,11 +37,19 @@ take_kept g o s K k p M =
     let clear = what_may_begin_is_clear g (core_of s) o K.consistent p M.may_begin in
     let x : Option Lease = Some record { piece = p; local = s.cells } in
     let ch : ChangesLease s.lease (with_lease s.lease k x) k x = with_lease_changes s.lease k x in
-    let B : Begins g (core_of s) (core_of (taken s k p)) k p = record { free = M.seat_free; local = s.cells; local_is = clear.cells; leases = ch; ended = λ q. refl; cells = λ w. refl } in
+    let B : Begins g (core_of s) (core_of (taken s k p)) k p = record {
+      free = M.seat_free;
+      local = s.cells;
+      local_is = clear.cells;
+      leases = ch;
+      ended = λ q. refl;
+      cells = λ w. refl;
+    } in
     record {
       consistent = (begins_keep_the_merge g (core_of s) (core_of (taken s k p)) o K.consistent k p M.may_begin B).0;
       local = λ j m w e r. ⊎_elim
-          (λ h. sym (ap (λ (y : Lease). y.local w) (some_is h.1)) ∙ (clear.cells w (subst (λ y. g.reads y w ≡ true) (sym (same_piece h.1)) r) ∙ ap (λ y. cells_before g y w) (same_piece h.1)))
+          (λ h. sym (ap (λ (y : Lease). y.local w) (some_is h.1)) ∙ (clear.cells w (subst (λ y. g.reads y w ≡ true) (sym (same_piece h.1)) r)
+          ∙ ap (λ y. cells_before g y w) (same_piece h.1)))
           (λ h. K.local j m w h.1 r) (changed ch j m e);
       once = K.once;
     }
@@ -72,7 +80,8 @@ finish_kept g o s K k l e =
 after_kept : (g : PieceGraph) → IsWellOrdered g → (s : RunState) → IsKept g s → (e : Event) → IsLegal g s e → IsKept g (after g s e)
 after_kept g o s K (take k p) M = take_kept g o s K k p M
 after_kept g o s K (steal k v p) M = take_kept g o s K k p M
-after_kept g o s K (finish k p) M = subst (λ x. IsKept g (finished g s k x)) (sym M.lease) (finish_kept g o s K k (record { piece = p; local = M.local }) M.lease)
+after_kept g o s K (finish k p) M = subst (λ x. IsKept g (finished g s k x)) (sym M.lease)
+    (finish_kept g o s K k (record { piece = p; local = M.local }) M.lease)
 
 pub run_kept : (g : PieceGraph) → IsWellOrdered g → (s : RunState) → IsKept g s → (es : List Event) → IsLegalRun g s es → IsKept g (run g s es)
 run_kept g o s K [] h = K
@@ -83,7 +92,8 @@ runs_keep_the_merge g o es h = run_kept g o start (start_kept g) es h
 
 -- where all pieces are ended no lease is left, and the latest piece that writes a word is the latest of all
 pub ended_cells : (g : PieceGraph) → IsWellOrdered g → (s : RunState) → IsKept g s → IsEnded g s → (w : ℕ) → s.cells w ≡ cells_before g g.count w
-ended_cells g o s K all w = let C = K.consistent in let S = C.sound in C.merged w (λ k l e. absurd (not_both (all l.piece (S.lease_below k l e)) (S.lease_unended k l e)))
+ended_cells g o s K all w = let C = K.consistent in let S = C.sound in C.merged w
+    (λ k l e. absurd (not_both (all l.piece (S.lease_below k l e)) (S.lease_unended k l e)))
     ∙ merged_up_to g w o (core_of s).ended g.count g.count (omega arith) (omega arith) (λ q lt t. all q lt) (λ q le lt t. absurd (omega arith))
 
 pub ended_runs_are_in_script_order : EndedRunsAreInScriptOrder

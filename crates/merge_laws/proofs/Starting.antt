@@ -9,7 +9,8 @@ use Rattle.merge_laws.specs.PlanLaws.{PartsKeepOrder, JobsKeepOrder}
 use Rattle.merge_laws.proofs.Tests.{not_both, either_side, by_equal}
 use Rattle.merge_laws.proofs.Places.{leads_along, leads_on, at_new, at_old, latest_old, precedes_old, precedes_by_job, precedes_at, done_segment, done_completed, arrives}
 
-module _ (l : Ledger) (e : List Piece) (y : Piece) (L : IsLedger l) (D : AreInOrder l e) (H : HasOlderParts l e) (S : IsPartOfNewest l y) (A : IsApartFromJob l e y) where
+module _ (l : Ledger) (e : List Piece) (y : Piece) (L : IsLedger l) (D : AreInOrder l e) (H : HasOlderParts l e) (S : IsPartOfNewest l y)
+    (A : IsApartFromJob l e y) where
   old_at : (p : ℕ) → p < length e → piece_at e p ≡ piece_at (y ∷ e) p
   old_at p lt = sym (at_old y e p (λ q. absurd (omega arith)))
 
@@ -17,7 +18,8 @@ module _ (l : Ledger) (e : List Piece) (y : Piece) (L : IsLedger l) (D : AreInOr
   no_segment q = let c = S.is_job in let j = S.job in absurd (omega arith)
 
   -- A piece of a job leads to the new one where a piece of a job that depends on it does.
-  leads_over : (p q : ℕ) → p < length e → q < length e → (piece_at e p).job < (piece_at e q).job → (piece_at e p).job ≢ 0 → (piece_at e q).after (piece_at e p).job ≡ true
+  leads_over : (p q : ℕ) → p < length e → q < length e → (piece_at e p).job < (piece_at e q).job → (piece_at e p).job ≢ 0
+      → (piece_at e q).after (piece_at e p).job ≡ true
       → LeadsTo (graph_of (y ∷ e)) q (length e) → LeadsTo (graph_of (y ∷ e)) p (length e)
   leads_over p q lt le less n a r =
       let earlier : p < q = by_equal p q (λ s. let same : (piece_at e p).job ≡ (piece_at e q).job = ap (λ m. (piece_at e m).job) s in absurd (omega arith))
@@ -25,7 +27,8 @@ module _ (l : Ledger) (e : List Piece) (y : Piece) (L : IsLedger l) (D : AreInOr
       leads_on (directly (precedes_old y e p q (precedes_at e p q earlier le n a))) r
 
   -- All pieces of an ancestor of what the new piece comes after lead to it. An ancestor is older than the newest job.
-  ancestor_leads : (j : ℕ) → Ancestor l.depends y.after j → (j < l.jobs) × ((p : ℕ) → p < length e → (piece_at e p).job ≡ j → LeadsTo (graph_of (y ∷ e)) p (length e))
+  ancestor_leads : (j : ℕ) → Ancestor l.depends y.after j → (j < l.jobs) ×
+      ((p : ℕ) → p < length e → (piece_at e p).job ≡ j → LeadsTo (graph_of (y ∷ e)) p (length e))
   ancestor_leads j (own a) = (
     S.after_older j a,
     λ p lt q. by_equal (piece_at e p).job 0
@@ -37,7 +40,9 @@ module _ (l : Ledger) (e : List Piece) (y : Piece) (L : IsLedger l) (D : AreInOr
     λ p lt q.
         let part = H j (omega arith) below in
         let job : (piece_at e part.0).job ≡ j = part.2 in
-        let after : (piece_at e part.0).after (piece_at e p).job ≡ true = D.waits part.0 (piece_at e p).job part.1 (subst (λ i. l.depends i (piece_at e p).job ≡ true) (sym job) (subst (λ i. l.depends j i ≡ true) (sym q) d)) in
+        let after : (piece_at e part.0).after (piece_at e p).job ≡ true =
+        D.waits part.0 (piece_at e p).job part.1 (subst (λ i. l.depends i (piece_at e p).job ≡ true) (sym job)
+        (subst (λ i. l.depends j i ≡ true) (sym q) d)) in
         by_equal (piece_at e p).job 0
         (λ z. arrives l y e D p lt (done_segment l (piece_at e p).job z))
         (λ n. leads_over p part.0 lt part.1 (let same : (piece_at e p).job ≡ k = q in omega arith) n after (before.1 part.0 part.1 job)),
@@ -70,7 +75,8 @@ module _ (l : Ledger) (e : List Piece) (y : Piece) (L : IsLedger l) (D : AreInOr
       ⊎_elim (λ d. arrives l y e D p lt d)
       (λ v. by_equal (piece_at e p).job l.jobs
       (λ q. absurd (not_both r ((A p lt q).first w a)))
-      (λ n. free_leads p lt (S.writers_free u.container (piece_at e p).job u.live u.user (subst (λ k. l.writers k (piece_at e p).job ≡ true) (L.apart v.container u.container w v.live u.live v.word u.word) v.writer) (omega arith))))
+      (λ n. free_leads p lt (S.writers_free u.container (piece_at e p).job u.live u.user
+      (subst (λ k. l.writers k (piece_at e p).job ≡ true) (L.apart v.container u.container w v.live u.live v.word u.word) v.writer) (omega arith))))
       (D.writes_held p w lt a)
 
   reader_leads : (p w : ℕ) → p < length e → (piece_at e p).reads w ≡ true → y.writes w ≡ true → LeadsTo (graph_of (y ∷ e)) p (length e)
@@ -80,11 +86,13 @@ module _ (l : Ledger) (e : List Piece) (y : Piece) (L : IsLedger l) (D : AreInOr
       ⊎_elim (λ d. arrives l y e D p lt d)
       (λ v. by_equal (piece_at e p).job l.jobs
       (λ q. absurd (not_both a ((A p lt q).second w r)))
-      (λ n. free_leads p lt (S.users_free u.container (piece_at e p).job u.live u.writer (subst (λ k. l.users k (piece_at e p).job ≡ true) (L.apart v.container u.container w v.live u.live v.word u.word) v.user) (omega arith))))
+      (λ n. free_leads p lt (S.users_free u.container (piece_at e p).job u.live u.writer
+      (subst (λ k. l.users k (piece_at e p).job ≡ true) (L.apart v.container u.container w v.live u.live v.word u.word) v.user) (omega arith))))
       (D.reads_held p w lt a)
 
   started_leads : (p q w : ℕ) → p < q → q < suc (length e)
-      → (((piece_at (y ∷ e) p).writes w ≡ true) × ((piece_at (y ∷ e) q).reads w ≡ true)) ⊎ (((piece_at (y ∷ e) p).reads w ≡ true) × ((piece_at (y ∷ e) q).writes w ≡ true)) → LeadsTo (graph_of (y ∷ e)) p q
+      → (((piece_at (y ∷ e) p).writes w ≡ true) × ((piece_at (y ∷ e) q).reads w ≡ true))
+      ⊎ (((piece_at (y ∷ e) p).reads w ≡ true) × ((piece_at (y ∷ e) q).writes w ≡ true)) → LeadsTo (graph_of (y ∷ e)) p q
   started_leads p q w lt le c = let p_old = sym (old_at p (omega arith)) in by_equal q (length e)
       (λ s. subst (λ m. LeadsTo (graph_of (y ∷ e)) p m) (sym s) (⊎_elim
       (λ t. writer_leads p w (omega arith) (subst (λ (z : Piece). z.writes w ≡ true) p_old t.0) (of_new (λ z. z.reads w ≡ true) q s t.1))
@@ -93,7 +101,8 @@ module _ (l : Ledger) (e : List Piece) (y : Piece) (L : IsLedger l) (D : AreInOr
       (λ t. inl (subst (λ (z : Piece). z.writes w ≡ true) p_old t.0, subst (λ (z : Piece). z.reads w ≡ true) q_old t.1))
       (λ t. inr (subst (λ (z : Piece). z.reads w ≡ true) p_old t.0, subst (λ (z : Piece). z.writes w ≡ true) q_old t.1)) c)))
 
-  started_arrived : (p : ℕ) → p < suc (length e) → is_done l (piece_at (y ∷ e) p).job ≡ true → p ≡ latest_segment (y ∷ e) ⊎ LeadsTo (graph_of (y ∷ e)) p (latest_segment (y ∷ e))
+  started_arrived : (p : ℕ) → p < suc (length e) → is_done l (piece_at (y ∷ e) p).job ≡ true
+      → p ≡ latest_segment (y ∷ e) ⊎ LeadsTo (graph_of (y ∷ e)) p (latest_segment (y ∷ e))
   started_arrived p lt d = by_equal p (length e)
       (λ q. absurd (let j : (piece_at (y ∷ e) p).job ≡ l.jobs = to_new (λ z. z.job ≡ l.jobs) p q S.job in let c = S.is_job in
       ⊎_elim (λ z. let none = eqb-true (piece_at (y ∷ e) p).job 0 z in omega arith) (λ t. not_both (subst (λ i. l.completed i ≡ true) j t) S.uncompleted)
@@ -118,11 +127,14 @@ module _ (l : Ledger) (e : List Piece) (y : Piece) (L : IsLedger l) (D : AreInOr
     segment = subst (λ k. (piece_at (y ∷ e) k).job ≡ 0) (sym y_latest) (subst (λ (z : Piece). z.job ≡ 0) (old_at (latest_segment e) D.segment_below) D.segment);
     arrived = started_arrived;
     reads_held = λ p w lt. by_equal p (length e)
-        (λ q. to_new (λ z. z.reads w ≡ true → is_done l z.job ≡ true ⊎ IsUsedBy l z.job w) p q (λ r. inr (subst (λ j. IsUsedBy l j w) (sym S.job) (S.reads w r))))
+        (λ q. to_new (λ z. z.reads w ≡ true → is_done l z.job ≡ true ⊎ IsUsedBy l z.job w) p q
+        (λ r. inr (subst (λ j. IsUsedBy l j w) (sym S.job) (S.reads w r))))
         (λ n. subst (λ (z : Piece). z.reads w ≡ true → is_done l z.job ≡ true ⊎ IsUsedBy l z.job w) (old_at p (omega arith)) (D.reads_held p w (omega arith)));
     writes_held = λ p w lt. by_equal p (length e)
-        (λ q. to_new (λ z. z.writes w ≡ true → is_done l z.job ≡ true ⊎ IsWrittenBy l z.job w) p q (λ r. inr (subst (λ j. IsWrittenBy l j w) (sym S.job) (S.writes w r))))
-        (λ n. subst (λ (z : Piece). z.writes w ≡ true → is_done l z.job ≡ true ⊎ IsWrittenBy l z.job w) (old_at p (omega arith)) (D.writes_held p w (omega arith)));
+        (λ q. to_new (λ z. z.writes w ≡ true → is_done l z.job ≡ true ⊎ IsWrittenBy l z.job w) p q
+        (λ r. inr (subst (λ j. IsWrittenBy l j w) (sym S.job) (S.writes w r))))
+        (λ n. subst (λ (z : Piece). z.writes w ≡ true → is_done l z.job ≡ true ⊎ IsWrittenBy l z.job w) (old_at p (omega arith))
+        (D.writes_held p w (omega arith)));
     reads_written = λ p w. by_equal p (length e)
         (λ q. to_new (λ z. z.writes w ≡ true → z.reads w ≡ true) p q (S.reads_written w))
         (λ n. subst (λ (z : Piece). z.writes w ≡ true → z.reads w ≡ true) (sym (at_old y e p n)) (D.reads_written p w));
@@ -135,19 +147,27 @@ parts_keep_order l e y L D H S A = started l e y L D H S A
 -- ALL PIECES OF A JOB
 
 pub parts_old : (l : Ledger) (x : Piece) (e : List Piece) → HasOlderParts l e → HasOlderParts l (x ∷ e)
-parts_old l x e H j low lt = let h = H j low lt in let below = h.1 in (h.0, omega arith, ap (λ (z : Piece). z.job) (at_old x e h.0 (λ q. absurd (omega arith))) ∙ h.2)
+parts_old l x e H j low lt = let h = H j low lt in let below = h.1 in (
+  h.0,
+  omega arith,
+  ap (λ (z : Piece). z.job) (at_old x e h.0 (λ q. absurd (omega arith)))
+      ∙ h.2,
+)
 
 parts_on : (l : Ledger) (ys e : List Piece) → HasOlderParts l e → HasOlderParts l (ys ++ e)
 parts_on l [] e H = H
 parts_on l (y ∷ ys) e H = parts_old l y (ys ++ e) (parts_on l ys e H)
 
 -- a listed piece of the newest job is one of those before
-apart_at : (l : Ledger) (e ys : List Piece) (y : Piece) → ((p : ℕ) → p < length e → (piece_at e p).job < l.jobs) → IsApartFrom y ys → IsApartFromJob l (ys ++ e) y
+apart_at : (l : Ledger) (e ys : List Piece) (y : Piece) → ((p : ℕ) → p < length e → (piece_at e p).job < l.jobs) → IsApartFrom y ys
+    → IsApartFromJob l (ys ++ e) y
 apart_at l e [] y low A p lt q = let h = low p lt in absurd (omega arith)
 apart_at l e (x ∷ xs) y low A p lt q = by_equal p (length (xs ++ e))
     (λ s. subst (λ z. AreApart z y) (sym (ap (λ k. piece_at (x ∷ (xs ++ e)) k) s ∙ at_new x (xs ++ e))) A.0)
-    (λ n. subst (λ z. AreApart z y) (sym (at_old x (xs ++ e) p n)) (apart_at l e xs y low A.1 p (omega arith) (subst (λ (z : Piece). z.job ≡ l.jobs) (at_old x (xs ++ e) p n) q)))
+    (λ n. subst (λ z. AreApart z y) (sym (at_old x (xs ++ e) p n)) (apart_at l e xs y low A.1 p (omega arith)
+    (subst (λ (z : Piece). z.job ≡ l.jobs) (at_old x (xs ++ e) p n) q)))
 
 pub jobs_keep_order : JobsKeepOrder
 jobs_keep_order l e [] L D H low A = D
-jobs_keep_order l e (y ∷ ys) L D H low A = parts_keep_order l (ys ++ e) y L (jobs_keep_order l e ys L D H low A.2) (parts_on l ys e H) A.0 (apart_at l e ys y low A.1)
+jobs_keep_order l e (y ∷ ys) L D H low A = parts_keep_order l (ys ++ e) y L (jobs_keep_order l e ys L D H low A.2) (parts_on l ys e H) A.0
+    (apart_at l e ys y low A.1)

@@ -40,12 +40,14 @@ tally_none f (suc n) z i lt = ⊎_elim
 -- SUMS
 
 -- one participant's part of the sum changes
-pub total_set : (f : Claims → ℕ) (claims : List Claims) (k : ℕ) (v w : Claims) → slice_get claims k ≡ Some v → total f (slice_set claims k w) + f v ≡ total f claims + f w
+pub total_set : (f : Claims → ℕ) (claims : List Claims) (k : ℕ) (v w : Claims) → slice_get claims k ≡ Some v
+    → total f (slice_set claims k w) + f v ≡ total f claims + f w
 total_set f [] k v w e = absurd (none_some e)
 total_set f (x ∷ xs) zero v w e = let same : f x ≡ f v = ap f (some_is e) in omega arith
 total_set f (x ∷ xs) (suc k) v w e = let r = total_set f xs k v w e in omega arith
 
-pub total_same : (f : Claims → ℕ) (claims : List Claims) (k : ℕ) (v w : Claims) → slice_get claims k ≡ Some v → f w ≡ f v → total f (slice_set claims k w) ≡ total f claims
+pub total_same : (f : Claims → ℕ) (claims : List Claims) (k : ℕ) (v w : Claims) → slice_get claims k ≡ Some v → f w ≡ f v
+    → total f (slice_set claims k w) ≡ total f claims
 total_same f claims k v w e same = let r = total_set f claims k v w e in omega arith
 
 -- a participant more, who adds nothing
@@ -64,7 +66,8 @@ duty_passes d ds j n = not_chosen d.job j (suc (duties_on j ds)) (duties_on j ds
 pub duties_append : (j : ℕ) (a b : List Duty) → duties_on j (a ++ b) ≡ duties_on j a + duties_on j b
 duties_append j [] b = omega arith
 duties_append j (d ∷ ds) b = let r = duties_append j ds b in by_equal d.job j
-    (λ q. duty_counts d (ds ++ b) j q ∙ (let s : suc (duties_on j (ds ++ b)) ≡ suc (duties_on j ds) + duties_on j b = omega arith in s ∙ ap (λ m. m + duties_on j b) (sym (duty_counts d ds j q))))
+    (λ q. duty_counts d (ds ++ b) j q ∙ (let s : suc (duties_on j (ds ++ b)) ≡ suc (duties_on j ds) + duties_on j b = omega arith in
+    s ∙ ap (λ m. m + duties_on j b) (sym (duty_counts d ds j q))))
     (λ n. duty_passes d (ds ++ b) j n ∙ (r ∙ ap (λ m. m + duties_on j b) (sym (duty_passes d ds j n))))
 
 module _ (from : Predecessor) (test : ℕ → Bool) where
@@ -78,14 +81,16 @@ module _ (from : Predecessor) (test : ℕ → Bool) where
   pub duties_from-none : (n j : ℕ) → (n ≤ j) ⊎ (test j ≡ false) → duties_on j (duties_from from test n) ≡ 0
   duties_from-none zero j out = refl
   duties_from-none (suc n) j out = let r = duties_from-none n j (⊎_elim (λ l. inl (omega arith)) inr out) in ⊎_elim
-      (λ t. ap (duties_on j) (takes_on n t) ∙ (duty_passes (record { predecessor = from; job = n }) (duties_from from test n) j (λ e. ⊎_elim (λ l. omega arith) (λ u. not_both (ap test (sym e) ∙ t) u) out) ∙ r))
+      (λ t. ap (duties_on j) (takes_on n t) ∙ (duty_passes (record { predecessor = from; job = n }) (duties_from from test n) j
+      (λ e. ⊎_elim (λ l. omega arith) (λ u. not_both (ap test (sym e) ∙ t) u) out) ∙ r))
       (λ t. ap (duties_on j) (passes_by n t) ∙ r) (cases_Bool (test n))
 
   -- one on each job that passes
   pub duties_from-one : (n j : ℕ) → j < n → test j ≡ true → duties_on j (duties_from from test n) ≡ 1
   duties_from-one zero j lt u = absurd (omega arith)
   duties_from-one (suc n) j lt u = by_equal n j
-      (λ e. ap (duties_on j) (takes_on n (ap test e ∙ u)) ∙ (duty_counts (record { predecessor = from; job = n }) (duties_from from test n) j e ∙ ap suc (duties_from-none n j (inl (omega arith)))))
+      (λ e. ap (duties_on j) (takes_on n (ap test e ∙ u)) ∙ (duty_counts (record { predecessor = from; job = n }) (duties_from from test n) j e
+      ∙ ap suc (duties_from-none n j (inl (omega arith)))))
       (λ ne. let r = duties_from-one n j (omega arith) u in ⊎_elim
       (λ t. ap (duties_on j) (takes_on n t) ∙ (duty_passes (record { predecessor = from; job = n }) (duties_from from test n) j ne ∙ r))
       (λ t. ap (duties_on j) (passes_by n t) ∙ r) (cases_Bool (test n)))
@@ -123,10 +128,12 @@ without_duty-there i j (d ∷ ds) ne = by_equal d.job j
 pub without_duty-segments : (j : ℕ) (ds : List Duty) → has_segment_duty (without_duty j ds) ≡ true → has_segment_duty ds ≡ true
 without_duty-segments j [] e = e
 without_duty-segments j (d ∷ ds) e = by_equal d.job j
-    (λ q. Rattle.std.proofs.lemmas.Bool.or_right (is_of_segment d.predecessor) (has_segment_duty ds) (sym (ap has_segment_duty (chosen d.job j ds (d ∷ without_duty j ds) q)) ∙ e))
+    (λ q. Rattle.std.proofs.lemmas.Bool.or_right (is_of_segment d.predecessor) (has_segment_duty ds)
+    (sym (ap has_segment_duty (chosen d.job j ds (d ∷ without_duty j ds) q)) ∙ e))
     (λ n. ⊎_elim (λ t. Rattle.std.proofs.lemmas.Bool.or_left (is_of_segment d.predecessor) (has_segment_duty ds) t)
     (λ t. Rattle.std.proofs.lemmas.Bool.or_right (is_of_segment d.predecessor) (has_segment_duty ds) (without_duty-segments j ds t))
-    (Rattle.std.proofs.lemmas.Bool.or_cases (is_of_segment d.predecessor) (has_segment_duty (without_duty j ds)) (sym (ap has_segment_duty (not_chosen d.job j ds (d ∷ without_duty j ds) n)) ∙ e)))
+    (Rattle.std.proofs.lemmas.Bool.or_cases (is_of_segment d.predecessor) (has_segment_duty (without_duty j ds))
+    (sym (ap has_segment_duty (not_chosen d.job j ds (d ∷ without_duty j ds) n)) ∙ e)))
 
 -- RIGHTS OF LISTS
 
@@ -148,16 +155,19 @@ numbers_come test (suc n) p qs lt t = let with_n : List ℕ = n ∷ numbers_of t
 pub numbers_stay : (test : ℕ → Bool) (n p : ℕ) (qs : List ℕ) → has p qs ≡ true → has p (numbers_of test n ++ qs) ≡ true
 numbers_stay test zero p qs e = e
 numbers_stay test (suc n) p qs e = let with_n : List ℕ = n ∷ numbers_of test n in let r = numbers_stay test n p qs e in ⊎_elim
-    (λ u. ap (λ (l : List ℕ). has p (l ++ qs)) (cond-true (test n) with_n (numbers_of test n) u) ∙ Rattle.std.proofs.lemmas.Bool.or_right (eqb p n) (has p (numbers_of test n ++ qs)) r)
+    (λ u. ap (λ (l : List ℕ). has p (l ++ qs)) (cond-true (test n) with_n (numbers_of test n) u)
+    ∙ Rattle.std.proofs.lemmas.Bool.or_right (eqb p n) (has p (numbers_of test n ++ qs)) r)
     (λ u. ap (λ (l : List ℕ). has p (l ++ qs)) (cond-false (test n) with_n (numbers_of test n) u) ∙ r) (cases_Bool (test n))
 
 pub numbers_only : (test : ℕ → Bool) (n p : ℕ) (qs : List ℕ) → has p (numbers_of test n ++ qs) ≡ true → (has p qs ≡ true) ⊎ ((p < n) × (test p ≡ true))
 numbers_only test zero p qs e = inl e
 numbers_only test (suc n) p qs e = let with_n : List ℕ = n ∷ numbers_of test n in
-    let later : (has p (numbers_of test n ++ qs) ≡ true) → (has p qs ≡ true) ⊎ ((p < suc n) × (test p ≡ true)) = λ t. ⊎_elim inl (λ r. let lt = r.0 in inr (omega arith, r.1)) (numbers_only test n p qs t) in ⊎_elim
+    let later : (has p (numbers_of test n ++ qs) ≡ true) → (has p qs ≡ true) ⊎ ((p < suc n) × (test p ≡ true)) =
+    λ t. ⊎_elim inl (λ r. let lt = r.0 in inr (omega arith, r.1)) (numbers_only test n p qs t) in ⊎_elim
     (λ u. by_equal p n
     (λ q. inr (omega arith, ap test q ∙ u))
-    (λ ne. later (sym (has_there p n (numbers_of test n ++ qs) ne) ∙ (sym (ap (λ (l : List ℕ). has p (l ++ qs)) (cond-true (test n) with_n (numbers_of test n) u)) ∙ e))))
+    (λ ne. later (sym (has_there p n (numbers_of test n ++ qs) ne) ∙ (sym
+    (ap (λ (l : List ℕ). has p (l ++ qs)) (cond-true (test n) with_n (numbers_of test n) u)) ∙ e))))
     (λ u. later (sym (ap (λ (l : List ℕ). has p (l ++ qs)) (cond-false (test n) with_n (numbers_of test n) u)) ∙ e)) (cases_Bool (test n))
 
 pub without_number-here : (p : ℕ) (qs : List ℕ) → has p (without_number p qs) ≡ false
@@ -169,5 +179,6 @@ without_number-here p (q ∷ qs) = by_equal p q
 pub without_number-there : (p i : ℕ) (qs : List ℕ) → i ≢ p → has i (without_number p qs) ≡ has i qs
 without_number-there p i [] ne = refl
 without_number-there p i (q ∷ qs) ne = by_equal p q
-    (λ e. ap (has i) (chosen p q (without_number p qs) (q ∷ without_number p qs) e) ∙ (without_number-there p i qs ne ∙ sym (has_there i q qs (λ x. ne (x ∙ sym e)))))
+    (λ e. ap (has i) (chosen p q (without_number p qs) (q ∷ without_number p qs) e)
+    ∙ (without_number-there p i qs ne ∙ sym (has_there i q qs (λ x. ne (x ∙ sym e)))))
     (λ n. ap (has i) (not_chosen p q (without_number p qs) (q ∷ without_number p qs) n) ∙ ap (λ (b : Bool). eqb i q || b) (without_number-there p i qs ne))

@@ -15,16 +15,19 @@ module _ (l : Ledger) (x y : Piece) (e : List Piece) (L : IsLedger l) (D : AreIn
 
   same_job : (p : ℕ) → (piece_at (x ∷ e) p).job ≡ (piece_at (y ∷ e) p).job
   same_job p = by_equal p (length e)
-      (λ q. subst (λ k. (piece_at (x ∷ e) k).job ≡ (piece_at (y ∷ e) k).job) (sym q) (ap (λ (z : Piece). z.job) (at_new x e) ∙ (sym T.job ∙ ap (λ (z : Piece). z.job) (sym (at_new y e)))))
+      (λ q. subst (λ k. (piece_at (x ∷ e) k).job ≡ (piece_at (y ∷ e) k).job) (sym q)
+      (ap (λ (z : Piece). z.job) (at_new x e) ∙ (sym T.job ∙ ap (λ (z : Piece). z.job) (sym (at_new y e)))))
       (λ n. ap (λ (z : Piece). z.job) (same_at p n))
 
   same_after : (p k : ℕ) → (piece_at (x ∷ e) p).after k ≡ (piece_at (y ∷ e) p).after k
   same_after p k = by_equal p (length e)
-      (λ q. subst (λ m. (piece_at (x ∷ e) m).after k ≡ (piece_at (y ∷ e) m).after k) (sym q) (ap (λ (z : Piece). z.after k) (at_new x e) ∙ (sym (T.after k) ∙ ap (λ (z : Piece). z.after k) (sym (at_new y e)))))
+      (λ q. subst (λ m. (piece_at (x ∷ e) m).after k ≡ (piece_at (y ∷ e) m).after k) (sym q)
+      (ap (λ (z : Piece). z.after k) (at_new x e) ∙ (sym (T.after k) ∙ ap (λ (z : Piece). z.after k) (sym (at_new y e)))))
       (λ n. ap (λ (z : Piece). z.after k) (same_at p n))
 
   same_precedes : (q p : ℕ) → precedes_in (x ∷ e) q p ≡ true → precedes_in (y ∷ e) q p ≡ true
-  same_precedes q p b = ap (λ (a : Bool). cond (eqb p (length e)) (ltb q (length e) && (eqb q (latest_segment e) || (not (eqb (piece_at e q).job 0) && a))) (precedes_in e q p)) (T.after (piece_at e q).job) ∙ b
+  same_precedes q p b = ap (λ (a : Bool). cond (eqb p (length e)) (ltb q (length e) && (eqb q (latest_segment e) || (not (eqb (piece_at e q).job 0) && a)))
+      (precedes_in e q p)) (T.after (piece_at e q).job) ∙ b
 
   x_latest : latest_segment (x ∷ e) ≡ length e
   x_latest = latest_new x e T.segment
@@ -61,7 +64,8 @@ module _ (l : Ledger) (x y : Piece) (e : List Piece) (L : IsLedger l) (D : AreIn
       (λ old. keeps_leads (D.conflicts_lead p (length e) w lt (omega arith) (inl (a', x_here (λ z. z.reads w ≡ true) old))))
       (λ c. ⊎_elim (λ d. arrives_here p lt d)
       (λ u. arrives_here p lt (done_completed l (piece_at (x ∷ e) p).job
-      (c.completed (piece_at (x ∷ e) p).job (subst (λ k. l.writers k (piece_at (x ∷ e) p).job ≡ true) (L.apart u.container c.container w u.live c.live u.word c.word) u.writer))))
+      (c.completed (piece_at (x ∷ e) p).job (subst (λ k. l.writers k (piece_at (x ∷ e) p).job ≡ true)
+      (L.apart u.container c.container w u.live c.live u.word c.word) u.writer))))
       (D.writes_held p w (omega arith) a')) (T.reads w r)
 
   reader_leads : (p w : ℕ) → p < length e → (piece_at (y ∷ e) p).reads w ≡ true → y.writes w ≡ true → LeadsTo (graph_of (y ∷ e)) p (length e)
@@ -71,11 +75,13 @@ module _ (l : Ledger) (x y : Piece) (e : List Piece) (L : IsLedger l) (D : AreIn
       (λ old. keeps_leads (D.conflicts_lead p (length e) w lt (omega arith) (inr (a', x_here (λ z. z.writes w ≡ true) old))))
       (λ c. ⊎_elim (λ d. arrives_here p lt d)
       (λ u. arrives_here p lt (done_completed l (piece_at (x ∷ e) p).job
-      (c.completed (piece_at (x ∷ e) p).job (subst (λ k. l.users k (piece_at (x ∷ e) p).job ≡ true) (L.apart u.container c.container w u.live c.live u.word c.word) u.user))))
+      (c.completed (piece_at (x ∷ e) p).job (subst (λ k. l.users k (piece_at (x ∷ e) p).job ≡ true)
+      (L.apart u.container c.container w u.live c.live u.word c.word) u.user))))
       (D.reads_held p w (omega arith) a')) (T.writes w r)
 
   touched_leads : (p q w : ℕ) → p < q → q < suc (length e)
-      → (((piece_at (y ∷ e) p).writes w ≡ true) × ((piece_at (y ∷ e) q).reads w ≡ true)) ⊎ (((piece_at (y ∷ e) p).reads w ≡ true) × ((piece_at (y ∷ e) q).writes w ≡ true)) → LeadsTo (graph_of (y ∷ e)) p q
+      → (((piece_at (y ∷ e) p).writes w ≡ true) × ((piece_at (y ∷ e) q).reads w ≡ true))
+      ⊎ (((piece_at (y ∷ e) p).reads w ≡ true) × ((piece_at (y ∷ e) q).writes w ≡ true)) → LeadsTo (graph_of (y ∷ e)) p q
   touched_leads p q w lt le c = by_equal q (length e)
       (λ s. subst (λ m. LeadsTo (graph_of (y ∷ e)) p m) (sym s) (⊎_elim
       (λ t. writer_leads p w (omega arith) t.0 (y_here (λ z. z.reads w ≡ true) (subst (λ m. (piece_at (y ∷ e) m).reads w ≡ true) s t.1)))
@@ -87,11 +93,13 @@ module _ (l : Ledger) (x y : Piece) (e : List Piece) (L : IsLedger l) (D : AreIn
   touched : AreInOrder l (y ∷ e)
   touched = record {
     known = λ p lt. subst (λ j. j ≤ l.jobs) (same_job p) (D.known p lt);
-    rising = λ p q lt le. subst (λ j. j ≡ 0 ⊎ (piece_at (y ∷ e) p).job ≤ j) (same_job q) (subst (λ j. (piece_at (x ∷ e) q).job ≡ 0 ⊎ j ≤ (piece_at (x ∷ e) q).job) (same_job p) (D.rising p q lt le));
+    rising = λ p q lt le. subst (λ j. j ≡ 0 ⊎ (piece_at (y ∷ e) p).job ≤ j) (same_job q)
+        (subst (λ j. (piece_at (x ∷ e) q).job ≡ 0 ⊎ j ≤ (piece_at (x ∷ e) q).job) (same_job p) (D.rising p q lt le));
     waits = λ p k lt d. sym (same_after p k) ∙ D.waits p k lt (subst (λ j. l.depends j k ≡ true) (sym (same_job p)) d);
     segment_below = subst (λ k. k < suc (length e)) (sym y_latest) (omega arith);
     segment = y_segment_at (latest_segment (y ∷ e)) y_latest;
-    arrived = λ p lt d. ⊎_elim (λ q. inl (q ∙ (x_latest ∙ sym y_latest))) (λ r. inr (subst (λ k. LeadsTo (graph_of (y ∷ e)) p k) (x_latest ∙ sym y_latest) (keeps_leads r)))
+    arrived = λ p lt d. ⊎_elim (λ q. inl (q ∙ (x_latest ∙ sym y_latest)))
+        (λ r. inr (subst (λ k. LeadsTo (graph_of (y ∷ e)) p k) (x_latest ∙ sym y_latest) (keeps_leads r)))
         (D.arrived p lt (subst (λ j. is_done l j ≡ true) (sym (same_job p)) d));
     reads_held = λ p w lt r. by_equal p (length e)
         (λ q. inl (done_segment l (piece_at (y ∷ e) p).job (y_segment_at p q)))

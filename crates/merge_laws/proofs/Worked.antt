@@ -67,13 +67,18 @@ diamond_well_ordered = record {
   conflicts_lead = leads;
   writes_only = λ p w lt f. cond-false (diamond_writes p w) (diamond_value p (cells_before diamond p)) (cells_before diamond p w) f;
   reads_only = λ p c lt same w t. cond-true (diamond_writes p w) (diamond_value p c) (c w) t
-      ∙ (same_value p c (cells_before diamond p) lt same ∙ sym (cond-true (diamond_writes p w) (diamond_value p (cells_before diamond p)) (cells_before diamond p w) t));
+      ∙ (same_value p c (cells_before diamond p) lt same ∙ sym (cond-true (diamond_writes p w) (diamond_value p (cells_before diamond p))
+      (cells_before diamond p w) t));
 }
 
 -- ITS JOB
 
 pub part_is : (p j : ℕ) → ((eqb p 1 || eqb p 2) && eqb j 0) ≡ true → ((p ≡ 1) ⊎ (p ≡ 2)) × (j ≡ 0)
-part_is p j t = let a = and_parts (eqb p 1 || eqb p 2) (eqb j 0) t in (⊎_elim (λ e. inl (eqb-true p 1 e)) (λ e. inr (eqb-true p 2 e)) (or_cases (eqb p 1) (eqb p 2) a.0), eqb-true j 0 a.1)
+part_is p j t = let a = and_parts (eqb p 1 || eqb p 2) (eqb j 0) t in (
+  ⊎_elim (λ e. inl (eqb-true p 1 e)) (λ e. inr (eqb-true p 2 e))
+      (or_cases (eqb p 1) (eqb p 2) a.0),
+  eqb-true j 0 a.1,
+)
 
 no_part : (k j : ℕ) → k < 2 → ((eqb (cond (eqb k 0) 0 3) 1 || eqb (cond (eqb k 0) 0 3) 2) && eqb j 0) ≡ false
 no_part zero j lt = refl

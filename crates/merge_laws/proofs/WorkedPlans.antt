@@ -49,7 +49,8 @@ user_is c j u = let a = and_parts (eqb c 0) (eqb j 1 && true) u in (eqb-true c 0
 
 -- the segment at hand makes a container, of which nobody is a pending user
 makes : (jobs : ℕ) (completed : Bool) (live : ℕ → Bool) (after : Jobs) (value : Cells → ℤ) (c : ℕ) → live c ≡ true
-    → ((j : ℕ) → (ledger jobs completed live).users c j ≡ true → (completed && eqb j 1) ≡ true) → DoesMore (ledger jobs completed live) (idle after) (giving 0 after value)
+    → ((j : ℕ) → (ledger jobs completed live).users c j ≡ true → (completed && eqb j 1) ≡ true)
+    → DoesMore (ledger jobs completed live) (idle after) (giving 0 after value)
 makes jobs completed live after value c alive done = record {
   segment = refl;
   job = refl;
@@ -91,7 +92,8 @@ job_part = record {
 }
 
 started : AreInOrder with_job (giving 1 no_job (λ c. c 0 +ℤ pos 1) ∷ giving 0 no_job (λ c. pos 7) ∷ [])
-started = parts_keep_order with_job (giving 0 no_job (λ c. pos 7) ∷ []) (giving 1 no_job (λ c. c 0 +ℤ pos 1)) job_ledger enrolled (λ j low lt. absurd (omega arith)) job_part
+started = parts_keep_order with_job (giving 0 no_job (λ c. pos 7) ∷ []) (giving 1 no_job (λ c. c 0 +ℤ pos 1)) job_ledger enrolled
+    (λ j low lt. absurd (omega arith)) job_part
     (λ p lt q. absurd (first_only p lt q))
   where
     first_only : (p : ℕ) → p < 1 → (cond (eqb p 0) (giving 0 no_job (λ c. pos 7)) (Rattle.merge_laws.specs.Pieces.no_piece)).job ≡ 1 → ⊥
@@ -99,25 +101,28 @@ started = parts_keep_order with_job (giving 0 no_job (λ c. pos 7) ∷ []) (givi
     first_only (suc p) lt q = omega arith
 
 completed : AreInOrder with_job_completed (idle only_1 ∷ giving 1 no_job (λ c. c 0 +ℤ pos 1) ∷ giving 0 no_job (λ c. pos 7) ∷ [])
-completed = new_segments_keep_order with_job with_job_completed (giving 1 no_job (λ c. c 0 +ℤ pos 1) ∷ giving 0 no_job (λ c. pos 7) ∷ []) (idle only_1) started (record {
-  segment = refl;
-  reads = λ w. refl;
-  writes = λ w. refl;
-  jobs = refl;
-  depends = λ j k d. d;
-  no_depends = λ k. refl;
-  completed = λ j c. inr c;
-  still_completed = λ j c. absurd (not_both c refl);
-  live = λ c. refl;
-  words = λ c w. refl;
-  users = λ c j. refl;
-  writers = λ c j. refl;
-})
+completed = new_segments_keep_order with_job with_job_completed (giving 1 no_job (λ c. c 0 +ℤ pos 1) ∷ giving 0 no_job (λ c. pos 7) ∷ []) (idle only_1) started
+    (record {
+      segment = refl;
+      reads = λ w. refl;
+      writes = λ w. refl;
+      jobs = refl;
+      depends = λ j k d. d;
+      no_depends = λ k. refl;
+      completed = λ j c. inr c;
+      still_completed = λ j c. absurd (not_both c refl);
+      live = λ c. refl;
+      words = λ c w. refl;
+      users = λ c j. refl;
+      writers = λ c j. refl;
+    })
 
 -- the words of container 0 come back, since its user is completed, and container 1 gets them
 made_1 : AreInOrder with_container_1 reusing
-made_1 = segments_keep_order with_container_1 (idle only_1) (giving 0 only_1 (λ c. pos 0)) (giving 1 no_job (λ c. c 0 +ℤ pos 1) ∷ giving 0 no_job (λ c. pos 7) ∷ []) last_ledger
-    (ledgers_keep_order with_job_completed with_container_1 (idle only_1 ∷ giving 1 no_job (λ c. c 0 +ℤ pos 1) ∷ giving 0 no_job (λ c. pos 7) ∷ []) completed_ledger completed (record {
+made_1 = segments_keep_order with_container_1 (idle only_1) (giving 0 only_1 (λ c. pos 0))
+    (giving 1 no_job (λ c. c 0 +ℤ pos 1) ∷ giving 0 no_job (λ c. pos 7) ∷ []) last_ledger
+    (ledgers_keep_order with_job_completed with_container_1 (idle only_1 ∷ giving 1 no_job (λ c. c 0 +ℤ pos 1) ∷ giving 0 no_job (λ c. pos 7)
+    ∷ []) completed_ledger completed (record {
       jobs = omega arith;
       depends = λ j k le d. d;
       completed = λ j. refl;
@@ -126,7 +131,8 @@ made_1 = segments_keep_order with_container_1 (idle only_1) (giving 0 only_1 (λ
     (makes 1 true (λ c. eqb c 1) only_1 (λ c. pos 0) 1 refl (λ j u. absurd (not_both u refl)))
 
 -- a piece that gives word 0 a value of what it reads is framed
-framed : (job : ℕ) (after : Jobs) (value : Cells → ℤ) (before : Cells) → ((c : Cells) → c 0 ≡ before 0 → value c ≡ value before) → IsFramed (giving job after value) before
+framed : (job : ℕ) (after : Jobs) (value : Cells → ℤ) (before : Cells) → ((c : Cells) → c 0 ≡ before 0 → value c ≡ value before)
+    → IsFramed (giving job after value) before
 framed job after value before same = record {
   written = λ c h w t. cond-true (eqb w 0) (value c) (c w) t ∙ (same c (h 0 refl) ∙ sym (cond-true (eqb w 0) (value before) (before w) t));
   kept = λ c h w f. cond-false (eqb w 0) (value c) (c w) f;

@@ -10,10 +10,12 @@ use Rattle.merge_laws.proofs.Merging.{changed, same_piece}
 use Rattle.merge_laws.proofs.Running.{with_lease_changes}
 
 -- a piece that isn't leased isn't after another piece is, and after a lease is gone
-unleased_with : (f : ℕ → Option Lease) (k p : ℕ) (x : Lease) → ((j : ℕ) (l : Lease) → f j ≡ Some l → l.piece ≢ p) → x.piece ≢ p → (j : ℕ) (l : Lease) → with_lease f k (Some x) j ≡ Some l → l.piece ≢ p
+unleased_with : (f : ℕ → Option Lease) (k p : ℕ) (x : Lease) → ((j : ℕ) (l : Lease) → f j ≡ Some l → l.piece ≢ p) → x.piece ≢ p → (j : ℕ) (l : Lease)
+    → with_lease f k (Some x) j ≡ Some l → l.piece ≢ p
 unleased_with f k p x none other j l e = ⊎_elim (λ y q. other (same_piece y.1 ∙ q)) (λ y. none j l y.1) (changed (with_lease_changes f k (Some x)) j l e)
 
-unleased_without : (f : ℕ → Option Lease) (k p : ℕ) → ((j : ℕ) (l : Lease) → f j ≡ Some l → l.piece ≢ p) → (j : ℕ) (l : Lease) → with_lease f k None j ≡ Some l → l.piece ≢ p
+unleased_without : (f : ℕ → Option Lease) (k p : ℕ) → ((j : ℕ) (l : Lease) → f j ≡ Some l → l.piece ≢ p) → (j : ℕ) (l : Lease) → with_lease f k None j ≡ Some l
+    → l.piece ≢ p
 unleased_without f k p none j l e = ⊎_elim (λ y. absurd (none_some y.1)) (λ y. none j l y.1) (changed (with_lease_changes f k None) j l e)
 
 -- what is ended before each piece of the diamond
@@ -57,7 +59,12 @@ first_taken = record {
 
 later_taken : MayTake diamond after_first 2 2
 later_taken = record {
-  may_begin = record { below = omega arith; unended = refl; unleased = none_first 2 (λ q. omega arith); ready = ready_part (λ p. has p (0 ∷ [])) refl 1 (omega arith) };
+  may_begin = record {
+    below = omega arith;
+    unended = refl;
+    unleased = none_first 2 (λ q. omega arith);
+    ready = ready_part (λ p. has p (0 ∷ [])) refl 1 (omega arith);
+  };
   seat_below = omega arith;
   seat_free = refl;
   segment_first = λ s. absurd (not_both s refl);
@@ -68,7 +75,8 @@ earlier_stolen = record {
   may_begin = record {
     below = omega arith;
     unended = refl;
-    unleased = unleased_with after_first.lease 2 1 (record { piece = 2; local = after_first.cells }) (none_first 1 (λ q. omega arith)) (λ q. let two : 2 ≡ 1 = q in omega arith);
+    unleased = unleased_with after_first.lease 2 1 (record { piece = 2; local = after_first.cells }) (none_first 1 (λ q. omega arith))
+        (λ q. let two : 2 ≡ 1 = q in omega arith);
     ready = ready_part (λ p. has p (0 ∷ [])) refl 0 (omega arith);
   };
   seat_below = omega arith;
@@ -85,7 +93,8 @@ both_lease = with_lease second_lease 1 (Some record { piece = 1; local = after_f
 
 none_last : (j : ℕ) (l : Lease) → both_lease j ≡ Some l → l.piece ≢ 3
 none_last = unleased_with second_lease 1 3 (record { piece = 1; local = after_first.cells })
-    (unleased_with after_first.lease 2 3 (record { piece = 2; local = after_first.cells }) (none_first 3 (λ q. omega arith)) (λ q. let two : 2 ≡ 3 = q in omega arith))
+    (unleased_with after_first.lease 2 3 (record { piece = 2; local = after_first.cells }) (none_first 3 (λ q. omega arith))
+    (λ q. let two : 2 ≡ 3 = q in omega arith))
     (λ q. let one : 1 ≡ 3 = q in omega arith)
 
 abbrev after_job : RunState
@@ -113,7 +122,13 @@ crossed_legal = (
       later_taken,
       (
         earlier_stolen,
-        (record { local = after_first.cells; lease = refl }, (record { local = after_first.cells; lease = refl }, (last_taken, (record { local = after_job.cells; lease = refl }, tt)))),
+        (
+          record { local = after_first.cells; lease = refl },
+          (
+            record { local = after_first.cells; lease = refl },
+            (last_taken, (record { local = after_job.cells; lease = refl }, tt)),
+          ),
+        ),
       ),
     ),
   ),

@@ -26,8 +26,10 @@ lease_of local cells k l e =
 
 ready_parts : (p : ℕ) → (p ≡ 1) ⊎ (p ≡ 2) → (q : ℕ) → diamond_precedes q p ≡ true → eqb q 0 ≡ true
 ready_parts p c zero b = refl
-ready_parts p c (suc zero) b = absurd (⊎_elim (λ e. not_both (ap (diamond_precedes 1) (sym e) ∙ b) refl) (λ e. not_both (ap (diamond_precedes 1) (sym e) ∙ b) refl) c)
-ready_parts p c (suc (suc zero)) b = absurd (⊎_elim (λ e. not_both (ap (diamond_precedes 2) (sym e) ∙ b) refl) (λ e. not_both (ap (diamond_precedes 2) (sym e) ∙ b) refl) c)
+ready_parts p c (suc zero) b = absurd (⊎_elim (λ e. not_both (ap (diamond_precedes 1) (sym e) ∙ b) refl)
+    (λ e. not_both (ap (diamond_precedes 1) (sym e) ∙ b) refl) c)
+ready_parts p c (suc (suc zero)) b = absurd (⊎_elim (λ e. not_both (ap (diamond_precedes 2) (sym e) ∙ b) refl)
+    (λ e. not_both (ap (diamond_precedes 2) (sym e) ∙ b) refl) c)
 ready_parts p c (suc (suc (suc q))) b = absurd (not_both b refl)
 
 no_predecessor : (q : ℕ) → diamond_precedes q 0 ≡ true → ⊥
@@ -92,5 +94,6 @@ diamond_counts = record {
   right_to_open = λ state rest wait opened C. let closed = (C.rights_are 1 1 (rightful 1) refl refl).0 in omega arith;
   right_lost = λ state rest wait closed none C. let r = C.rights_all 1 0 (omega arith) (omega arith) refl none closed in nobody r.0 r.1 r.2 r.3;
   opened_too_early = λ state wait opened C. let e : 1 ≡ 0 = (C.unblocked 3 (λ z. omega arith)).waits 0 1 (omega arith) refl refl in omega arith;
-  two_first = λ state rest wait C. let a : 0 ≡ C.led.place = C.led.only 0 one_segment refl (refl, refl) in let b : 1 ≡ C.led.place = C.led.only 1 one_segment refl (refl, refl) in omega arith;
+  two_first = λ state rest wait C. let a : 0 ≡ C.led.place = C.led.only 0 one_segment refl (refl, refl) in
+      let b : 1 ≡ C.led.place = C.led.only 1 one_segment refl (refl, refl) in omega arith;
 }

@@ -22,19 +22,22 @@ abbrev pub StepsKeepTheRule : Type 0
 StepsKeepTheRule = (g : PieceGraph) (h : JobGraph) → IsWellOrdered g → IsJobGraph h → IsOf h g
     → (m n : Moment) → IsRuled g h m → Step g h m n → IsRuled g h n
 
--- What a step does to the core: a piece begins that may, a word is stored, a piece ends, a lease is handed over, or nothing changes.
+-- What a step does to the core: a piece begins that may, a word is stored, a piece ends, a lease is handed over, or
+-- nothing changes.
 pub data CoreStep (g : PieceGraph) (c d : Core) : Type 0 where
   begins : (k p : ℕ) → MayBegin g c p → Begins g c d k p → CoreStep g c d
   stores : (k w : ℕ) (v : ℤ) → Stores g c d k w v → CoreStep g c d
   ends : (k : ℕ) → Ends g c d k → CoreStep g c d
-  hands_over : (k j : ℕ) → j ≢ k → HandsOver c.lease d.lease k j → ((p : ℕ) → d.ended p ≡ c.ended p) → d.cells ≡ c.cells → CoreStep g c d
+  hands_over : (k j : ℕ) → j ≢ k → HandsOver c.lease d.lease k j → ((p : ℕ) → d.ended p ≡ c.ended p) → d.cells ≡ c.cells
+      → CoreStep g c d
   stays : ((p : ℕ) → d.ended p ≡ c.ended p) → d.lease ≡ c.lease → d.cells ≡ c.cells → CoreStep g c d
 
 abbrev pub StepsAreCoreSteps : Type 0
 StepsAreCoreSteps = (g : PieceGraph) (h : JobGraph) → IsWellOrdered g → IsJobGraph h → IsOf h g
     → (m n : Moment) → IsRuled g h m → Step g h m n → CoreStep g (core_at m) (core_at n)
 
--- A step leaves the state of each piece, or takes it to the next one: from closed to open, from open to begun, from begun to ended.
+-- A step leaves the state of each piece, or takes it to the next one: from closed to open, from open to begun, from
+-- begun to ended.
 abbrev pub StatesGoOneByOne : Type 0
 StatesGoOneByOne = (g : PieceGraph) (h : JobGraph) → IsWellOrdered g → IsJobGraph h → IsOf h g
     → (m n : Moment) → IsRuled g h m → Step g h m n → (p : ℕ) → (n.state p ≡ m.state p) ⊎ (n.state p ≡ suc (m.state p))
@@ -51,17 +54,21 @@ StatesNeverFall = (g : PieceGraph) (h : JobGraph) → IsWellOrdered g → IsJobG
 
 -- whoever began a piece, nobody begins it again.
 abbrev pub PiecesBeginOnce : Type 0
-PiecesBeginOnce = (g : PieceGraph) (h : JobGraph) → IsWellOrdered g → IsJobGraph h → IsOf h g → (m n o q : Moment) → IsRuled g h m
-    → (j k : ℕ) (first : IsBegin g h m n j) → Reaches g h n o → (second : IsBegin g h o q k) → first.piece ≡ second.piece → ⊥
+PiecesBeginOnce = (g : PieceGraph) (h : JobGraph) → IsWellOrdered g → IsJobGraph h → IsOf h g → (m n o q : Moment)
+    → IsRuled g h m
+    → (j k : ℕ) (first : IsBegin g h m n j) → Reaches g h n o → (second : IsBegin g h o q k)
+    → first.piece ≡ second.piece → ⊥
 
 -- No countdown rises. So the rights to open a job's pieces come once:
 abbrev pub CountdownsNeverRise : Type 0
-CountdownsNeverRise = (g : PieceGraph) (h : JobGraph) (m n : Moment) → Reaches g h m n → (j : ℕ) → (n.rest j ≤ m.rest j) × (n.wait j ≤ m.wait j)
+CountdownsNeverRise = (g : PieceGraph) (h : JobGraph) (m n : Moment) → Reaches g h m n → (j : ℕ)
+    → (n.rest j ≤ m.rest j) × (n.wait j ≤ m.wait j)
 
 -- after the release that was the last of a job, nobody releases the job again.
 abbrev pub RightsComeOnce : Type 0
 RightsComeOnce = (g : PieceGraph) (h : JobGraph) (m n o q : Moment)
-    → (j k : ℕ) (first : IsRelease h m n j) → first.falls.remaining ≡ 0 → Reaches g h n o → (second : IsRelease h o q k) → first.job ≡ second.job → ⊥
+    → (j k : ℕ) (first : IsRelease h m n j) → first.falls.remaining ≡ 0 → Reaches g h n o → (second : IsRelease h o q k)
+    → first.job ≡ second.job → ⊥
 
 -- A leased word holds the lease's local cell, whatever others do.
 abbrev pub LeasedWordsHoldLocalCells : Type 0

@@ -44,7 +44,8 @@ pub record IsBegin (g : PieceGraph) (h : JobGraph) (m n : Moment) (k : ℕ) : Ty
   pub local : Cells
   pub local_is : (w : ℕ) → g.reads piece w ≡ true → local w ≡ cells_before g piece w
   pub leases : ChangesLease m.lease n.lease k (Some record { piece = piece; local = local })
-  pub first : (i : ℕ) → i < h.segments → piece ≡ h.segment_at i → (v : Claims) × (slice_get m.claims k ≡ Some v) × IsFirst v
+  pub first : (i : ℕ) → i < h.segments → piece ≡ h.segment_at i
+      → (v : Claims) × (slice_get m.claims k ≡ Some v) × IsFirst v
   pub cells : n.cells ≡ m.cells
   pub counts : SameCounts m n
   pub claims : n.claims ≡ m.claims
@@ -134,7 +135,8 @@ pub record IsSplit (m n : Moment) : Type 0 where
   pub core : SameCore m n
   pub counts : SameCounts m n
 
--- JOIN: of two participants one remains, at the place j, with the lease and the claims of both. One of them had no lease.
+-- JOIN: of two participants one remains, at the place j, with the lease and the claims of both. One of them had no
+-- lease.
 pub record IsJoin (m n : Moment) (k j : ℕ) : Type 0 where
   pub apart : j ≢ k
   pub u : Claims

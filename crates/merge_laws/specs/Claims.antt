@@ -1,4 +1,5 @@
--- What each participant of a run holds beside its lease: what it still has to count and to release, and what it may open.
+-- What each participant of a run holds beside its lease: what it still has to count and to release, and what it may
+-- open.
 use Rattle.std.specs.Prelude.{◌≡◌, ℕ, zero, suc, ◌+◌, Bool, true, false, ◌||◌, List, [], ◌∷◌, nat_eq, if◌then◌else◌, Option, Some, None}
 
 -- a predecessor of a job: the segment that starts it, or a job that it depends on
@@ -65,7 +66,8 @@ has_segment_duty (d ∷ ds) = is_of_segment d.predecessor || has_segment_duty ds
 -- the duties from one predecessor, on each of the first n jobs that pass the test
 abbrev pub duties_from : Predecessor → (ℕ → Bool) → ℕ → List Duty
 duties_from from test zero = []
-duties_from from test (suc n) = if test n then record { predecessor = from; job = n } ∷ duties_from from test n else duties_from from test n
+duties_from from test (suc n) = if test n then record { predecessor = from; job = n }
+    ∷ duties_from from test n else duties_from from test n
 
 -- the duties without the first one on the job
 abbrev pub without_duty : ℕ → List Duty → List Duty

@@ -7,8 +7,8 @@ pub record Lease : Type 0 where
   pub piece : ℕ
   pub local : Cells
 
--- The leases stand under keys of any kind: numbers of workers, of views or of pieces. No law counts them or compares two keys but for
--- being the same.
+-- The leases stand under keys of any kind: numbers of workers, of views or of pieces. No law counts them or compares
+-- two keys but for being the same.
 pub record Core : Type 0 where
   pub ended : ℕ → Bool
   pub lease : ℕ → Option Lease
@@ -22,8 +22,8 @@ IsReady g ended p = (q : ℕ) → g.precedes q p ≡ true → ended q ≡ true
 abbrev pub IsUnleased : Core → ℕ → Type 0
 IsUnleased c p = (k : ℕ) (l : Lease) → c.lease k ≡ Some l → l.piece ≢ p
 
--- The common premise of the laws on pieces: every predecessor of an ended or a leased piece is ended, a leased piece is one of the plan's
--- and not ended, and none is leased twice.
+-- The common premise of the laws on pieces: every predecessor of an ended or a leased piece is ended, a leased piece is
+-- one of the plan's and not ended, and none is leased twice.
 pub record IsSound (g : PieceGraph) (c : Core) : Type 0 where
   pub ended_ready : (p : ℕ) → c.ended p ≡ true → IsReady g c.ended p
   pub lease_ready : (k : ℕ) (l : Lease) → c.lease k ≡ Some l → IsReady g c.ended l.piece

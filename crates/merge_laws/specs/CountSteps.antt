@@ -1,5 +1,5 @@
--- The atomic steps on states and countdowns. Each names what one participant held before and holds after, and which word changed; all other
--- words and participants stay.
+-- The atomic steps on states and countdowns. Each names what one participant held before and holds after, and which
+-- word changed; all other words and participants stay.
 use Rattle.std.specs.Prelude.{◌≡◌, ◌≢◌, ℕ, suc, ◌+◌, ◌<◌, Bool, true, false, ◌||◌, ◌⊎◌, ◌∷◌, [], nat_eq, Some, None}
 use Rattle.merge_laws.specs.Numbers.{has}
 use Rattle.merge_laws.specs.Jobs.{JobGraph}
@@ -23,8 +23,8 @@ pub record GainsDuties (h : JobGraph) (test : ℕ → Bool) (v w : Claims) : Typ
   pub more : (j : ℕ) → j < h.jobs → test j ≡ true → dues j w ≡ suc (dues j v)
   pub same : (j : ℕ) → j < h.jobs → test j ≡ false → dues j w ≡ dues j v
 
--- COUNT: `rest` of the job falls by one, and the count is owed no longer. Where that was the last piece the duties come, one on each job that
--- depends on this one.
+-- COUNT: `rest` of the job falls by one, and the count is owed no longer. Where that was the last piece the duties
+-- come, one on each job that depends on this one.
 pub record Counts (h : JobGraph) (rest rest' : ℕ → ℕ) (v w : Claims) (j : ℕ) : Type 0 where
   pub job : j < h.jobs
   pub was : v.owed ≡ Some j
@@ -39,8 +39,8 @@ pub record Counts (h : JobGraph) (rest rest' : ℕ → ℕ) (v w : Claims) (j : 
   pub seen : w.seen ≡ v.seen
   pub segments : SameSegments v w
 
--- RELEASE: `wait` of the job falls by one, and one duty on it is gone. Where that was the last predecessor the rights come, to each piece of
--- the job.
+-- RELEASE: `wait` of the job falls by one, and one duty on it is gone. Where that was the last predecessor the rights
+-- come, to each piece of the job.
 pub record Releases (h : JobGraph) (wait wait' : ℕ → ℕ) (v w : Claims) (j : ℕ) : Type 0 where
   pub job : j < h.jobs
   pub duty_gone : dues j v ≡ suc (dues j w)
@@ -53,7 +53,8 @@ pub record Releases (h : JobGraph) (wait wait' : ℕ → ℕ) (v w : Claims) (j 
   pub not_last : remaining ≢ 0 → w.rights ≡ v.rights
   pub rights_stay : (p : ℕ) → has p v.rights ≡ true → has p w.rights ≡ true
   pub rights_come : remaining ≡ 0 → (p : ℕ) → p < h.pieces → h.is_part p j ≡ true → has p w.rights ≡ true
-  pub rights_only : remaining ≡ 0 → (p : ℕ) → has p w.rights ≡ true → (has p v.rights ≡ true) ⊎ ((p < h.pieces) × (h.is_part p j ≡ true))
+  pub rights_only : remaining ≡ 0 → (p : ℕ) → has p w.rights ≡ true
+      → (has p v.rights ≡ true) ⊎ ((p < h.pieces) × (h.is_part p j ≡ true))
   pub seen : w.seen ≡ v.seen
   pub segments : SameSegments v w
 
@@ -75,8 +76,8 @@ pub record EndsPart (h : JobGraph) (state state' : ℕ → ℕ) (v w : Claims) (
   pub seen : w.seen ≡ v.seen
   pub segments : SameSegments v w
 
--- END of a segment, by the first participant: it has ended one more and not opened the next, and there is a duty on each job that the segment
--- starts.
+-- END of a segment, by the first participant: it has ended one more and not opened the next, and there is a duty on
+-- each job that the segment starts.
 pub record EndsSegment (h : JobGraph) (state state' : ℕ → ℕ) (v w : Claims) (k : ℕ) : Type 0 where
   pub segment : k < h.segments
   pub begun : state (h.segment_at k) ≡ begun_state
@@ -140,12 +141,14 @@ pub record IsFresh (v : Claims) : Type 0 where
   pub seen : v.seen ≡ []
   pub number : v.number ≢ 0
 
--- JOIN: the participants of u and v become one, w, which holds what both held and is the first where one of them was. The other, x, is spent.
+-- JOIN: the participants of u and v become one, w, which holds what both held and is the first where one of them was.
+-- The other, x, is spent.
 pub record Joins (u v w x : Claims) : Type 0 where
   pub unspent : (u.spent ≡ false) × (v.spent ≡ false) × (w.spent ≡ false)
   pub owed : (j : ℕ) → owes j w ≡ owes j u + owes j v
   pub duties : (j : ℕ) → dues j w ≡ dues j u + dues j v
-  pub segment_duties : has_segment_duty w.duties ≡ true → (has_segment_duty u.duties ≡ true) ⊎ (has_segment_duty v.duties ≡ true)
+  pub segment_duties : has_segment_duty w.duties ≡ true
+      → (has_segment_duty u.duties ≡ true) ⊎ (has_segment_duty v.duties ≡ true)
   pub rights : (p : ℕ) → has p w.rights ≡ (has p u.rights || has p v.rights)
   pub seen : (j : ℕ) → has j w.seen ≡ true → (has j u.seen ≡ true) ⊎ (has j v.seen ≡ true)
   pub first : w.number ≡ 0 → (u.number ≡ 0) ⊎ (v.number ≡ 0)

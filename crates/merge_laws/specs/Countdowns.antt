@@ -1,4 +1,5 @@
--- The countdowns between two atomic steps. Each piece has a state. Each job has the word `rest`, which counts down its pieces, and the word
+-- The countdowns between two atomic steps. Each piece has a state. Each job has the word `rest`, which counts down its
+-- pieces, and the word
 -- `wait`, which counts down its predecessors.
 use Rattle.std.specs.Prelude.{◌≡◌, ◌≢◌, ℕ, suc, ◌+◌, ◌<◌, Bool, true, false, not, ◌&&◌, ◌⊎◌, List, nat_eq, if◌then◌else◌, Some, slice_get}
 use Rattle.merge_laws.specs.Numbers.{has, tally}
@@ -25,7 +26,8 @@ is_unended n = not (nat_eq n ended_state)
 abbrev pub unended_parts : JobGraph → (ℕ → ℕ) → ℕ → ℕ
 unended_parts h state j = tally (λ p. h.is_part p j && is_unended (state p)) h.pieces
 
--- How many predecessors of the job aren't finished. A segment is finished when it is ended, a job when nothing of it is left to count.
+-- How many predecessors of the job aren't finished. A segment is finished when it is ended, a job when nothing of it is
+-- left to count.
 abbrev pub unfinished : JobGraph → (ℕ → ℕ) → (ℕ → ℕ) → ℕ → ℕ
 unfinished h state rest j = (if is_unended (state (h.segment_at (h.starter j))) then 1 else 0)
     + tally (λ i. h.is_dependency i j && not (nat_eq (rest i) 0)) h.jobs
@@ -37,8 +39,8 @@ pub record IsUnblocked (h : JobGraph) (state rest : ℕ → ℕ) (p : ℕ) : Typ
   pub before : (k : ℕ) → suc k < h.segments → p ≡ h.segment_at (suc k) → state (h.segment_at k) ≡ ended_state
   pub waits : (i k : ℕ) → k < h.segments → p ≡ h.segment_at k → h.waits k i ≡ true → rest i ≡ 0
 
--- The segments, as the first participant knows them: those below the number that it ended are ended, the next one is open or begun where it
--- says that it opened it and else closed, and all later ones are closed.
+-- The segments, as the first participant knows them: those below the number that it ended are ended, the next one is
+-- open or begun where it says that it opened it and else closed, and all later ones are closed.
 pub record IsLed (h : JobGraph) (state : ℕ → ℕ) (claims : List Claims) : Type 0 where
   pub place : ℕ
   pub first : Claims
@@ -57,8 +59,8 @@ pub record AreExact (h : JobGraph) (state rest wait : ℕ → ℕ) (claims : Lis
   pub rest_is : (j : ℕ) → j < h.jobs → rest j ≡ unended_parts h state j + total (owes j) claims
   -- WAIT: the predecessors of the job that aren't finished, and those that are finished and for which there is a duty
   pub wait_is : (j : ℕ) → j < h.jobs → wait j ≡ unfinished h state rest j + total (dues j) claims
-  -- A right to open is one to a closed piece of a job that waits for nothing. No two participants have a right to the same piece, and each
-  -- closed piece of such a job may be opened by someone.
+  -- A right to open is one to a closed piece of a job that waits for nothing. No two participants have a right to the
+  -- same piece, and each closed piece of such a job may be opened by someone.
   pub rights_are : (k p : ℕ) (v : Claims) → slice_get claims k ≡ Some v → has p v.rights ≡ true
       → (state p ≡ closed_state) × (p < h.pieces) × ((j : ℕ) × (j < h.jobs) × (h.is_part p j ≡ true) × (wait j ≡ 0))
   pub rights_once : (i k p : ℕ) (u v : Claims) → slice_get claims i ≡ Some u → slice_get claims k ≡ Some v

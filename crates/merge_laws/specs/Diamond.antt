@@ -1,5 +1,5 @@
--- A worked plan: segment 0 makes a number, the two pieces of a job each make one of it, and the last segment adds these up. The pieces of the
--- job commute.
+-- A worked plan: segment 0 makes a number, the two pieces of a job each make one of it, and the last segment adds these
+-- up. The pieces of the job commute.
 use Rattle.std.specs.Prelude.{ℕ, zero, suc, Bool, true, false, ◌&&◌, ◌||◌, nat_eq, nat_lt, if◌then◌else◌, List, [], ◌∷◌, ℤ, pos, ◌+ℤ◌, None}
 use Rattle.merge_laws.specs.Graph.{Cells, PieceGraph}
 use Rattle.merge_laws.specs.Runs.{Event, take, steal, finish}
@@ -56,7 +56,14 @@ diamond_jobs = record {
 }
 
 abbrev pub new_diamond : Moment
-new_diamond = record { state = λ p. 0; rest = λ j. 2; wait = λ j. 1; cells = λ w. pos 0; lease = λ k. None; claims = first_claims ∷ [] }
+new_diamond = record {
+  state = λ p. 0;
+  rest = λ j. 2;
+  wait = λ j. 1;
+  cells = λ w. pos 0;
+  lease = λ k. None;
+  claims = first_claims ∷ [];
+}
 
 -- one seat runs all pieces in script order
 abbrev pub straight : List Event

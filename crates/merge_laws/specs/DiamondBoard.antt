@@ -22,10 +22,19 @@ cells_of a b c d (suc (suc zero)) = c
 cells_of a b c d (suc (suc (suc zero))) = d
 cells_of a b c d (suc (suc (suc (suc w)))) = pos 0
 
--- what the one participant holds: the segments that it ended, whether it opened the next one, and what it owes, has to release, may open and
--- saw finished
+-- what the one participant holds: the segments that it ended, whether it opened the next one, and what it owes, has to
+-- release, may open and saw finished
 abbrev pub holding : ℕ → Bool → Option ℕ → List Duty → List ℕ → List ℕ → Claims
-holding ended opened owed duties rights seen = record { spent = false; number = 0; owed = owed; duties = duties; rights = rights; seen = seen; ended = ended; opened = opened }
+holding ended opened owed duties rights seen = record {
+  spent = false;
+  number = 0;
+  owed = owed;
+  duties = duties;
+  rights = rights;
+  seen = seen;
+  ended = ended;
+  opened = opened;
+}
 
 abbrev pub at_0 : ℕ → ℕ → ℕ
 at_0 n j = if nat_eq j 0 then n else 0
@@ -34,13 +43,22 @@ abbrev pub lease_at_0 : Option Lease → ℕ → Option Lease
 lease_at_0 l k = if nat_eq k 0 then l else None
 
 abbrev pub board : (state : ℕ → ℕ) (rest wait : ℕ) (cells : Cells) (lease : Option Lease) (v : Claims) → Moment
-board state rest wait cells lease v = record { state = state; rest = at_0 rest; wait = at_0 wait; cells = cells; lease = lease_at_0 lease; claims = v ∷ [] }
+board state rest wait cells lease v = record {
+  state = state;
+  rest = at_0 rest;
+  wait = at_0 wait;
+  cells = cells;
+  lease = lease_at_0 lease;
+  claims = v ∷ [];
+}
 
 abbrev pub board_at_first : Moment
-board_at_first = board (states 0 0 0 0) 2 1 (cells_of (pos 0) (pos 0) (pos 0) (pos 0)) None (holding 0 false None [] [] [])
+board_at_first = board (states 0 0 0 0) 2 1 (cells_of (pos 0) (pos 0) (pos 0) (pos 0)) None
+    (holding 0 false None [] [] [])
 
 abbrev pub board_at_last : Moment
-board_at_last = board (states 3 3 3 3) 0 0 (cells_of (pos 7) (pos 8) (pos 9) (pos 17)) None (holding 2 false None [] [] (0 ∷ []))
+board_at_last = board (states 3 3 3 3) 0 0 (cells_of (pos 7) (pos 8) (pos 9) (pos 17)) None
+    (holding 2 false None [] [] (0 ∷ []))
 
 pub record DiamondIsRun : Type 0 where
   pub opening : IsOpening diamond_jobs board_at_first

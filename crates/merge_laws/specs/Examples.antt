@@ -33,8 +33,10 @@ pub record DiamondRuns : Type 0 where
   pub out_of_order : HasCells (run diamond start crossed).cells (pos 7) (pos 8) (pos 9) (pos 17)
   pub legal : IsLegalRun diamond start crossed
   pub ended : IsEnded diamond (run diamond start crossed)
-  -- a piece that runs changes no cell before it is finished, and after the begin of another one the first finish is seen alone
-  pub half : HasCells (run diamond start (take 0 0 ∷ finish 0 0 ∷ take 2 2 ∷ steal 1 2 1 ∷ finish 2 2 ∷ [])).cells (pos 7) (pos 0) (pos 9) (pos 0)
+  -- a piece that runs changes no cell before it is finished, and after the begin of another one the first finish is
+  -- seen alone
+  pub half : HasCells (run diamond start (take 0 0 ∷ finish 0 0 ∷ take 2 2 ∷ steal 1 2 1 ∷ finish 2 2 ∷ [])).cells
+      (pos 7) (pos 0) (pos 9) (pos 0)
 
 pub record IllegalRuns : Type 0 where
   -- a piece before its predecessor, and while it is only leased
@@ -64,7 +66,8 @@ two_ended p = nat_eq p 0 || nat_eq p 1
 abbrev pub both_leased : Cells → Cells → Core
 both_leased local cells = record {
   ended = λ p. nat_eq p 0;
-  lease = λ k. if nat_eq k 1 then Some record { piece = 1; local = local } else if nat_eq k 2 then Some record { piece = 2; local = local } else None;
+  lease = λ k. if nat_eq k 1 then Some record { piece = 1; local = local } else if nat_eq k 2 then Some
+      record { piece = 2; local = local } else None;
   cells = cells;
 }
 
@@ -77,7 +80,8 @@ pub record DiamondMerges : Type 0 where
   -- the pieces of the job may be leased at once
   pub both_sound : IsSound diamond (both_leased (λ w. pos 7) (λ w. pos 7))
   -- but no lease reads a word that another one writes
-  pub reads_a_written_word : (c : Core) (l m : Lease) → c.lease 1 ≡ Some l → l.piece ≡ 1 → c.lease 3 ≡ Some m → m.piece ≡ 3 → IsSound diamond c → ⊥
+  pub reads_a_written_word : (c : Core) (l m : Lease) → c.lease 1 ≡ Some l → l.piece ≡ 1 → c.lease 3 ≡ Some m
+      → m.piece ≡ 3 → IsSound diamond c → ⊥
   -- a word that a lease only reads has its value of script order; a word that a lease writes is its own until the end
   pub reads_a_wrong_cell : IsMerged diamond (both_leased (λ w. pos 7) (λ w. pos 5)) → ⊥
   pub not_in_place : IsInPlace diamond (both_leased (λ w. pos 7) (λ w. pos 5)) → ⊥
@@ -121,18 +125,25 @@ pub record DiamondCounts : Type 0 where
   -- the job waits for its segment, then for the release from it, and then for nothing
   pub waiting : (wait : ℕ → ℕ) → AreExact diamond_jobs (λ p. 0) (λ j. 2) wait (first_claims ∷ []) → wait 0 ≡ 1
   pub due : (wait : ℕ → ℕ) → AreExact diamond_jobs segment_ended (λ j. 2) wait (releasing 0 ∷ []) → wait 0 ≡ 1
-  pub released : (wait : ℕ → ℕ) → AreExact diamond_jobs segment_ended (λ j. 2) wait (one_segment ∷ rightful 1 ∷ []) → wait 0 ≡ 0
+  pub released : (wait : ℕ → ℕ) → AreExact diamond_jobs segment_ended (λ j. 2) wait (one_segment ∷ rightful 1 ∷ [])
+      → wait 0 ≡ 0
   -- the duty of a segment at another participant, and a job seen finished while a piece of it is left to count
-  pub duty_elsewhere : (state rest wait : ℕ → ℕ) → AreExact diamond_jobs state rest wait (one_segment ∷ releasing 1 ∷ []) → ⊥
-  pub seen_too_early : (state wait : ℕ → ℕ) → AreExact diamond_jobs state (λ j. 1) wait (record one_segment { seen = 0 ∷ [] } ∷ []) → ⊥
+  pub duty_elsewhere : (state rest wait : ℕ → ℕ) → AreExact diamond_jobs state rest wait
+      (one_segment ∷ releasing 1 ∷ []) → ⊥
+  pub seen_too_early : (state wait : ℕ → ℕ) → AreExact diamond_jobs state (λ j. 1) wait
+      (record one_segment { seen = 0 ∷ [] } ∷ []) → ⊥
   -- a piece that runs although its job waits
   pub runs_too_early : AreExact diamond_jobs one_left (λ j. 1) (λ j. 1) (one_segment ∷ []) → ⊥
   -- one right for two, and a right to what is open
-  pub right_twice : (state rest wait : ℕ → ℕ) → AreExact diamond_jobs state rest wait (one_segment ∷ rightful 1 ∷ rightful 2 ∷ []) → ⊥
-  pub right_to_open : (state rest wait : ℕ → ℕ) → state 1 ≡ 1 → AreExact diamond_jobs state rest wait (one_segment ∷ rightful 1 ∷ []) → ⊥
+  pub right_twice : (state rest wait : ℕ → ℕ) → AreExact diamond_jobs state rest wait
+      (one_segment ∷ rightful 1 ∷ rightful 2 ∷ []) → ⊥
+  pub right_to_open : (state rest wait : ℕ → ℕ) → state 1 ≡ 1
+      → AreExact diamond_jobs state rest wait (one_segment ∷ rightful 1 ∷ []) → ⊥
   -- a closed piece of a job that waits for nothing, which nobody may open
-  pub right_lost : (state rest wait : ℕ → ℕ) → state 1 ≡ 0 → wait 0 ≡ 0 → AreExact diamond_jobs state rest wait (one_segment ∷ []) → ⊥
+  pub right_lost : (state rest wait : ℕ → ℕ) → state 1 ≡ 0 → wait 0 ≡ 0
+      → AreExact diamond_jobs state rest wait (one_segment ∷ []) → ⊥
   -- the last segment is open before the job is counted
-  pub opened_too_early : (state wait : ℕ → ℕ) → state 3 ≡ 1 → AreExact diamond_jobs state (λ j. 1) wait (one_segment ∷ []) → ⊥
+  pub opened_too_early : (state wait : ℕ → ℕ) → state 3 ≡ 1
+      → AreExact diamond_jobs state (λ j. 1) wait (one_segment ∷ []) → ⊥
   -- two participants with the number 0
   pub two_first : (state rest wait : ℕ → ℕ) → AreExact diamond_jobs state rest wait (one_segment ∷ one_segment ∷ []) → ⊥

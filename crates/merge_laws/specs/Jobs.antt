@@ -1,4 +1,5 @@
--- The jobs and segments of a plan, which the countdowns count. Jobs and segments are numbered from 0, pieces by their place in script order.
+-- The jobs and segments of a plan, which the countdowns count. Jobs and segments are numbered from 0, pieces by their
+-- place in script order.
 use Rattle.std.specs.Prelude.{◌≡◌, ℕ, suc, ◌<◌, Bool, true, false, ◌⊎◌}
 use Rattle.merge_laws.specs.Graph.{PieceGraph}
 
@@ -32,8 +33,8 @@ pub record IsJobGraph (h : JobGraph) : Type 0 where
 abbrev pub HasParts : JobGraph → Type 0
 HasParts h = (j : ℕ) → j < h.jobs → (p : ℕ) × (p < h.pieces) × (h.is_part p j ≡ true)
 
--- The predecessors q of a piece p. Those of a job's piece are the segment that starts the job, and all pieces of its dependencies. Those of a
--- segment are the segment before it, and all pieces of the jobs that it waits for.
+-- The predecessors q of a piece p. Those of a job's piece are the segment that starts the job, and all pieces of its
+-- dependencies. Those of a segment are the segment before it, and all pieces of the jobs that it waits for.
 pub data IsPredecessor (h : JobGraph) (q p : ℕ) : Type 0 where
   starts : (j : ℕ) → j < h.jobs → h.is_part p j ≡ true → q ≡ h.segment_at (h.starter j) → IsPredecessor h q p
   feeds : (i j : ℕ) → i < h.jobs → j < h.jobs → h.is_part p j ≡ true → h.is_dependency i j ≡ true
@@ -45,10 +46,12 @@ pub data IsPredecessor (h : JobGraph) (q p : ℕ) : Type 0 where
 -- The graph of jobs is one of the graph of pieces.
 pub record IsOf (h : JobGraph) (g : PieceGraph) : Type 0 where
   pub count : g.count ≡ h.pieces
-  -- Predecessors are of the four kinds alone. A graph may have fewer; that the graph of a plan has them all is a clause of the plan.
+  -- Predecessors are of the four kinds alone. A graph may have fewer; that the graph of a plan has them all is a clause
+  -- of the plan.
   pub predecessor : (q p : ℕ) → g.precedes q p ≡ true → IsPredecessor h q p
   -- each piece is a segment or a job's
-  pub each : (p : ℕ) → p < h.pieces → ((k : ℕ) × (k < h.segments) × (p ≡ h.segment_at k)) ⊎ ((j : ℕ) × (j < h.jobs) × (h.is_part p j ≡ true))
+  pub each : (p : ℕ) → p < h.pieces → ((k : ℕ) × (k < h.segments) × (p ≡ h.segment_at k))
+      ⊎ ((j : ℕ) × (j < h.jobs) × (h.is_part p j ≡ true))
   -- the last segment waits for every job
   pub last : ℕ
   pub last_is : suc last ≡ h.segments

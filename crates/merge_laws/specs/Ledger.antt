@@ -1,5 +1,5 @@
--- The ledger of who touches and uses what: what the script thread knows while it makes a plan, and what that says of the pieces so far. It
--- knows no language: a container is any owner of words.
+-- The ledger of who touches and uses what: what the script thread knows while it makes a plan, and what that says of
+-- the pieces so far. It knows no language: a container is any owner of words.
 use Rattle.std.specs.Prelude.{◌≡◌, ℕ, ◌<◌, ◌≤◌, Bool, true, ◌||◌, ◌⊎◌, nat_eq, List, length}
 use Rattle.merge_laws.specs.Graph.{LeadsTo, Conflicts}
 use Rattle.merge_laws.specs.Pieces.{Jobs, Words, Piece, piece_at, latest_segment, graph_of}
@@ -9,7 +9,8 @@ pub record Ledger : Type 0 where
   pub jobs : ℕ
   pub depends : ℕ → Jobs
   pub completed : Jobs
-  -- The containers whose words are live, and the words of each. The words of a container that isn't live may be another one's.
+  -- The containers whose words are live, and the words of each. The words of a container that isn't live may be another
+  -- one's.
   pub live : ℕ → Bool
   pub words : ℕ → Words
   -- the jobs that use a container, and those of them that write it
@@ -50,14 +51,17 @@ pub record IsWrittenBy (l : Ledger) (j w : ℕ) : Type 0 where
   pub word : l.words container w ≡ true
   pub writer : l.writers container j ≡ true
 
--- What the pieces so far keep. The two clauses `reads_held` and `writes_held` carry the reuse of words: nothing is said of the containers
--- that had a word before, since it comes back only when all their users are completed, and then the first case holds.
+-- What the pieces so far keep. The two clauses `reads_held` and `writes_held` carry the reuse of words: nothing is said
+-- of the containers that had a word before, since it comes back only when all their users are completed, and then the
+-- first case holds.
 pub record AreInOrder (l : Ledger) (pieces : List Piece) : Type 0 where
   pub known : (p : ℕ) → p < length pieces → (piece_at pieces p).job ≤ l.jobs
   -- the pieces of a job stand after those of older jobs
-  pub rising : (p q : ℕ) → p < q → q < length pieces → (piece_at pieces q).job ≡ 0 ⊎ (piece_at pieces p).job ≤ (piece_at pieces q).job
+  pub rising : (p q : ℕ) → p < q → q < length pieces → (piece_at pieces q).job ≡ 0
+      ⊎ (piece_at pieces p).job ≤ (piece_at pieces q).job
   -- a piece comes after what its job depends on
-  pub waits : (p j : ℕ) → p < length pieces → l.depends (piece_at pieces p).job j ≡ true → (piece_at pieces p).after j ≡ true
+  pub waits : (p j : ℕ) → p < length pieces → l.depends (piece_at pieces p).job j ≡ true
+      → (piece_at pieces p).after j ≡ true
   -- there is a segment
   pub segment_below : latest_segment pieces < length pieces
   pub segment : (piece_at pieces (latest_segment pieces)).job ≡ 0
@@ -71,7 +75,8 @@ pub record AreInOrder (l : Ledger) (pieces : List Piece) : Type 0 where
       → is_done l (piece_at pieces p).job ≡ true ⊎ IsWrittenBy l (piece_at pieces p).job w
   pub reads_written : (p w : ℕ) → (piece_at pieces p).writes w ≡ true → (piece_at pieces p).reads w ≡ true
   -- of two pieces with conflicting footprints the earlier leads to the later
-  pub conflicts_lead : (p q w : ℕ) → p < q → q < length pieces → Conflicts (graph_of pieces) p q w → LeadsTo (graph_of pieces) p q
+  pub conflicts_lead : (p q w : ℕ) → p < q → q < length pieces → Conflicts (graph_of pieces) p q w
+      → LeadsTo (graph_of pieces) p q
 
 -- each job but the newest has a piece
 abbrev pub HasOlderParts : Ledger → List Piece → Type 0

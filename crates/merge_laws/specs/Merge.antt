@@ -12,12 +12,14 @@ after_latest g ended w (suc p) = if g.writes p w && ended p then suc p else afte
 abbrev pub merged_cells : PieceGraph → (ℕ → Bool) → Cells
 merged_cells g ended w = cells_before g (after_latest g ended w g.count) w
 
--- THE FIRST SENTENCE: a word that no lease may write holds the script-order value after the latest ended piece that may write it.
+-- THE FIRST SENTENCE: a word that no lease may write holds the script-order value after the latest ended piece that may
+-- write it.
 abbrev pub IsMerged : PieceGraph → Core → Type 0
-IsMerged g c = (w : ℕ) → ((k : ℕ) (l : Lease) → c.lease k ≡ Some l → g.writes l.piece w ≡ false) → c.cells w ≡ merged_cells g c.ended w
+IsMerged g c = (w : ℕ) → ((k : ℕ) (l : Lease) → c.lease k ≡ Some l → g.writes l.piece w ≡ false)
+    → c.cells w ≡ merged_cells g c.ended w
 
--- THE SECOND SENTENCE, said where cells are used in place: a word that a lease reads or writes holds the lease's local cell. Where leases
--- are copied out it isn't said.
+-- THE SECOND SENTENCE, said where cells are used in place: a word that a lease reads or writes holds the lease's local
+-- cell. Where leases are copied out it isn't said.
 abbrev pub IsInPlace : PieceGraph → Core → Type 0
 IsInPlace g c = (k : ℕ) (l : Lease) (w : ℕ) → c.lease k ≡ Some l → g.reads l.piece w ≡ true → c.cells w ≡ l.local w
 

@@ -8,11 +8,13 @@ use Rattle.merge_laws.specs.Steps.{HandsOver, MayBegin, IsClear, Begins, Stores,
 -- No race: of two leases under different keys, none reads or writes a word that the other writes.
 abbrev pub LeasesAreApart : Type 0
 LeasesAreApart = (g : PieceGraph) (c : Core) → IsWellOrdered g → IsSound g c
-    → (j k w : ℕ) (l m : Lease) → c.lease j ≡ Some l → c.lease k ≡ Some m → j ≢ k → g.writes l.piece w ≡ true → g.reads m.piece w ≡ false
+    → (j k w : ℕ) (l m : Lease) → c.lease j ≡ Some l → c.lease k ≡ Some m → j ≢ k → g.writes l.piece w ≡ true
+    → g.reads m.piece w ≡ false
 
 -- What may begin is clear of all that runs.
 abbrev pub WhatMayBeginIsClear : Type 0
-WhatMayBeginIsClear = (g : PieceGraph) (c : Core) → IsWellOrdered g → IsConsistent g c → (p : ℕ) → MayBegin g c p → IsClear g c p
+WhatMayBeginIsClear = (g : PieceGraph) (c : Core) → IsWellOrdered g → IsConsistent g c → (p : ℕ) → MayBegin g c p
+    → IsClear g c p
 
 -- A begin keeps the merge.
 abbrev pub BeginsKeepTheMerge : Type 0
@@ -32,7 +34,8 @@ EndsKeepTheMerge = (g : PieceGraph) (c d : Core) → IsWellOrdered g → IsConsi
 -- Whose key a lease has doesn't matter.
 abbrev pub HandsKeepTheMerge : Type 0
 HandsKeepTheMerge = (g : PieceGraph) (c d : Core) → IsConsistent g c → (k j : ℕ) → j ≢ k → HandsOver c.lease d.lease k j
-    → ((p : ℕ) → d.ended p ≡ c.ended p) → ((w : ℕ) → d.cells w ≡ c.cells w) → IsConsistent g d × (IsInPlace g c → IsInPlace g d)
+    → ((p : ℕ) → d.ended p ≡ c.ended p) → ((w : ℕ) → d.cells w ≡ c.cells w)
+    → IsConsistent g d × (IsInPlace g c → IsInPlace g d)
 
 -- A plan can't get stuck: where nothing is leased, all pieces are ended or one may begin.
 abbrev pub APieceMayBegin : Type 0

@@ -24,8 +24,8 @@ pub record Piece : Type 0 where
 abbrev pub no_piece : Piece
 no_piece = record { job = 0; after = λ j. false; reads = λ w. false; writes = λ w. false; effect = λ c. c }
 
--- A list of pieces has the latest in script order first. So the place of its head is the length of the rest, and a new piece changes nothing
--- of the earlier ones.
+-- A list of pieces has the latest in script order first. So the place of its head is the length of the rest, and a new
+-- piece changes nothing of the earlier ones.
 abbrev pub piece_at : List Piece → ℕ → Piece
 piece_at [] p = no_piece
 piece_at (x ∷ earlier) p = if nat_eq p (length earlier) then x else piece_at earlier p
@@ -35,10 +35,12 @@ abbrev pub latest_segment : List Piece → ℕ
 latest_segment [] = 0
 latest_segment (x ∷ earlier) = if nat_eq x.job 0 then length earlier else latest_segment earlier
 
--- q has to be ended before the piece x that stands after the earlier ones: it is the latest segment, or a piece of a job that x comes after
+-- q has to be ended before the piece x that stands after the earlier ones: it is the latest segment, or a piece of a
+-- job that x comes after
 abbrev pub is_before : List Piece → Piece → ℕ → Bool
 is_before earlier x q = nat_lt q (length earlier)
-    && (nat_eq q (latest_segment earlier) || (not (nat_eq (piece_at earlier q).job 0) && x.after (piece_at earlier q).job))
+    && (nat_eq q (latest_segment earlier) || (not (nat_eq (piece_at earlier q).job 0)
+    && x.after (piece_at earlier q).job))
 
 -- the predecessors of each piece, by this one rule
 abbrev pub precedes_in : List Piece → ℕ → ℕ → Bool
@@ -60,12 +62,13 @@ abbrev pub cells_after : List Piece → Cells
 cells_after [] = λ w. pos 0
 cells_after (x ∷ earlier) = x.effect (cells_after earlier)
 
--- From cells that are, on what it reads, those before it, a piece makes on what it writes the same as from those before it, and keeps all
--- other cells.
+-- From cells that are, on what it reads, those before it, a piece makes on what it writes the same as from those before
+-- it, and keeps all other cells.
 pub record IsFramed (x : Piece) (before : Cells) : Type 0 where
   pub written : (cells : Cells) → ((w : ℕ) → x.reads w ≡ true → cells w ≡ before w)
       → (w : ℕ) → x.writes w ≡ true → x.effect cells w ≡ x.effect before w
-  pub kept : (cells : Cells) → ((w : ℕ) → x.reads w ≡ true → cells w ≡ before w) → (w : ℕ) → x.writes w ≡ false → x.effect cells w ≡ cells w
+  pub kept : (cells : Cells) → ((w : ℕ) → x.reads w ≡ true → cells w ≡ before w) → (w : ℕ) → x.writes w ≡ false
+      → x.effect cells w ≡ cells w
 
 abbrev pub AreFramed : List Piece → Type 0
 AreFramed [] = Unit {0}

@@ -1,5 +1,5 @@
--- A worked plan in which a word is used again. Container 0 has word 0; a job writes it; the script completes the job and disposes the
--- container, and makes container 1, which gets word 0 again.
+-- A worked plan in which a word is used again. Container 0 has word 0; a job writes it; the script completes the job
+-- and disposes the container, and makes container 1, which gets word 0 again.
 use Rattle.std.specs.Prelude.{◌≡◌, ℕ, Bool, true, false, ◌&&◌, nat_eq, if◌then◌else◌, List, [], ◌∷◌, ℤ, pos, ◌+ℤ◌}
 use Rattle.merge_laws.specs.Graph.{Cells, IsWellOrdered}
 use Rattle.merge_laws.specs.Pieces.{Piece, Jobs, Words, graph_of, precedes_in, cells_after}
@@ -19,7 +19,13 @@ no_job j = false
 
 -- a piece that gives word 0 a value, and one that touches nothing
 abbrev pub giving : ℕ → Jobs → (Cells → ℤ) → Piece
-giving job after value = record { job = job; after = after; reads = word_0; writes = word_0; effect = λ c w. if nat_eq w 0 then value c else c w }
+giving job after value = record {
+  job = job;
+  after = after;
+  reads = word_0;
+  writes = word_0;
+  effect = λ c w. if nat_eq w 0 then value c else c w;
+}
 
 abbrev pub idle : Jobs → Piece
 idle after = record { job = 0; after = after; reads = no_word; writes = no_word; effect = λ c. c }

@@ -1,4 +1,5 @@
--- The rule of a board without locks: what its words and what the participants hold say together between any two atomic steps.
+-- The rule of a board without locks: what its words and what the participants hold say together between any two atomic
+-- steps.
 use Rattle.std.specs.Prelude.{◌≡◌, ◌≢◌, ℕ, ◌+◌, ◌<◌, false, List, [], ◌∷◌, nat_eq, pos, Option, Some, None, slice_get}
 use Rattle.merge_laws.specs.Numbers.{tally}
 use Rattle.merge_laws.specs.Graph.{Cells, PieceGraph}
@@ -8,8 +9,8 @@ use Rattle.merge_laws.specs.Jobs.{JobGraph}
 use Rattle.merge_laws.specs.Claims.{Claims, IsFirst}
 use Rattle.merge_laws.specs.Countdowns.{closed_state, begun_state, ended_state, AreExact}
 
--- A moment between two steps: the state of each piece, the countdowns of each job, the cells, and what each participant holds: its lease, by
--- its place in the list of claims, and its claims.
+-- A moment between two steps: the state of each piece, the countdowns of each job, the cells, and what each participant
+-- holds: its lease, by its place in the list of claims, and its claims.
 pub record Moment : Type 0 where
   pub state : ℕ → ℕ
   pub rest : ℕ → ℕ
@@ -43,9 +44,19 @@ pub record IsRuled (g : PieceGraph) (h : JobGraph) (m : Moment) : Type 0 where
 
 -- what the first participant holds at first: nothing
 abbrev pub first_claims : Claims
-first_claims = record { spent = false; number = 0; owed = None; duties = []; rights = []; seen = []; ended = 0; opened = false }
+first_claims = record {
+  spent = false;
+  number = 0;
+  owed = None;
+  duties = [];
+  rights = [];
+  seen = [];
+  ended = 0;
+  opened = false;
+}
 
--- A new board: all pieces are closed and all cells 0, each job has all its pieces left, and waits for its segment and its dependencies.
+-- A new board: all pieces are closed and all cells 0, each job has all its pieces left, and waits for its segment and
+-- its dependencies.
 pub record IsOpening (h : JobGraph) (m : Moment) : Type 0 where
   pub states : (p : ℕ) → m.state p ≡ closed_state
   pub rests : (j : ℕ) → j < h.jobs → m.rest j ≡ tally (λ p. h.is_part p j) h.pieces

@@ -1,5 +1,5 @@
--- Runs of a plan as lists of events: a worker takes a piece or steals one, and finishes it. Here leases are copied out, and the key of a lease
--- is the number of the worker's seat.
+-- Runs of a plan as lists of events: a worker takes a piece or steals one, and finishes it. Here leases are copied out,
+-- and the key of a lease is the number of the worker's seat.
 use Rattle.std.specs.Prelude.{◌≡◌, ℕ, ◌<◌, true, ◌⊎◌, List, [], ◌∷◌, nat_eq, if◌then◌else◌, pos, Option, Some, None}
 use Rattle.job_base.specs.declared.limits.TheConstants.{MOST_WORKERS}
 use Rattle.merge_laws.specs.Numbers.{has, IsOnce}
@@ -58,7 +58,11 @@ written_back g cells l w = if g.writes l.piece w then g.effect l.piece l.local w
 -- the seat's lease, where it has one, is gone, its piece is ended, and its words are written back
 abbrev pub finished : PieceGraph → RunState → ℕ → Option Lease → RunState
 finished g s seat None = s
-finished g s seat (Some l) = record { ended = l.piece ∷ s.ended; lease = with_lease s.lease seat None; cells = written_back g s.cells l }
+finished g s seat (Some l) = record {
+  ended = l.piece ∷ s.ended;
+  lease = with_lease s.lease seat None;
+  cells = written_back g s.cells l;
+}
 
 abbrev pub after : PieceGraph → RunState → Event → RunState
 after g s (take seat piece) = taken s seat piece
@@ -81,23 +85,28 @@ IsEnded g s = (p : ℕ) → p < g.count → has p s.ended ≡ true
 pub record IsKept (g : PieceGraph) (s : RunState) : Type 0 where
   pub consistent : IsConsistent g (core_of s)
   -- the local cells of a lease are, on its footprint, those before its piece in script order
-  pub local : (k : ℕ) (l : Lease) (w : ℕ) → s.lease k ≡ Some l → g.reads l.piece w ≡ true → l.local w ≡ cells_before g l.piece w
+  pub local : (k : ℕ) (l : Lease) (w : ℕ) → s.lease k ≡ Some l → g.reads l.piece w ≡ true
+      → l.local w ≡ cells_before g l.piece w
   -- each piece is ended once at most
   pub once : IsOnce s.ended
 
 -- THE RUN THEOREM: in each state that a legal list of events reaches, the merge holds.
 abbrev pub RunsKeepTheMerge : Type 0
-RunsKeepTheMerge = (g : PieceGraph) → IsWellOrdered g → (es : List Event) → IsLegalRun g start es → IsKept g (run g start es)
+RunsKeepTheMerge = (g : PieceGraph) → IsWellOrdered g → (es : List Event) → IsLegalRun g start es
+    → IsKept g (run g start es)
 
 -- Where a run has ended, the cells are those after the run in script order.
 abbrev pub EndedRunsAreInScriptOrder : Type 0
-EndedRunsAreInScriptOrder = (g : PieceGraph) → IsWellOrdered g → (es : List Event) → IsLegalRun g start es → IsEnded g (run g start es)
+EndedRunsAreInScriptOrder = (g : PieceGraph) → IsWellOrdered g → (es : List Event) → IsLegalRun g start es
+    → IsEnded g (run g start es)
     → (w : ℕ) → (run g start es).cells w ≡ cells_before g g.count w
 
 -- So the pieces commute: two runs that ended have the same cells, whatever the order and whoever ran them.
 abbrev pub EndedRunsAgree : Type 0
-EndedRunsAgree = (g : PieceGraph) → IsWellOrdered g → (es fs : List Event) → IsLegalRun g start es → IsLegalRun g start fs
-    → IsEnded g (run g start es) → IsEnded g (run g start fs) → (w : ℕ) → (run g start es).cells w ≡ (run g start fs).cells w
+EndedRunsAgree = (g : PieceGraph) → IsWellOrdered g → (es fs : List Event) → IsLegalRun g start es
+    → IsLegalRun g start fs
+    → IsEnded g (run g start es) → IsEnded g (run g start fs) → (w : ℕ)
+    → (run g start es).cells w ≡ (run g start fs).cells w
 
 -- And a run can always go on until it has ended.
 abbrev pub RunsCanGoOn : Type 0

@@ -1,5 +1,5 @@
--- The three steps on a core: a piece begins, a word is stored, a piece ends. Each relates the core before with the core after, word by word
--- and key by key, so that lists, functions and words of memory can all be cores.
+-- The three steps on a core: a piece begins, a word is stored, a piece ends. Each relates the core before with the core
+-- after, word by word and key by key, so that lists, functions and words of memory can all be cores.
 use Rattle.std.specs.Prelude.{◌≡◌, ◌≢◌, ℕ, suc, ◌<◌, true, false, ℤ, Option, Some, None}
 use Rattle.merge_laws.specs.Graph.{Cells, PieceGraph, cells_before}
 use Rattle.merge_laws.specs.Core.{Lease, Core, IsReady, IsUnleased}
@@ -23,8 +23,8 @@ pub record MayBegin (g : PieceGraph) (c : Core) (p : ℕ) : Type 0 where
   pub unleased : IsUnleased c p
   pub ready : IsReady g c.ended p
 
--- Nothing that runs touches what the piece touches: no lease writes a word that it reads or writes, none reads a word that it writes, and on
--- its footprint the cells are those before it in script order.
+-- Nothing that runs touches what the piece touches: no lease writes a word that it reads or writes, none reads a word
+-- that it writes, and on its footprint the cells are those before it in script order.
 pub record IsClear (g : PieceGraph) (c : Core) (p : ℕ) : Type 0 where
   pub unwritten : (k : ℕ) (l : Lease) (w : ℕ) → c.lease k ≡ Some l → g.reads p w ≡ true → g.writes l.piece w ≡ false
   pub unread : (k : ℕ) (l : Lease) (w : ℕ) → c.lease k ≡ Some l → g.writes p w ≡ true → g.reads l.piece w ≡ false
@@ -53,8 +53,9 @@ pub record Stores (g : PieceGraph) (c d : Core) (k w : ℕ) (v : ℤ) : Type 0 w
   pub there : (u : ℕ) → u ≢ w → d.cells u ≡ c.cells u
   pub ended : (q : ℕ) → d.ended q ≡ c.ended q
 
--- The piece that the key k leases ends. The words that it writes take its local values at the end, which are those after it in script order.
--- Where cells are used in place, these are the lease's; where leases are copied out, what the piece makes of the lease's.
+-- The piece that the key k leases ends. The words that it writes take its local values at the end, which are those
+-- after it in script order. Where cells are used in place, these are the lease's; where leases are copied out, what the
+-- piece makes of the lease's.
 pub record Ends (g : PieceGraph) (c d : Core) (k : ℕ) : Type 0 where
   pub was : Lease
   pub lease : c.lease k ≡ Some was

@@ -12,11 +12,13 @@ use Rattle.native_array.specs.Effects.{done, get_effect, set_effect}
 use Rattle.native_array.proofs.Places.{in_place, item_at-cell_list}
 
 -- cells that agree on words agree there after the same write
-pub alike-with_cell : (start end : ℕ) (a b : ℕ → ℤ) (w : ℕ) (v u : ℤ) → AlikeWithin start end a b → u ≡ v → AlikeWithin start end (with_cell a w v) (with_cell b w u)
+pub alike-with_cell : (start end : ℕ) (a b : ℕ → ℤ) (w : ℕ) (v u : ℤ) → AlikeWithin start end a b → u ≡ v
+    → AlikeWithin start end (with_cell a w v) (with_cell b w u)
 alike-with_cell start end a b w v u h e k lo hi = λ i. cond (eqb k w) (e i) (h k lo hi i)
 
 module _ (at : ArrayAt) where
-  same_element : (a b : ℕ → ℤ) → AlikeWithin at.start (end_of at) a b → (i : ℤ) (p : Result ℕ Trap) → place_in at.len i ≡ p → then_value p (λ k. Ok (b (at.start + k))) ≡ then_value p (λ k. Ok (a (at.start + k)))
+  same_element : (a b : ℕ → ℤ) → AlikeWithin at.start (end_of at) a b → (i : ℤ) (p : Result ℕ Trap) → place_in at.len i ≡ p
+      → then_value p (λ k. Ok (b (at.start + k))) ≡ then_value p (λ k. Ok (a (at.start + k)))
   same_element a b h i (Ok k) e = let below = in_place at.len k i e in ap (λ z. Ok z) (h (at.start + k) (omega arith) (omega arith))
   same_element a b h i (Err trap) e = refl
 
@@ -29,7 +31,8 @@ module _ (at : ArrayAt) where
   }
 
   stored_stands : (cells : ℕ → ℤ) (i v : ℤ) (p : Result ℕ Trap) → place_in at.len i ≡ p
-      → Reaches (StandsFor at) (stored at cells v p) (done tt (Cells (cell_list cells at.start at.len)) (then_value (then_value p (λ k. Ok (set (cell_list cells at.start at.len) k v))) (λ ys. Ok (Cells ys))))
+      → Reaches (StandsFor at) (stored at cells v p) (done tt (Cells (cell_list cells at.start at.len))
+      (then_value (then_value p (λ k. Ok (set (cell_list cells at.start at.len) k v))) (λ ys. Ok (Cells ys))))
   stored_stands cells i v (Ok k) e = (refl, ap (λ ys. Cells ys) (sym (cell_list-with_cell-inside cells at.start at.len k v (in_place at.len k i e))))
   stored_stands cells i v (Err trap) e = (refl, refl)
 
@@ -38,7 +41,8 @@ module _ (at : ArrayAt) where
       let xs = cell_list cells at.start at.len in
       let effect = λ (n : ℕ). done tt (Cells xs) (then_value (then_value (place_in n i) (λ k. Ok (set xs k v))) (λ ys. Ok (Cells ys))) in
       subst (λ c. Reaches (StandsFor at) (set_words at cells i v) (set_effect i v c)) (sym s)
-      (subst (λ n. Reaches (StandsFor at) (set_words at cells i v) (effect n)) (sym (length-cell_list cells at.start at.len)) (stored_stands cells i v (place_in at.len i) refl))
+      (subst (λ n. Reaches (StandsFor at) (set_words at cells i v) (effect n)) (sym (length-cell_list cells at.start at.len))
+      (stored_stands cells i v (place_in at.len i) refl))
 
   stored_changes : (cells : ℕ → ℤ) (i v : ℤ) (p : Result ℕ Trap) → place_in at.len i ≡ p → SameBeyond at.start (end_of at) cells (stored at cells v p).1
   stored_changes cells i v (Ok k) e w out = let below = in_place at.len k i e in with_cell-other cells (at.start + k) v w (omega arith)
@@ -48,7 +52,8 @@ module _ (at : ArrayAt) where
   same_answer a b v (Ok k) = refl
   same_answer a b v (Err trap) = refl
 
-  stored_alike : (a b : ℕ → ℤ) (v : ℤ) (p : Result ℕ Trap) → AlikeWithin at.start (end_of at) a b → AlikeWithin at.start (end_of at) (stored at a v p).1 (stored at b v p).1
+  stored_alike : (a b : ℕ → ℤ) (v : ℤ) (p : Result ℕ Trap) → AlikeWithin at.start (end_of at) a b
+      → AlikeWithin at.start (end_of at) (stored at a v p).1 (stored at b v p).1
   stored_alike a b v (Ok k) h = alike-with_cell at.start (end_of at) a b (at.start + k) v v h refl
   stored_alike a b v (Err trap) h = h
 

@@ -40,7 +40,8 @@ module _ (at : ArrayAt) (start len : ℕ) (within : start + len ≤ at.len) wher
   part = record { start = at.start + start; len = len }
 
   -- the elements after a change
-  rest_of : (old new : ℕ → ℤ) (c : Contents) (ys : List ℤ) → StandsFor at old c → Cells ys ≡ Cells (cell_list new (at.start + start) len) → SameBeyond (at.start + start) ((at.start + start) + len) old new
+  rest_of : (old new : ℕ → ℤ) (c : Contents) (ys : List ℤ) → StandsFor at old c → Cells ys ≡ Cells (cell_list new (at.start + start) len)
+      → SameBeyond (at.start + start) ((at.start + start) + len) old new
       → Cells (take start (elements c) ++ ys ++ drop (start + len) (elements c)) ≡ Cells (cell_list new at.start at.len)
   rest_of old new c ys s t same =
       let xs : elements c ≡ cell_list old at.start at.len = ap elements s in

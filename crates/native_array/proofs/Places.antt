@@ -14,7 +14,8 @@ pub item_at-cell_list : (cells : ℕ → ℤ) (start n : ℕ) (i : ℤ) → item
 item_at-cell_list cells start n i =
     ap (λ m. then_value (place_in m i) (λ k. Ok (get_or (cell_list cells start n) k (pos 0)))) (length-cell_list cells start n) ∙ found (place_in n i) refl
   where
-    found : (p : Result ℕ Trap) → place_in n i ≡ p → then_value p (λ k. Ok (get_or (cell_list cells start n) k (pos 0))) ≡ then_value p (λ k. Ok (cells (start + k)))
+    found : (p : Result ℕ Trap) → place_in n i ≡ p → then_value p (λ k. Ok (get_or (cell_list cells start n) k (pos 0))) ≡ then_value p
+        (λ k. Ok (cells (start + k)))
     found (Ok k) e = ap (λ z. Ok z) (get_or-cell_list cells start n k (pos 0) (in_place n k i e))
     found (Err trap) e = refl
 

@@ -28,13 +28,15 @@ module _ (at : ListAt) (cells : ℕ → ℤ) (xs : List ℤ) (s : HoldsItems at 
       ∙ sym (item_at-cell_list cells (at.start + 1) (length xs) i)
       ∙ ap (λ l. item_at l i) s.elements
 
-  set_law_at : (i v : ℤ) (p : Result ℕ Trap) → place_in (length xs) i ≡ p → Becomes (stored (array_words at cells) cells v p) (then_value p (λ k. Ok (set xs k v)))
+  set_law_at : (i v : ℤ) (p : Result ℕ Trap) → place_in (length xs) i ≡ p
+      → Becomes (stored (array_words at cells) cells v p) (then_value p (λ k. Ok (set xs k v)))
   set_law_at i v (Ok k) e = (refl, (set xs k v, refl, set_holds at cells xs s k v (in_place (length xs) k i e)))
   set_law_at i v (Err trap) e = (refl, (xs, refl, s))
 
   pub set_law : (i v : ℤ) → Reaches (StandsFor at) (set_words at cells i v) (set_effect i v (Items at.cap xs))
   set_law i v =
-      subst (λ n. Becomes (stored (array_words at cells) cells v (place_in n i)) (then_value (place_in (length xs) i) (λ k. Ok (set xs k v)))) (sym (length_is at cells xs s))
+      subst (λ n. Becomes (stored (array_words at cells) cells v (place_in n i)) (then_value (place_in (length xs) i) (λ k. Ok (set xs k v))))
+      (sym (length_is at cells xs s))
       (set_law_at i v (place_in (length xs) i) refl)
 
   add_law_at : (v : ℤ) (room : Bool) → nat_lt (length xs) at.cap ≡ room
@@ -50,11 +52,13 @@ module _ (at : ListAt) (cells : ℕ → ℤ) (xs : List ℤ) (s : HoldsItems at 
   abbrev without : ℕ → List ℤ
   without k = take (length xs - 1) (set xs k (get_or xs (length xs - 1) (pos 0)))
 
-  remove_law_at : (i : ℤ) (p : Result ℕ Trap) → place_in (length xs) i ≡ p → Becomes (remove_words_at at cells (length xs) p) (then_value p (λ k. Ok (without k)))
+  remove_law_at : (i : ℤ) (p : Result ℕ Trap) → place_in (length xs) i ≡ p
+      → Becomes (remove_words_at at cells (length xs) p) (then_value p (λ k. Ok (without k)))
   remove_law_at i (Ok k) e = (refl, (without k, refl, remove_holds at cells xs s k (in_place (length xs) k i e)))
   remove_law_at i (Err trap) e = (refl, (xs, refl, s))
 
   pub remove_law : (i : ℤ) → Reaches (StandsFor at) (remove_words at cells i) (remove_effect i (Items at.cap xs))
   remove_law i =
-      subst (λ n. Becomes (remove_words_at at cells n (place_in n i)) (then_value (place_in (length xs) i) (λ k. Ok (without k)))) (sym (length_is at cells xs s))
+      subst (λ n. Becomes (remove_words_at at cells n (place_in n i)) (then_value (place_in (length xs) i) (λ k. Ok (without k))))
+      (sym (length_is at cells xs s))
       (remove_law_at i (place_in (length xs) i) refl)

@@ -17,7 +17,8 @@ of_items : {A : Type 0} (at : ListAt) (form : (ℕ → ℤ) → A × (ℕ → �
 of_items at form effect law cells c s = subst (λ c. Reaches (StandsFor at) (form cells) (effect c)) (sym s.1) (law cells s.0 s.2)
 
 -- a form that only reads
-reading : {A : Type 0} (at : ListAt) (form : (ℕ → ℤ) → A) (effect : Contents → A) → ((cells : ℕ → ℤ) (xs : List ℤ) → HoldsItems at cells xs → form cells ≡ effect (Items at.cap xs))
+reading : {A : Type 0} (at : ListAt) (form : (ℕ → ℤ) → A) (effect : Contents → A)
+    → ((cells : ℕ → ℤ) (xs : List ℤ) → HoldsItems at cells xs → form cells ≡ effect (Items at.cap xs))
     → ((a b : ℕ → ℤ) → Alike at a b → form b ≡ form a) → IsWordForm at (λ cells. (form cells, cells)) (λ c. (effect c, c))
 reading at form effect law same = record {
   stands = of_items at (λ cells. (form cells, cells)) (λ c. (effect c, c)) (λ cells xs s. (law cells xs s, (xs, refl, s)));

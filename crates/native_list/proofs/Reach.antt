@@ -29,7 +29,8 @@ module _ (at : ListAt) (cells : ℕ → ℤ) where
   two_outside k v u below w out =
       with_cell-other (with_cell cells (at.start + 1 + k) v) at.start u w (omega arith) ∙ with_cell-other cells (at.start + 1 + k) v w (omega arith)
 
-  set_outside_at : (i v : ℤ) (p : Result ℕ Trap) → place_in (len_words at cells) i ≡ p → SameBeyond at.start (end_of at) cells (stored (array_words at cells) cells v p).1
+  set_outside_at : (i v : ℤ) (p : Result ℕ Trap) → place_in (len_words at cells) i ≡ p
+      → SameBeyond at.start (end_of at) cells (stored (array_words at cells) cells v p).1
   set_outside_at i v (Ok k) e w out =
       let below : k < len_words at cells = in_place (len_words at cells) k i e in
       let within : len_words at cells ≤ at.cap = length_within at.cap (cells at.start) in
@@ -39,14 +40,16 @@ module _ (at : ListAt) (cells : ℕ → ℤ) where
   pub set_outside : (i v : ℤ) → SameBeyond at.start (end_of at) cells (set_words at cells i v).1
   set_outside i v = set_outside_at i v (place_in (len_words at cells) i) refl
 
-  add_outside_at : (n : ℕ) (v : ℤ) (room : Bool) → nat_lt n at.cap ≡ room → SameBeyond at.start (end_of at) cells (cond {A = Result (Unit {0}) Trap × (ℕ → ℤ)} room (Ok tt, added at cells n v) (Err Full, cells)).1
+  add_outside_at : (n : ℕ) (v : ℤ) (room : Bool) → nat_lt n at.cap ≡ room
+      → SameBeyond at.start (end_of at) cells (cond {A = Result (Unit {0}) Trap × (ℕ → ℤ)} room (Ok tt, added at cells n v) (Err Full, cells)).1
   add_outside_at n v true e = two_outside n v (pos (n + 1)) (ltb-true _ _ e)
   add_outside_at n v false e = λ w out. refl
 
   pub add_outside : (v : ℤ) → SameBeyond at.start (end_of at) cells (add_words at cells v).1
   add_outside v = add_outside_at (len_words at cells) v (nat_lt (len_words at cells) at.cap) refl
 
-  remove_outside_at : (n : ℕ) (i : ℤ) (p : Result ℕ Trap) → n ≤ at.cap → place_in n i ≡ p → SameBeyond at.start (end_of at) cells (remove_words_at at cells n p).1
+  remove_outside_at : (n : ℕ) (i : ℤ) (p : Result ℕ Trap) → n ≤ at.cap → place_in n i ≡ p
+      → SameBeyond at.start (end_of at) cells (remove_words_at at cells n p).1
   remove_outside_at n i (Ok k) within e = let below : k < n = in_place n k i e in two_outside k (cells (at.start + n)) (pos (n - 1)) (omega arith)
   remove_outside_at n i (Err trap) within e = λ w out. refl
 
@@ -60,7 +63,8 @@ module _ (at : ListAt) (a b : ℕ → ℤ) (h : Alike at a b) where
   within : len_words at a ≤ at.cap
   within = length_within at.cap (a at.start)
 
-  get_reads_at : (n : ℕ) (i : ℤ) (p : Result ℕ Trap) → n ≤ at.cap → place_in n i ≡ p → then_value p (λ k. Ok (b (at.start + 1 + k))) ≡ then_value p (λ k. Ok (a (at.start + 1 + k)))
+  get_reads_at : (n : ℕ) (i : ℤ) (p : Result ℕ Trap) → n ≤ at.cap → place_in n i ≡ p
+      → then_value p (λ k. Ok (b (at.start + 1 + k))) ≡ then_value p (λ k. Ok (a (at.start + 1 + k)))
   get_reads_at n i (Ok k) le e = let below : k < n = in_place n k i e in ap (λ z. Ok z) (h (at.start + 1 + k) (omega arith) (omega arith))
   get_reads_at n i (Err trap) le e = refl
 
@@ -74,14 +78,17 @@ module _ (at : ListAt) (a b : ℕ → ℤ) (h : Alike at a b) where
 
   pub set_reads : (i v : ℤ) → SameCall at (set_words at a i v) (set_words at b i v)
   set_reads i v =
-      subst (λ n. SameCall at (set_words at a i v) (stored (array_words at b) b v (place_in n i))) (sym len_reads) (set_reads_at v (place_in (len_words at a) i))
+      subst (λ n. SameCall at (set_words at a i v) (stored (array_words at b) b v (place_in n i))) (sym len_reads)
+      (set_reads_at v (place_in (len_words at a) i))
 
-  two_alike : (k : ℕ) (v u z : ℤ) → u ≡ v → Alike at (with_cell (with_cell a (at.start + 1 + k) v) at.start z) (with_cell (with_cell b (at.start + 1 + k) u) at.start z)
+  two_alike : (k : ℕ) (v u z : ℤ) → u ≡ v → Alike at (with_cell (with_cell a (at.start + 1 + k) v) at.start z)
+      (with_cell (with_cell b (at.start + 1 + k) u) at.start z)
   two_alike k v u z e =
       alike-with_cell at.start (end_of at) (with_cell a (at.start + 1 + k) v) (with_cell b (at.start + 1 + k) u) at.start z z
       (alike-with_cell at.start (end_of at) a b (at.start + 1 + k) v u h e) refl
 
-  add_reads_at : (n : ℕ) (v : ℤ) (room : Bool) → SameCall {A = Result (Unit {0}) Trap} at (cond room (Ok tt, added at a n v) (Err Full, a)) (cond room (Ok tt, added at b n v) (Err Full, b))
+  add_reads_at : (n : ℕ) (v : ℤ) (room : Bool) → SameCall {A = Result (Unit {0}) Trap} at (cond room (Ok tt, added at a n v) (Err Full, a))
+      (cond room (Ok tt, added at b n v) (Err Full, b))
   add_reads_at n v true = (refl, two_alike n v v (pos (n + 1)) refl)
   add_reads_at n v false = (refl, h)
 

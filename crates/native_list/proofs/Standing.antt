@@ -63,7 +63,8 @@ module _ (at : ListAt) (cells : ℕ → ℤ) (xs : List ℤ) (s : HoldsItems at 
       ∙ sym (get_or-cell_list cells (at.start + 1) (length xs) (length xs - 1) (pos 0) below)
       ∙ ap (λ l. get_or l (length xs - 1) (pos 0)) s.elements
 
-  pub remove_holds : (k : ℕ) → k < length xs → HoldsItems at (removed at cells (length xs) k) (take (length xs - 1) (set xs k (get_or xs (length xs - 1) (pos 0))))
+  pub remove_holds : (k : ℕ) → k < length xs → HoldsItems at (removed at cells (length xs) k)
+      (take (length xs - 1) (set xs k (get_or xs (length xs - 1) (pos 0))))
   remove_holds k below =
       let n = length xs in
       let some : 0 < length xs = omega arith in
@@ -81,5 +82,6 @@ module _ (at : ListAt) (cells : ℕ → ℤ) (xs : List ℤ) (s : HoldsItems at 
             ap (cell_list (removed at cells n k) (at.start + 1)) same
             ∙ cell_list-with_cell-outside moved (at.start + 1) (n - 1) at.start (pos (n - 1)) (inl (omega arith))
             ∙ sym (take-cell_list moved (at.start + 1) n (n - 1) (omega arith))
-            ∙ ap (take (n - 1)) (cell_list-with_cell-inside cells (at.start + 1) n k last below ∙ ap (λ l. set l k last) s.elements ∙ ap (set xs k) (last_is some));
+            ∙ ap (take (n - 1)) (cell_list-with_cell-inside cells (at.start + 1) n k last below ∙ ap (λ l. set l k last) s.elements
+            ∙ ap (set xs k) (last_is some));
       }

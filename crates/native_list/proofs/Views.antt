@@ -13,7 +13,8 @@ module _ (at : ListAt) (cells : ℕ → ℤ) where
   shown : (xs : List ℤ) → HoldsItems at cells xs → Cells xs ≡ Cells (cell_list cells (at.start + 1) (len_words at cells))
   shown xs s = ap (λ l. Cells l) (sym s.elements ∙ ap (cell_list cells (at.start + 1)) (sym (length_is at cells xs s)))
 
-  changed : (new : ℕ → ℤ) (xs ys : List ℤ) → HoldsItems at cells xs → ys ≡ cell_list new (at.start + 1) (len_words at cells) → new at.start ≡ cells at.start → HoldsItems at new ys
+  changed : (new : ℕ → ℤ) (xs ys : List ℤ) → HoldsItems at cells xs → ys ≡ cell_list new (at.start + 1) (len_words at cells) → new at.start ≡ cells at.start
+      → HoldsItems at new ys
   changed new xs ys s is same =
       let long : length ys ≡ length xs = ap length is ∙ length-cell_list new (at.start + 1) (len_words at cells) ∙ length_is at cells xs s in
       let within = s.within in

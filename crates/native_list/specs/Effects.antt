@@ -1,4 +1,5 @@
--- The effect of each call on contents: its answer, and the contents after. `get` and `set` have the effects of an array's.
+-- The effect of each call on contents: its answer, and the contents after. `get` and `set` have the effects of an
+-- array's.
 use Rattle.std.specs.Prelude.{ℕ, ◌+◌, ℤ, Result}
 use Rattle.job_base.specs.declared.Trap.{Trap}
 use Rattle.frame_ast.specs.Contents.{Contents, add_item, swap_back, cleared}

@@ -9,7 +9,8 @@ use Rattle.native_list.specs.declared.ListAt.{ListAt}
 abbrev pub end_of : ListAt → ℕ
 end_of at = at.start + (at.cap + 1)
 
--- The first word is the length, at most the capacity, and the cells behind it are the elements, in order. The other cells mean nothing.
+-- The first word is the length, at most the capacity, and the cells behind it are the elements, in order. The other
+-- cells mean nothing.
 pub record HoldsItems (at : ListAt) (cells : ℕ → ℤ) (xs : List ℤ) : Type 0 where
   pub count : cells at.start ≡ pos (length xs)
   pub within : length xs ≤ at.cap

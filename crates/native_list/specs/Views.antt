@@ -11,5 +11,6 @@ use Rattle.native_list.specs.Layout.{StandsFor}
 pub record IsViewOf (at : ListAt) (cells : ℕ → ℤ) (view : ArrayAt) : Type 0 where
   pub reads : (c : Contents) → StandsFor at cells c → ArrayStandsFor view cells (Cells (elements c))
   -- a change of the array's words alone changes the elements of the list, and not its length
-  pub writes : (new : ℕ → ℤ) (c : Contents) (ys : List ℤ) → StandsFor at cells c → ArrayStandsFor view new (Cells ys) → SameBeyond view.start (end_of view) cells new
+  pub writes : (new : ℕ → ℤ) (c : Contents) (ys : List ℤ) → StandsFor at cells c → ArrayStandsFor view new (Cells ys)
+      → SameBeyond view.start (end_of view) cells new
       → StandsFor at new (with_elements ys c)

@@ -11,6 +11,7 @@ use job_base::{Mem, Trap, Word};
 impl ListAt {
     /// Adds an element at the end. `Full` where the length is the capacity: a list in words never grows.
     ///
+    ///
     /// <https://docs.unity3d.com/Packages/com.unity.collections@2.5/api/Unity.Collections.NativeList-1.AddNoResize.html>
     pub fn add<M: Mem>(&self, mem: &mut M, v: i64) -> Result<(), Trap>
         requires fits { end_of self.now < 2 ^ 32 }
@@ -33,6 +34,7 @@ impl ListAt {
 
     /// Removes the element at place `i`: the last element is copied there, and the length falls by one. `Range` where
     /// `i` is below 0 or not below the length.
+    ///
     ///
     /// <https://docs.unity3d.com/Packages/com.unity.collections@2.5/api/Unity.Collections.NativeList-1.RemoveAtSwapBack.html>
     pub fn remove_swap_back<M: Mem>(&self, mem: &mut M, i: i64) -> Result<(), Trap>

@@ -65,7 +65,8 @@ clear_form at = record {
 }
 
 -- a form that only reads
-reading : {A : Type 0} (at : MapAt) (form : (ℕ → ℤ) → A) (effect : Contents → A) → ((cells : ℕ → ℤ) (ps : List (ℤ × ℤ)) → HoldsPairs at cells ps → form cells ≡ effect (Pairs at.cap ps))
+reading : {A : Type 0} (at : MapAt) (form : (ℕ → ℤ) → A) (effect : Contents → A)
+    → ((cells : ℕ → ℤ) (ps : List (ℤ × ℤ)) → HoldsPairs at cells ps → form cells ≡ effect (Pairs at.cap ps))
     → ((a b : ℕ → ℤ) → Alike at a b → form b ≡ form a) → IsWordForm at (λ cells. (form cells, cells)) (λ c. (effect c, c))
 reading at form effect law same = record {
   stands = of_pairs at (λ cells. (form cells, cells)) (λ c. (effect c, c)) (λ cells ps s. (law cells ps s, (ps, refl, s)));
@@ -84,15 +85,18 @@ pub count_form : (at : MapAt) → IsWordForm at (λ cells. (count_words at cells
 count_form at = reading at (count_words at) (λ c. (count_effect c).0) (count_law at) (count_reads at)
 
 pub next_form : (at : MapAt) (k : Option ℤ) → IsWordForm at (λ cells. (next_words at cells k, cells)) (next_effect k)
-next_form at k = reading at (λ cells. next_words at cells k) (λ c. (next_effect k c).0) (λ cells ps s. next_law at cells ps s k) (λ a b h. next_reads at a b h k)
+next_form at k = reading at (λ cells. next_words at cells k) (λ c. (next_effect k c).0) (λ cells ps s. next_law at cells ps s k)
+    (λ a b h. next_reads at a b h k)
 
 -- ---- the words of a call, by the end of its search
 
 module _ (at : MapAt) (old : ℕ → ℤ) (k v : ℤ) (new : ℕ → ℤ) where
-  pub put_in_held : (p : ℕ) → Held p ≡ spot_of at old k → new ≡ with_cell old (value_word at.start p) v → ◌≡◌ {A = Result (Unit {0}) Trap × (ℕ → ℤ)} (Ok tt, new) (put_words at old k v)
+  pub put_in_held : (p : ℕ) → Held p ≡ spot_of at old k → new ≡ with_cell old (value_word at.start p) v
+      → ◌≡◌ {A = Result (Unit {0}) Trap × (ℕ → ℤ)} (Ok tt, new) (put_words at old k v)
   put_in_held p spot cells = (λ i. (Ok tt, cells i)) ∙ ap (λ sp. put_words_in at old sp k v) spot
 
-  pub put_in_free : (p : ℕ) → Free p ≡ spot_of at old k → (result : Result (Unit {0}) Trap) → (result, new) ≡ add_words_at at old p k v → (result, new) ≡ put_words at old k v
+  pub put_in_free : (p : ℕ) → Free p ≡ spot_of at old k → (result : Result (Unit {0}) Trap) → (result, new) ≡ add_words_at at old p k v
+      → (result, new) ≡ put_words at old k v
   put_in_free p spot result words = words ∙ ap (λ sp. put_words_in at old sp k v) spot
 
   pub put_nowhere : Nowhere ≡ spot_of at old k → new ≡ old → ◌≡◌ {A = Result (Unit {0}) Trap × (ℕ → ℤ)} (Err Full, new) (put_words at old k v)
@@ -101,7 +105,8 @@ module _ (at : MapAt) (old : ℕ → ℤ) (k v : ℤ) (new : ℕ → ℤ) where
   pub add_in_held : (p : ℕ) → Held p ≡ spot_of at old k → new ≡ old → ◌≡◌ {A = Result (Unit {0}) Trap × (ℕ → ℤ)} (Err PresentKey, new) (add_words at old k v)
   add_in_held p spot cells = (λ i. (Err PresentKey, cells i)) ∙ ap (λ sp. add_words_in at old sp k v) spot
 
-  pub add_in_free : (p : ℕ) → Free p ≡ spot_of at old k → (result : Result (Unit {0}) Trap) → (result, new) ≡ add_words_at at old p k v → (result, new) ≡ add_words at old k v
+  pub add_in_free : (p : ℕ) → Free p ≡ spot_of at old k → (result : Result (Unit {0}) Trap) → (result, new) ≡ add_words_at at old p k v
+      → (result, new) ≡ add_words at old k v
   add_in_free p spot result words = words ∙ ap (λ sp. add_words_in at old sp k v) spot
 
   pub add_nowhere : Nowhere ≡ spot_of at old k → new ≡ old → ◌≡◌ {A = Result (Unit {0}) Trap × (ℕ → ℤ)} (Err Full, new) (add_words at old k v)
@@ -110,14 +115,16 @@ module _ (at : MapAt) (old : ℕ → ℤ) (k v : ℤ) (new : ℕ → ℤ) where
   pub try_add_in_held : (p : ℕ) → Held p ≡ spot_of at old k → new ≡ old → ◌≡◌ {A = Result Bool Trap × (ℕ → ℤ)} (Ok false, new) (try_add_words at old k v)
   try_add_in_held p spot cells = (λ i. (Ok false, cells i)) ∙ ap (λ sp. try_add_words_in at old sp k v) spot
 
-  pub try_add_in_free : (p : ℕ) → Free p ≡ spot_of at old k → (result : Result Bool Trap) → (result, new) ≡ try_add_words_at at old p k v → (result, new) ≡ try_add_words at old k v
+  pub try_add_in_free : (p : ℕ) → Free p ≡ spot_of at old k → (result : Result Bool Trap) → (result, new) ≡ try_add_words_at at old p k v
+      → (result, new) ≡ try_add_words at old k v
   try_add_in_free p spot result words = words ∙ ap (λ sp. try_add_words_in at old sp k v) spot
 
   pub try_add_nowhere : Nowhere ≡ spot_of at old k → new ≡ old → ◌≡◌ {A = Result Bool Trap × (ℕ → ℤ)} (Err Full, new) (try_add_words at old k v)
   try_add_nowhere spot cells = (λ i. (Err Full, cells i)) ∙ ap (λ sp. try_add_words_in at old sp k v) spot
 
   pub remove_in_held : (p : ℕ) → Held p ≡ spot_of at old k
-      → new ≡ with_cell (shifted at (places at.cap) old p (next_place (places at.cap) p)) at.start (int_wrapping_sub w64 (old at.start) (pos 1)) → (true, new) ≡ remove_words at old k
+      → new ≡ with_cell (shifted at (places at.cap) old p (next_place (places at.cap) p)) at.start (int_wrapping_sub w64 (old at.start) (pos 1))
+      → (true, new) ≡ remove_words at old k
   remove_in_held p spot cells = (λ i. (true, cells i)) ∙ ap (remove_words_in at old) spot
 
   pub remove_in_free : (p : ℕ) → Free p ≡ spot_of at old k → new ≡ old → (false, new) ≡ remove_words at old k

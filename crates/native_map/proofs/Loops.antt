@@ -7,7 +7,8 @@ use Rattle.native_map.specs.declared.search.Spot.TheVariants.{Held, Free, Nowher
 use Rattle.native_map.specs.Table.{next_place, probe, flag_word, holds, key_at, stops, places, place_of, home, spot_in, spot_of}
 use Rattle.native_map.specs.Words.{nearer, nearest, copied, passes, shifted, with_place, gathered}
 
-pub probe_more : (stops : ℕ → Bool) (t n i p : ℕ) (r : Option ℕ) → i < n → stops p ≡ false → probe stops t (n - i) p ≡ r → probe stops t (n - (i + 1)) (next_place t p) ≡ r
+pub probe_more : (stops : ℕ → Bool) (t n i p : ℕ) (r : Option ℕ) → i < n → stops p ≡ false → probe stops t (n - i) p ≡ r
+    → probe stops t (n - (i + 1)) (next_place t p) ≡ r
 probe_more stops t n i p r lt s e =
     let c : n - i ≡ suc (n - (i + 1)) = omega arith in
     sym (ap (λ b. cond b (Some p) (probe stops t (n - (i + 1)) (next_place t p))) s) ∙ sym (ap (λ m. probe stops t m p) c) ∙ e
@@ -39,15 +40,18 @@ spot_nowhere at cells k e = sym (ap (spot_in at cells) e)
 pub probe_over : (stops : ℕ → Bool) (t n p : ℕ) → probe stops t (n - n) p ≡ None
 probe_over stops t n p = let e : n - n ≡ 0 = omega arith in ap (λ m. probe stops t m p) e
 
-pub begins : (at : MapAt) (cells : ℕ → ℤ) (k : ℤ) (t h : ℕ) → t ≡ places at.cap → h ≡ home t k → probe (stops cells at.start k) t (t - 0) h ≡ place_of at cells k
+pub begins : (at : MapAt) (cells : ℕ → ℤ) (k : ℤ) (t h : ℕ) → t ≡ places at.cap → h ≡ home t k
+    → probe (stops cells at.start k) t (t - 0) h ≡ place_of at cells k
 unfolding place_of
 begins at cells k t h e f = let z : t - 0 ≡ t = omega arith in rw (z, f, e) refl
 
-pub shift_stop : (at : MapAt) (cells : ℕ → ℤ) (n c i j : ℕ) → c < n → holds cells at.start j ≡ false → shifted at (n - c) cells i j ≡ with_cell cells (flag_word at.start i) (pos 0)
+pub shift_stop : (at : MapAt) (cells : ℕ → ℤ) (n c i j : ℕ) → c < n → holds cells at.start j ≡ false
+    → shifted at (n - c) cells i j ≡ with_cell cells (flag_word at.start i) (pos 0)
 shift_stop at cells n c i j lt free =
     let s : n - c ≡ suc (n - (c + 1)) = omega arith in
     ap (λ m. shifted at m cells i j) s
-    ∙ ap (λ b. cond b (cond (passes at cells i j) (shifted at (n - (c + 1)) (copied at cells i j) j (next_place (places at.cap) j)) (shifted at (n - (c + 1)) cells i (next_place (places at.cap) j))) (with_cell cells (flag_word at.start i) (pos 0))) free
+    ∙ ap (λ b. cond b (cond (passes at cells i j) (shifted at (n - (c + 1)) (copied at cells i j) j (next_place (places at.cap) j))
+    (shifted at (n - (c + 1)) cells i (next_place (places at.cap) j))) (with_cell cells (flag_word at.start i) (pos 0))) free
 
 pub shift_more : (at : MapAt) (cells : ℕ → ℤ) (n c i j : ℕ) → c < n → holds cells at.start j ≡ true
     → (cells' : ℕ → ℤ) → cells' ≡ cond (passes at cells i j) (copied at cells i j) cells → (i' : ℕ) → i' ≡ cond (passes at cells i j) j i
@@ -57,8 +61,10 @@ shift_more at cells n c i j lt held cells' e i' f =
     let m = n - (c + 1) in
     let k = next_place (places at.cap) j in
     ap (λ x. shifted at m x i' k) e ∙ ap (λ x. shifted at m (cond (passes at cells i j) (copied at cells i j) cells) x k) f
-    ∙ elim (passes at cells i j) as (λ b. shifted at m (cond b (copied at cells i j) cells) (cond b j i) k ≡ cond b (shifted at m (copied at cells i j) j k) (shifted at m cells i k)) [ true ↦ refl | false ↦ refl ]
-    ∙ sym (ap (λ b. cond b (cond (passes at cells i j) (shifted at m (copied at cells i j) j k) (shifted at m cells i k)) (with_cell cells (flag_word at.start i) (pos 0))) held)
+    ∙ elim (passes at cells i j) as (λ b. shifted at m (cond b (copied at cells i j) cells) (cond b j i) k ≡ cond b (shifted at m (copied at cells i j) j k)
+    (shifted at m cells i k)) [ true ↦ refl | false ↦ refl ]
+    ∙ sym (ap (λ b. cond b (cond (passes at cells i j) (shifted at m (copied at cells i j) j k) (shifted at m cells i k))
+    (with_cell cells (flag_word at.start i) (pos 0))) held)
     ∙ sym (ap (λ m. shifted at m cells i j) s)
 
 pub shift_over : (at : MapAt) (cells : ℕ → ℤ) (n i j : ℕ) → shifted at (n - n) cells i j ≡ with_cell cells (flag_word at.start i) (pos 0)

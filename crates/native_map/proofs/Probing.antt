@@ -21,7 +21,11 @@ pub next_below : (t p : ℕ) → p < t → next_place t p < t
 next_below t p h = grind (arith, nat_tests)
 
 pub distance_is : (t a b : ℕ) → a < t → b < t → ((a ≤ b) × (distance t a b + a ≡ b)) ⊎ ((b < a) × (distance t a b + a ≡ b + t))
-distance_is t a b ha hb = elim (cases_lt b a) [ inl lt ↦ inr (lt, omega (arith, distance_round t a b lt)) | inr le ↦ inl (le, omega (arith, distance_up t a b le)) ]
+distance_is t a b ha hb = elim (cases_lt b a) [
+  | inl lt ↦ inr (lt, omega (arith, distance_round t a b lt))
+  | inr le ↦ inl
+      (le, omega (arith, distance_up t a b le))
+]
 
 pub next_is : (t p : ℕ) → p < t → ((p + 1 < t) × (next_place t p ≡ p + 1)) ⊎ ((p + 1 ≡ t) × (next_place t p ≡ 0))
 next_is t p h = elim (cases_eq (p + 1) t) [ inl e ↦ inr (e, next_round t p e) | inr ne ↦ inl (omega arith, next_inside t p ne) ]
@@ -62,7 +66,11 @@ module _ (stops : ℕ → Bool) (t : ℕ) where
   pub probe_ends : (n p q : ℕ) → p < t → probe stops t n p ≡ Some q → Ends p q
   probe_ends zero p q hp e = absurd (cc)
   probe_ends (suc n) p q hp e = elim (stops p) as (λ b. stops p ≡ b → cond b (Some p) (probe stops t n (next_place t p)) ≡ Some q → Ends p q) [
-    | true ↦ λ s e. let same : p ≡ q = cc in record { below = rw (← same) hp; stopped = rw (← same) s; before = λ x hx lt. absurd (omega (arith, distance_none t p, ap (distance t p) same)) }
+    | true ↦ λ s e. let same : p ≡ q = cc in record {
+      below = rw (← same) hp;
+      stopped = rw (← same) s;
+      before = λ x hx lt. absurd (omega (arith, distance_none t p, ap (distance t p) same));
+    }
     | false ↦ λ s e.
         let rest = probe_ends n (next_place t p) q (next_below t p hp) e in
         let here : p ≢ q = λ same. true≢false (sym rest.stopped ∙ ap stops (sym same) ∙ s) in
@@ -88,7 +96,11 @@ module _ (stops : ℕ → Bool) (t : ℕ) where
         ∙ probe_to n (next_place t p) q (next_below t p hp) (omega arith) (record {
           below = is.below;
           stopped = is.stopped;
-          before = λ x hx less. is.before x hx (elim (cases_eq p x) [ inl same ↦ omega (arith, distance_none t p, ap (distance t p) same) | inr apart ↦ omega (arith, distance_next t p x hp hx apart) ]);
+          before = λ x hx less. is.before x hx (elim (cases_eq p x) [
+            | inl same ↦ omega (arith, distance_none t p, ap (distance t p) same)
+            | inr apart ↦ omega
+                (arith, distance_next t p x hp hx apart)
+          ]);
         })
   ]
 

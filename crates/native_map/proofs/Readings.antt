@@ -19,7 +19,8 @@ use Rattle.native_map.proofs.Standing.{same_place, same_held, same_key, same_val
 abbrev pub SameCall : {A : Type 0} → MapAt → A × (ℕ → ℤ) → A × (ℕ → ℤ) → Type 0
 SameCall at f g = (g.0 ≡ f.0) × Alike at f.1 g.1
 
-choose : {A : Type 0} (at : MapAt) (x y : Bool) → y ≡ x → (f g f' g' : A × (ℕ → ℤ)) → SameCall at f f' → SameCall at g g' → SameCall at (cond x f g) (cond y f' g')
+choose : {A : Type 0} (at : MapAt) (x y : Bool) → y ≡ x → (f g f' g' : A × (ℕ → ℤ)) → SameCall at f f' → SameCall at g g'
+    → SameCall at (cond x f g) (cond y f' g')
 choose at true true e f g f' g' p q = p
 choose at true false e f g f' g' p q = absurd (true≢false (sym e))
 choose at false true e f g f' g' p q = absurd (true≢false e)
@@ -43,17 +44,20 @@ module _ (at : MapAt) where
       written _ _ three at.start _ _ (ap (λ c. c +ℤ pos 1) (h at.start (omega arith) (omega arith)))
 
   copied_alike : (a b : ℕ → ℤ) → Alike at a b → (i j : ℕ) → j < places at.cap → Alike at (copied at a i j) (copied at b i j)
-  copied_alike a b h i j hj = written _ _ (written a b h (key_word at.start i) _ _ (same_key at a b h j hj)) (value_word at.start i) _ _ (same_value at a b h j hj)
+  copied_alike a b h i j hj = written _ _ (written a b h (key_word at.start i) _ _ (same_key at a b h j hj)) (value_word at.start i) _ _
+      (same_value at a b h j hj)
 
   shifted_alike : (n : ℕ) (a b : ℕ → ℤ) → Alike at a b → (i j : ℕ) → j < places at.cap → Alike at (shifted at n a i j) (shifted at n b i j)
   shifted_alike zero a b h i j hj = written a b h (flag_word at.start i) (pos 0) (pos 0) refl
   shifted_alike (suc n) a b h i j hj =
       let on = next_below (places at.cap) j hj in
       let k = next_place (places at.cap) j in
-      let over : passes at b i j ≡ passes at a i j = ap (λ k. nat_lt (distance (places at.cap) (home (places at.cap) k) i) (distance (places at.cap) (home (places at.cap) k) j)) (same_key at a b h j hj) in
+      let over : passes at b i j ≡ passes at a i j = ap (λ k. nat_lt (distance (places at.cap) (home (places at.cap) k) i)
+      (distance (places at.cap) (home (places at.cap) k) j)) (same_key at a b h j hj) in
       let moved = shifted_alike n (copied at a i j) (copied at b i j) (copied_alike a b h i j hj) j k on in
       let passed = shifted_alike n a b h i k on in
-      let inner = either at (passes at a i j) (passes at b i j) over (shifted at n (copied at a i j) j k) (shifted at n a i k) (shifted at n (copied at b i j) j k) (shifted at n b i k) moved passed in
+      let inner = either at (passes at a i j) (passes at b i j) over (shifted at n (copied at a i j) j k) (shifted at n a i k)
+      (shifted at n (copied at b i j) j k) (shifted at n b i k) moved passed in
       either at (holds a at.start j) (holds b at.start j) (same_held at a b h j hj)
       (cond (passes at a i j) (shifted at n (copied at a i j) j k) (shifted at n a i k)) (with_cell a (flag_word at.start i) (pos 0))
       (cond (passes at b i j) (shifted at n (copied at b i j) j k) (shifted at n b i k)) (with_cell b (flag_word at.start i) (pos 0))
@@ -77,10 +81,12 @@ module _ (at : MapAt) where
     same_full = ap (λ c. not (int_lt c (pos at.cap))) (h at.start (omega arith) (omega arith))
 
     added_alike : (p : ℕ) (k v : ℤ) → SameCall at (add_words_at at a p k v) (add_words_at at b p k v)
-    added_alike p k v = choose at (is_full at a) (is_full at b) same_full (Err Full, a) (Ok tt, filled at a p k v) (Err Full, b) (Ok tt, filled at b p k v) (refl, h) (refl, filled_alike a b h p k v)
+    added_alike p k v = choose at (is_full at a) (is_full at b) same_full (Err Full, a) (Ok tt, filled at a p k v) (Err Full, b) (Ok tt, filled at b p k v)
+        (refl, h) (refl, filled_alike a b h p k v)
 
     try_added_alike : (p : ℕ) (k v : ℤ) → SameCall at (try_add_words_at at a p k v) (try_add_words_at at b p k v)
-    try_added_alike p k v = choose at (is_full at a) (is_full at b) same_full (Err Full, a) (Ok true, filled at a p k v) (Err Full, b) (Ok true, filled at b p k v) (refl, h) (refl, filled_alike a b h p k v)
+    try_added_alike p k v = choose at (is_full at a) (is_full at b) same_full (Err Full, a) (Ok true, filled at a p k v) (Err Full, b)
+        (Ok true, filled at b p k v) (refl, h) (refl, filled_alike a b h p k v)
 
     put_reads_in : (sp : Spot) (k v : ℤ) → SameCall at (put_words_in at a sp k v) (put_words_in at b sp k v)
     put_reads_in (Held p) k v = (refl, written a b h (value_word at.start p) v v refl)
@@ -104,13 +110,15 @@ module _ (at : MapAt) where
     try_add_reads_in Nowhere k v = (refl, h)
 
     pub try_add_reads : (k v : ℤ) → SameCall at (try_add_words at a k v) (try_add_words at b k v)
-    try_add_reads k v = subst (λ sp. SameCall at (try_add_words at a k v) (try_add_words_in at b sp k v)) (sym (same_spot k)) (try_add_reads_in (spot_of at a k) k v)
+    try_add_reads k v = subst (λ sp. SameCall at (try_add_words at a k v) (try_add_words_in at b sp k v)) (sym (same_spot k))
+        (try_add_reads_in (spot_of at a k) k v)
 
     pub remove_reads : (k : ℤ) → SameCall at (remove_words at a k) (remove_words at b k)
     remove_reads k = elim (ending at a k) [
       | nowhere e ↦ (
         ap (λ sp. (remove_words_in at b sp).0) (same_spot k ∙ ap (spot_in at a) e) ∙ sym (ap (λ o. (remove_words_in at a (spot_in at a o)).0) e),
-        λ x lo hi. ap (λ sp. (remove_words_in at b sp).1 x) (same_spot k ∙ ap (spot_in at a) e) ∙ h x lo hi ∙ sym (ap (λ o. (remove_words_in at a (spot_in at a o)).1 x) e),
+        λ x lo hi. ap (λ sp. (remove_words_in at b sp).1 x) (same_spot k ∙ ap (spot_in at a) e) ∙ h x lo hi
+            ∙ sym (ap (λ o. (remove_words_in at a (spot_in at a o)).1 x) e),
       )
       | in_gap p e s ↦
           let to = ap (spot_in at a) e ∙ ap (λ y. cond y (Held p) (Free p)) s in (
@@ -120,7 +128,8 @@ module _ (at : MapAt) where
       | in_place p e s ↦
           let to = ap (spot_in at a) e ∙ ap (λ y. cond y (Held p) (Free p)) s in
           let hp = (ended at a k p e).below in
-          let after = written _ _ (shifted_alike (places at.cap) a b h p (next_place (places at.cap) p) (next_below (places at.cap) p hp)) at.start _ _ (ap (λ c. int_wrapping_sub w64 c (pos 1)) (h at.start (omega arith) (omega arith))) in (
+          let after = written _ _ (shifted_alike (places at.cap) a b h p (next_place (places at.cap) p) (next_below (places at.cap) p hp)) at.start _ _
+          (ap (λ c. int_wrapping_sub w64 c (pos 1)) (h at.start (omega arith) (omega arith))) in (
             ap (λ sp. (remove_words_in at b sp).0) (same_spot k ∙ to) ∙ sym (ap (λ sp. (remove_words_in at a sp).0) to),
             λ x lo hi. ap (λ sp. (remove_words_in at b sp).1 x) (same_spot k ∙ to) ∙ after x lo hi ∙ sym (ap (λ sp. (remove_words_in at a sp).1 x) to),
           )
@@ -142,7 +151,8 @@ module _ (at : MapAt) where
     near_reads k zero le = refl
     near_reads k (suc n) le =
         let hn : n < places at.cap = omega arith in
-        λ i. cond (same_held at a b h n hn i && (is_above k (same_key at a b h n hn i) && is_nearer (near_reads k n (omega arith) i) (same_key at a b h n hn i)))
+        λ i. cond (same_held at a b h n hn i && (is_above k (same_key at a b h n hn i)
+        && is_nearer (near_reads k n (omega arith) i) (same_key at a b h n hn i)))
         (Some (same_key at a b h n hn i, same_value at a b h n hn i)) (near_reads k n (omega arith) i)
 
     pub next_reads : (k : Option ℤ) → next_words at b k ≡ next_words at a k

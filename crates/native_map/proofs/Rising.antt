@@ -54,7 +54,8 @@ module _ (ps : List (ℤ × ℤ)) (k : ℤ) where
 
     -- an absent key leaves the pairs as they are
     pub without_key-absent : has_key ps k ≡ false → without_key ps k ≡ ps
-    without_key-absent absent = same_entries int_cmp int_cmp_total int_cmp-IsAntisymmetric (without_key ps k) ps (to_T _ rising-without_key) sorted (λ q. elim (cases_int q k) [
-      | inl q_k ↦ ap (value_of_key (without_key ps k)) q_k ∙ without_key-here ∙ sym (ap (value_of_key ps) q_k ∙ none_of (value_of_key ps k) absent)
-      | inr q_o ↦ without_key-there q q_o
-    ])
+    without_key-absent absent = same_entries int_cmp int_cmp_total int_cmp-IsAntisymmetric (without_key ps k) ps (to_T _ rising-without_key) sorted
+        (λ q. elim (cases_int q k) [
+          | inl q_k ↦ ap (value_of_key (without_key ps k)) q_k ∙ without_key-here ∙ sym (ap (value_of_key ps) q_k ∙ none_of (value_of_key ps k) absent)
+          | inr q_o ↦ without_key-there q q_o
+        ])

@@ -27,7 +27,8 @@ abbrev pub Table : MapAt → (ℕ → ℤ) → ℕ → Type 0
 Table at cells hole = IsTable (places at.cap) (home (places at.cap)) (home_below at.cap) (holds cells at.start) (key_at cells at.start) hole
 
 abbrev pub Given : MapAt → (ℕ → ℤ) → (ℤ → Option ℤ) → ℕ → Type 0
-Given at cells find hole = Gives (places at.cap) (home (places at.cap)) (home_below at.cap) (holds cells at.start) (key_at cells at.start) (value_at cells at.start) find hole
+Given at cells find hole = Gives (places at.cap) (home (places at.cap)) (home_below at.cap) (holds cells at.start) (key_at cells at.start)
+    (value_at cells at.start) find hole
 
 module _ (at : MapAt) (cells : ℕ → ℤ) where
   -- the search that ended at a place
@@ -37,20 +38,24 @@ module _ (at : MapAt) (cells : ℕ → ℤ) where
 
   pub ends_at : (k : ℤ) (p : ℕ) → Ends (stops cells at.start k) (places at.cap) (home (places at.cap) k) p → place_of at cells k ≡ Some p
   unfolding place_of
-  ends_at k p is = probe_to (stops cells at.start k) (places at.cap) (places at.cap) (home (places at.cap) k) p (home_below at.cap k) (distance_below (places at.cap) (home (places at.cap) k) p (home_below at.cap k) is.below) is
+  ends_at k p is = probe_to (stops cells at.start k) (places at.cap) (places at.cap) (home (places at.cap) k) p (home_below at.cap k)
+      (distance_below (places at.cap) (home (places at.cap) k) p (home_below at.cap k) is.below) is
 
   pub goes_past : (k : ℤ) (x : ℕ) → stops cells at.start k x ≡ false → (holds cells at.start x ≡ true) × (int_eq (key_at cells at.start x) k ≡ false)
-  goes_past k x e = elim (holds cells at.start x) as (λ b. (not b || int_eq (key_at cells at.start x) k) ≡ false → (b ≡ true) × (int_eq (key_at cells at.start x) k ≡ false)) [ true ↦ λ f. (refl, f) | false ↦ λ f. absurd (true≢false f) ] e
+  goes_past k x e = elim (holds cells at.start x) as (λ b. (not b || int_eq (key_at cells at.start x) k) ≡ false
+      → (b ≡ true) × (int_eq (key_at cells at.start x) k ≡ false)) [ true ↦ λ f. (refl, f) | false ↦ λ f. absurd (true≢false f) ] e
 
   -- the places of words that stand for pairs are a table
-  pub table_of : ((p : ℕ) → p < places at.cap → holds cells at.start p ≡ true → place_of at cells (key_at cells at.start p) ≡ Some p) → Table at cells (places at.cap)
+  pub table_of : ((p : ℕ) → p < places at.cap → holds cells at.start p ≡ true → place_of at cells (key_at cells at.start p) ≡ Some p)
+      → Table at cells (places at.cap)
   table_of searched = record {
     once = λ p q hp hq _ _ sp sq same. let e = sym (searched p hp sp) ∙ ap (place_of at cells) same ∙ searched q hq sq in (cc);
     reached = λ q x hq hx _ sq lt. (goes_past _ x ((ended _ q (searched q hq sq)).before x hx lt)).0;
   }
 
   -- in a table each search ends at its key's place
-  pub searched_of : Table at cells (places at.cap) → (p : ℕ) → p < places at.cap → holds cells at.start p ≡ true → place_of at cells (key_at cells at.start p) ≡ Some p
+  pub searched_of : Table at cells (places at.cap) → (p : ℕ) → p < places at.cap → holds cells at.start p ≡ true
+      → place_of at cells (key_at cells at.start p) ≡ Some p
   searched_of is p hp sp =
       let k = key_at cells at.start p in
       let no_hole : (x : ℕ) → x < places at.cap → x ≢ places at.cap = λ x hx e. omega arith in
@@ -91,7 +96,8 @@ module _ (at : MapAt) (cells : ℕ → ℤ) where
     | Some p ↦ λ e. elim (cases_Bool (holds cells at.start p)) [ inl h ↦ in_place p e h | inr h ↦ in_gap p e h ]
   ] refl
 
-  gives_of : (find : ℤ → Option ℤ) → ((p : ℕ) → p < places at.cap → holds cells at.start p ≡ true → place_of at cells (key_at cells at.start p) ≡ Some p) → ((k : ℤ) → find k ≡ value_of at cells k) → Given at cells find (places at.cap)
+  gives_of : (find : ℤ → Option ℤ) → ((p : ℕ) → p < places at.cap → holds cells at.start p ≡ true → place_of at cells (key_at cells at.start p) ≡ Some p)
+      → ((k : ℤ) → find k ≡ value_of at cells k) → Given at cells find (places at.cap)
   gives_of find searched pairs = record {
     given = λ q hq _ sq. pairs _ ∙ value_held _ q (searched q hq sq) sq;
     stands = λ k v g.
@@ -113,14 +119,16 @@ module _ (at : MapAt) (cells : ℕ → ℤ) where
       elim (ending k) [
         | in_place p e h ↦ let b = (ended k p e).below in
             sym (ap find (key_there k p e h)) ∙ gives.given p b (λ same. omega arith) h ∙ sym (value_held k p e h)
-        | in_gap p e h ↦ none (λ q hq e'. let same = sym e ∙ e' in let pq : p ≡ q = cc in true≢false (sym hq ∙ ap (holds cells at.start) (sym pq) ∙ h)) ∙ sym (value_free k p e h)
+        | in_gap p e h ↦ none (λ q hq e'. let same = sym e ∙ e' in let pq : p ≡ q = cc in true≢false (sym hq ∙ ap (holds cells at.start) (sym pq) ∙ h))
+            ∙ sym (value_free k p e h)
         | nowhere e ↦ none (λ q hq e'. let same = sym e ∙ e' in absurd (cc)) ∙ sym (value_nowhere k e)
       ]
 
   abbrev pub Flags : Type 0
   Flags = (p : ℕ) → p < places at.cap → (cells (flag_word at.start p) ≡ pos 0) ⊎ (cells (flag_word at.start p) ≡ pos 1)
 
-  pub built : (ps : List (ℤ × ℤ)) → IsTrue (is_sorted int_cmp ps) → Flags → Table at cells (places at.cap) → Given at cells (value_of_key ps) (places at.cap) → held_count (holds cells at.start) (places at.cap) ≡ length ps → cells at.start ≡ pos (length ps) → length ps ≤ at.cap → HoldsPairs at cells ps
+  pub built : (ps : List (ℤ × ℤ)) → IsTrue (is_sorted int_cmp ps) → Flags → Table at cells (places at.cap) → Given at cells (value_of_key ps) (places at.cap)
+      → held_count (holds cells at.start) (places at.cap) ≡ length ps → cells at.start ≡ pos (length ps) → length ps ≤ at.cap → HoldsPairs at cells ps
   built ps rising flags is gives number count within = record {
     rising = rising;
     flags = flags;
@@ -145,7 +153,8 @@ module _ (at : MapAt) (cells : ℕ → ℤ) (ps : List (ℤ × ℤ)) (s : HoldsP
   pub not_nowhere : end_of at < 2 ^ 32 → (k : ℤ) → place_of at cells k ≢ None
   unfolding place_of
   not_nowhere fits k = let e = a_gap fits in
-      probe_some (stops cells at.start k) (places at.cap) (places at.cap) (home (places at.cap) k) e.0 (home_below at.cap k) e.1 (stops_free cells at.start e.0 k e.2) (distance_below (places at.cap) _ e.0 (home_below at.cap k) e.1)
+      probe_some (stops cells at.start k) (places at.cap) (places at.cap) (home (places at.cap) k) e.0 (home_below at.cap k) e.1
+      (stops_free cells at.start e.0 k e.2) (distance_below (places at.cap) _ e.0 (home_below at.cap k) e.1)
 
   pub found : (k : ℤ) (p : ℕ) → place_of at cells k ≡ Some p → holds cells at.start p ≡ true → has_key ps k ≡ true
   found k p e h = ap is_some (s.pairs k ∙ value_held at cells k p e h)

@@ -36,7 +36,8 @@ doubled_is (suc turns) a b n le fits least far = elim (cases_lt (2 ^ a) n) [
 ]
 
 -- what std's `next_power_of_two` gives is that number
-least_power : (turns cap r : ℕ) → 40 ≤ turns → cap < 2 ^ 32 → (k : ℕ) × (r ≡ 2 ^ k) → max (2 * cap) 2 ≤ r → r / 2 < max 1 (max (2 * cap) 2) → r ≡ doubled turns 2 (2 * cap)
+least_power : (turns cap r : ℕ) → 40 ≤ turns → cap < 2 ^ 32 → (k : ℕ) × (r ≡ 2 ^ k) → max (2 * cap) 2 ≤ r → r / 2 < max 1 (max (2 * cap) 2)
+    → r ≡ doubled turns 2 (2 * cap)
 least_power turns cap r many small power enough least =
     let b = power.0 in
     let is : r ≡ 2 ^ b = power.1 in
@@ -66,7 +67,8 @@ doubled_enough (suc turns) a n h =
     let e : suc a + turns ≡ a + suc turns = omega arith in
     cond_both (leb n (2 ^ a)) (2 ^ a) (doubled turns (2 * 2 ^ a) n) (λ x. x < 2 ^ (a + suc turns) → n ≤ x)
     (λ le h. leb-true n (2 ^ a) le)
-    (λ _. subst (λ x. doubled turns x n < 2 ^ (a + suc turns) → n ≤ doubled turns x n) (sym (twice a)) (subst (λ t. doubled turns (2 ^ suc a) n < 2 ^ t → n ≤ doubled turns (2 ^ suc a) n) e (doubled_enough turns (suc a) n)))
+    (λ _. subst (λ x. doubled turns x n < 2 ^ (a + suc turns) → n ≤ doubled turns x n) (sym (twice a))
+    (subst (λ t. doubled turns (2 ^ suc a) n < 2 ^ t → n ≤ doubled turns (2 ^ suc a) n) e (doubled_enough turns (suc a) n)))
     h
 
 below_power : (t x : ℕ) → 32 ≤ t → x < 2 ^ 32 → x < 2 ^ t

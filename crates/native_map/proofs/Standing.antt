@@ -34,7 +34,8 @@ module _ (at : MapAt) (cells cells' : ℕ → ℤ) (same : (w : ℕ) → at.star
 
   pub same_place : (k : ℤ) → place_of at cells' k ≡ place_of at cells k
   unfolding place_of
-  same_place k = probe_same (stops cells at.start k) (stops cells' at.start k) (places at.cap) (λ x hx i. not (same_held x hx i) || int_eq (same_key x hx i) k) (places at.cap) (home (places at.cap) k) (home_below at.cap k)
+  same_place k = probe_same (stops cells at.start k) (stops cells' at.start k) (places at.cap) (λ x hx i. not (same_held x hx i) || int_eq (same_key x hx i) k)
+      (places at.cap) (home (places at.cap) k) (home_below at.cap k)
 
   pub same_found : (k : ℤ) → value_of at cells' k ≡ value_of at cells k
   same_found k = elim (ending at cells k) [
@@ -66,7 +67,8 @@ module _ (at : MapAt) (cells cells' : ℕ → ℤ) (same : (w : ℕ) → at.star
   still_stands c s = (s.0, s.1, still_holds s.0 s.2)
 
 pub holds_once : (at : MapAt) (cells : ℕ → ℤ) (ps qs : List (ℤ × ℤ)) → HoldsPairs at cells ps → HoldsPairs at cells qs → ps ≡ qs
-holds_once at cells ps qs s r = same_entries int_cmp int_cmp_total int_cmp-IsAntisymmetric ps qs (to_T _ s.rising) (to_T _ r.rising) (λ k. s.pairs k ∙ sym (r.pairs k))
+holds_once at cells ps qs s r = same_entries int_cmp int_cmp_total int_cmp-IsAntisymmetric ps qs (to_T _ s.rising) (to_T _ r.rising)
+    (λ k. s.pairs k ∙ sym (r.pairs k))
 
 pub stands_once : (at : MapAt) (cells : ℕ → ℤ) (c d : Contents) → StandsFor at cells c → StandsFor at cells d → c ≡ d
 stands_once at cells c d s r = s.1 ∙ ap (Pairs at.cap) (holds_once at cells s.0 r.0 s.2 r.2) ∙ sym r.1
@@ -80,5 +82,6 @@ stands_held at cells c s = subst IsHeld (sym s.1) (s.2.within, s.2.rising)
 pub get_in-is : (at : MapAt) (cells : ℕ → ℤ) (c : Contents) → StandsFor at cells c → (width index : ℕ) (k : ℤ) → get_in width index k c ≡ (get_effect k c).0
 get_in-is at cells c s width index k = subst (λ c. get_in width index k c ≡ (get_effect k c).0) (sym s.1) refl
 
-pub put_in-is : (at : MapAt) (cells : ℕ → ℤ) (c : Contents) → StandsFor at cells c → (width index : ℕ) (k v : ℤ) → put_effect k v c ≡ done tt c (put_in width index k v c)
+pub put_in-is : (at : MapAt) (cells : ℕ → ℤ) (c : Contents) → StandsFor at cells c → (width index : ℕ) (k v : ℤ)
+    → put_effect k v c ≡ done tt c (put_in width index k v c)
 put_in-is at cells c s width index k v = subst (λ c. put_effect k v c ≡ done tt c (put_in width index k v c)) (sym s.1) refl

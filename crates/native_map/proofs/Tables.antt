@@ -14,7 +14,8 @@ count_same held held' (suc n) same =
     let rest = count_same held held' n (λ x hx. same x (omega arith)) in
     omega (arith, here, rest)
 
-pub count_more : (held held' : ℕ → Bool) (n p : ℕ) → p < n → held p ≡ false → held' p ≡ true → ((x : ℕ) → x ≢ p → held' x ≡ held x) → held_count held' n ≡ held_count held n + 1
+pub count_more : (held held' : ℕ → Bool) (n p : ℕ) → p < n → held p ≡ false → held' p ≡ true → ((x : ℕ) → x ≢ p → held' x ≡ held x)
+    → held_count held' n ≡ held_count held n + 1
 count_more held held' zero p hp free now same = absurd (omega arith)
 count_more held held' (suc n) p hp free now same = elim (cases_eq n p) [
   | inl e ↦
@@ -94,7 +95,8 @@ module _ (t : ℕ) (home : ℤ → ℕ) (home_below : (k : ℤ) → home k < t) 
                 | inr beyond ↦ absurd (
                     let far = distance_past t h i q hh at.i_below hq (omega arith) in
                     let apart : distance t i j ≢ distance t i q = λ e. j_not_q (distance_apart t i j q at.i_below at.j_below hq e) in
-                    let near : distance t h j ≡ distance t h i + distance t i j = distance_by t h i j hh at.i_below at.j_below (omega (arith, distance_below t h q hh hq)) in
+                    let near : distance t h j ≡ distance t h i + distance t i j =
+                    distance_by t h i j hh at.i_below at.j_below (omega (arith, distance_below t h q hh hq)) in
                     true≢false (sym (is.reached q j hq at.j_below not_q held_q (omega arith)) ∙ free))
               ]
         ];
@@ -109,7 +111,13 @@ module _ (t : ℕ) (home : ℤ → ℕ) (home_below : (k : ℤ) → home k < t) 
       let further : distance t i (next_place t j) ≡ distance t i j + 1 =
       let a = distance_below t i e at.i_below at.e_below in
       let b = at.ahead in
-      omega (arith, distance_is t i j at.i_below at.j_below, next_is t j at.j_below, distance_is t i (next_place t j) at.i_below (next_below t j at.j_below), at.i_below) in
+      omega (
+        arith,
+        distance_is t i j at.i_below at.j_below,
+        next_is t j at.j_below,
+        distance_is t i (next_place t j) at.i_below (next_below t j at.j_below),
+        at.i_below,
+      ) in
       record {
         i_below = at.i_below;
         j_below = next_below t j at.j_below;
@@ -119,7 +127,8 @@ module _ (t : ℕ) (home : ℤ → ℕ) (home_below : (k : ℤ) → home k < t) 
         begun = omega arith;
         ahead = omega (arith, at.ahead);
         passed = λ q hq some less. elim (cases_eq (distance t i q) (distance t i j)) [
-          | inl same ↦ let at_j = distance_apart t i q j at.i_below hq at.j_below same in subst (λ p. distance t (home (key p)) p ≤ distance t (home (key p)) i) (sym at_j) stays
+          | inl same ↦ let at_j = distance_apart t i q j at.i_below hq at.j_below same in
+              subst (λ p. distance t (home (key p)) p ≤ distance t (home (key p)) i) (sym at_j) stays
           | inr other ↦ at.passed q hq some (omega arith)
         ];
       }
@@ -147,7 +156,9 @@ module _ (t : ℕ) (home : ℤ → ℕ) (home_below : (k : ℤ) → home k < t) 
       reached = λ q x hq hx not_q sq lt. elim (cases_eq q i) [
         | inl q_i ↦
             let k : key' q ≡ key j = ap key' q_i ∙ key_here in
-            let less : distance t (home (key j)) x < distance t (home (key j)) i = subst (λ k. distance t (home k) x < distance t (home k) i) k (subst (λ p. distance t (home (key' q)) x < distance t (home (key' q)) p) q_i lt) in
+            let less : distance t (home (key j)) x < distance t (home (key j)) i =
+            subst (λ k. distance t (home k) x < distance t (home k) i) k
+            (subst (λ p. distance t (home (key' q)) x < distance t (home (key' q)) p) q_i lt) in
             is.reached j x at.j_below hx j_not_i held_j (omega arith)
         | inr q_o ↦ is.reached q x hq hx q_o sq (subst (λ k. distance t (home k) x < distance t (home k) q) (key_there q q_o) lt)
       ];
@@ -171,7 +182,16 @@ module _ (t : ℕ) (home : ℤ → ℕ) (home_below : (k : ℤ) → home k < t) 
     pub moved_on : Shifts held key' j (next_place t j) e
     moved_on =
         let j_not_e : j ≢ e = λ same. true≢false (sym held_j ∙ ap held same ∙ at.e_free) in
-        let one : distance t j (next_place t j) ≡ 1 = omega (arith, next_is t j at.j_below, distance_is t j (next_place t j) at.j_below (next_below t j at.j_below), distance_is t j e at.j_below at.e_below, j_not_e, at.e_below, at.j_below) in
+        let one : distance t j (next_place t j) ≡ 1 = omega (
+          arith,
+          next_is t j at.j_below,
+          distance_is t j (next_place t j) at.j_below
+              (next_below t j at.j_below),
+          distance_is t j e at.j_below at.e_below,
+          j_not_e,
+          at.e_below,
+          at.j_below,
+        ) in
         record {
           i_below = at.j_below;
           j_below = next_below t j at.j_below;
@@ -200,7 +220,8 @@ module _ (t : ℕ) (home : ℤ → ℕ) (home_below : (k : ℤ) → home k < t) 
   module _ (held : ℕ → Bool) (key value : ℕ → ℤ) (p : ℕ) (hp : p < t) (free : held p ≡ false) (k v : ℤ)
       (absent : (q : ℕ) → q < t → held q ≡ true → key q ≢ k)
       (held' : ℕ → Bool) (key' value' : ℕ → ℤ) (held_here : held' p ≡ true) (key_here : key' p ≡ k) (value_here : value' p ≡ v)
-      (held_there : (x : ℕ) → x ≢ p → held' x ≡ held x) (key_there : (x : ℕ) → x ≢ p → key' x ≡ key x) (value_there : (x : ℕ) → x ≢ p → value' x ≡ value x) where
+      (held_there : (x : ℕ) → x ≢ p → held' x ≡ held x) (key_there : (x : ℕ) → x ≢ p → key' x ≡ key x)
+      (value_there : (x : ℕ) → x ≢ p → value' x ≡ value x) where
     pub filled_table : ((x : ℕ) → x < t → distance t (home k) x < distance t (home k) p → held x ≡ true) → IsTable held key t → IsTable held' key' t
     filled_table reached is = record {
       once = λ a b ha hb _ _ sa sb same. elim (cases_eq a p) [
@@ -210,19 +231,23 @@ module _ (t : ℕ) (home : ℤ → ℕ) (home_below : (k : ℤ) → home k < t) 
         ]
         | inr a_o ↦ elim (cases_eq b p) [
           | inl b_p ↦ absurd (absent a ha (sym (held_there a a_o) ∙ sa) (sym (key_there a a_o) ∙ same ∙ ap key' b_p ∙ key_here))
-          | inr b_o ↦ is.once a b ha hb (no_hole a ha) (no_hole b hb) (sym (held_there a a_o) ∙ sa) (sym (held_there b b_o) ∙ sb) (sym (key_there a a_o) ∙ same ∙ key_there b b_o)
+          | inr b_o ↦ is.once a b ha hb (no_hole a ha) (no_hole b hb) (sym (held_there a a_o) ∙ sa) (sym (held_there b b_o) ∙ sb)
+              (sym (key_there a a_o) ∙ same ∙ key_there b b_o)
         ]
       ];
       reached = λ q x hq hx _ sq lt. elim (cases_eq x p) [
         | inl x_p ↦ ap held' x_p ∙ held_here
         | inr x_o ↦ held_there x x_o ∙ elim (cases_eq q p) [
-          | inl q_p ↦ reached x hx (subst (λ k. distance t (home k) x < distance t (home k) p) (ap key' q_p ∙ key_here) (subst (λ z. distance t (home (key' q)) x < distance t (home (key' q)) z) q_p lt))
-          | inr q_o ↦ is.reached q x hq hx (no_hole q hq) (sym (held_there q q_o) ∙ sq) (subst (λ k. distance t (home k) x < distance t (home k) q) (key_there q q_o) lt)
+          | inl q_p ↦ reached x hx (subst (λ k. distance t (home k) x < distance t (home k) p) (ap key' q_p ∙ key_here)
+              (subst (λ z. distance t (home (key' q)) x < distance t (home (key' q)) z) q_p lt))
+          | inr q_o ↦ is.reached q x hq hx (no_hole q hq) (sym (held_there q q_o) ∙ sq)
+              (subst (λ k. distance t (home k) x < distance t (home k) q) (key_there q q_o) lt)
         ]
       ];
     }
 
-    pub filled_gives : (find find' : ℤ → Option ℤ) → find' k ≡ Some v → ((q : ℤ) → q ≢ k → find' q ≡ find q) → Gives held key value find t → Gives held' key' value' find' t
+    pub filled_gives : (find find' : ℤ → Option ℤ) → find' k ≡ Some v → ((q : ℤ) → q ≢ k → find' q ≡ find q) → Gives held key value find t
+        → Gives held' key' value' find' t
     filled_gives find find' here there is = record {
       given = λ q hq _ sq. elim (cases_eq q p) [
         | inl q_p ↦ ap find' (ap key' q_p ∙ key_here) ∙ here ∙ ap Some (sym value_here ∙ ap value' (sym q_p))
@@ -264,7 +289,8 @@ module _ (t : ℕ) (home : ℤ → ℕ) (home_below : (k : ℤ) → home k < t) 
       reached = λ q x hq hx _ sq lt. is.reached q x hq hx (no_hole q hq) sq lt;
     }
 
-    pub opened_gives : (find find' : ℤ → Option ℤ) → find' k ≡ None → ((q : ℤ) → q ≢ k → find' q ≡ find q) → Gives held key value find t → Gives held key value find' p
+    pub opened_gives : (find find' : ℤ → Option ℤ) → find' k ≡ None → ((q : ℤ) → q ≢ k → find' q ≡ find q) → Gives held key value find t
+        → Gives held key value find' p
     opened_gives find find' here there gives = record {
       given = λ q hq not_p sq. there (key q) (other_key q hq not_p sq) ∙ gives.given q hq (no_hole q hq) sq;
       stands = λ a w g. elim (cases_int a k) [
@@ -279,7 +305,13 @@ module _ (t : ℕ) (home : ℤ → ℕ) (home_below : (k : ℤ) → home k < t) 
     opened_on e he e_free =
         let ne : p ≢ e = λ same. true≢false (sym held_p ∙ ap held same ∙ e_free) in
         let far = distance_some t p e hp he (λ same. ne (sym same)) in
-        let one : distance t p (next_place t p) ≡ 1 = omega (arith, next_is t p hp, distance_is t p (next_place t p) hp (next_below t p hp), distance_is t p e hp he, ne) in
+        let one : distance t p (next_place t p) ≡ 1 = omega (
+          arith,
+          next_is t p hp,
+          distance_is t p (next_place t p) hp (next_below t p hp),
+          distance_is t p e hp he,
+          ne,
+        ) in
         record {
           i_below = hp;
           j_below = next_below t p hp;

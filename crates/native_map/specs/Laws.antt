@@ -7,4 +7,5 @@ use Rattle.native_map.specs.Layout.{StandsFor}
 
 -- words of 0 stand for the empty map
 abbrev pub ZeroWordsAreEmpty : Type 0
-ZeroWordsAreEmpty = (at : MapAt) (cells : ℕ → ℤ) → ((w : ℕ) → at.start ≤ w → w < end_of at → cells w ≡ pos 0) → StandsFor at cells (Pairs at.cap [])
+ZeroWordsAreEmpty = (at : MapAt) (cells : ℕ → ℤ) → ((w : ℕ) → at.start ≤ w → w < end_of at → cells w ≡ pos 0)
+    → StandsFor at cells (Pairs at.cap [])

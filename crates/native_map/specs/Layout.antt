@@ -10,9 +10,11 @@ use Rattle.native_map.specs.Table.{places, flag_word, key_at, holds, place_of, v
 -- The table holds these pairs. They are listed by rising key; which place has which is the table's own choice.
 pub record HoldsPairs (at : MapAt) (cells : ℕ → ℤ) (ps : List (ℤ × ℤ)) : Type 0 where
   pub rising : IsTrue (is_sorted int_cmp ps)
-  pub flags : (p : ℕ) → p < places at.cap → (cells (flag_word at.start p) ≡ pos 0) ⊎ (cells (flag_word at.start p) ≡ pos 1)
+  pub flags : (p : ℕ) → p < places at.cap → (cells (flag_word at.start p) ≡ pos 0)
+      ⊎ (cells (flag_word at.start p) ≡ pos 1)
   -- The search for each key that stands in a place ends at that place, so no key stands in two.
-  pub searched : (p : ℕ) → p < places at.cap → holds cells at.start p ≡ true → place_of at cells (key_at cells at.start p) ≡ Some p
+  pub searched : (p : ℕ) → p < places at.cap → holds cells at.start p ≡ true
+      → place_of at cells (key_at cells at.start p) ≡ Some p
   pub pairs : (k : ℤ) → value_of_key ps k ≡ value_of at cells k
   -- the count is the number of places that hold a pair
   pub number : held_count (holds cells at.start) (places at.cap) ≡ length ps

@@ -63,7 +63,8 @@ probe stops t (suc n) p = if stops p then Some p else probe stops t n (next_plac
 
 -- ---- the hash
 
--- The bits of a key, mixed as SplitMix64 ends: twice the high bits are folded into the low ones and the number is multiplied.
+-- The bits of a key, mixed as SplitMix64 ends: twice the high bits are folded into the low ones and the number is
+-- multiplied.
 unfoldable pub mixed : ℕ → ℕ
 mixed x =
     let y = (bit_xor x (x / 2 ^ 30) * 0xbf58476d1ce4e5b9) % 2 ^ 64 in

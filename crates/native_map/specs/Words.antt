@@ -26,7 +26,8 @@ is_full at cells = not (int_lt (cells at.start) (pos at.cap))
 -- the cells with a pair at place p, and the count one higher
 abbrev pub filled : MapAt → (ℕ → ℤ) → ℕ → ℤ → ℤ → ℕ → ℤ
 filled at cells p k v =
-    with_cell (with_cell (with_cell (with_cell cells (key_word at.start p) k) (value_word at.start p) v) (flag_word at.start p) (pos 1)) at.start (cells at.start +ℤ pos 1)
+    with_cell (with_cell (with_cell (with_cell cells (key_word at.start p) k) (value_word at.start p) v)
+    (flag_word at.start p) (pos 1)) at.start (cells at.start +ℤ pos 1)
 
 abbrev pub add_words_at : MapAt → (ℕ → ℤ) → ℕ → ℤ → ℤ → Result (Unit {0}) Trap × (ℕ → ℤ)
 add_words_at at cells p k v = if is_full at cells then (Err Full, cells) else (Ok tt, filled at cells p k v)
@@ -69,15 +70,17 @@ passes at cells i j =
 
 -- the cells with the key and the value of place j at place i too
 abbrev pub copied : MapAt → (ℕ → ℤ) → ℕ → ℕ → ℕ → ℤ
-copied at cells i j = with_cell (with_cell cells (key_word at.start i) (key_at cells at.start j)) (value_word at.start i) (value_at cells at.start j)
+copied at cells i j = with_cell (with_cell cells (key_word at.start i) (key_at cells at.start j))
+    (value_word at.start i) (value_at cells at.start j)
 
--- Backward shift deletion: place i becomes free. Up to the end of the cluster, from place j on, each pair whose search passes the gap moves
--- back into it, and leaves a gap in turn.
+-- Backward shift deletion: place i becomes free. Up to the end of the cluster, from place j on, each pair whose search
+-- passes the gap moves back into it, and leaves a gap in turn.
 abbrev pub shifted : MapAt → ℕ → (ℕ → ℤ) → ℕ → ℕ → ℕ → ℤ
 shifted at zero cells i j = with_cell cells (flag_word at.start i) (pos 0)
 shifted at (suc n) cells i j =
     if holds cells at.start j
-    then (if passes at cells i j then shifted at n (copied at cells i j) j (next_place (places at.cap) j) else shifted at n cells i (next_place (places at.cap) j))
+    then (if passes at cells i j then shifted at n (copied at cells i j) j
+    (next_place (places at.cap) j) else shifted at n cells i (next_place (places at.cap) j))
     else with_cell cells (flag_word at.start i) (pos 0)
 
 abbrev pub remove_words_in : MapAt → (ℕ → ℤ) → Spot → Bool × (ℕ → ℤ)
@@ -133,7 +136,8 @@ next_words at cells k = nearest at cells k (places at.cap)
 -- the pairs with that of place p behind them, where it holds one and a map may have one more
 abbrev pub with_place : MapAt → (ℕ → ℤ) → List (ℤ × ℤ) → ℕ → List (ℤ × ℤ)
 with_place at cells ps p =
-    if holds cells at.start p && nat_lt (length ps) at.cap then ps ++ (key_at cells at.start p, value_at cells at.start p) ∷ [] else ps
+    if holds cells at.start p && nat_lt (length ps) at.cap then ps
+    ++ (key_at cells at.start p, value_at cells at.start p) ∷ [] else ps
 
 -- the pairs that the first places hold, in the order of the places, as many as a map may have
 abbrev pub gathered : MapAt → (ℕ → ℤ) → ℕ → List (ℤ × ℤ)

@@ -37,7 +37,8 @@ impl MapAt {
         requires gap { i < places self.now.cap }
         requires place { j < places self.now.cap }
         ensures gap { result ≡ (if passes self.now (M.cells mem.old) i j then j else i) }
-        ensures cells { M.cells mem.new ≡ (if passes self.now (M.cells mem.old) i j then copied self.now (M.cells mem.old) i j else M.cells mem.old) }
+        ensures cells { M.cells mem.new ≡ (if passes self.now (M.cells mem.old) i j then copied self.now
+            (M.cells mem.old) i j else M.cells mem.old) }
         ensures readable { M.readable mem.new ≡ M.readable mem.old }
         ensures writable { M.writable mem.new ≡ M.writable mem.old }
     {
@@ -57,7 +58,8 @@ impl MapAt {
         requires readable { AreAllowed self.now.start (end_of self.now) (M.readable mem.old) }
         requires writable { AreAllowed self.now.start (end_of self.now) (M.writable mem.old) }
         requires place { p < places self.now.cap }
-        ensures cells { M.cells mem.new ≡ shifted self.now (places self.now.cap) (M.cells mem.old) p (next_place (places self.now.cap) p) }
+        ensures cells { M.cells mem.new ≡ shifted self.now (places self.now.cap) (M.cells mem.old) p
+            (next_place (places self.now.cap) p) }
         ensures readable { M.readable mem.new ≡ M.readable mem.old }
         ensures writable { M.writable mem.new ≡ M.writable mem.old }
     {

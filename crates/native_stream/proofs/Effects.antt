@@ -31,7 +31,8 @@ module _ (at : StreamAt) (cells : ℕ → ℤ) (es : List (Option (List ℤ))) (
 
   -- ---- reading
 
-  items_at : (i : ℤ) (p : Result ℕ Trap) → place_in at.count i ≡ p → then_value p (λ j. Ok (item_count at cells j)) ≡ then_value (then_value p (λ j. Ok (items_of (get_or es j None)))) (λ xs. Ok (length xs))
+  items_at : (i : ℤ) (p : Result ℕ Trap) → place_in at.count i ≡ p → then_value p (λ j. Ok (item_count at cells j)) ≡ then_value
+      (then_value p (λ j. Ok (items_of (get_or es j None)))) (λ xs. Ok (length xs))
   items_at i (Ok k) e = ap (λ n. Ok n) (count_is at cells k (get_or es k None) (s.each k (in_place at.count k i e)))
   items_at i (Err trap) e = refl
 
@@ -44,14 +45,17 @@ module _ (at : StreamAt) (cells : ℕ → ℤ) (es : List (Option (List ℤ))) (
       → then_value p (λ q. Ok (cells (item_word at k q))) ≡ then_value p (λ q. Ok (get_or (items_of e) q (pos 0)))
   item_found k e t i (Ok q) h =
       ap (λ z. Ok z)
-      (sym (get_or-cell_list cells (mark_word at k + 1) (length (items_of e)) q (pos 0) (in_place (length (items_of e)) q i h)) ∙ ap (λ l. get_or l q (pos 0)) t.items)
+      (sym (get_or-cell_list cells (mark_word at k + 1) (length (items_of e)) q (pos 0) (in_place (length (items_of e)) q i h))
+      ∙ ap (λ l. get_or l q (pos 0)) t.items)
   item_found k e t i (Err trap) h = refl
 
   item_is : (k : ℕ) (e : Option (List ℤ)) → HoldsEntry at cells k e → (i : ℤ) → item_words at cells k i ≡ item_at (items_of e) i
   item_is k e t i =
-      ap (λ n. then_value (place_in n i) (λ q. Ok (cells (item_word at k q)))) (count_is at cells k e t) ∙ item_found k e t i (place_in (length (items_of e)) i) refl
+      ap (λ n. then_value (place_in n i) (λ q. Ok (cells (item_word at k q)))) (count_is at cells k e t)
+      ∙ item_found k e t i (place_in (length (items_of e)) i) refl
 
-  at_at : (i k : ℤ) (p : Result ℕ Trap) → place_in at.count i ≡ p → then_value p (λ j. item_words at cells j k) ≡ then_value (then_value p (λ j. Ok (items_of (get_or es j None)))) (λ xs. item_at xs k)
+  at_at : (i k : ℤ) (p : Result ℕ Trap) → place_in at.count i ≡ p → then_value p (λ j. item_words at cells j k) ≡ then_value
+      (then_value p (λ j. Ok (items_of (get_or es j None)))) (λ xs. item_at xs k)
   at_at i k (Ok j) e = item_is j (get_or es j None) (s.each j (in_place at.count j i e)) k
   at_at i k (Err trap) e = refl
 
@@ -71,23 +75,28 @@ module _ (at : StreamAt) (cells : ℕ → ℤ) (es : List (Option (List ℤ))) (
       (λ w out. with_cell-other cells (mark_word at k) (pos 1) w (omega arith))
       (record { mark = with_cell-same cells (mark_word at k) (pos 1); within = omega arith; items = refl })
 
-  begun_reaches : (k : ℕ) → k < at.count → (b : Bool) → Reaches (StandsFor at) (cond {A = Result (Unit {0}) Trap × (ℕ → ℤ)} b (Err Written, cells) (Ok tt, with_cell cells (mark_word at k) (pos 1)))
+  begun_reaches : (k : ℕ) → k < at.count → (b : Bool) → Reaches (StandsFor at)
+      (cond {A = Result (Unit {0}) Trap × (ℕ → ℤ)} b (Err Written, cells) (Ok tt, with_cell cells (mark_word at k) (pos 1)))
       (done tt (Entries at.room es) (then_value (cond b (Err Written) (Ok (set es k (Some [])))) (λ fs. Ok (Entries at.room fs))))
   begun_reaches k h true = (refl, whole)
   begun_reaches k h false = (refl, (set es k (Some []), refl, begun_holds k h))
 
   begin_at : (i : ℤ) (p : Result ℕ Trap) → place_in at.count i ≡ p → Reaches (StandsFor at) (begun at cells p)
-      (done tt (Entries at.room es) (then_value (then_value p (λ a. Ok a)) (λ _. then_value (then_value p (λ k. cond (is_some (get_or es k None)) (Err Written) (Ok (set es k (Some []))))) (λ fs. Ok (Entries at.room fs)))))
+      (done tt (Entries at.room es) (then_value (then_value p (λ a. Ok a))
+      (λ _. then_value (then_value p (λ k. cond (is_some (get_or es k None)) (Err Written) (Ok (set es k (Some []))))) (λ fs. Ok (Entries at.room fs)))))
   begin_at i (Ok k) e =
       let h : k < at.count = in_place at.count k i e in
-      subst (λ b. Reaches (StandsFor at) (begun at cells (Ok k)) (done tt (Entries at.room es) (then_value (cond b (Err Written) (Ok (set es k (Some [])))) (λ fs. Ok (Entries at.room fs)))))
+      subst (λ b. Reaches (StandsFor at) (begun at cells (Ok k)) (done tt (Entries at.room es)
+      (then_value (cond b (Err Written) (Ok (set es k (Some [])))) (λ fs. Ok (Entries at.room fs)))))
       (written_is at cells k (get_or es k None) (s.each k h)) (begun_reaches k h (is_written_at at cells k))
   begin_at i (Err trap) e = (refl, whole)
 
   pub begin_law : (i : ℤ) → Reaches (StandsFor at) (begin_words at cells i) (begin_effect i (Entries at.room es))
   begin_law i =
       subst (λ n. Reaches (StandsFor at) (begin_words at cells i)
-      (done tt (Entries at.room es) (then_value (then_value (place_in n i) (λ a. Ok a)) (λ _. then_value (then_value (place_in n i) (λ k. cond (is_some (get_or es k None)) (Err Written) (Ok (set es k (Some []))))) (λ fs. Ok (Entries at.room fs))))))
+      (done tt (Entries at.room es) (then_value (then_value (place_in n i) (λ a. Ok a))
+      (λ _. then_value (then_value (place_in n i) (λ k. cond (is_some (get_or es k None)) (Err Written) (Ok (set es k (Some [])))))
+      (λ fs. Ok (Entries at.room fs))))))
       (sym s.number) (begin_at i (place_in at.count i) refl)
 
   -- ---- write
@@ -115,24 +124,35 @@ module _ (at : StreamAt) (cells : ℕ → ℤ) (es : List (Option (List ℤ))) (
 
   added_outside : (k n : ℕ) (v : ℤ) → n < at.room → SameBeyond (mark_word at k) (index_end at k) cells (added at cells k n v)
   added_outside k n v room w out =
-      with_cell-other (with_cell cells (item_word at k n) v) (mark_word at k) (pos (n + 2)) w (omega arith) ∙ with_cell-other cells (item_word at k n) v w (omega arith)
+      with_cell-other (with_cell cells (item_word at k n) v) (mark_word at k) (pos (n + 2)) w (omega arith)
+      ∙ with_cell-other cells (item_word at k n) v w (omega arith)
 
   write_at : (k : ℕ) → k < at.count → (v : ℤ) (b : Bool) → nat_lt (length (items_of (get_or es k None))) at.room ≡ b
-      → Reaches (StandsFor at) (cond {A = Result (Unit {0}) Trap × (ℕ → ℤ)} b (Ok tt, added at cells k (length (items_of (get_or es k None))) v) (Err Full, cells))
-      (done tt (Entries at.room es) (then_value (then_value (cond b (Ok (items_of (get_or es k None) ++ v ∷ [])) (Err Full)) (λ xs. Ok (set es k (Some xs)))) (λ fs. Ok (Entries at.room fs))))
+      → Reaches (StandsFor at) (cond {A = Result (Unit {0}) Trap × (ℕ → ℤ)} b (Ok tt, added at cells k (length (items_of (get_or es k None))) v)
+      (Err Full, cells))
+      (done tt (Entries at.room es) (then_value (then_value (cond b (Ok (items_of (get_or es k None) ++ v ∷ [])) (Err Full)) (λ xs. Ok (set es k (Some xs))))
+      (λ fs. Ok (Entries at.room fs))))
   write_at k h v true e =
       let t = s.each k h in
       let n = length (items_of (get_or es k None)) in
       let room : n < at.room = ltb-true n at.room e in
-      let xs = items_of (get_or es k None) ++ v ∷ [] in
-      (refl, (set es k (Some xs), refl, holds_set at cells (added at cells k n v) es k (Some xs) s h (added_outside k n v room) (added_holds k (get_or es k None) t v room)))
+      let xs = items_of (get_or es k None) ++ v ∷ [] in (
+        refl,
+        (
+          set es k (Some xs),
+          refl,
+          holds_set at cells (added at cells k n v) es k (Some xs) s h (added_outside k n v room)
+              (added_holds k (get_or es k None) t v room),
+        ),
+      )
   write_at k h v false e = (refl, whole)
 
   pub write_law : (k : ℕ) → k < at.count → (v : ℤ) → Reaches (StandsFor at) (write_words at cells k v) (write_effect k v (Entries at.room es))
   write_law k h v =
       let n = length (items_of (get_or es k None)) in
       let inside : k < length es = omega (arith, s.number) in
-      let effect = λ (p : Result ℕ Trap). done tt (Entries at.room es) (then_value p (λ j. then_value (write_index at.room es j v) (λ fs. Ok (Entries at.room fs)))) in
+      let effect = λ (p : Result ℕ Trap). done tt (Entries at.room es) (then_value p
+      (λ j. then_value (write_index at.room es j v) (λ fs. Ok (Entries at.room fs)))) in
       subst (λ p. Reaches (StandsFor at) (write_words at cells k v) (effect p)) (sym (place_in-below (length es) k inside))
       (subst (λ m. Reaches (StandsFor at) (write_words_at at cells k m v) (effect (Ok k))) (sym (count_is at cells k (get_or es k None) (s.each k h)))
       (write_at k h v (nat_lt n at.room) refl))

@@ -16,7 +16,8 @@ of_entries : {A : Type 0} (at : StreamAt) (form : (ℕ → ℤ) → A × (ℕ �
 of_entries at form effect law cells c s = subst (λ c. Reaches (StandsFor at) (form cells) (effect c)) (sym s.1) (law cells s.0 s.2)
 
 -- a form that only reads
-reading : {A : Type 0} (at : StreamAt) (form : (ℕ → ℤ) → A) (effect : Contents → A) → ((cells : ℕ → ℤ) (es : List (Option (List ℤ))) → HoldsEntries at cells es → form cells ≡ effect (Entries at.room es))
+reading : {A : Type 0} (at : StreamAt) (form : (ℕ → ℤ) → A) (effect : Contents → A)
+    → ((cells : ℕ → ℤ) (es : List (Option (List ℤ))) → HoldsEntries at cells es → form cells ≡ effect (Entries at.room es))
     → ((a b : ℕ → ℤ) → Alike at a b → form b ≡ form a) → IsWordForm at (λ cells. (form cells, cells)) (λ c. (effect c, c))
 reading at form effect law same = record {
   stands = of_entries at (λ cells. (form cells, cells)) (λ c. (effect c, c)) (λ cells es s. (law cells es s, (es, refl, s)));
@@ -27,7 +28,8 @@ reading at form effect law same = record {
 
 module _ (at : StreamAt) where
   pub items_form : (i : ℤ) → IsWordForm at (λ cells. (items_words at cells i, cells)) (items_effect i)
-  items_form i = reading at (λ cells. items_words at cells i) (λ c. (items_effect i c).0) (λ cells es s. items_law at cells es s i) (λ a b h. items_reads at a b h i)
+  items_form i = reading at (λ cells. items_words at cells i) (λ c. (items_effect i c).0) (λ cells es s. items_law at cells es s i)
+      (λ a b h. items_reads at a b h i)
 
   pub at_form : (i k : ℤ) → IsWordForm at (λ cells. (at_words at cells i k, cells)) (at_effect i k)
   at_form i k = reading at (λ cells. at_words at cells i k) (λ c. (at_effect i k c).0) (λ cells es s. at_law at cells es s i k) (λ a b h. at_reads at a b h i k)

@@ -29,7 +29,8 @@ number_within room (pos n) = omega arith
 number_within room (negsuc n) = omega arith
 
 module _ (at : StreamAt) (cells : ℕ → ℤ) where
-  begun_outside : (i : ℤ) (k : ℕ) → k < at.count → (b : Bool) → SameBeyond at.start (end_of at) cells (cond {A = Result (Unit {0}) Trap × (ℕ → ℤ)} b (Err Written, cells) (Ok tt, with_cell cells (mark_word at k) (pos 1))).1
+  begun_outside : (i : ℤ) (k : ℕ) → k < at.count → (b : Bool) → SameBeyond at.start (end_of at) cells
+      (cond {A = Result (Unit {0}) Trap × (ℕ → ℤ)} b (Err Written, cells) (Ok tt, with_cell cells (mark_word at k) (pos 1))).1
   begun_outside i k h true w out = refl
   begun_outside i k h false w out = let fits = index_within at k h in with_cell-other cells (mark_word at k) (pos 1) w (omega arith)
 
@@ -40,11 +41,13 @@ module _ (at : StreamAt) (cells : ℕ → ℤ) where
   pub begin_outside : (i : ℤ) → SameBeyond at.start (end_of at) cells (begin_words at cells i).1
   begin_outside i = begin_outside_at i (place_in at.count i) refl
 
-  write_outside_at : (k n : ℕ) (v : ℤ) → k < at.count → (b : Bool) → nat_lt n at.room ≡ b → SameBeyond at.start (end_of at) cells (cond {A = Result (Unit {0}) Trap × (ℕ → ℤ)} b (Ok tt, added at cells k n v) (Err Full, cells)).1
+  write_outside_at : (k n : ℕ) (v : ℤ) → k < at.count → (b : Bool) → nat_lt n at.room ≡ b
+      → SameBeyond at.start (end_of at) cells (cond {A = Result (Unit {0}) Trap × (ℕ → ℤ)} b (Ok tt, added at cells k n v) (Err Full, cells)).1
   write_outside_at k n v h true e w out =
       let room : n < at.room = ltb-true n at.room e in
       let fits = index_within at k h in
-      with_cell-other (with_cell cells (item_word at k n) v) (mark_word at k) (pos (n + 2)) w (omega arith) ∙ with_cell-other cells (item_word at k n) v w (omega arith)
+      with_cell-other (with_cell cells (item_word at k n) v) (mark_word at k) (pos (n + 2)) w (omega arith)
+      ∙ with_cell-other cells (item_word at k n) v w (omega arith)
   write_outside_at k n v h false e w out = refl
 
   pub write_outside : (k : ℕ) (v : ℤ) → k < at.count → SameBeyond at.start (end_of at) cells (write_words at cells k v).1
@@ -69,14 +72,16 @@ module _ (at : StreamAt) (a b : ℕ → ℤ) (h : Alike at a b) where
   same_written : (k : ℕ) → k < at.count → is_written_at at b k ≡ is_written_at at a k
   same_written k hk = ap is_written (same_mark k hk)
 
-  items_reads_at : (i : ℤ) (p : Result ℕ Trap) → place_in at.count i ≡ p → then_value p (λ j. Ok (item_count at b j)) ≡ then_value p (λ j. Ok (item_count at a j))
+  items_reads_at : (i : ℤ) (p : Result ℕ Trap) → place_in at.count i ≡ p → then_value p (λ j. Ok (item_count at b j)) ≡ then_value p
+      (λ j. Ok (item_count at a j))
   items_reads_at i (Ok k) e = ap (λ n. Ok n) (same_count k (in_place at.count k i e))
   items_reads_at i (Err trap) e = refl
 
   pub items_reads : (i : ℤ) → items_words at b i ≡ items_words at a i
   items_reads i = items_reads_at i (place_in at.count i) refl
 
-  item_found : (k n : ℕ) (i : ℤ) (p : Result ℕ Trap) → k < at.count → n ≤ at.room → place_in n i ≡ p → then_value p (λ q. Ok (b (item_word at k q))) ≡ then_value p (λ q. Ok (a (item_word at k q)))
+  item_found : (k n : ℕ) (i : ℤ) (p : Result ℕ Trap) → k < at.count → n ≤ at.room → place_in n i ≡ p
+      → then_value p (λ q. Ok (b (item_word at k q))) ≡ then_value p (λ q. Ok (a (item_word at k q)))
   item_found k n i (Ok q) hk le e =
       let below : q < n = in_place n q i e in
       let fits = index_within at k hk in
@@ -95,7 +100,8 @@ module _ (at : StreamAt) (a b : ℕ → ℤ) (h : Alike at a b) where
   pub at_reads : (i k : ℤ) → at_words at b i k ≡ at_words at a i k
   at_reads i k = at_reads_at i k (place_in at.count i) refl
 
-  begun_same : (k : ℕ) (c : Bool) → SameCall {A = Result (Unit {0}) Trap} at (cond c (Err Written, a) (Ok tt, with_cell a (mark_word at k) (pos 1))) (cond c (Err Written, b) (Ok tt, with_cell b (mark_word at k) (pos 1)))
+  begun_same : (k : ℕ) (c : Bool) → SameCall {A = Result (Unit {0}) Trap} at (cond c (Err Written, a) (Ok tt, with_cell a (mark_word at k) (pos 1)))
+      (cond c (Err Written, b) (Ok tt, with_cell b (mark_word at k) (pos 1)))
   begun_same k true = (refl, h)
   begun_same k false = (refl, alike-with_cell at.start (end_of at) a b (mark_word at k) (pos 1) h)
 
@@ -108,14 +114,19 @@ module _ (at : StreamAt) (a b : ℕ → ℤ) (h : Alike at a b) where
   pub begin_reads : (i : ℤ) → SameCall at (begin_words at a i) (begin_words at b i)
   begin_reads i = begin_reads_at i (place_in at.count i) refl
 
-  write_reads_at : (k n : ℕ) (v : ℤ) (c : Bool) → SameCall {A = Result (Unit {0}) Trap} at (cond c (Ok tt, added at a k n v) (Err Full, a)) (cond c (Ok tt, added at b k n v) (Err Full, b))
-  write_reads_at k n v true =
-      (refl, alike-with_cell at.start (end_of at) (with_cell a (item_word at k n) v) (with_cell b (item_word at k n) v) (mark_word at k) (pos (n + 2)) (alike-with_cell at.start (end_of at) a b (item_word at k n) v h))
+  write_reads_at : (k n : ℕ) (v : ℤ) (c : Bool) → SameCall {A = Result (Unit {0}) Trap} at (cond c (Ok tt, added at a k n v) (Err Full, a))
+      (cond c (Ok tt, added at b k n v) (Err Full, b))
+  write_reads_at k n v true = (
+    refl,
+    alike-with_cell at.start (end_of at) (with_cell a (item_word at k n) v) (with_cell b (item_word at k n) v) (mark_word at k) (pos (n + 2))
+        (alike-with_cell at.start (end_of at) a b (item_word at k n) v h),
+  )
   write_reads_at k n v false = (refl, h)
 
   pub write_reads : (k : ℕ) (v : ℤ) → k < at.count → SameCall at (write_words at a k v) (write_words at b k v)
   write_reads k v hk =
-      subst (λ n. SameCall at (write_words at a k v) (write_words_at at b k n v)) (sym (same_count k hk)) (write_reads_at k (item_count at a k) v (nat_lt (item_count at a k) at.room))
+      subst (λ n. SameCall at (write_words at a k v) (write_words_at at b k n v)) (sym (same_count k hk))
+      (write_reads_at k (item_count at a k) v (nat_lt (item_count at a k) at.room))
 
   unmarked_reads : (n : ℕ) → Alike at (unmarked at a n) (unmarked at b n)
   unmarked_reads zero = h

@@ -35,7 +35,8 @@ module _ (at : StreamAt) (cells : ℕ → ℤ) (k : ℕ) where
 
 -- ---- one index
 
-pub holds_same : (at : StreamAt) (a b : ℕ → ℤ) (k : ℕ) (e : Option (List ℤ)) → AlikeWithin (mark_word at k) (index_end at k) a b → HoldsEntry at a k e → HoldsEntry at b k e
+pub holds_same : (at : StreamAt) (a b : ℕ → ℤ) (k : ℕ) (e : Option (List ℤ)) → AlikeWithin (mark_word at k) (index_end at k) a b → HoldsEntry at a k e
+    → HoldsEntry at b k e
 holds_same at a b k e h s =
     let within = s.within in
     record {
@@ -74,15 +75,21 @@ holds_set at old new es k e s h same t = record {
 }
 
 -- cells without a mark stand for no written index
-pub holds_unwritten : (at : StreamAt) (cells : ℕ → ℤ) (n : ℕ) → n ≡ at.count → ((k : ℕ) → k < at.count → cells (mark_word at k) ≡ pos 0) → HoldsEntries at cells (replicate n None)
+pub holds_unwritten : (at : StreamAt) (cells : ℕ → ℤ) (n : ℕ) → n ≡ at.count → ((k : ℕ) → k < at.count → cells (mark_word at k) ≡ pos 0)
+    → HoldsEntries at cells (replicate n None)
 holds_unwritten at cells n e h = record {
   number = length-replicate n None ∙ e;
   each = λ k hk. subst (HoldsEntry at cells k) (sym (get_or-replicate n k None None (omega arith))) (holds_none at cells k (h k hk));
 }
 
-pub zero_words : (at : StreamAt) (cells : ℕ → ℤ) → ((w : ℕ) → at.start ≤ w → w < end_of at → cells w ≡ pos 0) → StandsFor at cells (Entries at.room (replicate at.count None))
-zero_words at cells zeros =
-    (replicate at.count None, refl, holds_unwritten at cells at.count refl (λ k hk. let fits = index_within at k hk in zeros (mark_word at k) (omega arith) (omega arith)))
+pub zero_words : (at : StreamAt) (cells : ℕ → ℤ) → ((w : ℕ) → at.start ≤ w → w < end_of at → cells w ≡ pos 0)
+    → StandsFor at cells (Entries at.room (replicate at.count None))
+zero_words at cells zeros = (
+  replicate at.count None,
+  refl,
+  holds_unwritten at cells at.count refl
+      (λ k hk. let fits = index_within at k hk in zeros (mark_word at k) (omega arith) (omega arith)),
+)
 
 still_holds : (at : StreamAt) (a b : ℕ → ℤ) (es : List (Option (List ℤ))) → AlikeWithin at.start (end_of at) a b → HoldsEntries at a es → HoldsEntries at b es
 still_holds at a b es h s = record {

@@ -12,6 +12,7 @@ ZeroWordsAreUnwritten = (at : StreamAt) (cells : ℕ → ℤ) → ((w : ℕ) →
 
 pub record OwnWordsDecide : Type 0 where
   -- what words stand for rests on the words of the stream alone
-  pub same : (at : StreamAt) (a b : ℕ → ℤ) (c : Contents) → AlikeWithin at.start (end_of at) a b → StandsFor at a c → StandsFor at b c
+  pub same : (at : StreamAt) (a b : ℕ → ℤ) (c : Contents) → AlikeWithin at.start (end_of at) a b → StandsFor at a c
+      → StandsFor at b c
   -- and is one thing
   pub once : (at : StreamAt) (cells : ℕ → ℤ) (c d : Contents) → StandsFor at cells c → StandsFor at cells d → c ≡ d

@@ -51,7 +51,11 @@ at_words at cells i k = then_value (place_in at.count i) (λ j. item_words at ce
 
 -- begins an index, where there is one
 abbrev pub begun : StreamAt → (ℕ → ℤ) → Result ℕ Trap → Result (Unit {0}) Trap × (ℕ → ℤ)
-begun at cells (Ok k) = if is_written_at at cells k then (Err Written, cells) else (Ok tt, with_cell cells (mark_word at k) (pos 1))
+begun at cells (Ok k) = if is_written_at at cells k then (Err Written, cells) else (
+  Ok tt,
+  with_cell cells
+      (mark_word at k) (pos 1),
+)
 begun at cells (Err trap) = (Err trap, cells)
 
 abbrev pub begin_words : StreamAt → (ℕ → ℤ) → ℤ → Result (Unit {0}) Trap × (ℕ → ℤ)

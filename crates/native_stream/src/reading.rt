@@ -11,6 +11,7 @@ use job_base::{Mem, Trap};
 impl StreamAt {
     /// How many items index `i` has; an unwritten one has none. `Range` where `i` is below 0 or not below the count.
     ///
+    ///
     /// <https://docs.unity3d.com/Packages/com.unity.collections@2.5/api/Unity.Collections.NativeStream.Reader.BeginForEachIndex.html>
     pub fn items<M: Mem>(&self, mem: &mut M, i: i64) -> Result<u32, Trap>
         requires fits { end_of self.now < 2 ^ 32 }
@@ -29,6 +30,7 @@ impl StreamAt {
 
     /// Item `k` of index `i`, counted from 0 in the order of their writing. `Range` where `i` is below 0 or not below
     /// the count, or `k` is below 0 or not below the number of items.
+    ///
     ///
     /// <https://docs.unity3d.com/Packages/com.unity.collections@2.5/api/Unity.Collections.NativeStream.Reader.Read.html>
     pub fn at<M: Mem>(&self, mem: &mut M, i: i64, k: i64) -> Result<i64, Trap>

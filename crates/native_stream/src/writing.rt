@@ -13,6 +13,7 @@ impl StreamAt {
     /// Begins index `i`, which then counts as written, with no items. `Range` where `i` is below 0 or not below the
     /// count, else `Written` where it was written. Its end changes no word, and has no call.
     ///
+    ///
     /// <https://docs.unity3d.com/Packages/com.unity.collections@2.5/api/Unity.Collections.NativeStream.Writer.BeginForEachIndex.html>
     pub fn begin<M: Mem>(&self, mem: &mut M, i: i64) -> Result<(), Trap>
         requires fits { end_of self.now < 2 ^ 32 }
@@ -36,6 +37,7 @@ impl StreamAt {
     }
 
     /// Adds an item to index `i`. `Full` where it has `room` items. An unwritten index is begun by it.
+    ///
     ///
     /// <https://docs.unity3d.com/Packages/com.unity.collections@2.5/api/Unity.Collections.NativeStream.Writer.Write.html>
     pub fn write<M: Mem>(&self, mem: &mut M, i: u32, v: i64) -> Result<(), Trap>

@@ -107,7 +107,8 @@ module _ (s : ScriptState) where
   -- ---- none of them is blocked
 
   module _ (deps : Jobs) where
-    read_free : (ps : List Param) (as_ : List Arg) (c j : ℕ) → is_given s ps as_ c ≡ true → (s.uses c).writers j ≡ true → blocking s.book s.uses deps (needs_of ps as_) j ≡ false
+    read_free : (ps : List Param) (as_ : List Arg) (c j : ℕ) → is_given s ps as_ c ≡ true → (s.uses c).writers j ≡ true
+        → blocking s.book s.uses deps (needs_of ps as_) j ≡ false
         → happens_before s.book deps j ≡ true
     read_free [] as_ c j g w e = absurd (not_both g refl)
     read_free (p ∷ ps) [] c j g w e = absurd (not_both g refl)
@@ -115,12 +116,14 @@ module _ (s : ScriptState) where
         (λ here.
         let u : Uses = s.uses (container_at s n) in
         let wrote : u.writers j ≡ true = subst (λ c. (s.uses c).writers j ≡ true) (eqb-true c (container_at s n) here) w in
-        is_before (conflicts u (writes_to p.access) j) (happens_before s.book deps j) (or_left (u.writers j) (writes_to p.access && u.users j) wrote) (or_false_left _ _ e))
+        is_before (conflicts u (writes_to p.access) j) (happens_before s.book deps j) (or_left (u.writers j) (writes_to p.access && u.users j) wrote)
+        (or_false_left _ _ e))
         (λ there. read_free ps as_ c j there w (or_false_right _ _ e))
         (or_cases (nat_eq c (container_at s n)) (is_given s ps as_ c) g)
     read_free (p ∷ ps) (Number z ∷ as_) c j g w e = read_free ps as_ c j g w e
 
-    write_free : (ps : List Param) (as_ : List Arg) (c j : ℕ) → is_written s ps as_ c ≡ true → (s.uses c).users j ≡ true → blocking s.book s.uses deps (needs_of ps as_) j ≡ false
+    write_free : (ps : List Param) (as_ : List Arg) (c j : ℕ) → is_written s ps as_ c ≡ true → (s.uses c).users j ≡ true
+        → blocking s.book s.uses deps (needs_of ps as_) j ≡ false
         → happens_before s.book deps j ≡ true
     write_free [] as_ c j g w e = absurd (not_both g refl)
     write_free (p ∷ ps) [] c j g w e = absurd (not_both g refl)
@@ -130,7 +133,8 @@ module _ (s : ScriptState) where
         let u : Uses = s.uses (container_at s n) in
         let wr = both_.1 in
         let used : u.users j ≡ true = subst (λ c. (s.uses c).users j ≡ true) (eqb-true c (container_at s n) both_.0) w in
-        is_before (conflicts u (writes_to p.access) j) (happens_before s.book deps j) (or_right (u.writers j) (writes_to p.access && u.users j) (λ i. wr i && used i)) (or_false_left _ _ e))
+        is_before (conflicts u (writes_to p.access) j) (happens_before s.book deps j)
+        (or_right (u.writers j) (writes_to p.access && u.users j) (λ i. wr i && used i)) (or_false_left _ _ e))
         (λ there. write_free ps as_ c j there w (or_false_right _ _ e))
         (or_cases (nat_eq c (container_at s n) && writes_to p.access) (is_written s ps as_ c) g)
     write_free (p ∷ ps) (Number z ∷ as_) c j g w e = write_free ps as_ c j g w e
@@ -165,7 +169,8 @@ module _ (x : Outline) (small : x.plan.cells < 2 ^ 32) (s : ScriptState) (o : Sc
   NeedsWidths ok = (n : ℕ) (p : Param) → kernel_parallel ok ≡ true → o.waive ≡ [] → slice_get (kernel_params ok) n ≡ Some p → writes_to p.access ≡ true
       → 0 < width_of (widths_from (kernel_parallel ok) o.waive 0 (kernel_params ok)) n
 
-  module _ (deps : Jobs) (unrefused : schedule_refusal s k.parallel o.auto (givens s k.params.items o.args None) o.after ≡ None) (fit : ArgsFit s None k.params.items o.args)
+  module _ (deps : Jobs) (unrefused : schedule_refusal s k.parallel o.auto (givens s k.params.items o.args None) o.after ≡ None)
+      (fit : ArgsFit s None k.params.items o.args)
       (has_widths : NeedsWidths (Some k)) (pj : IsPlannedJob x s d o k deps job) where
     abbrev params : List Param
     params = k.params.items
@@ -221,7 +226,8 @@ accepted_with s o k run =
       traps = s.traps ++ map (λ t. record { job = job; index = t.0; trap = t.1 }) ran.traps;
     }
 
-module _ (x : Outline) (small : x.plan.cells < 2 ^ 32) (s : ScriptState) (o : Schedule) (k : Kernel) (d e : Draft) (segment : Segment) (job : JobPlan) (known : IsKnown s) (was : IsPlanned x s d)
+module _ (x : Outline) (small : x.plan.cells < 2 ^ 32) (s : ScriptState) (o : Schedule) (k : Kernel) (d e : Draft) (segment : Segment) (job : JobPlan)
+    (known : IsKnown s) (was : IsPlanned x s d)
     (starts : segment.starts ≡ Some (record { 0 = suc (length d.jobs) })) (closes : Closes d e segment (job ∷ []) []) where
   abbrev ps : List Param
   ps = k.params.items
@@ -250,7 +256,8 @@ module _ (x : Outline) (small : x.plan.cells < 2 ^ 32) (s : ScriptState) (o : Sc
   one_more : s.book.count + 1 ≡ suc s.book.count
   one_more = omega arith
 
-  module _ (unrefused : schedule_refusal s k.parallel o.auto gs o.after ≡ None) (fit : ArgsFit s None ps o.args) (has_widths : NeedsWidths x small s o k d job was (Some k))
+  module _ (unrefused : schedule_refusal s k.parallel o.auto gs o.after ≡ None) (fit : ArgsFit s None ps o.args)
+      (has_widths : NeedsWidths x small s o k d job was (Some k))
       (forms : (c : ℕ) → c < s.made → form_of (t.contents c) ≡ form_of (s.contents c))
       (pj : IsPlannedJob x s d o k deps job) where
     abbrev ran : Ran (List Contents)
@@ -280,7 +287,8 @@ module _ (x : Outline) (small : x.plan.cells < 2 ^ 32) (s : ScriptState) (o : Sc
     u = scheduled s k ws job.cut.n o.args deps uses
 
     contents_are : left ≡ u.contents
-    contents_are = sym (ap (λ (t : ScriptState). t.contents) (all_hold x.starts s ps o.args ran.store s.contents)) ∙ ap (λ (r : Ran (List Contents)). (leave_all ps o.args r.store s).contents) ran_same
+    contents_are = sym (ap (λ (t : ScriptState). t.contents) (all_hold x.starts s ps o.args ran.store s.contents))
+        ∙ ap (λ (r : Ran (List Contents)). (leave_all ps o.args r.store s).contents) ran_same
 
     same : IsSameTo u t
     same = record {
@@ -298,7 +306,8 @@ module _ (x : Outline) (small : x.plan.cells < 2 ^ 32) (s : ScriptState) (o : Sc
     unblocked : (j : ℕ) → 0 < j → j ≤ s.book.count → blocking s.book s.uses deps needs j ≡ false
     unblocked j pos le = by o.auto (unpending s k.parallel o.auto gs o.after unrefused)
       where
-        by : (b : Bool) → (if b then None else pending s named needs) ≡ None → blocking s.book s.uses (if b then both named (automatic s.book s.uses named needs) else named) needs j ≡ false
+        by : (b : Bool) → (if b then None else pending s named needs) ≡ None
+            → blocking s.book s.uses (if b then both named (automatic s.book s.uses named needs) else named) needs j ≡ false
         by true h = (automatic_sets_cover s.book s.uses named needs known.book known.uses).none_left j
         by false h = subst (λ r. GreatestIsNamed s named needs r) h (greatest_blocker_is_named s named needs) j pos le
 
@@ -316,7 +325,8 @@ module _ (x : Outline) (small : x.plan.cells < 2 ^ 32) (s : ScriptState) (o : Sc
       where
         by : (b : Bool) → is_written s ps o.args c ≡ b → words_of (u.contents c) ≡ words_of (s.contents c)
         by true h =
-            ap (λ f. words_of (f c)) (sym same.contents) ∙ sym (words_by_form (t.contents c)) ∙ ap words_of (forms c (written_below s ps o.args c fit h)) ∙ words_by_form (s.contents c)
+            ap (λ f. words_of (f c)) (sym same.contents) ∙ sym (words_by_form (t.contents c)) ∙ ap words_of (forms c (written_below s ps o.args c fit h))
+            ∙ words_by_form (s.contents c)
         by false h = ap (λ f. words_of (f c)) (sym contents_are) ∙ ap words_of (none_leaves x.starts s ps o.args ran.store s.contents c h)
 
     is_scheduled : IsScheduledJob x s d job k ws o.args deps uses
@@ -336,7 +346,8 @@ module _ (x : Outline) (small : x.plan.cells < 2 ^ 32) (s : ScriptState) (o : Sc
       deps_are = pj.deps_are;
       users = λ c j. (let used = used_are s ps o.args c in λ i. (s.uses c).users j || (nat_eq j (one_more i) && used i));
       writers = λ c j. (let written = written_are s ps o.args c in λ i. (s.uses c).writers j || (nat_eq j (one_more i) && written i));
-      readers_free = λ c j given w. let up = (known.uses c).users j ((known.uses c).writers j w) in read_free s deps ps o.args c j given w (unblocked j up.0 up.1);
+      readers_free = λ c j given w. let up = (known.uses c).users j ((known.uses c).writers j w) in
+          read_free s deps ps o.args c j given w (unblocked j up.0 up.1);
       writers_free = λ c j given w. let up = (known.uses c).users j w in write_free s deps ps o.args c j given w (unblocked j up.0 up.1);
       sizes = sizes;
     }
@@ -362,7 +373,8 @@ planned_jobs_fit x g s o k d job small was a has pj =
 pub schedules_are_planned : SchedulesArePlanned
 schedules_are_planned x g s o k d e segment job small known was a has pj starts closes =
     let run_is : run_of k ≡ get_or g.runs o.kernel no_run =
-    sym (ap (λ rs. get_or rs o.kernel no_run) a.runs ∙ get_or-map run_of g.kernels o.kernel k no_run (get_below g.kernels o.kernel k has) ∙ ap run_of (get_is g.kernels o.kernel k k has)) in
+    sym (ap (λ rs. get_or rs o.kernel no_run) a.runs ∙ get_or-map run_of g.kernels o.kernel k no_run (get_below g.kernels o.kernel k has)
+    ∙ ap run_of (get_is g.kernels o.kernel k k has)) in
     subst (λ ok. Goes x small s o k d e segment job known was starts closes ok (get_or g.runs o.kernel no_run)) (sym has)
     (subst (Goes x small s o k d e segment job known was starts closes (Some k)) run_is (goes x small s o k d e segment job known was starts closes))
     a.unrefused a.args_fit a.widths a.forms pj

@@ -60,18 +60,69 @@ unfolding first_some
 first_alone None = refl
 first_alone (Some r) = refl
 
-pub unblocked_is : (s : ScriptState) (name : ℕ) (p : Option Refused) → access s name (need_of s name true) [] ≡ None → access s name (need_of s name true) (p ∷ []) ≡ p
+pub unblocked_is : (s : ScriptState) (name : ℕ) (p : Option Refused) → access s name (need_of s name true) [] ≡ None
+    → access s name (need_of s name true) (p ∷ []) ≡ p
 unblocked_is s name p e =
     first_of_more (disposed s (name ∷ [])) (stale s (name ∷ [])) (pending s nobody (need_of s name true ∷ [])) (p ∷ []) e ∙ first_alone p
 
 -- THE STATE AFTERWARDS, but for the views of lists
 
 pub broken_same : (k : Contents) (c : ℕ) (s : ScriptState) → IsSameTo s (list_broken k c s)
-broken_same (Elements xs) c s = record { made = refl; contents = refl; alive = refl; uses = refl; range = refl; book = refl; traps = refl; refused = refl; lines = refl }
-broken_same (Single z) c s = record { made = refl; contents = refl; alive = refl; uses = refl; range = refl; book = refl; traps = refl; refused = refl; lines = refl }
-broken_same (Items cap xs) c s = record { made = refl; contents = refl; alive = refl; uses = refl; range = refl; book = refl; traps = refl; refused = refl; lines = refl }
-broken_same (Pairs cap ps) c s = record { made = refl; contents = refl; alive = refl; uses = refl; range = refl; book = refl; traps = refl; refused = refl; lines = refl }
-broken_same (Entries room es) c s = record { made = refl; contents = refl; alive = refl; uses = refl; range = refl; book = refl; traps = refl; refused = refl; lines = refl }
+broken_same (Elements xs) c s = record {
+  made = refl;
+  contents = refl;
+  alive = refl;
+  uses = refl;
+  range = refl;
+  book = refl;
+  traps = refl;
+  refused = refl;
+  lines = refl;
+}
+broken_same (Single z) c s = record {
+  made = refl;
+  contents = refl;
+  alive = refl;
+  uses = refl;
+  range = refl;
+  book = refl;
+  traps = refl;
+  refused = refl;
+  lines = refl;
+}
+broken_same (Items cap xs) c s = record {
+  made = refl;
+  contents = refl;
+  alive = refl;
+  uses = refl;
+  range = refl;
+  book = refl;
+  traps = refl;
+  refused = refl;
+  lines = refl;
+}
+broken_same (Pairs cap ps) c s = record {
+  made = refl;
+  contents = refl;
+  alive = refl;
+  uses = refl;
+  range = refl;
+  book = refl;
+  traps = refl;
+  refused = refl;
+  lines = refl;
+}
+broken_same (Entries room es) c s = record {
+  made = refl;
+  contents = refl;
+  alive = refl;
+  uses = refl;
+  range = refl;
+  book = refl;
+  traps = refl;
+  refused = refl;
+  lines = refl;
+}
 
 pub itself_same : (s : ScriptState) → IsSameTo s s
 itself_same s = record { made = refl; contents = refl; alive = refl; uses = refl; range = refl; book = refl; traps = refl; refused = refl; lines = refl }
@@ -95,14 +146,26 @@ module _ (g : Setting) (s : ScriptState) (st : Statement) (name : ℕ) where
   stepped_same (Ok d) after e same gone = subst (IsSameTo (stepped (Ok d))) (sym e) (same (stepped (Ok d)))
   stepped_same (Err u) after e same gone =
       let h = gone (refusal_of u) in
-      record { made = h.made; contents = h.contents; alive = h.alive; uses = h.uses; range = h.range; book = h.book; traps = h.traps; refused = refl; lines = refl }
+      record {
+        made = h.made;
+        contents = h.contents;
+        alive = h.alive;
+        uses = h.uses;
+        range = h.range;
+        book = h.book;
+        traps = h.traps;
+        refused = refl;
+        lines = refl;
+      }
 
 -- A STATEMENT THAT IS ONE ACCESS: what it does to contents, and what its operation does to words
 
-pub record IsOneAccess (kinds : List NameKind) (statement : ℕ → Order) (operation : Bind → Act) (MayBe : Bind → Type 0) (words : Bind → Cells → Result Cells Trap)
+pub record IsOneAccess (kinds : List NameKind) (statement : ℕ → Order) (operation : Bind → Act) (MayBe : Bind → Type 0)
+    (words : Bind → Cells → Result Cells Trap)
     (change : Value → Contents → Result Contents Trap) (after : ℕ → ScriptState → ScriptState) : Type 0 where
   -- both do the same, through a name of these kinds
-  pub does : (start : ℕ) (old : Cells) (v : Value) (c : Contents) → IsSeen v c → kind_in (kind_seen v c) kinds ≡ true → end_of (bind_for v start c) < 2 ^ 32 → Holds old (bind_of start c) c
+  pub does : (start : ℕ) (old : Cells) (v : Value) (c : Contents) → IsSeen v c → kind_in (kind_seen v c) kinds ≡ true → end_of (bind_for v start c) < 2 ^ 32
+      → Holds old (bind_of start c) c
       → Does start old MayBe v c (words (bind_for v start c) old) (change v c)
   -- the operation writes the bind's words, and has no line of its own
   pub touches : (b : Bind) → act_touches (operation b) ≡ whole b true ∷ []
@@ -112,8 +175,10 @@ pub record IsOneAccess (kinds : List NameKind) (statement : ℕ → Order) (oper
   pub fits : (plan : Plan) (b : Bind) → StandsIn plan b → MayBe b → ActFits plan (operation b)
   pub stands : (b : Bind) (cells : Cells) (c : Contents) → Holds cells b c → ActStands (operation b) cells
   -- the statement is refused where its change would trap, and keeps all but views
-  pub refuses : (g : Setting) (s : ScriptState) (name : ℕ) → access s name (need_of s name true) [] ≡ None → refusal g s (statement name) ≡ unchanged name (change (s.values name) (contents_at s name))
-  pub changes : (g : Setting) (s : ScriptState) (line name : ℕ) → effect g line s (statement name) ≡ after name (changed name (change (s.values name) (contents_at s name)) s)
+  pub refuses : (g : Setting) (s : ScriptState) (name : ℕ) → access s name (need_of s name true) [] ≡ None
+      → refusal g s (statement name) ≡ unchanged name (change (s.values name) (contents_at s name))
+  pub changes : (g : Setting) (s : ScriptState) (line name : ℕ) → effect g line s (statement name) ≡ after name
+      (changed name (change (s.values name) (contents_at s name)) s)
   pub same : (name : ℕ) (t : ScriptState) → IsSameTo t (after name t)
   pub keeps : (cause : Refusal) (s : ScriptState) (name : ℕ) → IsSameTo s (lost cause (statement name) s)
 
@@ -158,8 +223,10 @@ module _ (x : Outline) (g : Setting) (s : ScriptState) (st : Statement) (name : 
   is_small : end_of b < 2 ^ 32
   is_small = let le = stands_in.0 in omega arith
 
-  module _ (statement : ℕ → Order) (operation : Bind → Act) (MayBe : Bind → Type 0) (words : Bind → Cells → Result Cells Trap) (change : Value → Contents → Result Contents Trap) (after : ℕ → ScriptState → ScriptState)
-      (it : IsOneAccess kinds statement operation MayBe words change after) (e : Draft) (add : Adds d e (record { line = st.line; name = name; act = operation (bind_at x.starts s name) } ∷ [])) where
+  module _ (statement : ℕ → Order) (operation : Bind → Act) (MayBe : Bind → Type 0) (words : Bind → Cells → Result Cells Trap)
+      (change : Value → Contents → Result Contents Trap) (after : ℕ → ScriptState → ScriptState)
+      (it : IsOneAccess kinds statement operation MayBe words change after) (e : Draft)
+      (add : Adds d e (record { line = st.line; name = name; act = operation (bind_at x.starts s name) } ∷ [])) where
     abbrev op : Op
     op = record { line = st.line; name = name; act = operation b }
 
@@ -210,7 +277,15 @@ module _ (x : Outline) (g : Setting) (s : ScriptState) (st : Statement) (name : 
         let count : one_if_refused (op_answer x.plan op cells) ≡ 0 = ap one_if_refused (answered (Ok new) result) in
         let here = at_here s.contents c k in
         changes_are_planned x small s (with_contents c k s) c op d e was w.usable.below is_alive
-        (record { made = refl; alive = refl; uses = refl; range = refl; book = refl; others = λ j ne. at_other s.contents c k j ne; form = λ n. ap (bind_of n) here ∙ l.form n })
+        (record {
+          made = refl;
+          alive = refl;
+          uses = refl;
+          range = refl;
+          book = refl;
+          others = λ j ne. at_other s.contents c k j ne;
+          form = λ n. ap (bind_of n) here ∙ l.form n;
+        })
         touches_one fits_here stands_here
         (subst (λ k. Holds (op_cells x.plan op cells) (bind_of start k) k) (sym here)
         (subst (λ cells. Holds cells (bind_of start k) k) (sym (cells_are (Ok new) result)) l.holds))
@@ -247,9 +322,11 @@ module _ (x : Outline) (g : Setting) (s : ScriptState) (st : Statement) (name : 
         let acts : act g s st ≡ decided (unchanged name p) g s st = ap (λ n. act_or_pass n g s st) pass ∙ ap (λ o. decided o g s st) unblocked in
         let same = stepped_same g s st name p (after name) (ap (effect g st.line s) is ∙ it.changes g s st.line name) (it.same name)
         (subst (λ o. (cause : Refusal) → IsSameTo s (lost cause o s)) (sym is) (λ cause. it.keeps cause s name)) in
-        subst (λ t. IsPlanned x t e) (sym acts) (others_are_planned x (stepped g s st name p) (decided (unchanged name p) g s st) e same (step (words b cells) p refl does_here.1))
+        subst (λ t. IsPlanned x t e) (sym acts) (others_are_planned x (stepped g s st name p) (decided (unchanged name p) g s st) e same
+        (step (words b cells) p refl does_here.1))
 
-pub accesses_are_planned : (kinds : List NameKind) (statement : ℕ → Order) (operation : Bind → Act) (MayBe : Bind → Type 0) (words : Bind → Cells → Result Cells Trap) (change : Value → Contents → Result Contents Trap) (after : ℕ → ScriptState → ScriptState)
+pub accesses_are_planned : (kinds : List NameKind) (statement : ℕ → Order) (operation : Bind → Act) (MayBe : Bind → Type 0)
+    (words : Bind → Cells → Result Cells Trap) (change : Value → Contents → Result Contents Trap) (after : ℕ → ScriptState → ScriptState)
     → IsOneAccess kinds statement operation MayBe words change after → IsPlannedBy kinds statement operation
 accesses_are_planned kinds statement operation MayBe words change after it x g s st name d e small known was pass w is add =
     statement_planned x g s st name kinds d small known was w statement operation MayBe words change after it e add pass is

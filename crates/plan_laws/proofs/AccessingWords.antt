@@ -69,8 +69,10 @@ module _ (start : ℕ) (old : Cells) where
   whole_leaves c (Err t) (Err u) g = g
 
   -- through the elements that a name stands for
-  part_leaves : (b : Bind) (c : Contents) (f : List ℤ → Contents) → ((new : Cells) (ys : List ℤ) → Becomes b old new (Elements ys) → Holds new (bind_of start c) (f ys))
-      → (r : Result Cells Trap) (q : Result (List ℤ) Trap) → Goes b old r (then_value q (λ ys. Ok (Elements ys))) → LeavesAs start c r (then_value q (λ ys. Ok (f ys)))
+  part_leaves : (b : Bind) (c : Contents) (f : List ℤ → Contents) → ((new : Cells) (ys : List ℤ) → Becomes b old new (Elements ys)
+      → Holds new (bind_of start c) (f ys))
+      → (r : Result Cells Trap) (q : Result (List ℤ) Trap) → Goes b old r (then_value q (λ ys. Ok (Elements ys)))
+      → LeavesAs start c r (then_value q (λ ys. Ok (f ys)))
   part_leaves b c f all (Ok new) (Ok ys) g = left_as start c (f ys) new (all new ys g)
   part_leaves b c f all (Ok new) (Err u) g = absurd g
   part_leaves b c f all (Err t) (Ok ys) g = absurd g
@@ -81,19 +83,27 @@ module _ (start : ℕ) (old : Cells) where
   Does MayBe v c r p = MayBe (bind_for v start c) × LeavesAs start c r p
 
   -- `set` of an element
-  put_elements : (b : Bind) (xs : List ℤ) (i n : ℤ) → Goes b old (put_word 0 i n b old) (put_in 0 0 i n (Elements xs)) → Goes b old (put_word 0 i n b old) (then_value (set_at xs i n) (λ ys. Ok (Elements ys)))
+  put_elements : (b : Bind) (xs : List ℤ) (i n : ℤ) → Goes b old (put_word 0 i n b old) (put_in 0 0 i n (Elements xs))
+      → Goes b old (put_word 0 i n b old) (then_value (set_at xs i n) (λ ys. Ok (Elements ys)))
   put_elements b xs i n g = subst (Goes b old (put_word 0 i n b old)) (then_ok (then_value (set_at xs i n) (λ ys. Ok (Elements ys)))) g
 
-  set_element : (i n : ℤ) (v : Value) (c : Contents) → IsSeen v c → kind_in (kind_seen v c) HAS_ELEMENTS ≡ true → end_of (bind_for v start c) < 2 ^ 32 → Holds old (bind_of start c) c
+  set_element : (i n : ℤ) (v : Value) (c : Contents) → IsSeen v c → kind_in (kind_seen v c) HAS_ELEMENTS ≡ true → end_of (bind_for v start c) < 2 ^ 32
+      → Holds old (bind_of start c) c
       → Does MayBeSet v c (set_cells (bind_for v start c) i n old) (set_in v c (Some i) n)
   set_element i n Value.Dead c u k fits h = absurd u
   set_element i n (Value.Whole m) (Elements xs) u k fits h =
-      let b = bind_of start (Elements xs) in
-      (tt, whole_leaves (Elements xs) (put_word 0 i n b old) (then_value (set_at xs i n) (λ ys. Ok (Elements ys))) (put_elements b xs i n (put_goes old b (Elements xs) 0 i n fits h)))
+      let b = bind_of start (Elements xs) in (
+        tt,
+        whole_leaves (Elements xs) (put_word 0 i n b old) (then_value (set_at xs i n) (λ ys. Ok (Elements ys)))
+            (put_elements b xs i n (put_goes old b (Elements xs) 0 i n fits h)),
+      )
   set_element i n (Value.Whole m) (Single z) u k fits h = absurd (false≢true k)
   set_element i n (Value.Whole m) (Items cap xs) u k fits h =
-      let b = bind_of start (Items cap xs) in
-      (tt, whole_leaves (Items cap xs) (put_word 0 i n b old) (then_value (set_at xs i n) (λ ys. Ok (Items cap ys))) (put_goes old b (Items cap xs) 0 i n fits h))
+      let b = bind_of start (Items cap xs) in (
+        tt,
+        whole_leaves (Items cap xs) (put_word 0 i n b old) (then_value (set_at xs i n) (λ ys. Ok (Items cap ys)))
+            (put_goes old b (Items cap xs) 0 i n fits h),
+      )
   set_element i n (Value.Whole m) (Pairs cap ps) u k fits h = absurd (false≢true k)
   set_element i n (Value.Whole m) (Entries room es) u k fits h = absurd (false≢true k)
   set_element i n (Value.Slice m from len) (Elements xs) u k fits h =
@@ -130,8 +140,11 @@ module _ (start : ℕ) (old : Cells) where
       → Does MayBeSet v c (set_cells (bind_for v start c) i n old) (set_in v c None n)
   set_value i n Value.Dead c u k h = absurd u
   set_value i n (Value.Whole m) (Elements xs) u k h = absurd (false≢true k)
-  set_value i n (Value.Whole m) (Single z) u k h =
-      (tt, left_as start (Single z) (Single n) (set_value_word n (bind_of start (Single z)) old) (set_value_goes old (bind_of start (Single z)) (Single z) n (λ y e. absurd cc) h).holds)
+  set_value i n (Value.Whole m) (Single z) u k h = (
+    tt,
+    left_as start (Single z) (Single n) (set_value_word n (bind_of start (Single z)) old)
+        (set_value_goes old (bind_of start (Single z)) (Single z) n (λ y e. absurd cc) h).holds,
+  )
   set_value i n (Value.Whole m) (Items cap xs) u k h = absurd (false≢true k)
   set_value i n (Value.Whole m) (Pairs cap ps) u k h = absurd (false≢true k)
   set_value i n (Value.Whole m) (Entries room es) u k h = absurd (false≢true k)
@@ -139,7 +152,8 @@ module _ (start : ℕ) (old : Cells) where
   set_value i n (Value.View m number) c u k h = absurd (false≢true k)
   set_value i n (Value.Handle jobs) c u k h = absurd u
 
-  pub set_does : (at : Option ℤ) (n : ℤ) (v : Value) (c : Contents) → IsSeen v c → kind_in (kind_seen v c) (set_kinds at) ≡ true → end_of (bind_for v start c) < 2 ^ 32 → Holds old (bind_of start c) c
+  pub set_does : (at : Option ℤ) (n : ℤ) (v : Value) (c : Contents) → IsSeen v c → kind_in (kind_seen v c) (set_kinds at) ≡ true
+      → end_of (bind_for v start c) < 2 ^ 32 → Holds old (bind_of start c) c
       → Does MayBeSet v c (set_cells (bind_for v start c) (unwrap_or at (pos 0)) n old) (set_in v c at n)
   set_does None n v c u k fits h = set_value (pos 0) n v c u k h
   set_does (Some i) n v c u k fits h = set_element i n v c u k fits h
@@ -158,7 +172,8 @@ module _ (start : ℕ) (old : Cells) where
   add_item key n (Value.View m number) c u k h = absurd (false≢true k)
   add_item key n (Value.Handle jobs) c u k h = absurd u
 
-  add_pair : (key n : ℤ) (v : Value) (c : Contents) → IsSeen v c → kind_in (kind_seen v c) (kind.Map ∷ []) ≡ true → end_of (bind_for v start c) < 2 ^ 32 → Holds old (bind_of start c) c
+  add_pair : (key n : ℤ) (v : Value) (c : Contents) → IsSeen v c → kind_in (kind_seen v c) (kind.Map ∷ []) ≡ true → end_of (bind_for v start c) < 2 ^ 32
+      → Holds old (bind_of start c) c
       → Does IsListOrMap v c (add_cells (bind_for v start c) key n old) (add_in c key (Some n))
   add_pair key n Value.Dead c u k fits h = absurd u
   add_pair key n (Value.Whole m) (Elements xs) u k fits h = absurd (false≢true k)
@@ -176,11 +191,13 @@ module _ (start : ℕ) (old : Cells) where
       → Does IsListOrMap v c (add_cells (bind_for v start c) (pos 0) n old) (add_in c n None)
   add_list_does n v c u k h = add_item (pos 0) n v c u k h
 
-  pub add_map_does : (key n : ℤ) (v : Value) (c : Contents) → IsSeen v c → kind_in (kind_seen v c) (add_kinds (Some n)) ≡ true → end_of (bind_for v start c) < 2 ^ 32 → Holds old (bind_of start c) c
+  pub add_map_does : (key n : ℤ) (v : Value) (c : Contents) → IsSeen v c → kind_in (kind_seen v c) (add_kinds (Some n)) ≡ true
+      → end_of (bind_for v start c) < 2 ^ 32 → Holds old (bind_of start c) c
       → Does IsListOrMap v c (add_cells (bind_for v start c) key n old) (add_in c key (Some n))
   add_map_does key n v c u k fits h = add_pair key n v c u k fits h
 
-  pub put_does : (key n : ℤ) (v : Value) (c : Contents) → IsSeen v c → kind_in (kind_seen v c) (kind.Map ∷ []) ≡ true → end_of (bind_for v start c) < 2 ^ 32 → Holds old (bind_of start c) c
+  pub put_does : (key n : ℤ) (v : Value) (c : Contents) → IsSeen v c → kind_in (kind_seen v c) (kind.Map ∷ []) ≡ true → end_of (bind_for v start c) < 2 ^ 32
+      → Holds old (bind_of start c) c
       → Does IsMap v c (put_word 0 key n (bind_for v start c) old) (put_pair_in c key n)
   put_does key n Value.Dead c u k fits h = absurd u
   put_does key n (Value.Whole m) (Elements xs) u k fits h = absurd (false≢true k)
@@ -202,7 +219,8 @@ module _ (start : ℕ) (old : Cells) where
   remove_by cap ps qs new true false e l = absurd cc
   remove_by cap ps qs new false true e l = absurd cc
 
-  pub remove_does : (i : ℤ) (v : Value) (c : Contents) → IsSeen v c → kind_in (kind_seen v c) REMOVABLE ≡ true → end_of (bind_for v start c) < 2 ^ 32 → Holds old (bind_of start c) c
+  pub remove_does : (i : ℤ) (v : Value) (c : Contents) → IsSeen v c → kind_in (kind_seen v c) REMOVABLE ≡ true → end_of (bind_for v start c) < 2 ^ 32
+      → Holds old (bind_of start c) c
       → Does IsListOrMap v c (remove_cells (bind_for v start c) i old) (remove_in c i)
   remove_does i Value.Dead c u k fits h = absurd u
   remove_does i (Value.Whole m) (Elements xs) u k fits h = absurd (false≢true k)

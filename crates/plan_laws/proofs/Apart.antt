@@ -31,17 +31,20 @@ job_touches plan n job kernel i =
     record { from = own_word plan n i; end = own_word plan n i + 3; written = true }
     ∷ binds_touch job.parallel kernel.params.items job.binds.items (indexes_of job i).start ((indexes_of job i).start + (indexes_of job i).len)
 
-pub touches_are : (plan : Plan) (n : ℕ) (job : JobPlan) (kernel : Kernel) → job_at plan n ≡ Some job → kernel_of plan job ≡ Some kernel → (i : ℕ) → touches plan (OfJob n i) ≡ job_touches plan n job kernel i
+pub touches_are : (plan : Plan) (n : ℕ) (job : JobPlan) (kernel : Kernel) → job_at plan n ≡ Some job → kernel_of plan job ≡ Some kernel → (i : ℕ)
+    → touches plan (OfJob n i) ≡ job_touches plan n job kernel i
 unfolding touches
 touches_are plan n job kernel has has_kernel i =
     ap (part_touches plan n i) has
-    ∙ ap (λ k. record { from = own_word plan n i; end = own_word plan n i + 3; written = true } ∷ binds_touch job.parallel (params_in k) job.binds.items (indexes_of job i).start ((indexes_of job i).start + (indexes_of job i).len)) has_kernel
+    ∙ ap (λ k. record { from = own_word plan n i; end = own_word plan n i + 3; written = true }
+    ∷ binds_touch job.parallel (params_in k) job.binds.items (indexes_of job i).start ((indexes_of job i).start + (indexes_of job i).len)) has_kernel
 
 or_cases : (a b : Bool) → (a || b) ≡ true → (a ≡ true) ⊎ (b ≡ true)
 or_cases true b e = inl refl
 or_cases false b e = inr e
 
-module _ (x : Outline) (n : ℕ) (job : JobPlan) (kernel : Kernel) (has : job_at x.plan n ≡ Some job) (has_kernel : kernel_of x.plan job ≡ Some kernel) (fits : JobFits x.plan job kernel) where
+module _ (x : Outline) (n : ℕ) (job : JobPlan) (kernel : Kernel) (has : job_at x.plan n ≡ Some job) (has_kernel : kernel_of x.plan job ≡ Some kernel)
+    (fits : JobFits x.plan job kernel) where
   abbrev own : ℕ → Touch
   own i = record { from = own_word x.plan n i; end = own_word x.plan n i + 3; written = true }
 
@@ -79,7 +82,9 @@ module _ (x : Outline) (n : ℕ) (job : JobPlan) (kernel : Kernel) (has : job_at
   ordered : (i k : ℕ) → i < k → (indexes_of job i).start + (indexes_of job i).len ≤ (piece_of job.cut.n job.cut.step k).start ⊎ (job.parallel ≡ false)
   ordered i k lt = by job.parallel refl
     where
-      by : (b : Bool) → job.parallel ≡ b → ((if b then piece_of job.cut.n job.cut.step i else record { start = 0; len = job.cut.n }).start + (if b then piece_of job.cut.n job.cut.step i else record { start = 0; len = job.cut.n }).len ≤ (piece_of job.cut.n job.cut.step k).start) ⊎ (job.parallel ≡ false)
+      by : (b : Bool) → job.parallel ≡ b → ((if b then piece_of job.cut.n job.cut.step i else record { start = 0; len = job.cut.n }).start +
+          (if b then piece_of job.cut.n job.cut.step i else record { start = 0; len = job.cut.n }).len ≤ (piece_of job.cut.n job.cut.step k).start)
+          ⊎ (job.parallel ≡ false)
       by true e =
           let next : (i + 1) * job.cut.step ≤ k * job.cut.step = mul-le (i + 1) job.cut.step k job.cut.step (omega arith) (omega arith) in
           let more : (i + 1) * job.cut.step ≡ i * job.cut.step + job.cut.step = grind arith in
@@ -99,25 +104,35 @@ module _ (x : Outline) (n : ℕ) (job : JobPlan) (kernel : Kernel) (has : job_at
           let one : pieces_of job ≡ 1 = ap (λ b. if b then Rattle.batch_cut.specs.Cuts.count_of job.cut.n job.cut.step else 1) e in
           absurd (ne (omega arith))
 
-  beyond : (i k : ℕ) → i ≢ k → job.parallel ≡ true → ((indexes_of job i).start + (indexes_of job i).len ≤ (indexes_of job k).start) ⊎ ((indexes_of job k).start + (indexes_of job k).len ≤ (indexes_of job i).start)
+  beyond : (i k : ℕ) → i ≢ k → job.parallel ≡ true → ((indexes_of job i).start + (indexes_of job i).len ≤ (indexes_of job k).start)
+      ⊎ ((indexes_of job k).start + (indexes_of job k).len ≤ (indexes_of job i).start)
   beyond i k ne par =
       let pi = parallel_span i par in
       let pk = parallel_span k par in
       ⊎_elim
-      (λ lt. ⊎_elim (λ le. inl (subst (λ (s : Span). (indexes_of job i).start + (indexes_of job i).len ≤ s.start) (sym pk) le)) (λ f. absurd (not_both par f)) (ordered i k lt))
-      (λ ge. ⊎_elim (λ le. inr (subst (λ (s : Span). (indexes_of job k).start + (indexes_of job k).len ≤ s.start) (sym pi) le)) (λ f. absurd (not_both par f)) (ordered k i (omega arith)))
+      (λ lt. ⊎_elim (λ le. inl (subst (λ (s : Span). (indexes_of job i).start + (indexes_of job i).len ≤ s.start) (sym pk) le)) (λ f. absurd (not_both par f))
+      (ordered i k lt))
+      (λ ge. ⊎_elim (λ le. inr (subst (λ (s : Span). (indexes_of job k).start + (indexes_of job k).len ≤ s.start) (sym pi) le)) (λ f. absurd (not_both par f))
+      (ordered k i (omega arith)))
       (cases_lt i k)
 
-  clash : (i k w : ℕ) → i ≢ k → i < pieces_of job → k < pieces_of job → writes_in (touches x.plan (OfJob n i)) w ≡ true → reads_in (touches x.plan (OfJob n k)) w ≡ true → ⊥
+  clash : (i k w : ℕ) → i ≢ k → i < pieces_of job → k < pieces_of job → writes_in (touches x.plan (OfJob n i)) w ≡ true
+      → reads_in (touches x.plan (OfJob n k)) w ≡ true → ⊥
   clash i k w ne li lk a b =
       let par = several i k ne li lk in
       ⊎_elim
-      (λ own_i. ⊎_elim (λ own_k. own_apart i k w ne own_i own_k) (λ bound. let lt = bound_below k w bound in let ge = own_above i w own_i in absurd (omega arith)) (read_by k w b))
+      (λ own_i. ⊎_elim (λ own_k. own_apart i k w ne own_i own_k) (λ bound. let lt = bound_below k w bound in let ge = own_above i w own_i in
+      absurd (omega arith)) (read_by k w b))
       (λ wrote. ⊎_elim
       (λ own_k. let lt = bound_below i w (writes_read (binds i) w wrote) in let ge = own_above k w own_k in absurd (omega arith))
-      (λ bound. own_parts_are_apart kernel job.binds.items (indexes_of job i).start ((indexes_of job i).start + (indexes_of job i).len) (indexes_of job k).start ((indexes_of job k).start + (indexes_of job k).len) w fits.binds (fits.parts par) (beyond i k ne par)
-      (touched_words_are_used.writes kernel.params.items job.binds.items _ _ w (subst (λ p. writes_in (binds_touch p kernel.params.items job.binds.items (indexes_of job i).start ((indexes_of job i).start + (indexes_of job i).len)) w ≡ true) par wrote))
-      (touched_words_are_used.reads kernel.params.items job.binds.items _ _ w (subst (λ p. reads_in (binds_touch p kernel.params.items job.binds.items (indexes_of job k).start ((indexes_of job k).start + (indexes_of job k).len)) w ≡ true) par bound)))
+      (λ bound. own_parts_are_apart kernel job.binds.items (indexes_of job i).start ((indexes_of job i).start + (indexes_of job i).len) (indexes_of job k).start
+      ((indexes_of job k).start + (indexes_of job k).len) w fits.binds (fits.parts par) (beyond i k ne par)
+      (touched_words_are_used.writes kernel.params.items job.binds.items _ _ w
+      (subst (λ p. writes_in (binds_touch p kernel.params.items job.binds.items (indexes_of job i).start
+      ((indexes_of job i).start + (indexes_of job i).len)) w ≡ true) par wrote))
+      (touched_words_are_used.reads kernel.params.items job.binds.items _ _ w
+      (subst (λ p. reads_in (binds_touch p kernel.params.items job.binds.items (indexes_of job k).start ((indexes_of job k).start + (indexes_of job k).len))
+      w ≡ true) par bound)))
       (read_by k w b))
       (written_by i w a)
 

@@ -54,7 +54,8 @@ module _ (plan : Plan) (starts : Starts) (small : plan.cells < 2 ^ 32) where
       count = omega arith;
       before = λ j pos le. absurd (omega arith);
       ledger = is_ledger;
-      pieces = first_segments_are_in_order (ledger_at (record { plan = plan; starts = starts; begun = at_start }) at_start empty_draft) (segment_piece plan [] []) is_ledger refl (λ w. refl) (λ w. refl);
+      pieces = first_segments_are_in_order (ledger_at (record { plan = plan; starts = starts; begun = at_start }) at_start empty_draft)
+          (segment_piece plan [] []) is_ledger refl (λ w. refl) (λ w. refl);
       parts = λ j pos le. absurd (omega arith);
       framed = (segment_framed plan small [] [] _ (All-nothing (OpFits plan)), tt);
     };

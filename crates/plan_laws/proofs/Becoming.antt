@@ -38,7 +38,8 @@ use Rattle.plan_laws.proofs.Finishing as finished
 use Rattle.plan_laws.proofs.Finishing.{finished_plans_are_ordered}
 use Rattle.plan_laws.proofs.Walking.{Walked, walk, ops_at, binds_at, StartedStands}
 
-module _ (x : Outline) (s : ScriptState) (d : Draft) (last final : Segment) (known : IsKnown s) (was : IsPlanned x s d) (from : IsPlanFrom x d last final) (sized : IsSized x.plan)
+module _ (x : Outline) (s : ScriptState) (d : Draft) (last final : Segment) (known : IsKnown s) (was : IsPlanned x s d) (from : IsPlanFrom x d last final)
+    (sized : IsSized x.plan)
     (checked : (n : ℕ) (k : Kernel) → slice_get x.plan.kernels.items n ≡ Some k → IsChecked k) where
   abbrev plan : Plan
   plan = x.plan
@@ -62,7 +63,8 @@ module _ (x : Outline) (s : ScriptState) (d : Draft) (last final : Segment) (kno
   starts = finished.starts_are x small s d last final known was from sized.words_are ∙ ap (numbers_from 1) (sym jobs_long)
 
   closed_starts : starts_from segments ≡ numbers_from 1 n
-  closed_starts = starts_from-one d.segments last ∙ ap (λ o. starts_from d.segments ++ number_in o) from.starts ∙ append-nil (starts_from d.segments) ∙ was.fitting.starts
+  closed_starts = starts_from-one d.segments last ∙ ap (λ o. starts_from d.segments ++ number_in o) from.starts ∙ append-nil (starts_from d.segments)
+      ∙ was.fitting.starts
 
   -- ---- what its numbers name
 
@@ -75,7 +77,8 @@ module _ (x : Outline) (s : ScriptState) (d : Draft) (last final : Segment) (kno
   fits : SegmentsFit plan 0 plan.segments.items
   fits = subst (SegmentsFit plan 0) (sym ends.segments_are)
       (segments_fit-one plan 0 segments final
-      (segments_fit-one plan 0 d.segments last was.fitting.closed (subst (λ k. SegmentFits plan k last) (sym (jobs_started d.segments n was.fitting.starts)) last_fits))
+      (segments_fit-one plan 0 d.segments last was.fitting.closed (subst (λ k. SegmentFits plan k last)
+      (sym (jobs_started d.segments n was.fitting.starts)) last_fits))
       (subst (λ k. SegmentFits plan k final) (sym (jobs_started segments n closed_starts)) final_fits))
 
   on_draft : (j : ℕ) (y : JobPlan) → job_at plan j ≡ Some y → slice_get d.jobs j ≡ Some y
@@ -97,11 +100,15 @@ module _ (x : Outline) (s : ScriptState) (d : Draft) (last final : Segment) (kno
     last_is = sym (count plan segments final ends);
     starts = starts;
     waits = λ k it h.
-        let f = (segment_fits plan 0 plan.segments.items k it fits h).waits in
-        (f.0, λ i id lt. let le = f.1 i id lt in let b = begun_below plan.segments.items k in let l = jobs_started plan.segments.items (length plan.jobs.items) starts in omega arith);
+        let f = (segment_fits plan 0 plan.segments.items k it fits h).waits in (
+          f.0,
+          λ i id lt. let le = f.1 i id lt in let b = begun_below plan.segments.items k in
+              let l = jobs_started plan.segments.items (length plan.jobs.items) starts in omega arith,
+        );
     last_waits = λ j lt.
         let l = jobs_long in
-        ap (λ o. has_job (waits_in o) (suc j)) (finished.final_at x small s d last final known was from sized.words_are) ∙ from.final_waits (suc j) (omega arith) (omega arith);
+        ap (λ o. has_job (waits_in o) (suc j)) (finished.final_at x small s d last final known was from sized.words_are)
+        ∙ from.final_waits (suc j) (omega arith) (omega arith);
     firsts = λ j y h. was.fitting.firsts j y (on_draft j y h) ∙ ap (λ js. pieces_before js j) (sym from.jobs);
     earlier = earlier plan starts fits deps;
   }
@@ -119,7 +126,8 @@ module _ (x : Outline) (s : ScriptState) (d : Draft) (last final : Segment) (kno
 
   -- a segment is one of those of the draft, or the final one
   segment_is : (k : ℕ) (it : Segment) → segment_at plan k ≡ Some it → (slice_get segments k ≡ Some it) ⊎ (final ≡ it)
-  segment_is k it h = ⊎_elim (λ l. inl l.1) (λ r. inr (one r.0 r.2)) (get_either segments (final ∷ []) k it (ap (λ ss. slice_get ss k) (sym ends.segments_are) ∙ h))
+  segment_is k it h = ⊎_elim (λ l. inl l.1) (λ r. inr (one r.0 r.2)) (get_either segments (final ∷ []) k it
+      (ap (λ ss. slice_get ss k) (sym ends.segments_are) ∙ h))
     where
       one : (i : ℕ) → slice_get (final ∷ []) i ≡ Some it → final ≡ it
       one zero e = some_is e
@@ -127,13 +135,15 @@ module _ (x : Outline) (s : ScriptState) (d : Draft) (last final : Segment) (kno
 
   ops_stand : (k : ℕ) (it : Segment) → segment_at plan k ≡ Some it → OpsStand plan it.ops.items (before_piece plan (OfScript k))
   ops_stand k it h = ⊎_elim
-      (λ e. let z : 0 + k ≡ k = omega arith in subst (λ k. OpsStand plan it.ops.items (before_piece plan (OfScript k))) z (ops_at plan segments final ends starts segments 0 k it walked.all_stand e))
+      (λ e. let z : 0 + k ≡ k = omega arith in subst (λ k. OpsStand plan it.ops.items (before_piece plan (OfScript k))) z
+      (ops_at plan segments final ends starts segments 0 k it walked.all_stand e))
       (λ e. subst (λ (it : Segment). OpsStand plan it.ops.items (before_piece plan (OfScript k))) e
       (subst (λ ops. OpsStand plan ops (before_piece plan (OfScript k))) (sym from.final_ops) tt))
       (segment_is k it h)
 
   abbrev JobStands : ℕ → Type 0
-  JobStands a = (y : JobPlan) → job_at plan a ≡ Some y → (i : ℕ) → i < pieces_of y → (contents : List Contents) × StandFor y.binds.items (before_piece plan (OfJob a i)) contents
+  JobStands a = (y : JobPlan) → job_at plan a ≡ Some y → (i : ℕ) → i < pieces_of y
+      → (contents : List Contents) × StandFor y.binds.items (before_piece plan (OfJob a i)) contents
 
   job_stands : (j : ℕ) → j < length plan.jobs.items → JobStands j
   job_stands j lt =
@@ -144,7 +154,8 @@ module _ (x : Outline) (s : ScriptState) (d : Draft) (last final : Segment) (kno
       let same = o.2 in
       let down : o.0.0 - 1 ≡ j = omega arith in
       ⊎_elim
-      (λ e. subst JobStands down (subst (StartedStands plan segments final ends starts) o.1 (binds_at plan segments final ends starts segments 0 k it.0 walked.all_stand e)))
+      (λ e. subst JobStands down (subst (StartedStands plan segments final ends starts) o.1
+      (binds_at plan segments final ends starts segments 0 k it.0 walked.all_stand e)))
       (λ e. absurd (none_some (sym from.final_starts ∙ (ap (λ (it : Segment). it.starts) e ∙ o.1))))
       (segment_is k it.0 it.1)
 
@@ -155,7 +166,8 @@ module _ (x : Outline) (s : ScriptState) (d : Draft) (last final : Segment) (kno
 
   told_same : output_onto plan [] no_output segments ≡ with_traps [] (output_of plan d)
   told_same = output_onto-one plan [] no_output d.segments last
-      ∙ (λ i. with_traps (started_traps plan (segment_piece plan (from.waits i) (from.ops i) ∷ closed_pieces plan d) (from.starts i)) (with_ops plan (from.ops i) (made.cells_after (closed_pieces plan d)) (output_closed plan d)))
+      ∙ (λ i. with_traps (started_traps plan (segment_piece plan (from.waits i) (from.ops i) ∷ closed_pieces plan d) (from.starts i))
+      (with_ops plan (from.ops i) (made.cells_after (closed_pieces plan d)) (output_closed plan d)))
 
   told : IsReported plan segments
   told = lines_are_reported plan segments final ends
@@ -164,7 +176,8 @@ module _ (x : Outline) (s : ScriptState) (d : Draft) (last final : Segment) (kno
   unfolding plan_traps
   traps_are =
       let z : 0 + n ≡ length plan.jobs.items = (let l = jobs_long in omega arith) in
-      sym (append-nil (output_of plan d).traps) ∙ sym (ap (λ (t : Output). t.traps) told_same) ∙ walked.all_traps ∙ ap (Rattle.frame_core.specs.Output.jobs_traps plan) z
+      sym (append-nil (output_of plan d).traps) ∙ sym (ap (λ (t : Output). t.traps) told_same) ∙ walked.all_traps
+      ∙ ap (Rattle.frame_core.specs.Output.jobs_traps plan) z
 
   -- ---- the cells after it
 
@@ -174,20 +187,24 @@ module _ (x : Outline) (s : ScriptState) (d : Draft) (last final : Segment) (kno
       let before : List Piece = turned [] (order_from plan.jobs.items 0 segments) in
       let m : ℕ = length (order_from plan.jobs.items 0 segments) in
       let long : length before ≡ m = (let l = length-turned (order_from plan.jobs.items 0 segments) [] in omega arith) in
-      ap made.cells_after (sym (finished.pieces_are x small s d last final known was from sized.words_are) ∙ sym (all_onto plan segments 0 [] (are_from plan segments final ends)))
+      ap made.cells_after (sym (finished.pieces_are x small s d last final known was from sized.words_are)
+      ∙ sym (all_onto plan segments 0 [] (are_from plan segments final ends)))
       ∙ cells_are plan segments final ends before (begins plan segments final ends)
       ∙ ap (cells_before (graph_of plan)) long
       ∙ sym (one_more m refl)
     where
-      one_more : (m : ℕ) → m ≡ length (order_from plan.jobs.items 0 segments) → cells_before (graph_of plan) (length (script_order plan)) ≡ cells_before (graph_of plan) m
+      one_more : (m : ℕ) → m ≡ length (order_from plan.jobs.items 0 segments)
+          → cells_before (graph_of plan) (length (script_order plan)) ≡ cells_before (graph_of plan) m
       one_more m e =
           let z : 0 + length segments ≡ length segments = omega arith in
           let orders : order_from plan.jobs.items 0 plan.segments.items ≡ order_from plan.jobs.items 0 segments ++ OfScript (length segments) ∷ [] =
-          ap (order_from plan.jobs.items 0) ends.segments_are ∙ order_more plan.jobs.items 0 segments final ends.starts ∙ ap (λ k. order_from plan.jobs.items 0 segments ++ OfScript k ∷ []) z in
+          ap (order_from plan.jobs.items 0) ends.segments_are ∙ order_more plan.jobs.items 0 segments final ends.starts
+          ∙ ap (λ k. order_from plan.jobs.items 0 segments ++ OfScript k ∷ []) z in
           let l = length-both (order_from plan.jobs.items 0 segments) (OfScript (length segments) ∷ []) in
           let long : length (order_from plan.jobs.items 0 plan.segments.items) ≡ suc m = (let o = ap length orders in omega arith) in
           let at : piece_at plan m ≡ Some (OfScript (length segments)) =
-          ap (λ ps. slice_get ps m) orders ∙ (let y : m ≡ length (order_from plan.jobs.items 0 segments) + 0 = omega arith in ap (slice_get (order_from plan.jobs.items 0 segments ++ OfScript (length segments) ∷ [])) y)
+          ap (λ ps. slice_get ps m) orders ∙ (let y : m ≡ length (order_from plan.jobs.items 0 segments) + 0 = omega arith in
+          ap (slice_get (order_from plan.jobs.items 0 segments ++ OfScript (length segments) ∷ [])) y)
           ∙ get_behind (order_from plan.jobs.items 0 segments) (OfScript (length segments) ∷ []) 0 in
           ap (cells_before (graph_of plan)) long
           ∙ ap (λ o. cells_at plan o (cells_before (graph_of plan) m)) at

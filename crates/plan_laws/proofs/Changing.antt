@@ -51,7 +51,12 @@ same_order l m pieces a is order = ledgers_keep_order l m pieces is order (recor
   jobs = let same = a.jobs in omega arith;
   depends = λ j k le e. sym (a.depends j k) ∙ e;
   completed = a.completed;
-  containers = λ c live. inr (record { live = a.live c ∙ live; words = λ w e. a.words c w ∙ e; users = λ j e. a.users c j ∙ e; writers = λ j e. a.writers c j ∙ e });
+  containers = λ c live. inr (record {
+    live = a.live c ∙ live;
+    words = λ w e. a.words c w ∙ e;
+    users = λ j e. a.users c j ∙ e;
+    writers = λ j e. a.writers c j ∙ e;
+  });
 })
 
 module _ (x : Outline) (s t : ScriptState) (c : ℕ) (d : Draft) (was : IsPlanned x s d) (one : ChangesOne s t c) where
@@ -69,7 +74,8 @@ module _ (x : Outline) (s t : ScriptState) (c : ℕ) (d : Draft) (was : IsPlanne
       λ i. record t { made = made i; alive = alive i; uses = uses i; range = range i; book = book i }
 
   forms : (start k : ℕ) → bind_of start (t.contents k) ≡ bind_of start (s.contents k)
-  forms start k = ⊎_elim (λ e. subst (λ c. bind_of start (t.contents c) ≡ bind_of start (s.contents c)) (sym e) (one.form start)) (λ ne. ap (bind_of start) (one.others k ne)) (cases_eq k c)
+  forms start k = ⊎_elim (λ e. subst (λ c. bind_of start (t.contents c) ≡ bind_of start (s.contents c)) (sym e) (one.form start))
+      (λ ne. ap (bind_of start) (one.others k ne)) (cases_eq k c)
 
   words_same : (k : ℕ) → words_of (t.contents k) ≡ words_of (s.contents k)
   words_same k =
@@ -105,14 +111,16 @@ module _ (x : Outline) (s t : ScriptState) (c : ℕ) (d : Draft) (was : IsPlanne
     writers = λ k j. writers_same (owner k) j;
   }
 
-  module _ (op : Op) (small : x.plan.cells < 2 ^ 32) (below : c < s.made) (alive : s.alive c ≡ true) (touch : TouchesOne x s op c) (fits : OpFits x.plan op) where
+  module _ (op : Op) (small : x.plan.cells < 2 ^ 32) (below : c < s.made) (alive : s.alive c ≡ true) (touch : TouchesOne x s op c)
+      (fits : OpFits x.plan op) where
     l : Ledger
     l = ledger_at x s d
 
     live_here : is_live s c ≡ true
     live_here = alive_is_live s c below alive
 
-    completed : (u : ℕ → Bool) → ((j : ℕ) → u j ≡ true → s.book.completed j ≡ true) → (j : ℕ) → later (jobs_before x) u j ≡ true → later (jobs_before x) s.book.completed j ≡ true
+    completed : (u : ℕ → Bool) → ((j : ℕ) → u j ≡ true → s.book.completed j ≡ true) → (j : ℕ) → later (jobs_before x) u j ≡ true
+        → later (jobs_before x) s.book.completed j ≡ true
     completed u all j e = by (nat_lt 0 j) e
       where
         by : (b : Bool) → (b && u (jobs_before x + j)) ≡ true → (b && s.book.completed (jobs_before x + j)) ≡ true
@@ -143,12 +151,15 @@ module _ (x : Outline) (s t : ScriptState) (c : ℕ) (d : Draft) (was : IsPlanne
         none true e = absurd (out (touch.reads w (writes_read (act_touches op.act) w e)))
         none false e = refl
 
-    held : Holds (op_cells x.plan op (cells_of x.plan d)) (bind_of (x.starts (s.range c)) (t.contents c)) (t.contents c) → AllHeld x.starts like (op_cells x.plan op (cells_of x.plan d))
+    held : Holds (op_cells x.plan op (cells_of x.plan d)) (bind_of (x.starts (s.range c)) (t.contents c)) (t.contents c)
+        → AllHeld x.starts like (op_cells x.plan op (cells_of x.plan d))
     held new k below_k alive_k = ⊎_elim
         (λ here. subst (λ k. Holds (op_cells x.plan op (cells_of x.plan d)) (bind_of_container x.starts like k) (t.contents k)) (sym here) new)
         (λ ne. subst (λ it. Holds (op_cells x.plan op (cells_of x.plan d)) (bind_of (x.starts (s.range k)) it) it) (sym (one.others k ne))
-        (still (bind_of_container x.starts s k) (cells_of x.plan d) (op_cells x.plan op (cells_of x.plan d)) (s.contents k) (was.standing.contents k below_k alive_k)
-        (λ w is. stays w (λ has. ne (words_apart x.plan x.starts (jobs_before x) (length d.jobs) s was.ordered.ledger k c w (alive_is_live s k below_k alive_k) live_here (word_has x.starts s k w is) has)))))
+        (still (bind_of_container x.starts s k) (cells_of x.plan d) (op_cells x.plan op (cells_of x.plan d)) (s.contents k)
+        (was.standing.contents k below_k alive_k)
+        (λ w is. stays w (λ has. ne (words_apart x.plan x.starts (jobs_before x) (length d.jobs) s was.ordered.ledger k c w
+        (alive_is_live s k below_k alive_k) live_here (word_has x.starts s k w is) has)))))
         (cases_eq k c)
 
 pub changes_are_planned : ChangesArePlanned
@@ -162,7 +173,8 @@ changes_are_planned x small s t c op d e was below alive one touch fits stands n
       count = old.count;
       before = old.before;
       ledger = same_ledger (ledger_at x s d) (ledger_at x u d) a old.ledger;
-      pieces = same_order (ledger_at x s d) (ledger_at x u d) _ a old.ledger (op_in_order x.plan (ledger_at x s d) d.waits d.ops op _ old.ledger old.pieces (settled_for x s t c d was one op small below alive touch fits));
+      pieces = same_order (ledger_at x s d) (ledger_at x u d) _ a old.ledger
+          (op_in_order x.plan (ledger_at x s d) d.waits d.ops op _ old.ledger old.pieces (settled_for x s t c d was one op small below alive touch fits));
       within = λ k live. let e = ap end_of (forms x s t c d was one (x.starts (s.range k)) k) in let le = was.standing.within k live in omega arith;
     }))
     (held x s t c d was one op small below alive touch fits new)

@@ -56,7 +56,8 @@ none_any set n e = greatest_none set n (by (greatest set n) refl)
     by zero h = refl
     by (suc k) h = absurd (not_both (true_any set n (omega arith)) e)
 
-module _ (x : Outline) (small : x.plan.cells < 2 ^ 32) (s : ScriptState) (handle : Jobs) (d : Draft) (was : IsPlanned x s d) (known : IsKnown s) (up : AreUpTo s.book.count handle)
+module _ (x : Outline) (small : x.plan.cells < 2 ^ 32) (s : ScriptState) (handle : Jobs) (d : Draft) (was : IsPlanned x s d) (known : IsKnown s)
+    (up : AreUpTo s.book.count handle)
     (after : List JobId) (news : AreNewlyCompleted x s handle after) where
   abbrev t : ScriptState
   t = complete handle s
@@ -121,9 +122,11 @@ module _ (x : Outline) (small : x.plan.cells < 2 ^ 32) (s : ScriptState) (handle
 
   newly : (j : ℕ) → later (jobs_before x) t.book.completed j ≡ true → (later (jobs_before x) s.book.completed j ≡ true) ⊎ (has_job after j ≡ true)
   newly zero e = inl e
-  newly (suc j) e = by (s.book.completed (jobs_before x + suc j)) (ancestors_in s.book handle (jobs_before x + suc j)) refl refl (sym (ap (λ b. b && t.book.completed (jobs_before x + suc j)) (positive j)) ∙ e)
+  newly (suc j) e = by (s.book.completed (jobs_before x + suc j)) (ancestors_in s.book handle (jobs_before x + suc j)) refl refl
+      (sym (ap (λ b. b && t.book.completed (jobs_before x + suc j)) (positive j)) ∙ e)
     where
-      by : (b a : Bool) → s.book.completed (jobs_before x + suc j) ≡ b → ancestors_in s.book handle (jobs_before x + suc j) ≡ a → (b || a) ≡ true → (later (jobs_before x) s.book.completed (suc j) ≡ true) ⊎ (has_job after (suc j) ≡ true)
+      by : (b a : Bool) → s.book.completed (jobs_before x + suc j) ≡ b → ancestors_in s.book handle (jobs_before x + suc j) ≡ a → (b || a) ≡ true
+          → (later (jobs_before x) s.book.completed (suc j) ≡ true) ⊎ (has_job after (suc j) ≡ true)
       by true a f h e = inl (ap (λ b. b && s.book.completed (jobs_before x + suc j)) (positive j) ∙ f)
       by false true f h e = inr (news (suc j) (omega arith) ∙ (λ i. h i && not (f i)))
       by false false f h e = absurd (not_both e refl)
@@ -184,11 +187,13 @@ module _ (x : Outline) (small : x.plan.cells < 2 ^ 32) (s : ScriptState) (handle
     apart = λ c k w lc lk wc wk. is_middle.apart c k w (live_owner (owner c) lc) (live_owner (owner k) lk) wc wk;
   }
 
-  stays_or_goes : (o : Owner) → owner_live s (length d.jobs) o ≡ true → ((j : ℕ) → owner_users (jobs_before x) t o j ≡ true → later (jobs_before x) t.book.completed j ≡ true) ⊎ (owner_live t (length d.jobs) o ≡ true)
+  stays_or_goes : (o : Owner) → owner_live s (length d.jobs) o ≡ true → ((j : ℕ) → owner_users (jobs_before x) t o j ≡ true
+      → later (jobs_before x) t.book.completed j ≡ true) ⊎ (owner_live t (length d.jobs) o ≡ true)
   stays_or_goes (Held c) e = ⊎_elim (λ live. inr live)
       (λ dead. inl (λ j u. by j (nat_lt 0 j) u (gone c e dead (jobs_before x + j)))) (either_bool (is_live t c))
     where
-      by : (j : ℕ) (a : Bool) → (a && (s.uses c).users (jobs_before x + j)) ≡ true → ((s.uses c).users (jobs_before x + j) ≡ true → t.book.completed (jobs_before x + j) ≡ true) → (a && t.book.completed (jobs_before x + j)) ≡ true
+      by : (j : ℕ) (a : Bool) → (a && (s.uses c).users (jobs_before x + j)) ≡ true
+          → ((s.uses c).users (jobs_before x + j) ≡ true → t.book.completed (jobs_before x + j) ≡ true) → (a && t.book.completed (jobs_before x + j)) ≡ true
       by j true u f = f u
       by j false u f = absurd (not_both u refl)
   stays_or_goes (Own j) e = inr e
@@ -198,11 +203,13 @@ module _ (x : Outline) (small : x.plan.cells < 2 ^ 32) (s : ScriptState) (handle
     jobs = omega arith;
     depends = λ j k le e. e;
     completed = λ j. refl;
-    containers = λ c live. ⊎_elim (λ done. inl done) (λ still. inr (record { live = still; words = λ w e. e; users = λ j e. e; writers = λ j e. e })) (stays_or_goes (owner c) live);
+    containers = λ c live. ⊎_elim (λ done. inl done) (λ still. inr (record { live = still; words = λ w e. e; users = λ j e. e; writers = λ j e. e }))
+        (stays_or_goes (owner c) live);
   }
 
   order : AreInOrder m (segment_piece x.plan after [] ∷ pieces_of x.plan d)
-  order = ledgers_keep_order middle m _ is_middle (new_segments_keep_order l middle (pieces_of x.plan d) (segment_piece x.plan after []) was.ordered.pieces begins) goes_on
+  order = ledgers_keep_order middle m _ is_middle (new_segments_keep_order l middle (pieces_of x.plan d)
+      (segment_piece x.plan after []) was.ordered.pieces begins) goes_on
 
   -- the plan afterwards
   module _ (segment : Segment) (waits_were : segment.waits.items ≡ d.waits) (ops_were : segment.ops.items ≡ d.ops) (starts : segment.starts ≡ None) where
@@ -210,15 +217,22 @@ module _ (x : Outline) (small : x.plan.cells < 2 ^ 32) (s : ScriptState) (handle
     e = record { segments = d.segments ++ segment ∷ []; jobs = d.jobs; waits = after; ops = [] }
 
     pieces_are : closed_pieces x.plan e ≡ pieces_of x.plan d
-    pieces_are = pieces_onto-one x.plan [] d.segments segment ∙ (λ i. Rattle.plan_laws.specs.Drafts.started_parts x.plan (starts i) ++ segment_piece x.plan (waits_were i) (ops_were i) ∷ closed_pieces x.plan d)
+    pieces_are = pieces_onto-one x.plan [] d.segments segment ∙ (λ i. Rattle.plan_laws.specs.Drafts.started_parts x.plan (starts i)
+        ++ segment_piece x.plan (waits_were i) (ops_were i) ∷ closed_pieces x.plan d)
 
     told_is : output_closed x.plan e ≡ with_traps [] (output_of x.plan d)
     told_is = output_onto-one x.plan [] no_output d.segments segment
-        ∙ (λ i. with_traps (started_traps x.plan (segment_piece x.plan (waits_were i) (ops_were i) ∷ closed_pieces x.plan d) (starts i)) (with_ops x.plan (ops_were i) (cells_after (closed_pieces x.plan d)) (output_closed x.plan d)))
+        ∙ (λ i. with_traps (started_traps x.plan (segment_piece x.plan (waits_were i) (ops_were i) ∷ closed_pieces x.plan d) (starts i))
+        (with_ops x.plan (ops_were i) (cells_after (closed_pieces x.plan d)) (output_closed x.plan d)))
 
     -- a piece keeps its place below a new one
     part_below : (j : ℕ) → HasPieceOf (pieces_of x.plan d) j → HasPieceOf (segment_piece x.plan after [] ∷ pieces_of x.plan d) j
-    part_below j h = (h.0, (let lt = h.1 in omega arith), ap (λ (z : Piece). z.job) (at_old (segment_piece x.plan after []) (pieces_of x.plan d) h.0 (λ z. let lt = h.1 in omega arith)) ∙ h.2)
+    part_below j h = (
+      h.0,
+      (let lt = h.1 in omega arith),
+      ap (λ (z : Piece). z.job)
+          (at_old (segment_piece x.plan after []) (pieces_of x.plan d) h.0 (λ z. let lt = h.1 in omega arith)) ∙ h.2,
+    )
 
     fits_closed : SegmentFits x.plan (length d.jobs) segment
     fits_closed = record {
@@ -244,22 +258,28 @@ module _ (x : Outline) (small : x.plan.cells < 2 ^ 32) (s : ScriptState) (handle
             jobs_fit = was.fitting.jobs_fit;
             firsts = was.fitting.firsts;
             deps = was.fitting.deps;
-            starts = starts_from-one d.segments segment ∙ ap (λ o. starts_from d.segments ++ number_in o) starts ∙ append-nil (starts_from d.segments) ∙ was.fitting.starts;
-            closed = segments_fit-one x.plan 0 d.segments segment was.fitting.closed (subst (λ k. SegmentFits x.plan k segment) (sym (jobs_started d.segments (length d.jobs) was.fitting.starts)) fits_closed);
+            starts = starts_from-one d.segments segment ∙ ap (λ o. starts_from d.segments ++ number_in o) starts ∙ append-nil (starts_from d.segments)
+                ∙ was.fitting.starts;
+            closed = segments_fit-one x.plan 0 d.segments segment was.fitting.closed
+                (subst (λ k. SegmentFits x.plan k segment) (sym (jobs_started d.segments (length d.jobs) was.fitting.starts)) fits_closed);
             waits = fits;
             ops = All-nothing (OpFits x.plan);
           };
           standing = record {
-            closed = closed_stand-one x.plan [] d.segments segment was.standing.closed (subst (λ ops. OpsStand x.plan ops (cells_after (closed_pieces x.plan d))) (sym ops_were) was.standing.ops)
+            closed = closed_stand-one x.plan [] d.segments segment was.standing.closed
+                (subst (λ ops. OpsStand x.plan ops (cells_after (closed_pieces x.plan d))) (sym ops_were) was.standing.ops)
                 (subst (λ o. StartedStand x.plan (segment_piece x.plan segment.waits.items segment.ops.items ∷ closed_pieces x.plan d) o) (sym starts) tt);
             ops = tt;
-            contents = λ c below alive. subst (λ ps. Holds (cells_after ps) (bind_of_container x.starts s c) (s.contents c)) (sym pieces_are) (was.standing.contents c below alive);
+            contents = λ c below alive. subst (λ ps. Holds (cells_after ps) (bind_of_container x.starts s c) (s.contents c)) (sym pieces_are)
+                (was.standing.contents c below alive);
             within = λ c live. was.standing.within c (live_before c live);
           };
           output = record {
-            lines = was.output.lines ∙ ap (λ l. x.begun.lines ++ l) (sym (append-nil (output_of x.plan d).lines) ∙ ap (λ (k : Output). k.lines ++ []) (sym told_is));
+            lines = was.output.lines ∙ ap (λ l. x.begun.lines ++ l) (sym (append-nil (output_of x.plan d).lines)
+                ∙ ap (λ (k : Output). k.lines ++ []) (sym told_is));
             refused = let r = was.output.refused in let q = ap (λ (k : Output). k.refused) told_is in omega arith;
-            traps = was.output.traps ∙ ap (λ ts. x.begun.traps ++ map (renumbered (jobs_before x)) ts) (sym (append-nil (output_of x.plan d).traps) ∙ ap (λ (k : Output). k.traps) (sym told_is));
+            traps = was.output.traps ∙ ap (λ ts. x.begun.traps ++ map (renumbered (jobs_before x)) ts)
+                (sym (append-nil (output_of x.plan d).traps) ∙ ap (λ (k : Output). k.traps) (sym told_is));
           };
         }
 

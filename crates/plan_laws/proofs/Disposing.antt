@@ -26,8 +26,28 @@ others_are_planned x s t d same was =
     let traps = sym same.traps in
     let refused = sym same.refused in
     let lines = sym same.lines in
-    let like : ScriptState = record t { made = s.made; contents = s.contents; alive = s.alive; uses = s.uses; range = s.range; book = s.book; traps = s.traps; refused = s.refused; lines = s.lines } in
-    let is : like ≡ t = (λ i. record t { made = made i; contents = contents i; alive = alive i; uses = uses i; range = range i; book = book i; traps = traps i; refused = refused i; lines = lines i }) in
+    let like : ScriptState = record t {
+      made = s.made;
+      contents = s.contents;
+      alive = s.alive;
+      uses = s.uses;
+      range = s.range;
+      book = s.book;
+      traps = s.traps;
+      refused = s.refused;
+      lines = s.lines;
+    } in
+    let is : like ≡ t = (λ i. record t {
+      made = made i;
+      contents = contents i;
+      alive = alive i;
+      uses = uses i;
+      range = range i;
+      book = book i;
+      traps = traps i;
+      refused = refused i;
+      lines = lines i;
+    }) in
     let o = was.ordered in
     let st = was.standing in
     subst (λ t. IsPlanned x t d) is (record {
@@ -37,7 +57,8 @@ others_are_planned x s t d same was =
       output = record { lines = was.output.lines; refused = was.output.refused; traps = was.output.traps };
     })
 
-module _ (x : Outline) (s : ScriptState) (alive : ℕ → Bool) (d : Draft) (known : IsKnown s) (alive_was : (k : ℕ) → alive k ≡ true → s.alive k ≡ true) (was : IsPlanned x s d) where
+module _ (x : Outline) (s : ScriptState) (alive : ℕ → Bool) (d : Draft) (known : IsKnown s) (alive_was : (k : ℕ) → alive k ≡ true → s.alive k ≡ true)
+    (was : IsPlanned x s d) where
   abbrev t : ScriptState
   t = with_alive alive s
 
@@ -83,10 +104,13 @@ module _ (x : Outline) (s : ScriptState) (alive : ℕ → Bool) (d : Draft) (kno
   owner_was (Held k) e = live_was k e
   owner_was (Own j) e = e
 
-  stays_or_goes : (o : Owner) → owner_live s (length d.jobs) o ≡ true → ((j : ℕ) → owner_users (jobs_before x) s o j ≡ true → later (jobs_before x) s.book.completed j ≡ true) ⊎ (owner_live t (length d.jobs) o ≡ true)
-  stays_or_goes (Held k) e = ⊎_elim (λ live. inr live) (λ dead. inl (λ j u. by j (nat_lt 0 j) u (gone k e dead (jobs_before x + j)))) (either_bool (is_live t k))
+  stays_or_goes : (o : Owner) → owner_live s (length d.jobs) o ≡ true → ((j : ℕ) → owner_users (jobs_before x) s o j ≡ true
+      → later (jobs_before x) s.book.completed j ≡ true) ⊎ (owner_live t (length d.jobs) o ≡ true)
+  stays_or_goes (Held k) e = ⊎_elim (λ live. inr live) (λ dead. inl (λ j u. by j (nat_lt 0 j) u (gone k e dead (jobs_before x + j))))
+      (either_bool (is_live t k))
     where
-      by : (j : ℕ) (a : Bool) → (a && (s.uses k).users (jobs_before x + j)) ≡ true → ((s.uses k).users (jobs_before x + j) ≡ true → s.book.completed (jobs_before x + j) ≡ true) → (a && s.book.completed (jobs_before x + j)) ≡ true
+      by : (j : ℕ) (a : Bool) → (a && (s.uses k).users (jobs_before x + j)) ≡ true
+          → ((s.uses k).users (jobs_before x + j) ≡ true → s.book.completed (jobs_before x + j) ≡ true) → (a && s.book.completed (jobs_before x + j)) ≡ true
       by j true u f = f u
       by j false u f = absurd (not_both u refl)
   stays_or_goes (Own j) e = inr e
@@ -98,7 +122,8 @@ module _ (x : Outline) (s : ScriptState) (alive : ℕ → Bool) (d : Draft) (kno
   is_m = record {
     older = is_l.older;
     written = λ k j e. users_same (owner k) j ∙ is_l.written k j (sym (writers_same (owner k) j) ∙ e);
-    apart = λ k e w lk le wk we. is_l.apart k e w (owner_was (owner k) lk) (owner_was (owner e) le) (sym (words_same (owner k) w) ∙ wk) (sym (words_same (owner e) w) ∙ we);
+    apart = λ k e w lk le wk we. is_l.apart k e w (owner_was (owner k) lk) (owner_was (owner e) le) (sym (words_same (owner k) w) ∙ wk)
+        (sym (words_same (owner e) w) ∙ we);
   }
 
   goes_on : GoesOn (ledger_at x s d) (ledger_at x t d)
@@ -107,7 +132,12 @@ module _ (x : Outline) (s : ScriptState) (alive : ℕ → Bool) (d : Draft) (kno
     depends = λ j k le e. e;
     completed = λ j. refl;
     containers = λ k live. ⊎_elim (λ done. inl done)
-        (λ still. inr (record { live = still; words = λ w e. words_same (owner k) w ∙ e; users = λ j e. users_same (owner k) j ∙ e; writers = λ j e. writers_same (owner k) j ∙ e })) (stays_or_goes (owner k) live);
+        (λ still. inr (record {
+          live = still;
+          words = λ w e. words_same (owner k) w ∙ e;
+          users = λ j e. users_same (owner k) j ∙ e;
+          writers = λ j e. writers_same (owner k) j ∙ e;
+        })) (stays_or_goes (owner k) live);
   }
 
   disposed : IsPlanned x t d
@@ -115,9 +145,21 @@ module _ (x : Outline) (s : ScriptState) (alive : ℕ → Bool) (d : Draft) (kno
       let o = was.ordered in
       let st = was.standing in
       record {
-        ordered = record { count = o.count; before = o.before; ledger = is_m; pieces = ledgers_keep_order (ledger_at x s d) (ledger_at x t d) (pieces_of x.plan d) is_l o.pieces goes_on; parts = o.parts; framed = o.framed };
+        ordered = record {
+          count = o.count;
+          before = o.before;
+          ledger = is_m;
+          pieces = ledgers_keep_order (ledger_at x s d) (ledger_at x t d) (pieces_of x.plan d) is_l o.pieces goes_on;
+          parts = o.parts;
+          framed = o.framed;
+        };
         fitting = was.fitting;
-        standing = record { closed = st.closed; ops = st.ops; contents = λ k below alive. st.contents k below (alive_was k alive); within = λ k live. st.within k (live_was k live) };
+        standing = record {
+          closed = st.closed;
+          ops = st.ops;
+          contents = λ k below alive. st.contents k below (alive_was k alive);
+          within = λ k live. st.within k (live_was k live);
+        };
         output = record { lines = was.output.lines; refused = was.output.refused; traps = was.output.traps };
       }
 

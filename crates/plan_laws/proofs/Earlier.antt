@@ -55,10 +55,12 @@ begun_is (x ∷ more) m n zero id e h = elim (starts_are x.starts more m n e) [
 ]
 begun_is (x ∷ more) m n (suc k) id e h = elim (starts_are x.starts more m n e) [
   | nothing q f ↦ let r = begun_is more m n k id f h in let z : length (number_in x.starts) ≡ 0 = ap (λ o. length (number_in o)) q in omega arith
-  | first i l q at long f ↦ let r = begun_is more (suc m) l k id f h in let z : length (number_in x.starts) ≡ 1 = ap (λ o. length (number_in o)) q in omega arith
+  | first i l q at long f ↦ let r = begun_is more (suc m) l k id f h in let z : length (number_in x.starts) ≡ 1 = ap (λ o. length (number_in o)) q in
+      omega arith
 ]
 
-pub segment_fits : (plan : Plan) (n : ℕ) (ss : List Segment) (k : ℕ) (s : Segment) → SegmentsFit plan n ss → slice_get ss k ≡ Some s → SegmentFits plan (n + begun ss k) s
+pub segment_fits : (plan : Plan) (n : ℕ) (ss : List Segment) (k : ℕ) (s : Segment) → SegmentsFit plan n ss → slice_get ss k ≡ Some s
+    → SegmentFits plan (n + begun ss k) s
 segment_fits plan n [] k s f h = absurd (none_some h)
 segment_fits plan n (x ∷ ss) zero s f h =
     let z : n ≡ n + 0 = omega arith in
@@ -88,7 +90,8 @@ place_keeps jobs ss k m le below = ⊎_elim
     (λ ne. let r = place_grows jobs ss k m (omega arith) below in omega arith)
     (cases_eq k m)
 
-part_before : (jobs : List JobPlan) (ss : List Segment) (k j i : ℕ) (x : JobPlan) → k < length ss → is_job (starts_in (slice_get ss k)) (suc j) ≡ true → slice_get jobs j ≡ Some x → i < pieces_of x
+part_before : (jobs : List JobPlan) (ss : List Segment) (k j i : ℕ) (x : JobPlan) → k < length ss → is_job (starts_in (slice_get ss k)) (suc j) ≡ true
+    → slice_get jobs j ≡ Some x → i < pieces_of x
     → suc (segment_place jobs ss k + i) < segment_place jobs ss (suc k)
 part_before jobs [] k j i x lt is has below = absurd (omega arith)
 part_before jobs (s ∷ ss) zero j i x lt is has below = let l = (get_started jobs s.starts j i x is has below).1 in omega arith
@@ -105,7 +108,8 @@ has_up n (id ∷ more) k all e = ⊎_elim
     (λ there. has_up n more k (All-tail (λ (id : JobId). id.0 ≤ n) id more all) there)
     (or_cases (nat_eq id.0 k) (has_job more k) e)
 
-module _ (plan : Plan) (starts : StartsAll plan) (fits : SegmentsFit plan 0 plan.segments.items) (deps : (j : ℕ) (x : JobPlan) → job_at plan j ≡ Some x → AreJobsUpTo j x.deps.items) where
+module _ (plan : Plan) (starts : StartsAll plan) (fits : SegmentsFit plan 0 plan.segments.items)
+    (deps : (j : ℕ) (x : JobPlan) → job_at plan j ≡ Some x → AreJobsUpTo j x.deps.items) where
   abbrev jobs : List JobPlan
   jobs = plan.jobs.items
 
@@ -121,7 +125,8 @@ module _ (plan : Plan) (starts : StartsAll plan) (fits : SegmentsFit plan 0 plan
       omega arith
 
   -- a job's pieces stand before each later segment
-  part_place : (j i k : ℕ) → (h : IsPieceOf plan (OfJob j i)) → starter_of plan j < k → k ≤ length segments → suc (segment_place jobs segments (starter_of plan j) + i) < segment_place jobs segments k
+  part_place : (j i k : ℕ) → (h : IsPieceOf plan (OfJob j i)) → starter_of plan j < k → k ≤ length segments
+      → suc (segment_place jobs segments (starter_of plan j) + i) < segment_place jobs segments k
   part_place j i k h lt le =
       let below = get_below jobs j h.0 h.1 in
       let p = part_before jobs segments (starter_of plan j) j i h.0 (starter_below plan starts j below) (starter_starts plan starts j below) h.1 h.2 in
@@ -133,9 +138,11 @@ module _ (plan : Plan) (starts : StartsAll plan) (fits : SegmentsFit plan 0 plan
   stands_before (OfScript l) (OfScript k) hx hy e = let at : suc l ≡ k = eqb-true (suc l) k e in place_grows jobs segments l k (omega arith) (omega arith)
   stands_before (OfJob j i) (OfScript k) hx hy e =
       let s = some_segment segments k hy in
-      let up = has_up (0 + begun segments k) s.0.waits.items (suc j) (segment_fits plan 0 segments k s.0 fits s.1).waits.1 (ap (λ o. has_job (waits_in o) (suc j)) (sym s.1) ∙ e) in
+      let up = has_up (0 + begun segments k) s.0.waits.items (suc j) (segment_fits plan 0 segments k s.0 fits s.1).waits.1
+      (ap (λ o. has_job (waits_in o) (suc j)) (sym s.1) ∙ e) in
       let b = starter_begun j (get_below jobs j hx.0 hx.1) in
-      let early : starter_of plan j < k = ⊎_elim (λ lt. lt) (λ ge. let g = begun_grows segments k (starter_of plan j) ge in absurd (omega arith)) (cases_lt (starter_of plan j) k) in
+      let early : starter_of plan j < k = ⊎_elim (λ lt. lt) (λ ge. let g = begun_grows segments k (starter_of plan j) ge in absurd (omega arith))
+      (cases_lt (starter_of plan j) k) in
       part_place j i k hx early (omega arith)
   stands_before (OfScript k) (OfJob j i) hx hy e =
       let own = ap (segment_place jobs segments) (starter_alone plan starts j k e) in
@@ -145,7 +152,9 @@ module _ (plan : Plan) (starts : StartsAll plan) (fits : SegmentsFit plan 0 plan
       let below = get_below jobs j hy.0 hy.1 in
       let bb = starter_begun b (get_below jobs b hx.0 hx.1) in
       let bj = starter_begun j below in
-      let early : starter_of plan b < starter_of plan j = ⊎_elim (λ lt. lt) (λ ge. let g = begun_grows segments (starter_of plan j) (starter_of plan b) ge in absurd (omega arith)) (cases_lt (starter_of plan b) (starter_of plan j)) in
+      let early : starter_of plan b < starter_of plan j = ⊎_elim (λ lt. lt)
+      (λ ge. let g = begun_grows segments (starter_of plan j) (starter_of plan b) ge in absurd (omega arith))
+      (cases_lt (starter_of plan b) (starter_of plan j)) in
       let there = starter_below plan starts j below in
       let p = part_place b h (starter_of plan j) hx early (omega arith) in
       omega arith

@@ -27,9 +27,11 @@ use Rattle.plan_laws.proofs.WholePlans.{at_back, back_old, back_new, turned_appe
 -- a piece more of a job
 parts_more : (j i n : ℕ) → parts_from j i (suc n) ≡ parts_from j i n ++ OfJob j (i + n) ∷ []
 parts_more j i zero = let e : i ≡ i + 0 = omega arith in ap (λ k. OfJob j k ∷ []) e
-parts_more j i (suc n) = let e : suc i + n ≡ i + suc n = omega arith in ap (λ ps. OfJob j i ∷ ps) (parts_more j (suc i) n ∙ ap (λ k. parts_from j (suc i) n ++ OfJob j k ∷ []) e)
+parts_more j i (suc n) = let e : suc i + n ≡ i + suc n = omega arith in ap (λ ps. OfJob j i ∷ ps)
+    (parts_more j (suc i) n ∙ ap (λ k. parts_from j (suc i) n ++ OfJob j k ∷ []) e)
 
-pub order_more : (jobs : List JobPlan) (k : ℕ) (xs : List Segment) (y : Segment) → y.starts ≡ None → order_from jobs k (xs ++ y ∷ []) ≡ order_from jobs k xs ++ OfScript (k + length xs) ∷ []
+pub order_more : (jobs : List JobPlan) (k : ℕ) (xs : List Segment) (y : Segment) → y.starts ≡ None
+    → order_from jobs k (xs ++ y ∷ []) ≡ order_from jobs k xs ++ OfScript (k + length xs) ∷ []
 order_more jobs k [] y e = let z : k ≡ k + 0 = omega arith in (λ i. OfScript (z i) ∷ (started jobs (e i) ++ []))
 order_more jobs k (x ∷ xs) y e =
     let z : suc k + length xs ≡ k + suc (length xs) = omega arith in
@@ -60,7 +62,8 @@ module _ (plan : Plan) where
       by (Some x) = all_parts (id.0 - 1) (pieces_of x) top
 
   -- a segment that isn't the last one
-  pub segment_is : (k : ℕ) (s : Segment) → segment_at plan k ≡ Some s → is_last plan k ≡ false → make (OfScript k) ≡ segment_piece plan s.waits.items s.ops.items
+  pub segment_is : (k : ℕ) (s : Segment) → segment_at plan k ≡ Some s → is_last plan k ≡ false
+      → make (OfScript k) ≡ segment_piece plan s.waits.items s.ops.items
   unfolding touches piece_cells
   segment_is k s e last =
       let ts : ops_touch (ops_in (segment_at plan k)) ++ (if is_last plan k then all_own_words plan ∷ [] else []) ≡ ops_touch s.ops.items =
@@ -72,12 +75,14 @@ module _ (plan : Plan) where
   AreFrom k segments = (i : ℕ) → i < length segments → (segment_at plan (k + i) ≡ slice_get segments i) × (is_last plan (k + i) ≡ false)
 
   pub from_next : (k : ℕ) (s : Segment) (more : List Segment) → AreFrom k (s ∷ more) → AreFrom (suc k) more
-  from_next k s more are i lt = let e : suc k + i ≡ k + suc i = omega arith in let a = are (suc i) (omega arith) in (ap (segment_at plan) e ∙ a.0, ap (is_last plan) e ∙ a.1)
+  from_next k s more are i lt = let e : suc k + i ≡ k + suc i = omega arith in let a = are (suc i) (omega arith) in
+      (ap (segment_at plan) e ∙ a.0, ap (is_last plan) e ∙ a.1)
 
   pub here : (k : ℕ) (s : Segment) (more : List Segment) → AreFrom k (s ∷ more) → (segment_at plan k ≡ Some s) × (is_last plan k ≡ false)
   here k s more are = let e : k ≡ k + 0 = omega arith in let a = are 0 (omega arith) in (ap (segment_at plan) e ∙ a.0, ap (is_last plan) e ∙ a.1)
 
-  pub all_onto : (segments : List Segment) (k : ℕ) (top : List Piece) → AreFrom k segments → all (turned top (order_from plan.jobs.items k segments)) ≡ pieces_onto plan (all top) segments
+  pub all_onto : (segments : List Segment) (k : ℕ) (top : List Piece) → AreFrom k segments
+      → all (turned top (order_from plan.jobs.items k segments)) ≡ pieces_onto plan (all top) segments
   all_onto [] k top are = refl
   all_onto (s ∷ more) k top are =
       let h = here k s more are in
@@ -131,47 +136,62 @@ module _ (plan : Plan) where
         made_effect (OfScript k) cells = refl
         made_effect (OfJob j i) cells = refl
 
-    pub next_place : (ss : List Segment) (k : ℕ) (s : Segment) → slice_get ss k ≡ Some s → segment_place plan.jobs.items ss (suc k) ≡ segment_place plan.jobs.items ss k + suc (length (started plan.jobs.items s.starts))
+    pub next_place : (ss : List Segment) (k : ℕ) (s : Segment) → slice_get ss k ≡ Some s
+        → segment_place plan.jobs.items ss (suc k) ≡ segment_place plan.jobs.items ss k + suc (length (started plan.jobs.items s.starts))
     next_place [] k s e = absurd (none_some e)
-    next_place (x ∷ ss) zero s e = ap (λ (x : Segment). suc (length (started plan.jobs.items x.starts) + segment_place plan.jobs.items ss 0)) (some_is e) ∙ zero_place ss
+    next_place (x ∷ ss) zero s e = ap (λ (x : Segment). suc (length (started plan.jobs.items x.starts) + segment_place plan.jobs.items ss 0)) (some_is e)
+        ∙ zero_place ss
       where
-        zero_place : (ss : List Segment) → suc (length (started plan.jobs.items s.starts) + segment_place plan.jobs.items ss 0) ≡ 0 + suc (length (started plan.jobs.items s.starts))
+        zero_place : (ss : List Segment) → suc (length (started plan.jobs.items s.starts) + segment_place plan.jobs.items ss 0) ≡ 0 + suc
+            (length (started plan.jobs.items s.starts))
         zero_place [] = omega arith
         zero_place (y ∷ ss) = omega arith
     next_place (x ∷ ss) (suc k) s e = let r = next_place ss k s e in omega arith
 
     -- the cells before a segment
-    pub before_is : (k : ℕ) (top : List Piece) → IsBegun top → length top ≡ segment_place plan.jobs.items plan.segments.items k → cells_after (all top) ≡ before_piece plan (OfScript k)
+    pub before_is : (k : ℕ) (top : List Piece) → IsBegun top → length top ≡ segment_place plan.jobs.items plan.segments.items k
+        → cells_after (all top) ≡ before_piece plan (OfScript k)
     unfolding before_piece place_of
     before_is k top b e = cells_are top b ∙ ap (cells_before (graph_of plan)) e
 
-    told_are : (more : List Segment) (k : ℕ) (top : List Piece) (told : Output) → AreFrom k more → IsBegun (turned top (order_from plan.jobs.items k more)) → length top ≡ segment_place plan.jobs.items plan.segments.items k
+    told_are : (more : List Segment) (k : ℕ) (top : List Piece) (told : Output) → AreFrom k more → IsBegun (turned top (order_from plan.jobs.items k more))
+        → length top ≡ segment_place plan.jobs.items plan.segments.items k
         → told.lines ≡ lines_of plan k → told.refused ≡ refused_of plan k
-        → ((output_onto plan (all top) told more).lines ≡ lines_of plan (k + length more)) × ((output_onto plan (all top) told more).refused ≡ refused_of plan (k + length more))
+        → ((output_onto plan (all top) told more).lines ≡ lines_of plan (k + length more))
+        × ((output_onto plan (all top) told more).refused ≡ refused_of plan (k + length more))
     told_are [] k top told are b place lines refused = let z : k ≡ k + 0 = omega arith in (lines ∙ ap (lines_of plan) z, refused ∙ ap (refused_of plan) z)
     told_are (s ∷ more) k top told are b place lines refused =
         let h = here k s more are in
         let next : List Piece = turned (OfScript k ∷ top) (started plan.jobs.items s.starts) in
         let turn = turned_append (started plan.jobs.items s.starts) (order_from plan.jobs.items (suc k) more) (OfScript k ∷ top) in
         let b_next : IsBegun (turned next (order_from plan.jobs.items (suc k) more)) = subst IsBegun turn b in
-        let b_top : IsBegun top = (λ p lt. sym (turned_top (order_from plan.jobs.items k (s ∷ more)) top p lt) ∙ b p (let l = length-turned (order_from plan.jobs.items k (s ∷ more)) top in omega arith)) in
+        let b_top : IsBegun top = (λ p lt. sym (turned_top (order_from plan.jobs.items k (s ∷ more)) top p lt)
+        ∙ b p (let l = length-turned (order_from plan.jobs.items k (s ∷ more)) top in omega arith)) in
         let cells = before_is k top b_top place in
         let long = length-turned (started plan.jobs.items s.starts) (OfScript k ∷ top) in
-        let place_next : length next ≡ segment_place plan.jobs.items plan.segments.items (suc k) = (let q = next_place plan.segments.items k s h.0 in omega arith) in
-        let now : Output = with_traps (started_traps plan (segment_piece plan s.waits.items s.ops.items ∷ all top) s.starts) (with_ops plan s.ops.items (cells_after (all top)) told) in
-        let now_lines : now.lines ≡ lines_of plan (suc k) = (λ i. lines i ++ ops_lines plan s.ops.items (cells i)) ∙ ap (λ o. lines_of plan k ++ ops_lines plan (ops_in o) (before_piece plan (OfScript k))) (sym h.0) in
-        let now_refused : now.refused ≡ refused_of plan (suc k) = (λ i. refused i + ops_refused plan s.ops.items (cells i)) ∙ ap (λ o. refused_of plan k + ops_refused plan (ops_in o) (before_piece plan (OfScript k))) (sym h.0) in
+        let place_next : length next ≡ segment_place plan.jobs.items plan.segments.items (suc k) =
+        (let q = next_place plan.segments.items k s h.0 in omega arith) in
+        let now : Output = with_traps (started_traps plan (segment_piece plan s.waits.items s.ops.items ∷ all top) s.starts)
+        (with_ops plan s.ops.items (cells_after (all top)) told) in
+        let now_lines : now.lines ≡ lines_of plan (suc k) = (λ i. lines i ++ ops_lines plan s.ops.items (cells i))
+        ∙ ap (λ o. lines_of plan k ++ ops_lines plan (ops_in o) (before_piece plan (OfScript k))) (sym h.0) in
+        let now_refused : now.refused ≡ refused_of plan (suc k) = (λ i. refused i + ops_refused plan s.ops.items (cells i))
+        ∙ ap (λ o. refused_of plan k + ops_refused plan (ops_in o) (before_piece plan (OfScript k))) (sym h.0) in
         let r = told_are more (suc k) next now (from_next k s more are) b_next place_next now_lines now_refused in
         let same : started_parts plan s.starts ++ segment_piece plan s.waits.items s.ops.items ∷ all top ≡ all next =
         sym (all_started s.starts (OfScript k ∷ top) ∙ ap (λ p. started_parts plan s.starts ++ p ∷ all top) (segment_is k s h.0 h.1)) in
-        let z : suc k + length more ≡ k + suc (length more) = omega arith in
-        (ap (λ ps. (output_onto plan ps now more).lines) same ∙ r.0 ∙ ap (lines_of plan) z, ap (λ ps. (output_onto plan ps now more).refused) same ∙ r.1 ∙ ap (refused_of plan) z)
+        let z : suc k + length more ≡ k + suc (length more) = omega arith in (
+          ap (λ ps. (output_onto plan ps now more).lines) same ∙ r.0 ∙ ap (lines_of plan) z,
+          ap (λ ps. (output_onto plan ps now more).refused) same ∙ r.1
+              ∙ ap (refused_of plan) z,
+        )
 
     pub no_place : (ss : List Segment) → segment_place plan.jobs.items ss 0 ≡ 0
     no_place [] = refl
     no_place (s ∷ ss) = refl
 
-    pub begins : (p : ℕ) → p < length (turned [] (order_from plan.jobs.items 0 segments)) → at_back (turned [] (order_from plan.jobs.items 0 segments)) p ≡ piece_at plan p
+    pub begins : (p : ℕ) → p < length (turned [] (order_from plan.jobs.items 0 segments))
+        → at_back (turned [] (order_from plan.jobs.items 0 segments)) p ≡ piece_at plan p
     unfolding script_order
     begins p lt =
         let l = length-turned (order_from plan.jobs.items 0 segments) [] in
@@ -188,10 +208,15 @@ module _ (plan : Plan) where
         let r = told_are segments 0 [] no_output are_from begun (sym none) refl refl in
         let z : 0 + length segments ≡ length segments = omega arith in
         let c = count in
-        let last : ops_in (segment_at plan (length segments)) ≡ [] = (ap (λ ss. ops_in (slice_get ss (length segments))) ends.segments_are ∙ ap ops_in ((let y : length segments ≡ length segments + 0 = omega arith in ap (slice_get (segments ++ final ∷ [])) y) ∙ get_behind segments (final ∷ []) 0) ∙ ends.ops) in
+        let last : ops_in (segment_at plan (length segments)) ≡ [] = (ap (λ ss. ops_in (slice_get ss (length segments))) ends.segments_are
+        ∙ ap ops_in ((let y : length segments ≡ length segments + 0 = omega arith in ap (slice_get (segments ++ final ∷ [])) y)
+        ∙ get_behind segments (final ∷ []) 0) ∙ ends.ops) in
         record {
-          lines = ap (lines_of plan) c ∙ ap (λ ops. lines_of plan (length segments) ++ ops_lines plan ops (before_piece plan (OfScript (length segments)))) last ∙ append-nil (lines_of plan (length segments)) ∙ ap (lines_of plan) (sym z) ∙ sym r.0;
-          refused = ap (refused_of plan) c ∙ ap (λ ops. refused_of plan (length segments) + ops_refused plan ops (before_piece plan (OfScript (length segments)))) last ∙ (let y : refused_of plan (length segments) + 0 ≡ refused_of plan (length segments) = omega arith in y) ∙ ap (refused_of plan) (sym z) ∙ sym r.1;
+          lines = ap (lines_of plan) c ∙ ap (λ ops. lines_of plan (length segments) ++ ops_lines plan ops (before_piece plan (OfScript (length segments)))) last
+              ∙ append-nil (lines_of plan (length segments)) ∙ ap (lines_of plan) (sym z) ∙ sym r.0;
+          refused = ap (refused_of plan) c ∙ ap (λ ops. refused_of plan (length segments) + ops_refused plan ops
+              (before_piece plan (OfScript (length segments)))) last ∙ (let y : refused_of plan (length segments) + 0 ≡ refused_of plan (length segments) =
+              omega arith in y) ∙ ap (refused_of plan) (sym z) ∙ sym r.1;
         }
 
 pub pieces_are_made : PiecesAreMade

@@ -81,7 +81,8 @@ own_once plan (suc j) (suc k) w a b = ⊎_elim
     (λ ge. ⊎_elim (λ lt. absurd (own_less plan k j w lt b a)) (λ le. let e : j ≡ k = omega arith in ap suc e) (cases_lt k j))
     (cases_lt j k)
 
-module _ (x : Outline) (s t : ScriptState) (d : Draft) (job : JobPlan) (params : List Param) (args : List Arg) (deps : Jobs) (known : IsKnown s) (was : IsPlanned x s d)
+module _ (x : Outline) (s t : ScriptState) (d : Draft) (job : JobPlan) (params : List Param) (args : List Arg) (deps : Jobs) (known : IsKnown s)
+    (was : IsPlanned x s d)
     (en : IsEnrolled x s t (length d.jobs) job params args deps) where
   abbrev n : ℕ
   n = length d.jobs
@@ -117,13 +118,15 @@ module _ (x : Outline) (s t : ScriptState) (d : Draft) (job : JobPlan) (params :
   user_kept c k e = en.users c k ∙ or_left ((s.uses c).users k) (nat_eq k (suc s.book.count) && is_given s params args c) e
 
   user_was : (c k : ℕ) → (t.uses c).users k ≡ true → ((s.uses c).users k ≡ true) ⊎ ((k ≡ suc s.book.count) × (is_given s params args c ≡ true))
-  user_was c k e = ⊎_elim (λ u. inl u) (λ u. let b = and_both (nat_eq k (suc s.book.count)) (is_given s params args c) u in inr (eqb-true k (suc s.book.count) b.0, b.1)) (or_cases _ _ (sym (en.users c k) ∙ e))
+  user_was c k e = ⊎_elim (λ u. inl u) (λ u. let b = and_both (nat_eq k (suc s.book.count)) (is_given s params args c) u in
+      inr (eqb-true k (suc s.book.count) b.0, b.1)) (or_cases _ _ (sym (en.users c k) ∙ e))
 
   writer_kept : (c k : ℕ) → (s.uses c).writers k ≡ true → (t.uses c).writers k ≡ true
   writer_kept c k e = en.writers c k ∙ or_left ((s.uses c).writers k) (nat_eq k (suc s.book.count) && is_written s params args c) e
 
   writer_was : (c k : ℕ) → (t.uses c).writers k ≡ true → ((s.uses c).writers k ≡ true) ⊎ ((k ≡ suc s.book.count) × (is_written s params args c ≡ true))
-  writer_was c k e = ⊎_elim (λ u. inl u) (λ u. let b = and_both (nat_eq k (suc s.book.count)) (is_written s params args c) u in inr (eqb-true k (suc s.book.count) b.0, b.1)) (or_cases _ _ (sym (en.writers c k) ∙ e))
+  writer_was c k e = ⊎_elim (λ u. inl u) (λ u. let b = and_both (nat_eq k (suc s.book.count)) (is_written s params args c) u in
+      inr (eqb-true k (suc s.book.count) b.0, b.1)) (or_cases _ _ (sym (en.writers c k) ∙ e))
 
   completed_same : t.book.completed ≡ s.book.completed
   completed_same = ap (λ (b : Book). b.completed) en.book
@@ -156,20 +159,23 @@ module _ (x : Outline) (s t : ScriptState) (d : Draft) (job : JobPlan) (params :
       let b = and_both ((t.uses c).users k) (not (t.book.completed k)) (greatest_in q t.book.count pos) in
       let was : (s.uses c).users k ≡ true = ⊎_elim (λ u. u) (λ u. absurd (not_both (en.used_alive c u.1).1 dead)) (user_was c k b.0) in
       let up = (known.uses c).users k was in
-      true_any p s.book.count (let above = greatest_above p s.book.count k up.1 (both_and was (ap (λ f. not (f k)) (sym completed_same) ∙ b.1)) in let lo = up.0 in omega arith)
+      true_any p s.book.count (let above = greatest_above p s.book.count k up.1 (both_and was (ap (λ f. not (f k)) (sym completed_same) ∙ b.1)) in
+      let lo = up.0 in omega arith)
 
   live_kept : (c : ℕ) → is_live s c ≡ true → is_live t c ≡ true
   live_kept c e =
       let b = and_both (nat_lt c s.made) (s.alive c || has_pending s.book (s.uses c)) e in
       both_and (ap (nat_lt c) en.made ∙ b.0)
-      (⊎_elim (λ a. or_left (t.alive c) (has_pending t.book (t.uses c)) (alive_same c ∙ a)) (λ p. or_right (t.alive c) (has_pending t.book (t.uses c)) (pending_kept c p)) (or_cases _ _ b.1))
+      (⊎_elim (λ a. or_left (t.alive c) (has_pending t.book (t.uses c)) (alive_same c ∙ a))
+      (λ p. or_right (t.alive c) (has_pending t.book (t.uses c)) (pending_kept c p)) (or_cases _ _ b.1))
 
   pub live_was : (c : ℕ) → is_live t c ≡ true → is_live s c ≡ true
   live_was c e =
       let b = and_both (nat_lt c t.made) (t.alive c || has_pending t.book (t.uses c)) e in
       both_and (ap (nat_lt c) (sym en.made) ∙ b.0)
       (⊎_elim (λ a. or_left (s.alive c) (has_pending s.book (s.uses c)) a)
-      (λ dead. or_right (s.alive c) (has_pending s.book (s.uses c)) (pending_was c dead (⊎_elim (λ a. absurd (not_both (sym (alive_same c) ∙ a) dead)) (λ p. p) (or_cases _ _ b.1))))
+      (λ dead. or_right (s.alive c) (has_pending s.book (s.uses c)) (pending_was c dead
+      (⊎_elim (λ a. absurd (not_both (sym (alive_same c) ∙ a) dead)) (λ p. p) (or_cases _ _ b.1))))
       (either_bool (s.alive c)))
 
   words_same : (c w : ℕ) → has_word x.starts t c w ≡ has_word x.starts s c w
@@ -235,14 +241,16 @@ module _ (x : Outline) (s t : ScriptState) (d : Draft) (job : JobPlan) (params :
   written (Held c) j e =
       let u = later_in before (t.uses c).writers j e in
       in_later before (t.uses c).users j u.0 (⊎_elim (λ w. user_kept c (before + j) ((known.uses c).writers (before + j) w))
-      (λ w. en.users c (before + j) ∙ or_right ((s.uses c).users (before + j)) _ (both_and (eq-eqb (before + j) (suc s.book.count) w.0) (wrote params args c w.1))) (writer_was c (before + j) u.1))
+      (λ w. en.users c (before + j) ∙ or_right ((s.uses c).users (before + j)) _
+      (both_and (eq-eqb (before + j) (suc s.book.count) w.0) (wrote params args c w.1))) (writer_was c (before + j) u.1))
     where
       wrote : (ps : List Param) (as_ : List Arg) (c : ℕ) → is_written s ps as_ c ≡ true → is_given s ps as_ c ≡ true
       wrote [] as_ c e = absurd (not_both e refl)
       wrote (p ∷ ps) [] c e = absurd (not_both e refl)
       wrote (p ∷ ps) (a ∷ as_) c e = by (Rattle.frame_ast.specs.Fitting.is_of s a c) (Rattle.frame_ast.specs.Schedules.writes_to p.access) (wrote ps as_ c) e
         where
-          by : (o w : Bool) → (is_written s ps as_ c ≡ true → is_given s ps as_ c ≡ true) → ((o && w) || is_written s ps as_ c) ≡ true → (o || is_given s ps as_ c) ≡ true
+          by : (o w : Bool) → (is_written s ps as_ c ≡ true → is_given s ps as_ c ≡ true) → ((o && w) || is_written s ps as_ c) ≡ true
+              → (o || is_given s ps as_ c) ≡ true
           by true w f e = refl
           by false w f e = f e
   written (Own i) j e = e
@@ -256,9 +264,11 @@ module _ (x : Outline) (s t : ScriptState) (d : Draft) (job : JobPlan) (params :
       let above = own_above x.plan j w own in
       omega arith
 
-  apart : (o p : Owner) (w : ℕ) → owner_live t (suc n) o ≡ true → owner_live t (suc n) p ≡ true → owner_words x.plan x.starts t o w ≡ true → owner_words x.plan x.starts t p w ≡ true → number_of o ≡ number_of p
+  apart : (o p : Owner) (w : ℕ) → owner_live t (suc n) o ≡ true → owner_live t (suc n) p ≡ true → owner_words x.plan x.starts t o w ≡ true
+      → owner_words x.plan x.starts t p w ≡ true → number_of o ≡ number_of p
   apart (Held c) (Held e) w lo lp wo wp =
-      ap (λ k. number_of (Held k)) (words_apart x.plan x.starts before n s old.ledger c e w (live_was c lo) (live_was e lp) (sym (words_same c w) ∙ wo) (sym (words_same e w) ∙ wp))
+      ap (λ k. number_of (Held k)) (words_apart x.plan x.starts before n s old.ledger c e w (live_was c lo) (live_was e lp) (sym (words_same c w) ∙ wo)
+      (sym (words_same e w) ∙ wp))
   apart (Held c) (Own j) w lo lp wo wp = absurd (held_below c j w lo wo wp)
   apart (Own j) (Held c) w lo lp wo wp = absurd (held_below c j w lp wp wo)
   apart (Own j) (Own k) w lo lp wo wp = ap (λ i. number_of (Own i)) (own_once x.plan j k w wo wp)
@@ -267,10 +277,12 @@ module _ (x : Outline) (s t : ScriptState) (d : Draft) (job : JobPlan) (params :
   is_m = record {
     older = λ j k e. ⊎_elim
         (λ o. let b = old.ledger.older j k o in (let le = b.0 in omega arith, b.1))
-        (λ o. let u = later_in before deps k o.1 in let le = (en.deps_up (before + k) u.1).1 in let count = old.count in let at = o.0 in (omega arith, omega arith))
+        (λ o. let u = later_in before deps k o.1 in let le = (en.deps_up (before + k) u.1).1 in let count = old.count in let at = o.0 in
+        (omega arith, omega arith))
         (deps_new j k e);
     written = λ c j e. written (owner c) j e;
-    apart = λ c e w lc le wc we. sym (Rattle.plan_laws.proofs.Owners.number_owner c) ∙ apart (owner c) (owner e) w lc le wc we ∙ Rattle.plan_laws.proofs.Owners.number_owner e;
+    apart = λ c e w lc le wc we. sym (Rattle.plan_laws.proofs.Owners.number_owner c) ∙ apart (owner c) (owner e) w lc le wc we
+        ∙ Rattle.plan_laws.proofs.Owners.number_owner e;
   }
 
   -- who happens before the job is free
@@ -303,14 +315,17 @@ module _ (x : Outline) (s t : ScriptState) (d : Draft) (job : JobPlan) (params :
 
   uses_new : (c : ℕ) → is_given s params args c ≡ true → m.users (number_of (Held c)) (suc n) ≡ true
   uses_new c e = ap (λ o. owner_users before t o (suc n)) (owner_held c)
-      ∙ in_later before (t.uses c).users (suc n) (omega arith) (en.users c (before + suc n) ∙ or_right ((s.uses c).users (before + suc n)) _ (both_and (eq-eqb (before + suc n) (suc s.book.count) (let count = old.count in omega arith)) e))
+      ∙ in_later before (t.uses c).users (suc n) (omega arith) (en.users c (before + suc n)
+      ∙ or_right ((s.uses c).users (before + suc n)) _ (both_and (eq-eqb (before + suc n) (suc s.book.count) (let count = old.count in omega arith)) e))
 
   writes_new : (c : ℕ) → is_written s params args c ≡ true → m.writers (number_of (Held c)) (suc n) ≡ true
   writes_new c e = ap (λ o. owner_writers before t o (suc n)) (owner_held c)
-      ∙ in_later before (t.uses c).writers (suc n) (omega arith) (en.writers c (before + suc n) ∙ or_right ((s.uses c).writers (before + suc n)) _ (both_and (eq-eqb (before + suc n) (suc s.book.count) (let count = old.count in omega arith)) e))
+      ∙ in_later before (t.uses c).writers (suc n) (omega arith) (en.writers c (before + suc n)
+      ∙ or_right ((s.uses c).writers (before + suc n)) _ (both_and (eq-eqb (before + suc n) (suc s.book.count) (let count = old.count in omega arith)) e))
 
   own_live : m.live (number_of (Own (suc n))) ≡ true
-  own_live = ap (owner_live t (suc n)) (owner_own (suc n)) ∙ both_and (let f : nat_lt 0 (suc n) ≡ true = grind arith in f) (let f : nat_le (suc n) (suc n) ≡ true = grind arith in f)
+  own_live = ap (owner_live t (suc n)) (owner_own (suc n)) ∙ both_and (let f : nat_lt 0 (suc n) ≡ true = grind arith in f)
+      (let f : nat_le (suc n) (suc n) ≡ true = grind arith in f)
 
   is_used : (w : ℕ) → (is_own_word x.plan (suc n) w ≡ true) ⊎ IsOfArgument x s (is_given s params args) w → IsUsedBy m (suc n) w
   is_used w (inl own) = record {
@@ -345,19 +360,23 @@ module _ (x : Outline) (s t : ScriptState) (d : Draft) (job : JobPlan) (params :
   old_job k lt e = let count = old.count in omega arith
 
   new_user : (c : ℕ) → (t.uses c).users (before + suc n) ≡ true → is_given s params args c ≡ true
-  new_user c e = ⊎_elim (λ u. let up = (known.uses c).users (before + suc n) u in let hi = up.1 in let count = old.count in absurd (omega arith)) (λ u. u.1) (user_was c (before + suc n) e)
+  new_user c e = ⊎_elim (λ u. let up = (known.uses c).users (before + suc n) u in let hi = up.1 in let count = old.count in absurd (omega arith)) (λ u. u.1)
+      (user_was c (before + suc n) e)
 
   new_writer : (c : ℕ) → (t.uses c).writers (before + suc n) ≡ true → is_written s params args c ≡ true
-  new_writer c e = ⊎_elim (λ u. let up = (known.uses c).users (before + suc n) ((known.uses c).writers (before + suc n) u) in let hi = up.1 in let count = old.count in absurd (omega arith)) (λ u. u.1) (writer_was c (before + suc n) e)
+  new_writer c e = ⊎_elim (λ u. let up = (known.uses c).users (before + suc n) ((known.uses c).writers (before + suc n) u) in let hi = up.1 in
+      let count = old.count in absurd (omega arith)) (λ u. u.1) (writer_was c (before + suc n) e)
 
-  readers_free : (o : Owner) (k : ℕ) → owner_users before t o (suc n) ≡ true → owner_writers before t o k ≡ true → k < suc n → IsFree m (has_job job.deps.items) k
+  readers_free : (o : Owner) (k : ℕ) → owner_users before t o (suc n) ≡ true → owner_writers before t o k ≡ true → k < suc n
+      → IsFree m (has_job job.deps.items) k
   readers_free (Held c) k u w lt =
       let a = later_in before (t.uses c).users (suc n) u in
       let b = later_in before (t.uses c).writers k w in
       free k b.0 (en.readers c (before + k) (new_user c a.1) (⊎_elim (λ h. h) (λ h. absurd (old_job k lt h.0)) (writer_was c (before + k) b.1)))
   readers_free (Own j) k u w lt = let a = eqb-true (suc n) j u in let b = eqb-true k j w in absurd (omega arith)
 
-  writers_free : (o : Owner) (k : ℕ) → owner_writers before t o (suc n) ≡ true → owner_users before t o k ≡ true → k < suc n → IsFree m (has_job job.deps.items) k
+  writers_free : (o : Owner) (k : ℕ) → owner_writers before t o (suc n) ≡ true → owner_users before t o k ≡ true → k < suc n
+      → IsFree m (has_job job.deps.items) k
   writers_free (Held c) k u w lt =
       let a = later_in before (t.uses c).writers (suc n) u in
       let b = later_in before (t.uses c).users k w in
@@ -366,7 +385,9 @@ module _ (x : Outline) (s t : ScriptState) (d : Draft) (job : JobPlan) (params :
 
   uncompleted : m.completed (suc n) ≡ false
   uncompleted = ⊎_elim
-      (λ e. let u = later_in before t.book.completed (suc n) e in let up = known.book.completed (before + suc n) (ap (λ f. f (before + suc n)) (sym completed_same) ∙ u.1) in let hi = up.1 in let count = old.count in absurd (omega arith))
+      (λ e. let u = later_in before t.book.completed (suc n) e in let up =
+      known.book.completed (before + suc n) (ap (λ f. f (before + suc n)) (sym completed_same) ∙ u.1) in let hi = up.1 in let count = old.count in
+      absurd (omega arith))
       (λ e. e)
       (either_bool (later before t.book.completed (suc n)))
 
@@ -377,8 +398,10 @@ module _ (x : Outline) (s t : ScriptState) (d : Draft) (job : JobPlan) (params :
         job = refl;
         is_job = omega arith;
         uncompleted = uncompleted;
-        after = λ k e. ap (λ f. f k) after_is ∙ en.deps_are k ∙ ⊎_elim (λ o. let le = (old.ledger.older (suc n) k o).0 in absurd (omega arith)) (λ o. o.1) (deps_new (suc n) k e);
-        after_older = λ k e. let u = later_in before deps k (sym (en.deps_are k) ∙ sym (ap (λ f. f k) after_is) ∙ e) in let le = (en.deps_up (before + k) u.1).1 in let count = old.count in omega arith;
+        after = λ k e. ap (λ f. f k) after_is ∙ en.deps_are k ∙ ⊎_elim (λ o. let le = (old.ledger.older (suc n) k o).0 in absurd (omega arith)) (λ o. o.1)
+            (deps_new (suc n) k e);
+        after_older = λ k e. let u = later_in before deps k (sym (en.deps_are k) ∙ sym (ap (λ f. f k) after_is) ∙ e) in
+            let le = (en.deps_up (before + k) u.1).1 in let count = old.count in omega arith;
         reads = λ w e. is_used w (en.reads i w lt e);
         writes = λ w e. written_is w (en.writes i w lt e);
         reads_written = λ w e. writes_read (touches x.plan (OfJob n i)) w e;
@@ -397,4 +420,5 @@ module _ (x : Outline) (s t : ScriptState) (d : Draft) (job : JobPlan) (params :
       (all_parts k le a)
 
 pub enrolled_jobs_are_in_order : EnrolledJobsAreInOrder
-enrolled_jobs_are_in_order x s t d job params args deps k known was en le apart_ = (is_m x s t d job params args deps known was en, in_order x s t d job params args deps known was en k le apart_)
+enrolled_jobs_are_in_order x s t d job params args deps k known was en le apart_ =
+    (is_m x s t d job params args deps known was en, in_order x s t d job params args deps known was en k le apart_)

@@ -48,7 +48,8 @@ fills cells start (Pairs cap ps) =
     (λ w lo hi. zero_at cells start (words_of (Pairs cap ps)) w lo (let e = end_is start (Pairs cap []) in omega arith))
 fills cells start (Entries room es) =
     let l = long (length es) None in
-    subst (λ k. Holds (zeroed cells start (words_of (Entries room es))) (Stream (record { start = start; count = k; room = room }) false) (Entries room (replicate (length es) None))) (sym l)
+    subst (λ k. Holds (zeroed cells start (words_of (Entries room es))) (Stream (record { start = start; count = k; room = room }) false)
+    (Entries room (replicate (length es) None))) (sym l)
     (zero_words (record { start = start; count = length es; room = room }) (zeroed cells start (words_of (Entries room es)))
     (λ w lo hi. zero_at cells start (words_of (Entries room es)) w lo (let e = end_is start (Entries room es) in omega arith)))
 
@@ -67,7 +68,8 @@ literals_fill plan span n (Elements xs) at given = (
 literals_fill plan span n (Single z) at given = (
   ap length given ∙ sym at,
   λ cells. subst (λ ys. Holds (write_cells cells span.start ys) (bind_of span.start (Single z)) (Single z)) (sym given)
-      (let e : span.start ≡ span.start + 0 = omega arith in ap Single (sym (ap (write_cells cells span.start (z ∷ [])) e ∙ write_cells-inside cells span.start (z ∷ []) 0 z (omega arith)))),
+      (let e : span.start ≡ span.start + 0 = omega arith in ap Single (sym
+      (ap (write_cells cells span.start (z ∷ [])) e ∙ write_cells-inside cells span.start (z ∷ []) 0 z (omega arith)))),
 )
 literals_fill plan span n (Items cap xs) at given = absurd given
 literals_fill plan span n (Pairs cap ps) at given = absurd given

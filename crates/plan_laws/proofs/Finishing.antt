@@ -41,7 +41,8 @@ use Rattle.plan_laws.proofs.Enrolling.{next_before}
 use Rattle.plan_laws.proofs.Owners.{owner_own}
 
 -- whose own word it is
-whose : (plan : Plan) (n w : ℕ) → own_word plan 0 0 ≤ w → w < plan.cells + 3 * pieces_before plan.jobs.items n → (j : ℕ) × (j < n) × (is_own_word plan (suc j) w ≡ true)
+whose : (plan : Plan) (n w : ℕ) → own_word plan 0 0 ≤ w → w < plan.cells + 3 * pieces_before plan.jobs.items n
+    → (j : ℕ) × (j < n) × (is_own_word plan (suc j) w ≡ true)
 whose plan zero w lo hi = let z = nothing plan.jobs.items in absurd (omega arith)
   where
     nothing : (jobs : List JobPlan) → pieces_before jobs 0 ≡ 0
@@ -52,12 +53,19 @@ whose plan (suc n) w lo hi = by (whose plan n w lo) (cases_lt w (plan.cells + 3 
     here : (a b w : ℕ) → a ≤ w → w < b → (nat_le a w && nat_lt w b) ≡ true
     here a b w le lt = λ i. (let f : nat_le a w ≡ true = grind arith in f) i && (let f : nat_lt w b ≡ true = grind arith in f) i
 
-    by : (w < plan.cells + 3 * pieces_before plan.jobs.items n → (j : ℕ) × (j < n) × (is_own_word plan (suc j) w ≡ true)) → (w < plan.cells + 3 * pieces_before plan.jobs.items n) ⊎ (plan.cells + 3 * pieces_before plan.jobs.items n ≤ w)
+    by : (w < plan.cells + 3 * pieces_before plan.jobs.items n → (j : ℕ) × (j < n) × (is_own_word plan (suc j) w ≡ true))
+        → (w < plan.cells + 3 * pieces_before plan.jobs.items n) ⊎ (plan.cells + 3 * pieces_before plan.jobs.items n ≤ w)
         → (j : ℕ) × (j < suc n) × (is_own_word plan (suc j) w ≡ true)
     by more (inl lt) = let r = more lt in (r.0, (let l = r.1 in omega arith), r.2)
-    by more (inr ge) = (n, omega arith, here (own_word plan n 0) (own_word plan n (pieces_in (job_at plan n))) w (omega arith) (let e = next_before plan.jobs.items n in omega arith))
+    by more (inr ge) = (
+      n,
+      omega arith,
+      here (own_word plan n 0) (own_word plan n (pieces_in (job_at plan n))) w (omega arith)
+          (let e = next_before plan.jobs.items n in omega arith),
+    )
 
-module _ (x : Outline) (small : x.plan.cells < 2 ^ 32) (s : ScriptState) (d : Draft) (last final : Segment) (is_known : IsKnown s) (was : IsPlanned x s d) (from : IsPlanFrom x d last final) (words : x.plan.words ≡ x.plan.cells + 3 * job_pieces x.plan) where
+module _ (x : Outline) (small : x.plan.cells < 2 ^ 32) (s : ScriptState) (d : Draft) (last final : Segment) (is_known : IsKnown s) (was : IsPlanned x s d)
+    (from : IsPlanFrom x d last final) (words : x.plan.words ≡ x.plan.cells + 3 * job_pieces x.plan) where
   abbrev n : ℕ
   n = length d.jobs
 
@@ -68,7 +76,8 @@ module _ (x : Outline) (small : x.plan.cells < 2 ^ 32) (s : ScriptState) (d : Dr
   ends = record { segments_are = from.segments ∙ sym (append_assoc d.segments (last ∷ []) (final ∷ [])); ops = from.final_ops; starts = from.final_starts }
 
   pub pieces_are : pieces_onto x.plan [] segments ≡ drafts.pieces_of x.plan d
-  pieces_are = pieces_onto-one x.plan [] d.segments last ∙ (λ i. drafts.started_parts x.plan (from.starts i) ++ segment_piece x.plan (from.waits i) (from.ops i) ∷ closed_pieces x.plan d)
+  pieces_are = pieces_onto-one x.plan [] d.segments last ∙ (λ i. drafts.started_parts x.plan (from.starts i) ++ segment_piece x.plan (from.waits i) (from.ops i)
+      ∷ closed_pieces x.plan d)
 
   abbrev l : Ledger
   l = ledger_at x s d
@@ -194,8 +203,10 @@ module _ (x : Outline) (small : x.plan.cells < 2 ^ 32) (s : ScriptState) (d : Dr
 
   pub starts_are : starts_from x.plan.segments.items ≡ numbers_from 1 n
   starts_are =
-      ap starts_from ends.segments_are ∙ starts_from-one segments final ∙ ap (λ o. starts_from segments ++ Rattle.frame_core.specs.Names.number_in o) from.final_starts
-      ∙ Rattle.std.proofs.Common.append-nil (starts_from segments) ∙ starts_from-one d.segments last ∙ ap (λ o. starts_from d.segments ++ Rattle.frame_core.specs.Names.number_in o) from.starts
+      ap starts_from ends.segments_are ∙ starts_from-one segments final ∙ ap (λ o. starts_from segments
+      ++ Rattle.frame_core.specs.Names.number_in o) from.final_starts
+      ∙ Rattle.std.proofs.Common.append-nil (starts_from segments) ∙ starts_from-one d.segments last
+      ∙ ap (λ o. starts_from d.segments ++ Rattle.frame_core.specs.Names.number_in o) from.starts
       ∙ Rattle.std.proofs.Common.append-nil (starts_from d.segments) ∙ was.fitting.starts
 
   start_jobs : StartJobs x.plan

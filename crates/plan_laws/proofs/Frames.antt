@@ -18,7 +18,8 @@ use Rattle.plan_laws.specs.Planned.{Outline, ledger_at, IsPlanned}
 use Rattle.plan_laws.proofs.Disposing.{others_are_planned, ends_are_planned}
 use Rattle.plan_laws.proofs.Operations.{operations_are_planned, op_in_order}
 
-module _ (x : Outline) (small : x.plan.cells < 2 ^ 32) (g : Setting) (s : ScriptState) (line : ℕ) (d : Draft) (known : IsKnown s) (named : HasNames x.plan g s) where
+module _ (x : Outline) (small : x.plan.cells < 2 ^ 32) (g : Setting) (s : ScriptState) (line : ℕ) (d : Draft) (known : IsKnown s)
+    (named : HasNames x.plan g s) where
   -- with other lines, and other operations
   abbrev at_lines : List ℕ → ScriptState
   at_lines lines = record s { lines = lines }
@@ -56,7 +57,8 @@ module _ (x : Outline) (small : x.plan.cells < 2 ^ 32) (g : Setting) (s : Script
   reported was zero le =
       subst (λ ops. IsPlanned x (at_lines (s.lines ++ [])) (at_ops ops)) (sym (append-nil d.ops))
       (others_are_planned x s (at_lines (s.lines ++ [])) d
-      (record { made = refl; contents = refl; alive = refl; uses = refl; range = refl; book = refl; traps = refl; refused = refl; lines = append-nil s.lines }) was)
+      (record { made = refl; contents = refl; alive = refl; uses = refl; range = refl; book = refl; traps = refl; refused = refl; lines = append-nil s.lines })
+      was)
   reported was (suc c) le = by (is_overdue s c) (reported was c (omega arith))
     where
       by : (b : Bool) → IsPlanned x (at_lines (s.lines ++ reports g line s c)) (at_ops (d.ops ++ report_ops s line c))
@@ -89,7 +91,8 @@ module _ (x : Outline) (small : x.plan.cells < 2 ^ 32) (g : Setting) (s : Script
       let u : ScriptState = at_lines (s.lines ++ reports g line s s.made) in
       others_are_planned x (with_alive stays u) (next_frame g line s) (at_ops (d.ops ++ report_ops s line s.made))
       (record { made = refl; contents = refl; alive = refl; uses = refl; range = refl; book = refl; traps = refl; refused = refl; lines = refl })
-      (ends_are_planned x u stays (at_ops (d.ops ++ report_ops s line s.made)) (record { book = known.book; handles = known.handles; uses = known.uses }) stays_was
+      (ends_are_planned x u stays (at_ops (d.ops ++ report_ops s line s.made))
+      (record { book = known.book; handles = known.handles; uses = known.uses }) stays_was
       (reported was s.made (omega arith)))
 
 pub frames_are_planned : FramesArePlanned

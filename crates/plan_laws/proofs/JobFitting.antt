@@ -184,7 +184,8 @@ record IsBindAt (starts : Starts) (s : ScriptState) (ps : List Param) (y : ℕ) 
   fits : ArgFits s param arg
   is : bind_by starts s param width arg ≡ b
 
-bind_at : (starts : Starts) (s : ScriptState) (ps : List Param) (ws : List ℕ) (as_ : List Arg) (y : ℕ) (b : Bind) → ArgsFit s ps ws as_ → slice_get (binds_by starts s ps ws as_) y ≡ Some b
+bind_at : (starts : Starts) (s : ScriptState) (ps : List Param) (ws : List ℕ) (as_ : List Arg) (y : ℕ) (b : Bind) → ArgsFit s ps ws as_
+    → slice_get (binds_by starts s ps ws as_) y ≡ Some b
     → IsBindAt starts s ps y b
 bind_at starts s [] ws as_ y b f h = absurd (none_some h)
 bind_at starts s (p ∷ ps) [] as_ y b f h = absurd (none_some h)
@@ -194,7 +195,8 @@ bind_at starts s (p ∷ ps) (w ∷ ws) (a ∷ as_) (suc y) b f h =
     let r = bind_at starts s ps ws as_ y b f.1 h in
     record { param = r.param; width = r.width; arg = r.arg; has_param = r.has_param; fits = r.fits; is = r.is }
 
-binds_long : (starts : Starts) (s : ScriptState) (ps : List Param) (ws : List ℕ) (as_ : List Arg) → ArgsFit s ps ws as_ → length (binds_by starts s ps ws as_) ≡ length ps
+binds_long : (starts : Starts) (s : ScriptState) (ps : List Param) (ws : List ℕ) (as_ : List Arg) → ArgsFit s ps ws as_
+    → length (binds_by starts s ps ws as_) ≡ length ps
 binds_long starts s [] ws as_ f = refl
 binds_long starts s (p ∷ ps) [] as_ f = absurd f
 binds_long starts s (p ∷ ps) (w ∷ ws) [] f = absurd f
@@ -205,7 +207,8 @@ width_same starts s p w (Name n) f h = own_same p.kind w (s.values n) (start_at 
 width_same starts s p w (Number z) f h = sym (subst (λ k. IsWidthFor k w) f h)
 
 -- the widths of the binds are those of the language
-widths_same : (starts : Starts) (s : ScriptState) (parallel : Bool) (waive : List ℕ) (x : ℕ) (ps : List Param) (as_ : List Arg) → ArgsFit s ps (widths_from parallel waive x ps) as_
+widths_same : (starts : Starts) (s : ScriptState) (parallel : Bool) (waive : List ℕ) (x : ℕ) (ps : List Param) (as_ : List Arg)
+    → ArgsFit s ps (widths_from parallel waive x ps) as_
     → widths (binds_by starts s ps (widths_from parallel waive x ps) as_) ≡ widths_from parallel waive x ps
 widths_same starts s parallel waive x [] as_ f = refl
 widths_same starts s parallel waive x (p ∷ ps) [] f = absurd f
@@ -253,7 +256,8 @@ module _ (x : Outline) (small : x.plan.cells < 2 ^ 32) (s : ScriptState) (d : Dr
       by p w (Number z) f = omega arith
 
   -- what is written through one bind isn't of another
-  apart : (y z : ℕ) (a b : Bind) (w : ℕ) → may_write ps y ≡ true → y ≢ z → slice_get binds y ≡ Some a → slice_get binds z ≡ Some b → IsWordOf a w → IsWordOf b w → ⊥
+  apart : (y z : ℕ) (a b : Bind) (w : ℕ) → may_write ps y ≡ true → y ≢ z → slice_get binds y ≡ Some a → slice_get binds z ≡ Some b → IsWordOf a w → IsWordOf b w
+      → ⊥
   apart y z a b w may ne ha hb wa wb =
       let p = wrote (slice_get ps y) may in
       let r = bind_at x.starts s ps ws args z b all_fit hb in

@@ -69,7 +69,8 @@ given_holds StreamKind width v start cells (Entries room es) f h = h
 
 argument_holds : (starts : Starts) (s : ScriptState) (cells : Cells) (p : Param) (w : ℕ) (a : Arg) → AllHeld starts s cells → ArgFits s p a
     → Holds cells (bind_by starts s p w a) (argument_of s p a)
-argument_holds starts s cells p w (Name n) held f = given_holds p.kind w (s.values n) (start_at starts s n) cells (contents_at s n) f.2 (held (container_at s n) f.0 f.1)
+argument_holds starts s cells p w (Name n) held f = given_holds p.kind w (s.values n) (start_at starts s n) cells (contents_at s n) f.2
+    (held (container_at s n) f.0 f.1)
 argument_holds starts s cells p w (Number z) held f = refl
 
 args_stand : (starts : Starts) (s : ScriptState) (cells : Cells) (params : List Param) (widths : List ℕ) (args : List Arg)
@@ -84,7 +85,8 @@ args_stand starts s cells (p ∷ ps) (w ∷ ws) (a ∷ as_) held fit =
     let rest = args_stand starts s cells ps ws as_ held fit.1 in
     record { count = ap suc rest.count; each = each rest }
   where
-    each : StandFor (binds_by starts s ps ws as_) cells (arguments_of s ps as_) → (x : ℕ) (b : Bind) → slice_get (binds_by starts s (p ∷ ps) (w ∷ ws) (a ∷ as_)) x ≡ Some b → Holds cells b (argument (arguments_of s (p ∷ ps) (a ∷ as_)) x)
+    each : StandFor (binds_by starts s ps ws as_) cells (arguments_of s ps as_) → (x : ℕ) (b : Bind)
+        → slice_get (binds_by starts s (p ∷ ps) (w ∷ ws) (a ∷ as_)) x ≡ Some b → Holds cells b (argument (arguments_of s (p ∷ ps) (a ∷ as_)) x)
     each rest zero b e = subst (λ b. Holds cells b (argument_of s p a)) (some_is e) (argument_holds starts s cells p w a held fit.0)
     each rest (suc x) b e = rest.each x b e
 
@@ -119,14 +121,17 @@ module _ (old new : Cells) (start : ℕ) where
   abbrev pub OutsideOf : Bind → Contents → Type 0
   OutsideOf b c = (w : ℕ) → IsWordOf (bind_of start c) w → (IsWordOf b w → IsLength b w) → new w ≡ old w
 
-  pub slice_left : (width from len : ℕ) (xs : List ℤ) (cnew : Contents) → from + len ≤ length xs → ArrayStandsFor (record { start = start; len = length xs }) old (Elements xs)
-      → ArrayStandsFor (record { start = start + from; len = len }) new cnew → OutsideOf (Array (record { start = start + from; len = len }) width) (Elements xs)
+  pub slice_left : (width from len : ℕ) (xs : List ℤ) (cnew : Contents) → from + len ≤ length xs
+      → ArrayStandsFor (record { start = start; len = length xs }) old (Elements xs)
+      → ArrayStandsFor (record { start = start + from; len = len }) new cnew
+      → OutsideOf (Array (record { start = start + from; len = len }) width) (Elements xs)
       → Elements (take from xs ++ elements cnew ++ drop (from + len) xs) ≡ Elements (cell_list new start (length xs))
   slice_left width from len xs cnew le h hn out =
       let at : ArrayAt = record { start = start; len = length xs } in
       let m = mixed from len in
       let part : ArrayStandsFor (record { start = start + from; len = len }) m (Elements (elements cnew)) =
-      array_decides.array (record { start = start + from; len = len }) new m (Elements (elements cnew)) (λ w lo hi. is_in from len w lo hi) (ap (λ c. Elements (elements c)) hn) in
+      array_decides.array (record { start = start + from; len = len }) new m (Elements (elements cnew)) (λ w lo hi. is_in from len w lo hi)
+      (ap (λ c. Elements (elements c)) hn) in
       let all = (slice_is_part at from len le).writes old m (Elements xs) (elements cnew) h part (λ w o. is_out from len w o) in
       array_decides.array at m new _
       (λ w lo hi. ⊎_elim
@@ -217,12 +222,14 @@ module _ (starts : Starts) (s : ScriptState) where
   one_holds : (p : Param) (a : Arg) (new : Contents) (K : ℕ → Contents) → leave p a new (holding K) ≡ holding (leaves p a new K)
   one_holds p (Name n) new K = by (writes_to p.access)
     where
-      by : (w : Bool) → (cond w (with_contents (container_at s n) (left_in p.kind (s.values n) new (K (container_at s n))) (holding K)) (holding K)) ≡ holding (cond w (with_at K (container_at s n) (left_in p.kind (s.values n) new (K (container_at s n)))) K)
+      by : (w : Bool) → (cond w (with_contents (container_at s n) (left_in p.kind (s.values n) new (K (container_at s n))) (holding K)) (holding K)) ≡ holding
+          (cond w (with_at K (container_at s n) (left_in p.kind (s.values n) new (K (container_at s n)))) K)
       by true = refl
       by false = refl
   one_holds p (Number z) new K = refl
 
-  pub all_hold : (ps : List Param) (as_ : List Arg) (news : List Contents) (K : ℕ → Contents) → leave_all ps as_ news (holding K) ≡ holding (all_leave ps as_ news K)
+  pub all_hold : (ps : List Param) (as_ : List Arg) (news : List Contents) (K : ℕ → Contents)
+      → leave_all ps as_ news (holding K) ≡ holding (all_leave ps as_ news K)
   all_hold [] args news K = refl
   all_hold (p ∷ ps) [] news K = refl
   all_hold (p ∷ ps) (a ∷ as_) [] K = refl
@@ -230,10 +237,12 @@ module _ (starts : Starts) (s : ScriptState) where
 
   -- a container that an argument doesn't write
   leaves_other : (p : Param) (a : Arg) (new : Contents) (K : ℕ → Contents) (c : ℕ) → (is_of s a c && writes_to p.access) ≡ false → leaves p a new K c ≡ K c
-  leaves_other p (Name n) new K c e = pick (writes_to p.access) (nat_eq c (container_at s n)) (with_at K (container_at s n) (left_in p.kind (s.values n) new (K (container_at s n)))) K _ c refl e
+  leaves_other p (Name n) new K c e = pick (writes_to p.access) (nat_eq c (container_at s n))
+      (with_at K (container_at s n) (left_in p.kind (s.values n) new (K (container_at s n)))) K _ c refl e
   leaves_other p (Number z) new K c e = refl
 
-  pub none_leaves : (ps : List Param) (as_ : List Arg) (news : List Contents) (K : ℕ → Contents) (c : ℕ) → is_written s ps as_ c ≡ false → all_leave ps as_ news K c ≡ K c
+  pub none_leaves : (ps : List Param) (as_ : List Arg) (news : List Contents) (K : ℕ → Contents) (c : ℕ) → is_written s ps as_ c ≡ false
+      → all_leave ps as_ news K c ≡ K c
   none_leaves [] args news K c e = refl
   none_leaves (p ∷ ps) [] news K c e = refl
   none_leaves (p ∷ ps) (a ∷ as_) [] K c e = refl
@@ -268,21 +277,25 @@ module _ (starts : Starts) (s : ScriptState) where
     abbrev Kept : (ℕ → Contents) → Type 0
     Kept K = Holds new (bind_of (starts (s.range c)) (K c)) (K c)
 
-    one_left : (p : Param) (w : ℕ) (a : Arg) (it : Contents) (K : ℕ → Contents) → ArgFits s p a → is_of s a c ≡ true → writes_to p.access ≡ true → K c ≡ s.contents c
+    one_left : (p : Param) (w : ℕ) (a : Arg) (it : Contents) (K : ℕ → Contents) → ArgFits s p a → is_of s a c ≡ true → writes_to p.access ≡ true
+        → K c ≡ s.contents c
         → Holds new (bind_by starts s p w a) it → Outside (bind_by starts s p w a) → Kept (leaves p a it K)
     one_left p w (Name n) it K fit of writes same h out =
         let here : c ≡ container_at s n = eqb-true c (container_at s n) of in
         let made : leaves p (Name n) it K c ≡ left_in p.kind (s.values n) it (contents_at s n) =
         ap (leaves p (Name n) it K) here ∙ leaves_own p n it K writes ∙ ap (left_in p.kind (s.values n) it) (ap K (sym here) ∙ same ∙ ap s.contents here) in
-        let held : Holds new (bind_of (start_at starts s n) (left_in p.kind (s.values n) it (contents_at s n))) (left_in p.kind (s.values n) it (contents_at s n)) =
+        let held : Holds new (bind_of (start_at starts s n) (left_in p.kind (s.values n) it (contents_at s n)))
+        (left_in p.kind (s.values n) it (contents_at s n)) =
         left_holds old new (start_at starts s n) p.kind w (s.values n) (contents_at s n) it fit.2
         (subst (λ d. Holds old (bind_of_container starts s d) (s.contents d)) here was) h
         (λ u is. out u (subst (λ d. IsWordOf (bind_of_container starts s d) u) (sym here) is)) in
         subst (λ x. Holds new (bind_of (starts (s.range c)) x) x) (sym made)
-        (subst (λ d. Holds new (bind_of (starts (s.range d)) (left_in p.kind (s.values n) it (contents_at s n))) (left_in p.kind (s.values n) it (contents_at s n))) (sym here) held)
+        (subst (λ d. Holds new (bind_of (starts (s.range d)) (left_in p.kind (s.values n) it (contents_at s n)))
+        (left_in p.kind (s.values n) it (contents_at s n))) (sym here) held)
     one_left p w (Number z) it K fit of writes same h out = absurd (not_both of refl)
 
-    written_left : (ps : List Param) (ws : List ℕ) (as_ : List Arg) (news : List Contents) (K : ℕ → Contents) → ArgsFit s ps ws as_ → AreUnshared s ps as_ → K c ≡ s.contents c
+    written_left : (ps : List Param) (ws : List ℕ) (as_ : List Arg) (news : List Contents) (K : ℕ → Contents) → ArgsFit s ps ws as_ → AreUnshared s ps as_
+        → K c ≡ s.contents c
         → is_written s ps as_ c ≡ true → length news ≡ length as_ → Left ps ws as_ news → Kept (all_leave ps as_ news K)
     written_left [] ws args news K fit un same some len left = absurd (not_both some refl)
     written_left (p ∷ ps) [] [] news K fit un same some len left = absurd (not_both some refl)
@@ -300,7 +313,8 @@ module _ (starts : Starts) (s : ScriptState) where
             subst (λ x. Holds new (bind_of (starts (s.range c)) x) x) (sym (none_leaves ps as_ news (leaves p a it K) c none))
             (one_left p w a it K fit.0 of writes same left.0.0 (left.0.1 of))
 
-        by : ((is_of s a c && writes_to p.access) ≡ false → Kept (all_leave ps as_ news (leaves p a it K))) → (b w : Bool) → is_of s a c ≡ b → writes_to p.access ≡ w → Kept (all_leave ps as_ news (leaves p a it K))
+        by : ((is_of s a c && writes_to p.access) ≡ false → Kept (all_leave ps as_ news (leaves p a it K))) → (b w : Bool) → is_of s a c ≡ b
+            → writes_to p.access ≡ w → Kept (all_leave ps as_ news (leaves p a it K))
         by there true true e f = here e f
         by there true false e f = there (λ i. e i && f i)
         by there false w e f = there (ap (λ b. b && writes_to p.access) e)
@@ -308,13 +322,15 @@ module _ (starts : Starts) (s : ScriptState) where
     unwritten_left : (ps : List Param) (as_ : List Arg) (news : List Contents) → is_written s ps as_ c ≡ false
         → ((w : ℕ) → IsWordOf (bind_of_container starts s c) w → new w ≡ old w) → Kept (all_leave ps as_ news s.contents)
     unwritten_left ps as_ news none same =
-        subst (λ x. Holds new (bind_of (starts (s.range c)) x) x) (sym (none_leaves ps as_ news s.contents c none)) (still (bind_of_container starts s c) old new (s.contents c) was same)
+        subst (λ x. Holds new (bind_of (starts (s.range c)) x) x) (sym (none_leaves ps as_ news s.contents c none))
+        (still (bind_of_container starts s c) old new (s.contents c) was same)
 
   -- the facts of a job, argument by argument
   lefts : (old new : Cells) (c : ℕ) (below : c < s.made) (alive : s.alive c ≡ true) (was : Holds old (bind_of_container starts s c) (s.contents c))
       → (ps : List Param) (ws : List ℕ) (as_ : List Arg) (news : List Contents) → length news ≡ length (binds_by starts s ps ws as_)
       → ((x : ℕ) (b : Bind) → slice_get (binds_by starts s ps ws as_) x ≡ Some b → Holds new b (argument news x))
-      → ((w x : ℕ) (p : Param) (n : ℕ) (b : Bind) → slice_get ps x ≡ Some p → slice_get as_ x ≡ Some (Name n) → container_at s n ≡ c → slice_get (binds_by starts s ps ws as_) x ≡ Some b
+      → ((w x : ℕ) (p : Param) (n : ℕ) (b : Bind) → slice_get ps x ≡ Some p → slice_get as_ x ≡ Some (Name n) → container_at s n ≡ c
+      → slice_get (binds_by starts s ps ws as_) x ≡ Some b
       → IsWordOf (bind_of_container starts s c) w → (IsWordOf b w → IsLength b w) → new w ≡ old w)
       → Left old new c below alive was ps ws as_ news
   lefts old new c below alive was [] ws as_ news len each out = tt
@@ -326,13 +342,15 @@ module _ (starts : Starts) (s : ScriptState) where
     lefts old new c below alive was ps ws as_ news (omega arith) (λ x b e. each (suc x) b e) (λ u x q n b f g h k is o. out u (suc x) q n b f g h k is o),
   )
     where
-      named : (a : Arg) → ((u x : ℕ) (q : Param) (n : ℕ) (b : Bind) → slice_get (p ∷ ps) x ≡ Some q → slice_get (a ∷ as_) x ≡ Some (Name n) → container_at s n ≡ c → slice_get (binds_by starts s (p ∷ ps) (w ∷ ws) (a ∷ as_)) x ≡ Some b
+      named : (a : Arg) → ((u x : ℕ) (q : Param) (n : ℕ) (b : Bind) → slice_get (p ∷ ps) x ≡ Some q → slice_get (a ∷ as_) x ≡ Some (Name n)
+          → container_at s n ≡ c → slice_get (binds_by starts s (p ∷ ps) (w ∷ ws) (a ∷ as_)) x ≡ Some b
           → IsWordOf (bind_of_container starts s c) u → (IsWordOf b u → IsLength b u) → new u ≡ old u)
           → is_of s a c ≡ true → Outside old new c below alive was (bind_by starts s p w a)
       named (Name n) out of u is o = out u 0 p n (bind_by starts s p w (Name n)) refl refl (sym (eqb-true c (container_at s n) of)) refl is o
       named (Number z) out of u is o = absurd (not_both of refl)
 
-length_args : (starts : Starts) (s : ScriptState) (ps : List Param) (ws : List ℕ) (as_ : List Arg) → ArgsFit s ps ws as_ → length (binds_by starts s ps ws as_) ≡ length as_
+length_args : (starts : Starts) (s : ScriptState) (ps : List Param) (ws : List ℕ) (as_ : List Arg) → ArgsFit s ps ws as_
+    → length (binds_by starts s ps ws as_) ≡ length as_
 length_args starts s [] [] [] fit = refl
 length_args starts s [] [] (a ∷ as_) fit = absurd fit
 length_args starts s [] (w ∷ ws) args fit = absurd fit
@@ -349,8 +367,10 @@ args_left starts s ps ws as_ old new news held fit un job =
     by : (c : ℕ) (below : c < s.made) (alive : s.alive c ≡ true) (b : Bool) → is_written s ps as_ c ≡ b
         → Holds new (bind_of (starts (s.range c)) (all_leave starts s ps as_ news s.contents c)) (all_leave starts s ps as_ news s.contents c)
     by c below alive true e =
-        written_left starts s old new c below alive (held c below alive) ps ws as_ news s.contents fit un refl e (job.stand.count ∙ length_args starts s ps ws as_ fit)
-        (lefts starts s old new c below alive (held c below alive) ps ws as_ news job.stand.count job.stand.each (λ w x p n b f g h k is o. job.outside c w x p n b f g h k is o))
+        written_left starts s old new c below alive (held c below alive) ps ws as_ news s.contents fit un refl e
+        (job.stand.count ∙ length_args starts s ps ws as_ fit)
+        (lefts starts s old new c below alive (held c below alive) ps ws as_ news job.stand.count job.stand.each
+        (λ w x p n b f g h k is o. job.outside c w x p n b f g h k is o))
     by c below alive false e = unwritten_left starts s old new c below alive (held c below alive) ps as_ news e (λ w is. job.same c w below alive is e)
 
 pub left_contents_are_held : LeftContentsAreHeld

@@ -38,7 +38,8 @@ use Rattle.plan_laws.proofs.Leaving.{arguments_stand}
 use Rattle.plan_laws.proofs.Running.{words_run_as_contents}
 
 -- a word of what is given is a word of the container
-pub given_word : (kind : ParamKind) (width : ℕ) (v : Value) (start : ℕ) (c : Contents) (w : ℕ) → FitsKind kind v c → IsWordOf (bind_as kind width v start c) w → IsWordOf (bind_of start c) w
+pub given_word : (kind : ParamKind) (width : ℕ) (v : Value) (start : ℕ) (c : Contents) (w : ℕ) → FitsKind kind v c → IsWordOf (bind_as kind width v start c) w
+    → IsWordOf (bind_of start c) w
 given_word IntKind width v start c w f u = absurd f
 given_word ArrayKind width Value.Dead start c w f u = absurd f
 given_word ArrayKind width (Value.Whole n) start (Elements xs) w f u = record { from = u.from; below = u.below }
@@ -46,7 +47,8 @@ given_word ArrayKind width (Value.Whole n) start (Single z) w f u = absurd f
 given_word ArrayKind width (Value.Whole n) start (Items cap xs) w f u = record { from = u.from; below = u.below }
 given_word ArrayKind width (Value.Whole n) start (Pairs cap ps) w f u = absurd f
 given_word ArrayKind width (Value.Whole n) start (Entries room es) w f u = absurd f
-given_word ArrayKind width (Value.Slice n from len) start (Elements xs) w f u = let lo = u.from in let hi = u.below in record { from = omega arith; below = omega arith }
+given_word ArrayKind width (Value.Slice n from len) start (Elements xs) w f u = let lo = u.from in let hi = u.below in
+    record { from = omega arith; below = omega arith }
 given_word ArrayKind width (Value.Slice n from len) start (Single z) w f u = absurd f
 given_word ArrayKind width (Value.Slice n from len) start (Items cap xs) w f u = absurd f
 given_word ArrayKind width (Value.Slice n from len) start (Pairs cap ps) w f u = absurd f
@@ -87,14 +89,17 @@ argument_word starts s (p ∷ ps) (q ∷ ws) (Name n ∷ as_) zero w b fit h u =
       alive = fit.0.1;
       word = given_word p.kind q (s.values n) (start_at starts s n) (contents_at s n) w fit.0.2 (subst (λ b. IsWordOf b w) (sym (some_is h)) u);
     }
-argument_word starts s (p ∷ ps) (q ∷ ws) (Number z ∷ as_) zero w b fit h u = let v = subst (λ b. IsWordOf b w) (sym (some_is h)) u in let lt = v.below in absurd (omega arith)
-argument_word starts s (p ∷ ps) (q ∷ ws) (a ∷ as_) (suc x) w b fit h u = let r = argument_word starts s ps ws as_ x w b fit.1 h u in record { name = r.name; has = r.has; below = r.below; alive = r.alive; word = r.word }
+argument_word starts s (p ∷ ps) (q ∷ ws) (Number z ∷ as_) zero w b fit h u = let v = subst (λ b. IsWordOf b w) (sym (some_is h)) u in let lt = v.below in
+    absurd (omega arith)
+argument_word starts s (p ∷ ps) (q ∷ ws) (a ∷ as_) (suc x) w b fit h u = let r = argument_word starts s ps ws as_ x w b fit.1 h u in
+    record { name = r.name; has = r.has; below = r.below; alive = r.alive; word = r.word }
 
 -- arguments by their number
 named_of : (s : ScriptState) (n c : ℕ) → container_at s n ≡ c → is_of s (Name n) c ≡ true
 named_of s n c e = eq-eqb c (container_at s n) (sym e)
 
-pub any_by : (s : ScriptState) (ps : List Param) (as_ : List Arg) (x n c : ℕ) (p : Param) → slice_get ps x ≡ Some p → slice_get as_ x ≡ Some (Name n) → container_at s n ≡ c → is_given s ps as_ c ≡ true
+pub any_by : (s : ScriptState) (ps : List Param) (as_ : List Arg) (x n c : ℕ) (p : Param) → slice_get ps x ≡ Some p → slice_get as_ x ≡ Some (Name n)
+    → container_at s n ≡ c → is_given s ps as_ c ≡ true
 any_by s [] as_ x n c p hp h e = absurd (none_some hp)
 any_by s (q ∷ ps) [] x n c p hp h e = absurd (none_some h)
 any_by s (q ∷ ps) (a ∷ as_) zero n c p hp h e = ap (λ b. b || is_given s ps as_ c) (subst (λ a. is_of s a c ≡ true) (sym (some_is h)) (named_of s n c e))
@@ -104,7 +109,8 @@ any_by s (q ∷ ps) (a ∷ as_) (suc x) n c p hp h e = by (is_of s a c) (any_by 
     by true f = refl
     by false f = f
 
-pub writes_by : (s : ScriptState) (ps : List Param) (as_ : List Arg) (x n c : ℕ) (p : Param) → slice_get ps x ≡ Some p → slice_get as_ x ≡ Some (Name n) → container_at s n ≡ c → writes_to p.access ≡ true → is_written s ps as_ c ≡ true
+pub writes_by : (s : ScriptState) (ps : List Param) (as_ : List Arg) (x n c : ℕ) (p : Param) → slice_get ps x ≡ Some p → slice_get as_ x ≡ Some (Name n)
+    → container_at s n ≡ c → writes_to p.access ≡ true → is_written s ps as_ c ≡ true
 writes_by s [] as_ x n c p hp h e w = absurd (none_some hp)
 writes_by s (q ∷ ps) [] x n c p hp h e w = absurd (none_some h)
 writes_by s (q ∷ ps) (a ∷ as_) zero n c p hp h e w =
@@ -118,7 +124,8 @@ writes_by s (q ∷ ps) (a ∷ as_) (suc x) n c p hp h e w = by (is_of s a c && w
     by false f = f
 
 -- who writes a container is its only argument
-pub only_one : (s : ScriptState) (ps : List Param) (as_ : List Arg) (x y n m c : ℕ) (r p : Param) → AreUnshared s ps as_ → slice_get ps x ≡ Some r → slice_get ps y ≡ Some p → writes_to p.access ≡ true
+pub only_one : (s : ScriptState) (ps : List Param) (as_ : List Arg) (x y n m c : ℕ) (r p : Param) → AreUnshared s ps as_ → slice_get ps x ≡ Some r
+    → slice_get ps y ≡ Some p → writes_to p.access ≡ true
     → slice_get as_ x ≡ Some (Name n) → slice_get as_ y ≡ Some (Name m) → container_at s n ≡ c → container_at s m ≡ c → x ≡ y
 only_one s [] as_ x y n m c r p un hr hp w hx hy ex ey = absurd (none_some hp)
 only_one s (q ∷ ps) [] x y n m c r p un hr hp w hx hy ex ey = absurd (none_some hx)
@@ -127,7 +134,8 @@ only_one s (q ∷ ps) (a ∷ as_) zero (suc y) n m c r p un hr hp w hx hy ex ey 
     absurd (not_both (writes_by s ps as_ y m c p hp hy ey w) (un.0.read c (subst (λ a. is_of s a c ≡ true) (sym (some_is hx)) (named_of s n c ex))))
 only_one s (q ∷ ps) (a ∷ as_) (suc x) zero n m c r p un hr hp w hx hy ex ey =
     absurd (not_both (any_by s ps as_ x n c r hr hx ex)
-    (un.0.written c (subst (λ a. is_of s a c ≡ true) (sym (some_is hy)) (named_of s m c ey)) (subst (λ (q : Param). writes_to q.access ≡ true) (sym (some_is hp)) w)))
+    (un.0.written c (subst (λ a. is_of s a c ≡ true) (sym (some_is hy)) (named_of s m c ey))
+    (subst (λ (q : Param). writes_to q.access ≡ true) (sym (some_is hp)) w)))
 only_one s (q ∷ ps) (a ∷ as_) (suc x) (suc y) n m c r p un hr hp w hx hy ex ey = ap suc (only_one s ps as_ x y n m c r p un.1 hr hp w hx hy ex ey)
 
 pub writes_if : (a : Access) → is_read a ≡ false → writes_to a ≡ true
@@ -153,8 +161,10 @@ no_length (Ref at) from to w u l = l
 no_length (Map at) from to w u l = l
 no_length (Stream at own) from to w u l = l
 
-module _ (starts : Starts) (s : ScriptState) (kernel : Kernel) (ws : List ℕ) (args : List Arg) (defer : Option (ℕ × ℕ)) (n limit : ℕ) (old new : Cells) (checked : IsChecked kernel)
-    (binds_fit : BindsFit kernel (binds_by starts s kernel.params.items ws args)) (args_are_fit : fit.ArgsFit s defer kernel.params.items args) (len : length ws ≡ length kernel.params.items) (un : AreUnshared s kernel.params.items args)
+module _ (starts : Starts) (s : ScriptState) (kernel : Kernel) (ws : List ℕ) (args : List Arg) (defer : Option (ℕ × ℕ)) (n limit : ℕ) (old new : Cells)
+    (checked : IsChecked kernel)
+    (binds_fit : BindsFit kernel (binds_by starts s kernel.params.items ws args)) (args_are_fit : fit.ArgsFit s defer kernel.params.items args)
+    (len : length ws ≡ length kernel.params.items) (un : AreUnshared s kernel.params.items args)
     (held : AllHeld starts s old) (apart : AreApartBelow starts s limit)
     (is : (w : ℕ) → w < limit → new w ≡ (at_indexes kernel (binds_by starts s kernel.params.items ws args) full_steps n 0 old).store w) where
   args_fit : ArgsFit s kernel.params.items ws args
@@ -163,8 +173,10 @@ module _ (starts : Starts) (s : ScriptState) (kernel : Kernel) (ws : List ℕ) (
   abbrev binds : List Bind
   binds = binds_by starts s kernel.params.items ws args
 
-  stays : (c w : ℕ) → c < s.made → s.alive c ≡ true → IsWordOf (bind_of_container starts s c) w → (IsWritten kernel.params.items binds 0 (0 + n) w → ⊥) → new w ≡ old w
-  stays c w below alive word out = is w (apart.below c w below alive word) ∙ only_written_words_change.at_many kernel binds full_steps n 0 old w checked binds_fit out
+  stays : (c w : ℕ) → c < s.made → s.alive c ≡ true → IsWordOf (bind_of_container starts s c) w → (IsWritten kernel.params.items binds 0 (0 + n) w → ⊥)
+      → new w ≡ old w
+  stays c w below alive word out = is w (apart.below c w below alive word)
+      ∙ only_written_words_change.at_many kernel binds full_steps n 0 old w checked binds_fit out
 
   -- who writes a word of a container
   writer_of : (c w : ℕ) → c < s.made → s.alive c ≡ true → IsWordOf (bind_of_container starts s c) w → (u : IsWritten kernel.params.items binds 0 (0 + n) w)
@@ -181,8 +193,10 @@ module _ (starts : Starts) (s : ScriptState) (kernel : Kernel) (ws : List ℕ) (
       record {
         stand = record {
           count = run.store.count;
-          each = λ x b h. still b (at_indexes kernel binds full_steps n 0 old).store new (argument (on_contents kernel (widths binds) n 0 (arguments_of s kernel.params.items args)).store x) (run.store.each x b h)
-              (λ w u. let a = argument_word starts s kernel.params.items ws args x w b args_fit h u in is w (apart.below (container_at s a.name) w a.below a.alive a.word));
+          each = λ x b h. still b (at_indexes kernel binds full_steps n 0 old).store new
+              (argument (on_contents kernel (widths binds) n 0 (arguments_of s kernel.params.items args)).store x) (run.store.each x b h)
+              (λ w u. let a = argument_word starts s kernel.params.items ws args x w b args_fit h u in
+              is w (apart.below (container_at s a.name) w a.below a.alive a.word));
         };
         same = λ c w below alive word none. stays c w below alive word (λ u.
             let v = writer_of c w below alive word u in
@@ -197,7 +211,8 @@ module _ (starts : Starts) (s : ScriptState) (kernel : Kernel) (ws : List ℕ) (
             no_length b 0 (0 + n) w used (beyond (uses_word b 0 (0 + n) w used)));
       }
     where
-      fits_at : (ps : List Param) (ws : List ℕ) (as_ : List Arg) (x m : ℕ) → ArgsFit s ps ws as_ → slice_get as_ x ≡ Some (Name m) → (container_at s m < s.made) × (s.alive (container_at s m) ≡ true)
+      fits_at : (ps : List Param) (ws : List ℕ) (as_ : List Arg) (x m : ℕ) → ArgsFit s ps ws as_ → slice_get as_ x ≡ Some (Name m)
+          → (container_at s m < s.made) × (s.alive (container_at s m) ≡ true)
       fits_at [] [] [] x m f h = absurd (none_some h)
       fits_at [] [] (a ∷ as_) x m f h = absurd f
       fits_at [] (q ∷ ws) as_ x m f h = absurd f

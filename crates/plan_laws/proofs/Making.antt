@@ -41,10 +41,12 @@ at_here table n x = ap (λ b. cond b x (table n)) (eq-eqb n n refl)
 pub at_other : {A : Type 0} (table : ℕ → A) (n : ℕ) (x : A) (k : ℕ) → k ≢ n → with_at table n x k ≡ table k
 at_other table n x k ne = ap (λ b. cond b x (table k)) (ne_eqb k n ne)
 
-pub word_is_live : (starts : Starts) (s : ScriptState) (n c w : ℕ) → c < n → is_live s c ≡ true → has_word starts s c w ≡ true → live_word_below starts s n w ≡ true
+pub word_is_live : (starts : Starts) (s : ScriptState) (n c w : ℕ) → c < n → is_live s c ≡ true → has_word starts s c w ≡ true
+    → live_word_below starts s n w ≡ true
 word_is_live starts s zero c w lt live has = absurd (omega arith)
 word_is_live starts s (suc n) c w lt live has = ⊎_elim
-    (λ e. or_left (is_live s n && has_word starts s n w) (live_word_below starts s n w) (subst (λ d. (is_live s d && has_word starts s d w) ≡ true) e (both live has)))
+    (λ e. or_left (is_live s n && has_word starts s n w) (live_word_below starts s n w)
+    (subst (λ d. (is_live s d && has_word starts s d w) ≡ true) e (both live has)))
     (λ ne. or_right (is_live s n && has_word starts s n w) (live_word_below starts s n w) (word_is_live starts s n c w (omega arith) live has))
     (cases_eq c n)
   where
@@ -88,13 +90,16 @@ module _ (x : Outline) (s : ScriptState) (line name : ℕ) (life : Life) (conten
           (cases_lt c s.made)
 
   old_words : (c w : ℕ) → c ≢ s.made → has_word x.starts t c w ≡ has_word x.starts s c w
-  old_words c w ne = λ i. nat_le (x.starts (at_other s.range s.made s.takes c ne i)) w && nat_lt w (x.starts (at_other s.range s.made s.takes c ne i) + words_of (at_other s.contents s.made contents c ne i))
+  old_words c w ne = λ i. nat_le (x.starts (at_other s.range s.made s.takes c ne i)) w
+      && nat_lt w (x.starts (at_other s.range s.made s.takes c ne i) + words_of (at_other s.contents s.made contents c ne i))
 
   new_live : is_live t s.made ≡ true
-  new_live = λ i. (let f : nat_lt s.made (s.made + 1) ≡ true = grind arith in f) i && (at_here s.alive s.made true i || has_pending s.book (with_at s.uses s.made unused s.made))
+  new_live = λ i. (let f : nat_lt s.made (s.made + 1) ≡ true = grind arith in f) i
+      && (at_here s.alive s.made true i || has_pending s.book (with_at s.uses s.made unused s.made))
 
   new_words : (w : ℕ) → has_word x.starts t s.made w ≡ (nat_le span.start w && nat_lt w (span.start + span.len))
-  new_words w = λ i. nat_le (x.starts (at_here s.range s.made s.takes i)) w && nat_lt w (x.starts (at_here s.range s.made s.takes i) + words_of (at_here s.contents s.made contents i))
+  new_words w = λ i. nat_le (x.starts (at_here s.range s.made s.takes i)) w
+      && nat_lt w (x.starts (at_here s.range s.made s.takes i) + words_of (at_here s.contents s.made contents i))
 
   -- no live container has a word of the new range
   unheld : (c w : ℕ) → is_live s c ≡ true → has_word x.starts s c w ≡ true → span.start ≤ w → w < span.start + span.len → ⊥
@@ -112,8 +117,12 @@ module _ (x : Outline) (s : ScriptState) (line name : ℕ) (life : Life) (conten
       × ((j : ℕ) → owner_users (jobs_before x) t o j ≡ owner_users (jobs_before x) s o j)
       × ((j : ℕ) → owner_writers (jobs_before x) t o j ≡ owner_writers (jobs_before x) s o j)
   live_old (Held c) e =
-      let ne : c ≢ s.made = λ h. let lt = live_below s c e in omega arith in
-      (old_live c ne ∙ e, λ w. old_words c w ne, λ j. ap (λ u. later (jobs_before x) u.users j) (at_other s.uses s.made unused c ne), λ j. ap (λ u. later (jobs_before x) u.writers j) (at_other s.uses s.made unused c ne))
+      let ne : c ≢ s.made = λ h. let lt = live_below s c e in omega arith in (
+        old_live c ne ∙ e,
+        λ w. old_words c w ne,
+        λ j. ap (λ u. later (jobs_before x) u.users j) (at_other s.uses s.made unused c ne),
+        λ j. ap (λ u. later (jobs_before x) u.writers j) (at_other s.uses s.made unused c ne),
+      )
   live_old (Own j) e = (e, λ w. refl, λ k. refl, λ k. refl)
 
   goes_on : GoesOn l m
@@ -121,7 +130,12 @@ module _ (x : Outline) (s : ScriptState) (line name : ℕ) (life : Life) (conten
     jobs = omega arith;
     depends = λ j k le e. e;
     completed = λ j. refl;
-    containers = λ c live. inr (let o = live_old (owner c) live in record { live = o.0; words = λ w e. o.1 w ∙ e; users = λ j e. o.2 j ∙ e; writers = λ j e. o.3 j ∙ e });
+    containers = λ c live. inr (let o = live_old (owner c) live in record {
+      live = o.0;
+      words = λ w e. o.1 w ∙ e;
+      users = λ j e. o.2 j ∙ e;
+      writers = λ j e. o.3 j ∙ e;
+    });
   }
 
   -- the new container has no user
@@ -134,11 +148,13 @@ module _ (x : Outline) (s : ScriptState) (line name : ℕ) (life : Life) (conten
 
   written : (o : Owner) (j : ℕ) → owner_writers (jobs_before x) t o j ≡ true → owner_users (jobs_before x) t o j ≡ true
   written (Held c) j e = ⊎_elim
-      (λ h. absurd (not_both (ap (λ u. later (jobs_before x) u.writers j) (sym (ap (with_at s.uses s.made unused) h ∙ at_here s.uses s.made unused)) ∙ e) (none (nat_lt 0 j))))
+      (λ h. absurd (not_both (ap (λ u. later (jobs_before x) u.writers j) (sym (ap (with_at s.uses s.made unused) h ∙ at_here s.uses s.made unused)) ∙ e)
+      (none (nat_lt 0 j))))
       (λ ne. let same = at_other s.uses s.made unused c ne in
       ap (λ u. later (jobs_before x) u.users j) same
       ∙ sym (ap (λ o. owner_users (jobs_before x) s o j) (owner_held c))
-      ∙ was.ordered.ledger.written (number_of (Held c)) j (ap (λ o. owner_writers (jobs_before x) s o j) (owner_held c) ∙ sym (ap (λ u. later (jobs_before x) u.writers j) same) ∙ e))
+      ∙ was.ordered.ledger.written (number_of (Held c)) j (ap (λ o. owner_writers (jobs_before x) s o j) (owner_held c)
+      ∙ sym (ap (λ u. later (jobs_before x) u.writers j) same) ∙ e))
       (cases_eq c s.made)
     where
       none : (b : Bool) → (b && false) ≡ false
@@ -151,7 +167,8 @@ module _ (x : Outline) (s : ScriptState) (line name : ℕ) (life : Life) (conten
   off_span (Held c) w live has new = let b = in_span w new in unheld c w live has b.0 b.1
   off_span (Own j) w live has new = let a = own_above x.plan j w has in let b = (in_span w new).1 in omega arith
 
-  apart : (o p : Owner) (w : ℕ) → owner_live t (length d.jobs) o ≡ true → owner_live t (length d.jobs) p ≡ true → owner_words x.plan x.starts t o w ≡ true → owner_words x.plan x.starts t p w ≡ true
+  apart : (o p : Owner) (w : ℕ) → owner_live t (length d.jobs) o ≡ true → owner_live t (length d.jobs) p ≡ true → owner_words x.plan x.starts t o w ≡ true
+      → owner_words x.plan x.starts t p w ≡ true
       → number_of o ≡ number_of p
   apart o p w lo lp wo wp = ⊎_elim
       (λ eo. ⊎_elim (λ ep. ap number_of (eo ∙ sym ep))
@@ -161,7 +178,8 @@ module _ (x : Outline) (s : ScriptState) (line name : ℕ) (life : Life) (conten
       (λ ep. absurd (off_span o w oo (sym ((live_old o oo).1 w) ∙ wo) (subst (λ q. owner_words x.plan x.starts t q w ≡ true) ep wp)))
       (λ op. was.ordered.ledger.apart (number_of o) (number_of p) w
       (ap (owner_live s (length d.jobs)) (owner_number o) ∙ oo) (ap (owner_live s (length d.jobs)) (owner_number p) ∙ op)
-      (ap (λ q. owner_words x.plan x.starts s q w) (owner_number o) ∙ sym ((live_old o oo).1 w) ∙ wo) (ap (λ q. owner_words x.plan x.starts s q w) (owner_number p) ∙ sym ((live_old p op).1 w) ∙ wp))
+      (ap (λ q. owner_words x.plan x.starts s q w) (owner_number o) ∙ sym ((live_old o oo).1 w) ∙ wo)
+      (ap (λ q. owner_words x.plan x.starts s q w) (owner_number p) ∙ sym ((live_old p op).1 w) ∙ wp))
       (live_number p lp))
       (live_number o lo)
     where
@@ -176,7 +194,8 @@ module _ (x : Outline) (s : ScriptState) (line name : ℕ) (life : Life) (conten
     apart = λ c e w lc le wc we. sym (number_owner c) ∙ apart (owner c) (owner e) w lc le wc we ∙ number_owner e;
   }
 
-  settled_word : (jobs : ℕ → ℕ → Bool) → ((j : ℕ) → jobs (number_of (Held s.made)) j ≡ true → ⊥) → (w : ℕ) → (span.start ≤ w) × (w < span.start + span.len) → IsSettled m jobs w
+  settled_word : (jobs : ℕ → ℕ → Bool) → ((j : ℕ) → jobs (number_of (Held s.made)) j ≡ true → ⊥) → (w : ℕ) → (span.start ≤ w) × (w < span.start + span.len)
+      → IsSettled m jobs w
   settled_word jobs none w b = record {
     container = number_of (Held s.made);
     live = ap (owner_live t (length d.jobs)) (owner_held s.made) ∙ new_live;
@@ -209,9 +228,11 @@ module _ (x : Outline) (s : ScriptState) (line name : ℕ) (life : Life) (conten
   new_held literal fills =
       let at_range = sym (at_here s.range s.made s.takes) in
       let at_contents = sym (at_here s.contents s.made contents) in
-      subst (λ r. Kept (new_cells literal) r (t.contents s.made)) at_range (subst (λ c. Kept (new_cells literal) s.takes c) at_contents (fills.1 (cells_of x.plan d)))
+      subst (λ r. Kept (new_cells literal) r (t.contents s.made)) at_range
+      (subst (λ c. Kept (new_cells literal) s.takes c) at_contents (fills.1 (cells_of x.plan d)))
 
-  old_held : (literal : Option ℕ) → FillsAs x.plan span literal contents → (c : ℕ) → c ≢ s.made → c < s.made → s.alive c ≡ true → Holds (new_cells literal) (bind_of_container x.starts t c) (t.contents c)
+  old_held : (literal : Option ℕ) → FillsAs x.plan span literal contents → (c : ℕ) → c ≢ s.made → c < s.made → s.alive c ≡ true
+      → Holds (new_cells literal) (bind_of_container x.starts t c) (t.contents c)
   unfolding Kept
   old_held literal fills c ne below alive =
       let live = alive_is_live s c below alive in
@@ -219,7 +240,8 @@ module _ (x : Outline) (s : ScriptState) (line name : ℕ) (life : Life) (conten
       still (bind_of_container x.starts s c) (cells_of x.plan d) (new_cells literal) (s.contents c) (was.standing.contents c below alive)
       (λ w is. write_cells-outside (cells_of x.plan d) span.start (first_cells x.plan span literal) w
       (⊎_elim (λ lt. inl lt)
-      (λ ge. ⊎_elim (λ lt. absurd (unheld c w live (word_has x.starts s c w is) ge lt)) (λ past. inr (let long = fills.0 in omega arith)) (cases_lt w (span.start + span.len)))
+      (λ ge. ⊎_elim (λ lt. absurd (unheld c w live (word_has x.starts s c w is) ge lt)) (λ past. inr (let long = fills.0 in omega arith))
+      (cases_lt w (span.start + span.len)))
       (cases_lt w span.start))) in
       let at_range = sym (at_other s.range s.made s.takes c ne) in
       let at_contents = sym (at_other s.contents s.made contents c ne) in
@@ -252,14 +274,16 @@ containers_are_planned x small s line name life contents literal shown d e was f
     let op : Op = record { line = line; name = shown; act = Fill (next_span x s contents) literal } in
     let old = was.ordered in
     let is = ledger_is x s line name life contents d was fit le in
-    let going = ledgers_keep_order (ledger_at x s d) (ledger_at x (make line name life contents s) d) (pieces_of x.plan d) old.ledger old.pieces (goes_on x s line name life contents d was fit le) in
+    let going = ledgers_keep_order (ledger_at x s d) (ledger_at x (make line name life contents s) d) (pieces_of x.plan d) old.ledger old.pieces
+    (goes_on x s line name life contents d was fit le) in
     operations_are_planned x small s (make line name life contents s) d e op was add
     (record { name = below; act = (le, is_literal) }) tt
     (subst (StaysOrdered x s (make line name life contents s) d) (added d e op add) (record {
       count = old.count;
       before = old.before;
       ledger = is;
-      pieces = op_in_order x.plan (ledger_at x (make line name life contents s) d) d.waits d.ops op _ is going (settled x s line name life contents d was fit le literal);
+      pieces = op_in_order x.plan (ledger_at x (make line name life contents s) d) d.waits d.ops op _ is going
+          (settled x s line name life contents d was fit le literal);
       within = within x s line name life contents d was fit le le;
     }))
     (held x s line name life contents d was fit le literal fills)

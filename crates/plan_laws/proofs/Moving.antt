@@ -67,19 +67,27 @@ copied cells from to n cap cap' xs h len le =
           ∙ sym (get_or-cell_list cells (from + 1) (length xs) k (pos 0) lt) ∙ ap (λ ys. get_or ys k (pos 0)) h.elements);
     }
 
-module _ (x : Outline) (small : x.plan.cells < 2 ^ 32) (g : Setting) (s : ScriptState) (line name cap old : ℕ) (xs : List ℤ) (d : Draft) (known : IsKnown s) (was : IsPlanned x s d) where
+module _ (x : Outline) (small : x.plan.cells < 2 ^ 32) (g : Setting) (s : ScriptState) (line name cap old : ℕ) (xs : List ℤ) (d : Draft) (known : IsKnown s)
+    (was : IsPlanned x s d) where
   abbrev c : ℕ
   c = container_at s name
 
   -- the state afterwards, but for views
   abbrev t : ScriptState
-  t = record s { contents = with_at s.contents c (Items cap xs); view = with_at s.view c (s.view c + 1); takes = s.takes + 1; range = with_at s.range c s.takes; created = s.created + (cap + 1) }
+  t = record s {
+    contents = with_at s.contents c (Items cap xs);
+    view = with_at s.view c (s.view c + 1);
+    takes = s.takes + 1;
+    range = with_at s.range c s.takes;
+    created = s.created + (cap + 1);
+  }
 
   module _ (is : contents_at s name ≡ Items old xs) (grows : old ≤ cap) where
     t_is : effect g line s (SetCapacity name cap) ≡ t
     t_is =
         ap (λ k. regrown name cap (views_broken name (changed name (capacity_in k cap) s))) is
-        ∙ ap (λ b. regrown name cap (views_broken name (changed name (if b then Err Range else Ok (Items cap xs)) s))) (let f : nat_lt cap old ≡ false = grind arith in f)
+        ∙ ap (λ b. regrown name cap (views_broken name (changed name (if b then Err Range else Ok (Items cap xs)) s)))
+        (let f : nat_lt cap old ≡ false = grind arith in f)
         ∙ ap (λ k. regrown name cap (list_broken k c (with_contents c (Items cap xs) s))) (at_here s.contents c (Items cap xs))
 
     module _ (below : c < s.made) (alive : s.alive c ≡ true) (done : (j : ℕ) → (s.uses c).users j ≡ true → s.book.completed j ≡ true)
@@ -127,7 +135,8 @@ module _ (x : Outline) (small : x.plan.cells < 2 ^ 32) (g : Setting) (s : Script
       abbrev op : Op
       op = record { line = line; name = name; act = Move from to }
 
-      either : (w : ℕ) → (touch.has_word (span_touch from) w || (touch.has_word (span_touch to) w || false)) ≡ true → (l.words (number_of (Held c)) w ≡ true) ⊎ (new w ≡ true)
+      either : (w : ℕ) → (touch.has_word (span_touch from) w || (touch.has_word (span_touch to) w || false)) ≡ true
+          → (l.words (number_of (Held c)) w ≡ true) ⊎ (new w ≡ true)
       unfolding new
       either w e = ⊎_elim
           (λ u. inl (ap (λ o. owner_words x.plan x.starts s o w) (owner_held c) ∙ old_words w ∙ u))
@@ -155,24 +164,29 @@ module _ (x : Outline) (small : x.plan.cells < 2 ^ 32) (g : Setting) (s : Script
       }
 
       moved : IsLedger m × AreInOrder m (segment_piece x.plan d.waits (d.ops ++ op ∷ []) ∷ closed_pieces x.plan d)
-      moved = moves_keep_order l (segment_piece x.plan d.waits d.ops) (segment_piece x.plan d.waits (d.ops ++ op ∷ [])) (closed_pieces x.plan d) (number_of (Held c)) new was.ordered.ledger was.ordered.pieces moves
+      moved = moves_keep_order l (segment_piece x.plan d.waits d.ops) (segment_piece x.plan d.waits (d.ops ++ op ∷ [])) (closed_pieces x.plan d)
+          (number_of (Held c)) new was.ordered.ledger was.ordered.pieces moves
 
       -- that ledger is the one of the new state
       words_here : (w : ℕ) → has_word x.starts t c w ≡ new w
       unfolding new
-      words_here w = λ i. nat_le (x.starts (at_here s.range c s.takes i)) w && nat_lt w (x.starts (at_here s.range c s.takes i) + words_of (at_here s.contents c (Items cap xs) i))
+      words_here w = λ i. nat_le (x.starts (at_here s.range c s.takes i)) w
+          && nat_lt w (x.starts (at_here s.range c s.takes i) + words_of (at_here s.contents c (Items cap xs) i))
 
       words_there : (k w : ℕ) → k ≢ c → has_word x.starts t k w ≡ has_word x.starts s k w
-      words_there k w ne = λ i. nat_le (x.starts (at_other s.range c s.takes k ne i)) w && nat_lt w (x.starts (at_other s.range c s.takes k ne i) + words_of (at_other s.contents c (Items cap xs) k ne i))
+      words_there k w ne = λ i. nat_le (x.starts (at_other s.range c s.takes k ne i)) w
+          && nat_lt w (x.starts (at_other s.range c s.takes k ne i) + words_of (at_other s.contents c (Items cap xs) k ne i))
 
       same_words : (k w : ℕ) → (ledger_at x t d).words k w ≡ m.words k w
       same_words k w = by (owner k) refl
         where
-          by : (o : Owner) → owner k ≡ o → owner_words x.plan x.starts t (owner k) w ≡ cond (nat_eq k (number_of (Held c))) (new w) (owner_words x.plan x.starts s (owner k) w)
+          by : (o : Owner) → owner k ≡ o → owner_words x.plan x.starts t (owner k) w ≡ cond (nat_eq k (number_of (Held c))) (new w)
+              (owner_words x.plan x.starts s (owner k) w)
           by (Held e) o = ⊎_elim
               (λ here.
               let k_is : k ≡ number_of (Held c) = sym (number_owner k) ∙ ap number_of o ∙ ap (λ n. number_of (Held n)) here in
-              ap (λ q. owner_words x.plan x.starts t q w) (o ∙ ap Held here) ∙ words_here w ∙ sym (ap (λ b. cond b (new w) (owner_words x.plan x.starts s (owner k) w)) (eq-eqb k (number_of (Held c)) k_is)))
+              ap (λ q. owner_words x.plan x.starts t q w) (o ∙ ap Held here) ∙ words_here w
+              ∙ sym (ap (λ b. cond b (new w) (owner_words x.plan x.starts s (owner k) w)) (eq-eqb k (number_of (Held c)) k_is)))
               (λ ne.
               let k_not : k ≢ number_of (Held c) = (λ h. ne (held_once e c (sym (ap number_of o) ∙ number_owner k ∙ h))) in
               ap (λ q. owner_words x.plan x.starts t q w) o ∙ words_there e w ne ∙ ap (λ q. owner_words x.plan x.starts s q w) (sym o)
@@ -218,10 +232,17 @@ module _ (x : Outline) (small : x.plan.cells < 2 ^ 32) (g : Setting) (s : Script
       held_here : Holds new_cells (bind_of_container x.starts t c) (t.contents c)
       unfolding Kept
       held_here =
-          let h : Holds (cells_of x.plan d) (bind_of (x.starts (s.range c)) (Items old xs)) (Items old xs) = subst (λ k. Holds (cells_of x.plan d) (bind_of (x.starts (s.range c)) k) k) is (was.standing.contents c below alive) in
+          let h : Holds (cells_of x.plan d) (bind_of (x.starts (s.range c)) (Items old xs)) (Items old xs) =
+          subst (λ k. Holds (cells_of x.plan d) (bind_of (x.starts (s.range c)) k) k) is (was.standing.contents c below alive) in
           let same_xs : xs ≡ h.0 = ap Rattle.frame_ast.specs.Contents.elements h.1 in
-          let items : HoldsItems (record { start = x.starts (s.range c); cap = old }) (cells_of x.plan d) xs = subst (λ ys. HoldsItems (record { start = x.starts (s.range c); cap = old }) (cells_of x.plan d) ys) (sym same_xs) h.2 in
-          let there : Kept s.takes (Items cap xs) = (xs, refl, copied (cells_of x.plan d) (x.starts (s.range c)) (x.starts s.takes) (old + 1) old cap xs items refl grows) in
+          let items : HoldsItems (record { start = x.starts (s.range c); cap = old }) (cells_of x.plan d) xs =
+          subst (λ ys. HoldsItems (record { start = x.starts (s.range c); cap = old }) (cells_of x.plan d) ys) (sym same_xs) h.2 in
+          let there : Kept s.takes (Items cap xs) = (
+            xs,
+            refl,
+            copied (cells_of x.plan d) (x.starts (s.range c)) (x.starts s.takes)
+                (old + 1) old cap xs items refl grows,
+          ) in
           subst (λ r. Kept r (t.contents c)) (sym (at_here s.range c s.takes)) (subst (λ k. Kept s.takes k) (sym (at_here s.contents c (Items cap xs))) there)
 
       held_there : (k : ℕ) → k ≢ c → k < s.made → s.alive k ≡ true → Holds new_cells (bind_of_container x.starts t k) (t.contents k)
@@ -229,10 +250,13 @@ module _ (x : Outline) (small : x.plan.cells < 2 ^ 32) (g : Setting) (s : Script
       held_there k ne below_k alive_k =
           let live = alive_is_live s k below_k alive_k in
           let long = length-cell_list (cells_of x.plan d) from.start from.len in
-          let there : Kept (s.range k) (s.contents k) = still (bind_of_container x.starts s k) (cells_of x.plan d) new_cells (s.contents k) (was.standing.contents k below_k alive_k)
+          let there : Kept (s.range k) (s.contents k) = still (bind_of_container x.starts s k) (cells_of x.plan d) new_cells (s.contents k)
+          (was.standing.contents k below_k alive_k)
           (λ w is. write_cells-outside (cells_of x.plan d) to.start (cell_list (cells_of x.plan d) from.start from.len) w
-          (⊎_elim (λ lt. inl lt) (λ ge. ⊎_elim (λ lt. absurd (unheld k w live (word_has x.starts s k w is) ge lt)) (λ past. inr (omega arith)) (cases_lt w (to.start + to.len))) (cases_lt w to.start))) in
-          subst (λ r. Kept r (t.contents k)) (sym (at_other s.range c s.takes k ne)) (subst (λ z. Kept (s.range k) z) (sym (at_other s.contents c (Items cap xs) k ne)) there)
+          (⊎_elim (λ lt. inl lt) (λ ge. ⊎_elim (λ lt. absurd (unheld k w live (word_has x.starts s k w is) ge lt)) (λ past. inr (omega arith))
+          (cases_lt w (to.start + to.len))) (cases_lt w to.start))) in
+          subst (λ r. Kept r (t.contents k)) (sym (at_other s.range c s.takes k ne))
+          (subst (λ z. Kept (s.range k) z) (sym (at_other s.contents c (Items cap xs) k ne)) there)
 
       within : (k : ℕ) → is_live t k ≡ true → end_of (bind_of_container x.starts t k) ≤ x.plan.cells
       within k live = ⊎_elim
@@ -266,7 +290,8 @@ module _ (x : Outline) (small : x.plan.cells < 2 ^ 32) (g : Setting) (s : Script
       unfolding op_line op_answer op_cells
       planned e add shown =
           let old_in = was.standing.within c live_c in
-          let old_end : end_of (bind_of_container x.starts s c) ≡ from.start + from.len = end_is (x.starts (s.range c)) (s.contents c) ∙ ap (λ k. x.starts (s.range c) + words_of k) is in
+          let old_end : end_of (bind_of_container x.starts s c) ≡ from.start + from.len = end_is (x.starts (s.range c)) (s.contents c)
+          ∙ ap (λ k. x.starts (s.range c) + words_of k) is in
           operations_are_planned x small s t d e op was add
           (record { name = shown; act = (omega arith, le, omega arith, old_apart) }) tt
           (subst (StaysOrdered x s t d) (added d e op add) (record {
@@ -276,7 +301,8 @@ module _ (x : Outline) (small : x.plan.cells < 2 ^ 32) (g : Setting) (s : Script
             pieces = same_order m (ledger_at x t d) _ same moved.0 moved.1;
             within = within;
           }))
-          (λ k below_k alive_k. ⊎_elim (λ here. subst (λ k. Holds new_cells (bind_of_container x.starts t k) (t.contents k)) (sym here) held_here) (λ ne. held_there k ne below_k alive_k) (cases_eq k c))
+          (λ k below_k alive_k. ⊎_elim (λ here. subst (λ k. Holds new_cells (bind_of_container x.starts t k) (t.contents k)) (sym here) held_here)
+          (λ ne. held_there k ne below_k alive_k) (cases_eq k c))
           (record { lines = sym (append-nil s.lines); refused = omega arith; traps = refl })
 
 -- what isn't refused
@@ -284,16 +310,21 @@ record IsMoved (s : ScriptState) (name cap old : ℕ) : Type 0 where
   pub allowed : IsAllowed s name true
   pub grows : old ≤ cap
 
-accepted : (g : Setting) (s : ScriptState) (name cap old : ℕ) (xs : List ℤ) → contents_at s name ≡ Items old xs → refusal g s (SetCapacity name cap) ≡ None → IsMoved s name cap old
+accepted : (g : Setting) (s : ScriptState) (name cap old : ℕ) (xs : List ℤ) → contents_at s name ≡ Items old xs → refusal g s (SetCapacity name cap) ≡ None
+    → IsMoved s name cap old
 unfolding first_some
 accepted g s name cap old xs is e =
-    let parts = split (is_alive s (s.values name)) (is_stale s (s.values name)) (pending s nobody (need_of s name true ∷ [])) (store_full s (cap + 1) name) (unchanged name (capacity_in (contents_at s name) cap)) e in
+    let parts = split (is_alive s (s.values name)) (is_stale s (s.values name)) (pending s nobody (need_of s name true ∷ [])) (store_full s (cap + 1) name)
+    (unchanged name (capacity_in (contents_at s name) cap)) e in
     record {
       allowed = allowed s name true parts.0;
       grows = grow (nat_lt cap old) refl (sym (ap (λ k. unchanged name (capacity_in k cap)) is) ∙ parts.1);
     }
   where
-    split : (a o : Bool) (p q r : Option Refused) → first_some (option_map (refused Disposed) (cond (not a) (Some name) None) ∷ option_map (refused StaleView) (cond o (Some name) None) ∷ p ∷ q ∷ r ∷ []) ≡ None → (first_some (option_map (refused Disposed) (cond (not a) (Some name) None) ∷ option_map (refused StaleView) (cond o (Some name) None) ∷ p ∷ []) ≡ None) × (r ≡ None)
+    split : (a o : Bool) (p q r : Option Refused) → first_some (option_map (refused Disposed) (cond (not a) (Some name) None)
+        ∷ option_map (refused StaleView) (cond o (Some name) None) ∷ p ∷ q ∷ r ∷ []) ≡ None
+        → (first_some (option_map (refused Disposed) (cond (not a) (Some name) None) ∷ option_map (refused StaleView) (cond o (Some name) None) ∷ p ∷ [])
+        ≡ None) × (r ≡ None)
     split false o p q r e = cc
     split true true p q r e = cc
     split true false (Some u) q r e = cc
@@ -311,4 +342,5 @@ moves_are_planned x g s line name cap old xs d e small known was refused_none be
     let alive = alive_at s (s.values name) a.allowed.alive in
     subst (λ t. IsPlanned x t e) (sym (t_is x small g s line name cap old xs d known was is a.grows))
     (planned x small g s line name cap old xs d known was is a.grows below alive
-    (λ j u. conflict_completed s name true known a.allowed j (or_right ((s.uses (container_at s name)).writers j) ((s.uses (container_at s name)).users j) u) u) fit le e add shown)
+    (λ j u. conflict_completed s name true known a.allowed j (or_right ((s.uses (container_at s name)).writers j) ((s.uses (container_at s name)).users j) u) u)
+    fit le e add shown)

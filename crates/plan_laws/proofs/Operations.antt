@@ -26,7 +26,8 @@ use Rattle.plan_laws.specs.Operations.{AddsOutput, StaysOrdered, OperationsArePl
 
 ops_touch-append : (xs ys : List Op) → ops_touch (xs ++ ys) ≡ ops_touch xs ++ ops_touch ys
 ops_touch-append [] ys = refl
-ops_touch-append (op ∷ xs) ys = ap (λ ts. act_touches op.act ++ ts) (ops_touch-append xs ys) ∙ sym (append_assoc (act_touches op.act) (ops_touch xs) (ops_touch ys))
+ops_touch-append (op ∷ xs) ys = ap (λ ts. act_touches op.act ++ ts) (ops_touch-append xs ys)
+    ∙ sym (append_assoc (act_touches op.act) (ops_touch xs) (ops_touch ys))
 
 touches_one : (op : Op) → ops_touch (op ∷ []) ≡ act_touches op.act
 touches_one op = append-nil (act_touches op.act)
@@ -36,16 +37,19 @@ module _ (plan : Plan) where
   ops_cells-append [] ys cells = refl
   ops_cells-append (op ∷ xs) ys cells = ops_cells-append xs ys (op_cells plan op cells)
 
-  pub ops_lines-append : (xs ys : List Op) (cells : Cells) → ops_lines plan (xs ++ ys) cells ≡ ops_lines plan xs cells ++ ops_lines plan ys (ops_cells plan xs cells)
+  pub ops_lines-append : (xs ys : List Op) (cells : Cells) → ops_lines plan (xs ++ ys) cells ≡ ops_lines plan xs cells
+      ++ ops_lines plan ys (ops_cells plan xs cells)
   ops_lines-append [] ys cells = refl
   ops_lines-append (op ∷ xs) ys cells =
       ap (λ l. op_line plan op cells ++ l) (ops_lines-append xs ys (op_cells plan op cells)) ∙ sym (append_assoc (op_line plan op cells) _ _)
 
-  pub ops_refused-append : (xs ys : List Op) (cells : Cells) → ops_refused plan (xs ++ ys) cells ≡ ops_refused plan xs cells + ops_refused plan ys (ops_cells plan xs cells)
+  pub ops_refused-append : (xs ys : List Op) (cells : Cells) → ops_refused plan (xs ++ ys) cells ≡ ops_refused plan xs cells + ops_refused plan ys
+      (ops_cells plan xs cells)
   ops_refused-append [] ys cells = omega arith
   ops_refused-append (op ∷ xs) ys cells = let r = ops_refused-append xs ys (op_cells plan op cells) in omega arith
 
-  pub ops_stand-append : (xs : List Op) (op : Op) (cells : Cells) → OpsStand plan xs cells → ActStands op.act (ops_cells plan xs cells) → OpsStand plan (xs ++ op ∷ []) cells
+  pub ops_stand-append : (xs : List Op) (op : Op) (cells : Cells) → OpsStand plan xs cells → ActStands op.act (ops_cells plan xs cells)
+      → OpsStand plan (xs ++ op ∷ []) cells
   ops_stand-append [] op cells s a = (a, tt)
   ops_stand-append (x ∷ xs) op cells s a = (s.0, ops_stand-append xs op (op_cells plan x cells) s.1 a)
 
@@ -54,7 +58,8 @@ module _ (plan : Plan) where
   all_fit small (op ∷ more) h = (All-head (OpFits plan) op more h, all_fit small more (All-tail (OpFits plan) op more h))
 
   -- a segment keeps to its footprint
-  pub segment_framed : plan.cells < 2 ^ 32 → (waits : List JobId) (ops : List Op) (before : Cells) → All (OpFits plan) ops → IsFramed (segment_piece plan waits ops) before
+  pub segment_framed : plan.cells < 2 ^ 32 → (waits : List JobId) (ops : List Op) (before : Cells) → All (OpFits plan) ops
+      → IsFramed (segment_piece plan waits ops) before
   segment_framed small waits ops before fit =
       let f = all_fit small ops fit in
       record {
@@ -70,16 +75,19 @@ module _ (plan : Plan) (l : Ledger) (waits : List JobId) (ops : List Op) (op : O
   pub more_reads : (w : ℕ) → reads_in (ops_touch (ops ++ op ∷ [])) w ≡ true → (reads_in (ops_touch ops) w ≡ true) ⊎ (reads_in (act_touches op.act) w ≡ true)
   more_reads w e =
       let split : (reads_in (ops_touch ops) w || reads_in (act_touches op.act) w) ≡ true =
-      ap (λ ts. reads_in (ops_touch ops) w || reads_in ts w) (sym (touches_one op)) ∙ sym (reads_append (ops_touch ops) (ops_touch (op ∷ [])) w) ∙ ap (λ ts. reads_in ts w) (sym (ops_touch-append ops (op ∷ []))) ∙ e in
+      ap (λ ts. reads_in (ops_touch ops) w || reads_in ts w) (sym (touches_one op)) ∙ sym (reads_append (ops_touch ops) (ops_touch (op ∷ [])) w)
+      ∙ ap (λ ts. reads_in ts w) (sym (ops_touch-append ops (op ∷ []))) ∙ e in
       or_cases _ _ split
 
   pub more_writes : (w : ℕ) → writes_in (ops_touch (ops ++ op ∷ [])) w ≡ true → (writes_in (ops_touch ops) w ≡ true) ⊎ (writes_in (act_touches op.act) w ≡ true)
   more_writes w e =
       let split : (writes_in (ops_touch ops) w || writes_in (act_touches op.act) w) ≡ true =
-      ap (λ ts. writes_in (ops_touch ops) w || writes_in ts w) (sym (touches_one op)) ∙ sym (writes_append (ops_touch ops) (ops_touch (op ∷ [])) w) ∙ ap (λ ts. writes_in ts w) (sym (ops_touch-append ops (op ∷ []))) ∙ e in
+      ap (λ ts. writes_in (ops_touch ops) w || writes_in ts w) (sym (touches_one op)) ∙ sym (writes_append (ops_touch ops) (ops_touch (op ∷ [])) w)
+      ∙ ap (λ ts. writes_in ts w) (sym (ops_touch-append ops (op ∷ []))) ∙ e in
       or_cases _ _ split
 
-  pub op_in_order : IsLedger l → AreInOrder l (segment_piece plan waits ops ∷ earlier) → IsSettledFor l op.act → AreInOrder l (segment_piece plan waits (ops ++ op ∷ []) ∷ earlier)
+  pub op_in_order : IsLedger l → AreInOrder l (segment_piece plan waits ops ∷ earlier) → IsSettledFor l op.act
+      → AreInOrder l (segment_piece plan waits (ops ++ op ∷ []) ∷ earlier)
   op_in_order is order settled =
       segments_keep_order l (segment_piece plan waits ops) (segment_piece plan waits (ops ++ op ∷ [])) earlier is order (record {
         segment = refl;
@@ -96,7 +104,8 @@ same_parts x y earlier e j h = (
   h.0,
   h.1,
   ⊎_elim
-      (λ here. ap (λ p. (piece_at (y ∷ earlier) p).job) here ∙ ap (λ (z : Piece). z.job) (at_new y earlier) ∙ e ∙ sym (ap (λ (z : Piece). z.job) (at_new x earlier)) ∙ ap (λ p. (piece_at (x ∷ earlier) p).job) (sym here) ∙ h.2)
+      (λ here. ap (λ p. (piece_at (y ∷ earlier) p).job) here ∙ ap (λ (z : Piece). z.job) (at_new y earlier) ∙ e
+      ∙ sym (ap (λ (z : Piece). z.job) (at_new x earlier)) ∙ ap (λ p. (piece_at (x ∷ earlier) p).job) (sym here) ∙ h.2)
       (λ ne. ap (λ (z : Piece). z.job) (at_old y earlier h.0 ne) ∙ sym (ap (λ (z : Piece). z.job) (at_old x earlier h.0 ne)) ∙ h.2)
       (cases_eq h.0 (length earlier)),
 )
@@ -120,7 +129,8 @@ added d e op a = λ i. record { segments = sym-segments i; jobs = sym-jobs i; wa
     sym-ops : d.ops ++ op ∷ [] ≡ e.ops
     sym-ops = sym a.ops
 
-module _ (x : Outline) (small : x.plan.cells < 2 ^ 32) (s t : ScriptState) (d : Draft) (op : Op) (was : IsPlanned x s d) (fits : OpFits x.plan op) (stands : ActStands op.act (cells_of x.plan d)) where
+module _ (x : Outline) (small : x.plan.cells < 2 ^ 32) (s t : ScriptState) (d : Draft) (op : Op) (was : IsPlanned x s d) (fits : OpFits x.plan op)
+    (stands : ActStands op.act (cells_of x.plan d)) where
   abbrev e : Draft
   e = with_op d op
 
@@ -130,14 +140,16 @@ module _ (x : Outline) (small : x.plan.cells < 2 ^ 32) (s t : ScriptState) (d : 
   fit_ops : All (OpFits x.plan) e.ops
   fit_ops = All-push (OpFits x.plan) d.ops op was.fitting.ops fits
 
-  operation_planned : StaysOrdered x s t d e → AllHeld x.starts t (op_cells x.plan op (cells_of x.plan d)) → AddsOutput x.plan op (cells_of x.plan d) s t → IsPlanned x t e
+  operation_planned : StaysOrdered x s t d e → AllHeld x.starts t (op_cells x.plan op (cells_of x.plan d)) → AddsOutput x.plan op (cells_of x.plan d) s t
+      → IsPlanned x t e
   operation_planned order held tell = record {
     ordered = record {
       count = order.count;
       before = order.before;
       ledger = order.ledger;
       pieces = order.pieces;
-      parts = λ j pos le. same_parts (segment_piece x.plan d.waits d.ops) (segment_piece x.plan d.waits e.ops) (closed_pieces x.plan d) refl j (was.ordered.parts j pos le);
+      parts = λ j pos le. same_parts (segment_piece x.plan d.waits d.ops) (segment_piece x.plan d.waits e.ops) (closed_pieces x.plan d) refl j
+          (was.ordered.parts j pos le);
       framed = (segment_framed x.plan small d.waits e.ops (cells_closed x.plan d) fit_ops, was.ordered.framed.1);
     };
     fitting = record {
@@ -154,14 +166,18 @@ module _ (x : Outline) (small : x.plan.cells < 2 ^ 32) (s t : ScriptState) (d : 
     standing = record {
       closed = was.standing.closed;
       ops = ops_stand-append x.plan d.ops op (cells_closed x.plan d) was.standing.ops stands;
-      contents = λ c below alive. subst (λ cells. Rattle.kernel_exec.specs.Layout.Holds cells (Rattle.plan_laws.specs.Binds.bind_of_container x.starts t c) (t.contents c)) (sym cells_are) (held c below alive);
+      contents = λ c below alive. subst (λ cells. Rattle.kernel_exec.specs.Layout.Holds cells (Rattle.plan_laws.specs.Binds.bind_of_container x.starts t c)
+          (t.contents c)) (sym cells_are) (held c below alive);
       within = order.within;
     };
     output = record {
       lines = tell.lines ∙ ap (λ l. l ++ op_line x.plan op (cells_of x.plan d)) was.output.lines
           ∙ append_assoc x.begun.lines (output_of x.plan d).lines (op_line x.plan op (cells_of x.plan d))
-          ∙ ap (λ l. x.begun.lines ++ l) (append_assoc (Rattle.plan_laws.specs.Drafts.output_closed x.plan d).lines (ops_lines x.plan d.ops (cells_closed x.plan d)) (op_line x.plan op (cells_of x.plan d)) ∙ ap (λ l. (Rattle.plan_laws.specs.Drafts.output_closed x.plan d).lines ++ l)
-          (ap (λ l. ops_lines x.plan d.ops (cells_closed x.plan d) ++ l) (sym (append-nil (op_line x.plan op (cells_of x.plan d)))) ∙ sym (ops_lines-append x.plan d.ops (op ∷ []) (cells_closed x.plan d))));
+          ∙ ap (λ l. x.begun.lines ++ l) (append_assoc (Rattle.plan_laws.specs.Drafts.output_closed x.plan d).lines
+          (ops_lines x.plan d.ops (cells_closed x.plan d)) (op_line x.plan op (cells_of x.plan d))
+          ∙ ap (λ l. (Rattle.plan_laws.specs.Drafts.output_closed x.plan d).lines ++ l)
+          (ap (λ l. ops_lines x.plan d.ops (cells_closed x.plan d) ++ l) (sym (append-nil (op_line x.plan op (cells_of x.plan d))))
+          ∙ sym (ops_lines-append x.plan d.ops (op ∷ []) (cells_closed x.plan d))));
       refused = let r = was.output.refused in let q = tell.refused in let a = ops_refused-append x.plan d.ops (op ∷ []) (cells_closed x.plan d) in omega arith;
       traps = tell.traps ∙ was.output.traps;
     };

@@ -14,7 +14,8 @@ use Rattle.frame_core.proofs.Framing.{parts_keep_to_touches}
 use Rattle.frame_core.proofs.Touching.{writes_read}
 use Rattle.plan_laws.specs.Drafts.{part_piece}
 
-pub part_framed : (plan : Plan) (j : ℕ) (job : JobPlan) (kernel : Kernel) → job_at plan j ≡ Some job → kernel_of plan job ≡ Some kernel → IsChecked kernel → JobFits plan job kernel
+pub part_framed : (plan : Plan) (j : ℕ) (job : JobPlan) (kernel : Kernel) → job_at plan j ≡ Some job → kernel_of plan job ≡ Some kernel → IsChecked kernel
+    → JobFits plan job kernel
     → (i : ℕ) (before : Cells) → IsFramed (part_piece plan j i) before
 part_framed plan j job kernel has has_kernel checked fits i before =
     let f = parts_keep_to_touches plan j i job kernel has has_kernel checked fits in

@@ -58,10 +58,12 @@ seen (Value.Slice n from len) c = Elements (value_elements (Value.Slice n from l
 seen (Value.View n number) c = Elements (elements c)
 seen (Value.Handle jobs) c = c
 
-pub seen_holds : (v : Value) (start : ℕ) (cells : ℕ → Rattle.std.specs.Prelude.ℤ) (c : Contents) → IsSeen v c → Holds cells (bind_of start c) c → Holds cells (bind_for v start c) (seen v c)
+pub seen_holds : (v : Value) (start : ℕ) (cells : ℕ → Rattle.std.specs.Prelude.ℤ) (c : Contents) → IsSeen v c → Holds cells (bind_of start c) c
+    → Holds cells (bind_for v start c) (seen v c)
 seen_holds Value.Dead start cells c u h = absurd u
 seen_holds (Value.Whole n) start cells c u h = h
-seen_holds (Value.Slice n from len) start cells (Elements xs) u h = (slice_is_part (record { start = start; len = length xs }) from len u).reads cells (Elements xs) h
+seen_holds (Value.Slice n from len) start cells (Elements xs) u h = (slice_is_part (record { start = start; len = length xs }) from len u).reads cells
+    (Elements xs) h
 seen_holds (Value.Slice n from len) start cells (Single z) u h = absurd u
 seen_holds (Value.Slice n from len) start cells (Items cap xs) u h = absurd u
 seen_holds (Value.Slice n from len) start cells (Pairs cap ps) u h = absurd u
@@ -128,10 +130,16 @@ pub allowed : (s : ScriptState) (name : ℕ) (writes : Bool) → access s name (
 unfolding first_some
 allowed s name writes e =
     let b = by (is_alive s (s.values name)) (is_stale s (s.values name)) (pending s nobody (need_of s name writes ∷ [])) e in
-    let zero_is : greatest (blocking s.book s.uses nobody (need_of s name writes ∷ [])) s.book.count ≡ 0 = none_is (greatest (blocking s.book s.uses nobody (need_of s name writes ∷ [])) s.book.count) b.1 in
-    record { alive = b.0; none = λ j pos le. or_false_left (blockers s.book (s.uses (container_at s name)) nobody writes j) false (greatest_none (blocking s.book s.uses nobody (need_of s name writes ∷ [])) s.book.count zero_is j pos le) }
+    let zero_is : greatest (blocking s.book s.uses nobody (need_of s name writes ∷ [])) s.book.count ≡ 0 =
+    none_is (greatest (blocking s.book s.uses nobody (need_of s name writes ∷ [])) s.book.count) b.1 in
+    record {
+      alive = b.0;
+      none = λ j pos le. or_false_left (blockers s.book (s.uses (container_at s name)) nobody writes j) false
+          (greatest_none (blocking s.book s.uses nobody (need_of s name writes ∷ [])) s.book.count zero_is j pos le);
+    }
   where
-    by : (a o : Bool) (p : Option Refused) → first_some (option_map (refused Disposed) (cond (not a) (Some name) None) ∷ option_map (refused StaleView) (cond o (Some name) None) ∷ p ∷ []) ≡ None → (a ≡ true) × (p ≡ None)
+    by : (a o : Bool) (p : Option Refused) → first_some (option_map (refused Disposed) (cond (not a) (Some name) None)
+        ∷ option_map (refused StaleView) (cond o (Some name) None) ∷ p ∷ []) ≡ None → (a ≡ true) × (p ≡ None)
     by false o p e = cc
     by true true p e = cc
     by true false None e = (refl, refl)
@@ -153,7 +161,8 @@ happened b j e = by (b.completed j) (ancestors_in b nobody j) refl e
     by false true h e = absurd (no_ancestor b.deps b.count j h)
     by false false h e = absurd (not_both e refl)
 
-pub conflict_completed : (s : ScriptState) (name : ℕ) (writes : Bool) → IsKnown s → IsAllowed s name writes → (j : ℕ) → conflicts (s.uses (container_at s name)) writes j ≡ true → (s.uses (container_at s name)).users j ≡ true → s.book.completed j ≡ true
+pub conflict_completed : (s : ScriptState) (name : ℕ) (writes : Bool) → IsKnown s → IsAllowed s name writes → (j : ℕ)
+    → conflicts (s.uses (container_at s name)) writes j ≡ true → (s.uses (container_at s name)).users j ≡ true → s.book.completed j ≡ true
 conflict_completed s name writes known a j c u =
     let up = (known.uses (container_at s name)).users j u in
     happened s.book j (by (conflicts (s.uses (container_at s name)) writes j) (happens_before s.book nobody j) c (a.none j up.0 up.1))
@@ -190,7 +199,8 @@ prints_are_planned x g s line name d e small known was accepted u shown named ad
     changes_are_planned x small s (effect g line s (PrintOf name)) c (record { line = line; name = name; act = Print at }) d e was below alive
     (record { made = refl; alive = refl; uses = refl; range = refl; book = refl; others = λ k ne. refl; form = λ start. refl })
     (record {
-      reads = λ v r. let b = it_has (whole at false) v (or_none (Rattle.frame_core.specs.Touches.has_word (whole at false) v) r) in let lo = b.0 in let hi = b.1 in let from = w.from in let end = w.end in word_has x.starts s c v (record { from = omega arith; below = omega arith });
+      reads = λ v r. let b = it_has (whole at false) v (or_none (Rattle.frame_core.specs.Touches.has_word (whole at false) v) r) in let lo = b.0 in
+          let hi = b.1 in let from = w.from in let end = w.end in word_has x.starts s c v (record { from = omega arith; below = omega arith });
       unread = λ j u. conflict_completed s name false known a j (or_left ((s.uses c).writers j) (false && (s.uses c).users j) u) ((known.uses c).writers j u);
       unwritten = λ v j r u. absurd (not_both r refl);
     })
@@ -198,7 +208,8 @@ prints_are_planned x g s line name d e small known was accepted u shown named ad
     (seen (s.values name) (contents_at s name), h)
     whole_holds
     (record {
-      lines = ap (λ l. s.lines ++ l) (sym (ap (λ k. contents_line (name_of x.plan name) k) (contents_are_read at (cells_of x.plan d) (seen (s.values name) (contents_at s name)) h)
+      lines = ap (λ l. s.lines ++ l) (sym (ap (λ k. contents_line (name_of x.plan name) k)
+          (contents_are_read at (cells_of x.plan d) (seen (s.values name) (contents_at s name)) h)
           ∙ seen_line (name_of x.plan name) (s.values name) (contents_at s name) usable
           ∙ ap (λ n. print_line n (value_elements (s.values name) (contents_at s name)) (contents_at s name)) named));
       refused = omega arith;

@@ -70,7 +70,8 @@ refusals_are_planned x small g s st r name d e was pass refused below named add 
       count = order.count;
       before = order.before;
       ledger = order.ledger;
-      pieces = op_in_order x.plan (ledger_at x s d) d.waits d.ops op _ order.ledger order.pieces (record { reads = λ w h. absurd (not_both h refl); writes = λ w h. absurd (not_both h refl) });
+      pieces = op_in_order x.plan (ledger_at x s d) d.waits d.ops op _ order.ledger order.pieces
+          (record { reads = λ w h. absurd (not_both h refl); writes = λ w h. absurd (not_both h refl) });
       within = was.standing.within;
     }))
     was.standing.contents

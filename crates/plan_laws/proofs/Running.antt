@@ -118,10 +118,13 @@ noted_keeps own [] cells w lt = refl
 noted_keeps own (t ∷ more) cells w lt =
     let one : Cells = with_cell cells own (Rattle.std.proofs.Common.pos (length more + 1)) in
     with_cell-other (with_cell one (own + 1) (Rattle.std.proofs.Common.pos t.0)) (own + 2) (Rattle.std.proofs.Common.pos (trap_number t.1)) w (λ e. omega arith)
-    ∙ (with_cell-other one (own + 1) (Rattle.std.proofs.Common.pos t.0) w (λ e. omega arith) ∙ with_cell-other cells own (Rattle.std.proofs.Common.pos (length more + 1)) w (λ e. omega arith))
+    ∙ (with_cell-other one (own + 1) (Rattle.std.proofs.Common.pos t.0) w (λ e. omega arith)
+    ∙ with_cell-other cells own (Rattle.std.proofs.Common.pos (length more + 1)) w (λ e. omega arith))
 
-module _ (plan : Plan) (j : ℕ) (job : JobPlan) (kernel : Kernel) (has_job : job_at plan j ≡ Some job) (has_kernel : kernel_of plan job ≡ Some kernel) (checked : IsChecked kernel) (fits : JobFits plan job kernel) where
-  pub part_runs : (i : ℕ) (cells : Cells) → part_run plan j i cells ≡ at_indexes kernel job.binds.items full_steps (indexes_of job i).len (indexes_of job i).start cells
+module _ (plan : Plan) (j : ℕ) (job : JobPlan) (kernel : Kernel) (has_job : job_at plan j ≡ Some job) (has_kernel : kernel_of plan job ≡ Some kernel)
+    (checked : IsChecked kernel) (fits : JobFits plan job kernel) where
+  pub part_runs : (i : ℕ) (cells : Cells) → part_run plan j i cells ≡ at_indexes kernel job.binds.items full_steps (indexes_of job i).len
+      (indexes_of job i).start cells
   unfolding part_run
   part_runs i cells = ap (λ o. job_ran plan i o cells) has_job ∙ ap (λ k. part_ran job i k cells) has_kernel
 
@@ -158,7 +161,8 @@ module _ (plan : Plan) (j : ℕ) (job : JobPlan) (kernel : Kernel) (has_job : jo
         let sp = spans_by job.parallel job.cut.n job.cut.step i fits.cut.step.0 (omega arith) in
         let a : Cells = (go (indexes_before job i) 0 before).store in
         let b : Cells = cells_after (parts plan j i ++ earlier) in
-        let d = read_words_decide.at_many kernel job.binds.items full_steps span.len span.start a b checked fits.binds (λ w r. old.cells w (read_below span.start (span.start + span.len) w r)) in
+        let d = read_words_decide.at_many kernel job.binds.items full_steps span.len span.start a b checked fits.binds
+        (λ w r. old.cells w (read_below span.start (span.start + span.len) w r)) in
         let here : span.start ≡ 0 + indexes_before job i = sp.0 ∙ omega arith in
         record {
           cells = λ w lt.

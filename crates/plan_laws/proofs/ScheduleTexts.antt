@@ -28,7 +28,8 @@ module _ (g : Setting) (s : ScriptState) (line : ℕ) (runs : g.runs ≡ map run
   Is x o = (effect g line s x ≡ accepted g s o) × IsAcceptedSchedule g s o
 
   -- by what its `defer` is
-  has_no_defer : (job : Box NewJob Global) (d : Option (ℕ × ℕ)) (o : Schedule) → job.value.defer ≡ d → plain_of job.value d ≡ Some o → refusal g s (order.Schedule job) ≡ None
+  has_no_defer : (job : Box NewJob Global) (d : Option (ℕ × ℕ)) (o : Schedule) → job.value.defer ≡ d → plain_of job.value d ≡ Some o
+      → refusal g s (order.Schedule job) ≡ None
       → FitsAsValues g s (order.Schedule job) → HaveWidths g s (order.Schedule job) → Keeps (order.Schedule job) → Is (order.Schedule job) o
   has_no_defer job None o is e none fits widths forms =
       subst

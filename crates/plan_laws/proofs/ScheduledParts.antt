@@ -23,7 +23,9 @@ some_pieces false n step le = omega arith
 some_pieces true n step le = ⊎_elim
     (λ z. subst (λ k. 0 < count_of k step) (sym z) (omega arith))
     (λ ne. subst (λ k. 0 < k) (sym (cond-false (nat_eq n 0) 1 (div_ceil n step) (ne_eqb n 0 ne)))
-    (⊎_elim (λ z. let much : n ≤ div_ceil n step * step = (div_ceil_times n step (omega arith)).0 in let less : n ≤ 0 * step = subst (λ c. n ≤ c * step) z much in let zz : 0 * step ≡ 0 = grind arith in absurd (ne (omega arith))) (λ ne. omega arith) (cases_eq (div_ceil n step) 0)))
+    (⊎_elim (λ z. let much : n ≤ div_ceil n step * step = (div_ceil_times n step (omega arith)).0 in
+    let less : n ≤ 0 * step = subst (λ c. n ≤ c * step) z much in let zz : 0 * step ≡ 0 = grind arith in absurd (ne (omega arith))) (λ ne. omega arith)
+    (cases_eq (div_ceil n step) 0)))
     (cases_eq n 0)
 
 pub before_more : (xs : List JobPlan) (y : JobPlan) (j : ℕ) → j ≤ length xs → pieces_before (xs ++ y ∷ []) j ≡ pieces_before xs j
@@ -33,7 +35,8 @@ before_more (x ∷ xs) y (suc j) le = ap (λ k. names.pieces_of x + k) (before_m
 
 pub numbers_more : (m n : ℕ) → numbers_from m n ++ (m + n) ∷ [] ≡ numbers_from m (suc n)
 numbers_more m zero = let e : m + 0 ≡ m = omega arith in ap (λ k. k ∷ []) e
-numbers_more m (suc n) = let e : m + suc n ≡ suc m + n = omega arith in ap (λ k. m ∷ (numbers_from (suc m) n ++ k ∷ [])) e ∙ ap (λ ns. m ∷ ns) (numbers_more (suc m) n)
+numbers_more m (suc n) = let e : m + suc n ≡ suc m + n = omega arith in ap (λ k. m ∷ (numbers_from (suc m) n ++ k ∷ [])) e
+    ∙ ap (λ ns. m ∷ ns) (numbers_more (suc m) n)
 
 pub has_it : (ids : List JobId) (k : ℕ) (id : JobId) → k < length ids → names.has_job ids (get_or ids k id).0 ≡ true
 has_it [] k id lt = absurd (omega arith)

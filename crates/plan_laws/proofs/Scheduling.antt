@@ -58,7 +58,8 @@ use Rattle.plan_laws.proofs.Running.{pieces_run_as_one, all_indexes_run, words_r
 use Rattle.frame_core.proofs.Touched.{touched_words_are_used}
 use Rattle.plan_laws.proofs.ScheduledParts.{some_pieces, before_more, numbers_more, has_it, part_over, parts_over, part_there, traps_renumbered}
 
-module _ (x : Outline) (small : x.plan.cells < 2 ^ 32) (s : ScriptState) (d : Draft) (segment : Segment) (job : JobPlan) (k : Kernel) (ws : List ℕ) (args : List Arg) (deps : Jobs) (uses : ℕ → Uses)
+module _ (x : Outline) (small : x.plan.cells < 2 ^ 32) (s : ScriptState) (d : Draft) (segment : Segment) (job : JobPlan) (k : Kernel) (ws : List ℕ)
+    (args : List Arg) (deps : Jobs) (uses : ℕ → Uses)
     (known : IsKnown s) (was : IsPlanned x s d) (sj : IsScheduledJob x s d job k ws args deps uses) where
   abbrev n : ℕ
   n = length d.jobs
@@ -96,15 +97,30 @@ module _ (x : Outline) (small : x.plan.cells < 2 ^ 32) (s : ScriptState) (d : Dr
   -- a touched word of a bind is one of an argument's container
   of_bound : (w : ℕ) → IsBound k.params.items job.binds.items w → IsOfArgument x s (is_given s k.params.items args) w
   of_bound w b =
-      let a = argument_word x.starts s k.params.items ws args b.number w b.bind args_fit (ap (λ bs. slice_get bs b.number) (sym sj.binds) ∙ b.has_bind) b.word in
-      record { container = Rattle.frame_ast.specs.States.container_at s a.name; below = a.below; alive = a.alive; is_of = any_by s k.params.items args b.number a.name _ b.param b.has_param a.has refl; word = word_has x.starts s _ w a.word }
+      let a = argument_word x.starts s k.params.items ws args b.number w b.bind args_fit
+      (ap (λ bs. slice_get bs b.number) (sym sj.binds) ∙ b.has_bind) b.word in
+      record {
+        container = Rattle.frame_ast.specs.States.container_at s a.name;
+        below = a.below;
+        alive = a.alive;
+        is_of = any_by s k.params.items args b.number a.name _ b.param b.has_param a.has refl;
+        word = word_has x.starts s _ w a.word;
+      }
 
   of_written : (w : ℕ) → IsBoundToWrite k.params.items job.binds.items w → IsOfArgument x s (is_written s k.params.items args) w
   of_written w b =
-      let a = argument_word x.starts s k.params.items ws args b.bound.number w b.bound.bind args_fit (ap (λ bs. slice_get bs b.bound.number) (sym sj.binds) ∙ b.bound.has_bind) b.bound.word in
-      record { container = Rattle.frame_ast.specs.States.container_at s a.name; below = a.below; alive = a.alive; is_of = writes_by s k.params.items args b.bound.number a.name _ b.bound.param b.bound.has_param a.has refl b.writes; word = word_has x.starts s _ w a.word }
+      let a = argument_word x.starts s k.params.items ws args b.bound.number w b.bound.bind args_fit
+      (ap (λ bs. slice_get bs b.bound.number) (sym sj.binds) ∙ b.bound.has_bind) b.bound.word in
+      record {
+        container = Rattle.frame_ast.specs.States.container_at s a.name;
+        below = a.below;
+        alive = a.alive;
+        is_of = writes_by s k.params.items args b.bound.number a.name _ b.bound.param b.bound.has_param a.has refl b.writes;
+        word = word_has x.starts s _ w a.word;
+      }
 
-  own_is : (i w : ℕ) → i < N → has_word (record { from = own_word x.plan n i; end = own_word x.plan n i + 3; written = true }) w ≡ true → is_own_word x.plan (suc n) w ≡ true
+  own_is : (i w : ℕ) → i < N → has_word (record { from = own_word x.plan n i; end = own_word x.plan n i + 3; written = true }) w ≡ true
+      → is_own_word x.plan (suc n) w ≡ true
   own_is i w lt e =
       let b = it_has (record { from = own_word x.plan n i; end = own_word x.plan n i + 3; written = true }) w e in
       let lo = b.0 in
@@ -113,7 +129,8 @@ module _ (x : Outline) (small : x.plan.cells < 2 ^ 32) (s : ScriptState) (d : Dr
       has_it_between (own_word x.plan n 0) (own_word x.plan n (pieces_in (job_at x.plan n))) w (omega arith) (omega arith)
     where
       has_it_between : (lo hi w : ℕ) → lo ≤ w → w < hi → (Rattle.std.specs.Prelude.nat_le lo w && nat_lt w hi) ≡ true
-      has_it_between lo hi w le lt = λ i. (let f : Rattle.std.specs.Prelude.nat_le lo w ≡ true = grind arith in f) i && (let f : nat_lt w hi ≡ true = grind arith in f) i
+      has_it_between lo hi w le lt = λ i. (let f : Rattle.std.specs.Prelude.nat_le lo w ≡ true = grind arith in f) i
+          && (let f : nat_lt w hi ≡ true = grind arith in f) i
 
   enrolled : IsEnrolled x s u n job k.params.items args deps
   enrolled = record {
@@ -130,19 +147,23 @@ module _ (x : Outline) (small : x.plan.cells < 2 ^ 32) (s : ScriptState) (d : Dr
     used_alive = λ c e. used k.params.items ws args c args_fit e;
     readers = sj.readers_free;
     writers_too = sj.writers_free;
-    reads = λ i w lt e. ⊎_elim (λ o. inl (own_is i w lt o)) (λ b. inr (of_bound w (touched_words_are_used.bound job.parallel k.params.items job.binds.items _ _ w b)))
+    reads = λ i w lt e. ⊎_elim (λ o. inl (own_is i w lt o)) (λ b. inr (of_bound w
+        (touched_words_are_used.bound job.parallel k.params.items job.binds.items _ _ w b)))
         (read_by x n job k has_job sj.has_kernel sj.fits i w e);
-    writes = λ i w lt e. ⊎_elim (λ o. inl (own_is i w lt o)) (λ b. inr (of_written w (touched_words_are_used.bound_to_write job.parallel k.params.items job.binds.items _ _ w b)))
+    writes = λ i w lt e. ⊎_elim (λ o. inl (own_is i w lt o)) (λ b. inr (of_written w
+        (touched_words_are_used.bound_to_write job.parallel k.params.items job.binds.items _ _ w b)))
         (written_by x n job k has_job sj.has_kernel sj.fits i w e);
   }
     where
-      named : (a : Arg) (p : Rattle.frame_ast.specs.declared.kernel.Param.Param) (c : ℕ) → ArgFits s p a → Rattle.frame_ast.specs.Fitting.is_of s a c ≡ true → (c < s.made) × (s.alive c ≡ true)
+      named : (a : Arg) (p : Rattle.frame_ast.specs.declared.kernel.Param.Param) (c : ℕ) → ArgFits s p a → Rattle.frame_ast.specs.Fitting.is_of s a c ≡ true
+          → (c < s.made) × (s.alive c ≡ true)
       named (Rattle.frame_ast.specs.declared.script.Arg.TheVariants.Name m) p c f e =
           let at = Rattle.std.proofs.Common.eqb-true c (Rattle.frame_ast.specs.States.container_at s m) e in
           (subst (λ c. c < s.made) (sym at) f.0, subst (λ c. s.alive c ≡ true) (sym at) f.1)
       named (Rattle.frame_ast.specs.declared.script.Arg.TheVariants.Number z) p c f e = absurd (not_both e refl)
 
-      used : (ps : List Rattle.frame_ast.specs.declared.kernel.Param.Param) (ws : List ℕ) (as_ : List Arg) (c : ℕ) → ArgsFit s ps ws as_ → is_given s ps as_ c ≡ true → (c < s.made) × (s.alive c ≡ true)
+      used : (ps : List Rattle.frame_ast.specs.declared.kernel.Param.Param) (ws : List ℕ) (as_ : List Arg) (c : ℕ) → ArgsFit s ps ws as_
+          → is_given s ps as_ c ≡ true → (c < s.made) × (s.alive c ≡ true)
       used [] [] [] c f e = absurd (not_both e refl)
       used [] [] (a ∷ as_) c f e = absurd f
       used [] (q ∷ ws) as_ c f e = absurd f
@@ -150,7 +171,8 @@ module _ (x : Outline) (small : x.plan.cells < 2 ^ 32) (s : ScriptState) (d : Dr
       used (p ∷ ps) (q ∷ ws) [] c f e = absurd f
       used (p ∷ ps) (q ∷ ws) (a ∷ as_) c f e = by (Rattle.frame_ast.specs.Fitting.is_of s a c) refl (used ps ws as_ c f.1) e
         where
-          by : (b : Bool) → Rattle.frame_ast.specs.Fitting.is_of s a c ≡ b → (is_given s ps as_ c ≡ true → (c < s.made) × (s.alive c ≡ true)) → (b || is_given s ps as_ c) ≡ true → (c < s.made) × (s.alive c ≡ true)
+          by : (b : Bool) → Rattle.frame_ast.specs.Fitting.is_of s a c ≡ b → (is_given s ps as_ c ≡ true → (c < s.made) × (s.alive c ≡ true))
+              → (b || is_given s ps as_ c) ≡ true → (c < s.made) × (s.alive c ≡ true)
           by true h more e = named a p c f.0 h
           by false h more e = more e
 
@@ -158,7 +180,8 @@ module _ (x : Outline) (small : x.plan.cells < 2 ^ 32) (s : ScriptState) (d : Dr
   m = ledger_of x.plan x.starts (jobs_before x) (suc n) u
 
   order : IsLedger m × AreInOrder m (parts x.plan n N ++ pieces_of x.plan d)
-  order = enrolled_jobs_are_in_order x s u d job k.params.items args deps N known was enrolled (omega arith) (parts_are_apart x n job k has_job sj.has_kernel sj.fits)
+  order = enrolled_jobs_are_in_order x s u d job k.params.items args deps N known was enrolled (omega arith)
+      (parts_are_apart x n job k has_job sj.has_kernel sj.fits)
 
   no_depends : (j : ℕ) → m.depends 0 j ≡ false
   no_depends j = by (nat_lt 0 j)
@@ -198,40 +221,48 @@ module _ (x : Outline) (small : x.plan.cells < 2 ^ 32) (s : ScriptState) (d : Dr
 
   apart : AreApartBelow x.starts s x.plan.cells
   apart = record {
-    apart = λ c e w bc be ac ae wc we. words_apart x.plan x.starts (jobs_before x) n s was.ordered.ledger c e w (alive_is_live s c bc ac) (alive_is_live s e be ae) (word_has x.starts s c w wc) (word_has x.starts s e w we);
+    apart = λ c e w bc be ac ae wc we. words_apart x.plan x.starts (jobs_before x) n s was.ordered.ledger c e w (alive_is_live s c bc ac)
+        (alive_is_live s e be ae) (word_has x.starts s c w wc) (word_has x.starts s e w we);
     below = λ c w b a word. let le = was.standing.within c (alive_is_live s c b a) in let lt = word.below in omega arith;
   }
 
   leaves : JobLeaves x.starts s k.params.items ws args before after ran.store
   leaves =
-      subst (λ v. JobLeaves x.starts s k.params.items ws args before after (on_contents k v job.cut.n 0 (arguments_of s k.params.items args)).store) (ap widths (sym sj.binds) ∙ sj.widths_are)
-      (jobs_leave x.starts s k ws args sj.defer job.cut.n x.plan.cells before after sj.checked (subst (Rattle.kernel_exec.specs.Conditions.BindsFit k) sj.binds sj.fits.binds) sj.args_fit widths_long sj.unshared was.standing.contents apart
+      subst (λ v. JobLeaves x.starts s k.params.items ws args before after (on_contents k v job.cut.n 0 (arguments_of s k.params.items args)).store)
+      (ap widths (sym sj.binds) ∙ sj.widths_are)
+      (jobs_leave x.starts s k ws args sj.defer job.cut.n x.plan.cells before after sj.checked
+      (subst (Rattle.kernel_exec.specs.Conditions.BindsFit k) sj.binds sj.fits.binds) sj.args_fit widths_long sj.unshared was.standing.contents apart
       (λ w lt. after_is w lt ∙ ap (λ bs. (at_indexes k bs full_steps job.cut.n 0 before).store w) sj.binds))
 
   held : AllHeld x.starts u after
   held =
-      let h = left_contents_are_held x.starts s k.params.items ws args sj.defer before after ran.store was.standing.contents sj.args_fit widths_long sj.unshared leaves in
+      let h = left_contents_are_held x.starts s k.params.items ws args sj.defer before after ran.store was.standing.contents sj.args_fit widths_long sj.unshared
+      leaves in
       let is = all_hold x.starts s k.params.items args ran.store s.contents in
-      let at : leave_all k.params.items args ran.store s ≡ record s { contents = (leave_all k.params.items args ran.store s).contents } = is ∙ ap (λ f. record s { contents = f }) (sym (ap (λ (t : ScriptState). t.contents) is)) in
+      let at : leave_all k.params.items args ran.store s ≡ record s { contents = (leave_all k.params.items args ran.store s).contents } = is
+      ∙ ap (λ f. record s { contents = f }) (sym (ap (λ (t : ScriptState). t.contents) is)) in
       λ c below alive. subst (λ t. AllHeld x.starts t after) at h c below alive
 
   -- before each piece
   parts_stand : (i : ℕ) → i < N → (contents : List Contents) × StandFor job.binds.items (cells_after (parts x.plan n i ++ pieces_of x.plan d)) contents
   parts_stand i lt =
       let first = pieces_run_as_one x.plan n job k (pieces_of x.plan d) has_job sj.has_kernel sj.checked sj.fits i (omega arith) in
-      let given = subst (λ bs. StandFor bs before (arguments_of s k.params.items args)) (sym sj.binds) (arguments_stand x.starts s before k.params.items ws args sj.defer was.standing.contents sj.args_fit widths_long) in
+      let given = subst (λ bs. StandFor bs before (arguments_of s k.params.items args)) (sym sj.binds)
+      (arguments_stand x.starts s before k.params.items ws args sj.defer was.standing.contents sj.args_fit widths_long) in
       let run = words_run_as_contents k job.binds.items (indexes_before job i) 0 before (arguments_of s k.params.items args) sj.checked sj.fits.binds given in (
         (on_contents k (widths job.binds.items) (indexes_before job i) 0 (arguments_of s k.params.items args)).store,
         record {
           count = run.store.count;
-          each = λ y b h. still b (at_indexes k job.binds.items full_steps (indexes_before job i) 0 before).store (cells_after (parts x.plan n i ++ pieces_of x.plan d)) _ (run.store.each y b h)
+          each = λ y b h. still b (at_indexes k job.binds.items full_steps (indexes_before job i) 0 before).store
+              (cells_after (parts x.plan n i ++ pieces_of x.plan d)) _ (run.store.each y b h)
               (λ w is. first.cells w (let le = sj.fits.within y b h in let lt = is.below in omega arith));
         },
       )
 
   traps_are : parts_traps x.plan (pieces_of x.plan d) n N ≡ map (job_trap n) ran.traps
   traps_are =
-      let given = subst (λ bs. StandFor bs before (arguments_of s k.params.items args)) (sym sj.binds) (arguments_stand x.starts s before k.params.items ws args sj.defer was.standing.contents sj.args_fit widths_long) in
+      let given = subst (λ bs. StandFor bs before (arguments_of s k.params.items args)) (sym sj.binds)
+      (arguments_stand x.starts s before k.params.items ws args sj.defer was.standing.contents sj.args_fit widths_long) in
       let run = words_run_as_contents k job.binds.items job.cut.n 0 before (arguments_of s k.params.items args) sj.checked sj.fits.binds given in
       (pieces_run_as_one x.plan n job k (pieces_of x.plan d) has_job sj.has_kernel sj.checked sj.fits N (omega arith)).traps
       ∙ ap (λ c. map (job_trap n) (at_indexes k job.binds.items full_steps c 0 before).traps) (all_indexes_run x.plan job k sj.fits)
@@ -260,13 +291,18 @@ module _ (x : Outline) (small : x.plan.cells < 2 ^ 32) (s : ScriptState) (d : Dr
     told_is : output_closed x.plan e ≡ with_traps (map (job_trap n) ran.traps) (output_of x.plan d)
     told_is =
         output_onto-one x.plan [] no_output d.segments segment
-        ∙ (λ i. with_traps (started_traps x.plan (here_is i) (starts i)) (with_ops x.plan (ops_were i) (cells_after (closed_pieces x.plan d)) (output_closed x.plan d)))
+        ∙ (λ i. with_traps (started_traps x.plan (here_is i) (starts i)) (with_ops x.plan (ops_were i) (cells_after (closed_pieces x.plan d))
+        (output_closed x.plan d)))
         ∙ ap (λ ts. with_traps ts (output_of x.plan d))
-        (ap (λ j. parts_traps x.plan (pieces_of x.plan d) j (pieces_in (job_at x.plan j))) down ∙ ap (λ o. parts_traps x.plan (pieces_of x.plan d) n (pieces_in o)) has_job ∙ traps_are)
+        (ap (λ j. parts_traps x.plan (pieces_of x.plan d) j (pieces_in (job_at x.plan j))) down
+        ∙ ap (λ o. parts_traps x.plan (pieces_of x.plan d) n (pieces_in o)) has_job ∙ traps_are)
 
     framed_parts : (i : ℕ) → AreFramed (parts x.plan n i ++ pieces_of x.plan d)
     framed_parts zero = was.ordered.framed
-    framed_parts (suc i) = (part_framed x.plan n job k has_job sj.has_kernel sj.checked sj.fits i (cells_after (parts x.plan n i ++ pieces_of x.plan d)), framed_parts i)
+    framed_parts (suc i) = (
+      part_framed x.plan n job k has_job sj.has_kernel sj.checked sj.fits i (cells_after (parts x.plan n i ++ pieces_of x.plan d)),
+      framed_parts i,
+    )
 
     jobs_fit : (j : ℕ) (it : JobPlan) → slice_get e.jobs j ≡ Some it → (q : Kernel) × (kernel_of x.plan it ≡ Some q) × JobFits x.plan it q
     jobs_fit j it h = ⊎_elim (λ l. was.fitting.jobs_fit j it l.1) (λ r. one (r.0) r.2) (get_either d.jobs (job ∷ []) j it h)
@@ -282,7 +318,8 @@ module _ (x : Outline) (small : x.plan.cells < 2 ^ 32) (s : ScriptState) (d : Dr
         (get_either d.jobs (job ∷ []) j it h)
       where
         one : (i : ℕ) → j ≡ length d.jobs + i → slice_get (job ∷ []) i ≡ Some it → it.first.0 ≡ pieces_before e.jobs j
-        one zero at h = ap (λ (q : JobPlan). q.first.0) (sym (some_is h)) ∙ sj.first ∙ sym (before_more d.jobs job n (omega arith)) ∙ ap (pieces_before e.jobs) (let a : n ≡ j = omega arith in a)
+        one zero at h = ap (λ (q : JobPlan). q.first.0) (sym (some_is h)) ∙ sj.first ∙ sym (before_more d.jobs job n (omega arith))
+            ∙ ap (pieces_before e.jobs) (let a : n ≡ j = omega arith in a)
         one (suc i) at h = absurd (none_some h)
 
     -- it depends on jobs before it
@@ -290,7 +327,8 @@ module _ (x : Outline) (small : x.plan.cells < 2 ^ 32) (s : ScriptState) (d : Dr
     deps_before = (
       sj.fits.deps.0,
       λ i id lt.
-          let on = later_in (jobs_before x) deps (get_or job.deps.items i id).0 (sym (sj.deps_are (get_or job.deps.items i id).0) ∙ has_it job.deps.items i id lt) in
+          let on = later_in (jobs_before x) deps (get_or job.deps.items i id).0
+          (sym (sj.deps_are (get_or job.deps.items i id).0) ∙ has_it job.deps.items i id lt) in
           let up = (sj.deps_up (jobs_before x + (get_or job.deps.items i id).0) on.1).1 in
           let count = was.ordered.count in
           omega arith,
@@ -300,7 +338,8 @@ module _ (x : Outline) (small : x.plan.cells < 2 ^ 32) (s : ScriptState) (d : Dr
     deps_fit j it h = ⊎_elim (λ l. was.fitting.deps j it l.1) (λ r. one r.0 r.1 r.2) (get_either d.jobs (job ∷ []) j it h)
       where
         one : (i : ℕ) → j ≡ length d.jobs + i → slice_get (job ∷ []) i ≡ Some it → AreJobsUpTo j it.deps.items
-        one zero at h = subst (λ (q : JobPlan). AreJobsUpTo j q.deps.items) (some_is h) (subst (λ k. AreJobsUpTo k job.deps.items) (let a : n ≡ j = omega arith in a) deps_before)
+        one zero at h = subst (λ (q : JobPlan). AreJobsUpTo j q.deps.items) (some_is h)
+            (subst (λ k. AreJobsUpTo k job.deps.items) (let a : n ≡ j = omega arith in a) deps_before)
         one (suc i) at h = absurd (none_some h)
 
     planned : IsPlanned x u e
@@ -313,9 +352,11 @@ module _ (x : Outline) (small : x.plan.cells < 2 ^ 32) (s : ScriptState) (d : Dr
             ledger = subst (λ c. IsLedger (ledger_of x.plan x.starts (jobs_before x) c u)) (sym len) order.0;
             pieces = subst (λ c. AreInOrder (ledger_of x.plan x.starts (jobs_before x) c u) (segment_piece x.plan [] [] ∷ closed_pieces x.plan e)) (sym len)
                 (subst (λ ps. AreInOrder m (segment_piece x.plan [] [] ∷ ps)) (sym pieces_are) order_next);
-            parts = λ j pos le. subst (λ ps. HasPieceOf (segment_piece x.plan [] [] ∷ ps) j) (sym pieces_are) (part_over (segment_piece x.plan [] []) (parts x.plan n N ++ pieces_of x.plan d) j
+            parts = λ j pos le. subst (λ ps. HasPieceOf (segment_piece x.plan [] [] ∷ ps) j) (sym pieces_are)
+                (part_over (segment_piece x.plan [] []) (parts x.plan n N ++ pieces_of x.plan d) j
                 (⊎_elim
-                (λ at. subst (HasPieceOf (parts x.plan n N ++ pieces_of x.plan d)) (sym at) (part_there x.plan n N (pieces_of x.plan d) (some_pieces job.parallel job.cut.n job.cut.step sj.fits.cut.step.0)))
+                (λ at. subst (HasPieceOf (parts x.plan n N ++ pieces_of x.plan d)) (sym at)
+                (part_there x.plan n N (pieces_of x.plan d) (some_pieces job.parallel job.cut.n job.cut.step sj.fits.cut.step.0)))
                 (λ ne. parts_over x.plan n N (pieces_of x.plan d) j (was.ordered.parts j pos (omega arith)))
                 (cases_eq j (suc n))));
             framed = subst (λ ps. AreFramed (segment_piece x.plan [] [] ∷ ps)) (sym pieces_are)
@@ -327,18 +368,26 @@ module _ (x : Outline) (small : x.plan.cells < 2 ^ 32) (s : ScriptState) (d : Dr
             jobs_fit = jobs_fit;
             firsts = firsts;
             deps = deps_fit;
-            starts = starts_from-one d.segments segment ∙ (λ i. was.fitting.starts i ++ number_in (starts i)) ∙ (let one : suc n ≡ 1 + n = omega arith in ap (λ c. numbers_from 1 n ++ c ∷ []) one) ∙ numbers_more 1 n ∙ ap (numbers_from 1) (sym len);
-            closed = segments_fit-one x.plan 0 d.segments segment was.fitting.closed (subst (λ k. SegmentFits x.plan k segment) (sym (jobs_started d.segments n was.fitting.starts))
-                (record { waits = subst (AreJobsUpTo n) (sym waits_were) was.fitting.waits; ops = subst (All (OpFits x.plan)) (sym ops_were) was.fitting.ops }));
+            starts = starts_from-one d.segments segment ∙ (λ i. was.fitting.starts i ++ number_in (starts i))
+                ∙ (let one : suc n ≡ 1 + n = omega arith in ap (λ c. numbers_from 1 n ++ c ∷ []) one) ∙ numbers_more 1 n ∙ ap (numbers_from 1) (sym len);
+            closed = segments_fit-one x.plan 0 d.segments segment was.fitting.closed
+                (subst (λ k. SegmentFits x.plan k segment) (sym (jobs_started d.segments n was.fitting.starts))
+                (record {
+                  waits = subst (AreJobsUpTo n) (sym waits_were) was.fitting.waits;
+                  ops = subst (All (OpFits x.plan)) (sym ops_were) was.fitting.ops;
+                }));
             waits = (tt, All-nothing _);
             ops = All-nothing (OpFits x.plan);
           };
           standing = record {
-            closed = closed_stand-one x.plan [] d.segments segment was.standing.closed (subst (λ ops. OpsStand x.plan ops (cells_after (closed_pieces x.plan d))) (sym ops_were) was.standing.ops)
+            closed = closed_stand-one x.plan [] d.segments segment was.standing.closed
+                (subst (λ ops. OpsStand x.plan ops (cells_after (closed_pieces x.plan d))) (sym ops_were) was.standing.ops)
                 (subst (λ ps. StartedStand x.plan ps segment.starts) (sym here_is) (subst (StartedStand x.plan (pieces_of x.plan d)) (sym starts)
-                (subst (λ j. PartsStand x.plan (pieces_of x.plan d) j (job_at x.plan j)) (sym down) (subst (PartsStand x.plan (pieces_of x.plan d) n) (sym has_job) parts_stand))));
+                (subst (λ j. PartsStand x.plan (pieces_of x.plan d) j (job_at x.plan j)) (sym down)
+                (subst (PartsStand x.plan (pieces_of x.plan d) n) (sym has_job) parts_stand))));
             ops = tt;
-            contents = λ c below alive. subst (λ ps. Holds (cells_after ps) (bind_of_container x.starts u c) (u.contents c)) (sym pieces_are) (held c below alive);
+            contents = λ c below alive. subst (λ ps. Holds (cells_after ps) (bind_of_container x.starts u c) (u.contents c)) (sym pieces_are)
+                (held c below alive);
             within = λ c live.
                 let le = was.standing.within c (live_was x s u d job k.params.items args deps known was enrolled c live) in
                 let a = end_is (x.starts (s.range c)) (u.contents c) in
@@ -347,13 +396,15 @@ module _ (x : Outline) (small : x.plan.cells < 2 ^ 32) (s : ScriptState) (d : Dr
                 omega arith;
           };
           output = record {
-            lines = was.output.lines ∙ ap (λ l. x.begun.lines ++ l) (sym (append-nil (output_of x.plan d).lines) ∙ ap (λ (q : Output). q.lines ++ []) (sym told_is));
+            lines = was.output.lines ∙ ap (λ l. x.begun.lines ++ l) (sym (append-nil (output_of x.plan d).lines)
+                ∙ ap (λ (q : Output). q.lines ++ []) (sym told_is));
             refused = let r = was.output.refused in let q = ap (λ (q : Output). q.refused) told_is in omega arith;
             traps =
                 (let count = was.ordered.count in
                 ap (λ ts. ts ++ map (script_trap (suc s.book.count)) ran.traps) was.output.traps
                 ∙ append_assoc x.begun.traps (map (renumbered (jobs_before x)) (output_of x.plan d).traps) (map (script_trap (suc s.book.count)) ran.traps)
-                ∙ ap (λ ts. x.begun.traps ++ (map (renumbered (jobs_before x)) (output_of x.plan d).traps ++ ts)) (sym (traps_renumbered (jobs_before x) n (suc s.book.count) (omega arith) ran.traps))
+                ∙ ap (λ ts. x.begun.traps ++ (map (renumbered (jobs_before x)) (output_of x.plan d).traps ++ ts))
+                (sym (traps_renumbered (jobs_before x) n (suc s.book.count) (omega arith) ran.traps))
                 ∙ ap (λ ts. x.begun.traps ++ ts) (sym (map-append (renumbered (jobs_before x)) (output_of x.plan d).traps (map (job_trap n) ran.traps)))
                 ∙ ap (λ (q : Output). x.begun.traps ++ map (renumbered (jobs_before x)) q.traps) (sym told_is));
           };
@@ -367,4 +418,5 @@ scheduled_jobs_are_planned x small s d e segment job k ws args deps uses known w
     let waits = sym closes.waits in
     let ops = sym closes.ops in
     λ i. record { segments = segments i; jobs = jobs i; waits = waits i; ops = ops i }) in
-    subst (IsPlanned x (scheduled s k ws job.cut.n args deps uses)) is (planned x small s d segment job k ws args deps uses known was sj closes.waits_were closes.ops_were starts)
+    subst (IsPlanned x (scheduled s k ws job.cut.n args deps uses)) is (planned x small s d segment job k ws args deps uses known was sj closes.waits_were
+    closes.ops_were starts)

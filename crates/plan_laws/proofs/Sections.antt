@@ -34,9 +34,12 @@ use Rattle.plan_laws.proofs.Making.{alive_is_live}
 use Rattle.plan_laws.proofs.Owners.{number_owner}
 
 module _ (x : Outline) (carried : Cells) (len literal : ℕ) (small : x.plan.cells < 2 ^ 32) (known : IsKnown x.begun)
-    (held : AllHeld x.starts x.begun carried) (below : (c : ℕ) → is_live x.begun c ≡ true → end_of (bind_of_container x.starts x.begun c) ≤ len) (fits : len ≤ x.plan.cells)
-    (first : first_cells x.plan (record { start = 0; len = len }) (Some literal) ≡ cell_list carried 0 len) (there : literal < length x.plan.literals.items) (named : 0 < length x.plan.names.items)
-    (apart : (c e w : ℕ) → is_live x.begun c ≡ true → is_live x.begun e ≡ true → Rattle.frame_ast.specs.Ranges.has_word x.starts x.begun c w ≡ true → Rattle.frame_ast.specs.Ranges.has_word x.starts x.begun e w ≡ true → c ≡ e)
+    (held : AllHeld x.starts x.begun carried) (below : (c : ℕ) → is_live x.begun c ≡ true → end_of (bind_of_container x.starts x.begun c) ≤ len)
+    (fits : len ≤ x.plan.cells)
+    (first : first_cells x.plan (record { start = 0; len = len }) (Some literal) ≡ cell_list carried 0 len) (there : literal < length x.plan.literals.items)
+    (named : 0 < length x.plan.names.items)
+    (apart : (c e w : ℕ) → is_live x.begun c ≡ true → is_live x.begun e ≡ true → Rattle.frame_ast.specs.Ranges.has_word x.starts x.begun c w ≡ true
+    → Rattle.frame_ast.specs.Ranges.has_word x.starts x.begun e w ≡ true → c ≡ e)
     (done : (j : ℕ) → 0 < j → j ≤ x.begun.book.count → x.begun.book.completed j ≡ true) where
   abbrev s : ScriptState
   s = x.begun
@@ -75,10 +78,12 @@ module _ (x : Outline) (carried : Cells) (len literal : ℕ) (small : x.plan.cel
           bad a b = let pos : 0 < j = grind arith in let le : j ≤ 0 = grind arith in absurd (omega arith)
 
   written : (o : Owner) (j : ℕ) → owner_writers (jobs_before x) s o j ≡ true → owner_users (jobs_before x) s o j ≡ true
-  written (Held c) j e = let u = later_in (jobs_before x) (s.uses c).writers j e in in_later (jobs_before x) (s.uses c).users j u.0 ((known.uses c).writers (jobs_before x + j) u.1)
+  written (Held c) j e = let u = later_in (jobs_before x) (s.uses c).writers j e in
+      in_later (jobs_before x) (s.uses c).users j u.0 ((known.uses c).writers (jobs_before x + j) u.1)
   written (Own k) j e = e
 
-  two : (o p : Owner) (w : ℕ) → owner_live s 0 o ≡ true → owner_live s 0 p ≡ true → owner_words x.plan x.starts s o w ≡ true → owner_words x.plan x.starts s p w ≡ true → number_of o ≡ number_of p
+  two : (o p : Owner) (w : ℕ) → owner_live s 0 o ≡ true → owner_live s 0 p ≡ true → owner_words x.plan x.starts s o w ≡ true
+      → owner_words x.plan x.starts s p w ≡ true → number_of o ≡ number_of p
   two (Held c) (Held e) w lc le wc we = ap (λ k. number_of (Held k)) (apart c e w lc le wc we)
   two (Held c) (Own j) w lc le wc we = absurd (no_own j le)
   two (Own j) p w lc le wc we = absurd (no_own j lc)
@@ -92,7 +97,15 @@ module _ (x : Outline) (carried : Cells) (len literal : ℕ) (small : x.plan.cel
 
   -- at first all words are of one container
   abbrev l : Ledger
-  l = record { jobs = 0; depends = λ j k. false; completed = m.completed; live = λ c. nat_eq c 0; words = λ c w. true; users = λ c j. false; writers = λ c j. false }
+  l = record {
+    jobs = 0;
+    depends = λ j k. false;
+    completed = m.completed;
+    live = λ c. nat_eq c 0;
+    words = λ c w. true;
+    users = λ c j. false;
+    writers = λ c j. false;
+  }
 
   is_l : IsLedger l
   is_l = record {
@@ -114,7 +127,12 @@ module _ (x : Outline) (carried : Cells) (len literal : ℕ) (small : x.plan.cel
         writes = λ w e. inr (record { container = 0; live = eq-eqb 0 0 refl; word = refl; completed = λ j h. absurd (not_both h refl) });
         reads_written = λ w e. writes_read (ops_touch (fill ∷ [])) w e;
       }))
-      (record { jobs = omega arith; depends = λ j k le e. absurd (no_depends j k e); completed = λ j. refl; containers = λ c live. inl (λ j h. absurd (not_both h refl)) })
+      (record {
+        jobs = omega arith;
+        depends = λ j k le e. absurd (no_depends j k e);
+        completed = λ j. refl;
+        containers = λ c live. inl (λ j h. absurd (not_both h refl));
+      })
 
   filled : (w : ℕ) → w < len → cells_of x.plan d w ≡ carried w
   unfolding op_cells

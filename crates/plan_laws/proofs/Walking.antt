@@ -160,7 +160,8 @@ module _ (plan : Plan) (segments : List Segment) (final : Segment) (ends : Ends 
     pub all_stand : AllStand k segments_
     pub all_traps : traps ≡ jobs_traps plan n
 
-  pub walk : (more : List Segment) (k : ℕ) (top : List Piece) (told : Output) (j n : ℕ) → AreFrom plan k more → Begun (turned top (order_from jobs k more)) → length top ≡ place_at k
+  pub walk : (more : List Segment) (k : ℕ) (top : List Piece) (told : Output) (j n : ℕ) → AreFrom plan k more → Begun (turned top (order_from jobs k more))
+      → length top ≡ place_at k
       → starts_from more ≡ numbers_from (suc j) n → ClosedStand plan (all plan top) more → told.traps ≡ jobs_traps plan j
       → Walked k more (output_onto plan (all plan top) told more).traps (j + n)
   walk [] k top told j n are b place e stand traps =
@@ -180,21 +181,26 @@ module _ (plan : Plan) (segments : List Segment) (final : Segment) (ends : Ends 
       let is_piece : segment_piece plan s.waits.items s.ops.items ≡ make plan (OfScript k) = sym (segment_is plan k s h.0 h.1) in
       let earlier_is : segment_piece plan s.waits.items s.ops.items ∷ all plan top ≡ all plan (OfScript k ∷ top) = ap (λ p. p ∷ all plan top) is_piece in
       let a = adds k s more top h.0 b_here place j n told.traps e (subst (λ ps. StartedStand plan ps s.starts) earlier_is stand.1) traps in
-      let now : Output = with_traps (started_traps plan (segment_piece plan s.waits.items s.ops.items ∷ all plan top) s.starts) (with_ops plan s.ops.items (cells_after (all plan top)) told) in
+      let now : Output = with_traps (started_traps plan (segment_piece plan s.waits.items s.ops.items ∷ all plan top) s.starts)
+      (with_ops plan s.ops.items (cells_after (all plan top)) told) in
       let now_traps : now.traps ≡ jobs_traps plan a.next = ap (λ ps. told.traps ++ started_traps plan ps s.starts) earlier_is ∙ a.traps_are in
       let same : started_parts plan s.starts ++ segment_piece plan s.waits.items s.ops.items ∷ all plan top ≡ all plan next =
       ap (λ ps. started_parts plan s.starts ++ ps) earlier_is ∙ sym (all_started plan s.starts (OfScript k ∷ top)) in
-      let r = walk more (suc k) next now a.next a.left (from_next plan k s more are) b_next place_next a.go_on (subst (λ ps. ClosedStand plan ps more) same stand.2) now_traps in
+      let r = walk more (suc k) next now a.next a.left (from_next plan k s more are) b_next place_next a.go_on
+      (subst (λ ps. ClosedStand plan ps more) same stand.2) now_traps in
       record {
         all_stand = (subst (OpsStand plan s.ops.items) cells stand.0, a.stand, r.all_stand);
-        all_traps = subst (λ ps. (output_onto plan ps now more).traps ≡ jobs_traps plan (a.next + a.left)) (sym same) r.all_traps ∙ ap (jobs_traps plan) {x = a.next + a.left} a.same;
+        all_traps = subst (λ ps. (output_onto plan ps now more).traps ≡ jobs_traps plan (a.next + a.left)) (sym same) r.all_traps
+            ∙ ap (jobs_traps plan) {x = a.next + a.left} a.same;
       }
 
-  pub ops_at : (ss : List Segment) (n k : ℕ) (s : Segment) → AllStand n ss → slice_get ss k ≡ Some s → OpsStand plan s.ops.items (before_piece plan (OfScript (n + k)))
+  pub ops_at : (ss : List Segment) (n k : ℕ) (s : Segment) → AllStand n ss → slice_get ss k ≡ Some s
+      → OpsStand plan s.ops.items (before_piece plan (OfScript (n + k)))
   ops_at [] n k s a h = absurd (none_some h)
   ops_at (x ∷ ss) n zero s a h =
       let z : n ≡ n + 0 = omega arith in
-      subst (λ k. OpsStand plan s.ops.items (before_piece plan (OfScript k))) z (subst (λ (s : Segment). OpsStand plan s.ops.items (before_piece plan (OfScript n))) (some_is h) a.0)
+      subst (λ k. OpsStand plan s.ops.items (before_piece plan (OfScript k))) z
+      (subst (λ (s : Segment). OpsStand plan s.ops.items (before_piece plan (OfScript n))) (some_is h) a.0)
   ops_at (x ∷ ss) n (suc k) s a h =
       let z : suc n + k ≡ n + suc k = omega arith in
       subst (λ k. OpsStand plan s.ops.items (before_piece plan (OfScript k))) z (ops_at ss (suc n) k s a.2 h)

@@ -47,7 +47,8 @@ module _ {A : Type 0} where
 
   pub back_some : (top : List A) (p : ℕ) → p < length top → (x : A) × (at_back top p ≡ Some x)
   back_some [] p lt = absurd (omega arith)
-  back_some (x ∷ top) p lt = ⊎_elim (λ e. (x, ap (at_back (x ∷ top)) e ∙ back_new x top)) (λ ne. let r = back_some top p (omega arith) in (r.0, back_old x top p ne ∙ r.1)) (cases_eq p (length top))
+  back_some (x ∷ top) p lt = ⊎_elim (λ e. (x, ap (at_back (x ∷ top)) e ∙ back_new x top))
+      (λ ne. let r = back_some top p (omega arith) in (r.0, back_old x top p ne ∙ r.1)) (cases_eq p (length top))
 
   pub turned_top : (xs top : List A) (p : ℕ) → p < length top → at_back (turned top xs) p ≡ at_back top p
   turned_top [] top p lt = refl
@@ -152,11 +153,13 @@ module _ (plan : Plan) where
       ⊎_elim
       (λ here.
       let p_new : at_back (x ∷ top) p ≡ Some x = ap (at_back (x ∷ top)) here ∙ back_new x top in
-      let is : is_before (all top) (make x) q ≡ true = sym (ap (λ b. cond b (is_before (all top) (make x) q) (precedes_in (all top) q p)) (eq-eqb p (length (all top)) (here ∙ sym (long top)))) ∙ e in
+      let is : is_before (all top) (make x) q ≡ true = sym (ap (λ b. cond b (is_before (all top) (make x) q) (precedes_in (all top) q p))
+      (eq-eqb p (length (all top)) (here ∙ sym (long top)))) ∙ e in
       (λ i. precedes_at plan (q_old i) (p_new i)) ∙ head x top latest q is)
       (λ ne.
       let p_old : at_back (x ∷ top) p ≡ at_back top p = back_old x top p ne in
-      let is : precedes_in (all top) q p ≡ true = sym (ap (λ b. cond b (is_before (all top) (make x) q) (precedes_in (all top) q p)) (ne_eqb p (length (all top)) (λ h. ne (h ∙ long top)))) ∙ e in
+      let is : precedes_in (all top) q p ≡ true = sym (ap (λ b. cond b (is_before (all top) (make x) q) (precedes_in (all top) q p))
+      (ne_eqb p (length (all top)) (λ h. ne (h ∙ long top)))) ∙ e in
       (λ i. precedes_at plan (q_old i) (p_old i)) ∙ old p q is)
       (cases_eq p (length top))
 
@@ -174,7 +177,8 @@ module _ (plan : Plan) where
       let same : latest_segment (all (OfJob j i ∷ top)) ≡ latest_segment (all top) = latest_old (make (OfJob j i)) (all top) (λ z. omega arith) in
       ap (at_back (OfJob j i ∷ top)) same ∙ back_old (OfJob j i) top (latest_segment (all top)) (λ h. omega arith) ∙ e
 
-  add_parts : (j i n : ℕ) (top : List Piece) (k : ℕ) → is_job (starts_in (segment_at plan k)) (suc j) ≡ true → Follows top k → Follows (turned top (parts_from j i n)) k
+  add_parts : (j i n : ℕ) (top : List Piece) (k : ℕ) → is_job (starts_in (segment_at plan k)) (suc j) ≡ true → Follows top k
+      → Follows (turned top (parts_from j i n)) k
   add_parts j i zero top k starts f = f
   add_parts j i (suc n) top k starts f = add_parts j (suc i) n (OfJob j i ∷ top) k starts (record {
     preceded = add (OfJob j i) top f.preceded (λ lt. ap (λ o. precedes_at plan o (Some (OfJob j i))) f.latest ∙ starts);
@@ -202,7 +206,11 @@ module _ (plan : Plan) where
   nothing_before p q e = absurd (not_both e refl)
 
   comes_after : (k : ℕ) (top : List Piece) → Comes top k → ArePreceded top × AfterLatest (OfScript k) top
-  comes_after zero top c = (subst ArePreceded (sym c) nothing_before, λ lt. let none : length top ≡ 0 = ap (λ (xs : List Piece). length xs) c in absurd (omega arith))
+  comes_after zero top c = (
+    subst ArePreceded (sym c) nothing_before,
+    λ lt. let none : length top ≡ 0 = ap (λ (xs : List Piece). length xs) c in
+        absurd (omega arith),
+  )
   comes_after (suc l) top c = (c.preceded, λ lt. ap (λ o. precedes_at plan o (Some (OfScript (suc l)))) c.latest ∙ eq-eqb (suc l) (suc l) refl)
 
   add_segment : (k : ℕ) (top : List Piece) → Comes top k → Follows (OfScript k ∷ top) k
@@ -219,7 +227,8 @@ module _ (plan : Plan) where
   add_segments start (s ∷ more) k top are c old =
       let here : segment_at plan k ≡ Some s = (let e : k ≡ k + 0 = omega arith in ap (segment_at plan) e) ∙ are 0 in
       let one : Follows (OfScript k ∷ top) k = add_segment k top c in
-      let two : Follows (turned (OfScript k ∷ top) (started plan.jobs.items s.starts)) k = add_started s.starts (OfScript k ∷ top) k (ap starts_in here) (λ id e. start k s id here e) one in
+      let two : Follows (turned (OfScript k ∷ top) (started plan.jobs.items s.starts)) k =
+      add_started s.starts (OfScript k ∷ top) k (ap starts_in here) (λ id e. start k s id here e) one in
       subst ArePreceded (sym (turned_append (started plan.jobs.items s.starts) (order_from plan.jobs.items (suc k) more) (OfScript k ∷ top)))
       (add_segments start more (suc k) _ (λ i. (let e : suc k + i ≡ k + suc i = omega arith in ap (segment_at plan) e) ∙ are (suc i)) two two.preceded)
 

@@ -38,7 +38,8 @@ names_are_writable x g s name k all kinds names each holds is among unblocked =
       named = ap (λ texts. get_or texts name []) names;
     }
 
-used_by : (ns : Names) (literals : List (List Rattle.std.specs.Prelude.ℤ)) (kernels : List Kernel) (rest inside name : ℕ) (kinds : List NameKind) (o : Order) → written_by o ≡ Some (name, kinds)
+used_by : (ns : Names) (literals : List (List Rattle.std.specs.Prelude.ℤ)) (kernels : List Kernel) (rest inside name : ℕ) (kinds : List NameKind) (o : Order)
+    → written_by o ≡ Some (name, kinds)
     → order_fits ns literals kernels rest inside o ≡ true → uses ns name kinds ≡ true
 used_by ns literals kernels rest inside name kinds (order.Set n at v) e fits = subst (λ p. uses ns p.0 p.1 ≡ true) (some_is e) fits
 used_by ns literals kernels rest inside name kinds (order.Add n first second) e fits = subst (λ p. uses ns p.0 p.1 ≡ true) (some_is e) fits

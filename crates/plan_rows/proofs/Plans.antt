@@ -42,10 +42,24 @@ print line name at = record { line = line; name = name; act = Act.Print at }
 
 -- a job of a parallel kernel: its length and the step of its cut
 abbrev pub parallel_job : Place → ℕ → List Bind → ℕ → ℕ → List ℕ → ℕ → JobPlan
-parallel_job at kernel binds n step deps first = record { kernel = kernel; binds = vec at binds; cut = record { n = n; step = step }; parallel = true; deps = ids at deps; first = record { 0 = first } }
+parallel_job at kernel binds n step deps first = record {
+  kernel = kernel;
+  binds = vec at binds;
+  cut = record { n = n; step = step };
+  parallel = true;
+  deps = ids at deps;
+  first = record { 0 = first };
+}
 
 abbrev pub plain_job : Place → ℕ → List Bind → List ℕ → ℕ → JobPlan
-plain_job at kernel binds deps first = record { kernel = kernel; binds = vec at binds; cut = record { n = 1; step = 1 }; parallel = false; deps = ids at deps; first = record { 0 = first } }
+plain_job at kernel binds deps first = record {
+  kernel = kernel;
+  binds = vec at binds;
+  cut = record { n = 1; step = 1 };
+  parallel = false;
+  deps = ids at deps;
+  first = record { 0 = first };
+}
 
 abbrev pub segment : Place → List ℕ → List Op → Option ℕ → Segment
 segment at waits ops None = record { waits = ids at waits; ops = vec at ops; starts = None }
@@ -117,7 +131,14 @@ restricted at = plan at (shift ∷ []) ("b" ∷ "h" ∷ []) (numbers (1 ∷ 0 �
 
 -- a job of a parallel kernel with a waiver: one piece, in which no own-index rule holds
 abbrev pub waived_job : Place → ℕ → List Bind → ℕ → ℕ → List ℕ → ℕ → JobPlan
-waived_job at kernel binds n step deps first = record { kernel = kernel; binds = vec at binds; cut = record { n = n; step = step }; parallel = false; deps = ids at deps; first = record { 0 = first } }
+waived_job at kernel binds n step deps first = record {
+  kernel = kernel;
+  binds = vec at binds;
+  cut = record { n = n; step = step };
+  parallel = false;
+  deps = ids at deps;
+  first = record { 0 = first };
+}
 
 -- the same script with `schedule h shift(b) 3 64 waive b`
 abbrev pub waived : Place → Plan

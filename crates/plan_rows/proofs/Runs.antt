@@ -16,10 +16,12 @@ abbrev pub meant : Place → Text → Run
 meant at k binds n from cells = at_indexes (kernel at k) binds full_steps n from cells
 
 abbrev pub computed : Place → Text → Run
-computed at k binds n from cells = indexes (λ index c. in_turn (take 1000 (all_folded at (statement (words binds index) index) k.body)) (fresh full_steps c)) n from cells
+computed at k binds n from cells = indexes (λ index c. in_turn (take 1000 (all_folded at (statement (words binds index) index) k.body)) (fresh full_steps c)) n
+    from cells
 
 pub same_run : (at : Place) (k : Text) → meant at k ≡ computed at k
-same_run at k = λ i binds n from cells. indexes (λ index c. in_turn (taken at (statement (words binds index) index) k.body (same_folds at (statement (words binds index) index) k.body) i) (fresh full_steps c)) n from cells
+same_run at k = λ i binds n from cells. indexes (λ index c. in_turn (taken at (statement (words binds index) index) k.body
+    (same_folds at (statement (words binds index) index) k.body) i) (fresh full_steps c)) n from cells
 
 -- a run of a kernel, as it computes
 pub run_at : (at : Place) (k : Text) (binds : List Bind) (n from : ℕ) → ◌≡◌ {A = (ℕ → ℤ) → Ran (ℕ → ℤ)} (meant at k binds n from) (computed at k binds n from)

@@ -30,19 +30,23 @@ module _ (at : Place) where
   unfolding script_order
   order_chained = refl
 
-  places_chained : map (place_of (chained at)) (OfJob 0 0 ∷ OfJob 0 1 ∷ OfJob 1 0 ∷ OfScript 0 ∷ OfScript 1 ∷ OfScript 2 ∷ OfScript 3 ∷ []) ≡ 1 ∷ 2 ∷ 4 ∷ 0 ∷ 3 ∷ 5 ∷ 6 ∷ []
+  places_chained : map (place_of (chained at)) (OfJob 0 0 ∷ OfJob 0 1 ∷ OfJob 1 0 ∷ OfScript 0 ∷ OfScript 1 ∷ OfScript 2 ∷ OfScript 3 ∷ []) ≡ 1 ∷ 2 ∷ 4 ∷ 0 ∷ 3
+      ∷ 5 ∷ 6 ∷ []
   unfolding place_of
   places_chained = refl
 
-  numbers_chained : map (piece_numbered (chained at)) (0 ∷ 1 ∷ 2 ∷ 3 ∷ 4 ∷ 5 ∷ 6 ∷ []) ≡ OfJob 0 0 ∷ OfJob 0 1 ∷ OfJob 1 0 ∷ OfScript 0 ∷ OfScript 1 ∷ OfScript 2 ∷ OfScript 3 ∷ []
+  numbers_chained : map (piece_numbered (chained at)) (0 ∷ 1 ∷ 2 ∷ 3 ∷ 4 ∷ 5 ∷ 6 ∷ []) ≡ OfJob 0 0 ∷ OfJob 0 1 ∷ OfJob 1 0 ∷ OfScript 0 ∷ OfScript 1
+      ∷ OfScript 2 ∷ OfScript 3 ∷ []
   numbers_chained = refl
 
-  predecessors_chained : map (before (chained at)) (0 ∷ 1 ∷ 2 ∷ 3 ∷ 4 ∷ 5 ∷ 6 ∷ []) ≡ [] ∷ (0 ∷ []) ∷ (0 ∷ []) ∷ (0 ∷ []) ∷ (1 ∷ 2 ∷ 3 ∷ []) ∷ (1 ∷ 2 ∷ 3 ∷ 4 ∷ []) ∷ (1 ∷ 2 ∷ 4 ∷ 5 ∷ []) ∷ []
+  predecessors_chained : map (before (chained at)) (0 ∷ 1 ∷ 2 ∷ 3 ∷ 4 ∷ 5 ∷ 6 ∷ []) ≡ [] ∷ (0 ∷ []) ∷ (0 ∷ []) ∷ (0 ∷ []) ∷ (1 ∷ 2 ∷ 3 ∷ [])
+      ∷ (1 ∷ 2 ∷ 3 ∷ 4 ∷ []) ∷ (1 ∷ 2 ∷ 4 ∷ 5 ∷ []) ∷ []
   unfolding script_order graph_of
   predecessors_chained = refl
 
   reads_chained : map (λ x. read_words (chained at) x 20) (OfJob 0 0 ∷ OfJob 0 1 ∷ OfJob 1 0 ∷ OfScript 1 ∷ OfScript 2 ∷ OfScript 3 ∷ [])
-      ≡ (0 ∷ 1 ∷ 2 ∷ 3 ∷ 4 ∷ 5 ∷ 9 ∷ 10 ∷ 11 ∷ []) ∷ (0 ∷ 1 ∷ 2 ∷ 3 ∷ 6 ∷ 7 ∷ 12 ∷ 13 ∷ 14 ∷ []) ∷ (4 ∷ 5 ∷ 6 ∷ 7 ∷ 8 ∷ 15 ∷ 16 ∷ 17 ∷ []) ∷ [] ∷ (8 ∷ []) ∷ (9 ∷ 10 ∷ 11 ∷ 12 ∷ 13 ∷ 14 ∷ 15 ∷ 16 ∷ 17 ∷ []) ∷ []
+      ≡ (0 ∷ 1 ∷ 2 ∷ 3 ∷ 4 ∷ 5 ∷ 9 ∷ 10 ∷ 11 ∷ []) ∷ (0 ∷ 1 ∷ 2 ∷ 3 ∷ 6 ∷ 7 ∷ 12 ∷ 13 ∷ 14 ∷ []) ∷ (4 ∷ 5 ∷ 6 ∷ 7 ∷ 8 ∷ 15 ∷ 16 ∷ 17 ∷ []) ∷ [] ∷ (8 ∷ [])
+      ∷ (9 ∷ 10 ∷ 11 ∷ 12 ∷ 13 ∷ 14 ∷ 15 ∷ 16 ∷ 17 ∷ []) ∷ []
   unfolding touches
   reads_chained = refl
 
@@ -52,7 +56,8 @@ module _ (at : Place) where
   writes_chained = refl
 
   -- the segment that makes c touches the words that a had, after the job that used them
-  writes_reused : map (λ x. written_words (reused at) x 9) (OfScript 0 ∷ OfJob 0 0 ∷ OfScript 1 ∷ OfScript 2 ∷ []) ≡ (0 ∷ 1 ∷ 2 ∷ []) ∷ (2 ∷ 5 ∷ 6 ∷ 7 ∷ []) ∷ (3 ∷ 4 ∷ []) ∷ (0 ∷ 1 ∷ []) ∷ []
+  writes_reused : map (λ x. written_words (reused at) x 9) (OfScript 0 ∷ OfJob 0 0 ∷ OfScript 1 ∷ OfScript 2 ∷ []) ≡ (0 ∷ 1 ∷ 2 ∷ []) ∷ (2 ∷ 5 ∷ 6 ∷ 7 ∷ [])
+      ∷ (3 ∷ 4 ∷ []) ∷ (0 ∷ 1 ∷ []) ∷ []
   unfolding touches
   writes_reused = refl
 
@@ -65,7 +70,8 @@ module _ (at : Place) where
   predecessors_reused = refl
 
   -- the last piece has no place of y
-  writes_past : map (λ x. written_words (past_the_end at) x 18) (OfJob 0 0 ∷ OfJob 0 1 ∷ OfJob 0 2 ∷ []) ≡ (5 ∷ 6 ∷ 9 ∷ 10 ∷ 11 ∷ []) ∷ (7 ∷ 8 ∷ 12 ∷ 13 ∷ 14 ∷ []) ∷ (15 ∷ 16 ∷ 17 ∷ []) ∷ []
+  writes_past : map (λ x. written_words (past_the_end at) x 18) (OfJob 0 0 ∷ OfJob 0 1 ∷ OfJob 0 2 ∷ []) ≡ (5 ∷ 6 ∷ 9 ∷ 10 ∷ 11 ∷ [])
+      ∷ (7 ∷ 8 ∷ 12 ∷ 13 ∷ 14 ∷ []) ∷ (15 ∷ 16 ∷ 17 ∷ []) ∷ []
   unfolding touches
   writes_past = refl
 

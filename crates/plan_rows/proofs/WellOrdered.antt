@@ -59,10 +59,13 @@ module _ (at : Place) where
   away : (w : ℕ) → IsWordOf (array 0 5 0) w → IsWordOf (array 5 4 1) w → ⊥
   away w u v = let hi = u.below in let lo = v.from in omega arith
 
-  apart : (x y : ℕ) (a b : Bind) (w : ℕ) → IsTrue (may_write k.params.items x) → x ≢ y → slice_get bs x ≡ Some a → slice_get bs y ≡ Some b → IsWordOf a w → (IsLength a w → ⊥) → IsWordOf b w → ⊥
+  apart : (x y : ℕ) (a b : Bind) (w : ℕ) → IsTrue (may_write k.params.items x) → x ≢ y → slice_get bs x ≡ Some a → slice_get bs y ≡ Some b → IsWordOf a w
+      → (IsLength a w → ⊥) → IsWordOf b w → ⊥
   apart zero zero a b w m ne ha hb u l v = ne refl
-  apart zero (suc zero) a b w m ne ha hb u l v = away w (subst (λ (c : Bind). IsWordOf c w) (sym (some_is ha)) u) (subst (λ (c : Bind). IsWordOf c w) (sym (some_is hb)) v)
-  apart (suc zero) zero a b w m ne ha hb u l v = away w (subst (λ (c : Bind). IsWordOf c w) (sym (some_is hb)) v) (subst (λ (c : Bind). IsWordOf c w) (sym (some_is ha)) u)
+  apart zero (suc zero) a b w m ne ha hb u l v = away w (subst (λ (c : Bind). IsWordOf c w) (sym (some_is ha)) u)
+      (subst (λ (c : Bind). IsWordOf c w) (sym (some_is hb)) v)
+  apart (suc zero) zero a b w m ne ha hb u l v = away w (subst (λ (c : Bind). IsWordOf c w) (sym (some_is hb)) v)
+      (subst (λ (c : Bind). IsWordOf c w) (sym (some_is ha)) u)
   apart (suc zero) (suc zero) a b w m ne ha hb u l v = ne refl
   apart (suc (suc x)) y a b w m ne ha hb u l v = absurd (none_some ha)
   apart zero (suc (suc y)) a b w m ne ha hb u l v = absurd (none_some hb)
@@ -115,7 +118,8 @@ module _ (at : Place) where
 
   -- OPERATIONS
 
-  fits_op : (name : ℕ) → name < 3 → (line : ℕ) (act : Rattle.frame_core.specs.declared.plan.Act.Act) → Rattle.frame_core.specs.Ordered.ActFits p act → OpFits p (record { line = line; name = name; act = act })
+  fits_op : (name : ℕ) → name < 3 → (line : ℕ) (act : Rattle.frame_core.specs.declared.plan.Act.Act) → Rattle.frame_core.specs.Ordered.ActFits p act
+      → OpFits p (record { line = line; name = name; act = act })
   fits_op name lt line act h = record { name = lt; act = h }
 
   ops : AreOpsFitting p
@@ -224,11 +228,16 @@ module _ (at : Place) where
   lead zero (suc zero) w lt n con = directly refl
   lead (suc q) (suc zero) w lt n con = absurd (omega arith)
   lead zero (suc (suc zero)) w lt n con = directly refl
-  lead (suc zero) (suc (suc zero)) w lt n con = ⊎_elim (λ c. absurd (parts_are_apart p jobs 0 0 1 w x refl (omega arith) (omega arith) (λ e. omega arith) c.0 c.1)) (λ c. absurd (parts_are_apart p jobs 0 1 0 w x refl (omega arith) (omega arith) (λ e. omega arith) c.1 c.0)) con
+  lead (suc zero) (suc (suc zero)) w lt n con = ⊎_elim (λ c. absurd (parts_are_apart p jobs 0 0 1 w x refl (omega arith) (omega arith)
+      (λ e. omega arith) c.0 c.1)) (λ c. absurd (parts_are_apart p jobs 0 1 0 w x refl (omega arith) (omega arith) (λ e. omega arith) c.1 c.0)) con
   lead (suc (suc q)) (suc (suc zero)) w lt n con = absurd (omega arith)
   lead zero (suc (suc (suc zero))) w lt n con = directly refl
-  lead (suc zero) (suc (suc (suc zero))) w lt n con = ⊎_elim (λ c. absurd (parts_are_apart p jobs 0 0 2 w x refl (omega arith) (omega arith) (λ e. omega arith) c.0 c.1)) (λ c. absurd (parts_are_apart p jobs 0 2 0 w x refl (omega arith) (omega arith) (λ e. omega arith) c.1 c.0)) con
-  lead (suc (suc zero)) (suc (suc (suc zero))) w lt n con = ⊎_elim (λ c. absurd (parts_are_apart p jobs 0 1 2 w x refl (omega arith) (omega arith) (λ e. omega arith) c.0 c.1)) (λ c. absurd (parts_are_apart p jobs 0 2 1 w x refl (omega arith) (omega arith) (λ e. omega arith) c.1 c.0)) con
+  lead (suc zero) (suc (suc (suc zero))) w lt n con = ⊎_elim (λ c. absurd
+      (parts_are_apart p jobs 0 0 2 w x refl (omega arith) (omega arith) (λ e. omega arith) c.0 c.1))
+      (λ c. absurd (parts_are_apart p jobs 0 2 0 w x refl (omega arith) (omega arith) (λ e. omega arith) c.1 c.0)) con
+  lead (suc (suc zero)) (suc (suc (suc zero))) w lt n con = ⊎_elim (λ c. absurd
+      (parts_are_apart p jobs 0 1 2 w x refl (omega arith) (omega arith) (λ e. omega arith) c.0 c.1))
+      (λ c. absurd (parts_are_apart p jobs 0 2 1 w x refl (omega arith) (omega arith) (λ e. omega arith) c.1 c.0)) con
   lead (suc (suc (suc q))) (suc (suc (suc zero))) w lt n con = absurd (omega arith)
   lead zero (suc (suc (suc (suc zero)))) w lt n con = further {q = 1} (directly refl) refl
   lead (suc zero) (suc (suc (suc (suc zero)))) w lt n con = directly refl
@@ -250,7 +259,8 @@ module _ (at : Place) where
     where
       ops_stand : (m : ℕ) (s : Segment) → segment_at p m ≡ Some s → OpsStand p s.ops.items (before_piece p (OfScript m))
       ops_stand zero s h = subst (λ (t : Segment). OpsStand p t.ops.items (before_piece p (OfScript 0))) (some_is h) (tt, (tt, tt))
-      ops_stand (suc zero) s h = subst (λ (t : Segment). OpsStand p t.ops.items (before_piece p (OfScript 1))) (some_is h) ((Contents.Cells (cell_list (before_piece p (OfScript 1)) 5 4), refl), tt)
+      ops_stand (suc zero) s h = subst (λ (t : Segment). OpsStand p t.ops.items (before_piece p (OfScript 1))) (some_is h)
+          ((Contents.Cells (cell_list (before_piece p (OfScript 1)) 5 4), refl), tt)
       ops_stand (suc (suc zero)) s h = subst (λ (t : Segment). OpsStand p t.ops.items (before_piece p (OfScript 2))) (some_is h) tt
       ops_stand (suc (suc (suc m))) s h = absurd (none_some h)
 
@@ -262,7 +272,8 @@ module _ (at : Place) where
       holds c (suc zero) b h = subst (λ (d : Bind). Holds c d (argument (given c) 1)) (some_is h) refl
       holds c (suc (suc y)) b h = absurd (none_some h)
 
-      binds_stand : (j i : ℕ) (y : JobPlan) → job_at p j ≡ Some y → i < pieces_of y → (contents : List Contents) × StandFor y.binds.items (before_piece p (OfJob j i)) contents
+      binds_stand : (j i : ℕ) (y : JobPlan) → job_at p j ≡ Some y → i < pieces_of y
+          → (contents : List Contents) × StandFor y.binds.items (before_piece p (OfJob j i)) contents
       binds_stand zero i y h lt = subst (λ (z : JobPlan). (contents : List Contents) × StandFor z.binds.items (before_piece p (OfJob 0 i)) contents) (some_is h)
           (given (before_piece p (OfJob 0 i)), record { count = refl; each = holds (before_piece p (OfJob 0 i)) })
       binds_stand (suc j) i y h lt = absurd (none_some h)

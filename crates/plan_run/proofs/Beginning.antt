@@ -79,7 +79,8 @@ fill_fits plan span None fits = length-replicate span.len (pos 0)
 fill_fits plan span (Some n) fits = fits.1
 
 -- an operation that fills words from the first one on
-module _ (plan : Plan) (op : Op) (span : Span) (literal : Option ℕ) (is : op.act ≡ Fill span literal) (start : span.start ≡ 0) (fits : OpFits plan op) (a b : Cells) (meet : Meet span.len a b) where
+module _ (plan : Plan) (op : Op) (span : Span) (literal : Option ℕ) (is : op.act ≡ Fill span literal) (start : span.start ≡ 0) (fits : OpFits plan op)
+    (a b : Cells) (meet : Meet span.len a b) where
   fill_cells : (c : Cells) → op_cells plan op c ≡ write_cells c 0 (first_cells plan span literal)
   unfolding op_cells
   fill_cells c = ap (λ (x : Act). cells_or c (act_cells plan x c)) is ∙ ap (λ s. write_cells c s (first_cells plan span literal)) start
@@ -105,15 +106,18 @@ module _ (plan : Plan) (op : Op) (span : Span) (literal : Option ℕ) (is : op.a
   alike_fill more = record {
     stands = λ s. (fill_stands a, subst (OpsStand plan more) (sym fill_same) s.1);
     cells = ap (ops_cells plan more) fill_same;
-    lines = ap (λ l. l ++ ops_lines plan more (op_cells plan op a)) (fill_line a ∙ sym (fill_line b)) ∙ ap (λ c. op_line plan op b ++ ops_lines plan more c) fill_same;
-    refused = ap (λ r. one_if_refused r + ops_refused plan more (op_cells plan op a)) (fill_answer a ∙ sym (fill_answer b)) ∙ ap (λ c. one_if_refused (op_answer plan op b) + ops_refused plan more c) fill_same;
+    lines = ap (λ l. l ++ ops_lines plan more (op_cells plan op a)) (fill_line a ∙ sym (fill_line b))
+        ∙ ap (λ c. op_line plan op b ++ ops_lines plan more c) fill_same;
+    refused = ap (λ r. one_if_refused r + ops_refused plan more (op_cells plan op a)) (fill_answer a ∙ sym (fill_answer b))
+        ∙ ap (λ c. one_if_refused (op_answer plan op b) + ops_refused plan more c) fill_same;
   }
 
 module _ (plan : Plan) (op : Op) (more : List Op) (fits : OpFits plan op) (a b : Cells) where
   whole : Meet 0 a b → Alike plan (op ∷ more) a b
   whole h = alike_same plan (op ∷ more) a b (meet_all a b h)
 
-  by_start : (span : Span) (literal : Option ℕ) (t : Bool) → nat_eq span.start 0 ≡ t → op.act ≡ Fill span literal → Meet (if t then span.len else 0) a b → Alike plan (op ∷ more) a b
+  by_start : (span : Span) (literal : Option ℕ) (t : Bool) → nat_eq span.start 0 ≡ t → op.act ≡ Fill span literal → Meet (if t then span.len else 0) a b
+      → Alike plan (op ∷ more) a b
   by_start span literal true e is h = alike_fill plan op span literal is (eqb-true span.start 0 e) fits a b h more
   by_start span literal false e is h = whole h
 
@@ -139,7 +143,8 @@ fits_in : (plan : Plan) → IsWellOrderedPlan plan → (k : ℕ) (o : Option Seg
 fits_in plan well k None e = λ j d lt. absurd (omega (arith, lt))
 fits_in plan well k (Some s) e = well.ops k s e
 
-stand_in : (plan : Plan) → IsWellOrderedPlan plan → (k : ℕ) (o : Option Segment) → segment_at plan k ≡ o → OpsStand plan (ops_in o) (before_piece plan (OfScript k))
+stand_in : (plan : Plan) → IsWellOrderedPlan plan → (k : ℕ) (o : Option Segment) → segment_at plan k ≡ o
+    → OpsStand plan (ops_in o) (before_piece plan (OfScript k))
 stand_in plan well k None e = tt
 stand_in plan well k (Some s) e = well.stand.ops k s e
 
@@ -186,7 +191,8 @@ module _ (plan : Plan) (well : IsWellOrderedPlan plan) where
   -- on the cells before it
   pub alike_before : (i : ℕ) (cells : Cells) → cells ≡ before_piece plan (OfScript i) → RunsAlike plan i cells
   alike_before i cells e =
-      alike_at i cells (alike_same plan (ops_in (segment_at plan i)) cells (before_piece plan (OfScript i)) e) (λ last. subst (TellAll plan) (sym e) (told_before i last))
+      alike_at i cells (alike_same plan (ops_in (segment_at plan i)) cells (before_piece plan (OfScript i)) e)
+      (λ last. subst (TellAll plan) (sym e) (told_before i last))
 
   fresh_meets : (cells : Cells) → AreFresh plan cells → Meet (filled_first (ops_in (segment_at plan 0))) cells (before_piece plan (OfScript 0))
   fresh_meets cells fresh w le = fresh w le ∙ sym (first_blank plan w)
@@ -194,10 +200,12 @@ module _ (plan : Plan) (well : IsWellOrderedPlan plan) where
   fresh_tells : (cells : Cells) → AreFresh plan cells → suc 0 ≡ length plan.segments.items → TellAll plan cells
   fresh_tells cells fresh last j h is =
       let low = filled_below plan (ops_in (segment_at plan 0)) (fits_in plan well 0 (segment_at plan 0) refl) in
-      tell_same (own_word plan j h) (part_run plan j h (before_piece plan (OfJob j h))).traps cells (before_piece plan (OfScript 0)) (λ w le. fresh_meets cells fresh w (omega (arith, low, le))) (told_before 0 last j h is)
+      tell_same (own_word plan j h) (part_run plan j h (before_piece plan (OfJob j h))).traps cells (before_piece plan (OfScript 0))
+      (λ w le. fresh_meets cells fresh w (omega (arith, low, le))) (told_before 0 last j h is)
 
   -- on fresh cells
   pub alike_fresh : (cells : Cells) → AreFresh plan cells → RunsAlike plan 0 cells
   alike_fresh cells fresh =
-      alike_at 0 cells (alike_ops plan (ops_in (segment_at plan 0)) cells (before_piece plan (OfScript 0)) (fits_in plan well 0 (segment_at plan 0) refl) (fresh_meets cells fresh))
+      alike_at 0 cells (alike_ops plan (ops_in (segment_at plan 0)) cells (before_piece plan (OfScript 0)) (fits_in plan well 0 (segment_at plan 0) refl)
+      (fresh_meets cells fresh))
       (fresh_tells cells fresh)

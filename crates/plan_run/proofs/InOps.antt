@@ -15,10 +15,12 @@ use Rattle.plan_run.specs.Says.{Said, Says}
 use Rattle.plan_run.proofs.Saying.{InText, text_start, text_next, text_end}
 
 pub all_tail : {A : Type 0} (P : A → Type 0) (rest xs : List A) (x : A) → rest ≡ x ∷ xs → All P rest → All P xs
-all_tail P rest xs x e h k d less = let q : All P (x ∷ xs) = subst (λ (l : List _). All P l) e h in let more : suc k < length (x ∷ xs) = grind (arith, common_steps) in q (suc k) d more
+all_tail P rest xs x e h k d less = let q : All P (x ∷ xs) = subst (λ (l : List _). All P l) e h in
+    let more : suc k < length (x ∷ xs) = grind (arith, common_steps) in q (suc k) d more
 
 pub all_head : {A : Type 0} (P : A → Type 0) (rest xs : List A) (x : A) → rest ≡ x ∷ xs → All P rest → P x
-all_head P rest xs x e h = let q : All P (x ∷ xs) = subst (λ (l : List _). All P l) e h in let more : 0 < length (x ∷ xs) = grind (arith, common_steps) in q 0 x more
+all_head P rest xs x e h = let q : All P (x ∷ xs) = subst (λ (l : List _). All P l) e h in let more : 0 < length (x ∷ xs) = grind (arith, common_steps) in
+    q 0 x more
 
 pub first_way : (a b : Bool) → a ≡ true → (a || b) ≡ true
 first_way true b h = refl
@@ -46,15 +48,18 @@ module _ (plan : Plan) (readable writable : ℕ → Bool) (a b : Said) (ops rest
   op_fits at p = all_head (OpFits plan) rest tail op at p.fits
 
   pub op_reads : rest ≡ op ∷ tail → In rest → MayReadIn (act_touches op.act) readable
-  op_reads at p w t = let q : In (op ∷ tail) = subst In at p in q.reads w (reads_append (act_touches op.act) (ops_touch tail) w ∙ first_way (reads_in (act_touches op.act) w) _ t)
+  op_reads at p w t = let q : In (op ∷ tail) = subst In at p in q.reads w
+      (reads_append (act_touches op.act) (ops_touch tail) w ∙ first_way (reads_in (act_touches op.act) w) _ t)
 
   pub op_writes : rest ≡ op ∷ tail → In rest → MayWriteIn (act_touches op.act) writable
-  op_writes at p w t = let q : In (op ∷ tail) = subst In at p in q.writes w (writes_append (act_touches op.act) (ops_touch tail) w ∙ first_way (writes_in (act_touches op.act) w) _ t)
+  op_writes at p w t = let q : In (op ∷ tail) = subst In at p in q.writes w
+      (writes_append (act_touches op.act) (ops_touch tail) w ∙ first_way (writes_in (act_touches op.act) w) _ t)
 
   pub op_stands : rest ≡ op ∷ tail → In rest → ActStands op.act d
   op_stands at p = let q : In (op ∷ tail) = subst In at p in q.stands.0
 
-  module _ (z : Said) (e : Cells) (x : Bool) (at : rest ≡ op ∷ tail) (p : In rest) (cells : e ≡ op_cells plan op d) (is : one_if x ≡ one_if_refused (op_answer plan op d)) where
+  module _ (z : Said) (e : Cells) (x : Bool) (at : rest ≡ op ∷ tail) (p : In rest) (cells : e ≡ op_cells plan op d)
+      (is : one_if x ≡ one_if_refused (op_answer plan op d)) where
     pub op_step : Says b z (op_line plan op d) → InOps plan readable writable a z ops tail c e r (s + one_if x)
     op_step says =
         let q : In (op ∷ tail) = subst In at p in
@@ -85,8 +90,17 @@ module _ (plan : Plan) (readable writable : ℕ → Bool) (a b : Said) (ops rest
         omega (arith, k, one, few)
 
 pub ops_start : (plan : Plan) (readable writable : ℕ → Bool) (a : Said) (ops : List Op) (c : Cells) (r : ℕ)
-    → All (OpFits plan) ops → MayReadIn (ops_touch ops) readable → MayWriteIn (ops_touch ops) writable → OpsStand plan ops c → InOps plan readable writable a a ops ops c c r r
-ops_start plan readable writable a ops c r fits reads writes stands = record { fits = fits; reads = reads; writes = writes; stands = stands; cells = refl; text = text_start a (ops_lines plan ops c); count = refl }
+    → All (OpFits plan) ops → MayReadIn (ops_touch ops) readable → MayWriteIn (ops_touch ops) writable → OpsStand plan ops c
+    → InOps plan readable writable a a ops ops c c r r
+ops_start plan readable writable a ops c r fits reads writes stands = record {
+  fits = fits;
+  reads = reads;
+  writes = writes;
+  stands = stands;
+  cells = refl;
+  text = text_start a (ops_lines plan ops c);
+  count = refl;
+}
 
 pub record RanOps (plan : Plan) (a b : Said) (ops : List Op) (c d : Cells) (r s : ℕ) : Type 0 where
   pub cells : d ≡ ops_cells plan ops c
@@ -101,7 +115,9 @@ ops_end plan readable writable a b ops rest c d r s e p =
     record { cells = sym q.cells; text = text_end a b (ops_lines plan ops c) q.text; count = omega (arith, k) }
 
 -- the same on a memory that allows the same
-pub in_mem : (plan : Plan) (readable readable' writable writable' : ℕ → Bool) (a b : Said) (ops rest : List Op) (c d : Cells) (r s : ℕ) → readable' ≡ readable → writable' ≡ writable
+pub in_mem : (plan : Plan) (readable readable' writable writable' : ℕ → Bool) (a b : Said) (ops rest : List Op) (c d : Cells) (r s : ℕ) → readable' ≡ readable
+    → writable' ≡ writable
     → InOps plan readable writable a b ops rest c d r s → InOps plan readable' writable' a b ops rest c d r s
 in_mem plan readable readable' writable writable' a b ops rest c d r s e h p =
-    subst (λ (x : ℕ → Bool). InOps plan x writable' a b ops rest c d r s) (sym e) (subst (λ (x : ℕ → Bool). InOps plan readable x a b ops rest c d r s) (sym h) p)
+    subst (λ (x : ℕ → Bool). InOps plan x writable' a b ops rest c d r s) (sym e)
+    (subst (λ (x : ℕ → Bool). InOps plan readable x a b ops rest c d r s) (sym h) p)

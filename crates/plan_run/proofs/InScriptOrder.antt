@@ -55,7 +55,8 @@ module _ (plan : Plan) (well : IsWellOrderedPlan plan) where
   abbrev place : ℕ → ℕ
   place k = segment_place plan.jobs.items plan.segments.items k
 
-  step : (x : Piece) (p : ℕ) → IsPieceOf plan x → p ≡ place_of plan x → cells_before (graph_of plan) (suc p) ≡ piece_cells plan x (cells_before (graph_of plan) p)
+  step : (x : Piece) (p : ℕ) → IsPieceOf plan x → p ≡ place_of plan x → cells_before (graph_of plan) (suc p) ≡ piece_cells plan x
+      (cells_before (graph_of plan) p)
   unfolding graph_of
   step x p is at = ap (λ o. cells_at plan o (cells_before (graph_of plan) p)) (ap (piece_at plan) at ∙ at_place plan well.order.starts x is)
 
@@ -70,7 +71,8 @@ module _ (plan : Plan) (well : IsWellOrderedPlan plan) where
       c ∙ (sym (step (OfScript k) (place k) lt refl) ∙ ap (λ n. cells_before (graph_of plan) (suc n)) z)
 
   -- the piece after the pieces that segment k starts is segment k + 1
-  next_is : (k n : ℕ) (cells : Cells) → k < length plan.segments.items → n ≡ length (started plan.jobs.items (starts_in (segment_at plan k))) → cells ≡ before_part plan k n → cells ≡ before_piece plan (OfScript (k + 1))
+  next_is : (k n : ℕ) (cells : Cells) → k < length plan.segments.items → n ≡ length (started plan.jobs.items (starts_in (segment_at plan k)))
+      → cells ≡ before_part plan k n → cells ≡ before_piece plan (OfScript (k + 1))
   unfolding before_piece place_of
   next_is k n cells lt e c =
       let r = place_next plan.jobs.items plan.segments.items k lt in
@@ -78,10 +80,12 @@ module _ (plan : Plan) (well : IsWellOrderedPlan plan) where
       let at : suc (place k + n) ≡ place (suc k) = omega (arith, r, e) in
       c ∙ ap (cells_before (graph_of plan)) (at ∙ ap place up)
 
-  pub none_end : (k : ℕ) (cells : Cells) → k < length plan.segments.items → starts_in (segment_at plan k) ≡ None → cells ≡ segment_cells plan k → cells ≡ before_piece plan (OfScript (k + 1))
+  pub none_end : (k : ℕ) (cells : Cells) → k < length plan.segments.items → starts_in (segment_at plan k) ≡ None → cells ≡ segment_cells plan k
+      → cells ≡ before_piece plan (OfScript (k + 1))
   none_end k cells lt none c = next_is k 0 cells lt (sym (ap (λ o. length (started plan.jobs.items o)) none)) (segment_step k cells lt c)
 
-  module _ (k : ℕ) (id : JobId) (below : k < length plan.segments.items) (starts : starts_in (segment_at plan k) ≡ Some id) (j : ℕ) (number : id.0 ≡ suc j) (x : JobPlan) (has : job_at plan j ≡ Some x) where
+  module _ (k : ℕ) (id : JobId) (below : k < length plan.segments.items) (starts : starts_in (segment_at plan k) ≡ Some id) (j : ℕ) (number : id.0 ≡ suc j)
+      (x : JobPlan) (has : job_at plan j ≡ Some x) where
     own : k ≡ starter_of plan j
     own = starter_alone plan well.order.starts j k (ap (λ o. is_job o (suc j)) starts ∙ eq-eqb id.0 (suc j) number)
 
@@ -92,7 +96,8 @@ module _ (plan : Plan) (well : IsWellOrderedPlan plan) where
     part_named : (p i : ℕ) → p ≡ x.first.0 + i → i < pieces_of x → piece_numbered plan p ≡ OfJob j i
     part_named p i at lt = ap (piece_numbered plan) (at ∙ ap (λ n. n + i) (well.order.firsts j x has)) ∙ numbered_number plan (OfJob j i) (x, has, lt)
 
-    pub part_step : (i p : ℕ) (old new : Cells) → i < pieces_of x → p ≡ x.first.0 + i → old ≡ before_part plan k i → new ≡ piece_cells plan (piece_numbered plan p) old → new ≡ before_part plan k (i + 1)
+    pub part_step : (i p : ℕ) (old new : Cells) → i < pieces_of x → p ≡ x.first.0 + i → old ≡ before_part plan k i
+        → new ≡ piece_cells plan (piece_numbered plan p) old → new ≡ before_part plan k (i + 1)
     part_step i p old new lt at o n =
         let up : suc (place k + i) ≡ place k + (i + 1) = omega arith in
         n ∙ (ap (λ y. piece_cells plan y old) (part_named p i at lt)
@@ -135,7 +140,8 @@ module _ (plan : Plan) (well : IsWellOrderedPlan plan) (id : JobId) (is : IsJobO
   end_within = let a = well.order.firsts (id.0 - 1) x there in let b = pieces_within plan.jobs.items (id.0 - 1) x there in omega (arith, a, b)
 
 -- the job that a segment starts
-module _ (plan : Plan) (well : IsWellOrderedPlan plan) (k : ℕ) (below : k < length plan.segments.items) (s : Segment) (at : s ≡ get_or plan.segments.items k s) where
+module _ (plan : Plan) (well : IsWellOrderedPlan plan) (k : ℕ) (below : k < length plan.segments.items) (s : Segment)
+    (at : s ≡ get_or plan.segments.items k s) where
   pub here : segment_at plan k ≡ Some s
   here = slice_get_read plan.segments.items (length plan.segments.items) k s refl below at
 
@@ -143,4 +149,5 @@ module _ (plan : Plan) (well : IsWellOrderedPlan plan) (k : ℕ) (below : k < le
   starts_is o e = ap starts_in here ∙ e
 
   pub started_job : (id : JobId) → s.starts ≡ Some id → IsJobOf plan id
-  started_job id e = let h = started_within plan.segments.items 1 (length plan.jobs.items) well.order.starts k id (starts_is (Some id) e) in let a = h.0 in let b = h.1 in (omega (arith, a), omega (arith, b))
+  started_job id e = let h = started_within plan.segments.items 1 (length plan.jobs.items) well.order.starts k id (starts_is (Some id) e) in let a = h.0 in
+      let b = h.1 in (omega (arith, a), omega (arith, b))

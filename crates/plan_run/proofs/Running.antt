@@ -17,10 +17,12 @@ use Rattle.plan_run.proofs.Saying.{says_after, says_as}
 -- ONE SEGMENT MORE
 
 pub lines_next : (plan : Plan) (a b c : Said) (i : ℕ) → Says a b (lines_of plan i) → Says b c (segment_lines plan i) → Says a c (lines_of plan (i + 1))
-lines_next plan a b c i p q = let e : suc i ≡ i + 1 = omega arith in subst (λ (k : ℕ). Says a c (lines_of plan k)) e (says_after a b c (lines_of plan i) (segment_lines plan i) p q)
+lines_next plan a b c i p q = let e : suc i ≡ i + 1 = omega arith in subst (λ (k : ℕ). Says a c (lines_of plan k)) e
+    (says_after a b c (lines_of plan i) (segment_lines plan i) p q)
 
 pub refused_next : (plan : Plan) (i r s : ℕ) → r ≡ refused_of plan i → s ≡ r + segment_refused plan i → s ≡ refused_of plan (i + 1)
-refused_next plan i r s p q = let e : suc i ≡ i + 1 = omega arith in subst (λ (k : ℕ). s ≡ refused_of plan k) e (q ∙ ap (λ (x : ℕ). x + segment_refused plan i) p)
+refused_next plan i r s p q = let e : suc i ≡ i + 1 = omega arith in subst (λ (k : ℕ). s ≡ refused_of plan k) e
+    (q ∙ ap (λ (x : ℕ). x + segment_refused plan i) p)
 
 -- A count of 64 bits holds the refused statements of the next segment too.
 pub refused_few : (plan : Plan) (i r : ℕ) → IsWellOrderedPlan plan → r ≡ refused_of plan i → r + segment_refused plan i < 2 ^ 64
@@ -50,12 +52,14 @@ joins_all old new waited waits text none empty p =
     let same : text ≡ p.bytes = sym (ap (λ l. l ++ text) none) ∙ (p.whole ∙ (ap (λ l. p.bytes ++ l) empty ∙ append-nil p.bytes)) in
     subst (Appends old new) (sym same) p.taken
 
-stops_all : (old new : Option (List ℕ)) (waited text : List ℕ) → waited ≡ [] → (n : ℕ) × Appends old new (take n (waited ++ text)) → (n : ℕ) × Appends old new (take n text)
+stops_all : (old new : Option (List ℕ)) (waited text : List ℕ) → waited ≡ [] → (n : ℕ) × Appends old new (take n (waited ++ text))
+    → (n : ℕ) × Appends old new (take n text)
 stops_all old new waited text none p = subst (λ l. (n : ℕ) × Appends old new (take n l)) (ap (λ l. l ++ text) none) p
 
 module _ (plan : Plan) (text : List ℕ) (a b : Said) (begins : a.failed ≡ false) (none : a.waits ≡ []) (says : Says a b text) where
   -- which ends so
-  pub whole_run : (r : RunEnd) → is_fault r ≡ b.failed → (b.failed ≡ false → b.waits ≡ []) → IsReport plan (report_of r) → IsRun plan text a.taken b.taken a.faults b.faults r
+  pub whole_run : (r : RunEnd) → is_fault r ≡ b.failed → (b.failed ≡ false → b.waits ≡ []) → IsReport plan (report_of r)
+      → IsRun plan text a.taken b.taken a.faults b.faults r
   whole_run (Done r) e empty is =
       let w = says.whole begins (sym e) in
       (joins_all a.taken b.taken a.waits b.waits text none (empty (sym e)) w.0, w.1, is)

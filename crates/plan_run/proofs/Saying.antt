@@ -55,7 +55,8 @@ says_nothing s text is = record {
 }
 
 -- it put all of the text
-pub says_put : (s t : Said) (text : List ℕ) → s.failed ≡ false → t.failed ≡ false → Joins s.taken s.waits t.taken t.waits text → t.faults ≡ s.faults → Says s t text
+pub says_put : (s t : Said) (text : List ℕ) → s.failed ≡ false → t.failed ≡ false → Joins s.taken s.waits t.taken t.waits text → t.faults ≡ s.faults
+    → Says s t text
 says_put s t text is same p e = record {
   whole = λ h i. (p, e);
   part = λ h i. absurd (not_both i same);
@@ -63,7 +64,8 @@ says_put s t text is same p e = record {
 }
 
 -- a write failed
-pub says_part : (s t : Said) (text : List ℕ) → s.failed ≡ false → t.failed ≡ true → Stops s.taken t.taken (s.waits ++ text) → Rose s.faults t.faults → Says s t text
+pub says_part : (s t : Said) (text : List ℕ) → s.failed ≡ false → t.failed ≡ true → Stops s.taken t.taken (s.waits ++ text) → Rose s.faults t.faults
+    → Says s t text
 says_part s t text is fails p rose = record {
   whole = λ h i. absurd (not_both fails i);
   part = λ h i. (p, rose);
@@ -122,7 +124,8 @@ text_end s t text p = let e = p.is in let same : text ≡ p.done = grind (arith,
 
 -- WHAT WAITS IS WRITTEN
 
-pub joins_flushed : (old : Option (List ℕ)) (waited : List ℕ) (new : Option (List ℕ)) (waits : List ℕ) → Appends old new waited → waits ≡ [] → Joins old waited new waits []
+pub joins_flushed : (old : Option (List ℕ)) (waited : List ℕ) (new : Option (List ℕ)) (waits : List ℕ) → Appends old new waited → waits ≡ []
+    → Joins old waited new waits []
 joins_flushed old waited new waits p none = record { bytes = waited; taken = p; whole = ap (λ l. waited ++ l) (sym none) }
 
 pub stops_flushed : (old new : Option (List ℕ)) (waited : List ℕ) → Stops old new waited → Stops old new (waited ++ [])

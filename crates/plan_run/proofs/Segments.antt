@@ -29,14 +29,16 @@ as_true b e = e
 
 -- the lease of a segment allows what the segment touches
 
-pub may_read_as : (plan q : Plan) → plan ≡ q → (p i : ℕ) → p ≡ job_pieces plan + i → (read : ℕ → Bool) → reads q p ≡ read → MayReadIn (touches plan (OfScript i)) read
+pub may_read_as : (plan q : Plan) → plan ≡ q → (p i : ℕ) → p ≡ job_pieces plan + i → (read : ℕ → Bool) → reads q p ≡ read
+    → MayReadIn (touches plan (OfScript i)) read
 may_read_as plan q e p i at read is w t =
     let here : piece_numbered plan p ≡ OfScript i = ap (piece_numbered plan) at ∙ of_script plan i in
     let same : read w ≡ reads_in (touches plan (OfScript i)) w =
     ap (λ (f : ℕ → Bool). f w) (sym is) ∙ (ap (λ (r : Plan). reads r p w) (sym e) ∙ ap (λ (x : Piece). reads_in (touches plan x) w) here) in
     as_true (read w) (same ∙ t)
 
-pub may_write_as : (plan q : Plan) → plan ≡ q → (p i : ℕ) → p ≡ job_pieces plan + i → (write : ℕ → Bool) → writes q p ≡ write → MayWriteIn (touches plan (OfScript i)) write
+pub may_write_as : (plan q : Plan) → plan ≡ q → (p i : ℕ) → p ≡ job_pieces plan + i → (write : ℕ → Bool) → writes q p ≡ write
+    → MayWriteIn (touches plan (OfScript i)) write
 may_write_as plan q e p i at write is w t =
     let here : piece_numbered plan p ≡ OfScript i = ap (piece_numbered plan) at ∙ of_script plan i in
     let same : write w ≡ writes_in (touches plan (OfScript i)) w =
@@ -66,7 +68,8 @@ module _ (plan : Plan) (well : IsWellOrderedPlan plan) (i : ℕ) (below : i < le
     may_write writable now e h w t =
         let own : List Touch = cond (is_last plan i) (all_own_words plan ∷ []) [] in
         let there : writes_in (ops_touch (ops_in (segment_at plan i))) w ≡ true = ap (λ (l : List Op). writes_in (ops_touch l) w) are ∙ t in
-        subst (λ (f : ℕ → Bool). IsTrue (f w)) (sym e) (h w (writes_append (ops_touch (ops_in (segment_at plan i))) own w ∙ first_way _ (writes_in own w) there))
+        subst (λ (f : ℕ → Bool). IsTrue (f w)) (sym e) (h w (writes_append (ops_touch (ops_in (segment_at plan i))) own w
+        ∙ first_way _ (writes_in own w) there))
 
     module _ (cells : Cells) (alike : RunsAlike plan i cells) where
       pub stands : OpsStand plan ops cells
@@ -96,5 +99,6 @@ module _ (plan : Plan) (well : IsWellOrderedPlan plan) (i : ℕ) (below : i < le
     may_read_own readable h w lo hi =
         let yes : is_last plan i ≡ true = eq-eqb (suc i) (length plan.segments.items) is_end in
         let own : reads_in (cond (is_last plan i) (all_own_words plan ∷ []) []) w ≡ true =
-        ap (λ (b : Bool). reads_in (cond b (all_own_words plan ∷ []) []) w) yes ∙ first_way (has_word (all_own_words plan) w) false (has_it (all_own_words plan) w lo hi) in
+        ap (λ (b : Bool). reads_in (cond b (all_own_words plan ∷ []) []) w) yes
+        ∙ first_way (has_word (all_own_words plan) w) false (has_it (all_own_words plan) w lo hi) in
         h w (reads_append (ops_touch (ops_in (segment_at plan i))) _ w ∙ second_way (reads_in (ops_touch (ops_in (segment_at plan i))) w) _ own)

@@ -44,11 +44,13 @@ module _ (ts : List JobTrap) (us : List (ℕ × Trap)) (j : ℕ) (old new : Repo
       let e : length (ts ++ map (job_trap j) us) ≡ length ts + length us = grind (arith, common_steps) in
       omega (arith, n, k, e, count)
 
-  first_stays : (xs ys : List JobTrap) (r s : Report) → s.job ≡ r.job → s.index ≡ r.index → s.trap ≡ r.trap → 0 < length xs → IfSome (slice_get xs 0) (Names r) → IfSome (slice_get (xs ++ ys) 0) (Names s)
+  first_stays : (xs ys : List JobTrap) (r s : Report) → s.job ≡ r.job → s.index ≡ r.index → s.trap ≡ r.trap → 0 < length xs → IfSome (slice_get xs 0) (Names r)
+      → IfSome (slice_get (xs ++ ys) 0) (Names s)
   first_stays [] ys r s a b d lt h = absurd (omega (arith, lt))
   first_stays (x ∷ xs) ys r s a b d lt h = record { job = h.job ∙ ap (λ id. id.0) (sym a); index = h.index ∙ sym b; trap = h.trap ∙ sym d }
 
-  pub report_more : 0 < old.traps → new.traps ≡ old.traps + notes.count → new.job ≡ old.job → new.index ≡ old.index → new.trap ≡ old.trap → IsReportOf (ts ++ map (job_trap j) us) new
+  pub report_more : 0 < old.traps → new.traps ≡ old.traps + notes.count → new.job ≡ old.job → new.index ≡ old.index → new.trap ≡ old.trap
+      → IsReportOf (ts ++ map (job_trap j) us) new
   report_more some count a b d = record {
     number = longer count;
     first = first_stays ts (map (job_trap j) us) old new a b d (let n = is.number in omega (arith, n, some)) is.first;
@@ -58,16 +60,19 @@ module _ (ts : List JobTrap) (us : List (ℕ × Trap)) (j : ℕ) (old new : Repo
   none_yet [] e = refl
   none_yet (x ∷ xs) e = let h : suc (length xs) ≡ 0 = e in absurd (omega (arith, h))
 
-  first_of : (vs : List (ℕ × Trap)) (t : ℕ × Trap) (s : Report) → slice_get vs 0 ≡ Some t → s.job.0 ≡ suc j → s.index ≡ t.0 → s.trap ≡ t.1 → IfSome (slice_get (map (job_trap j) vs) 0) (Names s)
+  first_of : (vs : List (ℕ × Trap)) (t : ℕ × Trap) (s : Report) → slice_get vs 0 ≡ Some t → s.job.0 ≡ suc j → s.index ≡ t.0 → s.trap ≡ t.1
+      → IfSome (slice_get (map (job_trap j) vs) 0) (Names s)
   first_of [] t s e a b d = absurd (none_some e)
   first_of (v ∷ vs) t s e a b d = let same : v ≡ t = some_is e in record { job = sym a; index = ap (λ x. x.0) same ∙ sym b; trap = ap (λ x. x.1) same ∙ sym d }
 
-  pub report_first : (k : ℕ) (t : Trap) → notes.first ≡ Some (k, t) → old.traps ≡ 0 → new.traps ≡ old.traps + notes.count → new.job.0 ≡ suc j → new.index ≡ k → new.trap ≡ t → IsReportOf (ts ++ map (job_trap j) us) new
+  pub report_first : (k : ℕ) (t : Trap) → notes.first ≡ Some (k, t) → old.traps ≡ 0 → new.traps ≡ old.traps + notes.count → new.job.0 ≡ suc j → new.index ≡ k
+      → new.trap ≡ t → IsReportOf (ts ++ map (job_trap j) us) new
   report_first k t at none count a b d = record {
     number = longer count;
     first =
         let empty : ts ≡ [] = none_yet ts (is.number ∙ none) in
-        subst (λ (l : List JobTrap). IfSome (slice_get (l ++ map (job_trap j) us) 0) (Names new)) (sym empty) (first_of us (k, t) new (sym note.first ∙ at) a b d);
+        subst (λ (l : List JobTrap). IfSome (slice_get (l ++ map (job_trap j) us) 0) (Names new)) (sym empty)
+        (first_of us (k, t) new (sym note.first ∙ at) a b d);
   }
 
 -- The pieces of a plan.
@@ -96,7 +101,8 @@ module _ (plan : Plan) (p : ℕ) (lt : p < job_pieces plan) where
         subst (λ (y : Piece). length (piece_run plan y) ≤ MOST_INDEXES) (sym n.2) (traps_are_told plan well n.0 n.1 (is_piece n.0 n.1 n.2)).few
 
     pub told_piece : (own : ℕ) (cells : Cells) (notes : Notes) → own ≡ plan.cells + 3 * p → TellAll plan cells
-        → ((traps : List (ℕ × Trap)) → TellTraps own traps cells → length traps ≤ MOST_INDEXES → AreIndexesBelow MOST_INDEXES traps → IsNoteOf traps notes) → NotesPiece plan p notes
+        → ((traps : List (ℕ × Trap)) → TellTraps own traps cells → length traps ≤ MOST_INDEXES → AreIndexesBelow MOST_INDEXES traps → IsNoteOf traps notes)
+        → NotesPiece plan p notes
     told_piece own cells notes at tells f =
         let n = of_job plan p lt in
         let is = is_piece n.0 n.1 n.2 in
@@ -114,20 +120,27 @@ job_below plan p j i lt is = let h = is_piece plan p lt j i is in get_below plan
 
 -- one piece more
 
-module _ (plan : Plan) (well : IsWellOrderedPlan plan) (p : ℕ) (lt : p < job_pieces plan) (old new : Report) (notes : Notes) (note : NotesPiece plan p notes) (is : IsReportOf (first_traps plan p) old) where
+module _ (plan : Plan) (well : IsWellOrderedPlan plan) (p : ℕ) (lt : p < job_pieces plan) (old new : Report) (notes : Notes) (note : NotesPiece plan p notes)
+    (is : IsReportOf (first_traps plan p) old) where
   pub few_more : (n : ℕ) → n ≡ old.traps + notes.count → old.traps ≤ MOST_INDEXES * p → n ≤ MOST_INDEXES * (p + 1)
   few_more n e few = let a = run_few plan p lt well in let b = note.count in omega (arith, e, few, a, b)
 
   pub same_next : notes.first ≡ None → IsReportOf (first_traps plan (p + 1)) old
   same_next none =
       let n = of_job plan p lt in
-      subst (λ (l : List JobTrap). IsReportOf l old) (sym (next_traps plan p lt n.0 n.1 n.2)) (report_same (first_traps plan p) (piece_run plan (piece_numbered plan p)) n.0 old new notes is note none)
+      subst (λ (l : List JobTrap). IsReportOf l old) (sym (next_traps plan p lt n.0 n.1 n.2))
+      (report_same (first_traps plan p) (piece_run plan (piece_numbered plan p)) n.0 old new notes is note none)
 
-  pub more_next : 0 < old.traps → new.traps ≡ old.traps + notes.count → new.job ≡ old.job → new.index ≡ old.index → new.trap ≡ old.trap → IsReportOf (first_traps plan (p + 1)) new
+  pub more_next : 0 < old.traps → new.traps ≡ old.traps + notes.count → new.job ≡ old.job → new.index ≡ old.index → new.trap ≡ old.trap
+      → IsReportOf (first_traps plan (p + 1)) new
   more_next some count a b d =
       let n = of_job plan p lt in
-      subst (λ (l : List JobTrap). IsReportOf l new) (sym (next_traps plan p lt n.0 n.1 n.2)) (report_more (first_traps plan p) (piece_run plan (piece_numbered plan p)) n.0 old new notes is note some count a b d)
+      subst (λ (l : List JobTrap). IsReportOf l new) (sym (next_traps plan p lt n.0 n.1 n.2))
+      (report_more (first_traps plan p) (piece_run plan (piece_numbered plan p)) n.0 old new notes is note some count a b d)
 
-  pub first_next : (j i k : ℕ) (t : Trap) (y : Piece) → y ≡ piece_numbered plan p → y ≡ OfJob j i → notes.first ≡ Some (k, t) → old.traps ≤ 0 → new.traps ≡ old.traps + notes.count → new.job.0 ≡ j + 1 → new.index ≡ k → new.trap ≡ t → IsReportOf (first_traps plan (p + 1)) new
+  pub first_next : (j i k : ℕ) (t : Trap) (y : Piece) → y ≡ piece_numbered plan p → y ≡ OfJob j i → notes.first ≡ Some (k, t) → old.traps ≤ 0
+      → new.traps ≡ old.traps + notes.count → new.job.0 ≡ j + 1 → new.index ≡ k → new.trap ≡ t → IsReportOf (first_traps plan (p + 1)) new
   first_next j i k t y here this at none count a b d =
-      subst (λ (l : List JobTrap). IsReportOf l new) (sym (next_traps plan p lt j i (sym here ∙ this))) (report_first (first_traps plan p) (piece_run plan (piece_numbered plan p)) j old new notes is note k t at (omega (arith, none)) count (omega (arith, a)) b d)
+      subst (λ (l : List JobTrap). IsReportOf l new) (sym (next_traps plan p lt j i (sym here ∙ this)))
+      (report_first (first_traps plan p) (piece_run plan (piece_numbered plan p)) j old new notes is note k t at (omega (arith, none)) count
+      (omega (arith, a)) b d)

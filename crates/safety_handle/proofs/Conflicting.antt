@@ -22,7 +22,8 @@ use Rattle.safety_handle.proofs.Latest.{latest_decide}
 low : (h : Handle) (k : ℕ) → jobs_of h k ≡ true → 0 < k
 low h k e = ltb-true 0 k (and_parts (nat_lt 0 k) (nat_lt k (MOST_JOBS + 1)) (and_parts (nat_lt 0 k && nat_lt k (MOST_JOBS + 1)) (bit_of h.words (k - 1)) e).0).0
 
-pub one_writer : (h : Handle) (w : ℕ) (readers : Jobs) → jobs_of h ≡ only w → 0 < w → jobs_of h ≡ conflicting_in (record { writer = w; readers = readers }) false
+pub one_writer : (h : Handle) (w : ℕ) (readers : Jobs) → jobs_of h ≡ only w → 0 < w
+    → jobs_of h ≡ conflicting_in (record { writer = w; readers = readers }) false
 one_writer h w readers e some = λ i k. (is k) i
   where
     is : (k : ℕ) → jobs_of h k ≡ (nat_lt 0 k && (nat_eq k w || false))
@@ -43,20 +44,24 @@ no_writer h readers e = λ i k. ((λ i. e i k) ∙ none k false (λ t. not_both 
 pub no_user : (h : Handle) (writes : Bool) → jobs_of h ≡ nobody → jobs_of h ≡ conflicting_in (record { writer = 0; readers = nobody }) writes
 no_user h writes e = λ i k. ((λ i. e i k) ∙ none k (writes && false) (λ t. not_both (and_parts writes false t).1 refl)) i
 
-pub with_readers : (writer readers all : Handle) (w : ℕ) → jobs_of writer ≡ conflicting_in (record { writer = w; readers = jobs_of readers }) false → jobs_of all ≡ both (jobs_of writer) (jobs_of readers)
+pub with_readers : (writer readers all : Handle) (w : ℕ) → jobs_of writer ≡ conflicting_in (record { writer = w; readers = jobs_of readers }) false
+    → jobs_of all ≡ both (jobs_of writer) (jobs_of readers)
     → jobs_of all ≡ conflicting_in (record { writer = w; readers = jobs_of readers }) true
 with_readers writer readers all w e f = λ i k. (is k) i
   where
     is : (k : ℕ) → jobs_of all k ≡ (nat_lt 0 k && (nat_eq k w || jobs_of readers k))
-    is k = (λ i. f i k) ∙ ap (λ x. x || jobs_of readers k) (λ i. e i k) ∙ same_test ((nat_lt 0 k && (nat_eq k w || false)) || jobs_of readers k) (nat_lt 0 k && (nat_eq k w || jobs_of readers k))
+    is k = (λ i. f i k) ∙ ap (λ x. x || jobs_of readers k) (λ i. e i k) ∙ same_test ((nat_lt 0 k && (nat_eq k w || false)) || jobs_of readers k)
+        (nat_lt 0 k && (nat_eq k w || jobs_of readers k))
         (λ t. ⊎_elim
         (λ a. let p = and_parts (nat_lt 0 k) (nat_eq k w || false) a in
-        and_from (nat_lt 0 k) (nat_eq k w || jobs_of readers k) p.0 (⊎_elim (λ q. or_left (nat_eq k w) (jobs_of readers k) q) (λ q. absurd (not_both q refl)) (or_cases (nat_eq k w) false p.1)))
+        and_from (nat_lt 0 k) (nat_eq k w || jobs_of readers k) p.0 (⊎_elim (λ q. or_left (nat_eq k w) (jobs_of readers k) q) (λ q. absurd (not_both q refl))
+        (or_cases (nat_eq k w) false p.1)))
         (λ r. and_from (nat_lt 0 k) (nat_eq k w || jobs_of readers k) (lt-ltb 0 k (low readers k r)) (or_right (nat_eq k w) (jobs_of readers k) r))
         (or_cases (nat_lt 0 k && (nat_eq k w || false)) (jobs_of readers k) t))
         (λ t. let p = and_parts (nat_lt 0 k) (nat_eq k w || jobs_of readers k) t in
         ⊎_elim
-        (λ q. or_left (nat_lt 0 k && (nat_eq k w || false)) (jobs_of readers k) (and_from (nat_lt 0 k) (nat_eq k w || false) p.0 (or_left (nat_eq k w) false q)))
+        (λ q. or_left (nat_lt 0 k && (nat_eq k w || false)) (jobs_of readers k)
+        (and_from (nat_lt 0 k) (nat_eq k w || false) p.0 (or_left (nat_eq k w) false q)))
         (λ r. or_right (nat_lt 0 k && (nat_eq k w || false)) (jobs_of readers k) r)
         (or_cases (nat_eq k w) (jobs_of readers k) p.1))
 
@@ -66,7 +71,8 @@ alike : (p q : Jobs) (n : ℕ) → ((k : ℕ) → 0 < k → p k ≡ q k) → gre
 alike p q zero h = refl
 alike p q (suc n) h = λ i. if (h (suc n) (omega arith) i) then suc n else (alike p q n h i)
 
-among : (b : Book) (l : Latest) (u : Uses) → AreUses b u → StandForUses b l u → (users : Handle) (writes : Bool) → jobs_of users ≡ conflicting_in l writes → AreUpTo b.count (jobs_of users)
+among : (b : Book) (l : Latest) (u : Uses) → AreUses b u → StandForUses b l u → (users : Handle) (writes : Bool) → jobs_of users ≡ conflicting_in l writes
+    → AreUpTo b.count (jobs_of users)
 among b l u U S users writes e j t =
     let p = and_parts (nat_lt 0 j) (nat_eq j l.writer || (writes && l.readers j)) (sym (λ i. e i j) ∙ t) in
     ⊎_elim

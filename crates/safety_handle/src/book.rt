@@ -63,6 +63,7 @@ impl SafetyBook {
     /// Unity's `CheckReadAndThrow`: whether a use that only reads, and waits for `deps`, may be made now. Writers
     /// conflict with it.
     ///
+    ///
     /// <https://docs.unity3d.com/ScriptReference/Unity.Collections.LowLevel.Unsafe.AtomicSafetyHandle.CheckReadAndThrow.html>
     pub fn check_read(&self, tag: &Tag, deps: &Handle, jobs: &JobBook) -> Result<(), Blocked>
         requires { AreUpTo (count_of jobs.now) (jobs_of deps.now) }
@@ -74,6 +75,7 @@ impl SafetyBook {
     /// Unity's `CheckWriteAndThrow`: whether a use that writes, and waits for `deps`, may be made now. Every user
     /// conflicts with it.
     ///
+    ///
     /// <https://docs.unity3d.com/ScriptReference/Unity.Collections.LowLevel.Unsafe.AtomicSafetyHandle.CheckWriteAndThrow.html>
     pub fn check_write(&self, tag: &Tag, deps: &Handle, jobs: &JobBook) -> Result<(), Blocked>
         requires { AreUpTo (count_of jobs.now) (jobs_of deps.now) }
@@ -84,6 +86,7 @@ impl SafetyBook {
 
     /// Unity's `CheckDeallocateAndThrow`: whether the container may be disposed once `deps` ended. Every user conflicts
     /// with it.
+    ///
     ///
     /// <https://docs.unity3d.com/ScriptReference/Unity.Collections.LowLevel.Unsafe.AtomicSafetyHandle.CheckDeallocateAndThrow.html>
     pub fn check_dispose(&self, tag: &Tag, deps: &Handle, jobs: &JobBook) -> Result<(), Blocked>
@@ -98,7 +101,10 @@ impl SafetyBook {
     pub fn note_read(&mut self, slot: Slot, j: JobId)
         requires live { (state_of self.old slot.0).live ≡ true }
         requires job { (0 < j.0) × (j.0 ≤ MOST_JOBS) }
-        ensures slot { state_of self.new slot.0 ≡ record (state_of self.old slot.0) { latest = noted_read (state_of self.old slot.0).latest j.0 } }
+        ensures slot { state_of self.new slot.0 ≡ record (state_of self.old slot.0) {
+          latest =
+              noted_read (state_of self.old slot.0).latest j.0;
+        } }
         ensures others { (k : ℕ) → (k ≢ slot.0) → state_of self.new k ≡ state_of self.old k }
     {
         let entry = &mut self.entries[slot.0 as usize];
@@ -109,7 +115,10 @@ impl SafetyBook {
     pub fn note_write(&mut self, slot: Slot, j: JobId)
         requires live { (state_of self.old slot.0).live ≡ true }
         requires job { (0 < j.0) × (j.0 ≤ MOST_JOBS) }
-        ensures slot { state_of self.new slot.0 ≡ record (state_of self.old slot.0) { latest = noted_write (state_of self.old slot.0).latest j.0 } }
+        ensures slot { state_of self.new slot.0 ≡ record (state_of self.old slot.0) {
+          latest =
+              noted_write (state_of self.old slot.0).latest j.0;
+        } }
         ensures others { (k : ℕ) → (k ≢ slot.0) → state_of self.new k ≡ state_of self.old k }
     {
         let entry = &mut self.entries[slot.0 as usize];
@@ -142,7 +151,10 @@ impl SafetyBook {
     pub fn bump_view(&mut self, slot: Slot)
         requires live { (state_of self.old slot.0).live ≡ true }
         requires few { (state_of self.old slot.0).view < MOST_STATEMENTS }
-        ensures slot { state_of self.new slot.0 ≡ record (state_of self.old slot.0) { view = (state_of self.old slot.0).view + 1 } }
+        ensures slot { state_of self.new slot.0 ≡ record (state_of self.old slot.0) {
+          view =
+              (state_of self.old slot.0).view + 1;
+        } }
         ensures others { (k : ℕ) → (k ≢ slot.0) → state_of self.new k ≡ state_of self.old k }
     {
         let entry = &mut self.entries[slot.0 as usize];

@@ -20,4 +20,5 @@ within d e f b p q s t = record {
 }
 
 pub mixes_within : MixesAreWithin
-mixes_within x = within _ _ _ _ (drawn_below _ 8 (omega arith)) (drawn_below _ 7 (omega arith)) (drawn_below _ 9 (omega arith)) (drawn_below _ 128 (omega arith))
+mixes_within x = within _ _ _ _ (drawn_below _ 8 (omega arith)) (drawn_below _ 7 (omega arith)) (drawn_below _ 9 (omega arith))
+    (drawn_below _ 128 (omega arith))

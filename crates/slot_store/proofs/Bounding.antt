@@ -55,7 +55,8 @@ back bounds (suc n) [] E = tt
 back bounds (suc n) (x ∷ xs) E = back bounds n xs E.1
 
 -- a hole is in place of some others
-pub bounded_given : (old new : List ℕ) (xs zs : List Span) (from to : ℕ) (hole : Span) → AreBounded old xs → ((b : ℕ) → slice_index old b ≤ slice_index new b) → hole.len ≤ slice_index new (block_of hole.start) → zs ≡ take from xs ++ hole ∷ drop to xs → AreBounded new zs
+pub bounded_given : (old new : List ℕ) (xs zs : List Span) (from to : ℕ) (hole : Span) → AreBounded old xs → ((b : ℕ) → slice_index old b ≤ slice_index new b)
+    → hole.len ≤ slice_index new (block_of hole.start) → zs ≡ take from xs ++ hole ∷ drop to xs → AreBounded new zs
 bounded_given old new xs zs from to hole B up noted q = subst (λ l. AreBounded new l) (sym q)
     (let E = raised old new xs up (each_of old xs B) in
     of_each new (take from xs ++ hole ∷ drop to xs) (joined new (take from xs) (hole ∷ drop to xs) (front new from xs E) (noted, back new to xs E)))
@@ -65,20 +66,24 @@ pub bounded_lower : (bounds : List ℕ) (xs zs : List Span) (from : ℕ) → Are
 bounded_lower bounds xs zs from B q = subst (λ l. AreBounded bounds l) (sym q) (of_each bounds (take from xs) (front bounds from xs (each_of bounds xs B)))
 
 -- a hole lost its first n numbers
-pub bounded_cut : (old new : List ℕ) (xs ys zs : List Span) (i n : ℕ) (x : Span) → AreBounded old xs → ((b : ℕ) → slice_index old b ≤ slice_index new b) → ys ≡ xs → i < length ys → x ≡ get_or xs i x → x.len - n ≤ slice_index new (block_of (x.start + n)) → zs ≡ take i xs ++ (rest_after (get_or xs i no_span) n ++ drop (i + 1) xs) → AreBounded new zs
+pub bounded_cut : (old new : List ℕ) (xs ys zs : List Span) (i n : ℕ) (x : Span) → AreBounded old xs → ((b : ℕ) → slice_index old b ≤ slice_index new b)
+    → ys ≡ xs → i < length ys → x ≡ get_or xs i x → x.len - n ≤ slice_index new (block_of (x.start + n))
+    → zs ≡ take i xs ++ (rest_after (get_or xs i no_span) n ++ drop (i + 1) xs) → AreBounded new zs
 bounded_cut old new xs ys zs i n x B up e lt r noted q = subst (λ l. AreBounded new l) (sym q)
     (let E = raised old new xs up (each_of old xs B) in
     let l : i < length xs = subst (λ m. i < length m) e lt in
     subst (λ (y : Span). AreBounded new (take i xs ++ (rest_after y n ++ drop (i + 1) xs))) (sym (same_hole xs i x l r))
     (of_each new (take i xs ++ (rest_after x n ++ drop (i + 1) xs))
-    (joined new (take i xs) (rest_after x n ++ drop (i + 1) xs) (front new i xs E) (joined new (rest_after x n) (drop (i + 1) xs) (rest (nat_eq x.len n)) (back new (i + 1) xs E)))))
+    (joined new (take i xs) (rest_after x n ++ drop (i + 1) xs) (front new i xs E)
+    (joined new (rest_after x n) (drop (i + 1) xs) (rest (nat_eq x.len n)) (back new (i + 1) xs E)))))
   where
     rest : (b : Bool) → Each new (if b then [] else (record { start = x.start + n; len = x.len - n }) ∷ [])
     rest true = tt
     rest false = (noted, tt)
 
 -- a block's bound falls to the greatest length of its holes
-pub bounded_seen : (bounds : List ℕ) (holes : List Span) (block most : ℕ) → block < length bounds → AreBounded bounds holes → ((k : ℕ) → k < length holes → block_of (start_of holes k) ≡ block → len_of holes k ≤ most) → AreBounded (set bounds block most) holes
+pub bounded_seen : (bounds : List ℕ) (holes : List Span) (block most : ℕ) → block < length bounds → AreBounded bounds holes
+    → ((k : ℕ) → k < length holes → block_of (start_of holes k) ≡ block → len_of holes k ≤ most) → AreBounded (set bounds block most) holes
 bounded_seen bounds holes block most in_list B seen k lt = ⊎_elim
     (λ e. subst (λ m. len_of holes k ≤ m) (sym (ap (λ b. get_or (set bounds block most) b 0) e ∙ get_or-set_same bounds block most 0 in_list)) (seen k lt e))
     (λ n. subst (λ m. len_of holes k ≤ m) (sym (get_or-set_other bounds block (block_of (start_of holes k)) most 0 n)) (B k lt))

@@ -26,7 +26,8 @@ rising (x ∷ xs) low (suc i) (suc k) top H lt in_list = rising xs (suc (x.start
 
 -- in a list of holes, no later one starts before an earlier one
 pub rises_to : (xs : List Span) (top i k : ℕ) → AreHoles 0 xs top → i ≤ k → k < length xs → start_of xs i ≤ start_of xs k
-rises_to xs top i k H le lt = ⊎_elim (λ less. let r = rising xs 0 i k top H less lt in omega arith) (λ ge. let q : k ≡ i = omega arith in subst (λ m. start_of xs i ≤ start_of xs m) (sym q) (omega arith)) (cases_lt i k)
+rises_to xs top i k H le lt = ⊎_elim (λ less. let r = rising xs 0 i k top H less lt in omega arith)
+    (λ ge. let q : k ≡ i = omega arith in subst (λ m. start_of xs i ≤ start_of xs m) (sym q) (omega arith)) (cases_lt i k)
 
 after_take : (xs : List Span) (low k : ℕ) → k < length xs → after low (take (suc k) xs) ≡ suc (end_of xs k)
 after_take [] low k lt = absurd (omega arith)
@@ -51,16 +52,25 @@ or_false : (b : Bool) → b ≡ (b || false)
 or_false true = refl
 or_false false = refl
 
-pub three : (w start s e last : ℕ) → start ≤ s → s ≤ e → e ≤ last → has_word (record { start = start; len = last - start }) w ≡ ((has_word (record { start = start; len = s - start }) w || has_word (record { start = s; len = e - s }) w) || has_word (record { start = e; len = last - e }) w)
+pub three : (w start s e last : ℕ) → start ≤ s → s ≤ e → e ≤ last → has_word (record { start = start; len = last - start }) w ≡
+    ((has_word (record { start = start; len = s - start }) w || has_word (record { start = s; len = e - s }) w)
+    || has_word (record { start = e; len = last - e }) w)
 three w start s e last a b c = ⊎_elim
-    (λ l. below (record { start = start; len = last - start }) w l ∙ sym (or_from _ _ (or_from _ _ (below (record { start = start; len = s - start }) w l) (below (record { start = s; len = e - s }) w (omega arith))) (below (record { start = e; len = last - e }) w (omega arith))))
+    (λ l. below (record { start = start; len = last - start }) w l ∙ sym (or_from _ _
+    (or_from _ _ (below (record { start = start; len = s - start }) w l) (below (record { start = s; len = e - s }) w (omega arith)))
+    (below (record { start = e; len = last - e }) w (omega arith))))
     (λ g. ⊎_elim
-    (λ l. inside (record { start = start; len = last - start }) w g (omega arith) ∙ sym (or_left _ _ (or_left _ _ (inside (record { start = start; len = s - start }) w g (omega arith)))))
+    (λ l. inside (record { start = start; len = last - start }) w g (omega arith)
+    ∙ sym (or_left _ _ (or_left _ _ (inside (record { start = start; len = s - start }) w g (omega arith)))))
     (λ g2. ⊎_elim
-    (λ l. inside (record { start = start; len = last - start }) w g (omega arith) ∙ sym (or_left _ _ (or_right _ _ (inside (record { start = s; len = e - s }) w g2 (omega arith)))))
+    (λ l. inside (record { start = start; len = last - start }) w g (omega arith)
+    ∙ sym (or_left _ _ (or_right _ _ (inside (record { start = s; len = e - s }) w g2 (omega arith)))))
     (λ g3. ⊎_elim
-    (λ l. inside (record { start = start; len = last - start }) w g (omega arith) ∙ sym (or_right _ _ (inside (record { start = e; len = last - e }) w g3 (omega arith))))
-    (λ g4. above (record { start = start; len = last - start }) w (omega arith) ∙ sym (or_from _ _ (or_from _ _ (above (record { start = start; len = s - start }) w (omega arith)) (above (record { start = s; len = e - s }) w (omega arith))) (above (record { start = e; len = last - e }) w (omega arith))))
+    (λ l. inside (record { start = start; len = last - start }) w g (omega arith)
+    ∙ sym (or_right _ _ (inside (record { start = e; len = last - e }) w g3 (omega arith))))
+    (λ g4. above (record { start = start; len = last - start }) w (omega arith)
+    ∙ sym (or_from _ _ (or_from _ _ (above (record { start = start; len = s - start }) w (omega arith))
+    (above (record { start = s; len = e - s }) w (omega arith))) (above (record { start = e; len = last - e }) w (omega arith))))
     (cases_lt w last))
     (cases_lt w e))
     (cases_lt w s))
@@ -70,18 +80,22 @@ empty : (s w : ℕ) → has_word (record { start = s; len = s - s }) w ≡ false
 empty s w = ⊎_elim (λ l. below (record { start = s; len = s - s }) w l) (λ g. above (record { start = s; len = s - s }) w (omega arith)) (cases_lt w s)
 
 -- The words s to e, without e, are live. The first n holes start before s, and the others don't.
-module _ (xs : List Span) (top s e n : ℕ) (H : AreHoles 0 xs top) (some : s < e) (live : (w : ℕ) → s ≤ w → w < e → is_live xs top w ≡ true) (P : IsPlace xs s n) where
+module _ (xs : List Span) (top s e n : ℕ) (H : AreHoles 0 xs top) (some : s < e) (live : (w : ℕ) → s ≤ w → w < e → is_live xs top w ≡ true)
+    (P : IsPlace xs s n) where
   pub ends_below : e ≤ top
   ends_below = let p = and_parts _ _ (live (e - 1) (omega arith) (omega arith)) in let l = ltb-true (e - 1) top p.0 in omega arith
 
   ends : (k : ℕ) → k < n → end_of xs k ≤ s
   ends k lt = ⊎_elim
-      (λ h. let b = P.before k lt in absurd (dead xs top s (one_has xs k s (let a = P.within in omega arith) (inside (get_or xs k no_span) s (omega arith) h)) (live s (omega arith) some)))
+      (λ h. let b = P.before k lt in absurd (dead xs top s (one_has xs k s (let a = P.within in omega arith) (inside (get_or xs k no_span) s (omega arith) h))
+      (live s (omega arith) some)))
       (λ h. h) (cases_lt s (end_of xs k))
 
   starts : (k : ℕ) → n ≤ k → k < length xs → e ≤ start_of xs k
   starts k le lt = ⊎_elim
-      (λ h. let b = P.behind k le lt in let l = some_len xs 0 k top H lt in absurd (dead xs top (start_of xs k) (one_has xs k (start_of xs k) lt (inside (get_or xs k no_span) (start_of xs k) (omega arith) (omega arith))) (live (start_of xs k) b h)))
+      (λ h. let b = P.behind k le lt in let l = some_len xs 0 k top H lt in
+      absurd (dead xs top (start_of xs k) (one_has xs k (start_of xs k) lt (inside (get_or xs k no_span) (start_of xs k) (omega arith) (omega arith)))
+      (live (start_of xs k) b h)))
       (λ h. h) (cases_lt (start_of xs k) e)
 
   halves : AreHoles 0 (take n xs) (after 0 (take n xs)) × AreHoles (after 0 (take n xs)) (drop n xs) top
@@ -127,7 +141,8 @@ module _ (xs : List Span) (top s e n : ℕ) (H : AreHoles 0 xs top) (some : s < 
 
       low_here : (m : ℕ) → n ≡ m → ((k : ℕ) → n ≡ k + 1 → end_of xs k ≢ s) → after 0 (take m xs) ≤ s
       low_here zero q b = omega arith
-      low_here (suc k) q b = let v = P.within in let a = after_take xs 0 k (omega arith) in let le = ends k (omega arith) in let ne = b k (omega arith) in omega arith
+      low_here (suc k) q b = let v = P.within in let a = after_take xs 0 k (omega arith) in let le = ends k (omega arith) in let ne = b k (omega arith) in
+          omega arith
 
   record Right (to last : ℕ) : Type 0 where
     gone : List Span
@@ -165,7 +180,8 @@ module _ (xs : List Span) (top s e n : ℕ) (H : AreHoles 0 xs top) (some : s < 
       same_words : (p q m l w : ℕ) → p ≡ q → m ≡ l → has_word (record { start = p; len = m }) w ≡ has_word (record { start = q; len = l }) w
       same_words p q m l w h k = ap (λ x. has_word (record { start = x; len = m }) w) h ∙ ap (λ x. has_word (record { start = q; len = x }) w) k
 
-      raised : (ys : List Span) (low more : ℕ) → AreHoles low ys top → ((x : Span) (zs : List Span) → ys ≡ x ∷ zs → more ≤ x.start) → more ≤ top → AreHoles more ys top
+      raised : (ys : List Span) (low more : ℕ) → AreHoles low ys top → ((x : Span) (zs : List Span) → ys ≡ x ∷ zs → more ≤ x.start) → more ≤ top
+          → AreHoles more ys top
       raised [] low more K first le = le
       raised (y ∷ ys) low more K first le = (first y ys refl, K.1)
 
@@ -188,11 +204,13 @@ module _ (xs : List Span) (top s e n : ℕ) (H : AreHoles 0 xs top) (some : s < 
     pub lower_live : e ≡ top → (w : ℕ) → is_live (take from xs) start w ≡ (is_live xs top w && not (has_word (record { start = s; len = e - s }) w))
     lower_live at_top w = ⊎_elim
         (λ lt. let o = L.order in let f = below (record { start = s; len = e - s }) w (omega arith) in
-        ap2 (nat_lt w start) (nat_lt w top) (some_has (take from xs) w) (some_has xs w) (lt-ltb w start lt ∙ sym (lt-ltb w top (omega arith))) (sym (some_all ∙ (ap (λ b. some_has (take from xs) w || b) (gone_false lt) ∙ sym (or_false (some_has (take from xs) w)))))
+        ap2 (nat_lt w start) (nat_lt w top) (some_has (take from xs) w) (some_has xs w) (lt-ltb w start lt ∙ sym (lt-ltb w top (omega arith)))
+        (sym (some_all ∙ (ap (λ b. some_has (take from xs) w || b) (gone_false lt) ∙ sym (or_false (some_has (take from xs) w)))))
         ∙ (and_true (is_live xs top w) ∙ ap (λ b. is_live xs top w && b) (sym (not_from_false _ f))))
         (λ ge. and_left _ _ (le-ltb w start ge) ∙ sym (⊎_elim
         (λ lt. ⊎_elim
-        (λ lt_s. and_left _ _ (dead_is (is_live xs top w) (λ l. dead xs top w (some_all ∙ or_right _ _ (L.words w ∙ inside (record { start = start; len = s - start }) w ge (omega arith))) l)))
+        (λ lt_s. and_left _ _ (dead_is (is_live xs top w) (λ l. dead xs top w
+        (some_all ∙ or_right _ _ (L.words w ∙ inside (record { start = start; len = s - start }) w ge (omega arith))) l)))
         (λ ge_s. and_right _ _ (not_from_true _ (inside (record { start = s; len = e - s }) w ge_s (omega arith))))
         (cases_lt w s))
         (λ past. and_left _ _ (and_left _ _ (le-ltb w top past)))
@@ -211,7 +229,8 @@ module _ (xs : List Span) (top s e n : ℕ) (H : AreHoles 0 xs top) (some : s < 
         dead_is false f = refl
 
         past_all : length xs ≤ n
-        past_all = ⊎_elim (λ lt. let l = starts n (omega arith) lt in let b = end_below xs 0 n top H lt in absurd (omega arith)) (λ ge. ge) (cases_lt n (length xs))
+        past_all = ⊎_elim (λ lt. let l = starts n (omega arith) lt in let b = end_below xs 0 n top H lt in absurd (omega arith)) (λ ge. ge)
+            (cases_lt n (length xs))
 
         some_all : some_has xs w ≡ (some_has (take from xs) w || some_has L.gone w)
         some_all = ap (λ l. some_has l w) (sym (take_past n xs past_all) ∙ L.is) ∙ some_append (take from xs) L.gone w
@@ -241,26 +260,34 @@ module _ (xs : List Span) (top s e n : ℕ) (H : AreHoles 0 xs top) (some : s < 
       pub given_live : (w : ℕ) → is_live (take from xs ++ hole ∷ drop to xs) top w ≡ (is_live xs top w && not (has_word (record { start = s; len = e - s }) w))
       given_live w =
           let words = three w start s e last L.order (omega arith) R.order in
-          ap (λ b. nat_lt w top && not b) (some_append (take from xs) (hole ∷ drop to xs) w ∙ ap (λ b. some_has (take from xs) w || (b || some_has (drop to xs) w)) (words ∙ ap2 _ _ _ _ (sym (L.words w)) (sym (R.words w))))
-          ∙ (alg (nat_lt w top) (some_has (take from xs) w) (some_has L.gone w) (has_word (record { start = s; len = e - s }) w) (some_has R.gone w) (some_has (drop to xs) w)
+          ap (λ b. nat_lt w top && not b) (some_append (take from xs) (hole ∷ drop to xs) w
+          ∙ ap (λ b. some_has (take from xs) w || (b || some_has (drop to xs) w)) (words ∙ ap2 _ _ _ _ (sym (L.words w)) (sym (R.words w))))
+          ∙ (alg (nat_lt w top) (some_has (take from xs) w) (some_has L.gone w) (has_word (record { start = s; len = e - s }) w) (some_has R.gone w)
+          (some_has (drop to xs) w)
           ∙ ap (λ b. (nat_lt w top && not b) && not (has_word (record { start = s; len = e - s }) w)) (sym all))
         where
-          ap2 : (a b c d : Bool) → a ≡ b → c ≡ d → ((a || has_word (record { start = s; len = e - s }) w) || c) ≡ ((b || has_word (record { start = s; len = e - s }) w) || d)
-          ap2 a b c d p q = ap (λ x. (x || has_word (record { start = s; len = e - s }) w) || c) p ∙ ap (λ x. (b || has_word (record { start = s; len = e - s }) w) || x) q
+          ap2 : (a b c d : Bool) → a ≡ b → c ≡ d → ((a || has_word (record { start = s; len = e - s }) w) || c) ≡
+              ((b || has_word (record { start = s; len = e - s }) w) || d)
+          ap2 a b c d p q = ap (λ x. (x || has_word (record { start = s; len = e - s }) w) || c) p
+              ∙ ap (λ x. (b || has_word (record { start = s; len = e - s }) w) || x) q
 
           all : some_has xs w ≡ ((some_has (take from xs) w || some_has L.gone w) || (some_has R.gone w || some_has (drop to xs) w))
-          all = ap (λ l. some_has l w) (sym (take-append-drop n xs)) ∙ (some_append (take n xs) (drop n xs) w ∙ both _ _ _ _ (ap (λ l. some_has l w) L.is ∙ some_append (take from xs) L.gone w) (ap (λ l. some_has l w) R.is ∙ some_append R.gone (drop to xs) w))
+          all = ap (λ l. some_has l w) (sym (take-append-drop n xs)) ∙ (some_append (take n xs) (drop n xs) w
+              ∙ both _ _ _ _ (ap (λ l. some_has l w) L.is ∙ some_append (take from xs) L.gone w)
+              (ap (λ l. some_has l w) R.is ∙ some_append R.gone (drop to xs) w))
             where
               both : (a b c d : Bool) → a ≡ b → c ≡ d → (a || c) ≡ (b || d)
               both a b c d p q = ap (λ x. x || c) p ∙ ap (λ x. b || x) q
 
 -- What `give` finds in the holes that it was given.
-module _ (xs : List Span) (top : ℕ) (span : Span) (H : AreHoles 0 xs top) (some : 0 < span.len) (live : (w : ℕ) → has_word span w ≡ true → is_live xs top w ≡ true) where
+module _ (xs : List Span) (top : ℕ) (span : Span) (H : AreHoles 0 xs top) (some : 0 < span.len)
+    (live : (w : ℕ) → has_word span w ≡ true → is_live xs top w ≡ true) where
   each : (w : ℕ) → span.start ≤ w → w < span.start + span.len → is_live xs top w ≡ true
   each w a b = live w (inside span w a b)
 
   pub end_within : span.start + span.len ≤ top
-  end_within = let p = and_parts _ _ (each (span.start + span.len - 1) (omega arith) (omega arith)) in let l = ltb-true (span.start + span.len - 1) top p.0 in omega arith
+  end_within = let p = and_parts _ _ (each (span.start + span.len - 1) (omega arith) (omega arith)) in let l = ltb-true (span.start + span.len - 1) top p.0 in
+      omega arith
 
   same_span : (w : ℕ) → has_word (record { start = span.start; len = (span.start + span.len) - span.start }) w ≡ has_word span w
   same_span w = let q : (span.start + span.len) - span.start ≡ span.len = omega arith in ap (λ m. has_word (record { start = span.start; len = m }) w) q
@@ -273,19 +300,25 @@ module _ (xs : List Span) (top : ℕ) (span : Span) (H : AreHoles 0 xs top) (som
     before = subst (λ l. JoinsBefore l n span.start from start) z J
 
     pub top_holes : (new : List Span) → new ≡ take from xs → AreHoles 0 new start
-    top_holes new q = subst (λ l. AreHoles 0 l start) (sym q) (lower_holes xs top span.start (span.start + span.len) n H (omega arith) each place from start before)
+    top_holes new q = subst (λ l. AreHoles 0 l start) (sym q) (lower_holes xs top span.start (span.start + span.len) n H
+        (omega arith) each place from start before)
 
-    pub top_live : (new : List Span) → new ≡ take from xs → span.start + span.len ≡ top → (w : ℕ) → is_live new start w ≡ (is_live xs top w && not (has_word span w))
+    pub top_live : (new : List Span) → new ≡ take from xs → span.start + span.len ≡ top → (w : ℕ)
+        → is_live new start w ≡ (is_live xs top w && not (has_word span w))
     top_live new q t w = subst (λ l. is_live l start w ≡ (is_live xs top w && not (has_word span w))) (sym q)
-        (lower_live xs top span.start (span.start + span.len) n H (omega arith) each place from start before t w ∙ ap (λ b. is_live xs top w && not b) (same_span w))
+        (lower_live xs top span.start (span.start + span.len) n H (omega arith) each place from start before t w
+        ∙ ap (λ b. is_live xs top w && not b) (same_span w))
 
     module _ (us : List Span) (to last : ℕ) (u : us ≡ xs) (off : span.start + span.len ≢ top) (K : JoinsAfter us n (span.start + span.len) to last) where
       behind : JoinsAfter xs n (span.start + span.len) to last
       behind = subst (λ l. JoinsAfter l n (span.start + span.len) to last) u K
 
       pub in_holes : (new : List Span) → new ≡ take from xs ++ (record { start = start; len = last - start }) ∷ drop to xs → AreHoles 0 new top
-      in_holes new q = subst (λ l. AreHoles 0 l top) (sym q) (given_holes xs top span.start (span.start + span.len) n H (omega arith) each place from start before to last off behind)
+      in_holes new q = subst (λ l. AreHoles 0 l top) (sym q) (given_holes xs top span.start (span.start + span.len) n H
+          (omega arith) each place from start before to last off behind)
 
-      pub in_live : (new : List Span) → new ≡ take from xs ++ (record { start = start; len = last - start }) ∷ drop to xs → (w : ℕ) → is_live new top w ≡ (is_live xs top w && not (has_word span w))
+      pub in_live : (new : List Span) → new ≡ take from xs ++ (record { start = start; len = last - start }) ∷ drop to xs → (w : ℕ)
+          → is_live new top w ≡ (is_live xs top w && not (has_word span w))
       in_live new q w = subst (λ l. is_live l top w ≡ (is_live xs top w && not (has_word span w))) (sym q)
-          (given_live xs top span.start (span.start + span.len) n H (omega arith) each place from start before to last off behind w ∙ ap (λ b. is_live xs top w && not b) (same_span w))
+          (given_live xs top span.start (span.start + span.len) n H (omega arith) each place from start before to last off behind w
+          ∙ ap (λ b. is_live xs top w && not b) (same_span w))

@@ -38,7 +38,8 @@ live_same ps qs e w = same_bool _ _
 pub one_word : (s t : ℕ) → has_word (record { start = s; len = 1 }) t ≡ nat_eq t s
 one_word s t = ⊎_elim
     (λ e. inside (record { start = s; len = 1 }) t (omega arith) (omega arith) ∙ sym (eq-eqb t s e))
-    (λ n. ⊎_elim (λ lt. below (record { start = s; len = 1 }) t lt) (λ ge. above (record { start = s; len = 1 }) t (omega arith)) (cases_lt t s) ∙ sym (ne_eqb t s n)) (cases_eq t s)
+    (λ n. ⊎_elim (λ lt. below (record { start = s; len = 1 }) t lt) (λ ge. above (record { start = s; len = 1 }) t (omega arith)) (cases_lt t s)
+    ∙ sym (ne_eqb t s n)) (cases_eq t s)
 
 pub Apart : List Place → Type 0
 Apart ps = (s t w : ℕ) → has_live (place_at ps s) w ≡ true → has_live (place_at ps t) w ≡ true → s ≡ t
@@ -85,13 +86,16 @@ module _ (ps : List Place) (s : ℕ) (p : Place) (known : s < length ps) where
             other true f = absurd (f refl)
             other false f = refl
 
-    pub apart_set : ((w t : ℕ) → has_live p w ≡ true → t ≢ s → has_live (place_at ps t) w ≡ false) → (a b w : ℕ) → has_live (place_at (set ps s p) a) w ≡ true → has_live (place_at (set ps s p) b) w ≡ true → a ≡ b
+    pub apart_set : ((w t : ℕ) → has_live p w ≡ true → t ≢ s → has_live (place_at ps t) w ≡ false) → (a b w : ℕ) → has_live (place_at (set ps s p) a) w ≡ true
+        → has_live (place_at (set ps s p) b) w ≡ true → a ≡ b
     apart_set new a b w h k = ⊎_elim
         (λ e. ⊎_elim (λ f. e ∙ sym f)
-        (λ n. absurd (both_ways _ (new w b (subst (λ (q : Place). has_live q w ≡ true) (ap (λ m. place_at (set ps s p) m) e ∙ here) h) n) (subst (λ (q : Place). has_live q w ≡ true) (there b n) k)))
+        (λ n. absurd (both_ways _ (new w b (subst (λ (q : Place). has_live q w ≡ true) (ap (λ m. place_at (set ps s p) m) e ∙ here) h) n)
+        (subst (λ (q : Place). has_live q w ≡ true) (there b n) k)))
         (cases_eq b s))
         (λ m. ⊎_elim
-        (λ f. absurd (both_ways _ (new w a (subst (λ (q : Place). has_live q w ≡ true) (ap (λ m. place_at (set ps s p) m) f ∙ here) k) m) (subst (λ (q : Place). has_live q w ≡ true) (there a m) h)))
+        (λ f. absurd (both_ways _ (new w a (subst (λ (q : Place). has_live q w ≡ true) (ap (λ m. place_at (set ps s p) m) f ∙ here) k) m)
+        (subst (λ (q : Place). has_live q w ≡ true) (there a m) h)))
         (λ n. apart a b w (subst (λ (q : Place). has_live q w ≡ true) (there a m) h) (subst (λ (q : Place). has_live q w ≡ true) (there b n) k))
         (cases_eq b s))
         (cases_eq a s)
@@ -102,16 +106,19 @@ idle p w e = and_left _ _ e
 
 -- SLOT s, WHICH IS FREE, IS TAKEN
 
-module _ (ps : List Place) (space numbers space' numbers' : FreeSpace) (waiting : List Waiting) (count peak : ℕ) (K : AreKept ps space numbers waiting count peak) (s version : ℕ) (span : Span) (known : s < length ps) where
+module _ (ps : List Place) (space numbers space' numbers' : FreeSpace) (waiting : List Waiting) (count peak : ℕ)
+    (K : AreKept ps space numbers waiting count peak) (s version : ℕ) (span : Span) (known : s < length ps) where
   abbrev p : Place
   p = record { state = Taken; version = version; span = span }
 
-  module _ (slot : IsFirstFit (is_live numbers.holes.items numbers.top) 1 s) (words : IsFirstFit (is_live space.holes.items space.top) span.len span.start) where
+  module _ (slot : IsFirstFit (is_live numbers.holes.items numbers.top) 1 s)
+      (words : IsFirstFit (is_live space.holes.items space.top) span.len span.start) where
     pub was_free : in_use (place_at ps s).state ≡ false
     was_free = sym (K.slots s) ∙ slot.free s (omega arith) (omega arith)
 
     pub others_used : (t : ℕ) → t < s → in_use (place_at ps t).state ≡ true
-    others_used t lt = sym (K.slots t) ∙ used (is_live numbers.holes.items numbers.top t) (λ e. slot.lowest t lt (λ w a b. let q : w ≡ t = omega arith in subst (λ m. is_live numbers.holes.items numbers.top m ≡ false) (sym q) e))
+    others_used t lt = sym (K.slots t) ∙ used (is_live numbers.holes.items numbers.top t)
+        (λ e. slot.lowest t lt (λ w a b. let q : w ≡ t = omega arith in subst (λ m. is_live numbers.holes.items numbers.top m ≡ false) (sym q) e))
       where
         used : (b : Bool) → (b ≡ false → ⊥) → b ≡ true
         used true f = refl
@@ -124,16 +131,21 @@ module _ (ps : List Place) (space numbers space' numbers' : FreeSpace) (waiting 
     }
 
     not_live : (w t : ℕ) → has_live p w ≡ true → has_live (place_at ps t) w ≡ false
-    not_live w t h = ⊎_elim (λ l. absurd (both_ways _ (fit.free w (within span w h).0 (within span w h).1) (live_at ps t w l))) (λ f. f) (cases_Bool (has_live (place_at ps t) w))
+    not_live w t h = ⊎_elim (λ l. absurd (both_ways _ (fit.free w (within span w h).0 (within span w h).1) (live_at ps t w l))) (λ f. f)
+        (cases_Bool (has_live (place_at ps t) w))
 
-    pub took : ((w : ℕ) → is_live numbers'.holes.items numbers'.top w ≡ (is_live numbers.holes.items numbers.top w || has_word (record { start = s; len = 1 }) w)) → numbers'.top ≤ max numbers.top (s + 1)
-        → ((w : ℕ) → is_live space'.holes.items space'.top w ≡ (is_live space.holes.items space.top w || has_word (record { start = span.start; len = span.len }) w)) → space'.top ≤ max space.top (span.start + span.len)
+    pub took : ((w : ℕ) → is_live numbers'.holes.items numbers'.top w ≡ (is_live numbers.holes.items numbers.top w
+        || has_word (record { start = s; len = 1 }) w)) → numbers'.top ≤ max numbers.top (s + 1)
+        → ((w : ℕ) → is_live space'.holes.items space'.top w ≡ (is_live space.holes.items space.top w
+        || has_word (record { start = span.start; len = span.len }) w)) → space'.top ≤ max space.top (span.start + span.len)
         → count + span.len ≤ MOST_LIVE_WORDS → AreKept (set ps s p) space' numbers' waiting (count + span.len) (max peak (span.start + span.len))
     took slots slots_top live top few = record {
-      words = λ w. live w ∙ (ap (λ b. b || has_word span w) (K.words w) ∙ (turn (some_live ps w) (has_word span w) (has_live (place_at ps s) w) (idle (place_at ps s) w was_free) ∙ sym (live_set ps s p known K.apart w)));
+      words = λ w. live w ∙ (ap (λ b. b || has_word span w) (K.words w) ∙
+          (turn (some_live ps w) (has_word span w) (has_live (place_at ps s) w) (idle (place_at ps s) w was_free) ∙ sym (live_set ps s p known K.apart w)));
       slots = λ t. slots t ∙ (ap (λ b. is_live numbers.holes.items numbers.top t || b) (one_word s t) ∙ ⊎_elim
           (λ e. or_right _ _ (eq-eqb t s e) ∙ sym (ap (λ (q : Place). in_use q.state) (ap (λ m. place_at (set ps s p) m) e ∙ here ps s p known)))
-          (λ n. ap (λ b. is_live numbers.holes.items numbers.top t || b) (ne_eqb t s n) ∙ (sym (or_false _) ∙ (K.slots t ∙ sym (ap (λ (q : Place). in_use q.state) (there ps s p known t n))))) (cases_eq t s));
+          (λ n. ap (λ b. is_live numbers.holes.items numbers.top t || b) (ne_eqb t s n)
+          ∙ (sym (or_false _) ∙ (K.slots t ∙ sym (ap (λ (q : Place). in_use q.state) (there ps s p known t n))))) (cases_eq t s));
       apart = apart_set ps s p known K.apart (λ w t h n. not_live w t h);
       live = let sums = sum_by-set live_len ps s p unused known in
           let none : live_len (place_at ps s) ≡ 0 = cond-false (in_use (place_at ps s).state) (place_at ps s).span.len 0 was_free in
@@ -142,7 +154,8 @@ module _ (ps : List Place) (space numbers space' numbers' : FreeSpace) (waiting 
       below = let a = K.below in omega arith;
       known = let a = K.known in let n = same_length ps s in omega (arith, n p);
       held = λ t. K.held t ∙ ⊎_elim
-          (λ e. ap (λ m. held_once (place_at ps m)) e ∙ (free_not_held (place_at ps s) was_free ∙ sym (ap (λ (q : Place). held_once q) (ap (λ m. place_at (set ps s p) m) e ∙ here ps s p known))))
+          (λ e. ap (λ m. held_once (place_at ps m)) e ∙ (free_not_held (place_at ps s) was_free
+          ∙ sym (ap (λ (q : Place). held_once q) (ap (λ m. place_at (set ps s p) m) e ∙ here ps s p known))))
           (λ n. sym (ap (λ (q : Place). held_once q) (there ps s p known t n))) (cases_eq t s);
     }
       where
@@ -171,7 +184,8 @@ module _ (ps : List Place) (space numbers space' numbers' : FreeSpace) (waiting 
         free_not_held q e = cond-false (is_held q.state) 1 0 (not_held q.state e)
 
 -- first fit among the words of places that are the same
-pub fit_same : (ps qs : List Place) (len start : ℕ) → ((s : ℕ) → place_at qs s ≡ place_at ps s) → IsFirstFit (some_live qs) len start → IsFirstFit (some_live ps) len start
+pub fit_same : (ps qs : List Place) (len start : ℕ) → ((s : ℕ) → place_at qs s ≡ place_at ps s) → IsFirstFit (some_live qs) len start
+    → IsFirstFit (some_live ps) len start
 fit_same ps qs len start e F = record {
   free = λ w a b. sym (live_same ps qs e w) ∙ F.free w a b;
   lowest = λ lower lt free. F.lowest lower lt (λ w a b. live_same ps qs e w ∙ free w a b);

@@ -22,7 +22,9 @@ place_push (p ∷ ps) zero = refl
 place_push (p ∷ ps) (suc s) = place_push ps s
 
 -- the free lists and the list of held slots are the same
-pub kept_moved : (ps : List Place) (space numbers space' numbers' : FreeSpace) (waiting waiting' : List Waiting) (count peak : ℕ) → AreKept ps space numbers waiting count peak → space'.holes.items ≡ space.holes.items → space'.top ≡ space.top → numbers'.holes.items ≡ numbers.holes.items → numbers'.top ≡ numbers.top → waiting' ≡ waiting → AreKept ps space' numbers' waiting' count peak
+pub kept_moved : (ps : List Place) (space numbers space' numbers' : FreeSpace) (waiting waiting' : List Waiting) (count peak : ℕ)
+    → AreKept ps space numbers waiting count peak → space'.holes.items ≡ space.holes.items → space'.top ≡ space.top → numbers'.holes.items ≡ numbers.holes.items
+    → numbers'.top ≡ numbers.top → waiting' ≡ waiting → AreKept ps space' numbers' waiting' count peak
 kept_moved ps space numbers space' numbers' waiting waiting' count peak K a b c d e = record {
   words = λ w. ap (λ l. is_live l space'.top w) a ∙ (ap (λ t. is_live space.holes.items t w) b ∙ K.words w);
   slots = λ s. ap (λ l. is_live l numbers'.top s) c ∙ (ap (λ t. is_live numbers.holes.items t s) d ∙ K.slots s);
@@ -35,11 +37,13 @@ kept_moved ps space numbers space' numbers' waiting waiting' count peak K a b c 
 }
 
 -- a place more that was never taken
-pub kept_longer : (ps : List Place) (space numbers : FreeSpace) (waiting : List Waiting) (count peak : ℕ) → AreKept ps space numbers waiting count peak → AreKept (ps ++ unused ∷ []) space numbers waiting count peak
+pub kept_longer : (ps : List Place) (space numbers : FreeSpace) (waiting : List Waiting) (count peak : ℕ) → AreKept ps space numbers waiting count peak
+    → AreKept (ps ++ unused ∷ []) space numbers waiting count peak
 kept_longer ps space numbers waiting count peak K = record {
   words = λ w. K.words w ∙ sym (live_same ps (ps ++ unused ∷ []) (place_push ps) w);
   slots = λ s. K.slots s ∙ sym (ap (λ (p : Place). in_use p.state) (place_push ps s));
-  apart = λ s t w a b. K.apart s t w (subst (λ (p : Place). has_live p w ≡ true) (place_push ps s) a) (subst (λ (p : Place). has_live p w ≡ true) (place_push ps t) b);
+  apart = λ s t w a b. K.apart s t w (subst (λ (p : Place). has_live p w ≡ true) (place_push ps s) a)
+      (subst (λ (p : Place). has_live p w ≡ true) (place_push ps t) b);
   live = let h = K.live in let q = sum_by_push live_len ps unused in omega arith;
   few = K.few;
   below = K.below;
@@ -67,8 +71,10 @@ none [] top H small = refl
 none (x ∷ holes) top H small = let a = small 0 (omega arith) in let b = H.1.0 in absurd (omega arith)
 
 -- where no slot below the top is free, the slots below it are all in use
-pub slots_used : (ps : List Place) (space numbers : FreeSpace) (waiting : List Waiting) (count peak : ℕ) → AreKept ps space numbers waiting count peak → AreHoles 0 numbers.holes.items numbers.top → AreSmall numbers.holes.items 1 (length numbers.holes.items) → numbers.top ≤ sum_by used_once ps
-slots_used ps space numbers waiting count peak K H small = filled ps numbers.top (λ t lt. sym (K.slots t) ∙ (ap (λ l. is_live l numbers.top t) (none numbers.holes.items numbers.top H small) ∙ is_live_word [] numbers.top t lt refl))
+pub slots_used : (ps : List Place) (space numbers : FreeSpace) (waiting : List Waiting) (count peak : ℕ) → AreKept ps space numbers waiting count peak
+    → AreHoles 0 numbers.holes.items numbers.top → AreSmall numbers.holes.items 1 (length numbers.holes.items) → numbers.top ≤ sum_by used_once ps
+slots_used ps space numbers waiting count peak K H small = filled ps numbers.top
+    (λ t lt. sym (K.slots t) ∙ (ap (λ l. is_live l numbers.top t) (none numbers.holes.items numbers.top H small) ∙ is_live_word [] numbers.top t lt refl))
 
 -- WHAT IS KEPT OF ROOM
 
@@ -96,8 +102,10 @@ pub none_if_free : (p : Place) → in_use p.state ≡ false → used_once p ≡ 
 none_if_free p e = cond-false (in_use p.state) 1 0 e
 
 -- the places after a push that may have found no memory
-pub pushed_kept : (ok : Bool) (ps qs : List Place) (space numbers : FreeSpace) (waiting : List Waiting) (count peak : ℕ) → qs ≡ (if ok then ps ++ unused ∷ [] else ps) → AreKept ps space numbers waiting count peak → AreKept qs space numbers waiting count peak
-pushed_kept true ps qs space numbers waiting count peak e K = subst (λ l. AreKept l space numbers waiting count peak) (sym e) (kept_longer ps space numbers waiting count peak K)
+pub pushed_kept : (ok : Bool) (ps qs : List Place) (space numbers : FreeSpace) (waiting : List Waiting) (count peak : ℕ)
+    → qs ≡ (if ok then ps ++ unused ∷ [] else ps) → AreKept ps space numbers waiting count peak → AreKept qs space numbers waiting count peak
+pushed_kept true ps qs space numbers waiting count peak e K = subst (λ l. AreKept l space numbers waiting count peak) (sym e)
+    (kept_longer ps space numbers waiting count peak K)
 pushed_kept false ps qs space numbers waiting count peak e K = subst (λ l. AreKept l space numbers waiting count peak) (sym e) K
 
 pub pushed_sum : (f : Place → ℕ) → f unused ≡ 0 → (ok : Bool) (ps qs : List Place) → qs ≡ (if ok then ps ++ unused ∷ [] else ps) → sum_by f qs ≡ sum_by f ps

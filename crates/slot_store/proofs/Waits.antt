@@ -45,18 +45,21 @@ user_range (Held users) j u = among_all users j u
 -- WHAT CHANGES IN A STORE
 
 -- a place of a slot that isn't held
-pub waits_set : (ps : List Place) (held : List Waiting) (n : ℕ) (done : Handle) (s : ℕ) (p : Place) → is_held (place_at ps s).state ≡ false → AreWaiting ps held n done → AreWaiting (set ps s p) held n done
+pub waits_set : (ps : List Place) (held : List Waiting) (n : ℕ) (done : Handle) (s : ℕ) (p : Place) → is_held (place_at ps s).state ≡ false
+    → AreWaiting ps held n done → AreWaiting (set ps s p) held n done
 waits_set ps held n done s p idle W = record {
   within = W.within;
   users = λ k lt some. let u = W.users k lt some in
-      let ne : slot_in held k ≢ s = λ e. not_user (place_at ps s).state (job_in held k) idle (subst (λ m. users_of (place_at ps m).state (job_in held k) ≡ true) e u) in
+      let ne : slot_in held k ≢ s = λ e. not_user (place_at ps s).state (job_in held k) idle
+      (subst (λ m. users_of (place_at ps m).state (job_in held k) ≡ true) e u) in
       subst (λ (q : Place). users_of q.state (job_in held k) ≡ true) (sym (get_or-set_other ps s (slot_in held k) p unused ne)) u;
   noted = W.noted;
   pending = W.pending;
 }
 
 -- places that are the same
-pub waits_same : (ps qs : List Place) (held : List Waiting) (n : ℕ) (done : Handle) → ((s : ℕ) → place_at qs s ≡ place_at ps s) → AreWaiting ps held n done → AreWaiting qs held n done
+pub waits_same : (ps qs : List Place) (held : List Waiting) (n : ℕ) (done : Handle) → ((s : ℕ) → place_at qs s ≡ place_at ps s) → AreWaiting ps held n done
+    → AreWaiting qs held n done
 waits_same ps qs held n done same W = record {
   within = W.within;
   users = λ k lt some. subst (λ (q : Place). users_of q.state (job_in held k) ≡ true) (sym (same (slot_in held k))) (W.users k lt some);
@@ -65,7 +68,8 @@ waits_same ps qs held n done same W = record {
 }
 
 -- places after a push that may have found no memory
-pub waits_longer : (ok : Bool) (ps qs : List Place) (held : List Waiting) (n : ℕ) (done : Handle) → qs ≡ (if ok then ps ++ unused ∷ [] else ps) → AreWaiting ps held n done → AreWaiting qs held n done
+pub waits_longer : (ok : Bool) (ps qs : List Place) (held : List Waiting) (n : ℕ) (done : Handle) → qs ≡ (if ok then ps ++ unused ∷ [] else ps)
+    → AreWaiting ps held n done → AreWaiting qs held n done
 waits_longer true ps qs held n done e W = subst (λ l. AreWaiting l held n done) (sym e) (waits_same ps (ps ++ unused ∷ []) held n done (place_push ps) W)
 waits_longer false ps qs held n done e W = subst (λ l. AreWaiting l held n done) (sym e) W
 
@@ -85,7 +89,8 @@ longer [] x = omega arith
 longer (y ∷ xs) x = let r = longer xs x in omega arith
 
 -- a slot more that is held, with no job noted
-pub waits_pushed : (ps : List Place) (held : List Waiting) (n : ℕ) (done : Handle) (s : ℕ) → AreWaiting ps held n done → AreWaiting ps (held ++ (record { slot = s; job = 0 }) ∷ []) n done
+pub waits_pushed : (ps : List Place) (held : List Waiting) (n : ℕ) (done : Handle) (s : ℕ) → AreWaiting ps held n done
+    → AreWaiting ps (held ++ (record { slot = s; job = 0 }) ∷ []) n done
 waits_pushed ps held n done s W = record {
   within = let l = longer held (record { slot = s; job = 0 }) in let w = W.within in omega arith;
   users = λ k lt some. ⊎_elim
@@ -94,7 +99,8 @@ waits_pushed ps held n done s W = record {
       (λ past. let z = no_job held s k past in absurd (omega arith))
       (cases_lt k (length held));
   noted = λ k lt. let w = W.within in subst (λ (x : Waiting). 0 < x.job) (sym (left_of held (record { slot = s; job = 0 }) k (omega arith))) (W.noted k lt);
-  pending = λ k lt. let w = W.within in subst (λ (x : Waiting). jobs_of done x.job ≡ false) (sym (left_of held (record { slot = s; job = 0 }) k (omega arith))) (W.pending k lt);
+  pending = λ k lt. let w = W.within in subst (λ (x : Waiting). jobs_of done x.job ≡ false) (sym (left_of held (record { slot = s; job = 0 }) k (omega arith)))
+      (W.pending k lt);
 }
 
 -- all are to be looked at
@@ -107,16 +113,20 @@ waits_anew ps held n done now W = record {
 }
 
 -- no other job was completed
-pub waits_on : (ps : List Place) (held : List Waiting) (n : ℕ) (done now : Handle) → ((j : ℕ) → jobs_of now j ≡ true → jobs_of done j ≡ true) → AreWaiting ps held n done → AreWaiting ps held n now
+pub waits_on : (ps : List Place) (held : List Waiting) (n : ℕ) (done now : Handle) → ((j : ℕ) → jobs_of now j ≡ true → jobs_of done j ≡ true)
+    → AreWaiting ps held n done → AreWaiting ps held n now
 waits_on ps held n done now sub W = record {
   within = W.within;
   users = W.users;
   noted = W.noted;
-  pending = λ k lt. ⊎_elim (λ t. absurd (both_ways (jobs_of done (job_in held k)) (W.pending k lt) (sub (job_in held k) t))) (λ f. f) (cases_Bool (jobs_of now (job_in held k)));
+  pending = λ k lt. ⊎_elim (λ t. absurd (both_ways (jobs_of done (job_in held k)) (W.pending k lt) (sub (job_in held k) t))) (λ f. f)
+      (cases_Bool (jobs_of now (job_in held k)));
 }
 
 -- the next slot waits for a job
-pub waits_kept : (ps : List Place) (held : List Waiting) (n : ℕ) (done : Handle) (slot job : ℕ) → AreWaiting ps held n done → n < length held → slot ≡ slot_in held n → users_of (place_at ps slot).state job ≡ true → 0 < job → jobs_of done job ≡ false → AreWaiting ps (set held n (record { slot = slot; job = job })) (n + 1) done
+pub waits_kept : (ps : List Place) (held : List Waiting) (n : ℕ) (done : Handle) (slot job : ℕ) → AreWaiting ps held n done → n < length held
+    → slot ≡ slot_in held n → users_of (place_at ps slot).state job ≡ true → 0 < job → jobs_of done job ≡ false
+    → AreWaiting ps (set held n (record { slot = slot; job = job })) (n + 1) done
 waits_kept ps held n done slot job W lt e user some pending = record {
   within = let q = size held n in omega arith;
   users = λ k l p. ⊎_elim
@@ -145,9 +155,12 @@ waits_kept ps held n done slot job W lt e user some pending = record {
     other : (k : ℕ) → k ≢ n → get_or (set held n (entry slot job)) k nothing ≡ get_or held k nothing
     other k ne = get_or-set_other held n k (entry slot job) nothing ne
 
-pub waits_next : (ps : List Place) (held : List Waiting) (n : ℕ) (done : Handle) (k slot job : ℕ) → AreWaiting ps held n done → k ≡ n → k < length held → slot ≡ slot_in held k → users_of (place_at ps slot).state job ≡ true → 0 < job → jobs_of done job ≡ false → AreWaiting ps (set held k (record { slot = slot; job = job })) (k + 1) done
+pub waits_next : (ps : List Place) (held : List Waiting) (n : ℕ) (done : Handle) (k slot job : ℕ) → AreWaiting ps held n done → k ≡ n → k < length held
+    → slot ≡ slot_in held k → users_of (place_at ps slot).state job ≡ true → 0 < job → jobs_of done job ≡ false
+    → AreWaiting ps (set held k (record { slot = slot; job = job })) (k + 1) done
 waits_next ps held n done k slot job W q = subst
-    (λ m. AreWaiting ps held m done → m < length held → slot ≡ slot_in held m → users_of (place_at ps slot).state job ≡ true → 0 < job → jobs_of done job ≡ false → AreWaiting ps (set held m (record { slot = slot; job = job })) (m + 1) done)
+    (λ m. AreWaiting ps held m done → m < length held → slot ≡ slot_in held m → users_of (place_at ps slot).state job ≡ true → 0 < job
+    → jobs_of done job ≡ false → AreWaiting ps (set held m (record { slot = slot; job = job })) (m + 1) done)
     (sym q) (λ V. waits_kept ps held n done slot job V) (subst (λ m. AreWaiting ps held m done) (sym q) W)
 
 -- A slot is free, and its entry is gone: each that is left was on the list, and the first n are as they were.
@@ -159,16 +172,20 @@ waits_freed ps held left n s done p W within was first gone = record {
   within = within;
   users = λ k lt some.
       let r = was k lt in
-      let u : users_of (place_at ps (slot_in left k)).state (job_in left k) ≡ true = subst (λ (x : Waiting). users_of (place_at ps x.slot).state x.job ≡ true) (sym r.2) (W.users r.0 r.1 (subst (λ (x : Waiting). 0 < x.job) r.2 some)) in
-      let ne : slot_in left k ≢ s = λ e. let o = on_list left k lt in let z : times left (slot_in left k) ≡ 0 = ap (λ m. times left m) e ∙ gone in absurd (omega arith) in
+      let u : users_of (place_at ps (slot_in left k)).state (job_in left k) ≡ true =
+      subst (λ (x : Waiting). users_of (place_at ps x.slot).state x.job ≡ true) (sym r.2) (W.users r.0 r.1 (subst (λ (x : Waiting). 0 < x.job) r.2 some)) in
+      let ne : slot_in left k ≢ s = λ e. let o = on_list left k lt in let z : times left (slot_in left k) ≡ 0 = ap (λ m. times left m) e ∙ gone in
+      absurd (omega arith) in
       subst (λ (q : Place). users_of q.state (job_in left k) ≡ true) (sym (get_or-set_other ps s (slot_in left k) p unused ne)) u;
   noted = λ k lt. subst (λ (x : Waiting). 0 < x.job) (sym (first k lt)) (W.noted k lt);
   pending = λ k lt. subst (λ (x : Waiting). jobs_of done x.job ≡ false) (sym (first k lt)) (W.pending k lt);
 }
 
 -- the same where the last of `size` entries took the place of the one that is gone
-pub waits_removed : (ps : List Place) (held left : List Waiting) (n at s size : ℕ) (done : Handle) (p : Place) → AreWaiting ps held n done → at ≡ n → size ≡ length held → at < size → length left + 1 ≡ size
-    → ((d : Waiting) → at + 1 < size → get_or left at d ≡ get_or held (size - 1) d) × ((k : ℕ) (d : Waiting) → k ≢ at → k + 1 < size → get_or left k d ≡ get_or held k d)
+pub waits_removed : (ps : List Place) (held left : List Waiting) (n at s size : ℕ) (done : Handle) (p : Place) → AreWaiting ps held n done → at ≡ n
+    → size ≡ length held → at < size → length left + 1 ≡ size
+    → ((d : Waiting) → at + 1 < size → get_or left at d ≡ get_or held (size - 1) d)
+    × ((k : ℕ) (d : Waiting) → k ≢ at → k + 1 < size → get_or left k d ≡ get_or held k d)
     → times left s ≡ 0 → AreWaiting (set ps s p) left n done
 waits_removed ps held left n at s size done p W here all lt less moved gone = waits_freed ps held left n s done p W (omega arith)
     (λ k l. ⊎_elim
@@ -199,7 +216,9 @@ none_by : (set : Jobs) (n m : ℕ) → m ≡ greatest set n → None ≡ job_num
 none_by set n (suc m) q f j some le = absurd (cc)
 none_by set n zero q f j some le = greatest_none set n (sym q) j some le
 
-pub found_some : (users done : Handle) (o : Option JobId) → ((n : ℕ) → AreUpTo n (jobs_of users) → o ≡ job_numbered (greatest (outside (jobs_of users) (jobs_of done)) n)) → IfSome o (λ j. (0 < j.0) × (jobs_of users j.0 ≡ true) × (jobs_of done j.0 ≡ false))
+pub found_some : (users done : Handle) (o : Option JobId) → ((n : ℕ) → AreUpTo n (jobs_of users)
+    → o ≡ job_numbered (greatest (outside (jobs_of users) (jobs_of done)) n))
+    → IfSome o (λ j. (0 < j.0) × (jobs_of users j.0 ≡ true) × (jobs_of done j.0 ≡ false))
 found_some users done None e = tt
 found_some users done (Some j) e =
     let b = bound users in
@@ -210,7 +229,8 @@ found_some users done (Some j) e =
     not_true true e = cc
     not_true false e = refl
 
-pub found_none : (users done : Handle) (o : Option JobId) → ((n : ℕ) → AreUpTo n (jobs_of users) → o ≡ job_numbered (greatest (outside (jobs_of users) (jobs_of done)) n)) → IfNone o ((j : ℕ) → jobs_of users j ≡ true → jobs_of done j ≡ true)
+pub found_none : (users done : Handle) (o : Option JobId) → ((n : ℕ) → AreUpTo n (jobs_of users)
+    → o ≡ job_numbered (greatest (outside (jobs_of users) (jobs_of done)) n)) → IfNone o ((j : ℕ) → jobs_of users j ≡ true → jobs_of done j ≡ true)
 found_none users done (Some j) e = tt
 found_none users done None e = λ j u.
     let b = bound users in
@@ -219,19 +239,25 @@ found_none users done None e = λ j u.
     ⊎_elim (λ t. t) (λ d. absurd (both_ways (outside (jobs_of users) (jobs_of done) j) z (and_from _ _ u (not_from_false _ d)))) (cases_Bool (jobs_of done j))
 
 -- the same for a place that is known to be held for some users
-pub held_some : (q : State) (users done : Handle) (o : Option JobId) → q ≡ Held users → IfSome o (λ j. (0 < j.0) × (jobs_of users j.0 ≡ true) × (jobs_of done j.0 ≡ false)) → IfSome o (λ j. (0 < j.0) × (users_of q j.0 ≡ true) × (jobs_of done j.0 ≡ false))
+pub held_some : (q : State) (users done : Handle) (o : Option JobId) → q ≡ Held users
+    → IfSome o (λ j. (0 < j.0) × (jobs_of users j.0 ≡ true) × (jobs_of done j.0 ≡ false))
+    → IfSome o (λ j. (0 < j.0) × (users_of q j.0 ≡ true) × (jobs_of done j.0 ≡ false))
 held_some q users done o is f = subst (λ (r : State). IfSome o (λ j. (0 < j.0) × (users_of r j.0 ≡ true) × (jobs_of done j.0 ≡ false))) (sym is) f
 
-pub held_none : (q : State) (users done : Handle) (o : Option JobId) → q ≡ Held users → IfNone o ((j : ℕ) → jobs_of users j ≡ true → jobs_of done j ≡ true) → IfNone o ((j : ℕ) → users_of q j ≡ true → jobs_of done j ≡ true)
+pub held_none : (q : State) (users done : Handle) (o : Option JobId) → q ≡ Held users → IfNone o ((j : ℕ) → jobs_of users j ≡ true → jobs_of done j ≡ true)
+    → IfNone o ((j : ℕ) → users_of q j ≡ true → jobs_of done j ≡ true)
 held_none q users done o is f = subst (λ (r : State). IfNone o ((j : ℕ) → users_of r j ≡ true → jobs_of done j ≡ true)) (sym is) f
 
 -- nobody leads to nobody
 pub no_ancestors : (deps : ℕ → Jobs) (n : ℕ) (wanted : Jobs) → ((j : ℕ) → wanted j ≡ false) → (k : ℕ) → ancestors deps n wanted k ≡ false
 no_ancestors deps zero wanted none k = none k
-no_ancestors deps (suc n) wanted none k = no_ancestors deps n (λ i. wanted i || (wanted (suc n) && deps (suc n) i)) (λ i. or_from _ _ (none i) (and_left _ _ (none (suc n)))) k
+no_ancestors deps (suc n) wanted none k = no_ancestors deps n (λ i. wanted i || (wanted (suc n) && deps (suc n) i))
+    (λ i. or_from _ _ (none i) (and_left _ _ (none (suc n)))) k
 
-pub same_completed : (b : Book) (empty result : Handle) → jobs_of empty ≡ nobody → ((k : ℕ) → jobs_of result k ≡ happens_before b (jobs_of empty) k) → (j : ℕ) → jobs_of result j ≡ b.completed j
-same_completed b empty result e h j = h j ∙ (ap (λ x. b.completed j || x) (no_ancestors b.deps b.count (jobs_of empty) (λ k i. e i k) j) ∙ or_none (b.completed j))
+pub same_completed : (b : Book) (empty result : Handle) → jobs_of empty ≡ nobody → ((k : ℕ) → jobs_of result k ≡ happens_before b (jobs_of empty) k) → (j : ℕ)
+    → jobs_of result j ≡ b.completed j
+same_completed b empty result e h j = h j ∙ (ap (λ x. b.completed j || x) (no_ancestors b.deps b.count (jobs_of empty) (λ k i. e i k) j)
+    ∙ or_none (b.completed j))
   where
     or_none : (x : Bool) → (x || false) ≡ x
     or_none true = refl

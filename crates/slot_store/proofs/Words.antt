@@ -47,7 +47,8 @@ none_below (x ∷ more) low top w H lt = let a = H.0 in or_from _ _ (below x w (
 
 pub none_after : (holes : List Span) (low w : ℕ) → AreHoles low holes (after low holes) → after low holes ≤ suc w → some_has holes w ≡ false
 none_after [] low w H le = refl
-none_after (x ∷ more) low w H le = let r = low_le more (suc (x.start + x.len)) (after (suc (x.start + x.len)) more) H.1.1 in or_from _ _ (above x w (omega arith)) (none_after more (suc (x.start + x.len)) w H.1.1 le)
+none_after (x ∷ more) low w H le = let r = low_le more (suc (x.start + x.len)) (after (suc (x.start + x.len)) more) H.1.1 in
+    or_from _ _ (above x w (omega arith)) (none_after more (suc (x.start + x.len)) w H.1.1 le)
 
 pub split : (xs ys : List Span) (low top : ℕ) → AreHoles low (xs ++ ys) top → AreHoles low xs (after low xs) × AreHoles (after low xs) ys top
 split [] ys low top H = (omega arith, H)

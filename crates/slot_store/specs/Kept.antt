@@ -10,9 +10,10 @@ use Rattle.slot_store.specs.declared.space.FreeSpace.{FreeSpace}
 use Rattle.slot_store.specs.Spaces.{is_live}
 use Rattle.slot_store.specs.Places.{place_at, in_use, users_of, held_once, has_live, some_live, live_len, used_once, taken_once, times, slot_in, job_in}
 
--- The free list of words (`space`), that of slots (`numbers`) and the list of held slots (`waiting`) say what the slots'
--- places say, and no word is in two ranges.
-pub record AreKept (places : List Place) (space numbers : FreeSpace) (waiting : List Waiting) (count peak : ℕ) : Type 0 where
+-- The free list of words (`space`), that of slots (`numbers`) and the list of held slots (`waiting`) say what the
+-- slots' places say, and no word is in two ranges.
+pub record AreKept (places : List Place) (space numbers : FreeSpace) (waiting : List Waiting)
+    (count peak : ℕ) : Type 0 where
   pub words : (w : ℕ) → is_live space.holes.items space.top w ≡ some_live places w
   pub slots : (s : ℕ) → is_live numbers.holes.items numbers.top s ≡ in_use (place_at places s).state
   pub apart : (s t w : ℕ) → has_live (place_at places s) w ≡ true → has_live (place_at places t) w ≡ true → s ≡ t
@@ -32,7 +33,8 @@ pub record HaveRoom (places : List Place) (space numbers : FreeSpace) (waiting :
 -- that were completed when these slots were looked at.
 pub record AreWaiting (places : List Place) (held : List Waiting) (n : ℕ) (completed : Handle) : Type 0 where
   pub within : n ≤ length held
-  pub users : (k : ℕ) → k < length held → 0 < job_in held k → users_of (place_at places (slot_in held k)).state (job_in held k) ≡ true
+  pub users : (k : ℕ) → k < length held → 0 < job_in held k
+      → users_of (place_at places (slot_in held k)).state (job_in held k) ≡ true
   pub noted : (k : ℕ) → k < n → 0 < job_in held k
   pub pending : (k : ℕ) → k < n → jobs_of completed (job_in held k) ≡ false
 

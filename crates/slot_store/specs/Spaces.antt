@@ -53,9 +53,11 @@ pub record IsPlace (holes : List Span) (w n : ℕ) : Type 0 where
 -- whether the last of the first n holes ends at a number: then the joined hole starts as that one
 abbrev pub JoinsBefore : List Span → ℕ → ℕ → ℕ → ℕ → Type 0
 JoinsBefore holes n w from start =
-    ((n ≡ from + 1) × (end_of holes from ≡ w) × (start ≡ start_of holes from)) ⊎ ((n ≡ from) × ((k : ℕ) → n ≡ k + 1 → end_of holes k ≢ w) × (start ≡ w))
+    ((n ≡ from + 1) × (end_of holes from ≡ w) × (start ≡ start_of holes from))
+    ⊎ ((n ≡ from) × ((k : ℕ) → n ≡ k + 1 → end_of holes k ≢ w) × (start ≡ w))
 
 -- whether hole n starts at a number: then the joined hole ends as that one
 abbrev pub JoinsAfter : List Span → ℕ → ℕ → ℕ → ℕ → Type 0
 JoinsAfter holes n w to last =
-    ((to ≡ n + 1) × (n < length holes) × (start_of holes n ≡ w) × (last ≡ end_of holes n)) ⊎ ((to ≡ n) × (n < length holes → start_of holes n ≢ w) × (last ≡ w))
+    ((to ≡ n + 1) × (n < length holes) × (start_of holes n ≡ w) × (last ≡ end_of holes n))
+    ⊎ ((to ≡ n) × (n < length holes → start_of holes n ≢ w) × (last ≡ w))

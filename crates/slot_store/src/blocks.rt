@@ -71,8 +71,10 @@ fn fit_in_block(holes: &[Span], bounds: &mut Bounds, block: usize, len: u32) -> 
     requires holes { (top : ℕ) × AreHoles 0 holes.now top }
     requires block { block < BLOCKS }
     requires bounded { AreBounded bounds.old.lens.items holes.now }
-    ensures some { IfSome result (λ i. (i < length holes.now) × (len ≤ len_of holes.now i) × ((k : ℕ) → k < i → block ≤ block_of (start_of holes.now k) → len_of holes.now k < len)) }
-    ensures none { IfNone result ((k : ℕ) → k < length holes.now → block_of (start_of holes.now k) ≡ block → len_of holes.now k < len) }
+    ensures some { IfSome result (λ i. (i < length holes.now) × (len ≤ len_of holes.now i)
+        × ((k : ℕ) → k < i → block ≤ block_of (start_of holes.now k) → len_of holes.now k < len)) }
+    ensures none { IfNone result ((k : ℕ) → k < length holes.now → block_of (start_of holes.now k) ≡ block
+        → len_of holes.now k < len) }
     ensures bounded { AreBounded bounds.new.lens.items holes.now }
 {
     if bounds.lens[block] < len {
@@ -92,8 +94,10 @@ fn seek(holes: &[Span], block: usize, len: u32) -> Result<usize, u32>
     requires some { 0 < len }
     requires holes { (top : ℕ) × AreHoles 0 holes.now top }
     requires block { block < BLOCKS }
-    ensures ok { IfOk result (λ i. (i < length holes.now) × (len ≤ len_of holes.now i) × ((k : ℕ) → k < i → block ≤ block_of (start_of holes.now k) → len_of holes.now k < len)) }
-    ensures err { IfErr result (λ most. (most < len) × ((k : ℕ) → k < length holes.now → block_of (start_of holes.now k) ≡ block → len_of holes.now k ≤ most)) }
+    ensures ok { IfOk result (λ i. (i < length holes.now) × (len ≤ len_of holes.now i)
+        × ((k : ℕ) → k < i → block ≤ block_of (start_of holes.now k) → len_of holes.now k < len)) }
+    ensures err { IfErr result (λ most. (most < len) × ((k : ℕ) → k < length holes.now
+        → block_of (start_of holes.now k) ≡ block → len_of holes.now k ≤ most)) }
 {
     let first = holes_before(holes, block as u32 * BLOCK);
     let mut most = 0;

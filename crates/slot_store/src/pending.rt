@@ -13,7 +13,8 @@ const NEAR: u32 = 8;
 /// from the latest down, the next one is near, and a set of jobs is seldom gone through.
 pub(crate) fn pending_of(users: &Handle, completed: &Handle, noted: u32) -> Option<JobId>
     requires { noted ≤ MOST_JOBS }
-    ensures some { IfSome result (λ j. (0 < j.0) × (jobs_of users.now j.0 ≡ true) × (jobs_of completed.now j.0 ≡ false)) }
+    ensures some { IfSome result (λ j. (0 < j.0) × (jobs_of users.now j.0 ≡ true)
+        × (jobs_of completed.now j.0 ≡ false)) }
     ensures none { IfNone result ((j : ℕ) → jobs_of users.now j ≡ true → jobs_of completed.now j ≡ true) }
 {
     match pending_near(users, completed, noted) {

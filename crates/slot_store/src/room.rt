@@ -15,8 +15,11 @@ pub(crate) fn reserve_all(
 ) -> Result<(), NoMemory>
     ensures words { IsGrown words.old words.new }
     ensures slots { IsGrown slots.old slots.new }
-    ensures held { (held.new.items ≡ held.old.items) × (vec_len held.new ≡ vec_len held.old) × (vec_capacity held.old ≤ vec_capacity held.new) }
-    ensures ready { OnOk result ((vec_len words.new.holes + most ≤ vec_capacity words.new.holes) × (vec_len slots.new.holes + most ≤ vec_capacity slots.new.holes) × (vec_len held.new + most ≤ vec_capacity held.new)) }
+    ensures held { (held.new.items ≡ held.old.items) × (vec_len held.new ≡ vec_len held.old)
+        × (vec_capacity held.old ≤ vec_capacity held.new) }
+    ensures ready { OnOk result ((vec_len words.new.holes + most ≤ vec_capacity words.new.holes)
+        × (vec_len slots.new.holes + most ≤ vec_capacity slots.new.holes)
+        × (vec_len held.new + most ≤ vec_capacity held.new)) }
 {
     words.reserve(most)?;
     slots.reserve(most)?;

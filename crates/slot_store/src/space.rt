@@ -58,7 +58,8 @@ impl FreeSpace {
     pub(crate) fn take(&mut self, len: u32) -> u32
         requires { AreSmall self.old.holes.items len (vec_len self.old.holes) → self.old.top + len < 2 ^ 32 }
         ensures fit { IsFirstFit (is_live self.old.holes.items self.old.top) len result }
-        ensures live { (w : ℕ) → is_live self.new.holes.items self.new.top w ≡ (is_live self.old.holes.items self.old.top w || has_word (record { start = result; len = len }) w) }
+        ensures live { (w : ℕ) → is_live self.new.holes.items self.new.top w ≡
+            (is_live self.old.holes.items self.old.top w || has_word (record { start = result; len = len }) w) }
         ensures at { result ≤ self.old.top }
         ensures top { self.new.top ≤ max self.old.top (result + len) }
         ensures holes { vec_len self.new.holes ≤ vec_len self.old.holes }
@@ -89,7 +90,8 @@ impl FreeSpace {
     pub(crate) fn give(&mut self, span: Span)
         requires live { (w : ℕ) → has_word span w ≡ true → is_live self.old.holes.items self.old.top w ≡ true }
         requires room { vec_len self.old.holes < vec_capacity self.old.holes }
-        ensures live { (w : ℕ) → is_live self.new.holes.items self.new.top w ≡ (is_live self.old.holes.items self.old.top w && not (has_word span w)) }
+        ensures live { (w : ℕ) → is_live self.new.holes.items self.new.top w ≡
+            (is_live self.old.holes.items self.old.top w && not (has_word span w)) }
         ensures top { self.new.top ≤ self.old.top }
         ensures holes { vec_len self.new.holes ≤ vec_len self.old.holes + 1 }
         ensures capacity { vec_capacity self.old.holes ≤ vec_capacity self.new.holes }
@@ -121,7 +123,8 @@ fn cut(holes: &mut Vec<Span>, at: usize, len: u32)
     requires hole { at < vec_len holes.old }
     requires enough { len ≤ len_of holes.old.items at }
     requires fits { end_of holes.old.items at < 2 ^ 32 }
-    ensures items { holes.new.items ≡ take at holes.old.items ++ (rest_after (slice_index_or holes.old.items at no_span) len ++ drop (at + 1) holes.old.items) }
+    ensures items { holes.new.items ≡ take at holes.old.items
+        ++ (rest_after (slice_index_or holes.old.items at no_span) len ++ drop (at + 1) holes.old.items) }
     ensures len { vec_len holes.new ≤ vec_len holes.old }
     ensures capacity { vec_capacity holes.old ≤ vec_capacity holes.new }
 {

@@ -71,7 +71,8 @@ impl SlotStore {
         ensures free { IfOk result (λ t. in_use (place_of self.old t.slot.0).state ≡ false) }
         ensures lowest { IfOk result (λ t. (s : ℕ) → s < t.slot.0 → in_use (place_of self.old s).state ≡ true) }
         ensures version { IfOk result (λ t. t.version.0 ≡ (place_of self.old t.slot.0).version) }
-        ensures places { IfOk result (λ t. (s : ℕ) → place_of self.new s ≡ (if nat_eq s t.slot.0 then taken t.version.0 t.span else place_of self.old s)) }
+        ensures places { IfOk result (λ t. (s : ℕ) → place_of self.new s ≡
+            (if nat_eq s t.slot.0 then taken t.version.0 t.span else place_of self.old s)) }
         ensures live { IfOk result (λ t. live_words_of self.new ≡ live_words_of self.old + len) }
         ensures used { IfOk result (λ t. slots_in_use self.new ≡ slots_in_use self.old + 1) }
         ensures peak { IfOk result (λ t. peak_of self.new ≡ max (peak_of self.old) (t.span.start + len)) }
@@ -95,8 +96,10 @@ impl SlotStore {
         ensures fit { IfOk result (λ span. IsFirstFit (is_live_word self.old) len span.start) }
         ensures low { IfOk result (λ span. span.start ≤ peak_of self.old) }
         ensures len { IfOk result (λ span. span.len ≡ len) }
-        ensures places { IfOk result (λ span. (s : ℕ) → place_of self.new s ≡ (if nat_eq s slot.0 then taken (place_of self.old slot.0).version span else place_of self.old s)) }
-        ensures live { OnOk result (live_words_of self.new + (place_of self.old slot.0).span.len ≡ live_words_of self.old + len) }
+        ensures places { IfOk result (λ span. (s : ℕ) → place_of self.new s ≡
+            (if nat_eq s slot.0 then taken (place_of self.old slot.0).version span else place_of self.old s)) }
+        ensures live { OnOk result (live_words_of self.new +
+            (place_of self.old slot.0).span.len ≡ live_words_of self.old + len) }
         ensures used { OnOk result (slots_in_use self.new ≡ slots_in_use self.old) }
         ensures peak { IfOk result (λ span. peak_of self.new ≡ max (peak_of self.old) (span.start + len)) }
         ensures same { OnErr result (IsSame self.old self.new) }
@@ -114,7 +117,8 @@ impl SlotStore {
     pub fn give(&mut self, slot: Slot)
         requires taken { is_taken (place_of self.old slot.0).state ≡ true }
         requires version { (place_of self.old slot.0).version < 4294967295 }
-        ensures places { (s : ℕ) → place_of self.new s ≡ (if nat_eq s slot.0 then given (place_of self.old slot.0) else place_of self.old s) }
+        ensures places { (s : ℕ) → place_of self.new s ≡
+            (if nat_eq s slot.0 then given (place_of self.old slot.0) else place_of self.old s) }
         ensures live { live_words_of self.new + (place_of self.old slot.0).span.len ≡ live_words_of self.old }
         ensures used { slots_in_use self.new + 1 ≡ slots_in_use self.old }
         ensures peak { peak_of self.new ≡ peak_of self.old }
@@ -140,7 +144,8 @@ impl SlotStore {
     pub fn hold(&mut self, slot: Slot, users: &Handle)
         requires taken { is_taken (place_of self.old slot.0).state ≡ true }
         requires version { (place_of self.old slot.0).version < 4294967295 }
-        ensures places { (s : ℕ) → place_of self.new s ≡ (if nat_eq s slot.0 then held (place_of self.old slot.0) users.now else place_of self.old s) }
+        ensures places { (s : ℕ) → place_of self.new s ≡
+            (if nat_eq s slot.0 then held (place_of self.old slot.0) users.now else place_of self.old s) }
         ensures live { live_words_of self.new ≡ live_words_of self.old }
         ensures used { slots_in_use self.new ≡ slots_in_use self.old }
         ensures peak { peak_of self.new ≡ peak_of self.old }
@@ -167,8 +172,10 @@ impl SlotStore {
     /// were held since the last call, and at the others where a job was completed since.
     pub fn settle(&mut self, book: &JobBook)
         requires known { (s : ℕ) → AreUpTo (count_of book.now) (users_of (place_of self.old s).state) }
-        ensures places { (b : Book) → StandsFor book.now b → (s : ℕ) → place_of self.new s ≡ settled b (place_of self.old s) }
-        ensures users { (s j : ℕ) → users_of (place_of self.new s).state j ≡ true → users_of (place_of self.old s).state j ≡ true }
+        ensures places { (b : Book) → StandsFor book.now b → (s : ℕ)
+            → place_of self.new s ≡ settled b (place_of self.old s) }
+        ensures users { (s j : ℕ) → users_of (place_of self.new s).state j ≡ true
+            → users_of (place_of self.old s).state j ≡ true }
         ensures live { (b : Book) → StandsFor book.now b → live_words_of self.new ≡ live_words_settled b self.old }
         ensures used { (b : Book) → StandsFor book.now b → slots_in_use self.new ≡ slots_in_use_settled b self.old }
         ensures fewer { slots_in_use self.new ≤ slots_in_use self.old }
@@ -182,7 +189,8 @@ impl SlotStore {
 
     /// Whether the slot is taken, not held, and has this version.
     pub fn live(&self, slot: Slot, version: Version) -> bool
-        ensures { result ≡ (is_taken (place_of self.now slot.0).state && nat_eq (place_of self.now slot.0).version version.0) }
+        ensures { result ≡ (is_taken (place_of self.now slot.0).state
+            && nat_eq (place_of self.now slot.0).version version.0) }
     {
         let at = slot.0 as usize;
         if at >= self.places.len() {
@@ -239,7 +247,8 @@ impl SlotStore {
         ensures free { in_use (place_of self.old result.slot.0).state ≡ false }
         ensures lowest { (s : ℕ) → s < result.slot.0 → in_use (place_of self.old s).state ≡ true }
         ensures version { result.version.0 ≡ (place_of self.old result.slot.0).version }
-        ensures places { (s : ℕ) → place_of self.new s ≡ (if nat_eq s result.slot.0 then taken result.version.0 result.span else place_of self.old s) }
+        ensures places { (s : ℕ) → place_of self.new s ≡
+            (if nat_eq s result.slot.0 then taken result.version.0 result.span else place_of self.old s) }
         ensures live { live_words_of self.new ≡ live_words_of self.old + len }
         ensures used { slots_in_use self.new ≡ slots_in_use self.old + 1 }
         ensures peak { peak_of self.new ≡ max (peak_of self.old) (result.span.start + len) }
@@ -271,7 +280,8 @@ impl SlotStore {
         ensures fit { IsFirstFit (is_live_word self.old) len result.start }
         ensures low { result.start ≤ peak_of self.old }
         ensures len { result.len ≡ len }
-        ensures places { (s : ℕ) → place_of self.new s ≡ (if nat_eq s slot.0 then taken (place_of self.old slot.0).version result else place_of self.old s) }
+        ensures places { (s : ℕ) → place_of self.new s ≡
+            (if nat_eq s slot.0 then taken (place_of self.old slot.0).version result else place_of self.old s) }
         ensures live { live_words_of self.new + (place_of self.old slot.0).span.len ≡ live_words_of self.old + len }
         ensures used { slots_in_use self.new ≡ slots_in_use self.old }
         ensures peak { peak_of self.new ≡ max (peak_of self.old) (result.start + len) }
@@ -315,8 +325,11 @@ impl SlotStore {
     /// `settle` for the first held slot that is to be looked at.
     fn settle_next(&mut self)
         requires left { self.old.waiting < vec_len self.old.held }
-        ensures places { (b : Book) → ((j : ℕ) → jobs_of self.old.completed j ≡ b.completed j) → ((s : ℕ) → AreUpTo b.count (users_of (place_of self.old s).state)) → (s : ℕ) → settled b (place_of self.new s) ≡ settled b (place_of self.old s) }
-        ensures users { (s j : ℕ) → users_of (place_of self.new s).state j ≡ true → users_of (place_of self.old s).state j ≡ true }
+        ensures places { (b : Book) → ((j : ℕ) → jobs_of self.old.completed j ≡ b.completed j)
+            → ((s : ℕ) → AreUpTo b.count (users_of (place_of self.old s).state)) → (s : ℕ)
+            → settled b (place_of self.new s) ≡ settled b (place_of self.old s) }
+        ensures users { (s j : ℕ) → users_of (place_of self.new s).state j ≡ true
+            → users_of (place_of self.old s).state j ≡ true }
         ensures completed { self.new.completed ≡ self.old.completed }
         ensures less { vec_len self.new.held + self.old.waiting < vec_len self.old.held + self.new.waiting }
         ensures fewer { slots_in_use self.new ≤ slots_in_use self.old }
@@ -334,8 +347,10 @@ impl SlotStore {
     fn pending_user(&self, held: Waiting) -> Option<JobId>
         requires held { is_held (place_of self.now held.slot).state ≡ true }
         requires noted { 0 < held.job → users_of (place_of self.now held.slot).state held.job ≡ true }
-        ensures some { IfSome result (λ j. (0 < j.0) × (users_of (place_of self.now held.slot).state j.0 ≡ true) × (jobs_of self.now.completed j.0 ≡ false)) }
-        ensures none { IfNone result ((j : ℕ) → users_of (place_of self.now held.slot).state j ≡ true → jobs_of self.now.completed j ≡ true) }
+        ensures some { IfSome result (λ j. (0 < j.0) × (users_of (place_of self.now held.slot).state j.0 ≡ true)
+            × (jobs_of self.now.completed j.0 ≡ false)) }
+        ensures none { IfNone result ((j : ℕ) → users_of (place_of self.now held.slot).state j ≡ true
+            → jobs_of self.now.completed j ≡ true) }
     {
         let noted = JobId(held.job);
         if held.job > 0 && !self.completed.has(noted) {
@@ -370,7 +385,8 @@ impl SlotStore {
         requires first { at ≡ self.old.waiting }
         requires slot { slot ≡ slot_at self.old at }
         requires held { is_held (place_of self.old slot).state ≡ true }
-        ensures places { (s : ℕ) → place_of self.new s ≡ (if nat_eq s slot then freed (place_of self.old s) else place_of self.old s) }
+        ensures places { (s : ℕ) → place_of self.new s ≡
+            (if nat_eq s slot then freed (place_of self.old s) else place_of self.old s) }
         ensures waiting { self.new.waiting ≡ self.old.waiting }
         ensures length { vec_len self.new.held + 1 ≡ vec_len self.old.held }
         ensures completed { self.new.completed ≡ self.old.completed }

@@ -25,7 +25,8 @@ use Rattle.plan_run.specs.ScriptOrder.{IsJobOf}
 use Rattle.steal_pool.proofs.Opening.{number_is, there, first_is, low, high}
 use Rattle.steal_pool.proofs.Seating.{is_one, below}
 
-module _ (plan : Plan) (well : IsWellOrderedPlan plan) (id : JobId) (is : IsJobOf plan id) (x : JobPlan) (at : x ≡ get_or plan.jobs.items (id.0 - 1) x) (n : ℕ) (count : n ≡ pieces_of x) where
+module _ (plan : Plan) (well : IsWellOrderedPlan plan) (id : JobId) (is : IsJobOf plan id) (x : JobPlan) (at : x ≡ get_or plan.jobs.items (id.0 - 1) x) (n : ℕ)
+    (count : n ≡ pieces_of x) where
   abbrev j : ℕ
   j = id.0 - 1
 
@@ -33,14 +34,17 @@ module _ (plan : Plan) (well : IsWellOrderedPlan plan) (id : JobId) (is : IsJobO
     pub of_job : is_of plan id.0 (x.first.0 + place) ≡ true
     of_job =
         let p = x.first.0 + place in
-        is_one plan id.0 j p x (number_is plan well id is x at) (there plan well id is x at) (low plan well id is x at n p count (omega arith)) (high plan well id is x at n p count (omega (arith, lt)))
+        is_one plan id.0 j p x (number_is plan well id is x at) (there plan well id is x at) (low plan well id is x at n p count (omega arith))
+        (high plan well id is x at n p count (omega (arith, lt)))
 
     pub piece : x.first.0 + place < job_pieces plan
     piece =
         let p = x.first.0 + place in
-        below plan id.0 j p x (number_is plan well id is x at) (there plan well id is x at) (low plan well id is x at n p count (omega arith)) (high plan well id is x at n p count (omega (arith, lt)))
+        below plan id.0 j p x (number_is plan well id is x at) (there plan well id is x at) (low plan well id is x at n p count (omega arith))
+        (high plan well id is x at n p count (omega (arith, lt)))
 
-    pub own : (claims : Claims) (claimed : Claimed) → claimed.piece.0 ≡ x.first.0 + place → claimed.more ≡ ltb (place + 1) n → HasPlace claims j place claimed.token → IsOwn plan claims j claimed
+    pub own : (claims : Claims) (claimed : Claimed) → claimed.piece.0 ≡ x.first.0 + place → claimed.more ≡ ltb (place + 1) n
+        → HasPlace claims j place claimed.token → IsOwn plan claims j claimed
     own claims claimed number more has = record {
       place = place;
       there = (x, there plan well id is x at, omega (arith, lt, count));

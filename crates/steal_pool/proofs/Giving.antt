@@ -84,7 +84,8 @@ module _ (jobs : ℕ) (s : State ℕ View) (H : AreGiven jobs s) where
 
       grows : (j : ℕ) → count j ≤ get_or words j 0
       grows j = dite (ℕ_discrete j i)
-          (λ e. let h = here in let a : count j ≡ count i = ap count e in let b : get_or words j 0 ≡ get_or words i 0 = ap (λ x. get_or words x 0) e in omega (arith, h, a, b))
+          (λ e. let h = here in let a : count j ≡ count i = ap count e in let b : get_or words j 0 ≡ get_or words i 0 = ap (λ x. get_or words x 0) e in
+          omega (arith, h, a, b))
           (λ ne. let t = there j ne in omega (arith, t))
 
       -- who has a place after the step
@@ -141,7 +142,11 @@ allows_look jobs slots i first s H len fits = (Saw i (get_or s.words i 0), looke
 
 -- after an exchange at the word i, where it was or wasn't the expected c
 abbrev after : State ℕ View → ℕ → ℕ → ℕ → Bool → State ℕ View
-after s id i c b = record { words = set s.words i (either b (c + 1) (get_or s.words i 0)); homes = s.homes; views = set s.views id (cond b (Given i (get_or s.words i 0)) (Saw i (get_or s.words i 0))) }
+after s id i c b = record {
+  words = set s.words i (either b (c + 1) (get_or s.words i 0));
+  homes = s.homes;
+  views = set s.views id (cond b (Given i (get_or s.words i 0)) (Saw i (get_or s.words i 0)));
+}
 
 pub allows_claim : (jobs slots id i c : ℕ) (me : Me ℕ View) → me.0 ≡ Saw i c → i < jobs
     → Allows (AreGiven jobs) slots id me i (λ n. either (eqb n c) (c + 1) n) (Takes (step slots i c (c + 1) none) me)
@@ -155,6 +160,8 @@ allows_claim jobs slots id i c me was low s H len at fits =
         let x : ℕ = get_or s.words i 0 in
         dite (ℕ_discrete x c)
         (λ e. subst (λ b. AreGiven jobs (after s id i c b)) (sym (eq-eqb x c e))
-        (subst (λ m. AreGiven jobs record { words = set s.words i m; homes = s.homes; views = set s.views id (Given i x) }) (ap (λ y. y + 1) e) (claimed jobs s H id i c saw low)))
+        (subst (λ m. AreGiven jobs record { words = set s.words i m; homes = s.homes; views = set s.views id (Given i x) }) (ap (λ y. y + 1) e)
+        (claimed jobs s H id i c saw low)))
         (λ ne. subst (λ b. AreGiven jobs (after s id i c b)) (sym (ne_eqb x c ne))
-        (subst (λ ws. AreGiven jobs record { words = ws; homes = s.homes; views = set s.views id (Saw i x) }) (sym (set-get_or s.words i 0)) (missed jobs s H id i c saw)))
+        (subst (λ ws. AreGiven jobs record { words = ws; homes = s.homes; views = set s.views id (Saw i x) }) (sym (set-get_or s.words i 0))
+        (missed jobs s H id i c saw)))

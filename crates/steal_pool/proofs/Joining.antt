@@ -15,7 +15,8 @@ use Rattle.steal_pool.specs.Sections.{shifted, ReportsAreWithin}
 
 -- JOINED REPORTS
 
-longer : (a b : List JobTrap) (n : ℕ) (r s new : Report) → IsReportOf a r → IsReportOf b s → new.traps ≡ r.traps + s.traps → length (a ++ shifted n b) ≡ new.traps
+longer : (a b : List JobTrap) (n : ℕ) (r s new : Report) → IsReportOf a r → IsReportOf b s → new.traps ≡ r.traps + s.traps
+    → length (a ++ shifted n b) ≡ new.traps
 longer a b n r s new p q count =
     let x = p.number in
     let y = q.number in
@@ -26,26 +27,31 @@ none_in : (b : List JobTrap) → length b ≡ 0 → b ≡ []
 none_in [] e = refl
 none_in (t ∷ b) e = let h : suc (length b) ≡ 0 = e in absurd (omega (arith, h))
 
-names_on : (a c : List JobTrap) (r new : Report) → new.job ≡ r.job → new.index ≡ r.index → new.trap ≡ r.trap → (length a ≡ 0 → c ≡ []) → IfSome (slice_get a 0) (Names r) → IfSome (slice_get (a ++ c) 0) (Names new)
+names_on : (a c : List JobTrap) (r new : Report) → new.job ≡ r.job → new.index ≡ r.index → new.trap ≡ r.trap → (length a ≡ 0 → c ≡ [])
+    → IfSome (slice_get a 0) (Names r) → IfSome (slice_get (a ++ c) 0) (Names new)
 names_on [] c r new i k t none h = subst (λ (l : List JobTrap). IfSome (slice_get l 0) (Names new)) (sym (none refl)) tt
 names_on (x ∷ a) c r new i k t none h = record { job = h.job ∙ ap (λ id. id.0) (sym i); index = h.index ∙ sym k; trap = h.trap ∙ sym t }
 
 -- the earlier report names the first trap, if there is one
-pub join_on : (a b : List JobTrap) (n : ℕ) (r s new : Report) → new.traps ≡ r.traps + s.traps → new.job ≡ r.job → new.index ≡ r.index → new.trap ≡ r.trap → (r.traps ≡ 0 → s.traps ≡ 0) → IsReportOf a r → IsReportOf b s → IsReportOf (a ++ shifted n b) new
+pub join_on : (a b : List JobTrap) (n : ℕ) (r s new : Report) → new.traps ≡ r.traps + s.traps → new.job ≡ r.job → new.index ≡ r.index → new.trap ≡ r.trap
+    → (r.traps ≡ 0 → s.traps ≡ 0) → IsReportOf a r → IsReportOf b s → IsReportOf (a ++ shifted n b) new
 join_on a b n r s new count i k t none p q = record {
   number = longer a b n r s new p q count;
   first = names_on a (shifted n b) r new i k t (λ e. ap (shifted n) (none_in b (q.number ∙ none (sym p.number ∙ e)))) p.first;
 }
 
-first_named : (b : List JobTrap) (n : ℕ) (s new : Report) → new.job.0 ≡ s.job.0 + n → new.index ≡ s.index → new.trap ≡ s.trap → IfSome (slice_get b 0) (Names s) → IfSome (slice_get (shifted n b) 0) (Names new)
+first_named : (b : List JobTrap) (n : ℕ) (s new : Report) → new.job.0 ≡ s.job.0 + n → new.index ≡ s.index → new.trap ≡ s.trap → IfSome (slice_get b 0) (Names s)
+    → IfSome (slice_get (shifted n b) 0) (Names new)
 first_named [] n s new i k t h = tt
 first_named (x ∷ b) n s new i k t h = record { job = ap (λ m. m + n) h.job ∙ sym i; index = h.index ∙ sym k; trap = h.trap ∙ sym t }
 
 -- the earlier report has no trap
-pub join_first : (a b : List JobTrap) (n : ℕ) (r s new : Report) → new.traps ≡ r.traps + s.traps → new.job.0 ≡ s.job.0 + n → new.index ≡ s.index → new.trap ≡ s.trap → r.traps ≡ 0 → IsReportOf a r → IsReportOf b s → IsReportOf (a ++ shifted n b) new
+pub join_first : (a b : List JobTrap) (n : ℕ) (r s new : Report) → new.traps ≡ r.traps + s.traps → new.job.0 ≡ s.job.0 + n → new.index ≡ s.index
+    → new.trap ≡ s.trap → r.traps ≡ 0 → IsReportOf a r → IsReportOf b s → IsReportOf (a ++ shifted n b) new
 join_first a b n r s new count i k t none p q = record {
   number = longer a b n r s new p q count;
-  first = subst (λ (l : List JobTrap). IfSome (slice_get (l ++ shifted n b) 0) (Names new)) (sym (none_in a (p.number ∙ none))) (first_named b n s new i k t q.first);
+  first = subst (λ (l : List JobTrap). IfSome (slice_get (l ++ shifted n b) 0) (Names new)) (sym (none_in a (p.number ∙ none)))
+      (first_named b n s new i k t q.first);
 }
 
 -- BOUNDS
@@ -73,7 +79,8 @@ up_to_parts plan j (suc i) = up_to_more (suc j) (parts_traps plan j i) (part_tra
 
 up_to_jobs : (plan : Plan) (n : ℕ) → UpTo n (jobs_traps plan n)
 up_to_jobs plan zero = tt
-up_to_jobs plan (suc j) = up_to_more (suc j) (jobs_traps plan j) (parts_traps plan j (pieces_in (job_at plan j))) (up_to_next j (jobs_traps plan j) (up_to_jobs plan j)) (up_to_parts plan j (pieces_in (job_at plan j)))
+up_to_jobs plan (suc j) = up_to_more (suc j) (jobs_traps plan j) (parts_traps plan j (pieces_in (job_at plan j)))
+    (up_to_next j (jobs_traps plan j) (up_to_jobs plan j)) (up_to_parts plan j (pieces_in (job_at plan j)))
 
 first_up_to : (n : ℕ) (ts : List JobTrap) (r : Report) → UpTo n ts → 0 < length ts → IfSome (slice_get ts 0) (Names r) → r.job.0 ≤ n
 first_up_to n [] r p lt h = absurd (omega (arith, lt))
@@ -83,7 +90,8 @@ job_up_to : (plan : Plan) (r : Report) → IsReportOf (plan_traps plan) r → 0 
 unfolding plan_traps
 job_up_to plan r is some =
     let n = is.number in
-    first_up_to (length plan.jobs.items) (jobs_traps plan (length plan.jobs.items)) r (up_to_jobs plan (length plan.jobs.items)) (omega (arith, n, some)) is.first
+    first_up_to (length plan.jobs.items) (jobs_traps plan (length plan.jobs.items)) r (up_to_jobs plan (length plan.jobs.items))
+    (omega (arith, n, some)) is.first
 
 pub reports_are_within : ReportsAreWithin
 reports_are_within plan report well is =

@@ -66,5 +66,6 @@ PiecesAreGivenOnce = (plan : Plan) → IsWellOrderedPlan plan → (jobs : ℕ) (
 
 -- What a token saw given is given to a token each.
 abbrev pub SeenPiecesAreGiven : Type 0
-SeenPiecesAreGiven = (jobs : ℕ) (s : State ℕ View) → AreGiven jobs s → (a j n : ℕ) → get_elem? s.views a ≡ some (Saw j n)
+SeenPiecesAreGiven = (jobs : ℕ) (s : State ℕ View) → AreGiven jobs s → (a j n : ℕ)
+    → get_elem? s.views a ≡ some (Saw j n)
     → (i : ℕ) → i < n → (b : ℕ) × (get_elem? s.views b ≡ some (Given j i))

@@ -20,8 +20,8 @@ pub struct Claims {
     pub ghost size: { table.shared.table_id.words ≡ table.shared.key },
 }
 
-/// A piece that nobody else has, and whether its job has more of them. It can't be dropped: a piece that was given comes
-/// to where it is run.
+/// A piece that nobody else has, and whether its job has more of them. It can't be dropped: a piece that was given
+/// comes to where it is run.
 pub struct Claimed {
     pub piece: PieceId,
     pub more: bool,
@@ -50,8 +50,8 @@ impl Claims {
         Ok(Claims { table })
     }
 
-    // The next place of the job at that index, which has so many. It looks once, and then tries again only where another
-    // worker was given a place meanwhile.
+    // The next place of the job at that index, which has so many. It looks once, and then tries again only where
+    // another worker was given a place meanwhile.
     fn next_place(&self, job: usize, count: u64) -> Result<(u64, Token), Token>
         requires job { job < self.now.table.shared.key }
         ensures given { IfOk result (λ r. HasPlace self.now job r.0 r.1) }

@@ -36,9 +36,9 @@ impl Queue {
         })
     }
 
-    /// Offers a job to all workers, by the worker of that seat, which has no piece left to open: whoever finds the job can
-    /// begin its pieces. A push past the capacity would be left out. There is none: the capacity is twice the number of
-    /// jobs, and a worker opens a job at most once, and offers it again at most once.
+    /// Offers a job to all workers, by the worker of that seat, which has no piece left to open: whoever finds the job
+    /// can begin its pieces. A push past the capacity would be left out. There is none: the capacity is twice the
+    /// number of jobs, and a worker opens a job at most once, and offers it again at most once.
     pub fn offer<B: Board>(&mut self, _seat: &B::Seat, job: JobId)
         requires opened { MayOpenNone (B.know _seat.now) }
     {

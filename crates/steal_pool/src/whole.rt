@@ -55,8 +55,8 @@ where
     )
 }
 
-/// Runs a plan and writes its output: its lines, and where it has traps the two lines of those. Nothing waits before it,
-/// and nothing after it where all was written.
+/// Runs a plan and writes its output: its lines, and where it has traps the two lines of those. Nothing waits before
+/// it, and nothing after it where all was written.
 ///
 /// Everything that is written is that of the run in script order, however many workers there are. After a fault nothing
 /// more is written, and the plan is run to its end all the same. It takes no memory.

@@ -17,7 +17,8 @@ pub length-columns_from : (names : Fields) (rows : List Fields) → length (colu
 length-columns_from [] rows = refl
 length-columns_from (n ∷ names) rows = ap suc (length-columns_from names (map (drop 1) rows))
 
-pub columns_from-more : (names : Fields) (rows : List Fields) (fields : Fields) → length fields ≡ length names → columns_from names (rows ++ fields ∷ []) ≡ with_row (columns_from names rows) fields
+pub columns_from-more : (names : Fields) (rows : List Fields) (fields : Fields) → length fields ≡ length names
+    → columns_from names (rows ++ fields ∷ []) ≡ with_row (columns_from names rows) fields
 columns_from-more [] rows fields e = refl
 columns_from-more (n ∷ names) rows [] e = absurd (omega arith)
 columns_from-more (n ∷ names) rows (f ∷ fields) e =
@@ -39,7 +40,8 @@ length-with_row (c ∷ columns) (f ∷ fields) = ap suc (length-with_row columns
 
 -- ---- one more name
 
-pub name_step : (held : List NamedColumn) (fields : Fields) (i : ℕ) (f : Text) → held ≡ columns_from (take i fields) [] → field_at fields i ≡ Some f → held ++ empty_column f ∷ [] ≡ columns_from (take (i + 1) fields) []
+pub name_step : (held : List NamedColumn) (fields : Fields) (i : ℕ) (f : Text) → held ≡ columns_from (take i fields) [] → field_at fields i ≡ Some f
+    → held ++ empty_column f ∷ [] ≡ columns_from (take (i + 1) fields) []
 name_step held fields i f is at =
     ap (λ (l : List NamedColumn). l ++ empty_column f ∷ []) is
     ∙ sym (ap (λ l. columns_from l []) (take-field fields i f at) ∙ columns_from-name (take i fields) f)
@@ -48,7 +50,8 @@ name_step held fields i f is at =
 
 -- the value of one more field goes to its column
 with_row-more : (columns : List NamedColumn) (fields : Fields) (i : ℕ) (f : Text) → i < length columns → field_at fields i ≡ Some f
-    → slice_set (with_row columns (take i fields)) i (with_value (slice_index_or (with_row columns (take i fields)) i (empty_column [])) (value_of f)) ≡ with_row columns (take (i + 1) fields)
+    → slice_set (with_row columns (take i fields)) i (with_value (slice_index_or (with_row columns (take i fields)) i (empty_column [])) (value_of f))
+    ≡ with_row columns (take (i + 1) fields)
 unfolding field_at
 with_row-more [] fields i f lt e = absurd (omega arith)
 with_row-more (c ∷ columns) [] i f lt e = absurd (let bad : None ≡ Some f = e in cc)
@@ -68,7 +71,8 @@ value_step init held new fields i f n is step lt at number =
     step ∙ ap₂ (λ l v. slice_set l i (with_value (slice_index_or l i (empty_column [])) v)) is value ∙ with_row-more init fields i f lt at
 
 -- a column with one more value, seen by its name and values
-pub pushed : {X : Type 0} (f : X → NamedColumn) (xs : List X) (i : ℕ) (old new : X) (v : ℤ) → i < length xs → old ≡ slice_index_or xs i old → f new ≡ with_value (f old) v
+pub pushed : {X : Type 0} (f : X → NamedColumn) (xs : List X) (i : ℕ) (old new : X) (v : ℤ) → i < length xs → old ≡ slice_index_or xs i old
+    → f new ≡ with_value (f old) v
     → map f (slice_set xs i new) ≡ slice_set (map f xs) i (with_value (slice_index_or (map f xs) i (empty_column [])) v)
 pushed f [] i old new v lt at e = absurd (omega arith)
 pushed f (x ∷ xs) zero old new v lt at e = ap (λ (c : NamedColumn). c ∷ map f xs) (e ∙ ap (λ y. with_value (f y) v) at)
@@ -84,7 +88,8 @@ within fields i none lt =
 abbrev pub seen : Column → NamedColumn
 seen c = record { name = c.name.items; values = c.values.items }
 
-pub column_hit : (name : Text) (columns : List Column) (i : ℕ) (c : Column) → i < length columns → c ≡ slice_index_or columns i c → bytes_eq c.name.items name ≡ true
+pub column_hit : (name : Text) (columns : List Column) (i : ℕ) (c : Column) → i < length columns → c ≡ slice_index_or columns i c
+    → bytes_eq c.name.items name ≡ true
     → column_named name (map seen (drop i columns)) ≡ Some c.values.items
 column_hit name [] i c lt at e = absurd (omega arith)
 column_hit name (x ∷ columns) zero c lt at e =
@@ -92,7 +97,8 @@ column_hit name (x ∷ columns) zero c lt at e =
     rw same (ap (λ (y : Column). Some y.values.items) (sym at))
 column_hit name (x ∷ columns) (suc i) c lt at e = column_hit name columns i c (omega arith) at e
 
-pub column_miss : (name : Text) (columns : List Column) (i : ℕ) (c : Column) → i < length columns → c ≡ slice_index_or columns i c → bytes_eq c.name.items name ≡ false
+pub column_miss : (name : Text) (columns : List Column) (i : ℕ) (c : Column) → i < length columns → c ≡ slice_index_or columns i c
+    → bytes_eq c.name.items name ≡ false
     → column_named name (map seen (drop (i + 1) columns)) ≡ column_named name (map seen (drop i columns))
 column_miss name [] i c lt at e = absurd (omega arith)
 column_miss name (x ∷ columns) zero c lt at e =

@@ -32,7 +32,8 @@ pub record Along (rdr : Reader (Bor Text)) (source : Text) (t : List NamedColumn
   pub sound : fault_from 2 (length names) rows ≡ None
   pub held : t ≡ columns_from names rows
 
-pub starts : (a b : Reader (Bor Text)) (source : Text) (names : Fields) (t : List NamedColumn) → a.config ≡ default_config → source_of left_in a ≡ Some (strip_bom source) → a.state ≡ st.StartRecord
+pub starts : (a b : Reader (Bor Text)) (source : Text) (names : Fields) (t : List NamedColumn) → a.config ≡ default_config
+    → source_of left_in a ≡ Some (strip_bom source) → a.state ≡ st.StartRecord
     → a.trim ≡ trim.None → b.first ≡ true → ReadRecord left_in a b true names → t ≡ columns_from names [] → Along b source t 2
 unfolding Reached
 starts a b source names t config bytes start trims first r held =
@@ -51,18 +52,22 @@ starts a b source names t config bytes start trims first r held =
     }
 
 -- the text has no record
-pub empty : (a b : Reader (Bor Text)) (source : Text) (names : Fields) → a.config ≡ default_config → source_of left_in a ≡ Some (strip_bom source) → a.state ≡ st.StartRecord
+pub empty : (a b : Reader (Bor Text)) (source : Text) (names : Fields) → a.config ≡ default_config → source_of left_in a ≡ Some (strip_bom source)
+    → a.state ≡ st.StartRecord
     → ReadRecord left_in a b false names → table_fault (rows_in source) ≡ Some Empty
 unfolding Reached
 empty a b source names config bytes start r =
-    let none : next_record default_config st.StartRecord [] [] (strip_bom source) ≡ None = subst (λ s. next_record default_config s [] [] (strip_bom source) ≡ None) start (rows-end left_in a b names default_config (strip_bom source) config bytes r) in
+    let none : next_record default_config st.StartRecord [] [] (strip_bom source) ≡ None =
+    subst (λ s. next_record default_config s [] [] (strip_bom source) ≡ None) start
+    (rows-end left_in a b names default_config (strip_bom source) config bytes r) in
     let front = rows-front source [] st.StartRecord (strip_bom source) (refl, refl) in
     ap table_fault (front.1 ∙ front.2 none)
 
 width : (rdr : Reader (Bor Text)) (source : Text) (t : List NamedColumn) (row : ℕ) (h : Along rdr source t row) → length t ≡ length h.names
 width rdr source t row h = ap length h.held ∙ length-columns_from h.names h.rows
 
-pub goes_on : (a b : Reader (Bor Text)) (source : Text) (t u : List NamedColumn) (row : ℕ) (fields : Fields) → Along a source t row → ReadRecord left_in a b true fields → b.first ≡ true
+pub goes_on : (a b : Reader (Bor Text)) (source : Text) (t u : List NamedColumn) (row : ℕ) (fields : Fields) → Along a source t row
+    → ReadRecord left_in a b true fields → b.first ≡ true
     → row_fault row (length t) fields ≡ None → u ≡ with_row t fields
     → length fields ≡ length t → Along b source u (row + 1)
 goes_on a b source t u row fields h r first sound new same =
@@ -82,7 +87,8 @@ goes_on a b source t u row fields h r first sound new same =
       held = new ∙ ap (λ l. with_row l fields) h.held ∙ sym (columns_from-more h.names h.rows fields (same ∙ wide));
     }
 
-pub faults : (a b : Reader (Bor Text)) (source : Text) (t : List NamedColumn) (row : ℕ) (fields : Fields) (f : TableFault) → Along a source t row → ReadRecord left_in a b true fields
+pub faults : (a b : Reader (Bor Text)) (source : Text) (t : List NamedColumn) (row : ℕ) (fields : Fields) (f : TableFault) → Along a source t row
+    → ReadRecord left_in a b true fields
     → row_fault row (length t) fields ≡ Some f → table_fault (rows_in source) ≡ Some f
 faults a b source t row fields f h r bad =
     let m = rows-more left_in a b fields default_config st.StartRecord (strip_bom source) h.rest (h.names ∷ h.rows) h.config h.bytes h.reached r in
@@ -95,7 +101,8 @@ few a source t row h small =
     let count = rows-few source (h.names ∷ h.rows) a.state h.rest h.reached in
     omega (arith, h.count, count)
 
-pub ends : (a b : Reader (Bor Text)) (source : Text) (t : List NamedColumn) (row : ℕ) (f : Fields) → Along a source t row → ReadRecord left_in a b false f → HoldsRows (rows_in source) t
+pub ends : (a b : Reader (Bor Text)) (source : Text) (t : List NamedColumn) (row : ℕ) (f : Fields) → Along a source t row → ReadRecord left_in a b false f
+    → HoldsRows (rows_in source) t
 ends a b source t row f h r =
     let all = all-read source h.names h.rows a.state h.rest h.reached (rows-end left_in a b f default_config h.rest h.config h.bytes r) in record {
       sound = ap table_fault all ∙ h.sound;

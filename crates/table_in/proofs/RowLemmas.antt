@@ -24,8 +24,10 @@ choice b x y = cond b x y
 in_field_between : (c : ℕ) → is_end (in_field default_config c).1 ≡ true → ends_at_end (in_field default_config c).0 ≡ false
 in_field_between c = go (eqb c 44) (eqb c 13) (eqb c 10)
   where
-    go : (a b d : Bool) → is_end (choice a (st.StartField, act.EndField) (choice (b || d) (cond b st.AfterCr st.StartRecord, act.EndRecord) (st.InField, act.Copy))).1 ≡ true
-        → ends_at_end (choice a (st.StartField, act.EndField) (choice (b || d) (cond b st.AfterCr st.StartRecord, act.EndRecord) (st.InField, act.Copy))).0 ≡ false
+    go : (a b d : Bool) → is_end (choice a (st.StartField, act.EndField) (choice (b || d) (cond b st.AfterCr st.StartRecord, act.EndRecord)
+        (st.InField, act.Copy))).1 ≡ true
+        → ends_at_end (choice a (st.StartField, act.EndField) (choice (b || d) (cond b st.AfterCr st.StartRecord, act.EndRecord) (st.InField, act.Copy))).0
+        ≡ false
     go true b d e = absurd (let bad : false ≡ true = e in cc)
     go false true d e = refl
     go false false true e = refl
@@ -34,14 +36,16 @@ in_field_between c = go (eqb c 44) (eqb c 13) (eqb c 10)
 start_field_between : (c : ℕ) → is_end (start_field default_config c).1 ≡ true → ends_at_end (start_field default_config c).0 ≡ false
 start_field_between c = go (eqb c 34)
   where
-    go : (a : Bool) → is_end (choice a (st.InQuoted, act.Skip) (in_field default_config c)).1 ≡ true → ends_at_end (choice a (st.InQuoted, act.Skip) (in_field default_config c)).0 ≡ false
+    go : (a : Bool) → is_end (choice a (st.InQuoted, act.Skip) (in_field default_config c)).1 ≡ true
+        → ends_at_end (choice a (st.InQuoted, act.Skip) (in_field default_config c)).0 ≡ false
     go true e = absurd (let bad : false ≡ true = e in cc)
     go false e = in_field_between c e
 
 start_record_between : (c : ℕ) → is_end (start_record default_config c).1 ≡ true → ends_at_end (start_record default_config c).0 ≡ false
 start_record_between c = go (eqb c 13 || eqb c 10)
   where
-    go : (a : Bool) → is_end (choice a (st.StartRecord, act.Skip) (start_field default_config c)).1 ≡ true → ends_at_end (choice a (st.StartRecord, act.Skip) (start_field default_config c)).0 ≡ false
+    go : (a : Bool) → is_end (choice a (st.StartRecord, act.Skip) (start_field default_config c)).1 ≡ true
+        → ends_at_end (choice a (st.StartRecord, act.Skip) (start_field default_config c)).0 ≡ false
     go true e = absurd (let bad : false ≡ true = e in cc)
     go false e = start_field_between c e
 
@@ -51,23 +55,27 @@ step_between st.StartField c e = start_field_between c e
 step_between st.InField c e = in_field_between c e
 step_between st.InQuoted c e = go (eqb c 34) e
   where
-    go : (a : Bool) → is_end (choice a (st.AfterQuote, act.Skip) (st.InQuoted, act.Copy)).1 ≡ true → ends_at_end (choice a (st.AfterQuote, act.Skip) (st.InQuoted, act.Copy)).0 ≡ false
+    go : (a : Bool) → is_end (choice a (st.AfterQuote, act.Skip) (st.InQuoted, act.Copy)).1 ≡ true
+        → ends_at_end (choice a (st.AfterQuote, act.Skip) (st.InQuoted, act.Copy)).0 ≡ false
     go true e = absurd (let bad : false ≡ true = e in cc)
     go false e = absurd (let bad : false ≡ true = e in cc)
 step_between st.InEscape c e = absurd (let bad : false ≡ true = e in cc)
 step_between st.AfterQuote c e = go (eqb c 34) e
   where
-    go : (a : Bool) → is_end (choice a (st.InQuoted, act.Copy) (in_field default_config c)).1 ≡ true → ends_at_end (choice a (st.InQuoted, act.Copy) (in_field default_config c)).0 ≡ false
+    go : (a : Bool) → is_end (choice a (st.InQuoted, act.Copy) (in_field default_config c)).1 ≡ true
+        → ends_at_end (choice a (st.InQuoted, act.Copy) (in_field default_config c)).0 ≡ false
     go true e = absurd (let bad : false ≡ true = e in cc)
     go false e = in_field_between c e
 step_between st.InComment c e = go (eqb c 10) e
   where
-    go : (a : Bool) → is_end (choice a (st.StartRecord, act.Skip) (st.InComment, act.Skip)).1 ≡ true → ends_at_end (choice a (st.StartRecord, act.Skip) (st.InComment, act.Skip)).0 ≡ false
+    go : (a : Bool) → is_end (choice a (st.StartRecord, act.Skip) (st.InComment, act.Skip)).1 ≡ true
+        → ends_at_end (choice a (st.StartRecord, act.Skip) (st.InComment, act.Skip)).0 ≡ false
     go true e = absurd (let bad : false ≡ true = e in cc)
     go false e = absurd (let bad : false ≡ true = e in cc)
 step_between st.AfterCr c e = go (eqb c 10) e
   where
-    go : (a : Bool) → is_end (choice a (st.StartRecord, act.Skip) (start_record default_config c)).1 ≡ true → ends_at_end (choice a (st.StartRecord, act.Skip) (start_record default_config c)).0 ≡ false
+    go : (a : Bool) → is_end (choice a (st.StartRecord, act.Skip) (start_record default_config c)).1 ≡ true
+        → ends_at_end (choice a (st.StartRecord, act.Skip) (start_record default_config c)).0 ≡ false
     go true e = absurd (let bad : false ≡ true = e in cc)
     go false e = start_record_between c e
 
@@ -88,10 +96,12 @@ leaves s fields field (c ∷ rest) p e =
     go (leaves (step default_config s c).0 (fields_after (step default_config s c).1 fields field) (field_after (step default_config s c).1 c field) rest p)
     (is_end (step default_config s c).1) refl e
   where
-    go : (next_record default_config (step default_config s c).0 (fields_after (step default_config s c).1 fields field) (field_after (step default_config s c).1 c field) rest ≡ Some p → Leaves p (length rest))
+    go : (next_record default_config (step default_config s c).0 (fields_after (step default_config s c).1 fields field)
+        (field_after (step default_config s c).1 c field) rest ≡ Some p → Leaves p (length rest))
         → (b : Bool) → is_end (step default_config s c).1 ≡ b
         → cond b (Some (fields_after (step default_config s c).1 fields field, (step default_config s c).0, rest))
-        (next_record default_config (step default_config s c).0 (fields_after (step default_config s c).1 fields field) (field_after (step default_config s c).1 c field) rest) ≡ Some p
+        (next_record default_config (step default_config s c).0 (fields_after (step default_config s c).1 fields field)
+        (field_after (step default_config s c).1 c field) rest) ≡ Some p
         → Leaves p (length (c ∷ rest))
     go more true ends e =
         let is : (fields_after (step default_config s c).1 fields field, (step default_config s c).0, rest) ≡ p = cc in
@@ -102,7 +112,8 @@ leaves s fields field (c ∷ rest) p e =
         (omega arith, h.1)
 
 -- a record between records takes a byte at least
-fewer : (s : State) (xs : Text) (p : Read) → ends_at_end s ≡ false → next_record default_config s [] [] xs ≡ Some p → (length p.2 + 1 ≤ length xs) × (ends_at_end p.1 ≡ false)
+fewer : (s : State) (xs : Text) (p : Read) → ends_at_end s ≡ false → next_record default_config s [] [] xs ≡ Some p
+    → (length p.2 + 1 ≤ length xs) × (ends_at_end p.1 ≡ false)
 unfolding next_record
 fewer s [] p between e =
     let bad : None ≡ Some p = rw between at e in
@@ -111,7 +122,8 @@ fewer s (c ∷ rest) p between e = go (is_end (step default_config s c).1) refl 
   where
     go : (b : Bool) → is_end (step default_config s c).1 ≡ b
         → cond b (Some (fields_after (step default_config s c).1 [] [], (step default_config s c).0, rest))
-        (next_record default_config (step default_config s c).0 (fields_after (step default_config s c).1 [] []) (field_after (step default_config s c).1 c []) rest) ≡ Some p
+        (next_record default_config (step default_config s c).0 (fields_after (step default_config s c).1 [] [])
+        (field_after (step default_config s c).1 c []) rest) ≡ Some p
         → (length p.2 + 1 ≤ length (c ∷ rest)) × (ends_at_end p.1 ≡ false)
     go true ends e =
         let is : (fields_after (step default_config s c).1 [] [], (step default_config s c).0, rest) ≡ p = cc in
@@ -121,7 +133,8 @@ fewer s (c ∷ rest) p between e = go (is_end (step default_config s c).1) refl 
         let left : length p.2 ≤ length rest = h.0 in
         (omega arith, h.1)
 
-pub reached-fewer : (rows : List Fields) (s s2 : State) (xs ys : Text) → ends_at_end s ≡ false → Reached default_config s xs rows s2 ys → length rows + length ys ≤ length xs
+pub reached-fewer : (rows : List Fields) (s s2 : State) (xs ys : Text) → ends_at_end s ≡ false → Reached default_config s xs rows s2 ys
+    → length rows + length ys ≤ length xs
 unfolding Reached
 reached-fewer [] s s2 xs ys between h =
     let same : length xs ≡ length ys = ap length h.1 in
@@ -160,7 +173,8 @@ rows-front source rows s2 ys h =
     )
 
 -- a text has no more records than bytes
-pub rows-few : (source : Text) (rows : List Fields) (s2 : State) (ys : Text) → Reached default_config st.StartRecord (strip_bom source) rows s2 ys → length rows ≤ length source
+pub rows-few : (source : Text) (rows : List Fields) (s2 : State) (ys : Text) → Reached default_config st.StartRecord (strip_bom source) rows s2 ys
+    → length rows ≤ length source
 unfolding strip_bom
 rows-few source rows s2 ys h =
     let few : length rows + length ys ≤ length (strip_bom source) = reached-fewer rows st.StartRecord s2 (strip_bom source) ys refl h in
@@ -183,13 +197,15 @@ or_fault-or_fault : (a b c : Option TableFault) → or_fault a (or_fault b c) �
 or_fault-or_fault None b c = refl
 or_fault-or_fault (Some f) b c = refl
 
-pub fault_from-append : (row width : ℕ) (xs ys : List Fields) → fault_from row width (xs ++ ys) ≡ or_fault (fault_from row width xs) (fault_from (row + length xs) width ys)
+pub fault_from-append : (row width : ℕ) (xs ys : List Fields) → fault_from row width (xs ++ ys) ≡ or_fault (fault_from row width xs)
+    (fault_from (row + length xs) width ys)
 fault_from-append row width [] ys =
     let none_more : row ≡ row + 0 = omega arith in
     ap (λ n. fault_from n width ys) none_more
 fault_from-append row width (x ∷ xs) ys =
     let one_more : (row + 1) + length xs ≡ row + length (x ∷ xs) = omega arith in
-    ap (or_fault (row_fault row width x)) (fault_from-append (row + 1) width xs ys ∙ ap (λ n. or_fault (fault_from (row + 1) width xs) (fault_from n width ys)) one_more)
+    ap (or_fault (row_fault row width x)) (fault_from-append (row + 1) width xs ys
+    ∙ ap (λ n. or_fault (fault_from (row + 1) width xs) (fault_from n width ys)) one_more)
     ∙ or_fault-or_fault (row_fault row width x) (fault_from (row + 1) width xs) _
 
 -- ---- the fields of one record
@@ -212,7 +228,8 @@ take-field (g ∷ fields) (suc i) f e =
     let one_more : suc i + 1 ≡ suc (i + 1) = omega arith in
     ap (λ n. take n (g ∷ fields)) one_more ∙ ap (λ (l : Fields). g ∷ l) (take-field fields i f e)
 
-pub numbers-more : (fields : Fields) (i : ℕ) (f : Text) (n : ℤ) → field_at fields i ≡ Some f → Some n ≡ number_of f → all_numbers (take i fields) ≡ true → all_numbers (take (i + 1) fields) ≡ true
+pub numbers-more : (fields : Fields) (i : ℕ) (f : Text) (n : ℤ) → field_at fields i ≡ Some f → Some n ≡ number_of f → all_numbers (take i fields) ≡ true
+    → all_numbers (take (i + 1) fields) ≡ true
 numbers-more fields i f n at is before =
     ap all_numbers (take-field fields i f at) ∙ list_all-append (λ (t : Text). is_some (number_of t)) (take i fields) (f ∷ [])
     ∙ and_from _ _ before (ap (λ o. is_some o && true) (sym is))
@@ -247,7 +264,8 @@ row_sound row width fields same good =
 -- ---- the whole
 
 pub faulty : (source : Text) (names : Fields) (rows : List Fields) (fields : Fields) (s2 : State) (ys : Text) (row : ℕ) (fault : TableFault)
-    → Reached default_config st.StartRecord (strip_bom source) (names ∷ (rows ++ fields ∷ [])) s2 ys → fault_from 2 (length names) rows ≡ None → row ≡ 2 + length rows
+    → Reached default_config st.StartRecord (strip_bom source) (names ∷ (rows ++ fields ∷ [])) s2 ys → fault_from 2 (length names) rows ≡ None
+    → row ≡ 2 + length rows
     → row_fault row (length names) fields ≡ Some fault → table_fault (rows_in source) ≡ Some fault
 faulty source names rows fields s2 ys row fault h sound is e =
     let front = rows-front source (names ∷ (rows ++ fields ∷ [])) s2 ys h in
@@ -263,7 +281,8 @@ sound-more names rows fields row sound is e =
     fault_from-append 2 (length names) rows (fields ∷ []) ∙ ap (λ o. or_fault o (or_fault (row_fault (2 + length rows) (length names) fields) None)) sound
     ∙ ap (λ o. or_fault o None) (ap (λ n. row_fault n (length names) fields) (sym is) ∙ e)
 
-pub all-read : (source : Text) (names : Fields) (rows : List Fields) (s2 : State) (ys : Text) → Reached default_config st.StartRecord (strip_bom source) (names ∷ rows) s2 ys
+pub all-read : (source : Text) (names : Fields) (rows : List Fields) (s2 : State) (ys : Text)
+    → Reached default_config st.StartRecord (strip_bom source) (names ∷ rows) s2 ys
     → next_record default_config s2 [] [] ys ≡ None → rows_in source ≡ names ∷ rows
 all-read source names rows s2 ys h none =
     let front = rows-front source (names ∷ rows) s2 ys h in

@@ -36,7 +36,8 @@ after_blocks c d inner inner' same within = record { others = λ i. after_block 
 
 module _ (s : Source) where
   -- the first fault of a statement, and of a kernel, in either of two scopes
-  at_order : (c d : Scope) → SameScope c d → (at : _) (form : OrderForm) (a b : Option StaticFault) → first_some (order_faults s c at form) ≡ a → first_some (order_faults s d at form) ≡ b → a ≡ b
+  at_order : (c d : Scope) → SameScope c d → (at : _) (form : OrderForm) (a b : Option StaticFault) → first_some (order_faults s c at form) ≡ a
+      → first_some (order_faults s d at form) ≡ b → a ≡ b
   at_order c d same at form a b x y = sym x ∙ ap first_some (same_order_faults s c d same at form) ∙ y
 
   at_kernel : (c d : Scope) → SameScope c d → (events : List Event) (r t : RawKernel) → IsRawOf s events r → IsRawOf s events t → (a b : Option StaticFault) →
@@ -60,10 +61,12 @@ module _ (s : Source) where
       never_both (after_kernels c d same k l (kernel_once s events r t k l is is' kernel kernel')) more more'
   never_both same (file.single {c = c} {at = at} {order = order} none more) (file.in_single {c = d} some) =
       let e = at_order c d same at order _ _ none some in absurd cc
-  never_both same (file.single {c = c} {order = order} none more) (file.behind_single {c = d} none' more') = never_both (after_orders s c d same order) more more'
+  never_both same (file.single {c = c} {order = order} none more) (file.behind_single {c = d} none' more') =
+      never_both (after_orders s c d same order) more more'
   never_both same (file.block {c = c} {at = at} {head = head} last none inner more) (file.in_head {c = d} some) =
       let e = at_order c d same at head _ _ none some in absurd cc
-  never_both same (file.block {c = c} {head = head} last none inner more) (file.in_inner {c = d} none' inner') = never_both (in_blocks c d same head) inner inner'
+  never_both same (file.block {c = c} {head = head} last none inner more) (file.in_inner {c = d} none' inner') =
+      never_both (in_blocks c d same head) inner inner'
   never_both same (file.block {c = c} {head = head} last none inner more) (file.behind_block {c = d} last' none' inner' more') =
       never_both (after_blocks c d last last' same (ends_once (in_blocks c d same head) inner inner')) more more'
 
@@ -75,10 +78,12 @@ module _ (s : Source) where
       never_then (after_kernels c d same k l (kernel_once s events r t k l is is' kernel kernel')) more more'
   never_then same (file.in_single {c = c} {at = at} {order = order} some) (file.single {c = d} none more) =
       let e = at_order c d same at order _ _ some none in absurd cc
-  never_then same (file.behind_single {c = c} {order = order} none more) (file.single {c = d} none' more') = never_then (after_orders s c d same order) more more'
+  never_then same (file.behind_single {c = c} {order = order} none more) (file.single {c = d} none' more') =
+      never_then (after_orders s c d same order) more more'
   never_then same (file.in_head {c = c} {at = at} {head = head} some) (file.block {c = d} last none inner more) =
       let e = at_order c d same at head _ _ some none in absurd cc
-  never_then same (file.in_inner {c = c} {head = head} none inner) (file.block {c = d} last none' inner' more) = never_then (in_blocks c d same head) inner inner'
+  never_then same (file.in_inner {c = c} {head = head} none inner) (file.block {c = d} last none' inner' more) =
+      never_then (in_blocks c d same head) inner inner'
   never_then same (file.behind_block {c = c} {head = head} last none inner more) (file.block {c = d} last' none' inner' more') =
       never_then (after_blocks c d last last' same (ends_once (in_blocks c d same head) inner inner')) more more'
 
@@ -97,7 +102,8 @@ module _ (s : Source) where
       let e = at_order c d same at order _ _ some none in absurd cc
   fault_once same (file.behind_single {c = c} {at = at} {order = order} none more) (file.in_single {c = d} some) =
       let e = at_order c d same at order _ _ none some in absurd cc
-  fault_once same (file.behind_single {c = c} {order = order} none more) (file.behind_single {c = d} none' more') = fault_once (after_orders s c d same order) more more'
+  fault_once same (file.behind_single {c = c} {order = order} none more) (file.behind_single {c = d} none' more') =
+      fault_once (after_orders s c d same order) more more'
   fault_once same (file.in_head {c = c} {at = at} {head = head} some) (file.in_head {c = d} some') =
       let e = at_order c d same at head _ _ some some' in cc
   fault_once same (file.in_head {c = c} {at = at} {head = head} some) (file.in_inner {c = d} none inner) =

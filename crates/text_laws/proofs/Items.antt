@@ -42,9 +42,11 @@ opening_begins : (parallel : Bool) → begun_by (opening parallel) ≡ 1
 opening_begins true = refl
 opening_begins false = refl
 
-first_is : {outside : Bool} {events : List Event} {items : RawItems} → SpellsItems outside events items → (rest : List Event) → begins rest ≡ 0 → begins (events ++ rest) ≡ first_of items
+first_is : {outside : Bool} {events : List Event} {items : RawItems} → SpellsItems outside events items → (rest : List Event) → begins rest ≡ 0
+    → begins (events ++ rest) ≡ first_of items
 first_is (nothing e) rest ends = ap (λ es. begins (es ++ rest)) e ∙ ends
-first_is (kernel {k = k} more s m e) rest ends = ap (λ es. begins (es ++ rest)) e ∙ ap (λ es. begins ((es ++ more) ++ rest)) s.spelled ∙ opening_begins k.parallel
+first_is (kernel {k = k} more s m e) rest ends = ap (λ es. begins (es ++ rest)) e ∙ ap (λ es. begins ((es ++ more) ++ rest)) s.spelled
+    ∙ opening_begins k.parallel
 first_is (single es more s no_block m e) rest ends = ap (λ es. begins (es ++ rest)) e
 first_is (block end q hs is more s closes i m e) rest ends = ap (λ es. begins (es ++ rest)) e
 
@@ -66,7 +68,8 @@ halves (x ∷ xs) (y ∷ ys) as' bs same e =
     let first : x ≡ y = cc in
     (ap (λ z. z ∷ xs) first ∙ ap (λ z. y ∷ z) h.0, h.1)
 
-kernel_once : (es es' more more' : List Event) (k k' : KernelForm) → SpellsKernel es k → SpellsKernel es' k' → es ++ more ≡ es' ++ more' → (es ≡ es') × (more ≡ more')
+kernel_once : (es es' more more' : List Event) (k k' : KernelForm) → SpellsKernel es k → SpellsKernel es' k' → es ++ more ≡ es' ++ more'
+    → (es ≡ es') × (more ≡ more')
 kernel_once es es' more more' k k' s s' e =
     let first : BeginsKernel (es ++ more) = record { events = es; rest = more; form = k; all_are = refl; spells = s } in
     let second : BeginsKernel (es' ++ more') = record { events = es'; rest = more'; form = k'; all_are = refl; spells = s' } in
@@ -98,7 +101,8 @@ behind_block events hs is more rest x y e =
 closed_alike : (head head' : OrderForm) (end : Action) → closing head ≡ None → closing head' ≡ Some end → head ≡ head' → ⊥
 closed_alike head head' end none some same = let e : None ≡ Some end = sym none ∙ ap closing same ∙ some in absurd cc
 
-same_single : (at at' : ℕ) (order order' : OrderForm) (more more' : RawItems) → at ≡ at' → order ≡ order' → more ≡ more' → Single at order more ≡ Single at' order' more'
+same_single : (at at' : ℕ) (order order' : OrderForm) (more more' : RawItems) → at ≡ at' → order ≡ order' → more ≡ more'
+    → Single at order more ≡ Single at' order' more'
 same_single at at' order order' more more' a b c = cc
 
 same_block : (at at' : ℕ) (head head' : OrderForm) (inner inner' more more' : RawItems) → at ≡ at' → head ≡ head' → inner ≡ inner' → more ≡ more' →
@@ -116,7 +120,8 @@ same_first : {outside : Bool} {events others : List Event} {a b : RawItems} → 
 same_first s t rest rest' h h' e = sym (first_is s rest h) ∙ ap begins e ∙ first_is t rest' h'
 
 alike : {outside : Bool} {events others : List Event} {a b : RawItems} → SpellsItems outside events a → SpellsItems outside others b →
-    (rest rest' : List Event) → begins rest ≡ 0 → begins rest' ≡ 0 → events ++ rest ≡ others ++ rest' → first_of a ≡ first_of b → (bare a ≡ bare b) × (rest ≡ rest')
+    (rest rest' : List Event) → begins rest ≡ 0 → begins rest' ≡ 0 → events ++ rest ≡ others ++ rest' → first_of a ≡ first_of b
+    → (bare a ≡ bare b) × (rest ≡ rest')
 alike (nothing e1) (nothing e2) rest rest' h h' e same = (refl, sym (ap (λ x. x ++ rest) e1) ∙ e ∙ ap (λ x. x ++ rest') e2)
 alike (kernel {es = es} {k = k} more s m e1) (kernel {es = es'} {k = k'} more' s' m' e2) rest rest' h h' e same =
     let first = ap (λ x. x ++ rest) e1 ∙ append_assoc es more rest in
@@ -124,25 +129,32 @@ alike (kernel {es = es} {k = k} more s m e1) (kernel {es = es'} {k = k'} more' s
     let one = kernel_once es es' (more ++ rest) (more' ++ rest') k k' s s' (sym first ∙ e ∙ second) in
     let others = alike m m' rest rest' h h' one.1 (same_first m m' rest rest' h h' one.1) in
     (same_kernel es es' _ _ one.0 others.0, others.1)
-alike {events} {others = events'} (single {at = at} {order = order} es more s no_block m e1) (single {at = at'} {order = order'} es' more' s' no_block' m' e2) rest rest' h h' e same =
+alike {events} {others = events'} (single {at = at} {order = order} es more s no_block m e1)
+    (single {at = at'} {order = order'} es' more' s' no_block' m' e2) rest rest' h h' e same =
     let first = behind_one events es more rest (on action.StartStatement at) e1 in
     let second = behind_one events' es' more' rest' (on action.StartStatement at') e2 in
     let one = order_once at at' es es' (more ++ rest) (more' ++ rest') order order' s s' (sym first ∙ e ∙ second) in
     let others = alike m m' rest rest' h h' one.1.rests (same_first m m' rest rest' h h' one.1.rests) in
     (same_single at at' order order' _ _ one.0 one.1.forms others.0, others.1)
-alike {events} {others = events'} (block {at = at} {head = head} end q hs is more s closes i m e1) (block {at = at'} {head = head'} end' q' hs' is' more' s' closes' i' m' e2) rest rest' h h' e same =
+alike {events} {others = events'} (block {at = at} {head = head} end q hs is more s closes i m e1)
+    (block {at = at'} {head = head'} end' q' hs' is' more' s' closes' i' m' e2) rest rest' h h' e same =
     let first = behind_block events hs is more rest (on action.StartStatement at) (on end q) e1 in
     let second = behind_block events' hs' is' more' rest' (on action.StartStatement at') (on end' q') e2 in
     let one = order_once at at' hs hs' (is ++ on end q ∷ (more ++ rest)) (is' ++ on end' q' ∷ (more' ++ rest')) head head' s s' (sym first ∙ e ∙ second) in
-    let inside = alike i i' (on end q ∷ (more ++ rest)) (on end' q' ∷ (more' ++ rest')) (end_begins head end closes) (end_begins head' end' closes') one.1.rests (same_first i i' (on end q ∷ (more ++ rest)) (on end' q' ∷ (more' ++ rest')) (end_begins head end closes) (end_begins head' end' closes') one.1.rests) in
-    let others = alike m m' rest rest' h h' (tails _ _ (more ++ rest) (more' ++ rest') inside.1) (same_first m m' rest rest' h h' (tails _ _ (more ++ rest) (more' ++ rest') inside.1)) in
+    let inside = alike i i' (on end q ∷ (more ++ rest)) (on end' q' ∷ (more' ++ rest')) (end_begins head end closes) (end_begins head' end' closes') one.1.rests
+    (same_first i i' (on end q ∷ (more ++ rest)) (on end' q' ∷ (more' ++ rest')) (end_begins head end closes)
+    (end_begins head' end' closes') one.1.rests) in
+    let others = alike m m' rest rest' h h' (tails _ _ (more ++ rest) (more' ++ rest') inside.1)
+    (same_first m m' rest rest' h h' (tails _ _ (more ++ rest) (more' ++ rest') inside.1)) in
     (same_block at at' head head' _ _ _ _ one.0 one.1.forms inside.0 others.0, others.1)
-alike {events} {others = events'} (single {at = at} {order = order} es more s no_block m e1) (block {at = at'} {head = head'} end' q' hs' is' more' s' closes' i' m' e2) rest rest' h h' e same =
+alike {events} {others = events'} (single {at = at} {order = order} es more s no_block m e1)
+    (block {at = at'} {head = head'} end' q' hs' is' more' s' closes' i' m' e2) rest rest' h h' e same =
     let first = behind_one events es more rest (on action.StartStatement at) e1 in
     let second = behind_block events' hs' is' more' rest' (on action.StartStatement at') (on end' q') e2 in
     let one = order_once at at' es hs' (more ++ rest) (is' ++ on end' q' ∷ (more' ++ rest')) order head' s s' (sym first ∙ e ∙ second) in
     absurd (closed_alike order head' end' no_block closes' one.1.forms)
-alike {events} {others = events'} (block {at = at} {head = head} end q hs is more s closes i m e1) (single {at = at'} {order = order'} es' more' s' no_block' m' e2) rest rest' h h' e same =
+alike {events} {others = events'} (block {at = at} {head = head} end q hs is more s closes i m e1)
+    (single {at = at'} {order = order'} es' more' s' no_block' m' e2) rest rest' h h' e same =
     let first = behind_block events hs is more rest (on action.StartStatement at) (on end q) e1 in
     let second = behind_one events' es' more' rest' (on action.StartStatement at') e2 in
     let one = order_once at at' hs es' (is ++ on end q ∷ (more ++ rest)) (more' ++ rest') head order' s s' (sym first ∙ e ∙ second) in

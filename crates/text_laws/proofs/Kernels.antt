@@ -31,7 +31,8 @@ params_once (p ∷ ps) (q ∷ qs) e =
     let more : map param_text ps ≡ map param_text qs = cc in
     (same_param p q first, params_once ps qs more)
 
-pub kernel_once : (s : Source) (events : List Event) (r t : RawKernel) (k l : Kernel) → IsRawOf s events r → IsRawOf s events t → IsKernelOf r k → IsKernelOf t l → SameKernel k l
+pub kernel_once : (s : Source) (events : List Event) (r t : RawKernel) (k l : Kernel) → IsRawOf s events r → IsRawOf s events t → IsKernelOf r k
+    → IsKernelOf t l → SameKernel k l
 kernel_once s events r t k l a b is is' =
     let same = same_parts s events r t a b in
     let name : r.name ≡ t.name = ap (λ (p : Parts). p.name) same in

@@ -80,7 +80,8 @@ module _ (bytes : List ℕ) (s t : Source) (a b : RawItems) (h : HasItems bytes 
       let scopes : SameScope first.known second.known = ends_once t start_is first.faultless second.faultless in
       let names : first.known.names ≡ second.known.names = ap (λ (c : Scope). c.names) scopes.others in
       record {
-        kernels = subst (λ ks. Pairwise SameKernel ks y.kernels.items) (sym first.kernels) (subst (λ ks. Pairwise SameKernel first.known.kernels ks) (sym second.kernels) scopes.kernels);
+        kernels = subst (λ ks. Pairwise SameKernel ks y.kernels.items) (sym first.kernels)
+            (subst (λ ks. Pairwise SameKernel first.known.kernels ks) (sym second.kernels) scopes.kernels);
         names = first.names ∙ ap (map (λ (n : Name). n.text)) names ∙ sym second.names;
         literals = first.literals ∙ sym second.literals;
         statements = stand_once t second.known.names first.known.kernels second.known.kernels scopes.kernels 0 (bare b) x.statements.items y.statements.items
@@ -113,7 +114,8 @@ refusals_are_once bytes line other kind kind' (syntax is f) (too_many is' g) = a
 refusals_are_once bytes line other kind kind' (static f) (syntax is g) = absurd (no_syntax bytes f.source f.items other f.has_items g)
 refusals_are_once bytes line other kind kind' (static f) (static g) =
     let same = faults_once bytes f.source g.source f.items g.items f.has_items g.has_items f.fault g.fault f.has_fault g.has_fault in (
-      f.on_line ∙ lines_once bytes f.source g.source f.items g.items f.has_items g.has_items f.fault.at g.fault.at (ap (λ (x : StaticFault). x.at) same) ∙ sym g.on_line,
+      f.on_line ∙ lines_once bytes f.source g.source f.items g.items f.has_items g.has_items f.fault.at g.fault.at (ap (λ (x : StaticFault). x.at) same)
+          ∙ sym g.on_line,
       f.of_kind ∙ ap (λ (x : StaticFault). x.kind) same ∙ sym g.of_kind,
     )
 refusals_are_once bytes line other kind kind' (static f) (too_many is g) =

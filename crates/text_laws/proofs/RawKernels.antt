@@ -59,8 +59,17 @@ some_block (Branched at e first second more) =
     let i = some_block first in
     let j = some_block second in
     let m = some_block more in
-    let n = at + 1 + h.0 + i.0 + j.0 + m.0 in
-    (n, (omega arith, expr_up h.0 n e (omega arith) h.1, block_up i.0 n first (omega arith) i.1, block_up j.0 n second (omega arith) j.1, block_up m.0 n more (omega arith) m.1))
+    let n = at + 1 + h.0 + i.0 + j.0 + m.0 in (
+      n,
+      (
+        omega arith,
+        expr_up h.0 n e (omega arith) h.1,
+        block_up i.0 n first (omega arith) i.1,
+        block_up j.0 n second (omega arith) j.1,
+        block_up m.0 n more
+            (omega arith) m.1,
+      ),
+    )
 
 some_width : (w : Option ℕ) → (n : ℕ) × IfSome w (λ x. x < n)
 some_width None = (0, tt)
@@ -150,7 +159,16 @@ same_parts s events r t a b =
     let line = a.line ∙ sym b.line in
     let nodes = a.spells.nodes ∙ ap (take MOST_KEPT) once.nodes ∙ sym b.spells.nodes in
     let depths = a.spells.depths ∙ ap (λ ns. kept_depths (take MOST_KEPT (depths_of ns))) once.nodes ∙ sym b.spells.depths in
-    λ i. record { source = source i; marks = marks i; line = line i; parallel = once.parallel i; name = once.name i; params = once.params i; nodes = nodes i; depths = depths i }
+    λ i. record {
+      source = source i;
+      marks = marks i;
+      line = line i;
+      parallel = once.parallel i;
+      name = once.name i;
+      params = once.params i;
+      nodes = nodes i;
+      depths = depths i;
+    }
 
 -- the events spell the second one with the tree of the first
 abbrev pub respelled : (events : List Event) (r t : RawKernel) → SpellsRaw events r → SpellsRaw events t → SpellsRaw events t

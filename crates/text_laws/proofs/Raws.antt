@@ -19,7 +19,16 @@ pub record Parts : Type 0 where
   pub depths : List ℕ
 
 abbrev pub parts_of : RawKernel → Parts
-parts_of r = record { source = r.source.now; marks = r.marks.now; line = r.line; parallel = r.parallel; name = r.name; params = r.params.items; nodes = r.nodes.items; depths = r.depths.items }
+parts_of r = record {
+  source = r.source.now;
+  marks = r.marks.now;
+  line = r.line;
+  parallel = r.parallel;
+  name = r.name;
+  params = r.params.items;
+  nodes = r.nodes.items;
+  depths = r.depths.items;
+}
 
 -- a vector can have so many items
 abbrev pub Fits : {A : Type 0} → List A → Type 0
@@ -50,7 +59,8 @@ ByParts f = (r t : RawKernel) (few : Fits t.params.items) (few_nodes : Fits t.no
 
 pub by_parts : {X : Type 0} (f : RawKernel → X) → ByParts f → (r t : RawKernel) → parts_of r ≡ parts_of t → f r ≡ f t
 by_parts f by r t same =
-    let P : Parts → Type 0 = λ p. (few : Fits p.params) (few_nodes : Fits p.nodes) (few_depths : Fits p.depths) → f (placed r p few few_nodes few_depths) ≡ f t in
+    let P : Parts → Type 0 = λ p. (few : Fits p.params) (few_nodes : Fits p.nodes) (few_depths : Fits p.depths)
+    → f (placed r p few few_nodes few_depths) ≡ f t in
     let here : P (parts_of r) = subst P (sym same) (λ few few_nodes few_depths. by r t few few_nodes few_depths) in
     sym (by r r (fits r.params) (fits r.nodes) (fits r.depths)) ∙ here (fits r.params) (fits r.nodes) (fits r.depths)
 

@@ -38,7 +38,8 @@ module _ {A : Type 0} (Same : A → A → Type 0) where
   chosen false x y m n one more = more
 
   -- the first one of a property that they have or lack alike
-  pub same_found : (is was : A → Bool) → ((x y : A) → Same x y → is x ≡ was y) → (xs ys : List A) → Pairwise Same xs ys → SameMaybe Same (find is xs) (find was ys)
+  pub same_found : (is was : A → Bool) → ((x y : A) → Same x y → is x ≡ was y) → (xs ys : List A) → Pairwise Same xs ys
+      → SameMaybe Same (find is xs) (find was ys)
   same_found is was alike [] [] same = tt
   same_found is was alike [] (y ∷ ys) same = absurd same
   same_found is was alike (x ∷ xs) [] same = absurd same
@@ -67,10 +68,12 @@ module _ {A : Type 0} (Same : A → A → Type 0) where
 -- KERNELS
 
 pub same_kernel_in : (ks ls : List CheckedKernel) → Pairwise SameKernel ks ls → (text : List ℕ) → SameMaybe SameKernel (kernel_in ks text) (kernel_in ls text)
-same_kernel_in ks ls same text = same_found SameKernel (λ k. bytes_eq text (string_bytes k.name)) (λ k. bytes_eq text (string_bytes k.name)) (λ k l is. ap (bytes_eq text) is.name) ks ls same
+same_kernel_in ks ls same text = same_found SameKernel (λ k. bytes_eq text (string_bytes k.name)) (λ k. bytes_eq text (string_bytes k.name))
+    (λ k l is. ap (bytes_eq text) is.name) ks ls same
 
 pub same_param_in : (ps qs : List Param) → Pairwise SameParam ps qs → (text : List ℕ) → SameMaybe SameParam (param_in ps text) (param_in qs text)
-same_param_in ps qs same text = same_found SameParam (λ p. bytes_eq text (string_bytes p.name)) (λ p. bytes_eq text (string_bytes p.name)) (λ p q is. ap (bytes_eq text) is.name) ps qs same
+same_param_in ps qs same text = same_found SameParam (λ p. bytes_eq text (string_bytes p.name)) (λ p. bytes_eq text (string_bytes p.name))
+    (λ p q is. ap (bytes_eq text) is.name) ps qs same
 
 module _ (k l : CheckedKernel) (same : SameKernel k l) where
   nodes : body_nodes k.body.statements.items ≡ body_nodes l.body.statements.items
@@ -85,7 +88,8 @@ module _ (k l : CheckedKernel) (same : SameKernel k l) where
   same_kernel_fault : (at : ℕ) (args : List RawArg) (sizes : RawSizes) → kernel_fault k at args sizes ≡ kernel_fault l at args sizes
   same_kernel_fault at args sizes = λ i.
       first_some (unless (nat_eq (length args) (count i) && sizes_fit (same.parallel i) sizes) KindMismatch at
-      ∷ unless (room_fits (up_to (MOST_PARAMS - GUARD_PARAMS) (count i) && (up_to (MOST_NODES - GUARD_NODES) (nodes i) && up_to (MOST_DEPTH - GUARD_DEPTH) (depth i))) sizes) Limit at
+      ∷ unless (room_fits (up_to (MOST_PARAMS - GUARD_PARAMS) (count i) &&
+      (up_to (MOST_NODES - GUARD_NODES) (nodes i) && up_to (MOST_DEPTH - GUARD_DEPTH) (depth i))) sizes) Limit at
       ∷ [])
 
   same_waived : (parallel : Bool) (p q : Option Param) (at : ℕ) → SameMaybe SameParam p q → waived_fault parallel p at ≡ waived_fault parallel q at
@@ -97,16 +101,19 @@ module _ (k l : CheckedKernel) (same : SameKernel k l) where
   same_waive : (s : Source) (at : ℕ) → waive_fault s k at ≡ waive_fault s l at
   same_waive s at =
       ap (λ b. waived_fault b (param_in k.params.items (source.text_at s at)) at) same.parallel
-      ∙ same_waived l.parallel (param_in k.params.items (source.text_at s at)) (param_in l.params.items (source.text_at s at)) at (same_param_in k.params.items l.params.items same.params (source.text_at s at))
+      ∙ same_waived l.parallel (param_in k.params.items (source.text_at s at)) (param_in l.params.items (source.text_at s at)) at
+      (same_param_in k.params.items l.params.items same.params (source.text_at s at))
 
-same_args : (s : Source) (names : List Name) (sizes : RawSizes) (ps qs : List Param) (args : List RawArg) → Pairwise SameParam ps qs → args_faults s names sizes ps args ≡ args_faults s names sizes qs args
+same_args : (s : Source) (names : List Name) (sizes : RawSizes) (ps qs : List Param) (args : List RawArg) → Pairwise SameParam ps qs
+    → args_faults s names sizes ps args ≡ args_faults s names sizes qs args
 same_args s names sizes [] [] args same = refl
 same_args s names sizes [] (q ∷ qs) args same = absurd same
 same_args s names sizes (p ∷ ps) [] args same = absurd same
 same_args s names sizes (p ∷ ps) (q ∷ qs) [] same = refl
 same_args s names sizes (p ∷ ps) (q ∷ qs) (a ∷ args) same = λ i. arg_fault s names sizes (same.0.kind i) a ∷ same_args s names sizes ps qs args same.1 i
 
-same_scheduled : (s : Source) (names : List Name) (k l : Option CheckedKernel) (at : ℕ) (args : List RawArg) (sizes : RawSizes) (waive after : List ℕ) → SameMaybe SameKernel k l →
+same_scheduled : (s : Source) (names : List Name) (k l : Option CheckedKernel) (at : ℕ) (args : List RawArg) (sizes : RawSizes) (waive after : List ℕ)
+    → SameMaybe SameKernel k l →
     scheduled_faults s names k at args sizes waive after ≡ scheduled_faults s names l at args sizes waive after
 same_scheduled s names None None at args sizes waive after same = refl
 same_scheduled s names None (Some l) at args sizes waive after same = absurd same
@@ -124,10 +131,12 @@ pub record SameScope (c d : Scope) : Type 0 where
   pub kernels : Pairwise SameKernel c.kernels d.kernels
 
 -- kernels matter to a schedule alone
-by_kernels : (s : Source) (c : Scope) (ls : List CheckedKernel) → Pairwise SameKernel c.kernels ls → (at : ℕ) (form : OrderForm) → order_faults s c at form ≡ order_faults s (record c { kernels = ls }) at form
+by_kernels : (s : Source) (c : Scope) (ls : List CheckedKernel) → Pairwise SameKernel c.kernels ls → (at : ℕ) (form : OrderForm)
+    → order_faults s c at form ≡ order_faults s (record c { kernels = ls }) at form
 by_kernels s c ls same at (Schedule auto handle kernel args sizes waive after) =
     ap (λ more. make_fault s c.names kind.Handle handle ∷ more)
-    (same_scheduled s c.names (kernel_in c.kernels (source.text_at s kernel)) (kernel_in ls (source.text_at s kernel)) kernel args sizes waive after (same_kernel_in c.kernels ls same (source.text_at s kernel)))
+    (same_scheduled s c.names (kernel_in c.kernels (source.text_at s kernel)) (kernel_in ls (source.text_at s kernel)) kernel args sizes waive after
+    (same_kernel_in c.kernels ls same (source.text_at s kernel)))
 by_kernels s c ls same at _ = refl
 
 pub same_order_faults : (s : Source) (c d : Scope) → SameScope c d → (at : ℕ) (form : OrderForm) → order_faults s c at form ≡ order_faults s d at form
@@ -136,7 +145,8 @@ same_order_faults s c d same at form = by_kernels s c d.kernels same.kernels at 
 pub same_first_fault : (raw : RawKernel) (ks ls : List CheckedKernel) → Pairwise SameKernel ks ls → first_fault raw ks ≡ first_fault raw ls
 same_first_fault raw ks ls same =
     let text = text_at raw raw.name in
-    let among = same_any SameKernel (λ k. bytes_eq (string_bytes k.name) text) (λ k. bytes_eq (string_bytes k.name) text) (λ k l is. ap (λ n. bytes_eq n text) is.name) ks ls same in
+    let among = same_any SameKernel (λ k. bytes_eq (string_bytes k.name) text) (λ k. bytes_eq (string_bytes k.name) text)
+    (λ k l is. ap (λ n. bytes_eq n text) is.name) ks ls same in
     let size = same_length SameKernel ks ls same in
     λ i. option_or (fault_at raw.name (lowest (some_if (among i) DuplicateName) (lowest (some_if (nat_le MOST_KERNELS (size i)) Limit) (length_fault text))))
     (option_or (params_fault raw 0 raw.params.items) (nodes_fault raw 0 raw.nodes.items))

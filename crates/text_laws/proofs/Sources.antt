@@ -27,12 +27,14 @@ by_text f by s t same =
     sym (by s s) ∙ ap (λ bytes. f (placed s bytes s.marks.now)) same.bytes ∙ ap (λ marks. f (placed s t.bytes.now marks)) same.marks ∙ by s t
 
 -- and what is said of them
-pub by_text_said : (f : Source → Type 0) → ((s t : Source) → f (placed s t.bytes.now t.marks.now) → f t) → ((s t : Source) → f t → f (placed s t.bytes.now t.marks.now)) → (s t : Source) → SameFile s t → f s → f t
+pub by_text_said : (f : Source → Type 0) → ((s t : Source) → f (placed s t.bytes.now t.marks.now) → f t)
+    → ((s t : Source) → f t → f (placed s t.bytes.now t.marks.now)) → (s t : Source) → SameFile s t → f s → f t
 by_text_said f out in_ s t same x =
     out s t (subst (λ marks. f (placed s t.bytes.now marks)) same.marks (subst (λ bytes. f (placed s bytes s.marks.now)) same.bytes (in_ s s x)))
 
 -- a statement says the same there
-says_out : (names : List Name) (kernels : List Kernel) (literals count : ℕ) (form : OrderForm) (o : Order) (s t : Source) → Says (placed s t.bytes.now t.marks.now) names kernels literals count form o → Says t names kernels literals count form o
+says_out : (names : List Name) (kernels : List Kernel) (literals count : ℕ) (form : OrderForm) (o : Order) (s t : Source)
+    → Says (placed s t.bytes.now t.marks.now) names kernels literals count form o → Says t names kernels literals count form o
 says_out names kernels literals count (Schedule auto handle kernel args cut waive after) o s t (job, said, is) = (
   job,
   record {
@@ -49,7 +51,8 @@ says_out names kernels literals count (Schedule auto handle kernel args cut waiv
 )
 says_out names kernels literals count form o s t h = h
 
-says_in : (names : List Name) (kernels : List Kernel) (literals count : ℕ) (form : OrderForm) (o : Order) (s t : Source) → Says t names kernels literals count form o → Says (placed s t.bytes.now t.marks.now) names kernels literals count form o
+says_in : (names : List Name) (kernels : List Kernel) (literals count : ℕ) (form : OrderForm) (o : Order) (s t : Source)
+    → Says t names kernels literals count form o → Says (placed s t.bytes.now t.marks.now) names kernels literals count form o
 says_in names kernels literals count (Schedule auto handle kernel args cut waive after) o s t (job, said, is) = (
   job,
   record {
@@ -82,5 +85,7 @@ module _ (s t : Source) (same : SameFile s t) where
   pub same_literals : (form : OrderForm) → literals_of s form ≡ literals_of t form
   same_literals form = by_text (λ x. literals_of x form) (λ s t. refl) s t same
 
-  pub same_says : (names : List Name) (kernels : List Kernel) (literals count : ℕ) (form : OrderForm) (o : Order) → Says s names kernels literals count form o → Says t names kernels literals count form o
-  same_says names kernels literals count form o = by_text_said (λ x. Says x names kernels literals count form o) (says_out names kernels literals count form o) (says_in names kernels literals count form o) s t same
+  pub same_says : (names : List Name) (kernels : List Kernel) (literals count : ℕ) (form : OrderForm) (o : Order) → Says s names kernels literals count form o
+      → Says t names kernels literals count form o
+  same_says names kernels literals count form o = by_text_said (λ x. Says x names kernels literals count form o) (says_out names kernels literals count form o)
+      (says_in names kernels literals count form o) s t same

@@ -34,11 +34,13 @@ module _ {A : Type 0} (Same : A → A → Type 0) (is was : A → Bool) (alike :
 
 same_kernel_place : (ks ls : List CheckedKernel) → Pairwise SameKernel ks ls → (text : List ℕ) → kernel_place ks text ≡ kernel_place ls text
 same_kernel_place ks ls same text =
-    ap (λ o. unwrap_or o 0) (same_position SameKernel (λ k. bytes_eq text (string_bytes k.name)) (λ k. bytes_eq text (string_bytes k.name)) (λ k l is. ap (bytes_eq text) is.name) ks ls same)
+    ap (λ o. unwrap_or o 0) (same_position SameKernel (λ k. bytes_eq text (string_bytes k.name)) (λ k. bytes_eq text (string_bytes k.name))
+    (λ k l is. ap (bytes_eq text) is.name) ks ls same)
 
 same_param_place : (ps qs : List Param) → Pairwise SameParam ps qs → (text : List ℕ) → param_place ps text ≡ param_place qs text
 same_param_place ps qs same text =
-    ap (λ o. unwrap_or o 0) (same_position SameParam (λ p. bytes_eq text (string_bytes p.name)) (λ p. bytes_eq text (string_bytes p.name)) (λ p q is. ap (bytes_eq text) is.name) ps qs same)
+    ap (λ o. unwrap_or o 0) (same_position SameParam (λ p. bytes_eq text (string_bytes p.name)) (λ p. bytes_eq text (string_bytes p.name))
+    (λ p q is. ap (bytes_eq text) is.name) ps qs same)
 
 same_params_of : (k l : Option CheckedKernel) → SameMaybe SameKernel k l → Pairwise SameParam (params_of k) (params_of l)
 same_params_of None None same = tt
@@ -56,9 +58,11 @@ along x y X Y a b same = subst (λ z. SameOrder z y) (sym a) (subst (λ z. SameO
 
 module _ (s : Source) (names : List Name) (ks ls : List CheckedKernel) (same : Pairwise SameKernel ks ls) where
   param_places : (at : ℕ) (text : List ℕ) → param_place (params_named s ks at) text ≡ param_place (params_named s ls at) text
-  param_places at text = same_param_place (params_named s ks at) (params_named s ls at) (same_params_of (kernel_in ks (text_at s at)) (kernel_in ls (text_at s at)) (same_kernel_in ks ls same (text_at s at))) text
+  param_places at text = same_param_place (params_named s ks at) (params_named s ls at)
+      (same_params_of (kernel_in ks (text_at s at)) (kernel_in ls (text_at s at)) (same_kernel_in ks ls same (text_at s at))) text
 
-  pub says_once : (literals count : ℕ) (form : OrderForm) (x y : Order) → Says s names ks literals count form x → Says s names ls literals count form y → SameOrder x y
+  pub says_once : (literals count : ℕ) (form : OrderForm) (x y : Order) → Says s names ks literals count form x → Says s names ls literals count form y
+      → SameOrder x y
   says_once literals count (NewColumn name column life) x y a b = along x y _ _ a.2 b.2 (SameOrder.column (a.1 ∙ sym b.1))
   says_once literals count (Schedule auto handle kernel args cut waive after) x y a b =
       let place = same_kernel_place ks ls same (text_at s kernel) in
@@ -80,24 +84,30 @@ module _ (s : Source) (names : List Name) (ks ls : List CheckedKernel) (same : P
   says_once literals count (Repeat n) x y a b = absurd a
   says_once literals count _ x y a b = equal x y _ a b
 
-  statement_once : (literals count at : ℕ) (form : OrderForm) (x y : Statement) → IsStatement s names ks literals count at form x → IsStatement s names ls literals count at form y → SameStatement x y
+  statement_once : (literals count at : ℕ) (form : OrderForm) (x y : Statement) → IsStatement s names ks literals count at form x
+      → IsStatement s names ls literals count at form y → SameStatement x y
   statement_once literals count at form x y a b = record { line = a.line ∙ sym b.line; act = says_once literals count form x.act y.act a.says b.says }
 
   -- LISTS
 
-  joined : (xs ys fronts fronts' backs backs' : List Statement) → xs ≡ fronts ++ backs → ys ≡ fronts' ++ backs' → Pairwise SameStatement fronts fronts' → Pairwise SameStatement backs backs' → Pairwise SameStatement xs ys
+  joined : (xs ys fronts fronts' backs backs' : List Statement) → xs ≡ fronts ++ backs → ys ≡ fronts' ++ backs' → Pairwise SameStatement fronts fronts'
+      → Pairwise SameStatement backs backs' → Pairwise SameStatement xs ys
   joined xs ys fronts fronts' backs backs' a b front back =
-      subst (λ z. Pairwise SameStatement z ys) (sym a) (subst (λ z. Pairwise SameStatement (fronts ++ backs) z) (sym b) (same_append SameStatement fronts fronts' backs backs' front back))
+      subst (λ z. Pairwise SameStatement z ys) (sym a) (subst (λ z. Pairwise SameStatement (fronts ++ backs) z) (sym b)
+      (same_append SameStatement fronts fronts' backs backs' front back))
 
-  repeated_once : (n : ℕ) (Is Was : List Statement → Type 0) → ((xs ys : List Statement) → Is xs → Was ys → Pairwise SameStatement xs ys) → (xs ys : List Statement) → Repeated n Is xs → Repeated n Was ys → Pairwise SameStatement xs ys
+  repeated_once : (n : ℕ) (Is Was : List Statement → Type 0) → ((xs ys : List Statement) → Is xs → Was ys → Pairwise SameStatement xs ys)
+      → (xs ys : List Statement) → Repeated n Is xs → Repeated n Was ys → Pairwise SameStatement xs ys
   repeated_once zero Is Was once xs ys a b = joined xs ys [] [] [] [] a b tt tt
   repeated_once (suc n) Is Was once xs ys a b = joined xs ys a.0 b.0 a.1 b.1 a.2 b.2 (once a.0 b.0 a.3 b.3) (repeated_once n Is Was once a.1 b.1 a.4 b.4)
 
-  pub stand_once : (literals : ℕ) (items : RawItems) (xs ys : List Statement) → StandFor s names ks literals items xs → StandFor s names ls literals items ys → Pairwise SameStatement xs ys
+  pub stand_once : (literals : ℕ) (items : RawItems) (xs ys : List Statement) → StandFor s names ks literals items xs → StandFor s names ls literals items ys
+      → Pairwise SameStatement xs ys
   stand_once literals Nothing xs ys a b = joined xs ys [] [] [] [] a b tt tt
   stand_once literals (Kernel events form more) xs ys a b = stand_once literals more xs ys a b
   stand_once literals (Single at order more) xs ys a b =
-      joined xs ys (a.0 ∷ []) (b.0 ∷ []) a.1 b.1 a.2 b.2 (statement_once literals 0 at order a.0 b.0 a.3 b.3, tt) (stand_once (literals + length (literals_of s order)) more a.1 b.1 a.4 b.4)
+      joined xs ys (a.0 ∷ []) (b.0 ∷ []) a.1 b.1 a.2 b.2 (statement_once literals 0 at order a.0 b.0 a.3 b.3, tt)
+      (stand_once (literals + length (literals_of s order)) more a.1 b.1 a.4 b.4)
   stand_once literals (Block at (Repeat n) inner more) xs ys a b =
       joined xs ys a.0 b.0 a.1 b.1 a.2 b.2
       (repeated_once (number_at s n) (StandFor s names ks literals inner) (StandFor s names ls literals inner) (stand_once literals inner) a.0 b.0 a.3 b.3)

@@ -11,7 +11,8 @@ shorter start ks ls v = (ls ++ v.0, v.1, subst (λ x. IsSentence start v.1 x) (a
 
 fewer : (start : Nonterminal) (tokens : List TokenKind) (n m : ℕ) → n ≤ m → IsViable start (take m tokens) → IsViable start (take n tokens)
 fewer start tokens n m le v =
-    let parts : take n tokens ++ drop n (take m tokens) ≡ take m tokens = ap (λ xs. xs ++ drop n (take m tokens)) (sym (take-take n m tokens le)) ∙ take-append-drop n (take m tokens) in
+    let parts : take n tokens ++ drop n (take m tokens) ≡ take m tokens = ap (λ xs. xs ++ drop n (take m tokens)) (sym (take-take n m tokens le))
+    ∙ take-append-drop n (take m tokens) in
     shorter start (take n tokens) (drop n (take m tokens)) (subst (IsViable start) (sym parts) v)
 
 not_before : (start : Nonterminal) (tokens : List TokenKind) (place other : ℕ) → IsFault start tokens place → IsFault start tokens other → place < other → ⊥

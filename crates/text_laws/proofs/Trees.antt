@@ -56,11 +56,13 @@ module _ (r t : RawKernel) (same : parts_of r ≡ parts_of t) where
   expr_once (tree.value {i = i} {name = name} k is a) (tree.value l is' b) = equal _ _ _ _ a b (ap Value (parameter i name k l is is'))
   expr_once (tree.size {i = i} {name = name} k is a) (tree.size l is' b) = equal _ _ _ _ a b (ap Length (parameter i name k l is is'))
   expr_once (tree.element {i = i} {name = name} {y = y} {p = p} k is d a) (tree.element {y = z} {p = q} l is' d' b) =
-      along _ _ (Element' k p y) (Element' l q z) a b (subst (λ m. SameExpr (Element' k p y) (Element' m q z)) (parameter i name k l is is') (SameExpr.element (expr_once d d')))
+      along _ _ (Element' k p y) (Element' l q z) a b (subst (λ m. SameExpr (Element' k p y) (Element' m q z)) (parameter i name k l is is')
+      (SameExpr.element (expr_once d d')))
   expr_once (tree.has {i = i} {name = name} {y = y} {p = p} k is d a) (tree.has {y = z} {p = q} l is' d' b) =
       along _ _ (Has' k p y) (Has' l q z) a b (subst (λ m. SameExpr (Has' k p y) (Has' m q z)) (parameter i name k l is is') (SameExpr.has (expr_once d d')))
   expr_once (tree.count {i = i} {name = name} {y = y} {p = p} k is d a) (tree.count {y = z} {p = q} l is' d' b) =
-      along _ _ (Count' k p y) (Count' l q z) a b (subst (λ m. SameExpr (Count' k p y) (Count' m q z)) (parameter i name k l is is') (SameExpr.count (expr_once d d')))
+      along _ _ (Count' k p y) (Count' l q z) a b (subst (λ m. SameExpr (Count' k p y) (Count' m q z)) (parameter i name k l is is')
+      (SameExpr.count (expr_once d d')))
   expr_once (tree.item {i = i} {name = name} {y = y} {z = z} {p = p} k is d c a) (tree.item {y = y'} {z = z'} {p = q} l is' d' c' b) =
       along _ _ (Item' k p y z) (Item' l q y' z') a b
       (subst (λ m. SameExpr (Item' k p y z) (Item' m q y' z')) (parameter i name k l is is') (SameExpr.item (expr_once d d') (expr_once c c')))

@@ -1,62 +1,17 @@
 // Whole runs, over files and a sink in memory.
 
+use frame_rows::rows::Row;
+use frame_rows::texts::{ADDED_COLUMN, TOTAL, TWO_BUMPS};
+use frame_rows::with_kernels;
 use frame_top::run_frame;
 use job_base::{CountingGate, Gate, MemFiles, MemSink, OpenGate, PieceId};
-use std::alloc::Global;
 use std::sync::Wait;
 use std::test::Fail;
 use std::thread::Threads;
 
-/// A script, which may begin with the worked kernels, and what it gives.
-#[derive(Clone, Copy)]
-pub struct Row {
-    pub kernels: bool,
-    pub script: &'static str,
-    pub status: u8,
-    pub output: &'static str,
-}
-
-const KERNELS: &str = "parallel scale(x: ro array, y: wo array) { y[index] = x[index] * 3; }
-job total(y: ro array, t: wo ref) { var s = 0; for k in 0..len(y) { s = s + y[k]; } t = s; }
-job bump(a: rw array) { a[0] = a[0] + 1; }
-job peek(a: ro array, t: wo ref) { t = a[0]; }
-parallel shift(b: rw array) { b[index + 1] = b[index] + 1; }
-job pair(a: ro array, b: rw array) { b[0] = a[0]; }
-job both(a: ro array, b: ro array, t: wo ref) { t = a[0] + b[0]; }
-parallel emit(s: wo stream) { begin s[index] { for k in 0..index % 4 { write(s, index); } } }
-job slow(a: rw array) { var k = 0; while k < 300000 { k = k + 1; } a[0] = 1 / 0; }
-job quick(a: rw array) { a[9] = 1; }
-job keys(m: rw map, t: wo ref) { var r = 0; r = try_add(m, 1, 9); t = r; add(m, 3, 3); }
-parallel push(l: rw list) { add(l, index); }
-";
-
-const TOTAL: &str = "array x 4 = 1 2 3 4
-array y 4
-reference t
-schedule h1 scale(x, y) 4 2
-schedule h2 total(y, t) after h1
-complete h2
-print t
-";
-
-const PRICES: &str = "column p \"price\"
-reference t
-schedule h total(p, t)
-complete h
-print t
-";
-
-const TWO_BUMPS: &str = "array a 1
-array b 1
-schedule h1 bump(a)
-schedule h2 bump(b)
-combine h h1 h2
-complete h
-print b
-";
-
 const USAGE: &str =
-    "usage: frame_run [--workers N] [--depth] SCRIPT [TABLE] or frame_run [--workers N] [--depth] --gen NUMBER --jobs K\n";
+    "usage: frame_run [--workers N] [--depth] SCRIPT [TABLE] or frame_run [--workers N] [--depth] --gen NUMBER --jobs \
+     K\n";
 
 // The bytes of the files of a run.
 #[derive(Clone, Copy)]
@@ -103,8 +58,7 @@ pub fn difference<R: Threads + Wait + Sync + AllocGlobal>(
 ) -> Result<Option<String>, Fail> {
     let alloc = rt.alloc();
     for row in rows {
-        let kernels = if row.kernels { KERNELS } else { "" };
-        let script = format!(in alloc; "{}{}", kernels, row.script)?;
+        let script = row.text(alloc)?;
         let given = Given {
             script: script.as_bytes(),
             table: b"",
@@ -123,11 +77,6 @@ pub fn difference<R: Threads + Wait + Sync + AllocGlobal>(
         }
     }
     Ok(None)
-}
-
-// The worked kernels with more lines.
-fn with_kernels(alloc: Global, lines: &str) -> Result<String, Fail> {
-    Ok(format!(in alloc; "{}{}", KERNELS, lines)?)
 }
 
 #[test]
@@ -215,7 +164,7 @@ fn tables(rt: HostRuntime) -> Result<(), Fail> {
         ("", 4, "table refused: empty\n"),
         ("item,cost\n1,250\n", 4, "table refused: no column price\n"),
     ];
-    let script = with_kernels(rt.alloc(), PRICES)?;
+    let script = with_kernels(rt.alloc(), ADDED_COLUMN)?;
     for (table, status, text) in rows {
         let given = Given {
             script: script.as_bytes(),
@@ -339,7 +288,8 @@ fn pieces_run_side_by_side(rt: HostRuntime) -> Result<(), Fail> {
 fn jobs_run_after_a_fault(rt: HostRuntime) -> Result<(), Fail> {
     let alloc = rt.alloc();
     let lines =
-        "array x 30000\nprint x\narray a 1\narray b 1\nschedule h1 bump(a)\nschedule h2 bump(b)\ncombine h h1 h2\ncomplete h\n";
+        "array x 30000\nprint x\narray a 1\narray b 1\nschedule h1 bump(a)\nschedule h2 bump(b)\ncombine h h1 h2\n\
+         complete h\n";
     let script = with_kernels(alloc, lines)?;
     let given = Given {
         script: script.as_bytes(),

@@ -54,11 +54,14 @@ module _ (of : Expr → ℕ) (join : ℕ → ℕ → ℕ) (same_of : (e f : Expr
   same_measure _ _ SameLayer.clear = refl
   same_measure _ _ (SameLayer.write {e = e} {f = f} same) = λ i. 1 + same_of e f same i
   same_measure _ _ (SameLayer.begin {e = e} {f = f} same inner) = λ i. 1 + join (same_of e f same i) (all_joined join (inner i))
-  same_measure _ _ (SameLayer.if_ {e = e} {f = f} same inner second) = λ i. 1 + join (same_of e f same i) (join (all_joined join (inner i)) (all_joined join (second i)))
-  same_measure _ _ (SameLayer.for {e = e} {f = f} {e2 = e2} {f2 = f2} same second inner) = λ i. 1 + join (same_of e f same i) (join (same_of e2 f2 second i) (all_joined join (inner i)))
+  same_measure _ _ (SameLayer.if_ {e = e} {f = f} same inner second) = λ i. 1 + join (same_of e f same i)
+      (join (all_joined join (inner i)) (all_joined join (second i)))
+  same_measure _ _ (SameLayer.for {e = e} {f = f} {e2 = e2} {f2 = f2} same second inner) =
+      λ i. 1 + join (same_of e f same i) (join (same_of e2 f2 second i) (all_joined join (inner i)))
   same_measure _ _ (SameLayer.while {e = e} {f = f} same inner) = λ i. 1 + join (same_of e f same i) (all_joined join (inner i))
 
-  pub same_measures : (xs ys : List Stmt) → SameBody xs ys → all_joined join (map (fold-Stmt ℕ (measured of join)) xs) ≡ all_joined join (map (fold-Stmt ℕ (measured of join)) ys)
+  pub same_measures : (xs ys : List Stmt) → SameBody xs ys → all_joined join (map (fold-Stmt ℕ (measured of join)) xs) ≡ all_joined join
+      (map (fold-Stmt ℕ (measured of join)) ys)
   same_measures xs ys same = ap (all_joined join) (same_folds ℕ (measured of join) (measured of join) same_measure xs ys same)
 
 -- what forms ask of parameters
@@ -101,7 +104,8 @@ module _ (parallel : Bool) (ps qs : List Param) (same : Pairwise SameParam ps qs
   same_fits _ _ (SameExpr.element {x = x} {e = e} {f = f} same) = λ i. ask x read_elements i && same_fits e f same i
   same_fits _ _ (SameExpr.has {x = x} {e = e} {f = f} same) = λ i. ask x read_map i && same_fits e f same i
   same_fits _ _ (SameExpr.count {x = x} {e = e} {f = f} same) = λ i. ask x read_stream i && same_fits e f same i
-  same_fits _ _ (SameExpr.item {x = x} {e = e} {f = f} {e2 = e2} {f2 = f2} same second) = λ i. ask x read_stream i && (same_fits e f same i && same_fits e2 f2 second i)
+  same_fits _ _ (SameExpr.item {x = x} {e = e} {f = f} {e2 = e2} {f2 = f2} same second) =
+      λ i. ask x read_stream i && (same_fits e f same i && same_fits e2 f2 second i)
   same_fits _ _ (SameExpr.negative {e = e} {f = f} same) = same_fits e f same
   same_fits _ _ (SameExpr.not {e = e} {f = f} same) = same_fits e f same
   same_fits _ _ (SameExpr.both {e = e} {f = f} {e2 = e2} {f2 = f2} same second) = λ i. same_fits e f same i && same_fits e2 f2 second i
@@ -111,17 +115,22 @@ module _ (parallel : Bool) (ps qs : List Param) (same : Pairwise SameParam ps qs
   same_layer : (z w : Stmt-F (List ℕ → Bool)) → SameLayer (List ℕ → Bool) z w → statement_fits ps locals in_p z ≡ statement_fits qs locals in_q w
   same_layer _ _ (SameLayer.assign {k = k} {e = e} {f = f} same) = λ i open_. nat_lt k locals && same_fits e f same i
   same_layer _ _ (SameLayer.set_value {x = x} {e = e} {f = f} same) = λ i open_. ask x written_value i && same_fits e f same i
-  same_layer _ _ (SameLayer.store {x = x} {e = e} {f = f} {e2 = e2} {f2 = f2} same second) = λ i open_. ask x written_elements i && (same_fits e f same i && same_fits e2 f2 second i)
+  same_layer _ _ (SameLayer.store {x = x} {e = e} {f = f} {e2 = e2} {f2 = f2} same second) =
+      λ i open_. ask x written_elements i && (same_fits e f same i && same_fits e2 f2 second i)
   same_layer _ _ (SameLayer.add {x = x} {e = e} {f = f} same) = λ i open_. ask x written_list i && same_fits e f same i
-  same_layer _ _ (SameLayer.add_pair {x = x} {e = e} {f = f} {e2 = e2} {f2 = f2} same second) = λ i open_. ask x written_map i && (same_fits e f same i && same_fits e2 f2 second i)
-  same_layer _ _ (SameLayer.try_add {y = y} {x = x} {e = e} {f = f} {e2 = e2} {f2 = f2} same second) = λ i open_. nat_lt y locals && (ask x changed_map i && (same_fits e f same i && same_fits e2 f2 second i))
+  same_layer _ _ (SameLayer.add_pair {x = x} {e = e} {f = f} {e2 = e2} {f2 = f2} same second) =
+      λ i open_. ask x written_map i && (same_fits e f same i && same_fits e2 f2 second i)
+  same_layer _ _ (SameLayer.try_add {y = y} {x = x} {e = e} {f = f} {e2 = e2} {f2 = f2} same second) =
+      λ i open_. nat_lt y locals && (ask x changed_map i && (same_fits e f same i && same_fits e2 f2 second i))
   same_layer _ _ (SameLayer.remove_at {x = x} {e = e} {f = f} same) = λ i open_. ask x written_list i && same_fits e f same i
   same_layer _ _ (SameLayer.remove_key {y = y} {x = x} {e = e} {f = f} same) = λ i open_. nat_lt y locals && (ask x changed_map i && same_fits e f same i)
   same_layer _ _ (SameLayer.clear {x = x}) = λ i open_. ask x clearable i
   same_layer _ _ (SameLayer.write {x = x} {e = e} {f = f} same) = λ i open_. ask x written_stream i && (member x open_ && same_fits e f same i)
-  same_layer _ _ (SameLayer.begin {x = x} {e = e} {f = f} same inner) = λ i open_. ask x written_stream i && (not (member x open_) && (same_fits e f same i && all_fit (inner i) (x ∷ open_)))
+  same_layer _ _ (SameLayer.begin {x = x} {e = e} {f = f} same inner) = λ i open_. ask x written_stream i
+      && (not (member x open_) && (same_fits e f same i && all_fit (inner i) (x ∷ open_)))
   same_layer _ _ (SameLayer.if_ {e = e} {f = f} same inner second) = λ i open_. same_fits e f same i && (all_fit (inner i) open_ && all_fit (second i) open_)
-  same_layer _ _ (SameLayer.for {k = k} {e = e} {f = f} {e2 = e2} {f2 = f2} same second inner) = λ i open_. nat_lt k locals && (same_fits e f same i && (same_fits e2 f2 second i && all_fit (inner i) open_))
+  same_layer _ _ (SameLayer.for {k = k} {e = e} {f = f} {e2 = e2} {f2 = f2} same second inner) =
+      λ i open_. nat_lt k locals && (same_fits e f same i && (same_fits e2 f2 second i && all_fit (inner i) open_))
   same_layer _ _ (SameLayer.while {e = e} {f = f} same inner) = λ i open_. same_fits e f same i && all_fit (inner i) open_
 
   same_bodies : (xs ys : List Stmt) → SameBody xs ys → all_fit (map (stmt_fits parallel ps locals) xs) [] ≡ all_fit (map (stmt_fits parallel qs locals) ys) []
@@ -153,9 +162,11 @@ same_kernels_are_checked k l same is =
     let xs = k.body.statements.items in
     let ys = l.body.statements.items in
     record {
-      fits = subst (λ b. IsTrue b) (same_bodies k.parallel k.params.items l.params.items same.params k.locals xs ys same.body ∙ (λ i. all_fit (map (stmt_fits (same.parallel i) l.params.items (same.locals i)) ys) [])) is.fits;
+      fits = subst (λ b. IsTrue b) (same_bodies k.parallel k.params.items l.params.items same.params k.locals xs ys same.body
+          ∙ (λ i. all_fit (map (stmt_fits (same.parallel i) l.params.items (same.locals i)) ys) [])) is.fits;
       params = subst (λ b. IsTrue b) (same_params_fit k.params.items l.params.items same.params) is.params;
-      widths = subst (λ b. IsTrue b) (same_widths k.parallel k.params.items l.params.items same.params ∙ (λ i. list_all (width_fits (same.parallel i)) l.params.items)) is.widths;
+      widths = subst (λ b. IsTrue b) (same_widths k.parallel k.params.items l.params.items same.params
+          ∙ (λ i. list_all (width_fits (same.parallel i)) l.params.items)) is.widths;
       count = subst (λ n. IsTrue (nat_le n MOST_PARAMS)) (same_count k.params.items l.params.items same.params) is.count;
       locals = subst (λ n. IsTrue (nat_le n MOST_LOCALS)) same.locals is.locals;
       nodes = subst (λ n. IsTrue (nat_le n MOST_NODES)) (same_measures expr_nodes (λ m n. m + n) same_nodes xs ys same.body) is.nodes;

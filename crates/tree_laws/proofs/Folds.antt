@@ -37,12 +37,16 @@ module _ (R : Type 0) (p q : Stmt-F R → R) (respects : (z w : Stmt-F R) → Sa
     pub same_fold : (s t : Stmt) → SameStmt s t → fold-Stmt R p s ≡ fold-Stmt R q t
     same_fold s t (SameStmt.assign {k = k} {e = e} {f = f} is other same) = at_views s t (Assign k e) (Assign k f) is other (SameLayer.assign same)
     same_fold s t (SameStmt.set_value {x = x} {e = e} {f = f} is other same) = at_views s t (SetValue x e) (SetValue x f) is other (SameLayer.set_value same)
-    same_fold s t (SameStmt.store {x = x} {e = e} {f = f} {e2 = e2} {f2 = f2} is other same second) = at_views s t (Store x e e2) (Store x f f2) is other (SameLayer.store same second)
+    same_fold s t (SameStmt.store {x = x} {e = e} {f = f} {e2 = e2} {f2 = f2} is other same second) =
+        at_views s t (Store x e e2) (Store x f f2) is other (SameLayer.store same second)
     same_fold s t (SameStmt.add {x = x} {e = e} {f = f} is other same) = at_views s t (Add x e) (Add x f) is other (SameLayer.add same)
-    same_fold s t (SameStmt.add_pair {x = x} {e = e} {f = f} {e2 = e2} {f2 = f2} is other same second) = at_views s t (AddPair x e e2) (AddPair x f f2) is other (SameLayer.add_pair same second)
-    same_fold s t (SameStmt.try_add {y = y} {x = x} {e = e} {f = f} {e2 = e2} {f2 = f2} is other same second) = at_views s t (TryAdd y x e e2) (TryAdd y x f f2) is other (SameLayer.try_add same second)
+    same_fold s t (SameStmt.add_pair {x = x} {e = e} {f = f} {e2 = e2} {f2 = f2} is other same second) =
+        at_views s t (AddPair x e e2) (AddPair x f f2) is other (SameLayer.add_pair same second)
+    same_fold s t (SameStmt.try_add {y = y} {x = x} {e = e} {f = f} {e2 = e2} {f2 = f2} is other same second) =
+        at_views s t (TryAdd y x e e2) (TryAdd y x f f2) is other (SameLayer.try_add same second)
     same_fold s t (SameStmt.remove_at {x = x} {e = e} {f = f} is other same) = at_views s t (RemoveAt x e) (RemoveAt x f) is other (SameLayer.remove_at same)
-    same_fold s t (SameStmt.remove_key {y = y} {x = x} {e = e} {f = f} is other same) = at_views s t (RemoveKey y x e) (RemoveKey y x f) is other (SameLayer.remove_key same)
+    same_fold s t (SameStmt.remove_key {y = y} {x = x} {e = e} {f = f} is other same) =
+        at_views s t (RemoveKey y x e) (RemoveKey y x f) is other (SameLayer.remove_key same)
     same_fold s t (SameStmt.clear {x = x} is other) = at_views s t (Clear x) (Clear x) is other SameLayer.clear
     same_fold s t (SameStmt.write {x = x} {e = e} {f = f} is other same) = at_views s t (Write x e) (Write x f) is other (SameLayer.write same)
     same_fold s t (SameStmt.begin {x = x} {e = e} {f = f} {body = body} {same_body = same_body} is other same inner) =

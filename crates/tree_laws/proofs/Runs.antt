@@ -89,7 +89,8 @@ module _ {S : Type 0} (operations : Operations S) (index : ℕ) where
 pub same_kernels_run_alike : SameKernelsRunAlike
 same_kernels_run_alike k l same =
     λ i widths steps n args.
-    indexes (λ index s. in_turn (same_meanings (arguments widths index) index k.body.statements.items l.body.statements.items same.body i) (fresh steps s)) (executes (same.parallel i) n) 0 args
+    indexes (λ index s. in_turn (same_meanings (arguments widths index) index k.body.statements.items l.body.statements.items same.body i) (fresh steps s))
+    (executes (same.parallel i) n) 0 args
 
 pub same_runs : (ks ls : List Kernel) → Pairwise SameKernel ks ls → map run_of ks ≡ map run_of ls
 same_runs [] [] same = refl

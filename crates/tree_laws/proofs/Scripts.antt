@@ -58,7 +58,10 @@ module _ (g : Setting) (ls : List Kernel) (same : Pairwise SameKernel g.kernels 
   same_decided None s x y alike =
       same_effect g ls same x.line s x.act ∙ order_effect h x.line s x.act y.act alike.act ∙ ap (λ line. effect h line s y.act) alike.line
   same_decided (Some r) s x y alike =
-      let told : ℕ → ScriptState → ScriptState = λ line after. record after { refused = s.refused + 1; lines = s.lines ++ refused_line line r.cause (name_text g r.name) } in
+      let told : ℕ → ScriptState → ScriptState = λ line after. record after {
+        refused = s.refused + 1;
+        lines = s.lines ++ refused_line line r.cause (name_text g r.name);
+      } in
       ap (told x.line) (order_loss r.cause s x.act y.act alike.act) ∙ ap (λ line. told line (lost r.cause y.act s)) alike.line
 
   pub same_act_at : (n : ℕ) (s : ScriptState) (x y : Statement) → SameStatement x y → act_or_pass n g s x ≡ act_or_pass n h s y

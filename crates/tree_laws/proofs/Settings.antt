@@ -48,7 +48,8 @@ same_leave p q same (Name n) new s =
     λ i. if writes_to (same.access i) then with_contents (container_at s n) (left_in (same.kind i) (s.values n) new (contents_at s n)) s else s
 same_leave p q same (Number z) new s = refl
 
-same_leave_all : (ps qs : List Param) → Pairwise SameParam ps qs → (args : List Arg) (news : List Contents) (s : ScriptState) → leave_all ps args news s ≡ leave_all qs args news s
+same_leave_all : (ps qs : List Param) → Pairwise SameParam ps qs → (args : List Arg) (news : List Contents) (s : ScriptState)
+    → leave_all ps args news s ≡ leave_all qs args news s
 same_leave_all [] [] same args news s = refl
 same_leave_all [] (q ∷ qs) same args news s = absurd same
 same_leave_all (p ∷ ps) [] same args news s = absurd same
@@ -63,7 +64,8 @@ same_width : (parallel : Bool) (waive : List ℕ) (x : ℕ) (p q : Param) → Sa
 same_width parallel waive x p q same =
     λ i. width_at parallel waive x (record p { kind = same.kind i; access = same.access i; by = same.by i })
 
-same_widths : (parallel : Bool) (waive : List ℕ) (x : ℕ) (ps qs : List Param) → Pairwise SameParam ps qs → widths_from parallel waive x ps ≡ widths_from parallel waive x qs
+same_widths : (parallel : Bool) (waive : List ℕ) (x : ℕ) (ps qs : List Param) → Pairwise SameParam ps qs
+    → widths_from parallel waive x ps ≡ widths_from parallel waive x qs
 same_widths parallel waive x [] [] same = refl
 same_widths parallel waive x [] (q ∷ qs) same = absurd same
 same_widths parallel waive x (p ∷ ps) [] same = absurd same
@@ -97,10 +99,12 @@ module _ (g : Setting) (ls : List Kernel) (same : Pairwise SameKernel g.kernels 
 
   pub same_refusal : (s : ScriptState) (x : Order) → refusal g s x ≡ refusal h s x
   same_refusal s (Schedule job) =
-      λ i. schedule_refusal s (same_parallel g.kernels ls same job.value.kernel i) job.value.auto (same_givens s job.value.kernel job.value.args.items job.value.defer i) job.value.after.items
+      λ i. schedule_refusal s (same_parallel g.kernels ls same job.value.kernel i) job.value.auto
+      (same_givens s job.value.kernel job.value.args.items job.value.defer i) job.value.after.items
   same_refusal s x = refl
 
-  same_accept : (s : ScriptState) (auto : Bool) (handle kernel : ℕ) (args : List Arg) (cut defer : Option (ℕ × ℕ)) (waive after : List ℕ) → accept g s auto handle kernel args cut defer waive after ≡ accept h s auto handle kernel args cut defer waive after
+  same_accept : (s : ScriptState) (auto : Bool) (handle kernel : ℕ) (args : List Arg) (cut defer : Option (ℕ × ℕ)) (waive after : List ℕ)
+      → accept g s auto handle kernel args cut defer waive after ≡ accept h s auto handle kernel args cut defer waive after
   same_accept s auto handle kernel args cut defer waive after = λ i.
       let ps = params_of g kernel in
       let qs = params_of h kernel in
@@ -109,7 +113,8 @@ module _ (g : Setting) (ls : List Kernel) (same : Pairwise SameKernel g.kernels 
       let job = s.book.count + 1 in
       let named = jobs_named s after in
       let deps = if auto then both named (automatic s.book s.uses named needs) else named in
-      let widths = (same_widths (is_parallel g kernel) waive 0 ps qs (params kernel) ∙ ap (λ b. widths_from b waive 0 qs) (same_parallel g.kernels ls same kernel)) i in
+      let widths = (same_widths (is_parallel g kernel) waive 0 ps qs (params kernel)
+      ∙ ap (λ b. widths_from b waive 0 qs) (same_parallel g.kernels ls same kernel)) i in
       let ran = get_or g.runs kernel no_run widths (steps_by defer) (job_length s cut defer) (same_arguments s ps qs (params kernel) args i) in
       let left = all_broken gs (same_leave_all ps qs (params kernel) args ran.store s i) in
       record left {
@@ -120,5 +125,6 @@ module _ (g : Setting) (ls : List Kernel) (same : Pairwise SameKernel g.kernels 
       }
 
   pub same_effect : (line : ℕ) (s : ScriptState) (x : Order) → effect g line s x ≡ effect h line s x
-  same_effect line s (Schedule job) = same_accept s job.value.auto job.value.handle job.value.kernel job.value.args.items job.value.cut job.value.defer job.value.waive.items job.value.after.items
+  same_effect line s (Schedule job) = same_accept s job.value.auto job.value.handle job.value.kernel job.value.args.items job.value.cut job.value.defer
+      job.value.waive.items job.value.after.items
   same_effect line s x = refl

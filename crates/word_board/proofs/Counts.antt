@@ -57,9 +57,11 @@ module _ (plan : Plan) (named : IsNamed plan) (j : ℕ) (rights : List ℕ) wher
 
   right_comes : (q : ℕ) → IsPart plan named q j → has q (places plan (own ++ rights)) ≡ true
   right_comes q r = ap (λ y. has y (places plan (own ++ rights))) r.place
-      ∙ right_there plan r.number (own ++ rights) r.below (numbers_come (λ p. is_of plan (suc j) p) (piece_count plan) r.number rights r.below (is_of_job plan j r.part r.number r.is))
+      ∙ right_there plan r.number (own ++ rights) r.below (numbers_come (λ p. is_of plan (suc j) p) (piece_count plan) r.number rights r.below
+      (is_of_job plan j r.part r.number r.is))
 
-  right_only : (q : ℕ) → IsRight plan q (own ++ rights) → (has q (places plan rights) ≡ true) ⊎ ((q < (jobs_of plan).pieces) × ((jobs_of plan).is_part q j ≡ true))
+  right_only : (q : ℕ) → IsRight plan q (own ++ rights) → (has q (places plan rights) ≡ true)
+      ⊎ ((q < (jobs_of plan).pieces) × ((jobs_of plan).is_part q j ≡ true))
   right_only q r = ⊎_elim
       (λ old. inl (ap (λ y. has y (places plan rights)) r.place ∙ right_there plan r.number rights r.below old))
       (λ new. let o = job_of_is plan j r.number new.1 in inr (
@@ -73,7 +75,8 @@ module _ (slots id : ℕ) (me : Me ℕ View) (j : ℕ) where
   plan = me.0.plan
 
   pub allows_count : j < length plan.jobs.items → me.0.owed ≡ Some (suc j)
-      → Allows (Holds plan) slots id me (rest_word plan j) (λ n. (n + 18446744073709551615) % 18446744073709551616) (CountPlay (step slots (rest_word plan j) 1 0 none) me)
+      → Allows (Holds plan) slots id me (rest_word plan j) (λ n. (n + 18446744073709551615) % 18446744073709551616)
+      (CountPlay (step slots (rest_word plan j) 1 0 none) me)
   allows_count low owed s H len at fits =
       let i : ℕ = rest_word plan j in
       let n : ℕ = get_or s.words i 0 in
@@ -114,10 +117,12 @@ module _ (slots id : ℕ) (me : Me ℕ View) (j : ℕ) where
           rests = record { here = put.here ∙ xm; there = put.there };
           not_last = λ ne. ap duties_in (more_duties ne);
           last = λ z. record {
-            more = λ d lt t. let dep : has_job (deps_in (job_at plan d)) (suc j) ≡ true = (Rattle.std.proofs.lemmas.Bool.and_parts (ltb j many) (has_job (deps_in (job_at plan d)) (suc j)) (sym (dependency_is plan j d) ∙ t)).1 in
+            more = λ d lt t. let dep : has_job (deps_in (job_at plan d)) (suc j) ≡ true =
+                (Rattle.std.proofs.lemmas.Bool.and_parts (ltb j many) (has_job (deps_in (job_at plan d)) (suc j)) (sym (dependency_is plan j d) ∙ t)).1 in
                 duties_are d new.duties ∙ (ap (λ l. dues_on l (suc d)) (last_duties z)
                 ∙ (followers_one plan (suc j) me.0.duties many d (subst (λ k. d < k) (jobs_are plan) lt) dep ∙ ap suc (sym (duties_are d me.0.duties))));
-            same = λ d lt t. let dep : has_job (deps_in (job_at plan d)) (suc j) ≡ false = sym (ap (λ (b : Bool). b && has_job (deps_in (job_at plan d)) (suc j)) (lt-ltb j many low)) ∙ (sym (dependency_is plan j d) ∙ t) in
+            same = λ d lt t. let dep : has_job (deps_in (job_at plan d)) (suc j) ≡ false =
+                sym (ap (λ (b : Bool). b && has_job (deps_in (job_at plan d)) (suc j)) (lt-ltb j many low)) ∙ (sym (dependency_is plan j d) ∙ t) in
                 duties_are d new.duties ∙ (ap (λ l. dues_on l (suc d)) (last_duties z)
                 ∙ (followers_none plan (suc j) me.0.duties many d (inr dep) ∙ sym (duties_are d me.0.duties)));
           };
@@ -143,7 +148,8 @@ module _ (slots id : ℕ) (me : Me ℕ View) (j : ℕ) where
       )
 
   pub allows_release : j < length plan.jobs.items → 0 < dues_on me.0.duties (suc j)
-      → Allows (Holds plan) slots id me (wait_word plan j) (λ n. (n + 18446744073709551615) % 18446744073709551616) (ReleasePlay (step slots (wait_word plan j) 1 0 none) me)
+      → Allows (Holds plan) slots id me (wait_word plan j) (λ n. (n + 18446744073709551615) % 18446744073709551616)
+      (ReleasePlay (step slots (wait_word plan j) 1 0 none) me)
   allows_release low due s H len at fits =
       let i : ℕ = wait_word plan j in
       let n : ℕ = get_or s.words i 0 in
@@ -169,7 +175,8 @@ module _ (slots id : ℕ) (me : Me ℕ View) (j : ℕ) where
       let own : List ℕ = numbers_of (λ p. is_of plan (suc j) p) many in
       let got : m ≡ 0 → new.rights ≡ own ++ me.0.rights = λ z. ap (λ (b : Bool). cond b (own ++ me.0.rights) me.0.rights) (eq-eqb n 1 (omega arith)) in
       let kept : m ≢ 0 → new.rights ≡ me.0.rights = λ ne. ap (λ (b : Bool). cond b (own ++ me.0.rights) me.0.rights) (ne_eqb n 1 (λ e. ne (omega arith))) in
-      let R : IsRelease (jobs_of plan) (moment plan s) (moment plan record { words = set s.words i x; homes = s.homes; views = set s.views id new }) id = record {
+      let R : IsRelease (jobs_of plan) (moment plan s) (moment plan record { words = set s.words i x; homes = s.homes; views = set s.views id new }) id =
+      record {
         job = j;
         was = v;
         now = w;
@@ -188,7 +195,8 @@ module _ (slots id : ℕ) (me : Me ℕ View) (j : ℕ) where
               (λ z. ap (λ l. has q (places plan l)) (got z) ∙ right_stays plan named j me.0.rights q (right_of plan q me.0.rights t))
               (λ ne. ap (λ l. has q (places plan l)) (kept ne) ∙ t);
           rights_come = λ z q lt t. ap (λ l. has q (places plan l)) (got z) ∙ right_comes plan named j me.0.rights q (part_is plan named q j t);
-          rights_only = λ z q t. right_only plan named j me.0.rights q (right_of plan q (own ++ me.0.rights) (sym (ap (λ l. has q (places plan l)) (got z)) ∙ t));
+          rights_only = λ z q t. right_only plan named j me.0.rights q (right_of plan q (own ++ me.0.rights)
+              (sym (ap (λ l. has q (places plan l)) (got z)) ∙ t));
           seen = refl;
           segments = record { number = refl; spent = refl; ended = refl; opened = refl };
         };

@@ -15,7 +15,8 @@ dealt_more b all x old new k seat e = ⊎_elim
     (get_either all (x ∷ []) k seat e)
   where
     last : (i : ℕ) → k ≡ length all + i → slice_get (x ∷ []) i ≡ Some seat → IsNewSeat b (eqb k 0) seat
-    last zero at is = let same : length all ≡ k = omega arith in subst (λ s. IsNewSeat b (eqb k 0) s) (some_is is) (subst (λ n. IsNewSeat b (eqb n 0) x) same new)
+    last zero at is = let same : length all ≡ k = omega arith in subst (λ s. IsNewSeat b (eqb k 0) s) (some_is is)
+        (subst (λ n. IsNewSeat b (eqb n 0) x) same new)
     last (suc i) at is = absurd (none_some is)
 
 pub fresh_is_new : (b : WordBoard) (s : WordSeat) (v : View) → home_of s ≡ name_of b → view_of s ≡ fresh_view v → v.plan ≡ plan_of b → IsNewSeat b false s

@@ -33,15 +33,18 @@ lease_here plan h = record { piece = place_numbered plan h.piece; local = local_
 
 pub leased_words_hold_their_cells : LeasedWordsHoldTheirCells
 leased_words_hold_their_cells plan s H k h L w r =
-    H.ruled.held.in_place k (lease_here plan h) w (lease_at plan s.views k L.view h L.there L.held) (reads_there plan (pieces_are_named plan H.well) h.piece L.below w ∙ r)
+    H.ruled.held.in_place k (lease_here plan h) w (lease_at plan s.views k L.view h L.there L.held)
+    (reads_there plan (pieces_are_named plan H.well) h.piece L.below w ∙ r)
 
 pub leased_pieces_are_begun : LeasedPiecesAreBegun
 leased_pieces_are_begun plan s H k h L =
-    sym (state_is plan s.words H.size (pieces_are_named plan H.well) h.piece L.below) ∙ (H.ruled.held.begun k (lease_here plan h) (lease_at plan s.views k L.view h L.there L.held)).0
+    sym (state_is plan s.words H.size (pieces_are_named plan H.well) h.piece L.below)
+    ∙ (H.ruled.held.begun k (lease_here plan h) (lease_at plan s.views k L.view h L.there L.held)).0
 
 pub pieces_are_leased_once : PiecesAreLeasedOnce
 pieces_are_leased_once plan s H i k g h L M same =
-    H.ruled.held.once i k (lease_here plan g) (lease_here plan h) (lease_at plan s.views i L.view g L.there L.held) (lease_at plan s.views k M.view h M.there M.held) (ap (place_numbered plan) same)
+    H.ruled.held.once i k (lease_here plan g) (lease_here plan h) (lease_at plan s.views i L.view g L.there L.held)
+    (lease_at plan s.views k M.view h M.there M.held) (ap (place_numbered plan) same)
 
 pub countdowns_are_exact : CountdownsAreExact
 countdowns_are_exact plan s H = H.ruled.exact
@@ -52,7 +55,8 @@ precedes_there : (plan : Plan) → IsNamed plan → (q p : ℕ) → q < piece_co
     → (graph_of plan).precedes (place_numbered plan q) (place_numbered plan p) ≡ is_predecessor plan (piece_numbered plan q) (piece_numbered plan p)
 unfolding graph_of
 precedes_there plan named q p lq lp =
-    ap (λ o. precedes_at plan o (piece_at plan (place_numbered plan p))) (stands plan named q lq) ∙ ap (precedes_at plan (Some (piece_numbered plan q))) (stands plan named p lp)
+    ap (λ o. precedes_at plan o (piece_at plan (place_numbered plan p))) (stands plan named q lq)
+    ∙ ap (precedes_at plan (Some (piece_numbered plan q))) (stands plan named p lp)
 
 pub open_pieces_are_ready : OpenPiecesAreReady
 open_pieces_are_ready plan s H q p lq lp up before =
@@ -76,7 +80,8 @@ next_is_closed plan s H k n v at may =
     let led = H.ruled.exact.led in
     let is = (led_by plan s H k v at may.first).1 in
     let next : n ≡ led.first.ended = may.next ∙ sym (ap (λ (c : Claims). c.ended) is) in
-    let below : led.first.ended < (jobs_of plan).segments = subst (λ m. led.first.ended < m) (sym (segments_are plan)) (subst (λ m. m < length plan.segments.items) next may.below) in
+    let below : led.first.ended < (jobs_of plan).segments = subst (λ m. led.first.ended < m) (sym (segments_are plan))
+    (subst (λ m. m < length plan.segments.items) next may.below) in
     ap (λ m. states_in plan s.words ((jobs_of plan).segment_at m)) next ∙ led.next_closed below (ap (λ (c : Claims). c.opened) is ∙ may.unopened)
 
 pub pieces_to_open_are_closed : PiecesToOpenAreClosed
@@ -94,6 +99,7 @@ pub rights_are_held_once : RightsAreHeldOnce
 rights_are_held_once plan s H i k p u v at_u at_v low may_u may_v = by (piece_numbered plan p) may_u may_v
   where
     by : (x : Piece) → MayOpen plan (know u) p x → MayOpen plan (know v) p x → i ≡ k
-    by (OfJob j n) one two = H.ruled.exact.rights_once i k (place_numbered plan p) (claims plan u) (claims plan v) (claims_at plan s.views i u u at_u) (claims_at plan s.views k v v at_v)
+    by (OfJob j n) one two = H.ruled.exact.rights_once i k (place_numbered plan p) (claims plan u) (claims plan v) (claims_at plan s.views i u u at_u)
+        (claims_at plan s.views k v v at_v)
         (right_there plan p u.rights low one) (right_there plan p v.rights low two)
     by (OfScript n) one two = (led_by plan s H i u at_u one.first).0 ∙ sym (led_by plan s H k v at_v two.first).0

@@ -62,8 +62,13 @@ module _ (b : WordBoard) (s : WordSeat) (home : home_of s ≡ name_of b) where
       let kept = s.owed j e in
       by_names j kept.0 (subst (λ (x : Plan). job_number (piece_numbered x s.piece) ≡ j) seat_of.plan_is kept.1) (names key.jobs.items 0 s.piece)
 
-  pub counted_is : (j : ℕ) (word n : ℕ) → know (counted_view v j true word n) ≡ record (know v) { owed = None; dues = λ d. dues_on v.duties d + due_after key j d }
-  counted_is j word n = λ y. record (know v) { owed = None; dues = λ d. (dues_followed v.plan j v.duties d ∙ ap (λ (x : Plan). dues_on v.duties d + due_after x j d) seat_of.plan_is) y }
+  pub counted_is : (j : ℕ) (word n : ℕ) → know (counted_view v j true word n) ≡
+      record (know v) { owed = None; dues = λ d. dues_on v.duties d + due_after key j d }
+  counted_is j word n = λ y. record (know v) {
+    owed = None;
+    dues = λ d. (dues_followed v.plan j v.duties d
+        ∙ ap (λ (x : Plan). dues_on v.duties d + due_after x j d) seat_of.plan_is) y;
+  }
 
   pub counted_step : (new : View) (i : ℕ) (r t : Bool) (w x : ℕ) → new ≡ counted_view v i r w new.found → r ≡ t → w ≡ x → new ≡ counted_view v i t x new.found
   counted_step new i r t w x e answer word = e ∙ (ap (λ y. counted_view v i y w new.found) answer ∙ ap (λ y. counted_view v i t y new.found) word)
@@ -78,7 +83,8 @@ module _ (b : WordBoard) (s : WordSeat) (home : home_of s ≡ name_of b) where
   opened_is p word n = know_opened v p (piece_numbered key p) word n
 
   pub ended_is : (p word n : ℕ) → know (ended_view v (piece_numbered key p) word n) ≡ ended key (know v) p
-  ended_is p word n = subst (λ (x : Plan). know (ended_view v (piece_numbered key p) word n) ≡ ended_piece x (know v) (piece_numbered key p)) seat_of.plan_is (know_ended v (piece_numbered key p) word n)
+  ended_is p word n = subst (λ (x : Plan). know (ended_view v (piece_numbered key p) word n) ≡ ended_piece x (know v) (piece_numbered key p)) seat_of.plan_is
+      (know_ended v (piece_numbered key p) word n)
 
 pub same_default : (l : List ℕ) (i c d : ℕ) → i < length l → get_or l i c ≡ get_or l i d
 same_default [] i c d lt = absurd (omega arith)

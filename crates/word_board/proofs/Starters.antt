@@ -15,4 +15,5 @@ module _ (plan : Plan) (starts : StartsAll plan) where
 
   pub starts_other : (j k : ℕ) → eqb ((jobs_of plan).starter j) k ≡ false → is_job (starts_in (segment_at plan k)) (suc j) ≡ false
   unfolding jobs_of
-  starts_other j k f = ⊎_elim (λ t. absurd (not_both (eq-eqb (starter_of plan j) k (sym (starter_alone plan starts j k t))) f)) (λ q. q) (either_bool (is_job (starts_in (segment_at plan k)) (suc j)))
+  starts_other j k f = ⊎_elim (λ t. absurd (not_both (eq-eqb (starter_of plan j) k (sym (starter_alone plan starts j k t))) f)) (λ q. q)
+      (either_bool (is_job (starts_in (segment_at plan k)) (suc j)))

@@ -18,7 +18,7 @@ ghost use Rattle.frame_script.specs.Raw as Form;
 use crate::checks::{handles, limited, made, refused, signed, used};
 use crate::raw::{RawArg, RawNumber, RawSizes};
 use crate::{Kernels, Names, OrderFault, Source};
-use frame_ast::kernel::{FaultKind, Kernel, ParamKind};
+use frame_ast::kernel::{FaultKind, Kernel, ParamKind, writes_to};
 use frame_ast::name_kind::{ARRAY_ARGUMENTS, HAS_ELEMENTS, NameKind};
 use frame_ast::script::{Arg, NewJob, Order};
 use frame_grammar::TokenAt;
@@ -61,17 +61,11 @@ fn used_for(
     }
 }
 
-fn is_int(kind: ParamKind) -> bool
-    ensures { result ≡ is_int kind }
-{
-    matches!(kind, ParamKind::Int)
-}
-
 // A number is given for an `int` alone.
 fn taken(kind: ParamKind, at: TokenAt) -> Result<(), OrderFault>
     ensures { Decides (unless (is_int kind) KindMismatch at) (λ _. ⊤) result }
 {
-    if is_int(kind) {
+    if kind.is_int() {
         Ok(())
     } else {
         refused(FaultKind::KindMismatch, at)
@@ -196,35 +190,12 @@ fn param_at(kernel: &Kernel, text: &[u8]) -> Option<usize>
         .position(|param| text == param.name.as_bytes())
 }
 
-fn writes_to(access: Access) -> bool
-    ensures { result ≡ writes_to access }
-{
-    match access {
-        Access::Read => false,
-        Access::Write => true,
-        Access::Both => true,
-    }
-}
-
-fn is_array(kind: ParamKind) -> bool
-    ensures { result ≡ is_array kind }
-{
-    match kind {
-        ParamKind::Int => false,
-        ParamKind::Array => true,
-        ParamKind::List => false,
-        ParamKind::Ref => false,
-        ParamKind::Map => false,
-        ParamKind::Stream => false,
-    }
-}
-
 // WAIVED NAMES
 
 fn waivable(parallel: bool, kind: ParamKind, access: Access, at: TokenAt) -> Result<(), OrderFault>
     ensures { Decides (unless (parallel && (is_array kind && writes_to access)) KindMismatch at) (λ _. ⊤) result }
 {
-    if parallel && (is_array(kind) && writes_to(access)) {
+    if parallel && (kind.is_array() && writes_to(access)) {
         Ok(())
     } else {
         refused(FaultKind::KindMismatch, at)

@@ -11,7 +11,8 @@ returns-clause-ok c =
     let parse = c.try_get_matches_from in
     let texts = map string_bytes c.args.words.now in
     IfOk-weaker parse.result _ _ (λ m h. has_items texts (found_of m) c.requires
-    ((h (ap is_simple c.in_ok-frame_command.ensures ∙ app_is_simple)).0 ∙ ap (λ (a : App). matches_of a texts) c.in_ok-frame_command.ensures)) parse.ensures.matches
+    ((h (ap is_simple c.in_ok-frame_command.ensures ∙ app_is_simple)).0 ∙ ap (λ (a : App). matches_of a texts) c.in_ok-frame_command.ensures))
+    parse.ensures.matches
 
 -- and fails only for want of memory
 pub returns-clause-err : goal.returns-clause-err

@@ -13,7 +13,8 @@ pub returns-in_ok-take_operator : goal.returns-in_ok-take_operator
 returns-in_ok-take_operator c =
     told c.args.ahead c.args.ahead c.args.place (events_of c.args.events.now.items) _ _ _ _ _ refl c.in_ok-take_operator.ensures.events
     (ap (λ ss. to_come (coming.Side side.Factor) ++ ss) (behind c.args.stack.now.items _ _ c.in_ok-take_operator.ensures.stack))
-    (factor c.args.ahead c.args.place (events_of c.args.events.now.items) (after_term ++ standing c.args.stack.now.items) (sym c.multiplies.ensures ∙ c.if-multiplies.true))
+    (factor c.args.ahead c.args.place (events_of c.args.events.now.items) (after_term ++ standing c.args.stack.now.items)
+    (sym c.multiplies.ensures ∙ c.if-multiplies.true))
 
 pub returns-else-multiplies : goal.returns-else-multiplies
 returns-else-multiplies c =

@@ -19,7 +19,8 @@ loop-index-preserved g c =
 pub returns-then-tokens-place-clause-absent : goal.returns-then-tokens-place-clause-absent
 returns-then-tokens-place-clause-absent g c e there =
     let len = length-map c.args.tokens.now g.T.HasKind.kind_of in
-    too_few_there c.args.kinds.now (map g.T.HasKind.kind_of c.args.tokens.now) c.args.place (omega (arith, len, c.requires)) (omega (arith, len, c.if-tokens-place.true)) there
+    too_few_there c.args.kinds.now (map g.T.HasKind.kind_of c.args.tokens.now) c.args.place (omega (arith, len, c.requires))
+    (omega (arith, len, c.if-tokens-place.true)) there
 
 pub returns-then-ne-clause-absent : goal.returns-then-ne-clause-absent
 returns-then-ne-clause-absent g c e there =
@@ -30,4 +31,5 @@ returns-then-ne-clause-absent g c e there =
     ∙ get_or-drop c.args.place tokens c.loop-index.index _ in
     kinds_differ_not c.kind.result _ (sym c.ne.ensures ∙ c.if-ne.true)
     (kind_wanted g.T.HasKind.kind_of tokens c.index-ahead-index.result (c.args.place + c.loop-index.index) c.args.kinds.now c.loop-index.index c.kind.result _
-    (omega (arith, c.loop-index-test.true, c.if-tokens-place.false, c.requires)) c.loop-index-test.true token c.kind.ensures (there c.loop-index.index c.loop-index-test.true))
+    (omega (arith, c.loop-index-test.true, c.if-tokens-place.false, c.requires)) c.loop-index-test.true token c.kind.ensures
+    (there c.loop-index.index c.loop-index-test.true))

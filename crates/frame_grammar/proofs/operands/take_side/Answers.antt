@@ -13,7 +13,8 @@ pub returns-in_ok-note_both-in-Some-Name : goal.returns-in_ok-note_both-in-Some-
 returns-in_ok-note_both-in-Some-Name g c =
     let kinds = map g.T.HasKind.kind_of c.args.tokens.now in
     let put = ap (λ ss. to_come coming.Place ++ ss) c.in_ok-put_behind-in-Some-Name.ensures in
-    then_ok c.after_name.result kinds c.args.from (c.args.from + 1) (events_of c.args.events.now.items) (events_of c.note_both.new.events.items) (events_of c.after_name.new.events.items) _ _ _
+    then_ok c.after_name.result kinds c.args.from (c.args.from + 1) (events_of c.args.events.now.items) (events_of c.note_both.new.events.items)
+    (events_of c.after_name.new.events.items) _ _ _
     (told_on kinds _ _ _ _ _ _ _ put
     (told_events kinds _ _ _ _ _ _ _ c.in_ok-note_both-in-Some-Name.ensures
     (one_on kinds c.args.from _ (events_of c.args.events.now.items) _ _ _ (sym c.kind_at.ensures ∙ c.in-Some-Name.is ∙ ap Some c.in-Some-Name.field-0-is)

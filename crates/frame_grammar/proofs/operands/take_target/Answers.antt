@@ -13,7 +13,8 @@ use Rattle.frame_grammar.proofs.operands.take_target.Goals as goal
 pub returns-in-Some-Assign : goal.returns-in-Some-Assign
 returns-in-Some-Assign g c =
     let kinds = map g.T.HasKind.kind_of c.args.tokens.now in
-    then_ok c.take_side.result kinds c.args.from (c.args.from + 1) (events_of c.args.events.now.items) (events_of c.args.events.now.items) (events_of c.take_side.new.events.items) _ _ _
+    then_ok c.take_side.result kinds c.args.from (c.args.from + 1) (events_of c.args.events.now.items) (events_of c.args.events.now.items)
+    (events_of c.take_side.new.events.items) _ _ _
     (one_on kinds c.args.from _ (events_of c.args.events.now.items) _ _ _ (sym c.kind_at.ensures ∙ c.in-Some-Assign.is ∙ ap Some c.in-Some-Assign.field-0-is)
     (assign_taken c.args.from (events_of c.args.events.now.items) (standing c.args.stack.now.items)) (some_coming (coming.Side side.Value) _))
     c.take_side.ensures
@@ -22,7 +23,8 @@ pub returns-in_ok-put-in-Some-OpenBracket : goal.returns-in_ok-put-in-Some-OpenB
 returns-in_ok-put-in-Some-OpenBracket g c =
     let kinds = map g.T.HasKind.kind_of c.args.tokens.now in
     let put = ap (λ ss. to_come (coming.Side side.Expression) ++ ss) (behind c.args.stack.now.items _ _ c.in_ok-put-in-Some-OpenBracket.ensures) in
-    then_ok c.take_side-in-Some-OpenBracket.result kinds c.args.from (c.args.from + 4) (events_of c.args.events.now.items) (events_of c.note_at.new.events.items)
+    then_ok c.take_side-in-Some-OpenBracket.result kinds c.args.from (c.args.from + 4) (events_of c.args.events.now.items)
+    (events_of c.note_at.new.events.items)
     (events_of c.take_side-in-Some-OpenBracket.new.events.items) _ _ _
     (told_on kinds _ _ _ _ _ _ _ put
     (all_on kinds INDEX_ASSIGN INDEX_NOTES c.args.from (events_of c.args.events.now.items) (events_of c.note_at.new.events.items) _ _

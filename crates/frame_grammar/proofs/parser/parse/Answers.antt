@@ -14,7 +14,8 @@ use Rattle.frame_grammar.proofs.parser.parse.Goals as goal
 pub loop-place-init : goal.loop-place-init
 loop-place-init g c =
     let start = c.in_ok-push.ensures.items ∙ ap (λ xs. xs ++ waiting.Nonterminal c.args.start ∷ []) c.new-stack.ensures.items in
-    subst₂ (λ es ss. Between c.args.start (map g.T.HasKind.kind_of c.args.tokens.now) 0 es ss) (sym (ap events_of c.new-events.ensures.items)) (ap standing (sym start))
+    subst₂ (λ es ss. Between c.args.start (map g.T.HasKind.kind_of c.args.tokens.now) 0 es ss) (sym (ap events_of c.new-events.ensures.items))
+    (ap standing (sym start))
     (between_start c.args.start (map g.T.HasKind.kind_of c.args.tokens.now) c.requires.start)
 
 pub returns-in_default-clause-fault : goal.returns-in_default-clause-fault
@@ -37,7 +38,8 @@ pub unreachable-requires : goal.unreachable-requires
 unreachable-requires g c =
     let kinds = map g.T.HasKind.kind_of c.args.tokens.now in
     let past : length kinds ≤ c.loop-place.place = omega (arith, length-map c.args.tokens.now g.T.HasKind.kind_of, c.loop-place-test.false) in
-    never_left c.args.start kinds c.loop-place.place (events_of c.loop-place.events.items) (standing c.loop-place.stack.items) c.requires.start c.requires.ended past c.loop-place.invariant
+    never_left c.args.start kinds c.loop-place.place (events_of c.loop-place.events.items)
+    (standing c.loop-place.stack.items) c.requires.start c.requires.ended past c.loop-place.invariant
 
 pub loop-place-smaller-then-is_at_items : goal.loop-place-smaller-then-is_at_items
 loop-place-smaller-then-is_at_items g c =
@@ -49,8 +51,10 @@ loop-place-preserved-then-is_at_items g c =
     let kinds = map g.T.HasKind.kind_of c.args.tokens.now in
     let taken = MatchOption-at_some _ _ c.in-Some.next c.in-Some.is c.in_ok-next.ensures in
     let stack = c.take_from.new.stack.items in
-    let last = subst (λ xs. slice_get xs (length xs - 1) ≡ Some (waiting.Nonterminal Items)) c.deref.ensures.value (c.is_at_items.ensures c.if-is_at_items.true) in
+    let last = subst (λ xs. slice_get xs (length xs - 1) ≡ Some (waiting.Nonterminal Items)) c.deref.ensures.value
+    (c.is_at_items.ensures c.if-is_at_items.true) in
     let seen = last_on_top stack (waiting.Nonterminal Items) last in
     let more = taken.more c.args.start c.loop-place.invariant (full_stack stack _ c.take_from.new.stack.ok.0 (sym c.if-is_empty.ensures)) in
     subst (λ ss. Between c.args.start kinds c.in_ok-place.place (events_of c.take_lines.new.events.items) ss) (sym seen)
-    (c.in_ok-place.ensures.between c.args.start (standing (take (length stack - 1) stack)) (subst (Between c.args.start kinds c.in-Some.next (events_of c.take_from.new.events.items)) seen more))
+    (c.in_ok-place.ensures.between c.args.start (standing (take (length stack - 1) stack))
+    (subst (Between c.args.start kinds c.in-Some.next (events_of c.take_from.new.events.items)) seen more))

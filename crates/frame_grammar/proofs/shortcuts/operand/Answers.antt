@@ -10,7 +10,8 @@ use Rattle.frame_grammar.proofs.shortcuts.operand.Goals as goal
 
 pub returns-in_ok-note_both-in-Name : goal.returns-in_ok-note_both-in-Name
 returns-in_ok-note_both-in-Name c =
-    told c.args.ahead _ c.args.place (events_of c.args.events.now.items) _ _ _ _ _ c.in-Name.is (both (events_of c.args.events.now.items) _ _ _ c.in_ok-note_both-in-Name.ensures) refl
+    told c.args.ahead _ c.args.place (events_of c.args.events.now.items) _ _ _ _ _ c.in-Name.is
+    (both (events_of c.args.events.now.items) _ _ _ c.in_ok-note_both-in-Name.ensures) refl
     (name c.args.place (events_of c.args.events.now.items) (standing c.args.stack.now.items))
 
 pub returns-in_ok-put-in-Number : goal.returns-in_ok-put-in-Number

@@ -17,5 +17,6 @@ returns-in_ok-push_rest-in-Some c =
     let done = events_of c.args.events.now.items in
     let rest = c.in_ok-push_rest-in-Some.ensures _ (drop 1 (body_of p)) (statement_begins c.args.ahead p c.in-Some.ensures)
     ∙ ap (λ ss. drop 1 (body_of p) ++ ss) (behind old _ (waiting.Nonterminal nonterminal.AfterItem ∷ []) c.in_ok-put-in-Some.ensures) in
-    subst (λ es. Takes c.args.ahead c.args.place done (symbol.Nonterminal nonterminal.Items ∷ standing old) es (standing c.push_rest.new.stack.items)) (sym c.in_ok-note-in-Some.ensures)
+    subst (λ es. Takes c.args.ahead c.args.place done (symbol.Nonterminal nonterminal.Items ∷ standing old) es (standing c.push_rest.new.stack.items))
+    (sym c.in_ok-note-in-Some.ensures)
     (item_taken c.args.ahead p c.args.place done (standing old) (standing c.push_rest.new.stack.items) c.in-Some.ensures rest)

@@ -12,6 +12,9 @@ use Rattle.frame_grammar.proofs.values.take_next_value.Goals as goal
 pub returns-in-Some-clause-taken : goal.returns-in-Some-clause-taken
 returns-in-Some-clause-taken c =
     let items = c.args.stack.now in
-    next_taken c.take_part.result c.in-Some.value c.args.action c.args.ahead c.args.place (events_of c.args.events.now.items) (events_of c.take_part.new.events.items) (standing items)
-    (standing (take (length items - 1) items)) (subst (λ o. IfSome o (λ value. rest_of value ≡ symbol.Action c.args.action ∷ [])) c.in-Some.is c.ended_by.ensures.rest)
-    (last_on_top items (waiting.Nonterminal MoreValues) (values_wait _ (sym c.has_values_on_top.ensures ∙ c.if-has_values_on_top.true))) c.take_part.ensures.taken
+    next_taken c.take_part.result c.in-Some.value c.args.action c.args.ahead c.args.place (events_of c.args.events.now.items)
+    (events_of c.take_part.new.events.items) (standing items)
+    (standing (take (length items - 1) items)) (subst (λ o. IfSome o (λ value. rest_of value ≡ symbol.Action c.args.action ∷ [])) c.in-Some.is
+    c.ended_by.ensures.rest)
+    (last_on_top items (waiting.Nonterminal MoreValues) (values_wait _ (sym c.has_values_on_top.ensures ∙ c.if-has_values_on_top.true)))
+    c.take_part.ensures.taken

@@ -17,7 +17,8 @@ returns-then-more-from c =
     let l = c.loop-statement in
     sym l.invariant.rest
     ∙ text_words (setting c.args.script.now (columns_of c.args.table.now)) c.deref-statement-items.result.now l.statement-index c.statement-item.result
-    l.jobs l.words c.jobs_of-jobs.result c.words_of-more.result (omega arith) c.statement-item.is c.jobs_of-jobs.ensures c.words_of-more.ensures (omega arith) (omega arith)
+    l.jobs l.words c.jobs_of-jobs.result c.words_of-more.result (omega arith) c.statement-item.is c.jobs_of-jobs.ensures c.words_of-more.ensures (omega arith)
+    (omega arith)
 
 pub loop-statement-preserved : goal.loop-statement-preserved
 loop-statement-preserved c =

@@ -69,4 +69,5 @@ returns-in_default-clause-read c begun =
 pub unreachable-requires : goal.unreachable-requires
 unreachable-requires c =
     let notes = c.args.notes.now in
-    never_out (events_of notes) c.loop-index.index (reading_of c.loop-index.reader) (noted_out notes c.loop-index.index c.loop-index-test.false) c.loop-index.invariant c.requires.begun
+    never_out (events_of notes) c.loop-index.index (reading_of c.loop-index.reader)
+    (noted_out notes c.loop-index.index c.loop-index-test.false) c.loop-index.invariant c.requires.begun

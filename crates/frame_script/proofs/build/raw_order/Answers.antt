@@ -67,4 +67,5 @@ listed_order-requires-clause-words c =
 pub unreachable-requires : goal.unreachable-requires
 unreachable-requires c =
     let notes = c.args.notes.now in
-    never_out (events_of notes) c.loop-index.index (only_words c.loop-index.words) (noted_out notes c.loop-index.index c.loop-index-test.false) c.loop-index.invariant.read c.requires
+    never_out (events_of notes) c.loop-index.index (only_words c.loop-index.words)
+    (noted_out notes c.loop-index.index c.loop-index-test.false) c.loop-index.invariant.read c.requires

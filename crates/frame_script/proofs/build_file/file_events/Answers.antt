@@ -12,11 +12,15 @@ use Rattle.frame_script.specs.Raw.{IsFile}
 use Rattle.frame_script.proofs.Files.{is_file}
 use Rattle.frame_script.proofs.build_file.file_events.Goals as goal
 
-found_items : (all : List TokenKind) (result : Result Sentence ParseError) → IfOk result (λ found. IsOnlySentence File all found.read (events_of found.events.items)) → IfOk result (λ found. IsFile all (events_of found.events.items))
+found_items : (all : List TokenKind) (result : Result Sentence ParseError)
+    → IfOk result (λ found. IsOnlySentence File all found.read (events_of found.events.items))
+    → IfOk result (λ found. IsFile all (events_of found.events.items))
 found_items all (Ok found) is = is_file all found.read (events_of found.events.items) is
 found_items all (Err e) is = tt
 
-found_names : (all : List TokenKind) (result : Result Sentence ParseError) → IfOk result (λ found. IsOnlySentence File all found.read (events_of found.events.items)) → IfOk result (λ found. NamesStand all (events_of found.events.items))
+found_names : (all : List TokenKind) (result : Result Sentence ParseError)
+    → IfOk result (λ found. IsOnlySentence File all found.read (events_of found.events.items))
+    → IfOk result (λ found. NamesStand all (events_of found.events.items))
 found_names all (Ok found) is = names_stand File all found.read (events_of found.events.items) is
 found_names all (Err e) is = tt
 

@@ -19,7 +19,8 @@ raw_order-requires c =
     let at = c.args.at in
     let within : at < length notes = omega (arith, noted_length notes) in
     let here = noted_next notes at _ c.event-event.result within c.event-event.ensures in
-    order_begins all (drop (at + 1) all) _ at c.event-event.result c.requires.spelled.items here (noted_from notes (at + 1)) c.in-StartStatement.is c.requires.spelled.spells
+    order_begins all (drop (at + 1) all) _ at c.event-event.result c.requires.spelled.items here
+    (noted_from notes (at + 1)) c.in-StartStatement.is c.requires.spelled.spells
 
 pub kernel_len-requires : goal.kernel_len-requires
 kernel_len-requires c =
@@ -39,7 +40,8 @@ overflow_add-result-in-StartStatement c =
     let within : at < length notes = omega (arith, noted_length notes) in
     let here = noted_next notes at _ c.event-event.result within c.event-event.ensures in
     let found = c.in_ok-found-in-StartStatement.found in
-    let leads = order_leads all (drop (at + 1) all) _ at c.event-event.result c.requires.spelled.items found.order found.read here (noted_from notes (at + 1)) c.in-StartStatement.is
+    let leads = order_leads all (drop (at + 1) all) _ at c.event-event.result c.requires.spelled.items found.order found.read here
+    (noted_from notes (at + 1)) c.in-StartStatement.is
     c.requires.spelled.spells c.in_ok-found-in-StartStatement.ensures.form c.in_ok-found-in-StartStatement.ensures.read in
     omega (arith, leads.1, noted_length notes)
 

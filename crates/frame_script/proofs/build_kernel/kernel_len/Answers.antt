@@ -11,7 +11,8 @@ returns-then-closes c k =
     let i = c.loop-index.index in
     let e = c.event.result in
     let here = noted_at notes i _ e c.loop-index-test.true c.event.ensures in
-    closed_step (events_of notes) i e (noted_within notes i c.loop-index-test.true) (ap (λ x. closes x.action) here ∙ sym c.closes.ensures ∙ c.if-closes.true) c.loop-index.invariant
+    closed_step (events_of notes) i e (noted_within notes i c.loop-index-test.true)
+    (ap (λ x. closes x.action) here ∙ sym c.closes.ensures ∙ c.if-closes.true) c.loop-index.invariant
     ∙ kernel_ends (events_of notes) k
 
 pub loop-index-preserved : goal.loop-index-preserved
@@ -20,7 +21,8 @@ loop-index-preserved c =
     let i = c.loop-index.index in
     let e = c.event.result in
     let here = noted_at notes i _ e c.loop-index-test.true c.event.ensures in
-    open_step (events_of notes) i e (noted_within notes i c.loop-index-test.true) (ap (λ x. closes x.action) here ∙ sym c.closes.ensures ∙ c.if-closes.false) c.loop-index.invariant
+    open_step (events_of notes) i e (noted_within notes i c.loop-index-test.true)
+    (ap (λ x. closes x.action) here ∙ sym c.closes.ensures ∙ c.if-closes.false) c.loop-index.invariant
 
 pub unreachable-requires : goal.unreachable-requires
 unreachable-requires c =

@@ -11,9 +11,11 @@ pub loop-handle-preserved : goal.loop-handle-preserved
 loop-handle-preserved c =
     let f : ℕ → Option StaticFault = use_fault c.args.source c.args.names.now (Handle ∷ []) in
     record {
-      passed = passed_more f c.args.handles.now c.loop-handle.handle-index c.handle-item.result _ (omega arith) c.loop-handle.invariant.passed c.handle-item.is c.in_ok-place.ensures.0;
+      passed = passed_more f c.args.handles.now c.loop-handle.handle-index c.handle-item.result _
+          (omega arith) c.loop-handle.invariant.passed c.handle-item.is c.in_ok-place.ensures.0;
       places = λ m. c.in_ok-push.ensures.items
-          ∙ kept_more (place_of c.args.source (names_with c.args.source c.args.names.now m)) c.args.handles.now c.loop-handle.handle-index c.handle-item.result c.in_ok-place.place
+          ∙ kept_more (place_of c.args.source (names_with c.args.source c.args.names.now m)) c.args.handles.now c.loop-handle.handle-index c.handle-item.result
+          c.in_ok-place.place
           c.loop-handle.places.items (omega arith) (c.loop-handle.invariant.places m) c.handle-item.is (c.in_ok-place.ensures.1 m);
     }
 
@@ -21,7 +23,8 @@ pub returns-in_err-place : goal.returns-in_err-place
 returns-in_err-place c =
     let f : ℕ → Option StaticFault = use_fault c.args.source c.args.names.now (Handle ∷ []) in
     exits _ _ c.from_residual.result _ c.from_residual.ensures.1
-    (stopped_here f c.args.handles.now c.loop-handle.handle-index c.handle-item.result _ _ (omega arith) c.loop-handle.invariant.passed c.handle-item.is (refuses _ _ c.in_err-place.ensures))
+    (stopped_here f c.args.handles.now c.loop-handle.handle-index c.handle-item.result _ _ (omega arith) c.loop-handle.invariant.passed c.handle-item.is
+    (refuses _ _ c.in_err-place.ensures))
 
 pub returns-in_err-push : goal.returns-in_err-push
 returns-in_err-push c = exits_without_memory _ _ c.from_residual-in_err-push.result c.from_residual-in_err-push.ensures.1
@@ -31,5 +34,6 @@ returns c =
     let f : ℕ → Option StaticFault = use_fault c.args.source c.args.names.now (Handle ∷ []) in
     let end : length c.args.handles.now ≤ c.loop-handle.handle-index = omega arith in (
       all_passed f c.args.handles.now c.loop-handle.handle-index _ end c.loop-handle.invariant.passed,
-      (λ m. all_taken (place_of c.args.source (names_with c.args.source c.args.names.now m)) c.args.handles.now c.loop-handle.handle-index _ end (c.loop-handle.invariant.places m)),
+      (λ m. all_taken (place_of c.args.source (names_with c.args.source c.args.names.now m)) c.args.handles.now c.loop-handle.handle-index _ end
+          (c.loop-handle.invariant.places m)),
     )

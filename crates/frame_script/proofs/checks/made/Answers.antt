@@ -18,15 +18,18 @@ returns-in_err-short_text c =
     let made = made_new s names c.args.kind c.args.at (length names) (search rules) (search rules) refl in
     exits _ _ c.from_residual.result _ c.from_residual.ensures.1
     (refuses_next (remake_fault s names c.args.kind c.args.at) (long_fault s c.args.at ∷ []) _ made.0
-    (refuses_here (long_fault s c.args.at) [] _ (subst (λ t. Refuses (long_in c.args.at t) c.in_err-short_text.field-0.0) c.text-text.ensures (refuses _ _ c.in_err-short_text.ensures))))
+    (refuses_here (long_fault s c.args.at) [] _ (subst (λ t. Refuses (long_in c.args.at t) c.in_err-short_text.field-0.0) c.text-text.ensures
+    (refuses _ _ c.in_err-short_text.ensures))))
 
 pub returns-in_default : goal.returns-in_default
 returns-in_default c =
     let s = c.args.source in
     let names = c.args.names.now in
     let made = made_new s names c.args.kind c.args.at c.len.result (search rules) (search rules) c.len.ensures.length in
-    let short : long_fault s c.args.at ≡ None = subst (λ t. long_in c.args.at t ≡ None) c.text-text.ensures c.in_ok-short_text.ensures.0 in
-    (first_none (remake_fault s names c.args.kind c.args.at) (long_fault s c.args.at ∷ []) made.0 (first_none (long_fault s c.args.at) [] short first_end), made.1)
+    let short : long_fault s c.args.at ≡ None = subst (λ t. long_in c.args.at t ≡ None) c.text-text.ensures c.in_ok-short_text.ensures.0 in (
+      first_none (remake_fault s names c.args.kind c.args.at) (long_fault s c.args.at ∷ []) made.0 (first_none (long_fault s c.args.at) [] short first_end),
+      made.1,
+    )
 
 pub returns-then-not-is_among : goal.returns-then-not-is_among
 returns-then-not-is_among c =
@@ -41,15 +44,20 @@ pub returns-in_err-short_text-2 : goal.returns-in_err-short_text-2
 returns-in_err-short_text-2 c =
     let s = c.args.source in
     let names = c.args.names.now in
-    let made = made_again s names c.args.kind c.in-Some.known c.args.at c.in-Some.place (search rules) (search rules) (sym c.if-not-is_among.false ∙ c.is_among.ensures) in
+    let made = made_again s names c.args.kind c.in-Some.known c.args.at c.in-Some.place (search rules) (search rules)
+    (sym c.if-not-is_among.false ∙ c.is_among.ensures) in
     exits _ _ c.from_residual-in_err-short_text-2.result _ c.from_residual-in_err-short_text-2.ensures.1
     (refuses_next (remake_fault s names c.args.kind c.args.at) (long_fault s c.args.at ∷ []) _ made.0
-    (refuses_here (long_fault s c.args.at) [] _ (subst (λ t. Refuses (long_in c.args.at t) c.in_err-short_text-2.field-0.0) c.text-text.ensures (refuses _ _ c.in_err-short_text-2.ensures))))
+    (refuses_here (long_fault s c.args.at) [] _ (subst (λ t. Refuses (long_in c.args.at t) c.in_err-short_text-2.field-0.0) c.text-text.ensures
+    (refuses _ _ c.in_err-short_text-2.ensures))))
 
 pub returns : goal.returns
 returns c =
     let s = c.args.source in
     let names = c.args.names.now in
-    let made = made_again s names c.args.kind c.in-Some.known c.args.at c.in-Some.place (search rules) (search rules) (sym c.if-not-is_among.false ∙ c.is_among.ensures) in
-    let short : long_fault s c.args.at ≡ None = subst (λ t. long_in c.args.at t ≡ None) c.text-text.ensures c.in_ok-short_text-2.ensures.0 in
-    (first_none (remake_fault s names c.args.kind c.args.at) (long_fault s c.args.at ∷ []) made.0 (first_none (long_fault s c.args.at) [] short first_end), made.1)
+    let made = made_again s names c.args.kind c.in-Some.known c.args.at c.in-Some.place (search rules) (search rules)
+    (sym c.if-not-is_among.false ∙ c.is_among.ensures) in
+    let short : long_fault s c.args.at ≡ None = subst (λ t. long_in c.args.at t ≡ None) c.text-text.ensures c.in_ok-short_text-2.ensures.0 in (
+      first_none (remake_fault s names c.args.kind c.args.at) (long_fault s c.args.at ∷ []) made.0 (first_none (long_fault s c.args.at) [] short first_end),
+      made.1,
+    )

@@ -20,11 +20,13 @@ returns-in_ok-copy-in-Schedule c =
 pub returns-in_ok-to_vec-in-Combine : goal.returns-in_ok-to_vec-in-Combine
 returns-in_ok-to_vec-in-Combine c =
     let handles = c.in_ok-to_vec-in-Combine.field-0 in
-    let same : handles.items ≡ c.in-Combine.of.items = c.in_ok-to_vec-in-Combine.ensures.items_if_clones_equal (λ x y e. e) ∙ c.deref-in-Combine.ensures.value in
+    let same : handles.items ≡ c.in-Combine.of.items = c.in_ok-to_vec-in-Combine.ensures.items_if_clones_equal (λ x y e. e)
+    ∙ c.deref-in-Combine.ensures.value in
     subst (λ o. IsCopyOf o (order.Combine c.in-Combine.name handles)) (sym c.in-Combine.is) (handles, same, refl)
 
 pub returns-in_ok-to_vec-in-Dispose : goal.returns-in_ok-to_vec-in-Dispose
 returns-in_ok-to_vec-in-Dispose c =
     let handles = c.in_ok-to_vec-in-Dispose.field-0 in
-    let same : handles.items ≡ c.in-Dispose.after.items = c.in_ok-to_vec-in-Dispose.ensures.items_if_clones_equal (λ x y e. e) ∙ c.deref-in-Dispose.ensures.value in
+    let same : handles.items ≡ c.in-Dispose.after.items = c.in_ok-to_vec-in-Dispose.ensures.items_if_clones_equal (λ x y e. e)
+    ∙ c.deref-in-Dispose.ensures.value in
     subst (λ o. IsCopyOf o (order.Dispose c.in-Dispose.name handles c.in-Dispose.handle)) (sym c.in-Dispose.is) (handles, same, refl)

@@ -19,14 +19,16 @@ use Rattle.frame_script.proofs.Loads.{IsRead, read_of, spelled, script_accepted,
 use Rattle.frame_script.proofs.load.parse_script.Goals as goal
 
 -- what is said of the marks and notes that the parser was given and answers holds of those of the file
-of_file : (P : List TokenKind → List Event → Type 0) (s : Source) (marks : List Mark) (notes found : List Note) → marks ≡ s.marks.now → notes ≡ found → P (map kind_of marks) (events_of found) → P (kinds (file_tokens s)) (events_of notes)
+of_file : (P : List TokenKind → List Event → Type 0) (s : Source) (marks : List Mark) (notes found : List Note) → marks ≡ s.marks.now → notes ≡ found
+    → P (map kind_of marks) (events_of found) → P (kinds (file_tokens s)) (events_of notes)
 of_file P s marks notes found marks_are notes_are p =
     subst (λ ns. P (kinds (file_tokens s)) (events_of ns)) (sym notes_are) (subst (λ ks. P ks (events_of found)) (kinds_in_file s marks marks_are) p)
 
 pub file_events-requires-clause-few : goal.file_events-requires-clause-few
 file_events-requires-clause-few c =
     let bytes = c.args.source.now in
-    let lexed : tokens_in bytes 1 c.deref.result.now ≡ up_to_bad (tokens_of bytes) = ap (tokens_in bytes 1) c.deref.ensures.value ∙ c.in_ok-marks.ensures.tokens in
+    let lexed : tokens_in bytes 1 c.deref.result.now ≡ up_to_bad (tokens_of bytes) = ap (tokens_in bytes 1) c.deref.ensures.value
+    ∙ c.in_ok-marks.ensures.tokens in
     omega (arith, few_marks bytes c.deref.result.now lexed, c.requires)
 
 pub file_events-requires-clause-ended : goal.file_events-requires-clause-ended
@@ -69,7 +71,10 @@ pub returns-in_err-walk-clause-refused : goal.returns-in_err-walk-clause-refused
 returns-in_err-walk-clause-refused c line kind is =
     let bytes = c.args.source.now in
     let s : Source = record { bytes = c.args.source; marks = c.deref-2.result } in
-    let read : IsRead bytes s (events_of c.deref-3.result.now) = read_of bytes s c.deref.result.now c.in-Ok.found.read c.deref-3.result.now c.in-Ok.found.events.items refl (c.deref.ensures.value ∙ sym c.deref-2.ensures.value) (ap (tokens_in bytes 1) c.deref.ensures.value ∙ c.in_ok-marks.ensures.tokens) (subst (All IsOfKind) (sym c.deref.ensures.value) c.in_ok-marks.ensures.exact) c.deref-3.ensures.value c.in-Ok.ensures.sentence in
+    let read : IsRead bytes s (events_of c.deref-3.result.now) = read_of bytes s c.deref.result.now c.in-Ok.found.read c.deref-3.result.now
+    c.in-Ok.found.events.items refl (c.deref.ensures.value ∙ sym c.deref-2.ensures.value)
+    (ap (tokens_in bytes 1) c.deref.ensures.value ∙ c.in_ok-marks.ensures.tokens)
+    (subst (All IsOfKind) (sym c.deref.ensures.value) c.in_ok-marks.ensures.exact) c.deref-3.ensures.value c.in-Ok.ensures.sentence in
     let told = exit_is c.from_residual-in_err-walk.result _ (load.Refused line kind) c.from_residual-in_err-walk.ensures.1 is in
     refused_statically bytes s (events_of c.deref-3.result.now) line kind read (c.in_err-walk.ensures.refused line kind (ap (λ e. Err e) told))
 
@@ -77,18 +82,26 @@ pub returns-clause-script : goal.returns-clause-script
 returns-clause-script c =
     let bytes = c.args.source.now in
     let s : Source = record { bytes = c.args.source; marks = c.deref-2.result } in
-    let read : IsRead bytes s (events_of c.deref-3.result.now) = read_of bytes s c.deref.result.now c.in-Ok.found.read c.deref-3.result.now c.in-Ok.found.events.items refl (c.deref.ensures.value ∙ sym c.deref-2.ensures.value) (ap (tokens_in bytes 1) c.deref.ensures.value ∙ c.in_ok-marks.ensures.tokens) (subst (All IsOfKind) (sym c.deref.ensures.value) c.in_ok-marks.ensures.exact) c.deref-3.ensures.value c.in-Ok.ensures.sentence in
-    if_ok c.script_of.result (λ script g. spelled bytes s (events_of c.deref-3.result.now) c.in_ok-walk.walk script read c.in_ok-walk.ensures.through g) c.script_of.ensures.script
+    let read : IsRead bytes s (events_of c.deref-3.result.now) = read_of bytes s c.deref.result.now c.in-Ok.found.read c.deref-3.result.now
+    c.in-Ok.found.events.items refl (c.deref.ensures.value ∙ sym c.deref-2.ensures.value)
+    (ap (tokens_in bytes 1) c.deref.ensures.value ∙ c.in_ok-marks.ensures.tokens)
+    (subst (All IsOfKind) (sym c.deref.ensures.value) c.in_ok-marks.ensures.exact) c.deref-3.ensures.value c.in-Ok.ensures.sentence in
+    if_ok c.script_of.result (λ script g. spelled bytes s (events_of c.deref-3.result.now) c.in_ok-walk.walk script read c.in_ok-walk.ensures.through g)
+    c.script_of.ensures.script
 
 pub returns-clause-accepted : goal.returns-clause-accepted
 returns-clause-accepted c =
     let s : Source = record { bytes = c.args.source; marks = c.deref-2.result } in
-    if_ok c.script_of.result (λ script g. script_accepted s (events_of c.deref-3.result.now) c.in_ok-walk.walk script c.in_ok-walk.ensures.through g) c.script_of.ensures.script
+    if_ok c.script_of.result (λ script g. script_accepted s (events_of c.deref-3.result.now) c.in_ok-walk.walk script c.in_ok-walk.ensures.through g)
+    c.script_of.ensures.script
 
 pub returns-clause-refused : goal.returns-clause-refused
 returns-clause-refused c line kind is =
     let bytes = c.args.source.now in
     let s : Source = record { bytes = c.args.source; marks = c.deref-2.result } in
-    let read : IsRead bytes s (events_of c.deref-3.result.now) = read_of bytes s c.deref.result.now c.in-Ok.found.read c.deref-3.result.now c.in-Ok.found.events.items refl (c.deref.ensures.value ∙ sym c.deref-2.ensures.value) (ap (tokens_in bytes 1) c.deref.ensures.value ∙ c.in_ok-marks.ensures.tokens) (subst (All IsOfKind) (sym c.deref.ensures.value) c.in_ok-marks.ensures.exact) c.deref-3.ensures.value c.in-Ok.ensures.sentence in
+    let read : IsRead bytes s (events_of c.deref-3.result.now) = read_of bytes s c.deref.result.now c.in-Ok.found.read c.deref-3.result.now
+    c.in-Ok.found.events.items refl (c.deref.ensures.value ∙ sym c.deref-2.ensures.value)
+    (ap (tokens_in bytes 1) c.deref.ensures.value ∙ c.in_ok-marks.ensures.tokens)
+    (subst (All IsOfKind) (sym c.deref.ensures.value) c.in_ok-marks.ensures.exact) c.deref-3.ensures.value c.in-Ok.ensures.sentence in
     let e = c.script_of.ensures.excess line kind is in
     refused_as_long bytes s (events_of c.deref-3.result.now) c.in_ok-walk.walk line kind read c.in_ok-walk.ensures.through e.0 e.1

@@ -17,9 +17,11 @@ loop-note-preserved c =
     let left = length (signed_from 0 (drop (i + 1) all)) in
     elim c.if-ends_number.branch [
       | then-ends_number w ↦
-          let sum : k + 1 + left ≡ length (values_of all) = counted_on all i k e true next (sym c.ends_number.ensures ∙ w.if-ends_number.true) c.loop-note.invariant.counted in
+          let sum : k + 1 + left ≡ length (values_of all) = counted_on all i k e true next
+          (sym c.ends_number.ensures ∙ w.if-ends_number.true) c.loop-note.invariant.counted in
           record { counted = omega (arith, w.count-is); most = omega (arith, w.count-is, c.loop-note.invariant.most) }
       | else-ends_number w ↦
-          let sum : k + 0 + left ≡ length (values_of all) = counted_on all i k e false next (sym c.ends_number.ensures ∙ w.if-ends_number.false) c.loop-note.invariant.counted in
+          let sum : k + 0 + left ≡ length (values_of all) = counted_on all i k e false next
+          (sym c.ends_number.ensures ∙ w.if-ends_number.false) c.loop-note.invariant.counted in
           record { counted = omega (arith, w.count-is); most = omega (arith, w.count-is, c.loop-note.invariant.most) }
     ]

@@ -21,7 +21,8 @@ returns-in_err-value-in-PlainNumber c =
     let n : RawNumber = record { minus = false; at = at } in
     let next = noted_next notes i _ e c.loop-note-test.true c.event-event.ensures in
     exits _ _ c.from_residual-in_err-value-in-PlainNumber.result _ c.from_residual-in_err-value-in-PlainNumber.ensures.1
-    (stopped_at c.args.source (values_of all) _ (signed_from at (drop (i + 1) all)) n c.loop-note.values.items _ (left_after all i at e PlainNumber next c.in-PlainNumber.is) (refuses _ _ c.in_err-value-in-PlainNumber.ensures) c.loop-note.invariant)
+    (stopped_at c.args.source (values_of all) _ (signed_from at (drop (i + 1) all)) n c.loop-note.values.items _
+    (left_after all i at e PlainNumber next c.in-PlainNumber.is) (refuses _ _ c.in_err-value-in-PlainNumber.ensures) c.loop-note.invariant)
 
 pub returns-in_err-value-in-MinusNumber : goal.returns-in_err-value-in-MinusNumber
 returns-in_err-value-in-MinusNumber c =
@@ -33,7 +34,8 @@ returns-in_err-value-in-MinusNumber c =
     let n : RawNumber = record { minus = true; at = at } in
     let next = noted_next notes i _ e c.loop-note-test.true c.event-event.ensures in
     exits _ _ c.from_residual-in_err-value-in-MinusNumber.result _ c.from_residual-in_err-value-in-MinusNumber.ensures.1
-    (stopped_at c.args.source (values_of all) _ (signed_from at (drop (i + 1) all)) n c.loop-note.values.items _ (left_after all i at e MinusNumber next c.in-MinusNumber.is) (refuses _ _ c.in_err-value-in-MinusNumber.ensures) c.loop-note.invariant)
+    (stopped_at c.args.source (values_of all) _ (signed_from at (drop (i + 1) all)) n c.loop-note.values.items _
+    (left_after all i at e MinusNumber next c.in-MinusNumber.is) (refuses _ _ c.in_err-value-in-MinusNumber.ensures) c.loop-note.invariant)
 
 pub loop-note-preserved : goal.loop-note-preserved
 loop-note-preserved c =
@@ -57,18 +59,21 @@ loop-note-preserved c =
       | in-PlainNumber+in_ok-value-in-PlainNumber+in_ok-push-in-PlainNumber w ↦
           let v = w.in_ok-value-in-PlainNumber in
           subst (λ x. Kept s values (signed_from x more) c.match-event.values.items) (sym w.at-is)
-          (kept_more s values _ (signed_from at more) plain c.loop-note.values.items c.match-event.values.items _ (left_after all i at e PlainNumber next w.in-PlainNumber.is) v.ensures.0
+          (kept_more s values _ (signed_from at more) plain c.loop-note.values.items c.match-event.values.items _
+          (left_after all i at e PlainNumber next w.in-PlainNumber.is) v.ensures.0
           (ap (λ vs. vs.items) w.values-is ∙ w.in_ok-push-in-PlainNumber.ensures.items) (signed_kept s plain v.value v.ensures.0 v.ensures.1) kept)
       | in-MinusNumber+in_ok-value-in-MinusNumber+in_ok-push-in-MinusNumber w ↦
           let v = w.in_ok-value-in-MinusNumber in
           subst (λ x. Kept s values (signed_from x more) c.match-event.values.items) (sym w.at-is)
-          (kept_more s values _ (signed_from at more) minus c.loop-note.values.items c.match-event.values.items _ (left_after all i at e MinusNumber next w.in-MinusNumber.is) v.ensures.0
+          (kept_more s values _ (signed_from at more) minus c.loop-note.values.items c.match-event.values.items _
+          (left_after all i at e MinusNumber next w.in-MinusNumber.is) v.ensures.0
           (ap (λ vs. vs.items) w.values-is ∙ w.in_ok-push-in-MinusNumber.ensures.items) (signed_kept s minus v.value v.ensures.0 v.ensures.1) kept)
       | in_default w ↦
           let d = w.in_default in
           subst (λ x. Kept s values (signed_from x more) c.match-event.values.items) (sym w.at-is)
           (subst (λ vs. Kept s values (signed_from at more) vs.items) (sym w.values-is)
-          (kept_on s values _ (signed_from at more) c.loop-note.values.items (left_alike all i at e next d.not-Number d.not-PlainNumber d.not-MinusNumber) kept))
+          (kept_on s values _ (signed_from at more) c.loop-note.values.items
+          (left_alike all i at e next d.not-Number d.not-PlainNumber d.not-MinusNumber) kept))
     ]
 
 pub returns : goal.returns
@@ -76,4 +81,5 @@ returns c =
     let notes = c.args.notes.now in
     let all = events_of notes in
     let i = c.loop-note.note-index in
-    kept_all c.args.source (values_of all) _ c.loop-note.values.items (ap (signed_from c.loop-note.at) (drop_all i all (noted_out notes i c.loop-note-test.false))) c.loop-note.invariant
+    kept_all c.args.source (values_of all) _ c.loop-note.values.items (ap (signed_from c.loop-note.at)
+    (drop_all i all (noted_out notes i c.loop-note-test.false))) c.loop-note.invariant

@@ -12,8 +12,11 @@ pub returns-in-Err-Refused-clause-refused : goal.returns-in-Err-Refused-clause-r
 returns-in-Err-Refused-clause-refused c line kind is =
     let raw = c.in_ok-raw.raw in
     let known = c.args.kernels.now in
-    let is_raw : IsRawOf c.args.source (events_of c.args.notes.now) raw = raw_of c.args.source (events_of c.args.notes.now) raw c.in_ok-raw.ensures.source c.in_ok-raw.ensures.marks c.in_ok-raw.ensures.line c.in_ok-raw.ensures.spelled in
-    let tells = subst (λ ks. TellsFault raw (first_fault raw ks) (Refused c.in-Err-Refused.line c.in-Err-Refused.kind)) c.as_slice.ensures (subst (TellsFault raw (first_fault raw c.as_slice.result.now)) c.in-Err-Refused.field-0-is c.in-Err-Refused.ensures.refused) in
+    let is_raw : IsRawOf c.args.source (events_of c.args.notes.now) raw =
+    raw_of c.args.source (events_of c.args.notes.now) raw c.in_ok-raw.ensures.source c.in_ok-raw.ensures.marks c.in_ok-raw.ensures.line
+    c.in_ok-raw.ensures.spelled in
+    let tells = subst (λ ks. TellsFault raw (first_fault raw ks) (Refused c.in-Err-Refused.line c.in-Err-Refused.kind)) c.as_slice.ensures
+    (subst (TellsFault raw (first_fault raw c.as_slice.result.now)) c.in-Err-Refused.field-0-is c.in-Err-Refused.ensures.refused) in
     of_refusal (RefusesKernel c.args.source (events_of c.args.notes.now) known) _ line _ kind is
     (kernel_refused c.args.source (events_of c.args.notes.now) raw known _ _ is_raw tells)
 
@@ -32,13 +35,17 @@ pub add-requires-clause-other : goal.add-requires-clause-other
 add-requires-clause-other c =
     let raw = c.in_ok-raw.raw in
     let none : first_fault raw c.args.kernels.now ≡ None = ap (first_fault raw) (sym c.as_slice.ensures) ∙ c.in-Ok.ensures.faultless in
-    name_free raw c.args.kernels.now c.text.result.now none (c.text.ensures ∙ same_text c.args.source (events_of c.args.notes.now) raw raw.name (raw_of c.args.source (events_of c.args.notes.now) raw c.in_ok-raw.ensures.source c.in_ok-raw.ensures.marks c.in_ok-raw.ensures.line c.in_ok-raw.ensures.spelled))
+    name_free raw c.args.kernels.now c.text.result.now none (c.text.ensures
+    ∙ same_text c.args.source (events_of c.args.notes.now) raw raw.name
+    (raw_of c.args.source (events_of c.args.notes.now) raw c.in_ok-raw.ensures.source c.in_ok-raw.ensures.marks c.in_ok-raw.ensures.line
+    c.in_ok-raw.ensures.spelled))
 
 pub returns-clause-added : goal.returns-clause-added
 returns-clause-added c = record {
   raw = c.in_ok-raw.raw;
   kernel = c.in-Ok.kernel;
-  is_raw = raw_of c.args.source (events_of c.args.notes.now) c.in_ok-raw.raw c.in_ok-raw.ensures.source c.in_ok-raw.ensures.marks c.in_ok-raw.ensures.line c.in_ok-raw.ensures.spelled;
+  is_raw = raw_of c.args.source (events_of c.args.notes.now) c.in_ok-raw.raw c.in_ok-raw.ensures.source c.in_ok-raw.ensures.marks c.in_ok-raw.ensures.line
+      c.in_ok-raw.ensures.spelled;
   faultless = ap (first_fault c.in_ok-raw.raw) (sym c.as_slice.ensures) ∙ c.in-Ok.ensures.faultless;
   kernel_is = c.in-Ok.ensures.kernel;
   checked = c.in-Ok.ensures.checked;

@@ -14,5 +14,6 @@ returns-in-None c =
     let raw = c.args.raw.now in
     let names = c.args.names.now in
     let kernels = c.args.kernels.now in
-    said_alone s (names_after s names (form_of raw)) kernels (length c.args.literals.now.items) raw (lists_in c.args.literals.now) (first_some (order_faults s (among names kernels) 0 (form_of raw))) c.check_order.result
+    said_alone s (names_after s names (form_of raw)) kernels (length c.args.literals.now.items) raw (lists_in c.args.literals.now)
+    (first_some (order_faults s (among names kernels) 0 (form_of raw))) c.check_order.result
     (c.in-None.ensures c.requires) c.check_order.ensures

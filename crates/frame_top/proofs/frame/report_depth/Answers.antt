@@ -5,14 +5,21 @@ use Rattle.frame_top.proofs.frame.report_depth.Goals as goal
 
 pub returns-in-Some : goal.returns-in-Some
 returns-in-Some g c =
-    record { answer = when_refuses g.S.Sink.taken g.S.Sink.faults _ _ _ _ _ _ _ c.requires.columns (sym c.in-Some.ensures) c.refuse_script.ensures.said; later = c.refuse_script.ensures.later }
+    record {
+      answer = when_refuses g.S.Sink.taken g.S.Sink.faults _ _ _ _ _ _ _ c.requires.columns (sym c.in-Some.ensures) c.refuse_script.ensures.said;
+      later = c.refuse_script.ensures.later;
+    }
 
 pub plan-requires-clause-whole : goal.plan-requires-clause-whole
 plan-requires-clause-whole g c = none_first c.args.script.now.statements.items (sym c.in_default.ensures)
 
 pub returns-in-Err : goal.returns-in-Err
 returns-in-Err g c =
-    record { answer = no_plan g.S.Sink.taken g.S.Sink.faults _ _ _ _ _ _ _ c.requires.columns (sym c.in_default.ensures) c.in-Err.ensures.limit c.refuse_plan.ensures.said c.refuse_plan.ensures.none; later = c.refuse_plan.ensures.later }
+    record {
+      answer = no_plan g.S.Sink.taken g.S.Sink.faults _ _ _ _ _ _ _ c.requires.columns
+          (sym c.in_default.ensures) c.in-Err.ensures.limit c.refuse_plan.ensures.said c.refuse_plan.ensures.none;
+      later = c.refuse_plan.ensures.later;
+    }
 
 pub returns-in-Ok-print_depth : goal.returns-in-Ok-print_depth
 returns-in-Ok-print_depth g c =

@@ -3,8 +3,15 @@ use Rattle.frame_top.proofs.Framing.{run_answers, plan_answers}
 use Rattle.frame_top.proofs.frame.run_script.Goals as goal
 
 pub returns-in-Ok : goal.returns-in-Ok
-returns-in-Ok g c = record { answer = run_answers _ _ _ _ _ _ _ _ c.requires.columns c.in-Ok.ensures.within c.run_sections.ensures.answer; later = c.run_sections.ensures.later }
+returns-in-Ok g c = record {
+  answer = run_answers _ _ _ _ _ _ _ _ c.requires.columns c.in-Ok.ensures.within c.run_sections.ensures.answer;
+  later = c.run_sections.ensures.later;
+}
 
 pub returns-in-Err : goal.returns-in-Err
 returns-in-Err g c =
-    record { answer = plan_answers g.S.Sink.taken g.S.Sink.faults _ _ false _ _ _ _ _ c.requires.columns refl c.in-Err.ensures.limit c.refuse_plan.ensures.said c.refuse_plan.ensures.none; later = c.refuse_plan.ensures.later }
+    record {
+      answer = plan_answers g.S.Sink.taken g.S.Sink.faults _ _ false _ _ _ _ _ c.requires.columns refl c.in-Err.ensures.limit c.refuse_plan.ensures.said
+          c.refuse_plan.ensures.none;
+      later = c.refuse_plan.ensures.later;
+    }

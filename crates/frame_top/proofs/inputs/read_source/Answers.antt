@@ -16,4 +16,5 @@ returns-in-Run-clause-source g c words asked =
 pub returns-in-Run-clause-too_long : goal.returns-in-Run-clause-too_long
 returns-in-Run-clause-too_long g c e words asked =
     file_long _ _ _ _ _ _ _ _ (subst (IsAsked words) c.in-Run.is asked) c.deref.ensures
-    (subst (λ (most : ℕ). IfSome (g.F.Files.bytes c.args.files.now c.deref.result.now) (λ (b : List ℕ). most < length b)) c.from.ensures (c.read.ensures.too_long e))
+    (subst (λ (most : ℕ). IfSome (g.F.Files.bytes c.args.files.now c.deref.result.now) (λ (b : List ℕ). most < length b)) c.from.ensures
+    (c.read.ensures.too_long e))

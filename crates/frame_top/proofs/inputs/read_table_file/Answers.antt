@@ -18,5 +18,6 @@ returns-in-Run-clause-too_long g c e words asked =
 
 pub returns-in-Run-clause-failed : goal.returns-in-Run-clause-failed
 returns-in-Run-clause-failed g c e words asked =
-    subst (λ (o : Option (List ℕ)). IsUnread (Rose (g.F.Files.faults c.args.files.now) (g.F.Files.faults c.read_named.new.files)) (g.F.Files.last_failed c.read_named.new.files) o)
+    subst (λ (o : Option (List ℕ)). IsUnread (Rose (g.F.Files.faults c.args.files.now) (g.F.Files.faults c.read_named.new.files))
+    (g.F.Files.last_failed c.read_named.new.files) o)
     (sym (table_is _ _ _ _ _ (subst (IsAsked words) c.in-Run.is asked))) (c.read_named.ensures.failed e)

@@ -1,39 +1,24 @@
-use Rattle.std.proofs.Common.{refl, sym, ap, subst, ◌∙◌, is_some, Some}
-use Rattle.std.specs.Prelude.{Vec}
-use Rattle.std.specs.declared.alloc.Global.{Global}
-use Rattle.frame_ast.specs.declared.kernel.Kernel.{Kernel}
-use Rattle.frame_plan.specs.Sections.{AreKernelsOf, AreLeft}
+use Rattle.std.proofs.Common.{◌∙◌}
 use Rattle.frame_plan.specs.Tables.{columns_of}
-use Rattle.frame_top.proofs.Sectioning.{section_last, section_more, job_fits}
+use Rattle.frame_top.proofs.Sectioning.{said_on}
 use Rattle.frame_top.proofs.sections.run_next.Goals as goal
 
-pub returns-in-None-clause-next : goal.returns-in-None-clause-next
-returns-in-None-clause-next g c sections from few was =
-    section_last g.S.Sink.taken g.S.Sink.faults _ _ sections from _ _ _ c.in_ok-section.section c.is_some-keeps.result _ _ _ c.in_ok-run.run' c.join_reports-progress.result
-    c.reports_are_within.ensures was
-    (c.in_ok-section.ensures.section from was.carried was.len was.at was.outcome
-    (subst (λ m. AreLeft m was.carried was.len) (sym c.replace-cells.ensures.value) was.left))
-    c.in_ok-run.ensures.run c.join_reports-progress.ensures.traps c.join_reports-progress.ensures.refused
-    _ refl refl refl c.in-None.is
-
 pub returns-clause-next : goal.returns-clause-next
-returns-clause-next g c sections from few was =
-    section_more g.S.Sink.taken g.S.Sink.faults _ _ sections from _ _ _ c.in_ok-section.section c.is_some-keeps.result _ _ _ c.in_ok-run.run' c.join_reports-progress.result
-    c.reports_are_within.ensures was
-    (c.in_ok-section.ensures.section from was.carried was.len was.at was.outcome
-    (subst (λ m. AreLeft m was.carried was.len) (sym c.replace-cells.ensures.value) was.left))
-    c.in_ok-run.ensures.run c.join_reports-progress.ensures.traps c.join_reports-progress.ensures.refused
-    _ c.in-Some.test refl refl refl c.in-Some.is (c.is_some-keeps.ensures ∙ ap is_some c.in-Some.is) c.holds.ensures.cells refl refl (ap Some c.holds.ensures.held)
+returns-clause-next g c sections from was =
+    said_on g.S.Sink.taken g.S.Sink.faults _ _ sections from _ c.args.progress.now _ _ c.in_ok-section.section.plan c.is_some-keeps.result _ _ _ _ _
+    c.in_ok-ran.ran
+    (c.take_run.ensures.goes _ _ sections from _ (c.in_ok-section.ensures.made sections from was))
+    c.in_ok-ran.ensures.run c.in_ok-section.ensures.waits c.in_ok-section.ensures.failed c.take_run.ensures.waits c.take_run.ensures.failed
 
-pub next-requires-clause-kernels : goal.next-requires-clause-kernels
-next-requires-clause-kernels g c some =
-    subst (λ (v : Vec Kernel Global). AreKernelsOf c.args.book.now c.args.script.now (columns_of c.args.table.now) v.items)
-    (sym c.replace-kernels.ensures.value) (c.requires.here.3.kernels some)
+pub run_section-requires-clause-well : goal.run_section-requires-clause-well
+run_section-requires-clause-well g c lives within =
+    let h = c.requires.here in
+    (c.in_ok-section.ensures.made h.0 h.1 h.3).next.is_section.well_ordered
 
-pub join_reports-progress-requires-clause-job : goal.join_reports-progress-requires-clause-job
-join_reports-progress-requires-clause-job g c some =
-    let was = c.requires.here.3 in
-    let next = c.in_ok-section.ensures.section c.requires.here.1 was.carried was.len was.at was.outcome
-    (subst (λ m. AreLeft m was.carried was.len) (sym c.replace-cells.ensures.value) was.left) in
-    job_fits c.args.script.now (columns_of c.args.table.now) c.requires.here.1 next.to c.in_ok-section.section next.is_section
-    c.requires.accepted c.in_ok-run.run'.report c.reports_are_within.ensures c.in_ok-run.ensures.run.report some
+pub take_run-requires-clause-made : goal.take_run-requires-clause-made
+take_run-requires-clause-made g c =
+    let h = c.requires.here in
+    (c.args.script.now, columns_of c.args.table.now, h.0, h.1, _, c.requires.accepted, h.2, c.in_ok-section.ensures.made h.0 h.1 h.3)
+
+pub take_run-requires-clause-cells : goal.take_run-requires-clause-cells
+take_run-requires-clause-cells g c some = c.in_ok-ran.ensures.run.cells (c.is_some-keeps.ensures ∙ some)

@@ -10,4 +10,5 @@ pub returns-in-Unequal-clause-said : goal.returns-in-Unequal-clause-said
 returns-in-Unequal-clause-said g c other = said_as _ _ _ _ _ _ _ _ (unequal_is _ ∙ sym (ap table_text c.in-Unequal.is)) c.refuse_row.ensures.said
 
 pub returns-in-NotNumber-clause-said : goal.returns-in-NotNumber-clause-said
-returns-in-NotNumber-clause-said g c other = said_as _ _ _ _ _ _ _ _ (no_number_is _ ∙ sym (ap table_text c.in-NotNumber.is)) c.refuse_row-in-NotNumber.ensures.said
+returns-in-NotNumber-clause-said g c other = said_as _ _ _ _ _ _ _ _ (no_number_is _
+    ∙ sym (ap table_text c.in-NotNumber.is)) c.refuse_row-in-NotNumber.ensures.said

@@ -22,7 +22,11 @@ returns-in-Ok-parse_script-clause-answer g c words asked =
     let read : ReadsScript words (g.F.Files.bytes c.args.files.now) c.in-Ok-parse_script.script = record {
       source = c.in-Ok.source.items;
       read = r.source words asked;
-      accepted = record { within = r.within; spelled = subst (λ b. Spells b c.in-Ok-parse_script.script) c.deref.ensures.value c.in-Ok-parse_script.ensures.script };
+      accepted = record {
+        within = r.within;
+        spelled = subst (λ b. Spells b c.in-Ok-parse_script.script) c.deref.ensures.value
+            c.in-Ok-parse_script.ensures.script;
+      };
     } in
     moved words _ _ _ _ _ _ _ _ _ _ _ told (counted _ _ r.count)
     (c.answer_script.ensures.answer words asked (subst (λ t. ReadsScript words t c.in-Ok-parse_script.script) (sym told) read))

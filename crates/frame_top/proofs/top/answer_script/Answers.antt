@@ -16,9 +16,11 @@ returns-in-Err-TooLong-clause-answer g c words asked read =
 pub returns-in-Ok-parse_table-clause-answer : goal.returns-in-Ok-parse_table-clause-answer
 returns-in-Ok-parse_table-clause-answer g c words asked read =
     of_frame words _ _ _ _ (bytes_in c.in-Ok.bytes) _ _ _ _ _ _ _ _ (record { script_is = read; table_is = c.in-Ok.ensures.table words asked })
-    c.in-Ok-parse_table.ensures.sound c.in-Ok-parse_table.ensures.columns (c.options_of.ensures.depth words asked) (c.options_of.ensures.workers words asked) c.answer_frame.ensures.answer
+    c.in-Ok-parse_table.ensures.sound c.in-Ok-parse_table.ensures.columns (c.options_of.ensures.depth words asked)
+    (c.options_of.ensures.workers words asked) c.answer_frame.ensures.answer
 
 pub returns-clause-answer : goal.returns-clause-answer
 returns-clause-answer g c words asked read =
-    of_table words _ _ _ g.S.Sink.taken g.S.Sink.faults _ (bytes_in c.in-Ok.bytes) _ _ _ _ (record { script_is = read; table_is = c.in-Ok.ensures.table words asked })
+    of_table words _ _ _ g.S.Sink.taken g.S.Sink.faults _ (bytes_in c.in-Ok.bytes) _ _ _ _
+    (record { script_is = read; table_is = c.in-Ok.ensures.table words asked })
     c.in-Err.ensures.fault c.refuse_table.ensures.said c.refuse_table.ensures.none

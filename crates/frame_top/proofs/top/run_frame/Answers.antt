@@ -41,7 +41,8 @@ returns-clause-frame_due g c script table a given stands refuses =
 
 pub returns-clause-depth_due : goal.returns-clause-depth_due
 returns-clause-depth_due g c script table frame deep =
-    reported_gives _ _ _ _ _ _ _ (settled _ _ _ _ _ _ _ _ _ _ (IsReported _ _) (λ b why. report_settles _ _ _ _ script table b frame deep why) c.answer_words.ensures.answer)
+    reported_gives _ _ _ _ _ _ _ (settled _ _ _ _ _ _ _ _ _ _ (IsReported _ _)
+    (λ b why. report_settles _ _ _ _ script table b frame deep why) c.answer_words.ensures.answer)
 
 pub returns-clause-taken_all : goal.returns-clause-taken_all
 returns-clause-taken_all g c e = taken_row _ _ _ _ _ _ _ _ _ _ c.answer_words.ensures.answer e

@@ -15,10 +15,12 @@ pub loop-job-preserved : goal.loop-job-preserved
 loop-job-preserved c =
     let levels = c.args.found.now.levels.items in
     let here = subst (λ o. IsWalkedTo c.args.plan.now levels c.args.last o c.loop-job.chain.items) c.in-Some.is c.loop-job.invariant in
-    on_as c.args.plan.now levels c.requires.well _ c.requires.found c.args.last c.in-Some.id c.index-job.result.now _ _ c.index-job.ensures c.in_ok-push.ensures.items here
+    on_as c.args.plan.now levels c.requires.well _ c.requires.found c.args.last c.in-Some.id c.index-job.result.now _ _ c.index-job.ensures
+    c.in_ok-push.ensures.items here
 
 pub returns-clause-some : goal.returns-clause-some
 returns-clause-some c = λ j e.
     let levels = c.args.found.now.levels.items in
     let here = subst (λ o. IsWalkedTo c.args.plan.now levels c.args.last o c.loop-job.chain.items) c.in_default.is c.loop-job.invariant in
-    subst (λ xs. ChosenTo c.args.plan.now levels xs j) (sym c.reverse.ensures.items) (ends_as c.args.plan.now levels c.requires.well _ c.requires.found c.args.last c.loop-job.chain.items here j e)
+    subst (λ xs. ChosenTo c.args.plan.now levels xs j) (sym c.reverse.ensures.items)
+    (ends_as c.args.plan.now levels c.requires.well _ c.requires.found c.args.last c.loop-job.chain.items here j e)

@@ -19,9 +19,11 @@ first-of-both None None c fault h = cc
 
 -- a fault of the name or of the parameters is the first one
 head-first : (raw : RawKernel) (earlier : List Kernel) (fault : StaticFault) →
-    option_or (fault_at raw.name (kernel_name_fault earlier (text_at raw raw.name))) (params_fault raw 0 raw.params.items) ≡ Some fault → first_fault raw earlier ≡ Some fault
+    option_or (fault_at raw.name (kernel_name_fault earlier (text_at raw raw.name))) (params_fault raw 0 raw.params.items) ≡ Some fault
+    → first_fault raw earlier ≡ Some fault
 head-first raw earlier fault h =
-    first-of-both (fault_at raw.name (kernel_name_fault earlier (text_at raw raw.name))) (params_fault raw 0 raw.params.items) (nodes_fault raw 0 raw.nodes.items) fault h
+    first-of-both (fault_at raw.name (kernel_name_fault earlier (text_at raw raw.name))) (params_fault raw 0 raw.params.items)
+    (nodes_fault raw 0 raw.nodes.items) fault h
 
 pub returns-in-Some-clause-refused : goal.returns-in-Some-clause-refused
 returns-in-Some-clause-refused c =
@@ -31,4 +33,5 @@ returns-in-Some-clause-refused c =
 pub returns-in_ok-kernel_of-in-Ok-clause-checked : goal.returns-in_ok-kernel_of-in-Ok-clause-checked
 returns-in_ok-kernel_of-in-Ok-clause-checked c =
     let none : first_fault c.args.raw.now c.args.earlier.now ≡ None = search rules in
-    checked c.requires.is_raw.events c.args.raw.now c.in_ok-kernel_of-in-Ok.field-0 c.args.earlier.now c.requires.is_raw.spells none c.in_ok-kernel_of-in-Ok.ensures
+    checked c.requires.is_raw.events c.args.raw.now c.in_ok-kernel_of-in-Ok.field-0 c.args.earlier.now c.requires.is_raw.spells none
+    c.in_ok-kernel_of-in-Ok.ensures

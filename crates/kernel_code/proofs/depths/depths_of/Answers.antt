@@ -25,7 +25,8 @@ pub overflow_add-depth : goal.overflow_add-depth
 overflow_add-depth c =
     let all = c.requires.0 in
     let are = c.requires.1 in
-    let is = next-depth all c.in_ok-edges.edges.closed.items c.in_ok-edges.edges.opened.items c.loop-i.i (length c.args.nodes.now) c.loop-i.depth c.index.result.now c.index-in-loop-i.result.now
+    let is = next-depth all c.in_ok-edges.edges.closed.items c.in_ok-edges.edges.opened.items c.loop-i.i
+    (length c.args.nodes.now) c.loop-i.depth c.index.result.now c.index-in-loop-i.result.now
     c.loop-i-test.true (omega (arith, c.in_ok-edges.ensures.closed_len)) (omega (arith, c.in_ok-edges.ensures.opened_len))
     (λ k h. c.in_ok-edges.ensures.closed k h ∙ closed-kept all c.args.nodes.now c.args.joined.items are k h)
     (λ k h. c.in_ok-edges.ensures.opened k h ∙ are.begin k (omega (arith, h, kept-few all c.args.nodes.now c.args.joined.items are)))
@@ -36,7 +37,8 @@ pub overflow_cast-depth : goal.overflow_cast-depth
 overflow_cast-depth c =
     let all = c.requires.0 in
     let are = c.requires.1 in
-    let is = next-depth all c.in_ok-edges.edges.closed.items c.in_ok-edges.edges.opened.items c.loop-i.i (length c.args.nodes.now) c.loop-i.depth c.index.result.now c.index-in-loop-i.result.now
+    let is = next-depth all c.in_ok-edges.edges.closed.items c.in_ok-edges.edges.opened.items c.loop-i.i
+    (length c.args.nodes.now) c.loop-i.depth c.index.result.now c.index-in-loop-i.result.now
     c.loop-i-test.true (omega (arith, c.in_ok-edges.ensures.closed_len)) (omega (arith, c.in_ok-edges.ensures.opened_len))
     (λ k h. c.in_ok-edges.ensures.closed k h ∙ closed-kept all c.args.nodes.now c.args.joined.items are k h)
     (λ k h. c.in_ok-edges.ensures.opened k h ∙ are.begin k (omega (arith, h, kept-few all c.args.nodes.now c.args.joined.items are)))
@@ -47,14 +49,16 @@ pub loop-i-preserved : goal.loop-i-preserved
 loop-i-preserved c = record {
   len = grind (arith, common_steps);
   depths = λ all are.
-      let is = next-depth all c.in_ok-edges.edges.closed.items c.in_ok-edges.edges.opened.items c.loop-i.i (length c.args.nodes.now) c.loop-i.depth c.index.result.now c.index-in-loop-i.result.now
+      let is = next-depth all c.in_ok-edges.edges.closed.items c.in_ok-edges.edges.opened.items c.loop-i.i
+      (length c.args.nodes.now) c.loop-i.depth c.index.result.now c.index-in-loop-i.result.now
       c.loop-i-test.true (omega (arith, c.in_ok-edges.ensures.closed_len)) (omega (arith, c.in_ok-edges.ensures.opened_len))
       (λ k h. c.in_ok-edges.ensures.closed k h ∙ closed-kept all c.args.nodes.now c.args.joined.items are k h)
       (λ k h. c.in_ok-edges.ensures.opened k h ∙ are.begin k (omega (arith, h, kept-few all c.args.nodes.now c.args.joined.items are)))
       c.index.ensures c.index-in-loop-i.ensures (c.loop-i.invariant.last all are) in
       below_more _ _ (λ k h. grind (arith, common_steps, c.loop-i.invariant.depths all are k h)) (grind (arith, common_steps));
   last = λ all are.
-      let is = next-depth all c.in_ok-edges.edges.closed.items c.in_ok-edges.edges.opened.items c.loop-i.i (length c.args.nodes.now) c.loop-i.depth c.index.result.now c.index-in-loop-i.result.now
+      let is = next-depth all c.in_ok-edges.edges.closed.items c.in_ok-edges.edges.opened.items c.loop-i.i
+      (length c.args.nodes.now) c.loop-i.depth c.index.result.now c.index-in-loop-i.result.now
       c.loop-i-test.true (omega (arith, c.in_ok-edges.ensures.closed_len)) (omega (arith, c.in_ok-edges.ensures.opened_len))
       (λ k h. c.in_ok-edges.ensures.closed k h ∙ closed-kept all c.args.nodes.now c.args.joined.items are k h)
       (λ k h. c.in_ok-edges.ensures.opened k h ∙ are.begin k (omega (arith, h, kept-few all c.args.nodes.now c.args.joined.items are)))

@@ -25,4 +25,5 @@ pub returns-else-is_one_too_deep : goal.returns-else-is_one_too_deep
 returns-else-is_one_too_deep c all are =
     let is = c.in_ok-depths.ensures all are in
     let none = sym c.is_one_too_deep.ensures ∙ c.if-is_one_too_deep.false in
-    c.new-else-is_one_too_deep.ensures.items ∙ sym (kept-none (take MOST_KEPT (depths_of all)) (ap (list_any (nat_lt 64)) (sym (c.deref.ensures.value ∙ is)) ∙ none))
+    c.new-else-is_one_too_deep.ensures.items ∙ sym (kept-none (take MOST_KEPT (depths_of all))
+    (ap (list_any (nat_lt 64)) (sym (c.deref.ensures.value ∙ is)) ∙ none))

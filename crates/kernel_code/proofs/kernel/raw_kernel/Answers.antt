@@ -20,7 +20,8 @@ few_tokens : (source : List ℕ) (line : ℕ) (marks : List Mark) → line + len
 few_tokens source line marks few = omega (arith, few, length-tokens_in source line marks)
 
 -- how many nodes there are when so many events have been taken
-few_at : (notes : List Note) (source : List ℕ) (line : ℕ) (marks : List Mark) (k : IsKernel (events_of notes) (length (tokens_in source line marks))) → line + length marks < 2 ^ 32 → (i : ℕ) →
+few_at : (notes : List Note) (source : List ℕ) (line : ℕ) (marks : List Mark) (k : IsKernel (events_of notes) (length (tokens_in source line marks)))
+    → line + length marks < 2 ^ 32 → (i : ℕ) →
     length (run nothing_read (take i (events_of (parts_noted notes)))).nodes < 2 ^ 32
 few_at notes source line marks k few i = noted_few notes _ k (few_tokens source line marks few) i
 
@@ -34,7 +35,8 @@ take_first-requires-clause-some c =
 
 pub take_first-requires-clause-space : goal.take_first-requires-clause-space
 take_first-requires-clause-space c =
-    has-space (kept_of c.loop-at.reader) _ c.loop-at.invariant.keeps (few_at c.args.notes.now c.args.source.now c.args.line c.args.marks.now c.requires.kernel c.requires.few c.loop-at.at)
+    has-space (kept_of c.loop-at.reader) _ c.loop-at.invariant.keeps (few_at c.args.notes.now c.args.source.now c.args.line c.args.marks.now c.requires.kernel
+    c.requires.few c.loop-at.at)
 
 pub loop-at-preserved : goal.loop-at-preserved
 loop-at-preserved c =
@@ -43,7 +45,8 @@ loop-at-preserved c =
     let n = c.in_ok-at.field-0 in
     let rest : take (length parts - at) (drop at parts) ≡ drop at parts = take_all (length parts - at) (drop at parts) (omega (arith, length-drop at parts)) in
     let taken : TakesFirst n (drop at (events_of parts)) (kept_of c.loop-at.reader) (kept_of c.take_first.new.reader) =
-    subst (λ es. TakesFirst n es (kept_of c.loop-at.reader) (kept_of c.take_first.new.reader)) (ap events_of rest ∙ sym (drop-map event_of at parts)) c.in_ok-at.ensures in
+    subst (λ es. TakesFirst n es (kept_of c.loop-at.reader) (kept_of c.take_first.new.reader))
+    (ap events_of rest ∙ sym (drop-map event_of at parts)) c.in_ok-at.ensures in
     record {
       within = omega (arith, taken.within, length-drop at (events_of parts), length-map parts event_of, c.loop-at-test.true);
       keeps = taken-keeps (events_of parts) nothing_read at n (kept_of c.loop-at.reader) (kept_of c.take_first.new.reader) c.loop-at.invariant.keeps taken;
@@ -54,14 +57,16 @@ kept_depths-requires c =
     let notes = c.args.notes.now in
     let s = run nothing_read (take c.loop-at.at (events_of (parts_noted notes))) in
     let kept = kept_of c.loop-at.reader in
-    let are = noted_kept notes _ c.requires.kernel kept c.loop-at.at (few_tokens c.args.source.now c.args.line c.args.marks.now c.requires.few) (omega (arith, c.loop-at-test.false)) c.loop-at.invariant.keeps in
+    let are = noted_kept notes _ c.requires.kernel kept c.loop-at.at (few_tokens c.args.source.now c.args.line c.args.marks.now c.requires.few)
+    (omega (arith, c.loop-at-test.false)) c.loop-at.invariant.keeps in
     (s.nodes, subst (λ ns. AreKeptOf s.nodes ns kept.joined) (sym c.deref.ensures.value) are)
 
 pub returns-clause-spelled : goal.returns-clause-spelled
 returns-clause-spelled c =
     let notes = c.args.notes.now in
     let kept = kept_of c.loop-at.reader in
-    let made = made_of notes _ c.requires.kernel kept c.loop-at.at _ _ (few_tokens c.args.source.now c.args.line c.args.marks.now c.requires.few) (omega (arith, c.loop-at-test.false)) c.loop-at.invariant.keeps refl
+    let made = made_of notes _ c.requires.kernel kept c.loop-at.at _ _ (few_tokens c.args.source.now c.args.line c.args.marks.now c.requires.few)
+    (omega (arith, c.loop-at-test.false)) c.loop-at.invariant.keeps refl
     (c.is_parallel.ensures ∙ ap (λ e. is_parallel e.action) c.event.ensures) (ap (λ e. e.place) c.event-2.ensures) refl refl
     (λ all are. c.in_ok-depths.ensures all (subst (λ ns. AreKeptOf all ns kept.joined) (sym c.deref.ensures.value) are)) in
     made.spells
@@ -70,7 +75,9 @@ pub returns-clause-parsed : goal.returns-clause-parsed
 returns-clause-parsed c =
     let notes = c.args.notes.now in
     let kept = kept_of c.loop-at.reader in
-    let made = made_of notes _ c.requires.kernel kept c.loop-at.at _ _ (few_tokens c.args.source.now c.args.line c.args.marks.now c.requires.few) (omega (arith, c.loop-at-test.false)) c.loop-at.invariant.keeps refl
+    let made = made_of notes _ c.requires.kernel kept c.loop-at.at _ _ (few_tokens c.args.source.now c.args.line c.args.marks.now c.requires.few)
+    (omega (arith, c.loop-at-test.false)) c.loop-at.invariant.keeps refl
     (c.is_parallel.ensures ∙ ap (λ e. is_parallel e.action) c.event.ensures) (ap (λ e. e.place) c.event-2.ensures) refl refl
     (λ all are. c.in_ok-depths.ensures all (subst (λ ns. AreKeptOf all ns kept.joined) (sym c.deref.ensures.value) are)) in
-    parsed c.args.source.now (tokens_in c.args.source.now c.args.line c.args.marks.now) (events_of notes) _ refl refl made.spells made.within c.requires.text c.requires.named c.requires.few
+    parsed c.args.source.now (tokens_in c.args.source.now c.args.line c.args.marks.now)
+    (events_of notes) _ refl refl made.spells made.within c.requires.text c.requires.named c.requires.few

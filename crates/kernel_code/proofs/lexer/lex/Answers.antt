@@ -18,7 +18,8 @@ loop-place-init c =
       in_range = omega (arith, c.mark_len-place.ensures, within);
       exact = subst (All IsOfKind) (sym c.new-marks.ensures.items) (All-nil IsOfKind);
       so_far =
-          ap (λ ms. tokens_in source 1 ms ++ up_to_bad (tokens_from 0 c.mark_len-place.result (1 + lines_in ms) (drop c.mark_len-place.result source))) c.new-marks.ensures.items
+          ap (λ ms. tokens_in source 1 ms ++ up_to_bad (tokens_from 0 c.mark_len-place.result (1 + lines_in ms) (drop c.mark_len-place.result source)))
+          c.new-marks.ensures.items
           ∙ ap (λ n. up_to_bad (tokens_from 0 n 1 (drop n source))) c.mark_len-place.ensures
           ∙ ap up_to_bad (tokens_of-start source within);
     }
@@ -28,7 +29,8 @@ loop-place-preserved-in-Some c =
     let token = c.in-Some.ensures.token in
     record {
       in_range = token.within;
-      exact = subst (All IsOfKind) (sym c.in_ok-push.ensures.items) (All-push IsOfKind c.loop-place.marks.items c.of.result c.loop-place.invariant.exact c.of.ensures.exact);
+      exact = subst (All IsOfKind) (sym c.in_ok-push.ensures.items) (All-push IsOfKind c.loop-place.marks.items c.of.result c.loop-place.invariant.exact
+          c.of.ensures.exact);
       so_far = mark_turn c.args.source.now c.loop-place.place _ _ _ c.loop-place.marks.items _ c.of.result _
           c.loop-place-test.true token.kind_is token.end_is token.some token.within refl token.fine
           c.of.ensures.kind c.of.ensures.start c.in_ok-push.ensures.items c.loop-place.invariant.so_far;
@@ -39,10 +41,13 @@ loop-place-preserved-else-is_bad c =
     let word = c.front_at-word in
     record {
       in_range = word.ensures.within;
-      exact = subst (All IsOfKind) (sym c.in_ok-push-2.ensures.items) (All-push IsOfKind c.loop-place.marks.items c.of-in-Some-kind.result c.loop-place.invariant.exact c.of-in-Some-kind.ensures.exact);
-      so_far = mark_turn c.args.source.now c.loop-place.place word.result.end word.result.kind c.in-Some-kind.kind c.loop-place.marks.items _ c.of-in-Some-kind.result _
+      exact = subst (All IsOfKind) (sym c.in_ok-push-2.ensures.items) (All-push IsOfKind c.loop-place.marks.items c.of-in-Some-kind.result
+          c.loop-place.invariant.exact c.of-in-Some-kind.ensures.exact);
+      so_far = mark_turn c.args.source.now c.loop-place.place word.result.end word.result.kind c.in-Some-kind.kind c.loop-place.marks.items _
+          c.of-in-Some-kind.result _
           c.loop-place-test.true word.ensures.kind word.ensures.end word.ensures.some word.ensures.within
-          c.in-Some-kind.is (sym c.is_bad.ensures ∙ c.if-is_bad.false) c.of-in-Some-kind.ensures.kind c.of-in-Some-kind.ensures.start c.in_ok-push-2.ensures.items
+          c.in-Some-kind.is (sym c.is_bad.ensures ∙ c.if-is_bad.false) c.of-in-Some-kind.ensures.kind c.of-in-Some-kind.ensures.start
+          c.in_ok-push-2.ensures.items
           c.loop-place.invariant.so_far;
     }
 
@@ -72,9 +77,12 @@ returns-then-is_bad c =
     let word = c.front_at-word in
     let tokens =
     last_mark source c.loop-place.place word.result.end c.in-Some-kind.kind c.loop-place.marks.items _ _ c.of-in-Some-kind.result _
-    c.loop-place-test.true (sym c.in-Some-kind.is ∙ word.ensures.kind) word.ensures.end word.ensures.some word.ensures.within (sym c.is_bad.ensures ∙ c.if-is_bad.true)
-    c.of-in-Some-kind.ensures.kind c.of-in-Some-kind.ensures.start c.in_ok-push-2.ensures.items (c.in_ok-push_end.ensures.tokens source) c.loop-place.invariant.so_far in
-    let pushed = subst (All IsOfKind) (sym c.in_ok-push-2.ensures.items) (All-push IsOfKind c.loop-place.marks.items c.of-in-Some-kind.result c.loop-place.invariant.exact c.of-in-Some-kind.ensures.exact) in
+    c.loop-place-test.true (sym c.in-Some-kind.is ∙ word.ensures.kind) word.ensures.end word.ensures.some word.ensures.within
+    (sym c.is_bad.ensures ∙ c.if-is_bad.true)
+    c.of-in-Some-kind.ensures.kind c.of-in-Some-kind.ensures.start c.in_ok-push-2.ensures.items
+    (c.in_ok-push_end.ensures.tokens source) c.loop-place.invariant.so_far in
+    let pushed = subst (All IsOfKind) (sym c.in_ok-push-2.ensures.items) (All-push IsOfKind c.loop-place.marks.items c.of-in-Some-kind.result
+    c.loop-place.invariant.exact c.of-in-Some-kind.ensures.exact) in
     record {
       tokens = tokens;
       text = subst (NamesAreText source) (sym tokens) (lexed-text source);

@@ -11,8 +11,16 @@ returns-then-place-marks c source =
 
 pub overflow_add-result : goal.overflow_add-result
 overflow_add-result c =
-    omega (arith, c.lines_in.ensures, lines_in-le (take c.index-place.result c.args.marks.now), length-take c.index-place.result c.args.marks.now, c.if-place-marks.false, c.requires)
+    omega (
+      arith,
+      c.lines_in.ensures,
+      lines_in-le (take c.index-place.result c.args.marks.now),
+      length-take c.index-place.result c.args.marks.now,
+      c.if-place-marks.false,
+      c.requires,
+    )
 
 pub returns : goal.returns
-returns c source = ap (λ n. c.args.line + n) c.lines_in.ensures ∙ sym (line-tokens_in source c.args.line c.args.marks.now c.index-place.result c.if-place-marks.false)
+returns c source = ap (λ n. c.args.line + n) c.lines_in.ensures ∙ sym (line-tokens_in source c.args.line c.args.marks.now c.index-place.result
+    c.if-place-marks.false)
     ∙ ap (λ at. token_line (slice_get (tokens_in source c.args.line c.args.marks.now) at)) c.index-place.ensures

@@ -8,4 +8,5 @@ use Rattle.kernel_code.proofs.spelling.searched_kind.Goals as goal
 pub returns : goal.returns
 returns c =
     c.unwrap_or.ensures
-    ∙ ap (λ kind. unwrap_or kind Name) (c.spelled.ensures ∙ ap (λ kinds. spelled kinds c.args.word.now) c.reserved_with.ensures ∙ spelled-filter reserved_words c.args.word.now)
+    ∙ ap (λ kind. unwrap_or kind Name) (c.spelled.ensures ∙ ap (λ kinds. spelled kinds c.args.word.now) c.reserved_with.ensures
+    ∙ spelled-filter reserved_words c.args.word.now)

@@ -27,7 +27,8 @@ returns-in-Name-clause-token c =
 pub returns-in_default : goal.returns-in_default
 returns-in_default c =
     let lone = lone_kind c.kind_begun.result c.in_default.not-Name c.in_default.not-Number c.in_default.not-Bad in
-    let front = at_begun c.args.source.now c.args.place c.kind_begun.result c.requires (omega (arith, c.type_inv.source c.args.place)) (sym c.kind_begun.ensures) lone in
+    let front = at_begun c.args.source.now c.args.place c.kind_begun.result c.requires (omega (arith, c.type_inv.source c.args.place))
+    (sym c.kind_begun.ensures) lone in
     record {
       token = record { kind_is = front.kind_is; end_is = front.end_is; some = omega arith; within = omega arith; fine = lone_fine c.kind_begun.result lone };
       none = (λ is. cc, λ bad. absurd (c.in_default.not-Bad (c.kind_begun.ensures ∙ bad)));

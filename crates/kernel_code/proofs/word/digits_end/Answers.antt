@@ -11,10 +11,14 @@ loop-rest-preserved c =
     let end = c.loop-rest.end in
     let rest = c.loop-rest.rest.now in
     let here = c.loop-rest.invariant.here in
-    let one = run_on is_ascii_digit xs rest end 0 end _ here (omega arith) (omega (arith, c.loop-rest-test.true)) (sym c.if-not-is_ascii_digit.ensures.value) c.loop-rest.invariant.run in
-    let two = run_on is_ascii_digit xs rest end 1 (end + 1) _ here (omega arith) (omega (arith, c.loop-rest-test.true)) (sym c.if-not-is_ascii_digit-2.ensures.value) one in
-    let three = run_on is_ascii_digit xs rest end 2 (end + 1 + 1) _ here (omega arith) (omega (arith, c.loop-rest-test.true)) (sym c.if-not-is_ascii_digit-3.ensures.value) two in
-    let four = run_on is_ascii_digit xs rest end 3 (end + 1 + 1 + 1) _ here (omega arith) (omega (arith, c.loop-rest-test.true)) (sym c.if-not-is_ascii_digit-4.ensures.value) three in
+    let one = run_on is_ascii_digit xs rest end 0 end _ here (omega arith) (omega (arith, c.loop-rest-test.true))
+    (sym c.if-not-is_ascii_digit.ensures.value) c.loop-rest.invariant.run in
+    let two = run_on is_ascii_digit xs rest end 1 (end + 1) _ here (omega arith) (omega (arith, c.loop-rest-test.true))
+    (sym c.if-not-is_ascii_digit-2.ensures.value) one in
+    let three = run_on is_ascii_digit xs rest end 2 (end + 1 + 1) _ here (omega arith) (omega (arith, c.loop-rest-test.true))
+    (sym c.if-not-is_ascii_digit-3.ensures.value) two in
+    let four = run_on is_ascii_digit xs rest end 3 (end + 1 + 1 + 1) _ here (omega arith) (omega (arith, c.loop-rest-test.true))
+    (sym c.if-not-is_ascii_digit-4.ensures.value) three in
     let next : end + 1 + 1 + 1 + 1 ≡ end + 4 = omega arith in
     record {
       here = take_all _ (drop 4 rest) (omega (arith, length-drop 4 rest)) ∙ ap (drop 4) here ∙ drop-drop 4 end xs;
@@ -37,4 +41,10 @@ loop-byte-preserved c =
     }
 
 pub returns-clause-within : goal.returns-clause-within
-returns-clause-within c = omega (arith, c.loop-byte.invariant.run, prefix_len-le is_ascii_digit (drop c.args.from c.args.source.now), length-drop c.args.from c.args.source.now, c.requires)
+returns-clause-within c = omega (
+  arith,
+  c.loop-byte.invariant.run,
+  prefix_len-le is_ascii_digit (drop c.args.from c.args.source.now),
+  length-drop c.args.from c.args.source.now,
+  c.requires,
+)

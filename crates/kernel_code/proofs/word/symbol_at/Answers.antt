@@ -15,11 +15,19 @@ pub returns-2-clause-kind : goal.returns-2-clause-kind
 returns-2-clause-kind c =
     ap Some c.unwrap_or-kind.ensures
     ∙ (at_single c.args.source.now c.args.place c.single_symbol.result c.requires.some c.requires.other
-    (λ two. elim c.else-next-source.branch [ else-next-source-via-else-next-source w ↦ absurd (omega arith) | else-next-source-via-then-next-source+in-None-1 w ↦ cc ])
+    (λ two. elim c.else-next-source.branch [
+      | else-next-source-via-else-next-source w ↦ absurd
+          (omega arith)
+      | else-next-source-via-then-next-source+in-None-1 w ↦ cc
+    ])
     (sym c.single_symbol.ensures)).kind_is
 
 pub returns-2-clause-end : goal.returns-2-clause-end
 returns-2-clause-end c =
     (at_single c.args.source.now c.args.place c.single_symbol.result c.requires.some c.requires.other
-    (λ two. elim c.else-next-source.branch [ else-next-source-via-else-next-source w ↦ absurd (omega arith) | else-next-source-via-then-next-source+in-None-1 w ↦ cc ])
+    (λ two. elim c.else-next-source.branch [
+      | else-next-source-via-else-next-source w ↦ absurd
+          (omega arith)
+      | else-next-source-via-then-next-source+in-None-1 w ↦ cc
+    ])
     (sym c.single_symbol.ensures)).end_is

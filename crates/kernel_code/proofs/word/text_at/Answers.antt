@@ -5,11 +5,13 @@ use Rattle.kernel_code.proofs.word.text_at.Goals.{else-quote-place-via-then-quot
 
 pub returns-then-source-quote-eq34-clause-kind : goal.returns-then-source-quote-eq34-clause-kind
 returns-then-source-quote-eq34-clause-kind c =
-    (at_text c.args.source.now c.args.place c.text_end-quote.result c.requires.some c.requires.quote c.text_end-quote.ensures.run (omega arith) (omega arith) c.if-source-quote-eq34.true).kind_is
+    (at_text c.args.source.now c.args.place c.text_end-quote.result c.requires.some c.requires.quote c.text_end-quote.ensures.run (omega arith)
+    (omega arith) c.if-source-quote-eq34.true).kind_is
 
 pub returns-then-source-quote-eq34-clause-end : goal.returns-then-source-quote-eq34-clause-end
 returns-then-source-quote-eq34-clause-end c =
-    (at_text c.args.source.now c.args.place c.text_end-quote.result c.requires.some c.requires.quote c.text_end-quote.ensures.run (omega arith) (omega arith) c.if-source-quote-eq34.true).end_is
+    (at_text c.args.source.now c.args.place c.text_end-quote.result c.requires.some c.requires.quote c.text_end-quote.ensures.run (omega arith)
+    (omega arith) c.if-source-quote-eq34.true).end_is
 
 pub returns-else-quote-place-clause-kind : goal.returns-else-quote-place-clause-kind
 returns-else-quote-place-clause-kind c =

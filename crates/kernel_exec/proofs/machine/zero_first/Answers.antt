@@ -10,5 +10,9 @@ loop-k-preserved c =
     let few = c.requires.few in
     let within = c.loop-k.invariant.0 in
     let full = c.loop-k.invariant.1 in
-    let same : c.loop-k.k ≡ k + 1 = omega arith in
-    (omega arith, rw (length-set c.loop-k.locals k (pos 0)) full, zero_down k c.loop-k.locals full (omega arith) (subst (λ n. AreZeroFrom n c.loop-k.locals) same c.loop-k.invariant.2))
+    let same : c.loop-k.k ≡ k + 1 = omega arith in (
+      omega arith,
+      rw (length-set c.loop-k.locals k (pos 0)) full,
+      zero_down k c.loop-k.locals full (omega arith)
+          (subst (λ n. AreZeroFrom n c.loop-k.locals) same c.loop-k.invariant.2),
+    )

@@ -7,7 +7,9 @@ use Rattle.kernel_rows.proofs.fit.are_apart.Goals as goal
 
 pub loop-x-preserved : goal.loop-x-preserved
 loop-x-preserved c =
-    let all = one_more (λ y. (x : ℕ) (a b : Bind) → x < y → slice_get c.args.binds.now x ≡ Some a → slice_get c.args.binds.now y ≡ Some b → Apart b a) c.loop-x.x (λ y h x a b less. c.loop-x.invariant x y a b less h) (λ x a b less ea eb. apart_from_first c.args.binds.now c.loop-x.x x _ a b (c.is_apart_from.ensures c.if-not-is_apart_from.false) less ea eb) in
+    let all = one_more (λ y. (x : ℕ) (a b : Bind) → x < y → slice_get c.args.binds.now x ≡ Some a → slice_get c.args.binds.now y ≡ Some b
+    → Apart b a) c.loop-x.x (λ y h x a b less. c.loop-x.invariant x y a b less h)
+    (λ x a b less ea eb. apart_from_first c.args.binds.now c.loop-x.x x _ a b (c.is_apart_from.ensures c.if-not-is_apart_from.false) less ea eb) in
     λ x y a b less h. all y h x a b less
 
 pub returns : goal.returns

@@ -7,7 +7,8 @@ use Rattle.kernel_rows.proofs.fit.is_apart_from.Goals as goal
 
 pub loop-b-preserved : goal.loop-b-preserved
 loop-b-preserved c =
-    let all = one_more (λ x. (b : Bind) → slice_get c.args.binds.now x ≡ Some b → Apart c.args.a b) c.loop-b.b-index (λ x h b. c.loop-b.invariant x b h) (λ b eb. apart_here c.args.a c.args.binds.now c.loop-b.b-index _ b (c.is_apart.ensures c.if-not-is_apart.false) eb) in
+    let all = one_more (λ x. (b : Bind) → slice_get c.args.binds.now x ≡ Some b → Apart c.args.a b) c.loop-b.b-index (λ x h b. c.loop-b.invariant x b h)
+    (λ b eb. apart_here c.args.a c.args.binds.now c.loop-b.b-index _ b (c.is_apart.ensures c.if-not-is_apart.false) eb) in
     λ x b h. all x h b
 
 pub returns : goal.returns

@@ -13,13 +13,16 @@ handed : {A E : Type 0} (r : Result A E) (e d : E) → IsErrAnd r (λ x. x ≡ e
 handed r e d h is = sym (subst (λ x. IsErrAnd x (λ y. y ≡ e)) is h)
 
 -- where it stands, told by places
-placed : (source : List ℕ) (tokens : List Token) (raw : RawKernel) (at at' next next' : ℕ) → at ≡ at' → next ≡ next' → StandsAt source tokens at next raw → StandsAt source tokens at' next' raw
-placed source tokens raw at at' next next' p q stands = subst (λ n. StandsAt source tokens n next' raw) p (subst (λ n. StandsAt source tokens at n raw) q stands)
+placed : (source : List ℕ) (tokens : List Token) (raw : RawKernel) (at at' next next' : ℕ) → at ≡ at' → next ≡ next' → StandsAt source tokens at next raw
+    → StandsAt source tokens at' next' raw
+placed source tokens raw at at' next next' p q stands = subst (λ n. StandsAt source tokens n next' raw) p
+    (subst (λ n. StandsAt source tokens at n raw) q stands)
 
 pub returns-in_err-raw-clause-refused : goal.returns-in_err-raw-clause-refused
 returns-in_err-raw-clause-refused c line kind is =
     let told = handed c.from_residual.result _ (Refused line kind) c.from_residual.ensures.1 is in
-    inl (subst (λ n. (kind ≡ Syntax) × StopsAt (tokens_in c.args.source.now 1 c.args.marks.now) n line) c.of.ensures (c.in_err-raw.ensures.fault line kind (ap (λ e. Err e) told)))
+    inl (subst (λ n. (kind ≡ Syntax) × StopsAt (tokens_in c.args.source.now 1 c.args.marks.now) n line) c.of.ensures
+    (c.in_err-raw.ensures.fault line kind (ap (λ e. Err e) told)))
 
 pub returns-in_err-kernel-clause-refused : goal.returns-in_err-kernel-clause-refused
 returns-in_err-kernel-clause-refused c line kind is =
@@ -32,4 +35,9 @@ returns-in_err-kernel-clause-refused c line kind is =
     })
 
 pub returns-clause-kernel : goal.returns-clause-kernel
-returns-clause-kernel c = record { raw = c.in_ok-raw.raw; stands = placed _ _ c.in_ok-raw.raw _ _ _ _ c.of.ensures (sym c.place.ensures) c.in_ok-raw.ensures.kernel; is = c.in_ok-kernel.ensures.kernel }
+returns-clause-kernel c = record {
+  raw = c.in_ok-raw.raw;
+  stands = placed _ _ c.in_ok-raw.raw _ _ _ _ c.of.ensures
+      (sym c.place.ensures) c.in_ok-raw.ensures.kernel;
+  is = c.in_ok-kernel.ensures.kernel;
+}

@@ -28,7 +28,8 @@ loop-i-preserved c =
       | then-spans-i w ↦ record {
         size = ap (λ l. length l) w.cells-is ∙ (w.copy_words_out.auto.cells ∙ inv.size);
         done = λ u. ap (λ l. cells_of l u) w.cells-is
-            ∙ copied_out spans room old now c.loop-i.i none c.loop-i-test.true inv.done w.copy_words_out.new.cells w.if-spans-i.true w.copy_words_out.ensures.inside w.copy_words_out.ensures.before w.copy_words_out.ensures.behind u;
+            ∙ copied_out spans room old now c.loop-i.i none c.loop-i-test.true inv.done w.copy_words_out.new.cells w.if-spans-i.true
+            w.copy_words_out.ensures.inside w.copy_words_out.ensures.before w.copy_words_out.ensures.behind u;
       }
       | else-spans-i w ↦ record {
         size = ap (λ l. length l) w.cells-is ∙ inv.size;

@@ -46,5 +46,6 @@ loop-i-preserved c d =
     let some = h.0 in
     let few = h.1 in
     let size = c.loop-i.auto.dues in
-    one_added c.loop-i.dues (x.0 - 1) d x.0 (slice_index c.args.dues.now d) (times (suc d) (take i ids)) (times (suc d) (take (i + 1) ids)) (omega (arith, some, few, size)) (omega (arith, some))
+    one_added c.loop-i.dues (x.0 - 1) d x.0 (slice_index c.args.dues.now d) (times (suc d) (take i ids)) (times (suc d) (take (i + 1) ids))
+    (omega (arith, some, few, size)) (omega (arith, some))
     (c.loop-i.invariant d) (times_next (suc d) ids i none lt)

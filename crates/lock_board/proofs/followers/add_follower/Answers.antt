@@ -23,9 +23,11 @@ loop-i-preserved c j e =
     let now = c.loop-i.rows in
     let v = c.index-rows-deps.result in
     let at : v ≡ get_or now (x.0 - 1) v = search (rules, c.index-rows-deps.is) in
-    let grown : c.push.new.self.items ≡ v.items ++ c.args.job ∷ [] = c.in_ok-push.ensures.items ∙ ap (λ (y : Vec JobId Global). y.items ++ c.args.job ∷ []) (sym at) in
+    let grown : c.push.new.self.items ≡ v.items ++ c.args.job ∷ [] = c.in_ok-push.ensures.items
+    ∙ ap (λ (y : Vec JobId Global). y.items ++ c.args.job ∷ []) (sym at) in
     let new = slice_set now (x.0 - 1) c.push.new.self in
-    more_added (times e (row c.args.rows.now j)) (times e (row now j)) (times e (row new j)) (times (suc j) (take i deps)) (cond (nat_eq x.0 (suc j)) 1 0) (times (suc j) (take (i + 1) deps)) (nat_eq c.args.job.0 e)
+    more_added (times e (row c.args.rows.now j)) (times e (row now j)) (times e (row new j)) (times (suc j) (take i deps)) (cond (nat_eq x.0 (suc j)) 1 0)
+    (times (suc j) (take (i + 1) deps)) (nat_eq c.args.job.0 e)
     (c.loop-i.invariant j e)
     (row_added now v c.push.new.self (x.0 - 1) x c.args.job (omega (arith, some, few, size)) at grown (omega (arith, some)) j e)
     (times_next (suc j) deps i none lt)

@@ -17,4 +17,5 @@ loop-i-preserved c d due =
     let lt = c.loop-i-test.true in
     let some = (c.requires.ids i x (slice_get-get_or ids i none lt)).0 in
     let here : slice_index c.args.dues.now (x.0 - 1) + 1 < 2 ^ 32 = first_of (omega arith, search rules) in
-    one_tested c.args.dues.now d x.0 (times (suc d) (take i ids)) (times (suc d) (take (i + 1) ids)) some (times_next (suc d) ids i none lt) here (c.loop-i.invariant d) due
+    one_tested c.args.dues.now d x.0 (times (suc d) (take i ids)) (times (suc d) (take (i + 1) ids)) some (times_next (suc d) ids i none lt) here
+    (c.loop-i.invariant d) due

@@ -15,7 +15,8 @@ returns-then-meet c =
     let lt : i < length spans = omega (arith, n, test, same) in
     let is = one_element spans i c.index-then-meet.result.now c.index.result.now lt c.index-then-meet.ensures c.index.ensures in
     let meets : meet c.index-then-meet.result.now t ≡ true = ap (λ y. meet y t) is ∙ (sym c.meet.ensures ∙ c.if-meet.true) in
-    ap (λ h. set spans i h) c.hull.ensures ∙ (met_at spans t c.index-then-meet.result.now i lt c.index-then-meet.ensures meets inv.unmet ∙ ap (λ l. with_touch l t) inv.same)
+    ap (λ h. set spans i h) c.hull.ensures ∙ (met_at spans t c.index-then-meet.result.now i lt c.index-then-meet.ensures meets inv.unmet
+    ∙ ap (λ l. with_touch l t) inv.same)
 
 pub returns : goal.returns
 returns c =

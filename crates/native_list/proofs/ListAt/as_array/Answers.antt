@@ -5,4 +5,5 @@ use Rattle.native_list.proofs.ListAt.as_array.Goals as goal
 
 pub returns-clause-view : goal.returns-clause-view
 returns-clause-view g c =
-    subst (λ n. IsViewOf c.args.self.now (g.M.Mem.cells c.args.mem.now) (record { start = c.args.self.now.start + 1; len = n })) (sym c.len-len.ensures.words) (is_view c.args.self.now (g.M.Mem.cells c.args.mem.now))
+    subst (λ n. IsViewOf c.args.self.now (g.M.Mem.cells c.args.mem.now) (record { start = c.args.self.now.start + 1; len = n })) (sym c.len-len.ensures.words)
+    (is_view c.args.self.now (g.M.Mem.cells c.args.mem.now))

@@ -14,13 +14,15 @@ pub returns-in-Free-clause-words : goal.returns-in-Free-clause-words
 returns-in-Free-clause-words g c =
     let n : to_z w64 (of_z w64 c.args.k) ≡ c.args.k = omega (arith, ints) in
     let n' : to_z w64 (of_z w64 c.args.v) ≡ c.args.v = omega (arith, ints) in
-    put_in_free c.args.self.now (g.M.Mem.cells c.args.mem.now) c.args.k c.args.v (g.M.Mem.cells c.add_new.new.mem) c.in-Free.p (rw n at c.in-Free.ensures.spot) c.add_new.result
+    put_in_free c.args.self.now (g.M.Mem.cells c.args.mem.now) c.args.k c.args.v (g.M.Mem.cells c.add_new.new.mem) c.in-Free.p
+    (rw n at c.in-Free.ensures.spot) c.add_new.result
     (rw (c.find.ensures.cells, n, n') at c.add_new.ensures.words)
 
 pub returns-in-Nowhere-clause-words : goal.returns-in-Nowhere-clause-words
 returns-in-Nowhere-clause-words g c =
     let n : to_z w64 (of_z w64 c.args.k) ≡ c.args.k = omega (arith, ints) in
-    put_nowhere c.args.self.now (g.M.Mem.cells c.args.mem.now) c.args.k c.args.v (g.M.Mem.cells c.find.new.mem) (rw n at c.in-Nowhere.ensures.spot) c.find.ensures.cells
+    put_nowhere c.args.self.now (g.M.Mem.cells c.args.mem.now) c.args.k c.args.v (g.M.Mem.cells c.find.new.mem)
+    (rw n at c.in-Nowhere.ensures.spot) c.find.ensures.cells
 
 pub returns-in-Held-clause-form : goal.returns-in-Held-clause-form
 returns-in-Held-clause-form g c = put_form c.args.self.now c.args.k c.args.v c.requires.fits

@@ -24,7 +24,8 @@ loop-preserved g c =
       gap = rw gap (below_either _ c.loop.gap c.loop.j t c.loop.invariant.gap c.loop.invariant.place);
       place = c.next_place-j-in-loop.ensures.below;
       goes_on = rw (c.next_place-j-in-loop.ensures.next, c.places-t.ensures.places)
-          (shift_more at cells (places at.cap) c.loop.counter c.loop.gap c.loop.j (omega (arith, c.places-t.ensures.places)) held (g.M.Mem.cells c.move_back-gap.new.mem) moved c.move_back-gap.result gap ∙ rw c.places-t.ensures.places at c.loop.invariant.goes_on);
+          (shift_more at cells (places at.cap) c.loop.counter c.loop.gap c.loop.j (omega (arith, c.places-t.ensures.places)) held
+          (g.M.Mem.cells c.move_back-gap.new.mem) moved c.move_back-gap.result gap ∙ rw c.places-t.ensures.places at c.loop.invariant.goes_on);
       readable = c.move_back-gap.ensures.readable ∙ c.holds.ensures.readable ∙ c.loop.invariant.readable;
       writable = c.move_back-gap.ensures.writable ∙ c.holds.ensures.writable ∙ c.loop.invariant.writable;
     }

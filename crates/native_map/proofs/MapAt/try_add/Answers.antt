@@ -8,13 +8,16 @@ pub returns-in-Ok-clause-words : goal.returns-in-Ok-clause-words
 returns-in-Ok-clause-words g c =
     let n : to_z w64 (of_z w64 c.args.k) ≡ c.args.k = omega (arith, ints) in
     let n' : to_z w64 (of_z w64 c.args.v) ≡ c.args.v = omega (arith, ints) in
-    try_add_in_free c.args.self.now (g.M.Mem.cells c.args.mem.now) c.args.k c.args.v (g.M.Mem.cells c.add_new.new.mem) c.in-Free.p (rw n at c.in-Free.ensures.spot) (Ok true)
-    (try_from_ok c.args.self.now (g.M.Mem.cells c.args.mem.now) c.in-Free.p c.args.k c.args.v (g.M.Mem.cells c.add_new.new.mem) c.in-Ok.field-0 (rw (c.find.ensures.cells, n, n') at c.in-Ok.ensures.words))
+    try_add_in_free c.args.self.now (g.M.Mem.cells c.args.mem.now) c.args.k c.args.v (g.M.Mem.cells c.add_new.new.mem) c.in-Free.p
+    (rw n at c.in-Free.ensures.spot) (Ok true)
+    (try_from_ok c.args.self.now (g.M.Mem.cells c.args.mem.now) c.in-Free.p c.args.k c.args.v (g.M.Mem.cells c.add_new.new.mem) c.in-Ok.field-0
+    (rw (c.find.ensures.cells, n, n') at c.in-Ok.ensures.words))
 
 pub returns-in-Nowhere-clause-words : goal.returns-in-Nowhere-clause-words
 returns-in-Nowhere-clause-words g c =
     let n : to_z w64 (of_z w64 c.args.k) ≡ c.args.k = omega (arith, ints) in
-    try_add_nowhere c.args.self.now (g.M.Mem.cells c.args.mem.now) c.args.k c.args.v (g.M.Mem.cells c.find.new.mem) (rw n at c.in-Nowhere.ensures.spot) c.find.ensures.cells
+    try_add_nowhere c.args.self.now (g.M.Mem.cells c.args.mem.now) c.args.k c.args.v (g.M.Mem.cells c.find.new.mem)
+    (rw n at c.in-Nowhere.ensures.spot) c.find.ensures.cells
 
 pub returns-in-Held-clause-form : goal.returns-in-Held-clause-form
 returns-in-Held-clause-form g c = try_add_form c.args.self.now c.args.k c.args.v c.requires.fits
@@ -32,5 +35,7 @@ pub returns-in-Err-clause-words : goal.returns-in-Err-clause-words
 returns-in-Err-clause-words g c =
     let n : to_z w64 (of_z w64 c.args.k) ≡ c.args.k = omega (arith, ints) in
     let n' : to_z w64 (of_z w64 c.args.v) ≡ c.args.v = omega (arith, ints) in
-    try_add_in_free c.args.self.now (g.M.Mem.cells c.args.mem.now) c.args.k c.args.v (g.M.Mem.cells c.add_new.new.mem) c.in-Free.p (rw n at c.in-Free.ensures.spot) _
-    (try_from_err c.args.self.now (g.M.Mem.cells c.args.mem.now) c.in-Free.p c.args.k c.args.v (g.M.Mem.cells c.add_new.new.mem) c.in-Err.trap (rw (c.find.ensures.cells, n, n') at c.in-Err.ensures.words))
+    try_add_in_free c.args.self.now (g.M.Mem.cells c.args.mem.now) c.args.k c.args.v (g.M.Mem.cells c.add_new.new.mem) c.in-Free.p
+    (rw n at c.in-Free.ensures.spot) _
+    (try_from_err c.args.self.now (g.M.Mem.cells c.args.mem.now) c.in-Free.p c.args.k c.args.v (g.M.Mem.cells c.add_new.new.mem) c.in-Err.trap
+    (rw (c.find.ensures.cells, n, n') at c.in-Err.ensures.words))

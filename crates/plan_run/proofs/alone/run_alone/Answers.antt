@@ -15,7 +15,8 @@ run_alike-last-requires-clause-readable g c =
     let t = c.loop-i-test.true in
     let u = c.loop-i.auto.i-end in
     let lt : c.loop-i.i < length c.args.plan.now.segments.items = omega (arith, n, t, u) in
-    may_read c.args.plan.now c.requires.well (g.M.Mem.readable c.args.mem.now) (g.M.Mem.readable c.loop-i.mem) c.requires.readable c.loop-i.invariant.readable (OfScript c.loop-i.i) lt
+    may_read c.args.plan.now c.requires.well (g.M.Mem.readable c.args.mem.now) (g.M.Mem.readable c.loop-i.mem) c.requires.readable c.loop-i.invariant.readable
+    (OfScript c.loop-i.i) lt
 
 pub run_alike-last-requires-clause-writable : goal.run_alike-last-requires-clause-writable
 run_alike-last-requires-clause-writable g c =
@@ -23,7 +24,8 @@ run_alike-last-requires-clause-writable g c =
     let t = c.loop-i-test.true in
     let u = c.loop-i.auto.i-end in
     let lt : c.loop-i.i < length c.args.plan.now.segments.items = omega (arith, n, t, u) in
-    may_write c.args.plan.now c.requires.well (g.M.Mem.writable c.args.mem.now) (g.M.Mem.writable c.loop-i.mem) c.requires.writable c.loop-i.invariant.writable (OfScript c.loop-i.i) lt
+    may_write c.args.plan.now c.requires.well (g.M.Mem.writable c.args.mem.now) (g.M.Mem.writable c.loop-i.mem) c.requires.writable c.loop-i.invariant.writable
+    (OfScript c.loop-i.i) lt
 
 pub run_alike-last-requires-clause-alike : goal.run_alike-last-requires-clause-alike
 run_alike-last-requires-clause-alike g c =
@@ -87,4 +89,5 @@ returns-clause-report g c =
     let last = c.requires.well.order.last_is in
     let at : c.loop-i.i ≡ length c.args.plan.now.segments.items = omega (arith, n, t, u) in
     let some : 0 < c.loop-i.i = omega (arith, at, last) in
-    all_reported c.args.plan.now c.loop-i.i c.loop-i.refused c.with_refused.result at v.refused c.with_refused.ensures.refused (c.with_refused.ensures.traps _ (v.traps some at))
+    all_reported c.args.plan.now c.loop-i.i c.loop-i.refused c.with_refused.result at v.refused c.with_refused.ensures.refused
+    (c.with_refused.ensures.traps _ (v.traps some at))

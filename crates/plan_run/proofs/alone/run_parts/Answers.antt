@@ -33,7 +33,8 @@ run_piece-requires-clause-readable g c =
     let u = c.loop-i.auto.i-end in
     let count = c.pieces-i-end.ensures in
     let lt : p < job_pieces plan = omega (arith, w, t, u, count) in
-    may_read plan c.requires.well (g.M.Mem.readable c.args.mem.now) (g.M.Mem.readable c.loop-i.mem) c.requires.readable c.loop-i.invariant.readable (piece_numbered plan p) (named plan c.requires.well p lt)
+    may_read plan c.requires.well (g.M.Mem.readable c.args.mem.now) (g.M.Mem.readable c.loop-i.mem) c.requires.readable c.loop-i.invariant.readable
+    (piece_numbered plan p) (named plan c.requires.well p lt)
 
 pub run_piece-requires-clause-writable : goal.run_piece-requires-clause-writable
 run_piece-requires-clause-writable g c =
@@ -44,7 +45,8 @@ run_piece-requires-clause-writable g c =
     let u = c.loop-i.auto.i-end in
     let count = c.pieces-i-end.ensures in
     let lt : p < job_pieces plan = omega (arith, w, t, u, count) in
-    may_write plan c.requires.well (g.M.Mem.writable c.args.mem.now) (g.M.Mem.writable c.loop-i.mem) c.requires.writable c.loop-i.invariant.writable (piece_numbered plan p) (named plan c.requires.well p lt)
+    may_write plan c.requires.well (g.M.Mem.writable c.args.mem.now) (g.M.Mem.writable c.loop-i.mem) c.requires.writable c.loop-i.invariant.writable
+    (piece_numbered plan p) (named plan c.requires.well p lt)
 
 pub loop-i-preserved : goal.loop-i-preserved
 loop-i-preserved g c =
@@ -57,7 +59,8 @@ loop-i-preserved g c =
     let lt : c.loop-i.i < pieces_of x = omega (arith, t, u, count) in
     record {
       cells = part_step plan c.requires.well c.args.k c.args.job c.requires.index c.requires.starts (c.args.job.0 - 1)
-          (number_is plan c.requires.well c.args.job c.requires.job x c.index-entry.ensures) x (there plan c.requires.well c.args.job c.requires.job x c.index-entry.ensures)
+          (number_is plan c.requires.well c.args.job c.requires.job x c.index-entry.ensures) x
+          (there plan c.requires.well c.args.job c.requires.job x c.index-entry.ensures)
           c.loop-i.i (x.first.0 + c.loop-i.i) (g.M.Mem.cells c.loop-i.mem) (g.M.Mem.cells c.run_piece.new.mem) lt refl v.cells c.run_piece.ensures.cells;
       readable = c.run_piece.ensures.readable ∙ v.readable;
       writable = c.run_piece.ensures.writable ∙ v.writable;
@@ -72,5 +75,6 @@ returns-clause-cells g c =
     let count = c.pieces-i-end.ensures in
     let at : c.loop-i.i ≡ pieces_of x = omega (arith, t, u, count) in
     parts_end plan c.requires.well c.args.k c.args.job c.requires.index c.requires.starts (c.args.job.0 - 1)
-    (number_is plan c.requires.well c.args.job c.requires.job x c.index-entry.ensures) x (there plan c.requires.well c.args.job c.requires.job x c.index-entry.ensures)
+    (number_is plan c.requires.well c.args.job c.requires.job x c.index-entry.ensures) x
+    (there plan c.requires.well c.args.job c.requires.job x c.index-entry.ensures)
     c.loop-i.i (g.M.Mem.cells c.loop-i.mem) at c.loop-i.invariant.cells

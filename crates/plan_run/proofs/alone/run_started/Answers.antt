@@ -2,7 +2,8 @@ use Rattle.plan_run.proofs.InScriptOrder.{started_job, starts_is, segment_step, 
 use Rattle.plan_run.proofs.alone.run_started.Goals as goal
 
 pub run_parts-requires-clause-job : goal.run_parts-requires-clause-job
-run_parts-requires-clause-job g c = started_job c.args.plan.now c.requires.well c.args.k c.requires.index c.index.result.now c.index.ensures c.in-Some.job c.in-Some.is
+run_parts-requires-clause-job g c = started_job c.args.plan.now c.requires.well c.args.k c.requires.index c.index.result.now c.index.ensures c.in-Some.job
+    c.in-Some.is
 
 pub run_parts-requires-clause-cells : goal.run_parts-requires-clause-cells
 run_parts-requires-clause-cells g c = segment_step c.args.plan.now c.requires.well c.args.k (g.M.Mem.cells c.args.mem.now) c.requires.index c.requires.cells

@@ -8,7 +8,8 @@ invariant-loop-op g l = record {
   readable : g.M.Mem.readable l.mem ≡ g.M.Mem.readable l.fn.mem;
   writable : g.M.Mem.writable l.mem ≡ g.M.Mem.writable l.fn.mem;
   later : g.S.Sink.faults l.fn.sink ≤ g.S.Sink.faults l.sink;
-  ops : InOps l.plan (g.M.Mem.readable l.mem) (g.M.Mem.writable l.mem) (said_to g.S.Sink.taken g.S.Sink.faults l.fn.sink l.fn.out l.fn.failed) (said_to g.S.Sink.taken g.S.Sink.faults l.sink l.out l.failed) l.ops l.rest (g.M.Mem.cells l.fn.mem) (g.M.Mem.cells l.mem) l.fn.refused l.refused;
+  ops : InOps l.plan (g.M.Mem.readable l.mem) (g.M.Mem.writable l.mem) (said_to g.S.Sink.taken g.S.Sink.faults l.fn.sink l.fn.out l.fn.failed)
+      (said_to g.S.Sink.taken g.S.Sink.faults l.sink l.out l.failed) l.ops l.rest (g.M.Mem.cells l.fn.mem) (g.M.Mem.cells l.mem) l.fn.refused l.refused;
 }
 
 abbrev pub decreases-loop-op : goal.decreases-loop-op

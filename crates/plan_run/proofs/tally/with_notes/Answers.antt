@@ -4,11 +4,14 @@ use Rattle.plan_run.proofs.tally.with_notes.Goals as goal
 
 pub returns-then-report-gt0-clause-few : goal.returns-then-report-gt0-clause-few
 returns-then-report-gt0-clause-few c =
-    few_more c.args.plan.now c.requires.well c.args.p c.requires.piece c.args.report.now c.args.report.now c.args.notes.now c.requires.notes c.requires.report (c.args.report.now.traps + c.from.result) (ap (λ n. c.args.report.now.traps + n) c.from.ensures) c.requires.few
+    few_more c.args.plan.now c.requires.well c.args.p c.requires.piece c.args.report.now c.args.report.now c.args.notes.now c.requires.notes c.requires.report
+    (c.args.report.now.traps + c.from.result) (ap (λ n. c.args.report.now.traps + n) c.from.ensures) c.requires.few
 
 pub returns-then-report-gt0-clause-report : goal.returns-then-report-gt0-clause-report
 returns-then-report-gt0-clause-report c =
-    more_next c.args.plan.now c.requires.well c.args.p c.requires.piece c.args.report.now (record c.args.report.now { traps = c.args.report.now.traps + c.from.result }) c.args.notes.now c.requires.notes c.requires.report c.if-report-gt0.true (ap (λ n. c.args.report.now.traps + n) c.from.ensures) refl refl refl
+    more_next c.args.plan.now c.requires.well c.args.p c.requires.piece c.args.report.now
+    (record c.args.report.now { traps = c.args.report.now.traps + c.from.result }) c.args.notes.now c.requires.notes c.requires.report c.if-report-gt0.true
+    (ap (λ n. c.args.report.now.traps + n) c.from.ensures) refl refl refl
 
 pub overflow_add-result : goal.overflow_add-result
 overflow_add-result c =
@@ -18,7 +21,8 @@ overflow_add-result c =
 
 pub returns-clause-few : goal.returns-clause-few
 returns-clause-few c =
-    few_more c.args.plan.now c.requires.well c.args.p c.requires.piece c.args.report.now c.args.report.now c.args.notes.now c.requires.notes c.requires.report (c.args.report.now.traps + c.from.result) (ap (λ n. c.args.report.now.traps + n) c.from.ensures) c.requires.few
+    few_more c.args.plan.now c.requires.well c.args.p c.requires.piece c.args.report.now c.args.report.now c.args.notes.now c.requires.notes c.requires.report
+    (c.args.report.now.traps + c.from.result) (ap (λ n. c.args.report.now.traps + n) c.from.ensures) c.requires.few
 
 pub returns-clause-report : goal.returns-clause-report
 returns-clause-report c =
@@ -28,4 +32,5 @@ returns-clause-report c =
       job = record { 0 = c.in-OfJob.j + 1 };
       index = c.in-Some.index;
       trap = c.in-Some.trap;
-    } c.args.notes.now c.requires.notes c.requires.report c.in-OfJob.j c.in-OfJob.field-1 c.in-Some.index c.in-Some.trap c.piece.result c.piece.ensures c.in-OfJob.is c.in-Some.is c.if-report-gt0.false (ap (λ n. c.args.report.now.traps + n) c.from.ensures) refl refl refl
+    } c.args.notes.now c.requires.notes c.requires.report c.in-OfJob.j c.in-OfJob.field-1 c.in-Some.index c.in-Some.trap c.piece.result c.piece.ensures
+    c.in-OfJob.is c.in-Some.is c.if-report-gt0.false (ap (λ n. c.args.report.now.traps + n) c.from.ensures) refl refl refl

@@ -6,7 +6,8 @@ pub loop-low-preserved-then-holes-middle : goal.loop-low-preserved-then-holes-mi
 loop-low-preserved-then-holes-middle c = record {
   order = omega arith;
   within = omega arith;
-  before = λ k lt. let r = rises_to c.args.holes.now c.requires.0 k (c.loop-low.low + (c.loop-low.high - c.loop-low.low) / 2) c.requires.1 (omega arith) (omega arith) in
+  before = λ k lt. let r = rises_to c.args.holes.now c.requires.0 k (c.loop-low.low + (c.loop-low.high - c.loop-low.low) / 2) c.requires.1 (omega arith)
+      (omega arith) in
       let h = c.if-holes-middle.true in omega arith;
   behind = λ k le lt. c.loop-low.invariant.behind k le lt;
 }

@@ -12,7 +12,8 @@ pub loop-i-preserved : goal.loop-i-preserved
 loop-i-preserved g c = let i = c.run_next-next.ensures in let v = c.loop-i.invariant in record {
   home = i.home ∙ v.home;
   at = i.at;
-  says = lines_next c.args.crew.now.plan.now (said_to g.S.Sink.taken g.S.Sink.faults c.args.sink.now c.args.out.now false) (said_to g.S.Sink.taken g.S.Sink.faults c.loop-i.sink c.loop-i.out c.loop-i.failed)
+  says = lines_next c.args.crew.now.plan.now (said_to g.S.Sink.taken g.S.Sink.faults c.args.sink.now c.args.out.now false)
+      (said_to g.S.Sink.taken g.S.Sink.faults c.loop-i.sink c.loop-i.out c.loop-i.failed)
       (said_to g.S.Sink.taken g.S.Sink.faults c.run_next-next.new.sink c.run_next-next.new.out c.run_next-next.new.failed) c.loop-i.i v.says i.text;
   later = let a = v.later in let b = i.later in omega (arith, a, b);
   refused = refused_next c.args.crew.now.plan.now c.loop-i.i c.loop-i.refused c.run_next-next.new.refused v.refused i.refused;
@@ -30,7 +31,9 @@ returns-clause-run g c =
     let pos : 0 < c.loop-i.i = omega (arith, at, last) in
     let from = said_to g.S.Sink.taken g.S.Sink.faults c.args.sink.now c.args.out.now false in
     let to = said_to g.S.Sink.taken g.S.Sink.faults c.loop-i.sink c.loop-i.out c.loop-i.failed in (
-      subst (λ b. SaysTo g.S.Sink.taken g.S.Sink.faults c.args.sink.now c.args.out.now false c.loop-i.sink c.loop-i.out b (plan_lines c.args.crew.now.plan.now)) (sym c.of.ensures.fault) (all_lines c.args.crew.now.plan.now from to c.loop-i.i at v.says),
+      subst (λ b. SaysTo g.S.Sink.taken g.S.Sink.faults c.args.sink.now c.args.out.now false c.loop-i.sink c.loop-i.out b (plan_lines c.args.crew.now.plan.now))
+          (sym c.of.ensures.fault) (all_lines c.args.crew.now.plan.now from to c.loop-i.i at v.says),
       subst (λ r. IsReport c.args.crew.now.plan.now r) (sym c.of.ensures.report)
-          (all_reported c.args.crew.now.plan.now c.loop-i.i c.loop-i.refused c.with_refused.result at v.refused c.with_refused.ensures.refused (c.with_refused.ensures.traps _ (v.traps pos at))),
+          (all_reported c.args.crew.now.plan.now c.loop-i.i c.loop-i.refused c.with_refused.result at v.refused c.with_refused.ensures.refused
+          (c.with_refused.ensures.traps _ (v.traps pos at))),
     )

@@ -18,7 +18,9 @@ returns-clause-run g c =
     let b = said_to g.S.Sink.taken g.S.Sink.faults c.run_lines-lines.new.sink c.run_lines-lines.new.out c.is_fault-failed.result in
     let d = said_to g.S.Sink.taken g.S.Sink.faults c.say_traps.new.sink c.say_traps.new.out c.say_traps.new.failed in
     let e = said_to g.S.Sink.taken g.S.Sink.faults c.flush_lines.new.sink c.flush_lines.new.out c.flush_lines.new.failed in
-    let first = subst (λ f. Says a (said_to g.S.Sink.taken g.S.Sink.faults c.run_lines-lines.new.sink c.run_lines-lines.new.out f) (plan_lines plan)) (sym c.is_fault-failed.ensures) lines.0 in
+    let first = subst (λ f. Says a (said_to g.S.Sink.taken g.S.Sink.faults c.run_lines-lines.new.sink c.run_lines-lines.new.out f) (plan_lines plan))
+    (sym c.is_fault-failed.ensures) lines.0 in
     let both = says_after a b d (plan_lines plan) (traps_text traps) first (c.say_traps.ensures.text traps reported.traps) in
     let all = says_flushed a d e (plan_lines plan ++ traps_text traps) both c.flush_lines.ensures.text in
-    whole_run plan (plan_lines plan ++ traps_text traps) a e refl c.requires.empty all c.of.result c.of.ensures.fault c.flush_lines.ensures.none (subst (λ r. IsReport plan r) (sym c.of.ensures.report) reported)
+    whole_run plan (plan_lines plan ++ traps_text traps) a e refl c.requires.empty all c.of.result c.of.ensures.fault c.flush_lines.ensures.none
+    (subst (λ r. IsReport plan r) (sym c.of.ensures.report) reported)

@@ -10,13 +10,15 @@ returns-then-not-has_names-clause-err c =
     let fr = c.from_reader-reader.ensures in
     let settings = c.flexible.ensures in
     let before = c.has_headers.ensures in
-    let config : c.from_reader-reader.result.config ≡ default_config = fr.config ∙ ap builder_config settings ∙ ap builder_config before ∙ c.new.ensures.config in
+    let config : c.from_reader-reader.result.config ≡ default_config = fr.config ∙ ap builder_config settings ∙ ap builder_config before
+    ∙ c.new.ensures.config in
     let no_trim : c.from_reader-reader.result.trim ≡ trim.None = fr.trim ∙ ap builder_trim settings ∙ ap builder_trim before ∙ c.new.ensures.trim in
     let headers : c.from_reader-reader.result.has_headers ≡ false = fr.has_headers ∙ ap builder_names_headers settings ∙ ap builder_names_headers before in
     let ready : Ready c.from_reader-reader.result = inr (inr (headers, fr.headers)) in
     let read = c.in-Ok.ensures.reads no_trim ready in
     let none : ReadRecord left_in c.from_reader-reader.result c.read_byte_record.new.self false (fields_of c.read_byte_record.new.row) =
-    subst (λ b. ReadRecord left_in c.from_reader-reader.result c.read_byte_record.new.self b (fields_of c.read_byte_record.new.row)) c.if-not-has_names.true read in
+    subst (λ b. ReadRecord left_in c.from_reader-reader.result c.read_byte_record.new.self b (fields_of c.read_byte_record.new.row)) c.if-not-has_names.true
+    read in
     inr (empty c.from_reader-reader.result c.read_byte_record.new.self c.args.source.now (fields_of c.read_byte_record.new.row) config fr.source fr.state none)
 
 pub loop-row-init : goal.loop-row-init
@@ -24,14 +26,17 @@ loop-row-init c =
     let fr = c.from_reader-reader.ensures in
     let settings = c.flexible.ensures in
     let before = c.has_headers.ensures in
-    let config : c.from_reader-reader.result.config ≡ default_config = fr.config ∙ ap builder_config settings ∙ ap builder_config before ∙ c.new.ensures.config in
+    let config : c.from_reader-reader.result.config ≡ default_config = fr.config ∙ ap builder_config settings ∙ ap builder_config before
+    ∙ c.new.ensures.config in
     let no_trim : c.from_reader-reader.result.trim ≡ trim.None = fr.trim ∙ ap builder_trim settings ∙ ap builder_trim before ∙ c.new.ensures.trim in
     let headers : c.from_reader-reader.result.has_headers ≡ false = fr.has_headers ∙ ap builder_names_headers settings ∙ ap builder_names_headers before in
     let ready : Ready c.from_reader-reader.result = inr (inr (headers, fr.headers)) in
     let read = c.in-Ok.ensures.reads no_trim ready in
     let some : ReadRecord left_in c.from_reader-reader.result c.read_byte_record.new.self true (fields_of c.read_byte_record.new.row) =
-    subst (λ b. ReadRecord left_in c.from_reader-reader.result c.read_byte_record.new.self b (fields_of c.read_byte_record.new.row)) c.if-not-has_names.false read in
-    starts c.from_reader-reader.result c.read_byte_record.new.self c.args.source.now (fields_of c.read_byte_record.new.row) c.in-Ok-named.table config fr.source fr.state no_trim
+    subst (λ b. ReadRecord left_in c.from_reader-reader.result c.read_byte_record.new.self b (fields_of c.read_byte_record.new.row)) c.if-not-has_names.false
+    read in
+    starts c.from_reader-reader.result c.read_byte_record.new.self c.args.source.now
+    (fields_of c.read_byte_record.new.row) c.in-Ok-named.table config fr.source fr.state no_trim
     (c.in-Ok.ensures.ready no_trim) some c.in-Ok-named.ensures
 
 pub returns-then-not-has_row-clause-ok : goal.returns-then-not-has_row-clause-ok
@@ -39,18 +44,22 @@ returns-then-not-has_row-clause-ok c =
     let along = c.loop-row.invariant in
     let read = c.in-Ok-read_byte_record.ensures.reads along.trims along.ready in
     let none : ReadRecord left_in c.loop-row.reader c.read_byte_record-in-loop-row.new.self false (fields_of c.read_byte_record-in-loop-row.new.row) =
-    subst (λ b. ReadRecord left_in c.loop-row.reader c.read_byte_record-in-loop-row.new.self b (fields_of c.read_byte_record-in-loop-row.new.row)) c.if-not-has_row.true read in
-    ends c.loop-row.reader c.read_byte_record-in-loop-row.new.self c.args.source.now c.loop-row.table c.loop-row.row (fields_of c.read_byte_record-in-loop-row.new.row) along none
+    subst (λ b. ReadRecord left_in c.loop-row.reader c.read_byte_record-in-loop-row.new.self b (fields_of c.read_byte_record-in-loop-row.new.row))
+    c.if-not-has_row.true read in
+    ends c.loop-row.reader c.read_byte_record-in-loop-row.new.self c.args.source.now c.loop-row.table c.loop-row.row
+    (fields_of c.read_byte_record-in-loop-row.new.row) along none
 
 pub returns-in-Err-push_row-clause-err : goal.returns-in-Err-push_row-clause-err
 returns-in-Err-push_row-clause-err c =
     let along = c.loop-row.invariant in
     let read = c.in-Ok-read_byte_record.ensures.reads along.trims along.ready in
     let some : ReadRecord left_in c.loop-row.reader c.read_byte_record-in-loop-row.new.self true (fields_of c.read_byte_record-in-loop-row.new.row) =
-    subst (λ b. ReadRecord left_in c.loop-row.reader c.read_byte_record-in-loop-row.new.self b (fields_of c.read_byte_record-in-loop-row.new.row)) c.if-not-has_row.false read in
+    subst (λ b. ReadRecord left_in c.loop-row.reader c.read_byte_record-in-loop-row.new.self b (fields_of c.read_byte_record-in-loop-row.new.row))
+    c.if-not-has_row.false read in
     elim c.in-Err-push_row.ensures.err [
       | inl memory ↦ inl memory
-      | inr fault ↦ inr (faults c.loop-row.reader c.read_byte_record-in-loop-row.new.self c.args.source.now c.loop-row.table c.loop-row.row (fields_of c.read_byte_record-in-loop-row.new.row) c.in-Err-push_row.fault along some fault)
+      | inr fault ↦ inr (faults c.loop-row.reader c.read_byte_record-in-loop-row.new.self c.args.source.now c.loop-row.table c.loop-row.row
+          (fields_of c.read_byte_record-in-loop-row.new.row) c.in-Err-push_row.fault along some fault)
     ]
 
 pub loop-row-preserved : goal.loop-row-preserved
@@ -58,10 +67,13 @@ loop-row-preserved c =
     let along = c.loop-row.invariant in
     let read = c.in-Ok-read_byte_record.ensures.reads along.trims along.ready in
     let some : ReadRecord left_in c.loop-row.reader c.read_byte_record-in-loop-row.new.self true (fields_of c.read_byte_record-in-loop-row.new.row) =
-    subst (λ b. ReadRecord left_in c.loop-row.reader c.read_byte_record-in-loop-row.new.self b (fields_of c.read_byte_record-in-loop-row.new.row)) c.if-not-has_row.false read in
+    subst (λ b. ReadRecord left_in c.loop-row.reader c.read_byte_record-in-loop-row.new.self b (fields_of c.read_byte_record-in-loop-row.new.row))
+    c.if-not-has_row.false read in
     let sound = c.in-Ok-push_row.ensures.sound in
-    goes_on c.loop-row.reader c.read_byte_record-in-loop-row.new.self c.args.source.now c.loop-row.table c.push_row.new.self c.loop-row.row (fields_of c.read_byte_record-in-loop-row.new.row)
-    along some (c.in-Ok-read_byte_record.ensures.ready along.trims) sound c.in-Ok-push_row.ensures.values (row_width c.loop-row.row _ (fields_of c.read_byte_record-in-loop-row.new.row) sound)
+    goes_on c.loop-row.reader c.read_byte_record-in-loop-row.new.self c.args.source.now c.loop-row.table c.push_row.new.self c.loop-row.row
+    (fields_of c.read_byte_record-in-loop-row.new.row)
+    along some (c.in-Ok-read_byte_record.ensures.ready along.trims) sound c.in-Ok-push_row.ensures.values
+    (row_width c.loop-row.row _ (fields_of c.read_byte_record-in-loop-row.new.row) sound)
 
 pub unreachable-requires : goal.unreachable-requires
 unreachable-requires c =

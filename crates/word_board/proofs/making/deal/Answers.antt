@@ -24,11 +24,15 @@ loop-made-preserved c =
     let items : c.push.new.self.items ≡ c.loop-made.all.items ++ c.split-next.new.seat ∷ [] = c.in_ok-push.ensures.items in
     let count = I.count in
     let longer = length-append c.loop-made.all.items (c.split-next.new.seat ∷ []) in
-    let size : length c.push.new.self.items ≡ suc (length c.loop-made.all.items) = ap length items ∙ (let e : length (c.loop-made.all.items ++ c.split-next.new.seat ∷ []) ≡ suc (length c.loop-made.all.items) = omega arith in e) in
-    let pushed : IsNewSeat c.args.board.now (eqb (length c.loop-made.all.items) 0) c.split-next.new.seat = record { home = c.split-next.ensures.home ∙ I.last.home; view = c.split-next.ensures.view ∙ I.last.view } in
+    let size : length c.push.new.self.items ≡ suc (length c.loop-made.all.items) = ap length items
+    ∙ (let e : length (c.loop-made.all.items ++ c.split-next.new.seat ∷ []) ≡ suc (length c.loop-made.all.items) = omega arith in e) in
+    let pushed : IsNewSeat c.args.board.now (eqb (length c.loop-made.all.items) 0) c.split-next.new.seat =
+    record { home = c.split-next.ensures.home ∙ I.last.home; view = c.split-next.ensures.view ∙ I.last.view } in
     record {
-      last = subst (λ b. IsNewSeat c.args.board.now b c.split-next.result) (sym (ap (λ n. eqb n 0) size ∙ ne_eqb (suc (length c.loop-made.all.items)) 0 (λ e. omega arith)))
-          (fresh_is_new c.args.board.now c.split-next.result (view_of c.loop-made.last) c.split-next.ensures.other c.split-next.ensures.new (ap (λ (v : View). v.plan) I.last.view));
+      last = subst (λ b. IsNewSeat c.args.board.now b c.split-next.result)
+          (sym (ap (λ n. eqb n 0) size ∙ ne_eqb (suc (length c.loop-made.all.items)) 0 (λ e. omega arith)))
+          (fresh_is_new c.args.board.now c.split-next.result (view_of c.loop-made.last) c.split-next.ensures.other c.split-next.ensures.new
+          (ap (λ (v : View). v.plan) I.last.view));
       count = omega arith;
       dealt = subst (AreNewSeats c.args.board.now) (sym items) (dealt_more c.args.board.now c.loop-made.all.items c.split-next.new.seat I.dealt pushed);
     }
@@ -45,4 +49,5 @@ returns-clause-size c =
 pub returns-clause-seats : goal.returns-clause-seats
 returns-clause-seats c =
     let items : c.push-2.new.self.items ≡ c.loop-made.all.items ++ c.loop-made.last ∷ [] = c.in_ok-push-2.ensures.items in
-    subst (AreNewSeats c.args.board.now) (sym items) (dealt_more c.args.board.now c.loop-made.all.items c.loop-made.last c.loop-made.invariant.dealt c.loop-made.invariant.last)
+    subst (AreNewSeats c.args.board.now) (sym items) (dealt_more c.args.board.now c.loop-made.all.items c.loop-made.last c.loop-made.invariant.dealt
+    c.loop-made.invariant.last)

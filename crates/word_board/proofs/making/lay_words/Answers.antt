@@ -42,7 +42,10 @@ loop-j-preserved c =
     let there' = job_is c.args.plan.now c.loop-j.j c.index-in-loop-j.result.now lt c.index-in-loop-j.ensures in
     let deps : c.len-in-loop-j.result ≡ length c.index-in-loop-j.result.now.deps.items = search rules in
     let deps' : length (deps_in (job_at c.args.plan.now c.loop-j.j)) ≡ length c.index-in-loop-j.result.now.deps.items = ap (λ o. length (deps_in o)) there' in
-    record { laid = laid_more c.args.plan.now c.loop-j.words.items c.loop-j.j _ _ _ _ c.loop-j.invariant.laid lt (omega arith) (omega arith) (omega arith) (omega arith) }
+    record {
+      laid = laid_more c.args.plan.now c.loop-j.words.items c.loop-j.j _ _ _ _ c.loop-j.invariant.laid lt (omega arith) (omega arith) (omega arith)
+          (omega arith);
+    }
 
 pub returns : goal.returns
 returns c =

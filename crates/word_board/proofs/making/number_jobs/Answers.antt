@@ -17,7 +17,8 @@ push_job-requires c =
 pub loop-j-preserved : goal.loop-j-preserved
 loop-j-preserved c =
     record {
-      numbered = numbered_more c.args.plan.now c.loop-j.jobs.items c.push_job.new.jobs.items c.loop-j.j c.end_of-end.result _ c.loop-j.invariant.numbered c.end_of-end.ensures.end (omega arith)
+      numbered = numbered_more c.args.plan.now c.loop-j.jobs.items c.push_job.new.jobs.items c.loop-j.j c.end_of-end.result _ c.loop-j.invariant.numbered
+          c.end_of-end.ensures.end (omega arith)
           c.in_ok-push_job.ensures.size c.in_ok-push_job.ensures.old c.in_ok-push_job.ensures.new;
     }
 

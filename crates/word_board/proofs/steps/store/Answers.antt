@@ -25,9 +25,15 @@ store-requires c =
     let size = S.size in
     let low = c.requires.word in
     let word : c.args.word < me.0.plan.words = subst (λ (p : Plan). c.args.word < p.words) (sym S.plan_is) low in
-    let below : h.0.piece < piece_count me.0.plan = subst (λ (p : Plan). h.0.piece < piece_count p) (sym S.plan_is) (subst (λ n. n < piece_count key) (sym h.2) c.requires.lease.2) in
-    let written : writes me.0.plan h.0.piece c.args.word ≡ true = subst (λ (p : Plan). writes p h.0.piece c.args.word ≡ true) (sym S.plan_is) (subst (λ n. writes key n c.args.word ≡ true) (sym h.2) c.requires.lease.3) in
-    (S.same, omega arith, subst (λ (p : Plan). AllowsAt p slots c.args.seat.now.id me (cell_word c.args.word) c.cast_unsigned.result) S.plan_is (allows_store slots c.args.seat.now.id me h.0 c.args.word c.cast_unsigned.result h.1 below written word))
+    let below : h.0.piece < piece_count me.0.plan = subst (λ (p : Plan). h.0.piece < piece_count p) (sym S.plan_is)
+    (subst (λ n. n < piece_count key) (sym h.2) c.requires.lease.2) in
+    let written : writes me.0.plan h.0.piece c.args.word ≡ true = subst (λ (p : Plan). writes p h.0.piece c.args.word ≡ true) (sym S.plan_is)
+    (subst (λ n. writes key n c.args.word ≡ true) (sym h.2) c.requires.lease.3) in (
+      S.same,
+      omega arith,
+      subst (λ (p : Plan). AllowsAt p slots c.args.seat.now.id me (cell_word c.args.word) c.cast_unsigned.result) S.plan_is
+          (allows_store slots c.args.seat.now.id me h.0 c.args.word c.cast_unsigned.result h.1 below written word),
+    )
 
 pub returns-clause-seat : goal.returns-clause-seat
 returns-clause-seat c =

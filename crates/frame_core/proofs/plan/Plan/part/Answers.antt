@@ -69,7 +69,8 @@ returns-clause-count c =
     let h = job_of_piece plan c.args.j c.args.i x c.requires.piece c.index-job.ensures in
     let k = c.index-kernel.result.now in
     let hk = kernel_there plan c.args.j x k c.requires.well h.job c.index-kernel.ensures in
-    ap (λ l. length l) c.deref-2.ensures.value ∙ ((part.fit plan c.requires.well c.args.j c.args.i x k h.job hk).count ∙ ap (λ l. length l) (sym c.deref.ensures.value))
+    ap (λ l. length l) c.deref-2.ensures.value ∙ ((part.fit plan c.requires.well c.args.j c.args.i x k h.job hk).count
+    ∙ ap (λ l. length l) (sym c.deref.ensures.value))
 
 pub returns-clause-fits : goal.returns-clause-fits
 returns-clause-fits c =
@@ -96,6 +97,8 @@ returns-clause-touches c =
     let h = job_of_piece plan c.args.j c.args.i x c.requires.piece c.index-job.ensures in
     let k = c.index-kernel.result.now in
     let hk = kernel_there plan c.args.j x k c.requires.well h.job c.index-kernel.ensures in
-    let own : plan.cells + 3 * (x.first.0 + c.args.i) ≡ own_word plan c.args.j c.args.i = ap (λ f. plan.cells + 3 * (f + c.args.i)) (part.own_is plan c.requires.well c.args.j c.args.i x k h.job hk) in
-    part_are plan c.requires.well c.args.j c.args.i x k h.job hk c.deref.result.now c.deref-2.result.now c.indexes-span.result (plan.cells + 3 * (x.first.0 + c.args.i)) own
+    let own : plan.cells + 3 * (x.first.0 + c.args.i) ≡ own_word plan c.args.j c.args.i =
+    ap (λ f. plan.cells + 3 * (f + c.args.i)) (part.own_is plan c.requires.well c.args.j c.args.i x k h.job hk) in
+    part_are plan c.requires.well c.args.j c.args.i x k h.job hk c.deref.result.now c.deref-2.result.now c.indexes-span.result
+    (plan.cells + 3 * (x.first.0 + c.args.i)) own
     c.deref.ensures.value c.deref-2.ensures.value c.indexes-span.ensures.indexes

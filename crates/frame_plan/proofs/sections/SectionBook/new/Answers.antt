@@ -22,7 +22,8 @@ returns-in_err-at-clause-limit c =
       | then-has_test+in_ok-check_text w ↦ inl (sym c.has_test.ensures ∙ w.if-has_test.true, w.in_ok-check_text.ensures)
       | else-has_test w ↦ inr (sym c.has_test.ensures ∙ w.if-has_test.false)
     ] in
-    err_is c.from_residual-in_err-at.result c.in_err-at.field-0.0 (λ fault. (fault ≡ NoMemory) ⊎ (limit_of (setting c.args.script.now t) c.args.script.now.statements.items ≡ limit_told fault)) c.from_residual-in_err-at.ensures.1
+    err_is c.from_residual-in_err-at.result c.in_err-at.field-0.0 (λ fault. (fault ≡ NoMemory)
+    ⊎ (limit_of (setting c.args.script.now t) c.args.script.now.statements.items ≡ limit_told fault)) c.from_residual-in_err-at.ensures.1
     (limit_fails c.args.script.now t c.in_err-at.field-0.0 asked c.in_err-at.ensures.fails)
 
 pub returns-clause-within : goal.returns-clause-within
@@ -33,7 +34,8 @@ returns-clause-within c =
       | else-has_test w ↦ inr (sym c.has_test.ensures ∙ w.if-has_test.false)
     ] in
     let ran = c.in_ok-at.ensures.ran at_start [] (c.in_ok-planner.ensures t).stands in
-    limit_none c.args.script.now t c.in_ok-at.at asked ran.stops (stands_within c.run.new.self (setting c.args.script.now t) at_start c.in_ok-at.at (state_at c.args.script.now t c.in_ok-at.at) ran.gone.more ran.gone.stands)
+    limit_none c.args.script.now t c.in_ok-at.at asked ran.stops (stands_within c.run.new.self (setting c.args.script.now t) at_start c.in_ok-at.at
+    (state_at c.args.script.now t c.in_ok-at.at) ran.gone.more ran.gone.stands)
 
 pub returns-clause-at : goal.returns-clause-at
 returns-clause-at c carried len =
@@ -45,12 +47,15 @@ returns-clause-at c carried len =
     let ran = c.in_ok-at.ensures.ran at_start [] (c.in_ok-planner.ensures t).stands in
     record {
       accepted = c.requires.accepted;
-      within = limit_none c.args.script.now t c.in_ok-at.at asked ran.stops (stands_within c.run.new.self (setting c.args.script.now t) at_start c.in_ok-at.at (state_at c.args.script.now t c.in_ok-at.at) ran.gone.more ran.gone.stands);
+      within = limit_none c.args.script.now t c.in_ok-at.at asked ran.stops
+          (stands_within c.run.new.self (setting c.args.script.now t) at_start c.in_ok-at.at
+          (state_at c.args.script.now t c.in_ok-at.at) ran.gone.more ran.gone.stands);
       found = ran.gone.more;
       stands = ran.gone.stands;
       grown = λ starts same. ran.gone.grown 0 starts (omega arith) refl same ((c.in_ok-planner.ensures t).grown starts);
       rising = omega arith;
       inside = ran.inside;
       stops = ran.stops;
+      between = λ n x low. ran.between n x (omega arith);
       later = first_later c.args.script.now t c.requires.accepted c.in_ok-at.at ran.stops;
     }

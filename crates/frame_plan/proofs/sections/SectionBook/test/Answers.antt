@@ -25,7 +25,8 @@ reference_of-requires c =
     (record { accepted = r.2.accepted; here = here; acts = acts.0 })
     c.in-When.name c.in-When.sign c.in-When.value c.in-When.count c.in-When.is acts.1
 
-no_other : (g : Setting) (s : ScriptState) (a : Order) → IsActingTest g s a → ((name : ℕ) (sign : Sign) (value : ℤ) (count : ℕ) → a ≡ When name sign value count → ⊥) → ⊥
+no_other : (g : Setting) (s : ScriptState) (a : Order) → IsActingTest g s a
+    → ((name : ℕ) (sign : Sign) (value : ℤ) (count : ℕ) → a ≡ When name sign value count → ⊥) → ⊥
 no_other g s (When name sign value count) h not = not name sign value count refl
 no_other g s a h not = h
 

@@ -11,4 +11,5 @@ returns-in-None c = completes_gone c.args.self.now c.args.name c.in-None.ensures
 
 pub returns-in-Some : goal.returns-in-Some
 returns-in-Some c =
-    completes_live c.args.self.now c.args.name (subst (IsBroken c.args.self.now c.args.name) c.if-is_stale.false c.is_stale.ensures) c.in-Some.number c.in-Some.ensures
+    completes_live c.args.self.now c.args.name (subst (IsBroken c.args.self.now c.args.name) c.if-is_stale.false c.is_stale.ensures) c.in-Some.number
+    c.in-Some.ensures

@@ -30,6 +30,7 @@ pub returns : goal.returns
 returns c =
     let r = complete_ready c.args.self.now c.args.name c.requires.ready.0 c.requires.ready.1 in
     record {
-      goes_on = on_ok c.complete_jobs.result (λ done. complete_goes c.args.self.now c.args.name c.complete_jobs.new.self c.jobs_of-jobs.result c.index.result.now
+      goes_on = on_ok c.complete_jobs.result (λ done. complete_goes c.args.self.now c.args.name c.complete_jobs.new.self c.jobs_of-jobs.result
+          c.index.result.now
           (read_some c.args.self.now.values c.args.name c.index.result.now r.name_in c.index.ensures) c.jobs_of-jobs.ensures done) c.complete_jobs.ensures;
     }

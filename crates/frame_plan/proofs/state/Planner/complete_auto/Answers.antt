@@ -13,7 +13,8 @@ pub waited_for-jobs-requires : goal.waited_for-jobs-requires
 waited_for-jobs-requires c = (completing_ready c.args.self.now c.args.line c.args.name c.requires.ready).known c.in-Ok.number c.in-Ok.ensures
 
 pub complete_jobs-requires-clause-known : goal.complete_jobs-requires-clause-known
-complete_jobs-requires-clause-known c = (completing_ready c.args.self.now c.args.line c.args.name c.requires.ready).jobs c.in-Ok.number c.in-Ok.ensures (jobs_of c.waited_for-jobs.result) c.waited_for-jobs.ensures
+complete_jobs-requires-clause-known c = (completing_ready c.args.self.now c.args.line c.args.name c.requires.ready).jobs c.in-Ok.number c.in-Ok.ensures
+    (jobs_of c.waited_for-jobs.result) c.waited_for-jobs.ensures
 
 pub complete_jobs-requires-clause-before : goal.complete_jobs-requires-clause-before
 complete_jobs-requires-clause-before c = (completing_ready c.args.self.now c.args.line c.args.name c.requires.ready).before
@@ -23,11 +24,13 @@ complete_jobs-requires-clause-users c = (completing_ready c.args.self.now c.args
 
 pub returns-in-Err : goal.returns-in-Err
 returns-in-Err c = record {
-  goes_on = on_ok c.say.result (λ pushed. completing_says c.args.self.now c.args.line c.args.name c.say.new.self c.in-Err.refusal c.in-Err.ensures pushed) c.say.ensures;
+  goes_on = on_ok c.say.result (λ pushed. completing_says c.args.self.now c.args.line c.args.name c.say.new.self c.in-Err.refusal c.in-Err.ensures pushed)
+      c.say.ensures;
 }
 
 pub returns-in-Ok : goal.returns-in-Ok
 returns-in-Ok c = record {
-  goes_on = on_ok c.complete_jobs.result (λ done. completing_goes c.args.self.now c.args.line c.args.name c.complete_jobs.new.self (jobs_of c.waited_for-jobs.result)
+  goes_on = on_ok c.complete_jobs.result (λ done. completing_goes c.args.self.now c.args.line c.args.name c.complete_jobs.new.self
+      (jobs_of c.waited_for-jobs.result)
       c.in-Ok.number c.in-Ok.ensures c.waited_for-jobs.ensures done) c.complete_jobs.ensures;
 }

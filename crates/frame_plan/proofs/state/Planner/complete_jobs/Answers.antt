@@ -7,7 +7,8 @@ use Rattle.frame_plan.proofs.state.Planner.complete_jobs.Goals as goal
 pub returns-then-is_empty : goal.returns-then-is_empty
 returns-then-is_empty c = record {
   newly = c.in_ok-newly.newly.items;
-  newly_are = λ b stands. newly_set b c.args.self.now (jobs_of c.args.jobs.now) (jobs_of c.closure-all.result) (λ k. c.closure-all.ensures.all b stands k) c.in_ok-newly.newly.items (c.in_ok-newly.ensures b stands);
+  newly_are = λ b stands. newly_set b c.args.self.now (jobs_of c.args.jobs.now) (jobs_of c.closure-all.result)
+      (λ k. c.closure-all.ensures.all b stands k) c.in_ok-newly.newly.items (c.in_ok-newly.ensures b stands);
   jobs = c.complete.ensures.book;
   places = c.settle.ensures.places;
   used = c.settle.ensures.fewer;
@@ -18,5 +19,6 @@ returns-then-is_empty c = record {
 pub returns : goal.returns
 returns c = on_ok c.begin_segment.result (λ closed.
     closed_after c.args.self.now c.complete.new.self c.settle.new.self c.begin_segment.new.self (jobs_of c.args.jobs.now) c.in_ok-newly.newly.items
-    (λ b stands. newly_set b c.args.self.now (jobs_of c.args.jobs.now) (jobs_of c.closure-all.result) (λ k. c.closure-all.ensures.all b stands k) c.in_ok-newly.newly.items (c.in_ok-newly.ensures b stands))
+    (λ b stands. newly_set b c.args.self.now (jobs_of c.args.jobs.now) (jobs_of c.closure-all.result)
+    (λ k. c.closure-all.ensures.all b stands k) c.in_ok-newly.newly.items (c.in_ok-newly.ensures b stands))
     c.complete.ensures.book c.settle.ensures.places c.settle.ensures.fewer c.settle.ensures.peak closed) c.begin_segment.ensures

@@ -49,7 +49,8 @@ name_jobs-requires-in-Ok-clause-few c =
 
 pub returns-in_ok-say-in-Err : goal.returns-in_ok-say-in-Err
 returns-in_ok-say-in-Err c = record {
-  goes_on = on_ok c.name_jobs.result (λ has. after_says c.args.self.now c.args.line c.args.name c.args.after.now c.args.handle c.say.new.self c.name_jobs.new.self
+  goes_on = on_ok c.name_jobs.result (λ has. after_says c.args.self.now c.args.line c.args.name c.args.after.now c.args.handle c.say.new.self
+      c.name_jobs.new.self
       (jobs_of c.jobs_of_all-deps.result)
       (λ j. c.jobs_of_all-deps.ensures j ∙ ap (λ ns. jobs_by c.args.self.now.handles.items c.args.self.now.values.items ns j) c.deref.ensures.value)
       c.in-Err.refusal c.in-Err.ensures c.in_ok-say-in-Err.ensures
@@ -58,7 +59,8 @@ returns-in_ok-say-in-Err c = record {
 
 pub returns-in-Ok : goal.returns-in-Ok
 returns-in-Ok c = record {
-  goes_on = on_ok c.name_jobs-in-Ok.result (λ has. after_goes c.args.self.now c.args.line c.args.name c.args.after.now c.args.handle c.hold_back.new.self c.name_jobs-in-Ok.new.self
+  goes_on = on_ok c.name_jobs-in-Ok.result (λ has. after_goes c.args.self.now c.args.line c.args.name c.args.after.now c.args.handle c.hold_back.new.self
+      c.name_jobs-in-Ok.new.self
       (jobs_of c.jobs_of_all-deps.result)
       (λ j. c.jobs_of_all-deps.ensures j ∙ ap (λ ns. jobs_by c.args.self.now.handles.items c.args.self.now.values.items ns j) c.deref.ensures.value)
       c.in-Ok.number c.in-Ok.ensures c.hold_back.ensures has) c.name_jobs-in-Ok.ensures;

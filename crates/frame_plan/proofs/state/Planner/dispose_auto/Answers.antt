@@ -14,10 +14,12 @@ pub live_container-requires-clause-there : goal.live_container-requires-clause-t
 live_container-requires-clause-there c = (ending_ready c.args.self.now c.args.line c.args.name c.args.handle c.requires.ready).there
 
 pub name_jobs-requires-clause-name : goal.name_jobs-requires-clause-name
-name_jobs-requires-clause-name c = subst (λ (k : Planner). c.args.handle < vec_len k.values) (sym c.in_ok-say-in-None.ensures.rest) (ending_ready c.args.self.now c.args.line c.args.name c.args.handle c.requires.ready).handle_in
+name_jobs-requires-clause-name c = subst (λ (k : Planner). c.args.handle < vec_len k.values) (sym c.in_ok-say-in-None.ensures.rest)
+    (ending_ready c.args.self.now c.args.line c.args.name c.args.handle c.requires.ready).handle_in
 
 pub name_jobs-requires-clause-few : goal.name_jobs-requires-clause-few
-name_jobs-requires-clause-few c = subst (λ (k : Planner). vec_len k.handles < 2 ^ 32) (sym c.in_ok-say-in-None.ensures.rest) (ending_ready c.args.self.now c.args.line c.args.name c.args.handle c.requires.ready).few
+name_jobs-requires-clause-few c = subst (λ (k : Planner). vec_len k.handles < 2 ^ 32) (sym c.in_ok-say-in-None.ensures.rest)
+    (ending_ready c.args.self.now c.args.line c.args.name c.args.handle c.requires.ready).few
 
 pub waited_for-deps-requires : goal.waited_for-deps-requires
 waited_for-deps-requires c = (ending_ready c.args.self.now c.args.line c.args.name c.args.handle c.requires.ready).known c.in-Some.number c.in-Some.ensures
@@ -26,10 +28,12 @@ pub hold_back-requires : goal.hold_back-requires
 hold_back-requires c = (ending_ready c.args.self.now c.args.line c.args.name c.args.handle c.requires.ready).holds c.in-Some.number c.in-Some.ensures
 
 pub name_jobs-requires-in-Some-clause-name : goal.name_jobs-requires-in-Some-clause-name
-name_jobs-requires-in-Some-clause-name c = subst (λ (k : Planner). c.args.handle < vec_len k.values) (sym c.hold_back.ensures.rest) (ending_ready c.args.self.now c.args.line c.args.name c.args.handle c.requires.ready).handle_in
+name_jobs-requires-in-Some-clause-name c = subst (λ (k : Planner). c.args.handle < vec_len k.values) (sym c.hold_back.ensures.rest)
+    (ending_ready c.args.self.now c.args.line c.args.name c.args.handle c.requires.ready).handle_in
 
 pub name_jobs-requires-in-Some-clause-few : goal.name_jobs-requires-in-Some-clause-few
-name_jobs-requires-in-Some-clause-few c = subst (λ (k : Planner). vec_len k.handles < 2 ^ 32) (sym c.hold_back.ensures.rest) (ending_ready c.args.self.now c.args.line c.args.name c.args.handle c.requires.ready).few
+name_jobs-requires-in-Some-clause-few c = subst (λ (k : Planner). vec_len k.handles < 2 ^ 32) (sym c.hold_back.ensures.rest)
+    (ending_ready c.args.self.now c.args.line c.args.name c.args.handle c.requires.ready).few
 
 pub returns-in_ok-say-in-None : goal.returns-in_ok-say-in-None
 returns-in_ok-say-in-None c = record {
@@ -40,6 +44,7 @@ returns-in_ok-say-in-None c = record {
 
 pub returns-in-Some : goal.returns-in-Some
 returns-in-Some c = record {
-  goes_on = on_ok c.name_jobs-in-Some.result (λ has. ending_goes c.args.self.now c.args.line c.args.name c.args.handle c.hold_back.new.self c.name_jobs-in-Some.new.self
+  goes_on = on_ok c.name_jobs-in-Some.result (λ has. ending_goes c.args.self.now c.args.line c.args.name c.args.handle c.hold_back.new.self
+      c.name_jobs-in-Some.new.self
       (jobs_of c.waited_for-deps.result) c.in-Some.number c.in-Some.ensures c.waited_for-deps.ensures c.hold_back.ensures has) c.name_jobs-in-Some.ensures;
 }

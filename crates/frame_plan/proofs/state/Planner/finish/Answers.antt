@@ -1,13 +1,15 @@
-use Rattle.std.proofs.Common.{◌≡◌, ◌+◌, ◌*◌, ◌<◌, ◌≤◌, ℕ, ◌++◌, ◌∷◌, [], length, None, true, refl, sym, ap, subst, ◌∙◌, arith}
+use Rattle.std.proofs.Common.{◌≡◌, ◌+◌, ◌*◌, ◌≤◌, ◌++◌, ◌∷◌, [], length, None, true, refl, sym, ap, subst, ◌∙◌, arith}
 use Rattle.std.proofs.lemmas.List.{append_assoc}
 use Rattle.frame_core.specs.declared.plan.Segment.{Segment}
 use Rattle.frame_core.specs.Names.{has_job}
 use Rattle.plan_laws.specs.Planned.{AreJobsUpTo}
 use Rattle.slot_store.specs.Stores.{peak_of}
 use Rattle.frame_plan.specs.declared.state.Written.{Written}
+use Rattle.frame_plan.specs.Growth.{first_jobs, unless_none, waits_by}
 use Rattle.frame_plan.specs.Runs.{AreWithin}
 use Rattle.frame_plan.specs.Steps.{state_at}
-use Rattle.frame_plan.proofs.Quiet.{given_finished}
+use Rattle.frame_plan.proofs.CompletedJobs.{has_set, rising_up_to}
+use Rattle.frame_plan.proofs.Quiet.{given_finished, waits_finished}
 use Rattle.frame_plan.proofs.Wholes.{jobs_few, pieces_small, cells_small, is_done, live_low}
 use Rattle.frame_plan.proofs.state.Planner.finish.Goals as goal
 
@@ -42,12 +44,16 @@ returns-clause-plan c script accepted names =
     let last : Segment = record { waits = c.replace-kernels.result.waits; ops = c.replace-kernels.result.ops; starts = None } in
     let final : Segment = record { waits = c.in_ok-all.all; ops = c.new.result; starts = None } in
     let count : c.len.result ≡ length p.plan.jobs.items = (let len = p.plan.jobs.ok.0 in let e = c.len.ensures in omega arith) in
-    let segments = c.in_ok-push-2.ensures.items ∙ ap (λ l. l ++ final ∷ []) (c.in_ok-push.ensures.items ∙ ap (λ (w : Written). w.segments.items ++ last ∷ []) v) in
+    let all : c.in_ok-all.all.items ≡ first_jobs (length p.plan.jobs.items) = c.in_ok-all.ensures ∙ ap first_jobs count in
+    let segments = c.in_ok-push-2.ensures.items ∙ ap (λ l. l ++ final ∷ [])
+    (c.in_ok-push.ensures.items ∙ ap (λ (w : Written). w.segments.items ++ last ∷ []) v) in
     record {
       cells = c.peak-cells.ensures;
       kernels = ap (λ (w : Written). w.kernels.items) v;
       jobs = ap (λ (w : Written). w.jobs.items) v;
       spans = given_finished p.plan.segments.items _ last final p.plan.ops.items segments (ap (λ (w : Written). w.ops.items) v) c.new.ensures.items;
+      waits = waits_finished p.plan.segments.items _ last final p.plan.waits.items segments (ap (λ (w : Written). w.waits.items) v)
+          ∙ ap (λ ids. waits_by p ++ unless_none ids) all;
       segments_later = last ∷ final ∷ [];
       segments = segments ∙ append_assoc p.plan.segments.items (last ∷ []) (final ∷ []);
       done = λ table begun n found inside st.
@@ -62,8 +68,8 @@ returns-clause-plan c script accepted names =
           (ap (λ (w : Written). w.waits.items) v)
           (ap (λ (w : Written). w.ops.items) v)
           refl
-          (subst (λ k. AreJobsUpTo k c.in_ok-all.all.items) count c.in_ok-all.ensures.known)
-          (subst (λ k. (j : ℕ) → 0 < j → j ≤ k → has_job c.in_ok-all.all.items j ≡ true) count c.in_ok-all.ensures.all)
+          (subst (AreJobsUpTo (length p.plan.jobs.items)) (sym all) (rising_up_to (λ j. true) (length p.plan.jobs.items)))
+          (λ j pos le. ap (λ ids. has_job ids j) all ∙ has_set (λ j. true) (length p.plan.jobs.items) j pos le)
           c.new.ensures.items
           refl;
       within = λ table begun n found inside st.

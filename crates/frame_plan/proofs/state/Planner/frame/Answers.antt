@@ -8,10 +8,12 @@ use Rattle.frame_plan.proofs.state.Planner.frame.Goals as goal
 
 pub end_temps-requires-clause-numbers : goal.end_temps-requires-clause-numbers
 end_temps-requires-clause-numbers c =
-    subst (λ (k : Planner). All (λ c. c < vec_len k.containers) k.temps.items) (sym c.in_ok-report_overdue.ensures.rest) (frame_ready c.args.self.now c.args.line c.requires.ready).temps
+    subst (λ (k : Planner). All (λ c. c < vec_len k.containers) k.temps.items) (sym c.in_ok-report_overdue.ensures.rest)
+    (frame_ready c.args.self.now c.args.line c.requires.ready).temps
 
 pub end_temps-requires-clause-small : goal.end_temps-requires-clause-small
-end_temps-requires-clause-small c = subst (λ (k : Planner). AreSmall k.containers.items) (sym c.in_ok-report_overdue.ensures.rest) (frame_ready c.args.self.now c.args.line c.requires.ready).small
+end_temps-requires-clause-small c = subst (λ (k : Planner). AreSmall k.containers.items) (sym c.in_ok-report_overdue.ensures.rest)
+    (frame_ready c.args.self.now c.args.line c.requires.ready).small
 
 pub overflow_add-self : goal.overflow_add-self
 overflow_add-self c =

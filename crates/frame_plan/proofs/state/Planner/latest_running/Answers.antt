@@ -14,11 +14,13 @@ pub loop-left-preserved : goal.loop-left-preserved
 loop-left-preserved c = record {
   within = (let le = c.loop-left.invariant.within in omega arith);
   same = λ b stands. c.loop-left.invariant.same b stands
-      ∙ is_less (λ j. not (b.completed j)) c.loop-left.left c.loop-left-test.true (ap not (sym (c.is_completed.ensures b stands) ∙ c.if-not-is_completed.false));
+      ∙ is_less (λ j. not (b.completed j)) c.loop-left.left c.loop-left-test.true
+      (ap not (sym (c.is_completed.ensures b stands) ∙ c.if-not-is_completed.false));
 }
 
 pub returns-then-not-is_completed : goal.returns-then-not-is_completed
 returns-then-not-is_completed c b stands =
     numbered c.loop-left.left c.loop-left-test.true
     ∙ ap job_numbered (sym (c.loop-left.invariant.same b stands
-    ∙ is_greatest (λ j. not (b.completed j)) c.loop-left.left c.loop-left-test.true (ap not (sym (c.is_completed.ensures b stands) ∙ c.if-not-is_completed.true))))
+    ∙ is_greatest (λ j. not (b.completed j)) c.loop-left.left c.loop-left-test.true
+    (ap not (sym (c.is_completed.ensures b stands) ∙ c.if-not-is_completed.true))))

@@ -8,7 +8,8 @@ use Rattle.frame_plan.proofs.state.Planner.list.Goals as goal
 pub take_words-requires-clause-name : goal.take_words-requires-clause-name
 take_words-requires-clause-name c =
     let b = c.requires.ready.1 in
-    ready_name c.requires.ready.0 _ c.args.self.now b c.args.name (list_makes c.requires.ready.0 b.table b.n c.args.line c.args.name c.args.cap c.args.life b.step).below
+    ready_name c.requires.ready.0 _ c.args.self.now b c.args.name (list_makes c.requires.ready.0 b.table b.n c.args.line c.args.name c.args.cap c.args.life
+    b.step).below
 
 pub take_words-requires-clause-slots : goal.take_words-requires-clause-slots
 take_words-requires-clause-slots c = ready_slots c.requires.ready.0 _ c.args.self.now c.requires.ready.1
@@ -17,24 +18,31 @@ pub enter-requires-clause-name : goal.enter-requires-clause-name
 enter-requires-clause-name c =
     let b = c.requires.ready.1 in
     as_many_names c.args.self.now c.take_words.new.self c.take_words.new.self (c.from.result + 1) c.in-Some.taken None None
-    (subst (λ o. TakesOrRefuses c.args.self.now c.take_words.new.self c.args.line c.args.name (c.from.result + 1) o) c.in-Some.is c.in_ok-take_words.ensures.taken) refl c.args.name
-    (ready_name c.requires.ready.0 _ c.args.self.now b c.args.name (list_makes c.requires.ready.0 b.table b.n c.args.line c.args.name c.args.cap c.args.life b.step).below)
+    (subst (λ o. TakesOrRefuses c.args.self.now c.take_words.new.self c.args.line c.args.name (c.from.result + 1) o) c.in-Some.is
+    c.in_ok-take_words.ensures.taken) refl c.args.name
+    (ready_name c.requires.ready.0 _ c.args.self.now b c.args.name (list_makes c.requires.ready.0 b.table b.n c.args.line c.args.name c.args.cap c.args.life
+    b.step).below)
 
 pub enter-requires-clause-few : goal.enter-requires-clause-few
 enter-requires-clause-few c =
     as_many_containers c.args.self.now c.take_words.new.self c.take_words.new.self (c.from.result + 1) c.in-Some.taken None None
-    (subst (λ o. TakesOrRefuses c.args.self.now c.take_words.new.self c.args.line c.args.name (c.from.result + 1) o) c.in-Some.is c.in_ok-take_words.ensures.taken) refl
+    (subst (λ o. TakesOrRefuses c.args.self.now c.take_words.new.self c.args.line c.args.name (c.from.result + 1) o) c.in-Some.is
+    c.in_ok-take_words.ensures.taken) refl
     (ready_containers c.requires.ready.0 _ c.args.self.now c.requires.ready.1)
 
 pub returns-in-None-clause-goes_on : goal.returns-in-None-clause-goes_on
 returns-in-None-clause-goes_on c script table begun n found step st =
-    let lost = subst (λ o. TakesOrRefuses c.args.self.now c.take_words.new.self c.args.line c.args.name (c.from.result + 1) o) c.in-None.is c.in_ok-take_words.ensures.taken in
+    let lost = subst (λ o. TakesOrRefuses c.args.self.now c.take_words.new.self c.args.line c.args.name (c.from.result + 1) o) c.in-None.is
+    c.in_ok-take_words.ensures.taken in
     lost_goes_on script table begun n _ found c.args.self.now step st c.args.name c.args.life (new_list c.args.cap)
-    (list_makes script table n c.args.line c.args.name c.args.cap c.args.life step) c.take_words.new.self (c.from.result + 1) (ap (λ k. k + 1) c.from.ensures) lost.0 lost.1
+    (list_makes script table n c.args.line c.args.name c.args.cap c.args.life step) c.take_words.new.self (c.from.result + 1)
+    (ap (λ k. k + 1) c.from.ensures) lost.0 lost.1
 
 pub returns-in_ok-enter-in-Some-clause-goes_on : goal.returns-in_ok-enter-in-Some-clause-goes_on
 returns-in_ok-enter-in-Some-clause-goes_on c script table begun n found step st =
-    let took = subst (λ o. TakesOrRefuses c.args.self.now c.take_words.new.self c.args.line c.args.name (c.from.result + 1) o) c.in-Some.is c.in_ok-take_words.ensures.taken in
+    let took = subst (λ o. TakesOrRefuses c.args.self.now c.take_words.new.self c.args.line c.args.name (c.from.result + 1) o) c.in-Some.is
+    c.in_ok-take_words.ensures.taken in
     goes_on script table begun n _ found c.args.self.now step st c.args.name c.args.life (new_list c.args.cap)
     (list_makes script table n c.args.line c.args.name c.args.cap c.args.life step)
-    c.take_words.new.self c.take_words.new.self c.enter.new.self c.in-Some.taken (c.from.result + 1) (ap (λ k. k + 1) c.from.ensures) took _ refl None refl None refl c.in_ok-enter-in-Some.ensures
+    c.take_words.new.self c.take_words.new.self c.enter.new.self c.in-Some.taken (c.from.result + 1)
+    (ap (λ k. k + 1) c.from.ensures) took _ refl None refl None refl c.in_ok-enter-in-Some.ensures

@@ -7,7 +7,8 @@ use Rattle.frame_plan.proofs.state.Planner.name_jobs.Goals as goal
 pub index_mut-requires : goal.index_mut-requires
 index_mut-requires c =
     let s = c.args.self.now in
-    c.requires.there c.args.name (Jobs c.in-Jobs.place) (read_some s.values c.args.name c.index.result.now c.requires.name c.index.ensures ∙ ap Some c.in-Jobs.is)
+    c.requires.there c.args.name (Jobs c.in-Jobs.place) (read_some s.values c.args.name c.index.result.now c.requires.name c.index.ensures
+    ∙ ap Some c.in-Jobs.is)
 
 pub returns-in-Jobs : goal.returns-in-Jobs
 returns-in-Jobs c =

@@ -1,7 +1,8 @@
 use Rattle.std.proofs.Common.{ap, ◌∙◌, ◌≡◌, ◌-◌, arith}
 use Rattle.job_handle.specs.Books.{count_of}
 use Rattle.job_handle.specs.Sets.{jobs_of}
-use Rattle.frame_plan.specs.Completions.{newly_of, rising_jobs}
+use Rattle.frame_plan.specs.Completions.{newly_of}
+use Rattle.frame_plan.specs.Growth.{rising_jobs}
 use Rattle.frame_plan.proofs.CompletedJobs.{next_to, none_left}
 use Rattle.frame_plan.proofs.state.Planner.not_completed.Goals as goal
 

@@ -2,7 +2,8 @@ use Rattle.std.proofs.Common.{◌≡◌, ◌-◌, ◌≤◌}
 use Rattle.frame_ast.specs.Jobs.{Book}
 use Rattle.job_handle.specs.Books.{StandsFor, count_of}
 use Rattle.job_handle.specs.Sets.{jobs_of}
-use Rattle.frame_plan.specs.Completions.{newly_of, rising_jobs}
+use Rattle.frame_plan.specs.Completions.{newly_of}
+use Rattle.frame_plan.specs.Growth.{rising_jobs}
 use Rattle.frame_plan.proofs.state.Planner.not_completed.Given as goal
 
 abbrev pub invariant-loop-job : goal.invariant-loop-job

@@ -11,7 +11,8 @@ note_all-requires-clause-may c =
 pub note-requires-clause-may : goal.note-requires-clause-may
 note-requires-clause-may c =
     may_list c.args.job.0 c.args.args.now c.args.length.now (state_of c.args.self.now.safety) (state_of c.note_all.new.self.safety)
-    (has_container c.args.args.now c.args.length.now.container) (sym c.has_container.ensures ∙ c.if-not-has_container.true) c.note_all.ensures.noted c.requires.may
+    (has_container c.args.args.now c.args.length.now.container) (sym c.has_container.ensures
+    ∙ c.if-not-has_container.true) c.note_all.ensures.noted c.requires.may
 
 pub returns-then-not-has_container-clause-noted : goal.returns-then-not-has_container-clause-noted
 returns-then-not-has_container-clause-noted c =

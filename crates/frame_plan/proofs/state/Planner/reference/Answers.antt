@@ -8,13 +8,16 @@ use Rattle.frame_plan.proofs.state.Planner.reference.Goals as goal
 
 pub take_words-requires-clause-name : goal.take_words-requires-clause-name
 take_words-requires-clause-name c =
-    ready_name c.requires.ready.0 _ c.args.self.now c.requires.ready.1 c.args.name (reference_makes c.requires.ready.0 c.requires.ready.1.table c.requires.ready.1.n c.args.line c.args.name c.args.life c.args.value c.requires.ready.1.step).below
+    ready_name c.requires.ready.0 _ c.args.self.now c.requires.ready.1 c.args.name
+    (reference_makes c.requires.ready.0 c.requires.ready.1.table c.requires.ready.1.n c.args.line c.args.name c.args.life c.args.value
+    c.requires.ready.1.step).below
 
 pub take_words-requires-clause-slots : goal.take_words-requires-clause-slots
 take_words-requires-clause-slots c = ready_slots c.requires.ready.0 _ c.args.self.now c.requires.ready.1
 
 pub returns-in_err-take_words-clause-fails : goal.returns-in_err-take_words-clause-fails
-returns-in_err-take_words-clause-fails c = handed_on c.from_residual.result c.in_err-take_words.field-0.0 _ c.from_residual.ensures.1 (λ script table begun n found step st.
+returns-in_err-take_words-clause-fails c = handed_on c.from_residual.result c.in_err-take_words.field-0.0 _ c.from_residual.ensures.1
+    (λ script table begun n found step st.
     fails script table begun n _ found c.args.self.now step st c.args.name c.args.life (new_reference c.args.value)
     (reference_makes script table n c.args.line c.args.name c.args.life c.args.value step)
     c.in_err-take_words.field-0.0 1 refl c.in_err-take_words.ensures.fails)
@@ -22,19 +25,26 @@ returns-in_err-take_words-clause-fails c = handed_on c.from_residual.result c.in
 pub push_value-requires : goal.push_value-requires
 push_value-requires c = record {
   few = as_many_literals c.args.self.now c.take_words.new.self 1 c.in-Some.taken
-      (subst (λ o. TakesOrRefuses c.args.self.now c.take_words.new.self c.args.line c.args.name 1 o) c.in-Some.is c.in_ok-take_words.ensures.taken) (ready_literals c.requires.ready.0 _ c.args.self.now c.requires.ready.1);
+      (subst (λ o. TakesOrRefuses c.args.self.now c.take_words.new.self c.args.line c.args.name 1 o) c.in-Some.is c.in_ok-take_words.ensures.taken)
+      (ready_literals c.requires.ready.0 _ c.args.self.now c.requires.ready.1);
 }
 
 pub enter-requires-clause-name : goal.enter-requires-clause-name
 enter-requires-clause-name c =
-    as_many_names c.args.self.now c.take_words.new.self c.push_value.new.self 1 c.in-Some.taken (option_map (λ z. z ∷ []) c.args.value) c.in_ok-literal-in-Some.literal
-    (subst (λ o. TakesOrRefuses c.args.self.now c.take_words.new.self c.args.line c.args.name 1 o) c.in-Some.is c.in_ok-take_words.ensures.taken) c.in_ok-literal-in-Some.ensures c.args.name
-    (ready_name c.requires.ready.0 _ c.args.self.now c.requires.ready.1 c.args.name (reference_makes c.requires.ready.0 c.requires.ready.1.table c.requires.ready.1.n c.args.line c.args.name c.args.life c.args.value c.requires.ready.1.step).below)
+    as_many_names c.args.self.now c.take_words.new.self c.push_value.new.self 1 c.in-Some.taken
+    (option_map (λ z. z ∷ []) c.args.value) c.in_ok-literal-in-Some.literal
+    (subst (λ o. TakesOrRefuses c.args.self.now c.take_words.new.self c.args.line c.args.name 1 o) c.in-Some.is c.in_ok-take_words.ensures.taken)
+    c.in_ok-literal-in-Some.ensures c.args.name
+    (ready_name c.requires.ready.0 _ c.args.self.now c.requires.ready.1 c.args.name
+    (reference_makes c.requires.ready.0 c.requires.ready.1.table c.requires.ready.1.n c.args.line c.args.name c.args.life c.args.value
+    c.requires.ready.1.step).below)
 
 pub enter-requires-clause-few : goal.enter-requires-clause-few
 enter-requires-clause-few c =
-    as_many_containers c.args.self.now c.take_words.new.self c.push_value.new.self 1 c.in-Some.taken (option_map (λ z. z ∷ []) c.args.value) c.in_ok-literal-in-Some.literal
-    (subst (λ o. TakesOrRefuses c.args.self.now c.take_words.new.self c.args.line c.args.name 1 o) c.in-Some.is c.in_ok-take_words.ensures.taken) c.in_ok-literal-in-Some.ensures
+    as_many_containers c.args.self.now c.take_words.new.self c.push_value.new.self 1 c.in-Some.taken
+    (option_map (λ z. z ∷ []) c.args.value) c.in_ok-literal-in-Some.literal
+    (subst (λ o. TakesOrRefuses c.args.self.now c.take_words.new.self c.args.line c.args.name 1 o) c.in-Some.is c.in_ok-take_words.ensures.taken)
+    c.in_ok-literal-in-Some.ensures
     (ready_containers c.requires.ready.0 _ c.args.self.now c.requires.ready.1)
 
 pub returns-in-None-clause-goes_on : goal.returns-in-None-clause-goes_on
@@ -49,4 +59,5 @@ returns-in_ok-enter-in-Some-clause-goes_on c script table begun n found step st 
     goes_on script table begun n _ found c.args.self.now step st c.args.name c.args.life (new_reference c.args.value)
     (reference_makes script table n c.args.line c.args.name c.args.life c.args.value step)
     c.take_words.new.self c.push_value.new.self c.enter.new.self c.in-Some.taken 1 refl took _ refl
-    (option_map (λ z. z ∷ []) c.args.value) (reference_given c.args.value) c.in_ok-literal-in-Some.literal c.in_ok-literal-in-Some.ensures c.in_ok-enter-in-Some.ensures
+    (option_map (λ z. z ∷ []) c.args.value) (reference_given c.args.value) c.in_ok-literal-in-Some.literal c.in_ok-literal-in-Some.ensures
+    c.in_ok-enter-in-Some.ensures

@@ -1,5 +1,6 @@
-use Rattle.std.proofs.Common.{sym, refl}
+use Rattle.std.proofs.Common.{sym, refl, ◌∙◌}
 use Rattle.frame_ast.specs.Orders.{setting}
+use Rattle.frame_core.proofs.Small.{none_some}
 use Rattle.frame_plan.specs.Steps.{state_at}
 use Rattle.frame_plan.proofs.TestsGoOn.{test_ready, test_refused}
 use Rattle.frame_plan.proofs.state.Planner.refuse_test.Goals as goal
@@ -17,5 +18,9 @@ returns-in-None c = record {
 
 pub returns-in_ok-say-in-Some : goal.returns-in_ok-say-in-Some
 returns-in_ok-say-in-Some c = record {
-  decided = test_refused c.args.self.now c.args.line c.args.name c.args.sign c.args.value c.args.count c.say.new.self c.in-Some.refusal c.in-Some.ensures c.in_ok-say-in-Some.ensures;
+  decided = (
+    test_refused c.args.self.now c.args.line c.args.name c.args.sign c.args.value c.args.count c.say.new.self c.in-Some.refusal
+        c.in-Some.ensures c.in_ok-say-in-Some.ensures,
+    λ script table begun n found step st none. none_some (sym none ∙ sym (c.in-Some.ensures (setting script table) begun n (state_at script table n) found st)),
+  );
 }

@@ -13,10 +13,12 @@ loop-container-init c = reported_none c.args.self.now c.args.line
 
 pub next_due-requires-clause-numbers : goal.next_due-requires-clause-numbers
 next_due-requires-clause-numbers c =
-    subst (λ (k : Planner). All (λ c. c < vec_len k.containers) k.tempjobs.items) (sym c.loop-container.invariant.rest) (frame_ready c.args.self.now c.args.line c.requires.ready).tempjobs
+    subst (λ (k : Planner). All (λ c. c < vec_len k.containers) k.tempjobs.items) (sym c.loop-container.invariant.rest)
+    (frame_ready c.args.self.now c.args.line c.requires.ready).tempjobs
 
 pub next_due-requires-clause-small : goal.next_due-requires-clause-small
-next_due-requires-clause-small c = subst (λ (k : Planner). AreSmall k.containers.items) (sym c.loop-container.invariant.rest) (frame_ready c.args.self.now c.args.line c.requires.ready).small
+next_due-requires-clause-small c = subst (λ (k : Planner). AreSmall k.containers.items) (sym c.loop-container.invariant.rest)
+    (frame_ready c.args.self.now c.args.line c.requires.ready).small
 
 pub overflow_add-self : goal.overflow_add-self
 overflow_add-self c =
@@ -33,7 +35,8 @@ loop-container-smaller c =
 
 pub loop-container-preserved : goal.loop-container-preserved
 loop-container-preserved c =
-    reported_more c.args.self.now c.loop-container.self c.args.line c.loop-container.invariant c.report.new.self _ c.in-Some.container c.in-Some.ensures c.in_ok-report.ensures refl
+    reported_more c.args.self.now c.loop-container.self c.args.line c.loop-container.invariant c.report.new.self _ c.in-Some.container c.in-Some.ensures
+    c.in_ok-report.ensures refl
 
 pub returns : goal.returns
 returns c = reported_all c.args.self.now c.loop-container.self c.args.line c.loop-container.invariant c.in_default.ensures

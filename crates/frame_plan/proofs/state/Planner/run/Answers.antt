@@ -4,7 +4,7 @@ use Rattle.frame_plan.specs.Runs.{IsStop, PassesOnce, HasGone}
 use Rattle.frame_plan.specs.Steps.{state_at}
 use Rattle.frame_plan.specs.Tables.{columns_of}
 use Rattle.frame_plan.proofs.Accessing.{read_some}
-use Rattle.frame_plan.proofs.Acting.{err_is, past_end}
+use Rattle.frame_plan.proofs.Acting.{err_is, one_past, past_end}
 use Rattle.frame_plan.proofs.Laying.{not_gone, gone_further}
 use Rattle.frame_plan.proofs.Passing.{stands_within}
 use Rattle.frame_plan.proofs.state.Planner.run.Goals as goal
@@ -13,6 +13,7 @@ pub loop-at-init : goal.loop-at-init
 loop-at-init c = record {
   rising = omega arith;
   inside = c.requires.inside;
+  between = λ begun found st n x low lt. absurd (omega arith);
   gone = λ begun found st. not_gone c.args.script.now (columns_of c.args.table.now) c.args.self.now begun c.args.from found st;
 }
 
@@ -53,7 +54,9 @@ returns-then-not-branch-clause-ran c begun found st =
       gone = subst (λ p. HasGone c.args.script.now t c.args.self.now p begun c.args.from found l.at) (sym (c.in_ok-pass.ensures.stays c.if-not-branch.true)) r;
       rising = l.invariant.rising;
       inside = l.invariant.inside;
-      stops = subst (IsStop (setting c.args.script.now t) (state_at c.args.script.now t l.at)) (sym here) (c.in_ok-pass.ensures.stops c.if-not-branch.true begun l.at (found ++ r.more) here r.stands);
+      between = l.invariant.between begun found st;
+      stops = subst (IsStop (setting c.args.script.now t) (state_at c.args.script.now t l.at)) (sym here)
+          (c.in_ok-pass.ensures.stops c.if-not-branch.true begun l.at (found ++ r.more) here r.stands);
     }
 
 pub loop-at-preserved : goal.loop-at-preserved
@@ -65,11 +68,16 @@ loop-at-preserved c =
     record {
       rising = (let le = l.invariant.rising in omega arith);
       inside = (let len = c.args.script.now.statements.ok.0 in omega arith);
+      between = λ begun found st n x low lt.
+          let r = l.invariant.gone begun found st in
+          one_past c.args.script.now t l.self begun c.args.from l.at n (found ++ r.more) c.index-statement.result.now x here r.stands
+          (c.in_ok-pass.ensures.past c.if-not-branch.false) (l.invariant.between begun found st) low (omega arith);
       gone = λ begun found st.
           let r = l.invariant.gone begun found st in
           let q = c.in_ok-pass.ensures.passed c.if-not-branch.false begun l.at (found ++ r.more) here r.stands in
           subst (HasGone c.args.script.now t c.args.self.now c.pass.new.self begun c.args.from found) one
-          (gone_further c.args.script.now t c.args.self.now l.self c.pass.new.self begun c.args.from l.at found c.index-statement.result.now here l.invariant.rising r q);
+          (gone_further c.args.script.now t c.args.self.now l.self c.pass.new.self begun c.args.from l.at found c.index-statement.result.now here
+          l.invariant.rising r q);
     }
 
 pub returns-clause-ran : goal.returns-clause-ran
@@ -80,5 +88,7 @@ returns-clause-ran c begun found st =
       gone = l.invariant.gone begun found st;
       rising = l.invariant.rising;
       inside = l.invariant.inside;
-      stops = subst (IsStop (setting c.args.script.now t) (state_at c.args.script.now t l.at)) (sym (past_end c.args.script.now.statements.items l.at (let len = c.args.script.now.statements.ok.0 in omega arith))) tt;
+      between = l.invariant.between begun found st;
+      stops = subst (IsStop (setting c.args.script.now t) (state_at c.args.script.now t l.at))
+          (sym (past_end c.args.script.now.statements.items l.at (let len = c.args.script.now.statements.ok.0 in omega arith))) tt;
     }

@@ -1,6 +1,6 @@
 use Rattle.std.proofs.Common.{ℕ, ◌≤◌, ◌-◌, List, length}
 use Rattle.frame_ast.specs.States.{ScriptState}
-use Rattle.frame_plan.specs.Runs.{HasGone}
+use Rattle.frame_plan.specs.Runs.{HasGone, NoneActs}
 use Rattle.frame_plan.specs.Steps.{StandsAt}
 use Rattle.frame_plan.specs.Tables.{columns_of}
 use Rattle.frame_plan.proofs.state.Planner.run.Given as goal
@@ -9,6 +9,9 @@ abbrev pub invariant-loop-at : goal.invariant-loop-at
 invariant-loop-at l = record {
   rising : l.fn.from ≤ l.at;
   inside : l.at ≤ length l.script.statements.items;
+  between : (begun : ScriptState) (found : List ℕ)
+      → StandsAt l.fn.self l.script (columns_of l.table) begun l.fn.from found
+      → NoneActs l.script (columns_of l.table) l.fn.from l.at;
   gone : (begun : ScriptState) (found : List ℕ)
       → StandsAt l.fn.self l.script (columns_of l.table) begun l.fn.from found
       → HasGone l.script (columns_of l.table) l.fn.self l.self begun l.fn.from found l.at;

@@ -26,22 +26,29 @@ index-requires-2 c =
 pub jobs_of_all-named-requires-clause-names : goal.jobs_of_all-named-requires-clause-names
 jobs_of_all-named-requires-clause-names c =
     let r = c.requires.ready in
-    ready.after_below c.args.script.now c.args.self.now c.args.line r.0 c.args.job.now r.1.table r.1.begun r.1.n r.1.found r.1.step r.1.stands c.deref.result.now c.deref.ensures.value
+    ready.after_below c.args.script.now c.args.self.now c.args.line r.0 c.args.job.now r.1.table r.1.begun r.1.n r.1.found r.1.step r.1.stands
+    c.deref.result.now c.deref.ensures.value
 
 pub uses-requires-clause-each : goal.uses-requires-clause-each
 uses-requires-clause-each c =
     let r = c.requires.ready in
-    ready.length_is c.args.script.now c.args.self.now c.args.line r.0 c.args.job.now r.1.table r.1.begun r.1.n r.1.found r.1.step r.1.stands c.index.result.now (read_some c.args.script.now.kernels c.args.job.now.kernel c.index.result.now (ready.kernel_below c.args.script.now c.args.self.now c.args.line r.0 c.args.job.now r.1.table r.1.begun r.1.n r.1.found r.1.step r.1.stands) c.index.ensures) c.deref-2.result.now c.deref-3.result.now c.deref-2.ensures.value c.deref-3.ensures.value
+    ready.length_is c.args.script.now c.args.self.now c.args.line r.0 c.args.job.now r.1.table r.1.begun r.1.n r.1.found r.1.step r.1.stands c.index.result.now
+    (read_some c.args.script.now.kernels c.args.job.now.kernel c.index.result.now
+    (ready.kernel_below c.args.script.now c.args.self.now c.args.line r.0 c.args.job.now r.1.table r.1.begun r.1.n r.1.found r.1.step r.1.stands)
+    c.index.ensures) c.deref-2.result.now c.deref-3.result.now c.deref-2.ensures.value c.deref-3.ensures.value
 
 pub uses-requires-clause-names : goal.uses-requires-clause-names
 uses-requires-clause-names c =
     let r = c.requires.ready in
-    ready.names_below c.args.script.now c.args.self.now c.args.line r.0 c.args.job.now r.1.table r.1.begun r.1.n r.1.found r.1.step r.1.stands c.deref-3.result.now c.deref-3.ensures.value
+    ready.names_below c.args.script.now c.args.self.now c.args.line r.0 c.args.job.now r.1.table r.1.begun r.1.n r.1.found r.1.step r.1.stands
+    c.deref-3.result.now c.deref-3.ensures.value
 
 pub uses-requires-clause-jobs : goal.uses-requires-clause-jobs
 uses-requires-clause-jobs c =
     let r = c.requires.ready in
-    ready.named_up c.args.script.now c.args.self.now c.args.line r.0 c.args.job.now r.1.table r.1.begun r.1.n r.1.found r.1.step r.1.stands (jobs_of c.jobs_of_all-named.result) (ready.named_is c.args.script.now c.args.self.now c.args.line r.0 c.args.job.now r.1.table r.1.begun r.1.n r.1.found r.1.step r.1.stands (jobs_of c.jobs_of_all-named.result) c.deref.result.now c.deref.ensures.value c.jobs_of_all-named.ensures)
+    ready.named_up c.args.script.now c.args.self.now c.args.line r.0 c.args.job.now r.1.table r.1.begun r.1.n r.1.found r.1.step r.1.stands
+    (jobs_of c.jobs_of_all-named.result) (ready.named_is c.args.script.now c.args.self.now c.args.line r.0 c.args.job.now r.1.table r.1.begun r.1.n
+    r.1.found r.1.step r.1.stands (jobs_of c.jobs_of_all-named.result) c.deref.result.now c.deref.ensures.value c.jobs_of_all-named.ensures)
 
 pub refuse_schedule-requires-clause-name : goal.refuse_schedule-requires-clause-name
 refuse_schedule-requires-clause-name c =
@@ -56,7 +63,9 @@ refuse_schedule-requires-clause-few c =
 pub deps-requires-clause-named : goal.deps-requires-clause-named
 deps-requires-clause-named c =
     let r = c.requires.ready in
-    ready.named_up c.args.script.now c.args.self.now c.args.line r.0 c.args.job.now r.1.table r.1.begun r.1.n r.1.found r.1.step r.1.stands (jobs_of c.jobs_of_all-named.result) (ready.named_is c.args.script.now c.args.self.now c.args.line r.0 c.args.job.now r.1.table r.1.begun r.1.n r.1.found r.1.step r.1.stands (jobs_of c.jobs_of_all-named.result) c.deref.result.now c.deref.ensures.value c.jobs_of_all-named.ensures)
+    ready.named_up c.args.script.now c.args.self.now c.args.line r.0 c.args.job.now r.1.table r.1.begun r.1.n r.1.found r.1.step r.1.stands
+    (jobs_of c.jobs_of_all-named.result) (ready.named_is c.args.script.now c.args.self.now c.args.line r.0 c.args.job.now r.1.table r.1.begun r.1.n
+    r.1.found r.1.step r.1.stands (jobs_of c.jobs_of_all-named.result) c.deref.result.now c.deref.ensures.value c.jobs_of_all-named.ensures)
 
 pub accept-requires-clause-kernel : goal.accept-requires-clause-kernel
 accept-requires-clause-kernel c =
@@ -103,71 +112,133 @@ deps-requires-clause-noted c =
     let r = c.requires.ready in
     let uses = c.in_ok-uses.uses.items in
     let named = jobs_of c.jobs_of_all-named.result in
-    let named_are = ready.named_is c.args.script.now c.args.self.now c.args.line r.0 c.args.job.now r.1.table r.1.begun r.1.n r.1.found r.1.step r.1.stands named c.deref.result.now c.deref.ensures.value c.jobs_of_all-named.ensures in
-    let given = ready.are_given c.args.script.now c.args.self.now c.args.line r.0 c.args.job.now r.1.table r.1.begun r.1.n r.1.found r.1.step r.1.stands c.index.result.now (read_some c.args.script.now.kernels c.args.job.now.kernel c.index.result.now (ready.kernel_below c.args.script.now c.args.self.now c.args.line r.0 c.args.job.now r.1.table r.1.begun r.1.n r.1.found r.1.step r.1.stands) c.index.ensures) named c.deref-2.result.now c.deref-3.result.now c.in_ok-uses.uses.items c.deref-2.ensures.value c.deref-3.ensures.value c.in_ok-uses.ensures in
-    let none = sym (ready.refused_by c.args.script.now c.args.self.now c.args.line r.0 c.args.job.now r.1.table r.1.begun r.1.n r.1.found r.1.step r.1.stands uses named named_are given c.index-2.result.now (read_some c.args.script.now.kernels c.args.job.now.kernel c.index-2.result.now (ready.kernel_below c.args.script.now c.args.self.now c.args.line r.0 c.args.job.now r.1.table r.1.begun r.1.n r.1.found r.1.step r.1.stands) c.index-2.ensures) c.deref-4.result.now c.deref-4.ensures.value c.refusal_of.result c.refusal_of.ensures) ∙ ap as_refused (no_cause c.refusal_of.result c.in_default.not-Some) in
+    let named_are = ready.named_is c.args.script.now c.args.self.now c.args.line r.0 c.args.job.now r.1.table r.1.begun r.1.n r.1.found r.1.step r.1.stands
+    named c.deref.result.now c.deref.ensures.value c.jobs_of_all-named.ensures in
+    let given = ready.are_given c.args.script.now c.args.self.now c.args.line r.0 c.args.job.now r.1.table r.1.begun r.1.n r.1.found r.1.step r.1.stands
+    c.index.result.now (read_some c.args.script.now.kernels c.args.job.now.kernel c.index.result.now
+    (ready.kernel_below c.args.script.now c.args.self.now c.args.line r.0 c.args.job.now r.1.table r.1.begun r.1.n r.1.found r.1.step r.1.stands)
+    c.index.ensures) named c.deref-2.result.now c.deref-3.result.now c.in_ok-uses.uses.items c.deref-2.ensures.value c.deref-3.ensures.value
+    c.in_ok-uses.ensures in
+    let none = sym (ready.refused_by c.args.script.now c.args.self.now c.args.line r.0 c.args.job.now r.1.table r.1.begun r.1.n r.1.found r.1.step r.1.stands
+    uses named named_are given c.index-2.result.now (read_some c.args.script.now.kernels c.args.job.now.kernel c.index-2.result.now
+    (ready.kernel_below c.args.script.now c.args.self.now c.args.line r.0 c.args.job.now r.1.table r.1.begun r.1.n r.1.found r.1.step r.1.stands)
+    c.index-2.ensures) c.deref-4.result.now c.deref-4.ensures.value c.refusal_of.result c.refusal_of.ensures)
+    ∙ ap as_refused (no_cause c.refusal_of.result c.in_default.not-Some) in
     subst (λ us. AreUpTo (count_of c.args.self.now.jobs) (conflicting_with c.args.self.now.safety (tags_of us))) (sym c.deref-5.ensures.value)
-    (ready.noted_up c.args.script.now c.args.self.now c.args.line r.0 c.args.job.now r.1.table r.1.begun r.1.n r.1.found r.1.step r.1.stands uses named named_are given none)
+    (ready.noted_up c.args.script.now c.args.self.now c.args.line r.0 c.args.job.now r.1.table r.1.begun r.1.n r.1.found r.1.step r.1.stands uses named
+    named_are given none)
 
 pub accept-requires-clause-uses : goal.accept-requires-clause-uses
 accept-requires-clause-uses c =
     let r = c.requires.ready in
     let uses = c.in_ok-uses.uses.items in
     let named = jobs_of c.jobs_of_all-named.result in
-    let named_are = ready.named_is c.args.script.now c.args.self.now c.args.line r.0 c.args.job.now r.1.table r.1.begun r.1.n r.1.found r.1.step r.1.stands named c.deref.result.now c.deref.ensures.value c.jobs_of_all-named.ensures in
-    let given = ready.are_given c.args.script.now c.args.self.now c.args.line r.0 c.args.job.now r.1.table r.1.begun r.1.n r.1.found r.1.step r.1.stands c.index.result.now (read_some c.args.script.now.kernels c.args.job.now.kernel c.index.result.now (ready.kernel_below c.args.script.now c.args.self.now c.args.line r.0 c.args.job.now r.1.table r.1.begun r.1.n r.1.found r.1.step r.1.stands) c.index.ensures) named c.deref-2.result.now c.deref-3.result.now c.in_ok-uses.uses.items c.deref-2.ensures.value c.deref-3.ensures.value c.in_ok-uses.ensures in
-    let none = sym (ready.refused_by c.args.script.now c.args.self.now c.args.line r.0 c.args.job.now r.1.table r.1.begun r.1.n r.1.found r.1.step r.1.stands uses named named_are given c.index-2.result.now (read_some c.args.script.now.kernels c.args.job.now.kernel c.index-2.result.now (ready.kernel_below c.args.script.now c.args.self.now c.args.line r.0 c.args.job.now r.1.table r.1.begun r.1.n r.1.found r.1.step r.1.stands) c.index-2.ensures) c.deref-4.result.now c.deref-4.ensures.value c.refusal_of.result c.refusal_of.ensures) ∙ ap as_refused (no_cause c.refusal_of.result c.in_default.not-Some) in
-    ready.may_note c.args.script.now c.args.self.now c.args.line r.0 c.args.job.now r.1.table r.1.begun r.1.n r.1.found r.1.step r.1.stands uses named named_are given none c.deref-8.result.now c.deref-8.ensures.value
+    let named_are = ready.named_is c.args.script.now c.args.self.now c.args.line r.0 c.args.job.now r.1.table r.1.begun r.1.n r.1.found r.1.step r.1.stands
+    named c.deref.result.now c.deref.ensures.value c.jobs_of_all-named.ensures in
+    let given = ready.are_given c.args.script.now c.args.self.now c.args.line r.0 c.args.job.now r.1.table r.1.begun r.1.n r.1.found r.1.step r.1.stands
+    c.index.result.now (read_some c.args.script.now.kernels c.args.job.now.kernel c.index.result.now
+    (ready.kernel_below c.args.script.now c.args.self.now c.args.line r.0 c.args.job.now r.1.table r.1.begun r.1.n r.1.found r.1.step r.1.stands)
+    c.index.ensures) named c.deref-2.result.now c.deref-3.result.now c.in_ok-uses.uses.items c.deref-2.ensures.value c.deref-3.ensures.value
+    c.in_ok-uses.ensures in
+    let none = sym (ready.refused_by c.args.script.now c.args.self.now c.args.line r.0 c.args.job.now r.1.table r.1.begun r.1.n r.1.found r.1.step r.1.stands
+    uses named named_are given c.index-2.result.now (read_some c.args.script.now.kernels c.args.job.now.kernel c.index-2.result.now
+    (ready.kernel_below c.args.script.now c.args.self.now c.args.line r.0 c.args.job.now r.1.table r.1.begun r.1.n r.1.found r.1.step r.1.stands)
+    c.index-2.ensures) c.deref-4.result.now c.deref-4.ensures.value c.refusal_of.result c.refusal_of.ensures)
+    ∙ ap as_refused (no_cause c.refusal_of.result c.in_default.not-Some) in
+    ready.may_note c.args.script.now c.args.self.now c.args.line r.0 c.args.job.now r.1.table r.1.begun r.1.n r.1.found r.1.step r.1.stands uses named named_are
+    given none c.deref-8.result.now c.deref-8.ensures.value
 
 pub accept-requires-clause-each : goal.accept-requires-clause-each
 accept-requires-clause-each c =
     let r = c.requires.ready in
-    (λ k h. ready.length_is c.args.script.now c.args.self.now c.args.line r.0 c.args.job.now r.1.table r.1.begun r.1.n r.1.found r.1.step r.1.stands k h k.params.items c.deref-6.result.now refl c.deref-6.ensures.value)
+    (λ k h. ready.length_is c.args.script.now c.args.self.now c.args.line r.0 c.args.job.now r.1.table r.1.begun r.1.n r.1.found r.1.step r.1.stands k h
+    k.params.items c.deref-6.result.now refl c.deref-6.ensures.value)
 
 pub accept-requires-clause-args : goal.accept-requires-clause-args
 accept-requires-clause-args c =
     let r = c.requires.ready in
-    ready.few_args c.args.script.now c.args.self.now c.args.line r.0 c.args.job.now r.1.table r.1.begun r.1.n r.1.found r.1.step r.1.stands c.deref-6.result.now c.deref-6.ensures.value
+    ready.few_args c.args.script.now c.args.self.now c.args.line r.0 c.args.job.now r.1.table r.1.begun r.1.n r.1.found r.1.step r.1.stands c.deref-6.result.now
+    c.deref-6.ensures.value
 
 pub accept-requires-clause-names : goal.accept-requires-clause-names
 accept-requires-clause-names c =
     let r = c.requires.ready in
-    ready.names_below c.args.script.now c.args.self.now c.args.line r.0 c.args.job.now r.1.table r.1.begun r.1.n r.1.found r.1.step r.1.stands c.deref-6.result.now c.deref-6.ensures.value
+    ready.names_below c.args.script.now c.args.self.now c.args.line r.0 c.args.job.now r.1.table r.1.begun r.1.n r.1.found r.1.step r.1.stands
+    c.deref-6.result.now c.deref-6.ensures.value
 
 pub accept-requires-clause-deps : goal.accept-requires-clause-deps
 accept-requires-clause-deps c =
     let r = c.requires.ready in
     let uses = c.in_ok-uses.uses.items in
     let named = jobs_of c.jobs_of_all-named.result in
-    let named_are = ready.named_is c.args.script.now c.args.self.now c.args.line r.0 c.args.job.now r.1.table r.1.begun r.1.n r.1.found r.1.step r.1.stands named c.deref.result.now c.deref.ensures.value c.jobs_of_all-named.ensures in
-    let given = ready.are_given c.args.script.now c.args.self.now c.args.line r.0 c.args.job.now r.1.table r.1.begun r.1.n r.1.found r.1.step r.1.stands c.index.result.now (read_some c.args.script.now.kernels c.args.job.now.kernel c.index.result.now (ready.kernel_below c.args.script.now c.args.self.now c.args.line r.0 c.args.job.now r.1.table r.1.begun r.1.n r.1.found r.1.step r.1.stands) c.index.ensures) named c.deref-2.result.now c.deref-3.result.now c.in_ok-uses.uses.items c.deref-2.ensures.value c.deref-3.ensures.value c.in_ok-uses.ensures in
-    let none = sym (ready.refused_by c.args.script.now c.args.self.now c.args.line r.0 c.args.job.now r.1.table r.1.begun r.1.n r.1.found r.1.step r.1.stands uses named named_are given c.index-2.result.now (read_some c.args.script.now.kernels c.args.job.now.kernel c.index-2.result.now (ready.kernel_below c.args.script.now c.args.self.now c.args.line r.0 c.args.job.now r.1.table r.1.begun r.1.n r.1.found r.1.step r.1.stands) c.index-2.ensures) c.deref-4.result.now c.deref-4.ensures.value c.refusal_of.result c.refusal_of.ensures) ∙ ap as_refused (no_cause c.refusal_of.result c.in_default.not-Some) in
-    ready.deps_up c.args.script.now c.args.self.now c.args.line r.0 c.args.job.now r.1.table r.1.begun r.1.n r.1.found r.1.step r.1.stands uses named named_are given none (jobs_of c.in_ok-deps.deps) (subst (λ us. AreDeps c.args.job.now.auto named c.args.self.now.jobs c.args.self.now.safety (tags_of us) (jobs_of c.in_ok-deps.deps)) c.deref-5.ensures.value c.in_ok-deps.ensures)
+    let named_are = ready.named_is c.args.script.now c.args.self.now c.args.line r.0 c.args.job.now r.1.table r.1.begun r.1.n r.1.found r.1.step r.1.stands
+    named c.deref.result.now c.deref.ensures.value c.jobs_of_all-named.ensures in
+    let given = ready.are_given c.args.script.now c.args.self.now c.args.line r.0 c.args.job.now r.1.table r.1.begun r.1.n r.1.found r.1.step r.1.stands
+    c.index.result.now (read_some c.args.script.now.kernels c.args.job.now.kernel c.index.result.now
+    (ready.kernel_below c.args.script.now c.args.self.now c.args.line r.0 c.args.job.now r.1.table r.1.begun r.1.n r.1.found r.1.step r.1.stands)
+    c.index.ensures) named c.deref-2.result.now c.deref-3.result.now c.in_ok-uses.uses.items c.deref-2.ensures.value c.deref-3.ensures.value
+    c.in_ok-uses.ensures in
+    let none = sym (ready.refused_by c.args.script.now c.args.self.now c.args.line r.0 c.args.job.now r.1.table r.1.begun r.1.n r.1.found r.1.step r.1.stands
+    uses named named_are given c.index-2.result.now (read_some c.args.script.now.kernels c.args.job.now.kernel c.index-2.result.now
+    (ready.kernel_below c.args.script.now c.args.self.now c.args.line r.0 c.args.job.now r.1.table r.1.begun r.1.n r.1.found r.1.step r.1.stands)
+    c.index-2.ensures) c.deref-4.result.now c.deref-4.ensures.value c.refusal_of.result c.refusal_of.ensures)
+    ∙ ap as_refused (no_cause c.refusal_of.result c.in_default.not-Some) in
+    ready.deps_up c.args.script.now c.args.self.now c.args.line r.0 c.args.job.now r.1.table r.1.begun r.1.n r.1.found r.1.step r.1.stands uses named named_are
+    given none (jobs_of c.in_ok-deps.deps) (subst (λ us. AreDeps c.args.job.now.auto named c.args.self.now.jobs c.args.self.now.safety (tags_of us)
+    (jobs_of c.in_ok-deps.deps)) c.deref-5.ensures.value c.in_ok-deps.ensures)
 
 pub returns-in-Some-clause-goes_on : goal.returns-in-Some-clause-goes_on
 returns-in-Some-clause-goes_on c home table begun n found step st =
     let uses = c.in_ok-uses.uses.items in
     let named = jobs_of c.jobs_of_all-named.result in
-    let named_are = ready.named_is c.args.script.now c.args.self.now c.args.line home c.args.job.now table begun n found step st named c.deref.result.now c.deref.ensures.value c.jobs_of_all-named.ensures in
-    let given = ready.are_given c.args.script.now c.args.self.now c.args.line home c.args.job.now table begun n found step st c.index.result.now (read_some c.args.script.now.kernels c.args.job.now.kernel c.index.result.now (ready.kernel_below c.args.script.now c.args.self.now c.args.line home c.args.job.now table begun n found step st) c.index.ensures) named c.deref-2.result.now c.deref-3.result.now c.in_ok-uses.uses.items c.deref-2.ensures.value c.deref-3.ensures.value c.in_ok-uses.ensures in
-    ready.refused_on c.args.script.now c.args.self.now c.args.line home c.args.job.now table begun n found step st uses named named_are given c.refuse_schedule.new.self c.in_ok-refuse_schedule.ensures.0 c.in-Some.cause c.index-2.result.now (read_some c.args.script.now.kernels c.args.job.now.kernel c.index-2.result.now (ready.kernel_below c.args.script.now c.args.self.now c.args.line home c.args.job.now table begun n found step st) c.index-2.ensures) c.deref-4.result.now c.deref-4.ensures.value
+    let named_are = ready.named_is c.args.script.now c.args.self.now c.args.line home c.args.job.now table begun n found step st named c.deref.result.now
+    c.deref.ensures.value c.jobs_of_all-named.ensures in
+    let given = ready.are_given c.args.script.now c.args.self.now c.args.line home c.args.job.now table begun n found step st c.index.result.now
+    (read_some c.args.script.now.kernels c.args.job.now.kernel c.index.result.now
+    (ready.kernel_below c.args.script.now c.args.self.now c.args.line home c.args.job.now table begun n found step st) c.index.ensures) named
+    c.deref-2.result.now c.deref-3.result.now c.in_ok-uses.uses.items c.deref-2.ensures.value c.deref-3.ensures.value c.in_ok-uses.ensures in
+    ready.refused_on c.args.script.now c.args.self.now c.args.line home c.args.job.now table begun n found step st uses named named_are given
+    c.refuse_schedule.new.self c.in_ok-refuse_schedule.ensures.0 c.in-Some.cause c.index-2.result.now
+    (read_some c.args.script.now.kernels c.args.job.now.kernel c.index-2.result.now
+    (ready.kernel_below c.args.script.now c.args.self.now c.args.line home c.args.job.now table begun n found step st) c.index-2.ensures)
+    c.deref-4.result.now c.deref-4.ensures.value
     (sym c.in-Some.is ∙ c.refusal_of.ensures) c.in_ok-refuse_schedule.ensures.1 c.in_ok-refuse_schedule.ensures.2
 
 pub returns-clause-goes_on : goal.returns-clause-goes_on
 returns-clause-goes_on c = on_ok c.accept.result (λ is home table begun n found step st.
     let uses = c.in_ok-uses.uses.items in
     let named = jobs_of c.jobs_of_all-named.result in
-    let named_are = ready.named_is c.args.script.now c.args.self.now c.args.line home c.args.job.now table begun n found step st named c.deref.result.now c.deref.ensures.value c.jobs_of_all-named.ensures in
-    let given = ready.are_given c.args.script.now c.args.self.now c.args.line home c.args.job.now table begun n found step st c.index.result.now (read_some c.args.script.now.kernels c.args.job.now.kernel c.index.result.now (ready.kernel_below c.args.script.now c.args.self.now c.args.line home c.args.job.now table begun n found step st) c.index.ensures) named c.deref-2.result.now c.deref-3.result.now c.in_ok-uses.uses.items c.deref-2.ensures.value c.deref-3.ensures.value c.in_ok-uses.ensures in
-    let none = sym (ready.refused_by c.args.script.now c.args.self.now c.args.line home c.args.job.now table begun n found step st uses named named_are given c.index-2.result.now (read_some c.args.script.now.kernels c.args.job.now.kernel c.index-2.result.now (ready.kernel_below c.args.script.now c.args.self.now c.args.line home c.args.job.now table begun n found step st) c.index-2.ensures) c.deref-4.result.now c.deref-4.ensures.value c.refusal_of.result c.refusal_of.ensures) ∙ ap as_refused (no_cause c.refusal_of.result c.in_default.not-Some) in
-    ready.goes_on c.args.script.now c.args.self.now c.args.line home c.args.job.now table begun n found step st uses named named_are given none c.accept.new.self (jobs_of c.in_ok-deps.deps) c.deref-6.result.now c.deref-7.result.now c.deref-8.result.now c.deref-6.ensures.value c.deref-7.ensures.value c.deref-8.ensures.value
-    (subst (λ us. AreDeps c.args.job.now.auto named c.args.self.now.jobs c.args.self.now.safety (tags_of us) (jobs_of c.in_ok-deps.deps)) c.deref-5.ensures.value c.in_ok-deps.ensures) is) c.accept.ensures.done
+    let named_are = ready.named_is c.args.script.now c.args.self.now c.args.line home c.args.job.now table begun n found step st named c.deref.result.now
+    c.deref.ensures.value c.jobs_of_all-named.ensures in
+    let given = ready.are_given c.args.script.now c.args.self.now c.args.line home c.args.job.now table begun n found step st c.index.result.now
+    (read_some c.args.script.now.kernels c.args.job.now.kernel c.index.result.now
+    (ready.kernel_below c.args.script.now c.args.self.now c.args.line home c.args.job.now table begun n found step st) c.index.ensures) named
+    c.deref-2.result.now c.deref-3.result.now c.in_ok-uses.uses.items c.deref-2.ensures.value c.deref-3.ensures.value c.in_ok-uses.ensures in
+    let none = sym (ready.refused_by c.args.script.now c.args.self.now c.args.line home c.args.job.now table begun n found step st uses named named_are given
+    c.index-2.result.now (read_some c.args.script.now.kernels c.args.job.now.kernel c.index-2.result.now
+    (ready.kernel_below c.args.script.now c.args.self.now c.args.line home c.args.job.now table begun n found step st) c.index-2.ensures)
+    c.deref-4.result.now c.deref-4.ensures.value c.refusal_of.result c.refusal_of.ensures)
+    ∙ ap as_refused (no_cause c.refusal_of.result c.in_default.not-Some) in
+    ready.goes_on c.args.script.now c.args.self.now c.args.line home c.args.job.now table begun n found step st uses named named_are given none
+    c.accept.new.self (jobs_of c.in_ok-deps.deps) c.deref-6.result.now c.deref-7.result.now c.deref-8.result.now c.deref-6.ensures.value
+    c.deref-7.ensures.value c.deref-8.ensures.value
+    (subst (λ us. AreDeps c.args.job.now.auto named c.args.self.now.jobs c.args.self.now.safety (tags_of us) (jobs_of c.in_ok-deps.deps))
+    c.deref-5.ensures.value c.in_ok-deps.ensures) is) c.accept.ensures.done
 
 pub returns-clause-fails : goal.returns-clause-fails
 returns-clause-fails c = if_err c.accept.result (λ fault full home table begun n found step st.
     let uses = c.in_ok-uses.uses.items in
     let named = jobs_of c.jobs_of_all-named.result in
-    let named_are = ready.named_is c.args.script.now c.args.self.now c.args.line home c.args.job.now table begun n found step st named c.deref.result.now c.deref.ensures.value c.jobs_of_all-named.ensures in
-    let given = ready.are_given c.args.script.now c.args.self.now c.args.line home c.args.job.now table begun n found step st c.index.result.now (read_some c.args.script.now.kernels c.args.job.now.kernel c.index.result.now (ready.kernel_below c.args.script.now c.args.self.now c.args.line home c.args.job.now table begun n found step st) c.index.ensures) named c.deref-2.result.now c.deref-3.result.now c.in_ok-uses.uses.items c.deref-2.ensures.value c.deref-3.ensures.value c.in_ok-uses.ensures in
-    let none = sym (ready.refused_by c.args.script.now c.args.self.now c.args.line home c.args.job.now table begun n found step st uses named named_are given c.index-2.result.now (read_some c.args.script.now.kernels c.args.job.now.kernel c.index-2.result.now (ready.kernel_below c.args.script.now c.args.self.now c.args.line home c.args.job.now table begun n found step st) c.index-2.ensures) c.deref-4.result.now c.deref-4.ensures.value c.refusal_of.result c.refusal_of.ensures) ∙ ap as_refused (no_cause c.refusal_of.result c.in_default.not-Some) in
-    ready.fails_so c.args.script.now c.args.self.now c.args.line home c.args.job.now table begun n found step st uses named named_are given none fault full) c.accept.ensures.full
+    let named_are = ready.named_is c.args.script.now c.args.self.now c.args.line home c.args.job.now table begun n found step st named c.deref.result.now
+    c.deref.ensures.value c.jobs_of_all-named.ensures in
+    let given = ready.are_given c.args.script.now c.args.self.now c.args.line home c.args.job.now table begun n found step st c.index.result.now
+    (read_some c.args.script.now.kernels c.args.job.now.kernel c.index.result.now
+    (ready.kernel_below c.args.script.now c.args.self.now c.args.line home c.args.job.now table begun n found step st) c.index.ensures) named
+    c.deref-2.result.now c.deref-3.result.now c.in_ok-uses.uses.items c.deref-2.ensures.value c.deref-3.ensures.value c.in_ok-uses.ensures in
+    let none = sym (ready.refused_by c.args.script.now c.args.self.now c.args.line home c.args.job.now table begun n found step st uses named named_are given
+    c.index-2.result.now (read_some c.args.script.now.kernels c.args.job.now.kernel c.index-2.result.now
+    (ready.kernel_below c.args.script.now c.args.self.now c.args.line home c.args.job.now table begun n found step st) c.index-2.ensures)
+    c.deref-4.result.now c.deref-4.ensures.value c.refusal_of.result c.refusal_of.ensures)
+    ∙ ap as_refused (no_cause c.refusal_of.result c.in_default.not-Some) in
+    ready.fails_so c.args.script.now c.args.self.now c.args.line home c.args.job.now table begun n found step st uses named named_are given none fault full)
+    c.accept.ensures.full

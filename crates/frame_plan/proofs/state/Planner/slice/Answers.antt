@@ -17,7 +17,8 @@ index-requires c = (slice_ready c.args.line c.args.name c.args.of c.args.start c
 pub take_part-value-requires : goal.take_part-value-requires
 take_part-value-requires c =
     let r = slice_ready c.args.line c.args.name c.args.of c.args.start c.args.len c.args.self.now c.requires.ready in
-    let low = starts_low _ _ c.index.result.now (r.there c.args.of c.index.result.now (read_some c.args.self.now.values c.args.of c.index.result.now r.of_in c.index.ensures)) in
+    let low = starts_low _ _ c.index.result.now (r.there c.args.of c.index.result.now
+    (read_some c.args.self.now.values c.args.of c.index.result.now r.of_in c.index.ensures)) in
     let few = r.start_few in
     omega arith
 
@@ -27,7 +28,8 @@ rename-requires-in-None c = (slice_ready c.args.line c.args.name c.args.of c.arg
 pub returns-in_ok-say-in-Some : goal.returns-in_ok-say-in-Some
 returns-in_ok-say-in-Some c = record {
   goes_on = slice_refused c.args.line c.args.name c.args.of c.args.start c.args.len c.args.self.now c.say.new.self c.rename.new.self c.in-Some.refusal
-      (subst (IsRefusal c.args.self.now (record { line = c.args.line; act = SliceOf c.args.name c.args.of c.args.start c.args.len }) c.args.of) c.in-Some.is c.slice_refusal.ensures)
+      (subst (IsRefusal c.args.self.now (record { line = c.args.line; act = SliceOf c.args.name c.args.of c.args.start c.args.len }) c.args.of) c.in-Some.is
+      c.slice_refusal.ensures)
       c.in_ok-say-in-Some.ensures c.rename.ensures;
 }
 
@@ -36,7 +38,8 @@ returns-in-None c =
     let r = slice_ready c.args.line c.args.name c.args.of c.args.start c.args.len c.args.self.now c.requires.ready in
     record {
       goes_on = slice_taken c.args.line c.args.name c.args.of c.args.start c.args.len c.args.self.now c.rename-in-None.new.self c.index.result.now
-          (subst (IsRefusal c.args.self.now (record { line = c.args.line; act = SliceOf c.args.name c.args.of c.args.start c.args.len }) c.args.of) c.in-None.is c.slice_refusal.ensures)
+          (subst (IsRefusal c.args.self.now (record { line = c.args.line; act = SliceOf c.args.name c.args.of c.args.start c.args.len }) c.args.of) c.in-None.is
+          c.slice_refusal.ensures)
           (read_some c.args.self.now.values c.args.of c.index.result.now r.of_in c.index.ensures)
           (subst (IsRenamed c.args.self.now c.rename-in-None.new.self c.args.name) c.take_part-value.ensures c.rename-in-None.ensures);
     }

@@ -11,7 +11,8 @@ pub is_disposed-requires-clause-there : goal.is_disposed-requires-clause-there
 is_disposed-requires-clause-there c = (slice_ready c.args.line c.args.name c.args.of c.args.start c.args.len c.args.self.now c.requires.ready).there
 
 pub returns-then-is_disposed : goal.returns-then-is_disposed
-returns-then-is_disposed c = slice_gone c.args.line c.args.name c.args.of c.args.start c.args.len c.args.self.now c.is_disposed.result c.is_disposed.ensures c.if-is_disposed.true
+returns-then-is_disposed c = slice_gone c.args.line c.args.name c.args.of c.args.start c.args.len c.args.self.now c.is_disposed.result c.is_disposed.ensures
+    c.if-is_disposed.true
 
 pub overflow_add-start : goal.overflow_add-start
 overflow_add-start c =
@@ -31,7 +32,8 @@ bind-requires c =
 pub length_of-requires : goal.length_of-requires
 length_of-requires c =
     let r = slice_ready c.args.line c.args.name c.args.of c.args.start c.args.len c.args.self.now c.requires.ready in
-    let has = source_has c.args.line c.args.name c.args.of c.args.start c.args.len c.args.self.now c.requires.ready c.is_disposed.result c.is_disposed.ensures c.if-is_disposed.false
+    let has = source_has c.args.line c.args.name c.args.of c.args.start c.args.len c.args.self.now c.requires.ready c.is_disposed.result c.is_disposed.ensures
+    c.if-is_disposed.false
     c.index.result.now (read_some c.args.self.now.values c.args.of c.index.result.now r.of_in c.index.ensures) in
     (has.0, ap length_in c.bind.ensures ∙ has.1)
 

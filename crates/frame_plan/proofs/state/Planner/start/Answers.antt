@@ -12,7 +12,8 @@ returns c = record {
   segment = record { waits = c.replace-waits.result; ops = c.replace-ops.result; starts = Some (record { 0 = c.len.result + 1 }) };
   waits_were = ap (λ (v : Vec JobId Global). v.items) c.replace-waits.ensures.value;
   ops_were = ap (λ (v : Vec Op Global). v.items) c.replace-ops.ensures.value;
-  starts = (let n : c.len.result + 1 ≡ suc (Rattle.std.proofs.Common.length c.args.self.now.plan.jobs.items) = (let e = c.len.ensures in let ok = c.args.self.now.plan.jobs.ok.0 in omega arith) in ap (λ m. Some (record { 0 = m })) n);
+  starts = (let n : c.len.result + 1 ≡ suc (Rattle.std.proofs.Common.length c.args.self.now.plan.jobs.items) =
+      (let e = c.len.ensures in let ok = c.args.self.now.plan.jobs.ok.0 in omega arith) in ap (λ m. Some (record { 0 = m })) n);
   segments = c.in_ok-push-2.ensures.items;
   jobs = c.in_ok-push.ensures.items;
   waits = ap (λ (v : Vec JobId Global). v.items) c.replace-waits.ensures.after ∙ c.new.ensures.items;

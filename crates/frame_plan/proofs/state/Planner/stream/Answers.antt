@@ -8,38 +8,48 @@ use Rattle.frame_plan.proofs.state.Planner.stream.Goals as goal
 pub take_words-requires-clause-name : goal.take_words-requires-clause-name
 take_words-requires-clause-name c =
     let b = c.requires.ready.1 in
-    ready_name c.requires.ready.0 _ c.args.self.now b c.args.name (stream_makes c.requires.ready.0 b.table b.n c.args.line c.args.name c.args.count c.args.room c.args.life b.step).below
+    ready_name c.requires.ready.0 _ c.args.self.now b c.args.name (stream_makes c.requires.ready.0 b.table b.n c.args.line c.args.name c.args.count c.args.room
+    c.args.life b.step).below
 
 pub take_words-requires-clause-slots : goal.take_words-requires-clause-slots
 take_words-requires-clause-slots c = ready_slots c.requires.ready.0 _ c.args.self.now c.requires.ready.1
 
 pub returns-in_err-take_words-clause-fails : goal.returns-in_err-take_words-clause-fails
-returns-in_err-take_words-clause-fails c = handed_on c.from_residual.result c.in_err-take_words.field-0.0 _ c.from_residual.ensures.1 (λ script table begun n found step st.
-    fails script table begun n _ found c.args.self.now step st c.args.name c.args.life (new_stream c.args.count c.args.room) (stream_makes script table n c.args.line c.args.name c.args.count c.args.room c.args.life step)
+returns-in_err-take_words-clause-fails c = handed_on c.from_residual.result c.in_err-take_words.field-0.0 _ c.from_residual.ensures.1
+    (λ script table begun n found step st.
+    fails script table begun n _ found c.args.self.now step st c.args.name c.args.life (new_stream c.args.count c.args.room)
+    (stream_makes script table n c.args.line c.args.name c.args.count c.args.room c.args.life step)
     c.in_err-take_words.field-0.0 c.words_of.result c.words_of.ensures.words c.in_err-take_words.ensures.fails)
 
 pub enter-requires-clause-name : goal.enter-requires-clause-name
 enter-requires-clause-name c =
     let b = c.requires.ready.1 in
     as_many_names c.args.self.now c.take_words.new.self c.take_words.new.self c.words_of.result c.in-Some.taken None None
-    (subst (λ o. TakesOrRefuses c.args.self.now c.take_words.new.self c.args.line c.args.name c.words_of.result o) c.in-Some.is c.in_ok-take_words.ensures.taken) refl c.args.name
-    (ready_name c.requires.ready.0 _ c.args.self.now b c.args.name (stream_makes c.requires.ready.0 b.table b.n c.args.line c.args.name c.args.count c.args.room c.args.life b.step).below)
+    (subst (λ o. TakesOrRefuses c.args.self.now c.take_words.new.self c.args.line c.args.name c.words_of.result o) c.in-Some.is
+    c.in_ok-take_words.ensures.taken) refl c.args.name
+    (ready_name c.requires.ready.0 _ c.args.self.now b c.args.name (stream_makes c.requires.ready.0 b.table b.n c.args.line c.args.name c.args.count c.args.room
+    c.args.life b.step).below)
 
 pub enter-requires-clause-few : goal.enter-requires-clause-few
 enter-requires-clause-few c =
     as_many_containers c.args.self.now c.take_words.new.self c.take_words.new.self c.words_of.result c.in-Some.taken None None
-    (subst (λ o. TakesOrRefuses c.args.self.now c.take_words.new.self c.args.line c.args.name c.words_of.result o) c.in-Some.is c.in_ok-take_words.ensures.taken) refl
+    (subst (λ o. TakesOrRefuses c.args.self.now c.take_words.new.self c.args.line c.args.name c.words_of.result o) c.in-Some.is
+    c.in_ok-take_words.ensures.taken) refl
     (ready_containers c.requires.ready.0 _ c.args.self.now c.requires.ready.1)
 
 pub returns-in-None-clause-goes_on : goal.returns-in-None-clause-goes_on
 returns-in-None-clause-goes_on c script table begun n found step st =
-    let lost = subst (λ o. TakesOrRefuses c.args.self.now c.take_words.new.self c.args.line c.args.name c.words_of.result o) c.in-None.is c.in_ok-take_words.ensures.taken in
+    let lost = subst (λ o. TakesOrRefuses c.args.self.now c.take_words.new.self c.args.line c.args.name c.words_of.result o) c.in-None.is
+    c.in_ok-take_words.ensures.taken in
     lost_goes_on script table begun n _ found c.args.self.now step st c.args.name c.args.life (new_stream c.args.count c.args.room)
-    (stream_makes script table n c.args.line c.args.name c.args.count c.args.room c.args.life step) c.take_words.new.self c.words_of.result c.words_of.ensures.words lost.0 lost.1
+    (stream_makes script table n c.args.line c.args.name c.args.count c.args.room c.args.life step) c.take_words.new.self c.words_of.result
+    c.words_of.ensures.words lost.0 lost.1
 
 pub returns-in_ok-enter-in-Some-clause-goes_on : goal.returns-in_ok-enter-in-Some-clause-goes_on
 returns-in_ok-enter-in-Some-clause-goes_on c script table begun n found step st =
-    let took = subst (λ o. TakesOrRefuses c.args.self.now c.take_words.new.self c.args.line c.args.name c.words_of.result o) c.in-Some.is c.in_ok-take_words.ensures.taken in
+    let took = subst (λ o. TakesOrRefuses c.args.self.now c.take_words.new.self c.args.line c.args.name c.words_of.result o) c.in-Some.is
+    c.in_ok-take_words.ensures.taken in
     goes_on script table begun n _ found c.args.self.now step st c.args.name c.args.life (new_stream c.args.count c.args.room)
     (stream_makes script table n c.args.line c.args.name c.args.count c.args.room c.args.life step)
-    c.take_words.new.self c.take_words.new.self c.enter.new.self c.in-Some.taken c.words_of.result c.words_of.ensures.words took _ (stream_bind c.in-Some.taken.span.start c.args.count c.args.room) None (stream_given c.args.count c.args.room) None refl c.in_ok-enter-in-Some.ensures
+    c.take_words.new.self c.take_words.new.self c.enter.new.self c.in-Some.taken c.words_of.result c.words_of.ensures.words took _
+    (stream_bind c.in-Some.taken.span.start c.args.count c.args.room) None (stream_given c.args.count c.args.room) None refl c.in_ok-enter-in-Some.ensures

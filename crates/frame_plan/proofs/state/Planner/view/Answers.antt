@@ -9,7 +9,8 @@ pub is_disposed-requires-clause-name : goal.is_disposed-requires-clause-name
 is_disposed-requires-clause-name c = (view_ready c.args.line c.args.name c.args.of c.args.self.now c.requires.ready).of_in
 
 pub rename-requires : goal.rename-requires
-rename-requires c = pushed_in c.args.self.now c.say.new.self _ c.args.name c.in_ok-say.ensures (view_ready c.args.line c.args.name c.args.of c.args.self.now c.requires.ready).name_in
+rename-requires c = pushed_in c.args.self.now c.say.new.self _ c.args.name c.in_ok-say.ensures
+    (view_ready c.args.line c.args.name c.args.of c.args.self.now c.requires.ready).name_in
 
 pub index-requires : goal.index-requires
 index-requires c = (view_ready c.args.line c.args.name c.args.of c.args.self.now c.requires.ready).of_in
@@ -25,7 +26,8 @@ rename-requires-else-is_disposed c = (view_ready c.args.line c.args.name c.args.
 
 pub returns-in_ok-say : goal.returns-in_ok-say
 returns-in_ok-say c = record {
-  goes_on = view_refused c.args.line c.args.name c.args.of c.args.self.now c.say.new.self c.rename.new.self c.is_disposed.result c.is_disposed.ensures c.if-is_disposed.true
+  goes_on = view_refused c.args.line c.args.name c.args.of c.args.self.now c.say.new.self c.rename.new.self c.is_disposed.result c.is_disposed.ensures
+      c.if-is_disposed.true
       c.in_ok-say.ensures c.rename.ensures;
 }
 
@@ -33,7 +35,8 @@ pub returns-else-is_disposed : goal.returns-else-is_disposed
 returns-else-is_disposed c =
     let of_in = (view_ready c.args.line c.args.name c.args.of c.args.self.now c.requires.ready).of_in in
     record {
-      goes_on = viewed c.args.line c.args.name c.args.of c.args.self.now c.rename-else-is_disposed.new.self c.is_disposed.result c.is_disposed.ensures c.if-is_disposed.false
+      goes_on = viewed c.args.line c.args.name c.args.of c.args.self.now c.rename-else-is_disposed.new.self c.is_disposed.result c.is_disposed.ensures
+          c.if-is_disposed.false
           c.index.result.now (read_some c.args.self.now.values c.args.of c.index.result.now of_in c.index.ensures)
           (subst (IsRenamed c.args.self.now c.rename-else-is_disposed.new.self c.args.name) c.view_now-value.ensures c.rename-else-is_disposed.ensures);
     }

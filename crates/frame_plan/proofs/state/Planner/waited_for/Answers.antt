@@ -8,4 +8,5 @@ automatic-requires-clause-after c = none_up_to _ _ c.empty.ensures
 
 pub returns : goal.returns
 returns c =
-    waited c.args.self.now c.args.number c.tag_of-tag.result c.tag_of-tag.ensures (jobs_of c.empty.result) (jobs_of c.automatic.result) c.empty.ensures c.automatic.ensures.set
+    waited c.args.self.now c.args.number c.tag_of-tag.result c.tag_of-tag.ensures (jobs_of c.empty.result)
+    (jobs_of c.automatic.result) c.empty.ensures c.automatic.ensures.set

@@ -5,9 +5,9 @@ use Rattle.frame_print.proofs.Gathering.{gathers_stops, stops_before}
 use Rattle.frame_print.proofs.Listing.{stops_next, going_next, going_closes, cell_next, cells_end}
 use Rattle.frame_print.proofs.waiting.Waiting.put_cells.Goals as goal
 
-pub returns-in_err-put-clause-text : goal.returns-in_err-put-clause-text
-returns-in_err-put-clause-text g c =
-    gathers_stops _ _ _ _ _ _ c.from_residual.ensures.0 (stops_before _ _ _ (codes "[") _ c.in_err-put.ensures.text)
+pub returns-in_err-put_byte-clause-text : goal.returns-in_err-put_byte-clause-text
+returns-in_err-put_byte-clause-text g c =
+    gathers_stops _ _ _ _ _ _ c.from_residual.ensures.0 (stops_before _ _ _ (codes "[") _ c.in_err-put_byte.ensures.text)
 
 pub returns-in_err-put_number-clause-text : goal.returns-in_err-put_number-clause-text
 returns-in_err-put_number-clause-text g c =
@@ -34,5 +34,5 @@ loop-i-preserved g c =
 
 pub returns-clause-text : goal.returns-clause-text
 returns-clause-text g c =
-    going_closes signed_decimal c.loop-i.i _ (codes "]") _ _ _ _ _ _ _ c.put-2.result
-    (cells_end (g.M.Mem.cells c.args.mem.now) c.args.start c.args.len c.loop-i.i c.loop-i-test.false) c.loop-i.invariant.0 c.put-2.ensures.text
+    going_closes signed_decimal c.loop-i.i _ (codes "]") _ _ _ _ _ _ _ c.put_byte-2.result
+    (cells_end (g.M.Mem.cells c.args.mem.now) c.args.start c.args.len c.loop-i.i c.loop-i-test.false) c.loop-i.invariant.0 c.put_byte-2.ensures.text

@@ -28,5 +28,6 @@ returns-clause-on c =
     let start = c.start-start in
     record {
       within = omega arith;
-      line = ap (λ n. start.result.line + n) c.lines_in.ensures ∙ lines_to s start.result c.index-place.result (start.ensures.on s c.requires.on) start.ensures.before;
+      line = ap (λ n. start.result.line + n) c.lines_in.ensures ∙ lines_to s start.result c.index-place.result
+          (start.ensures.on s c.requires.on) start.ensures.before;
     }

@@ -15,7 +15,8 @@ invariant_of-self-in-None c =
     let many : c.len.result ≡ length c.self.inside.firsts.items = search rules in
     let free : first_for c.self.inside.firsts.items c.args.text.now ≡ None = search rules in
     rw c.in_ok-push-in-None.ensures.items
-    (index_first c.self.inside.firsts.items c.self.inside.others entries (record { text = c.args.text; kind = c.args.kind }) c.bucket_of-bucket.result c.len-place.result at
+    (index_first c.self.inside.firsts.items c.self.inside.others entries (record { text = c.args.text; kind = c.args.kind }) c.bucket_of-bucket.result
+    c.len-place.result at
     c.self.invariant room (c.bucket_of-bucket.ensures.bucket ∙ ap (λ n. bucket_of n c.args.text.now) many)
     (subst (λ n. c.bucket_of-bucket.result < n) many c.bucket_of-bucket.ensures.within) free)
 
@@ -48,7 +49,8 @@ invariant_of-self-else-is_err c =
     c.self.view_is c.self.invariant found c.index.ensures other
     ∙ none_from (other_of c.self.inside.others c.args.text.now) (sym c.contains_key.ensures ∙ c.if-contains_key.false) in
     rw c.in_ok-push-in-Some.ensures.items
-    (index_other c.self.inside.firsts.items c.self.inside.others c.insert.new.self entries (record { text = c.args.text; kind = c.args.kind }) c.len-place.result c.in-Some.first
+    (index_other c.self.inside.firsts.items c.self.inside.others c.insert.new.self entries
+    (record { text = c.args.text; kind = c.args.kind }) c.len-place.result c.in-Some.first
     at c.self.invariant room found (ap (λ ns. place_in ns c.args.text.now) c.self.view_is ∙ absent)
     (on_ok _ _ (sym c.is_err.ensures.value ∙ c.if-is_err.false) c.insert.ensures.updates))
 

@@ -8,7 +8,8 @@ pub returns-then-eq : goal.returns-then-eq
 returns-then-eq c =
     let found : first_for c.self.inside.firsts.items c.args.text.now ≡ Some c.in_ok-first.first = search rules in
     let same : bytes_eq c.index.result.now.text.now c.args.text.now ≡ true = search rules in
-    sym (found_first c.self.inside.firsts.items c.self.inside.others c.self.inside.entries.items c.args.self.now c.args.text.now c.in_ok-first.first c.index.result.now
+    sym (found_first c.self.inside.firsts.items c.self.inside.others c.self.inside.entries.items c.args.self.now c.args.text.now c.in_ok-first.first
+    c.index.result.now
     c.self.view_is c.self.invariant found c.index.ensures same)
 
 pub returns : goal.returns
@@ -16,5 +17,6 @@ returns c =
     let found : first_for c.self.inside.firsts.items c.args.text.now ≡ Some c.in_ok-first.first = search rules in
     let other : bytes_eq c.index.result.now.text.now c.args.text.now ≡ false = search rules in
     let copied : c.copied.result ≡ other_of c.self.inside.others c.args.text.now = search rules in
-    copied ∙ sym (found_other c.self.inside.firsts.items c.self.inside.others c.self.inside.entries.items c.args.self.now c.args.text.now c.in_ok-first.first c.index.result.now
+    copied ∙ sym (found_other c.self.inside.firsts.items c.self.inside.others c.self.inside.entries.items c.args.self.now c.args.text.now c.in_ok-first.first
+    c.index.result.now
     c.self.view_is c.self.invariant found c.index.ensures other)

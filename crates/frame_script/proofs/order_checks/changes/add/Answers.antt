@@ -13,4 +13,11 @@ pub returns-in_err-second : goal.returns-in_err-second
 returns-in_err-second c = exits _ _ c.from_residual-in_err-second.result _ c.from_residual-in_err-second.ensures.1 (search (rules, checking))
 
 pub returns : goal.returns
-returns c = (search (rules, checking), cc (c.in_ok-name.ensures.1 None, c.in_ok-second.ensures.1, signed_kept c.args.source c.args.first c.in_ok-first.first c.in_ok-first.ensures.0 c.in_ok-first.ensures.1))
+returns c = (
+  search (rules, checking),
+  cc (
+    c.in_ok-name.ensures.1 None,
+    c.in_ok-second.ensures.1,
+    signed_kept c.args.source c.args.first c.in_ok-first.first c.in_ok-first.ensures.0 c.in_ok-first.ensures.1,
+  ),
+)

@@ -15,4 +15,12 @@ pub returns-in_err-handle : goal.returns-in_err-handle
 returns-in_err-handle c = exits _ _ c.from_residual-in_err-handle.result _ c.from_residual-in_err-handle.ensures.1 (search (rules, checking))
 
 pub returns : goal.returns
-returns c = (search (rules, checking), (c.in_ok-after.after, c.in_ok-after.ensures.1 (made_as c.args.handle), of_parts (λ p h. order.Dispose p c.in_ok-after.after h) _ _ _ _ (c.in_ok-name.ensures.1 (made_as c.args.handle)) c.in_ok-handle.ensures.1))
+returns c = (
+  search (rules, checking),
+  (
+    c.in_ok-after.after,
+    c.in_ok-after.ensures.1 (made_as c.args.handle),
+    of_parts
+        (λ p h. order.Dispose p c.in_ok-after.after h) _ _ _ _ (c.in_ok-name.ensures.1 (made_as c.args.handle)) c.in_ok-handle.ensures.1,
+  ),
+)

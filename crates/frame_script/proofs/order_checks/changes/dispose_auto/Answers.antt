@@ -12,4 +12,8 @@ pub returns-in_err-handle : goal.returns-in_err-handle
 returns-in_err-handle c = exits _ _ c.from_residual-in_err-handle.result _ c.from_residual-in_err-handle.ensures.1 (search (rules, checking))
 
 pub returns : goal.returns
-returns c = (search (rules, checking), of_parts (λ p h. order.DisposeAuto p h) _ _ _ _ (c.in_ok-name.ensures.1 (Some (c.args.handle, Handle))) c.in_ok-handle.ensures.1)
+returns c = (
+  search (rules, checking),
+  of_parts (λ p h. order.DisposeAuto p h) _ _ _ _
+      (c.in_ok-name.ensures.1 (Some (c.args.handle, Handle))) c.in_ok-handle.ensures.1,
+)

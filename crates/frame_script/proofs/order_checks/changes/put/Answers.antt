@@ -13,4 +13,12 @@ pub returns-in_err-value : goal.returns-in_err-value
 returns-in_err-value c = exits _ _ c.from_residual-in_err-value.result _ c.from_residual-in_err-value.ensures.1 (search (rules, checking))
 
 pub returns : goal.returns
-returns c = (search (rules, checking), cc (c.in_ok-name.ensures.1 None, signed_kept c.args.source c.args.key c.in_ok-key.key c.in_ok-key.ensures.0 c.in_ok-key.ensures.1, signed_kept c.args.source c.args.value c.in_ok-value.value c.in_ok-value.ensures.0 c.in_ok-value.ensures.1))
+returns c = (
+  search (rules, checking),
+  cc (
+    c.in_ok-name.ensures.1 None,
+    signed_kept c.args.source c.args.key c.in_ok-key.key c.in_ok-key.ensures.0
+        c.in_ok-key.ensures.1,
+    signed_kept c.args.source c.args.value c.in_ok-value.value c.in_ok-value.ensures.0 c.in_ok-value.ensures.1,
+  ),
+)

@@ -7,6 +7,7 @@ use Rattle.frame_script.proofs.order_checks.jobs.arguments.Given as goal
 
 abbrev pub invariant-loop-place : goal.invariant-loop-place
 invariant-loop-place l = record {
-  passed : first_some (args_faults l.source l.names l.sizes l.kernel.params.items l.args) ≡ first_some (args_faults l.source l.names l.sizes (drop l.place l.kernel.params.items) (drop l.place l.args));
+  passed : first_some (args_faults l.source l.names l.sizes l.kernel.params.items l.args) ≡ first_some
+      (args_faults l.source l.names l.sizes (drop l.place l.kernel.params.items) (drop l.place l.args));
   given : (m : Option (ℕ × NameKind)) → l.given.items ≡ map (arg_of l.source (names_with l.source l.names m)) (take l.place l.args);
 }

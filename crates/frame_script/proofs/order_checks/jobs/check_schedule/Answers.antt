@@ -16,7 +16,8 @@ returns-in_default c =
     let text = text_at c.args.source c.args.text.now.kernel in
     let none : None ≡ kernel_at c.args.kernels.now text = search rules in
     refused_by _ _ c.refused.result _ c.refused.ensures
-    (schedule_unknown c.args.source c.args.names.now (kernel_in c.args.kernels.now text) c.args.text.now.kernel c.args.text.now.args.now c.args.text.now.sizes c.args.text.now.waive.now c.args.text.now.after.now _
+    (schedule_unknown c.args.source c.args.names.now (kernel_in c.args.kernels.now text) c.args.text.now.kernel c.args.text.now.args.now c.args.text.now.sizes
+    c.args.text.now.waive.now c.args.text.now.after.now _
     c.in_ok-handle.ensures.0 (kernel_missing c.args.kernels.now text none))
 
 pub returns-in_err-rest : goal.returns-in_err-rest
@@ -24,17 +25,21 @@ returns-in_err-rest c =
     let text = text_at c.args.source c.args.text.now.kernel in
     let found : Some c.in-Some.place ≡ kernel_at c.args.kernels.now text = search rules in
     exits _ _ c.from_residual-in_err-rest.result _ c.from_residual-in_err-rest.ensures.1
-    (schedule_refused c.args.source c.args.names.now (kernel_in c.args.kernels.now text) c.kernel-kernel.result.now c.args.text.now.kernel c.args.text.now.args.now c.args.text.now.sizes c.args.text.now.waive.now c.args.text.now.after.now _ _
-    c.in_ok-handle.ensures.0 (kernel_found c.args.kernels.now text c.in-Some.place c.kernel-kernel.result.now found c.kernel-kernel.ensures.kernel) c.in_err-rest.ensures)
+    (schedule_refused c.args.source c.args.names.now (kernel_in c.args.kernels.now text) c.kernel-kernel.result.now c.args.text.now.kernel
+    c.args.text.now.args.now c.args.text.now.sizes c.args.text.now.waive.now c.args.text.now.after.now _ _
+    c.in_ok-handle.ensures.0 (kernel_found c.args.kernels.now text c.in-Some.place c.kernel-kernel.result.now found c.kernel-kernel.ensures.kernel)
+    c.in_err-rest.ensures)
 
 pub returns : goal.returns
 returns c =
     let text = text_at c.args.source c.args.text.now.kernel in
     let found : Some c.in-Some.place ≡ kernel_at c.args.kernels.now text = search rules in
-    let is : Some c.kernel-kernel.result.now ≡ kernel_in c.args.kernels.now text = kernel_found c.args.kernels.now text c.in-Some.place c.kernel-kernel.result.now found c.kernel-kernel.ensures.kernel in
+    let is : Some c.kernel-kernel.result.now ≡ kernel_in c.args.kernels.now text =
+    kernel_found c.args.kernels.now text c.in-Some.place c.kernel-kernel.result.now found c.kernel-kernel.ensures.kernel in
     let says = c.in_ok-rest.ensures.1 in
     let made = Some (c.args.text.now.handle, Handle) in (
-      schedule_good c.args.source c.args.names.now (kernel_in c.args.kernels.now text) c.kernel-kernel.result.now c.args.text.now.kernel c.args.text.now.args.now c.args.text.now.sizes c.args.text.now.waive.now c.args.text.now.after.now _
+      schedule_good c.args.source c.args.names.now (kernel_in c.args.kernels.now text) c.kernel-kernel.result.now c.args.text.now.kernel
+          c.args.text.now.args.now c.args.text.now.sizes c.args.text.now.waive.now c.args.text.now.after.now _
           c.in_ok-handle.ensures.0 is c.in_ok-rest.ensures.0,
       (
         c.in_ok-job.job,

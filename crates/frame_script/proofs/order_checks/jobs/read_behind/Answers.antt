@@ -18,4 +18,13 @@ pub returns-in_err-after : goal.returns-in_err-after
 returns-in_err-after c = exits _ _ c.from_residual-in_err-after.result _ c.from_residual-in_err-after.ensures.1 (search (rules, checking))
 
 pub returns : goal.returns
-returns c = (search (rules, checking), record { args_are = c.in_ok-args.ensures.1; cut_is = c.in_ok-cut.ensures.1.0; defer_is = c.in_ok-cut.ensures.1.1; waive_are = c.in_ok-waive.ensures.1; after_are = c.in_ok-after.ensures.1 })
+returns c = (
+  search (rules, checking),
+  record {
+    args_are = c.in_ok-args.ensures.1;
+    cut_is = c.in_ok-cut.ensures.1.0;
+    defer_is = c.in_ok-cut.ensures.1.1;
+    waive_are = c.in_ok-waive.ensures.1;
+    after_are = c.in_ok-after.ensures.1;
+  },
+)

@@ -13,11 +13,13 @@ returns-in_default c = refused_by _ _ c.refused.result _ c.refused.ensures (waiv
 pub returns-in_err-waivable : goal.returns-in_err-waivable
 returns-in_err-waivable c =
     exits _ _ c.from_residual.result _ c.from_residual.ensures.1
-    (waive_refused c.args.source c.args.kernel.now c.args.at c.in-Some.place c.index-param.result.now _ (search rules) c.index-param.ensures (refuses _ _ c.in_err-waivable.ensures))
+    (waive_refused c.args.source c.args.kernel.now c.args.at c.in-Some.place c.index-param.result.now _ (search rules) c.index-param.ensures
+    (refuses _ _ c.in_err-waivable.ensures))
 
 pub returns : goal.returns
 returns c =
-    let found : position (λ p. bytes_eq (text_at c.args.source c.args.at) (string_bytes p.name)) c.args.kernel.now.params.items ≡ Some c.in-Some.place = search rules in (
+    let found : position (λ p. bytes_eq (text_at c.args.source c.args.at) (string_bytes p.name)) c.args.kernel.now.params.items ≡ Some c.in-Some.place =
+    search rules in (
       waive_known c.args.source c.args.kernel.now c.args.at c.in-Some.place c.index-param.result.now found c.index-param.ensures ∙ c.in_ok-waivable.ensures.0,
       sym (ap (λ o. unwrap_or o 0) found),
     )

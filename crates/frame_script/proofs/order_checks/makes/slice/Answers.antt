@@ -16,4 +16,12 @@ pub returns-in_err-len : goal.returns-in_err-len
 returns-in_err-len c = exits _ _ c.from_residual-in_err-len.result _ c.from_residual-in_err-len.ensures.1 (search (rules, checking))
 
 pub returns : goal.returns
-returns c = (search (rules, checking), cc (c.in_ok-name.ensures.1, c.in_ok-of.ensures.1 (Some (c.args.name, Slice)), c.in_ok-start.ensures.1, c.in_ok-len.ensures.1))
+returns c = (
+  search (rules, checking),
+  cc (
+    c.in_ok-name.ensures.1,
+    c.in_ok-of.ensures.1 (Some (c.args.name, Slice)),
+    c.in_ok-start.ensures.1,
+    c.in_ok-len.ensures.1,
+  ),
+)

@@ -14,7 +14,8 @@ returns c =
     let old = c.args.self.now in
     let blocks : c.in_ok-blocks.blocks ≡ length old.around.items = c.in_ok-blocks.ensures ∙ (c.len.ensures ∙ old.around.ok.0) in
     let none : first_some (order_faults s (scope_of old) c.args.at (Repeat c.args.count)) ≡ None =
-    subst (λ n. first_some (order_faults s (record { names = []; kernels = []; blocks = n; tested = false }) c.args.at (Repeat c.args.count)) ≡ None) blocks c.in_ok-count.ensures.0 in (
+    subst (λ n. first_some (order_faults s (record { names = []; kernels = []; blocks = n; tested = false }) c.args.at (Repeat c.args.count)) ≡ None) blocks
+    c.in_ok-count.ensures.0 in (
       none,
       record {
         enters = record { names = refl; kernels = refl; literals = refl; around = c.in_ok-push.ensures.items };

@@ -38,7 +38,9 @@ returns-in_err-add_kernel-in-Kernel-clause-refused c line kind is =
     let leads = subst (λ x. Leads all c.args.at x g.left) c.in-Kernel.is (c.in_ok-raw_item.ensures g.left g.opens) in
     let told = exit_is c.from_residual-in_err-add_kernel-in-Kernel.result _ (load.Refused line kind) c.from_residual-in_err-add_kernel-in-Kernel.ensures.1 is in
     refused_in_kernel c.args.source all c.args.at c.in-Kernel.next c.args.self.now line kind g leads.2
-    (subst (λ es. RefusesKernel c.args.source es c.args.self.now.kernels line kind) (noted_between c.args.notes.now c.args.at (c.in-Kernel.next - c.args.at) ∙ leads.2.events_are) (c.in_err-add_kernel-in-Kernel.ensures.refused line kind (ap (λ e. Err e) told)))
+    (subst (λ es. RefusesKernel c.args.source es c.args.self.now.kernels line kind)
+    (noted_between c.args.notes.now c.args.at (c.in-Kernel.next - c.args.at) ∙ leads.2.events_are)
+    (c.in_err-add_kernel-in-Kernel.ensures.refused line kind (ap (λ e. Err e) told)))
 
 pub returns-in-Kernel-clause-walked : goal.returns-in-Kernel-clause-walked
 returns-in-Kernel-clause-walked c =
@@ -48,22 +50,28 @@ returns-in-Kernel-clause-walked c =
       leads.0,
       leads.1,
       went_past_kernel c.args.source all c.args.at c.in-Kernel.next c.args.self.now _ c.add_kernel.new.kernels g leads.2
-          (subst (λ es. AddsKernel c.args.source es c.args.self.now.kernels c.add_kernel.new.kernels) (noted_between c.args.notes.now c.args.at (c.in-Kernel.next - c.args.at) ∙ leads.2.events_are) c.in_ok-add_kernel-in-Kernel.ensures.added) refl,
+          (subst (λ es. AddsKernel c.args.source es c.args.self.now.kernels c.add_kernel.new.kernels)
+          (noted_between c.args.notes.now c.args.at (c.in-Kernel.next - c.args.at) ∙ leads.2.events_are) c.in_ok-add_kernel-in-Kernel.ensures.added) refl,
     )
 
 pub returns-in-Ok-clause-walked : goal.returns-in-Ok-clause-walked
 returns-in-Ok-clause-walked c =
     let g = c.requires.walking in
     let all = events_of c.args.notes.now in
-    let leads = subst (λ x. Leads all c.args.at x g.left) c.in-Order.is (c.in_ok-raw_item.ensures g.left g.opens) in
-    (leads.0, leads.1, went_past_order c.args.source all c.args.at c.in-Order.first c.in-Order.order c.in-Order.next c.args.self.now c.order.new.self c.requires.text g leads.2 c.in-Ok.ensures.0 c.in-Ok.ensures.1)
+    let leads = subst (λ x. Leads all c.args.at x g.left) c.in-Order.is (c.in_ok-raw_item.ensures g.left g.opens) in (
+      leads.0,
+      leads.1,
+      went_past_order c.args.source all c.args.at c.in-Order.first c.in-Order.order c.in-Order.next c.args.self.now c.order.new.self
+          c.requires.text g leads.2 c.in-Ok.ensures.0 c.in-Ok.ensures.1,
+    )
 
 pub returns-in-Order-clause-refused : goal.returns-in-Order-clause-refused
 returns-in-Order-clause-refused c line kind is =
     let g = c.requires.walking in
     let all = events_of c.args.notes.now in
     let leads = subst (λ x. Leads all c.args.at x g.left) c.in-Order.is (c.in_ok-raw_item.ensures g.left g.opens) in
-    refused_in_order c.args.source all c.args.at c.in-Order.first c.in-Order.order c.in-Order.next c.args.self.now c.in-Err.fault line kind g leads.2 c.in-Err.ensures (c.told.ensures line kind cc)
+    refused_in_order c.args.source all c.args.at c.in-Order.first c.in-Order.order c.in-Order.next c.args.self.now c.in-Err.fault line kind g leads.2
+    c.in-Err.ensures (c.told.ensures line kind cc)
 
 pub close-requires-clause-open : goal.close-requires-clause-open
 close-requires-clause-open c =

@@ -8,7 +8,8 @@ loop-at-init c = copied_none c.args.self.now c.args.start
 
 pub index-requires : goal.index-requires
 index-requires c =
-    let long : length c.args.self.now.statements ≤ length c.loop-at.self.statements = as_long c.args.self.now c.loop-at.self c.loop-at.invariant.0 c.loop-at.invariant.2 in
+    let long : length c.args.self.now.statements ≤ length c.loop-at.self.statements =
+    as_long c.args.self.now c.loop-at.self c.loop-at.invariant.0 c.loop-at.invariant.2 in
     let same : length c.self.inside.statements.items ≡ length c.loop-at.self.statements = ap (λ v. length v.statements) c.self.view_is in
     let within : c.loop-at.at < length c.self.inside.statements.items = omega (arith, long, same, c.requires.within, c.loop-at-test.true) in
     search (rules, within)

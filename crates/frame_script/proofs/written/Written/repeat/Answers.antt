@@ -16,13 +16,15 @@ loop-init c = record { some = omega arith; repeated = ([], refl, refl) }
 pub returns-then-is_some : goal.returns-then-is_some
 returns-then-is_some c =
     let some : is_some c.loop.self.over ≡ true = ap (λ v. is_some v.over) (sym c.self-in-loop.view_is) ∙ sym c.is_some.ensures ∙ c.if-is_some.true in
-    left_over (c.loop.counter - 1) (c.args.count - 1) (drop c.args.start c.args.self.now.statements) c.args.self.now c.loop.self c.loop.invariant.some some c.loop.invariant.repeated
+    left_over (c.loop.counter - 1) (c.args.count - 1) (drop c.args.start c.args.self.now.statements) c.args.self.now c.loop.self c.loop.invariant.some some
+    c.loop.invariant.repeated
 
 pub copy-requires : goal.copy-requires
 copy-requires c =
     let len : c.len-end.result ≡ length c.self.inside.statements.items = search rules in
     let same : length c.self.inside.statements.items ≡ length c.args.self.now.statements = ap (λ v. length v.statements) c.self.view_is in
-    let long : length c.args.self.now.statements ≤ length c.loop.self.statements = as_long c.args.self.now c.loop.self c.loop.invariant.repeated.0 c.loop.invariant.repeated.2 in
+    let long : length c.args.self.now.statements ≤ length c.loop.self.statements =
+    as_long c.args.self.now c.loop.self c.loop.invariant.repeated.0 c.loop.invariant.repeated.2 in
     record { order = omega (arith, c.if-end-start.false); within = omega (arith, len, same, long) }
 
 pub loop-preserved : goal.loop-preserved
@@ -33,7 +35,8 @@ loop-preserved c =
     same_block c.args.self.now c.loop.self c.loop.invariant.repeated.0 c.args.start c.len-end.result c.loop.invariant.repeated.2 (len ∙ same) in
     record {
       some = omega (arith, c.loop-test.true);
-      repeated = once_more (c.loop.counter - 1) (c.loop.counter + 1 - 1) (drop c.args.start c.args.self.now.statements) c.args.self.now c.loop.self c.copy.new.self
+      repeated = once_more (c.loop.counter - 1) (c.loop.counter + 1 - 1) (drop c.args.start c.args.self.now.statements) c.args.self.now c.loop.self
+          c.copy.new.self
           (omega (arith, c.loop.auto.counter)) c.loop.invariant.repeated
           (subst (λ xs. PutsCopies xs c.loop.self c.copy.new.self) block c.in_ok-copy.ensures);
     }

@@ -40,7 +40,8 @@ loop-left-preserved c =
       within = omega arith;
       union = elim c.if-has.branch [
         | then-has+then-not-has w ↦ subst (λ all. IsUnion (vec_len book.rows) book.rows.items book.completed c.args.h.now all (left - 1)) (sym w.all-is)
-            (one_more (vec_len book.rows) book.rows.items book.completed c.args.h.now c.loop-left.all w.combine-all.result w.index.result.now (left - 1) union (omega arith)
+            (one_more (vec_len book.rows) book.rows.items book.completed c.args.h.now c.loop-left.all w.combine-all.result w.index.result.now (left - 1) union
+            (omega arith)
             (ap (λ n. jobs_of c.args.h.now n) some ∙ (sym c.has.ensures ∙ w.if-has.true)) w.index.ensures
             (ap (λ (x : Handle). jobs_of x (suc (left - 1))) w.index.ensures ∙ book.own (left - 1) w.index.result.now (omega arith)) w.combine-all.ensures)
         | else-has w ↦ subst (λ all. IsUnion (vec_len book.rows) book.rows.items book.completed c.args.h.now all (left - 1)) (sym w.all-is)
@@ -48,7 +49,8 @@ loop-left-preserved c =
             (λ k low high wanted.
             let same : k ≡ left = omega arith in
             elim w.else-has.branch [
-              | else-has-via-then-has+else-not-has v ↦ subst (λ n. jobs_of c.loop-left.all n ≡ true) (sym same) (sym v.has-then-has.ensures ∙ v.if-not-has.false)
+              | else-has-via-then-has+else-not-has v ↦ subst (λ n. jobs_of c.loop-left.all n ≡ true) (sym same)
+                  (sym v.has-then-has.ensures ∙ v.if-not-has.false)
               | else-has-via-else-has v ↦ absurd (not_both (subst (λ n. jobs_of c.args.h.now n ≡ true) same wanted) (sym c.has.ensures ∙ v.if-has.false))
             ]))
       ];
@@ -58,12 +60,14 @@ pub returns-clause-all : goal.returns-clause-all
 returns-clause-all c =
     let book = c.args.self.now in
     all_there (vec_len book.rows) book.rows.items book.completed c.args.h.now c.loop-left.all
-    (subst (λ n. IsUnion (vec_len book.rows) book.rows.items book.completed c.args.h.now c.loop-left.all n) (let z : c.loop-left.left ≡ 0 = omega arith in z) c.loop-left.invariant.union)
+    (subst (λ n. IsUnion (vec_len book.rows) book.rows.items book.completed c.args.h.now c.loop-left.all n)
+    (let z : c.loop-left.left ≡ 0 = omega arith in z) c.loop-left.invariant.union)
     c.requires
 
 pub returns-clause-own : goal.returns-clause-own
 returns-clause-own c =
     let book = c.args.self.now in
     all_own (vec_len book.rows) book.rows.items book.completed c.args.h.now c.loop-left.all
-    (subst (λ n. IsUnion (vec_len book.rows) book.rows.items book.completed c.args.h.now c.loop-left.all n) (let z : c.loop-left.left ≡ 0 = omega arith in z) c.loop-left.invariant.union)
+    (subst (λ n. IsUnion (vec_len book.rows) book.rows.items book.completed c.args.h.now c.loop-left.all n)
+    (let z : c.loop-left.left ≡ 0 = omega arith in z) c.loop-left.invariant.union)
     c.requires

@@ -12,14 +12,16 @@ atom-returns-in_ok-one-in-Element-clause-built t c r e here =
     let there = sym c.node_at.ensures.node ∙ c.in-Some.is in
     let known = ap (λ m. m.name) (c.meaning_at-named.ensures _ (meaning_is raw c.args.meanings.now c.args.at c.in-Some.node r there)) in
     let form_is : IsTrue (is_one c.in-Some.node.form) = grind (arith, c.in-Element.is) in
-    atom_one raw c.args.at c.in-Some.node _ c.in_ok-inner-in-Element.inner.expr _ _ there (faultless_at raw _ _ _ r there) known form_is (c.in_ok-inner-in-Element.ensures.built r) c.in_ok-one-in-Element.ensures e here
+    atom_one raw c.args.at c.in-Some.node _ c.in_ok-inner-in-Element.inner.expr _ _ there (faultless_at raw _ _ _ r there) known form_is
+    (c.in_ok-inner-in-Element.ensures.built r) c.in_ok-one-in-Element.ensures e here
 
 pub atom-returns-in_ok-both-in-Item-clause-built : goal.atom-returns-in_ok-both-in-Item-clause-built
 atom-returns-in_ok-both-in-Item-clause-built t c r e here =
     let raw = c.args.raw.now in
     let there = sym c.node_at.ensures.node ∙ c.in-Some.is in
     let known = ap (λ m. m.name) (c.meaning_at-named.ensures _ (meaning_is raw c.args.meanings.now c.args.at c.in-Some.node r there)) in
-    atom_item raw c.args.at c.in-Some.node _ c.in_ok-first-in-Item.first.expr c.in_ok-second-in-Item.second.expr _ _ _ _ there (faultless_at raw _ _ _ r there) known c.in-Item.is
+    atom_item raw c.args.at c.in-Some.node _ c.in_ok-first-in-Item.first.expr c.in_ok-second-in-Item.second.expr _ _ _ _ there
+    (faultless_at raw _ _ _ r there) known c.in-Item.is
     (c.in_ok-first-in-Item.ensures.built r) (c.in_ok-second-in-Item.ensures.built r) c.number_of.ensures c.in_ok-both-in-Item.ensures.ok e here
 
 pub atom-returns-in_default-form-clause-built : goal.atom-returns-in_default-form-clause-built
@@ -28,7 +30,8 @@ atom-returns-in_default-form-clause-built t c r e here =
     let node = c.in-Some.node in
     let there = sym c.node_at.ensures.node ∙ c.in-Some.is in
     let known = ap (λ m. m.name) (c.meaning_at-named.ensures _ (meaning_is raw c.args.meanings.now c.args.at node r there)) in
-    atom_leaf raw c.args.at node _ _ there (faultless_at raw _ _ _ r there) known c.in_default-form.not-Element c.in_default-form.not-Has c.in_default-form.not-Count c.in_default-form.not-Unary c.in_default-form.not-Item c.leaf.ensures e here
+    atom_leaf raw c.args.at node _ _ there (faultless_at raw _ _ _ r there) known c.in_default-form.not-Element c.in_default-form.not-Has
+    c.in_default-form.not-Count c.in_default-form.not-Unary c.in_default-form.not-Item c.leaf.ensures e here
 
 pub chain-returns-in_default-clause-built : goal.chain-returns-in_default-clause-built
 chain-returns-in_default-clause-built t c r l e b here built = chain_stop c.args.raw.now c.args.start _ _ c.in_default.ensures.cases b here built
@@ -36,8 +39,10 @@ chain-returns-in_default-clause-built t c r l e b here built = chain_stop c.args
 pub chain-returns-clause-built : goal.chain-returns-clause-built
 chain-returns-clause-built t c =
     IfOk-weaker c.chain.result _ _ (λ last h r l e b here built.
-    chain_more c.args.raw.now c.args.start c.in-Some.node _ _ c.in_ok-join.field-0 last.expr _ _ last.next c.in-Some.ensures.cases.0 c.in-Some.ensures.cases.1 c.in-Some.ensures.cases.2
-    (c.in_ok-right.ensures.built r) (subst (λ k. IsJoint (joint_of k) c.args.left.expr c.in_ok-right.right.expr c.in_ok-join.field-0) c.kind_at.ensures c.in_ok-join.ensures) (λ u v w. h r u e v here w) b here built) c.chain.ensures.built
+    chain_more c.args.raw.now c.args.start c.in-Some.node _ _ c.in_ok-join.field-0 last.expr _ _ last.next c.in-Some.ensures.cases.0 c.in-Some.ensures.cases.1
+    c.in-Some.ensures.cases.2
+    (c.in_ok-right.ensures.built r) (subst (λ k. IsJoint (joint_of k) c.args.left.expr c.in_ok-right.right.expr c.in_ok-join.field-0) c.kind_at.ensures
+    c.in_ok-join.ensures) (λ u v w. h r u e v here w) b here built) c.chain.ensures.built
 
 pub expression-returns-clause-built : goal.expression-returns-clause-built
 expression-returns-clause-built t c =

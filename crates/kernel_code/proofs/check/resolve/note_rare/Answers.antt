@@ -10,5 +10,6 @@ returns-clause-known c none =
     let node = c.args.node.now in
     let found = c.in-Ok.ensures in
     known_next raw i node node _ _ _ _ _ _ (known_closed raw i _ _ _ _ c.requires.known c.close_blocks.ensures)
-    (slice_get_within raw.nodes.items i node c.requires.here) (sym (get_or_from_slice_get raw.nodes.items i node node c.requires.here)) found.0 c.in_ok-name.ensures.locals c.in_ok-note_block.ensures
+    (slice_get_within raw.nodes.items i node c.requires.here) (sym (get_or_from_slice_get raw.nodes.items i node node c.requires.here)) found.0
+    c.in_ok-name.ensures.locals c.in_ok-note_block.ensures
     (meaning_pushed raw i node _ _ _ _ found.1 c.in_ok-name.ensures.named c.in_ok-push.ensures.items)

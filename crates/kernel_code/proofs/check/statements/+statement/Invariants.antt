@@ -13,7 +13,8 @@ decreases-block l = 2 * (length l.raw.now.nodes.items - l.from) + 1
 abbrev pub invariant-block-loop-at : goal.invariant-block-loop-at
 invariant-block-loop-at l = record {
   begins : l.from ≤ l.at;
-  partly : IsResolved l.raw l.meanings → (owner : Option ℕ) (b : RawBlock) → IsBlockHere l.raw owner l.from b → l.end ≡ l.from + block_size b → IsPartly l.raw owner l.from l.at l.end b l.statements.items;
+  partly : IsResolved l.raw l.meanings → (owner : Option ℕ) (b : RawBlock) → IsBlockHere l.raw owner l.from b → l.end ≡ l.from + block_size b
+      → IsPartly l.raw owner l.from l.at l.end b l.statements.items;
 }
 
 abbrev pub decreases-block-loop-at : goal.decreases-block-loop-at

@@ -21,7 +21,9 @@ loop-at-preserved c = record {
 pub returns-else-at-len : goal.returns-else-at-len
 returns-else-at-len c owner b here e =
     let raw = c.args.raw.now in
-    counted_missing raw owner c.loop-at.at c.args.end b c.loop-at.count c.loop-at-test.true (slice_get_past raw.nodes.items c.loop-at.at (omega arith)) (c.loop-at.invariant.counted owner b here e)
+    counted_missing raw owner c.loop-at.at c.args.end b c.loop-at.count c.loop-at-test.true (slice_get_past raw.nodes.items c.loop-at.at (omega arith))
+    (c.loop-at.invariant.counted owner b here e)
 
 pub returns-after-loop-at : goal.returns-after-loop-at
-returns-after-loop-at c owner b here e = counted_end c.args.raw.now owner c.loop-at.at c.args.end b c.loop-at.count c.loop-at-test.false (c.loop-at.invariant.counted owner b here e)
+returns-after-loop-at c owner b here e = counted_end c.args.raw.now owner c.loop-at.at c.args.end b c.loop-at.count c.loop-at-test.false
+    (c.loop-at.invariant.counted owner b here e)

@@ -11,12 +11,14 @@ returns-in-Some c =
     let raw = c.args.raw.now in
     let there = c.in-Some.ensures.lookup in
     c.is_above.ensures (raw.line + lines_in (take c.index.result raw.marks.now))
-    ∙ sym (ap (λ found. nat_lt c.args.most (value_of (token_text raw.source.now found))) (token_there raw.source.now raw.line raw.marks.now c.index.result c.in-Some.mark.now (ltb-true _ _ (sym there.0)) there.1))
+    ∙ sym (ap (λ found. nat_lt c.args.most (value_of (token_text raw.source.now found)))
+    (token_there raw.source.now raw.line raw.marks.now c.index.result c.in-Some.mark.now (ltb-true _ _ (sym there.0)) there.1))
     ∙ ap (λ at. nat_lt c.args.most (value_at raw at)) c.index.ensures
 
 pub returns-in-None : goal.returns-in-None
 returns-in-None c =
     let raw = c.args.raw.now in
     sym (le-ltb c.args.most 0 (omega arith))
-    ∙ sym (ap (λ found. nat_lt c.args.most (value_of (token_text raw.source.now found))) (no_token raw.source.now raw.line raw.marks.now c.index.result (ltb-false _ _ (sym c.in-None.ensures.lookup.0))))
+    ∙ sym (ap (λ found. nat_lt c.args.most (value_of (token_text raw.source.now found)))
+    (no_token raw.source.now raw.line raw.marks.now c.index.result (ltb-false _ _ (sym c.in-None.ensures.lookup.0))))
     ∙ ap (λ at. nat_lt c.args.most (value_at raw at)) c.index.ensures

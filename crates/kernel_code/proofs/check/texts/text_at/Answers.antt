@@ -10,7 +10,8 @@ returns-in-Some c =
     let raw = c.args.raw.now in
     let there = c.in-Some.ensures.lookup in
     c.text.ensures (raw.line + lines_in (take c.index.result raw.marks.now))
-    ∙ sym (ap (token_text raw.source.now) (token_there raw.source.now raw.line raw.marks.now c.index.result c.in-Some.mark.now (ltb-true _ _ (sym there.0)) there.1))
+    ∙ sym (ap (token_text raw.source.now) (token_there raw.source.now raw.line raw.marks.now c.index.result c.in-Some.mark.now
+    (ltb-true _ _ (sym there.0)) there.1))
     ∙ ap (text_at raw) c.index.ensures
 
 pub returns-in-None : goal.returns-in-None

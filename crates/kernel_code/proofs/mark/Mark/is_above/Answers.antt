@@ -11,7 +11,8 @@ returns-then-not-is_ascii_digit c line =
       | in-Number w ↦ sym c.kind.ensures ∙ w.in-Number.is
       | in_default w ↦ cc
     ] in
-    few_digits c.args.source.now line c.start-start.result c.args.self c.args.most c.start-start.ensures c.if-start-source.true (c.type_inv.source c.start-start.result).fits kind
+    few_digits c.args.source.now line c.start-start.result c.args.self c.args.most c.start-start.ensures c.if-start-source.true
+    (c.type_inv.source c.start-start.result).fits kind
     (sym c.is_ascii_digit.ensures.value ∙ c.if-is_ascii_digit.true) (sym c.if-not-is_ascii_digit.ensures.value) c.requires.great
 
 pub returns : goal.returns

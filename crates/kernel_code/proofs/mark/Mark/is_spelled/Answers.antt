@@ -11,4 +11,5 @@ returns-then-is_letter c line =
     let start : c.start-start.result ≡ start_of c.args.self = c.start-start.ensures in
     let some : 0 < length name = omega (arith, eqb-false _ _ (sym c.if-not-is_empty.ensures)) in
     let first : get_or source (start_of c.args.self) 0 ≡ get_or name 0 0 = ap (λ n. get_or source n 0) (sym start) ∙ c.if-source-start.false in
-    letter_spelled source line c.args.self name (c.type_inv.source (start_of c.args.self)).fits (sym c.is_letter.ensures ∙ c.if-is_letter.true) (omega arith) some first
+    letter_spelled source line c.args.self name (c.type_inv.source (start_of c.args.self)).fits (sym c.is_letter.ensures ∙ c.if-is_letter.true)
+    (omega arith) some first

@@ -18,5 +18,6 @@ loop-number-preserved g c =
     let there = subst (λ k. know_of g.K.PlanName.plan c.in_ok-held.held ≡ new_seat (eqb k 0)) (sym inv.size) knows in
     record {
       size = ap (λ l. length l) c.in_ok-push.ensures.items ∙ (longer all _ ∙ (ap suc inv.size ∙ omega arith));
-      seats = λ k seat e. all_more (λ i s. know_of g.K.PlanName.plan s.held ≡ new_seat (eqb i 0)) all _ inv.seats there k seat (subst (λ l. slice_get l k ≡ Some seat) c.in_ok-push.ensures.items e);
+      seats = λ k seat e. all_more (λ i s. know_of g.K.PlanName.plan s.held ≡ new_seat (eqb i 0)) all _ inv.seats there k seat
+          (subst (λ l. slice_get l k ≡ Some seat) c.in_ok-push.ensures.items e);
     }

@@ -43,7 +43,8 @@ read_cell-requires g c =
     let leased = s.leased c.in-Some.p c.in-Some.is in
     let low : p < length l.spans.items = subst (λ n. p < n) (sym l.span_count) leased in
     let spans = spans_here plan l.spans.items p c.index.result.now c.deref.result.now l.spans_are low c.index.ensures c.deref.ensures.value in
-    let hit = spans_read plan p c.args.w.0 ∙ leased_reads plan s.held.lease c.in-Some.p c.requires.word.0 c.args.w.0 c.in-Some.is c.requires.word.1 c.requires.word.2 in
+    let hit = spans_read plan p c.args.w.0 ∙ leased_reads plan s.held.lease c.in-Some.p c.requires.word.0 c.args.w.0 c.in-Some.is c.requires.word.1
+    c.requires.word.2 in
     let below = place_below (spans_of plan p) c.args.w.0 hit in
     let fits = s.room p leased in
     let at : c.place_in-at.result ≡ place_in (spans_of plan p) c.args.w.0 = c.place_in-at.ensures.place ∙ ap (λ y. place_in y c.args.w.0) spans in
@@ -64,4 +65,5 @@ returns-clause-cell g c =
     let at : c.place_in-at.result ≡ place_of plan p w = c.place_in-at.ensures.place ∙ ap (λ y. place_in y w) spans in
     let whole : to_z w64 (of_z w64 c.read_cell.result) ≡ c.read_cell.result = omega (arith, ints) in
     whole ∙ (c.read_cell.ensures ∙ (ap (λ y. cells_of y c.place_in-at.result) c.deref-2.ensures.value ∙ (ap (cells_of h.room.items) at
-    ∙ sym (ap (λ o. seen_cells plan o h.room.items w) c.in-Some.is ∙ seen_cell plan h.owed h.dues.items h.rights.items h.seen.items h.first h.ended h.opened c.in-Some.p h.room.items w r))))
+    ∙ sym (ap (λ o. seen_cells plan o h.room.items w) c.in-Some.is ∙ seen_cell plan h.owed h.dues.items h.rights.items h.seen.items h.first h.ended h.opened
+    c.in-Some.p h.room.items w r))))

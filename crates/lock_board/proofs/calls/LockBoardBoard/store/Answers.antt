@@ -22,7 +22,8 @@ place_in-at-requires-clause-word g c =
     let low : p < length l.spans.items = subst (λ n. p < n) (sym l.span_count) (s.leased c.in-Some.p c.in-Some.is) in
     let spans = spans_here plan l.spans.items p c.index.result.now c.deref.result.now l.spans_are low c.index.ensures c.deref.ensures.value in
     let read = writes_read (touches plan (piece_numbered plan c.requires.word.0)) c.args.w.0 c.requires.word.2 in
-    ap (λ y. hits false y c.args.w.0) spans ∙ (spans_read plan p c.args.w.0 ∙ leased_reads plan s.held.lease c.in-Some.p c.requires.word.0 c.args.w.0 c.in-Some.is c.requires.word.1 read)
+    ap (λ y. hits false y c.args.w.0) spans ∙ (spans_read plan p c.args.w.0
+    ∙ leased_reads plan s.held.lease c.in-Some.p c.requires.word.0 c.args.w.0 c.in-Some.is c.requires.word.1 read)
 
 pub place_in-at-requires-clause-fits : goal.place_in-at-requires-clause-fits
 place_in-at-requires-clause-fits g c =
@@ -78,6 +79,7 @@ returns-clause-know g c =
     ∙ (c.write_cell.ensures ∙ (ap (λ y. set y c.place_in-at.result (to_z w64 (of_z w64 c.args.v))) was
     ∙ (ap (set h.room.items c.place_in-at.result) whole ∙ ap (λ n. set h.room.items n c.args.v) at))) in
     ap (λ y. knows plan h.lease y h.owed h.dues.items h.rights.items h.seen.items h.first h.ended h.opened) is
-    ∙ subst (λ (o : Option PieceId). knows plan o (set h.room.items (place_of plan p w) c.args.v) h.owed h.dues.items h.rights.items h.seen.items h.first h.ended h.opened
+    ∙ subst (λ (o : Option PieceId). knows plan o (set h.room.items (place_of plan p w) c.args.v) h.owed h.dues.items h.rights.items h.seen.items h.first
+    h.ended h.opened
     ≡ stored (knows plan o h.room.items h.owed h.dues.items h.rights.items h.seen.items h.first h.ended h.opened) w c.args.v) (sym c.in-Some.is)
     (know_stored plan h.owed h.dues.items h.rights.items h.seen.items h.first h.ended h.opened c.in-Some.p h.room.items w c.args.v (s.room p leased) r)

@@ -26,7 +26,8 @@ invariant_of-self g c =
       rest_count = m.rest_count;
       wait_count = m.wait_count;
       due_count = m.due_count;
-      kept = ∥∥₁_map m.kept (λ C. begun_kept g.K.PlanName.plan m.states.items m.cells.items m.rests.items m.waits.items m.dues.items p c.requires.piece m.state_count is C c.args.seat);
+      kept = ∥∥₁_map m.kept (λ C. begun_kept g.K.PlanName.plan m.states.items m.cells.items m.rests.items m.waits.items m.dues.items p c.requires.piece
+          m.state_count is C c.args.seat);
     }
 
 pub copy_in-requires-clause-within : goal.copy_in-requires-clause-within
@@ -34,7 +35,8 @@ copy_in-requires-clause-within g c i t e lt =
     let m = c.args.self.now in
     let ts = c.args.layout.now.spans.items in
     let low : c.args.p < length ts = subst (λ n. c.args.p < n) (sym c.args.layout.now.span_count) c.requires.piece in
-    let le = c.args.layout.now.within c.args.p i c.index-2.result.now t (got ts c.args.p c.index-2.result.now low c.index-2.ensures) (ap (λ l. slice_get l i) (sym c.deref.ensures.value) ∙ e) lt in
+    let le = c.args.layout.now.within c.args.p i c.index-2.result.now t (got ts c.args.p c.index-2.result.now low c.index-2.ensures)
+    (ap (λ l. slice_get l i) (sym c.deref.ensures.value) ∙ e) lt in
     subst (λ n. t.end ≤ n) (sym (ap (λ l. length l) c.deref-2.ensures.value ∙ m.cell_count)) le
 
 pub copy_in-requires-clause-room : goal.copy_in-requires-clause-room
@@ -59,4 +61,5 @@ returns-clause-room g c t w r =
     let hit = ap (λ l. hits false l w) spans ∙ (spans_read plan p w ∙ r) in
     let copied : cells_of c.copy_in.new.room (place_of plan p w) ≡ cells_of m.cells.items w =
     ap (λ l. cells_of c.copy_in.new.room (place_in l w)) (sym spans) ∙ (c.copy_in.ensures w hit ∙ ap (λ l. cells_of l w) c.deref-2.ensures.value) in
-    copied ∙ ∥∥₁_elim m.kept (Coded-set coded_ℤ _ _) (λ C. begun_cells plan m.states.items m.cells.items m.rests.items m.waits.items m.dues.items p c.requires.piece m.state_count is C w r)
+    copied ∙ ∥∥₁_elim m.kept (Coded-set coded_ℤ _ _) (λ C. begun_cells plan m.states.items m.cells.items m.rests.items m.waits.items m.dues.items p
+    c.requires.piece m.state_count is C w r)

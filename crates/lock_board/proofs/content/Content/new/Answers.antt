@@ -22,7 +22,8 @@ invariant_of-result g c =
     let parts = c.args.layout.now.parts_are in
     let segments : c.len.result ≡ length plan.segments.items = search rules in
     let jobs : c.len-2.result ≡ length plan.jobs.items = search rules in
-    let pieces : c.args.layout.now.parts + c.len.result ≡ piece_count g.K.PlanName.plan = ap (λ n. n + c.len.result) parts ∙ (ap (λ n. job_pieces g.K.PlanName.plan + n) segments ∙ ap (λ (p : Plan). job_pieces g.K.PlanName.plan + length p.segments.items) e) in
+    let pieces : c.args.layout.now.parts + c.len.result ≡ piece_count g.K.PlanName.plan = ap (λ n. n + c.len.result) parts
+    ∙ (ap (λ n. job_pieces g.K.PlanName.plan + n) segments ∙ ap (λ (p : Plan). job_pieces g.K.PlanName.plan + length p.segments.items) e) in
     let new : AreNew plan states cells c.in_ok-rests.rests.items c.in_ok-waits.waits.items dues = record {
       states = λ p. ap (λ l. get_or l p Closed) s ∙ repeated_at (c.args.layout.now.parts + c.len.result) p Closed;
       cells = λ y. ap (λ l. get_or l y (pos 0)) w ∙ repeated_at plan.words y (pos 0);

@@ -36,7 +36,8 @@ invariant_of-self g c =
       due_count = length-set m.dues.items j (c.index_mut.result.now - 1) ∙ m.due_count;
       kept = ∥∥₁_map m.kept (λ C.
           let e = C.wait_is j c.requires.job in
-          released_kept g.K.PlanName.plan m.states.items m.cells.items m.rests.items m.waits.items m.dues.items j (c.index-2.result.now - 1) (c.index_mut.result.now - 1) c.requires.job
+          released_kept g.K.PlanName.plan m.states.items m.cells.items m.rests.items m.waits.items m.dues.items j (c.index-2.result.now - 1)
+          (c.index_mut.result.now - 1) c.requires.job
           m.wait_count m.due_count C (omega arith) (omega arith));
     }
 
@@ -49,6 +50,7 @@ returns-clause-last g c =
     let d : slice_index m.dues.items j ≡ c.index.result.now = read m.dues.items j c.index.result.now 0 low c.index.ensures in
     let w : slice_index m.waits.items j ≡ c.index-2.result.now = read m.waits.items j c.index-2.result.now 0 low' c.index-2.ensures in
     let some = c.if-index-eq0.false in (
-      (λ t. ∥∥₁_elim m.kept (Coded-set coded_ℕ _ _) (λ C. let e = C.wait_is j c.requires.job in let z : c.index-2.result.now - 1 ≡ 0 = eqb-true (c.index-2.result.now - 1) 0 t in omega arith)),
+      (λ t. ∥∥₁_elim m.kept (Coded-set coded_ℕ _ _) (λ C. let e = C.wait_is j c.requires.job in
+          let z : c.index-2.result.now - 1 ≡ 0 = eqb-true (c.index-2.result.now - 1) 0 t in omega arith)),
       (λ o. ∥∥₁_elim m.kept (Coded-set coded_bool _ _) (λ C. let e = C.wait_is j c.requires.job in eq-eqb (c.index-2.result.now - 1) 0 (omega arith))),
     )

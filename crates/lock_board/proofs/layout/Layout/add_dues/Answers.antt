@@ -15,7 +15,8 @@ add_all-requires-clause-ids g c =
     let count = s.follower_count in
     let low : k < length plan.jobs.items = omega (arith, some, few) in
     let there = row_at s.followers.items k c.index.result.now (omega (arith, low, count)) c.index.ensures ∙ sym c.deref.ensures.value in
-    subst (NameSome (length c.args.dues.now)) there (subst (λ n. NameSome n (row s.followers.items k)) (sym c.requires.size) (followers_named plan s.followers.items s.followers_are k low))
+    subst (NameSome (length c.args.dues.now)) there (subst (λ n. NameSome n (row s.followers.items k)) (sym c.requires.size)
+    (followers_named plan s.followers.items s.followers_are k low))
 
 pub add_all-requires-clause-once : goal.add_all-requires-clause-once
 add_all-requires-clause-once g c d =
@@ -40,7 +41,8 @@ add_all-requires-clause-fits g c d due =
     let low : k < length plan.jobs.items = omega (arith, some, few) in
     let is : suc k ≡ c.args.job = omega (arith, some) in
     let there = row_at s.followers.items k c.index.result.now (omega (arith, low, count)) c.index.ensures ∙ sym c.deref.ensures.value in
-    let after : times (suc d) c.deref.result.now ≡ due_after plan c.args.job (suc d) = sym (ap (times (suc d)) there) ∙ (s.followers_are k (suc d) low ∙ ap (λ n. due_after plan n (suc d)) is) in
+    let after : times (suc d) c.deref.result.now ≡ due_after plan c.args.job (suc d) = sym (ap (times (suc d)) there)
+    ∙ (s.followers_are k (suc d) low ∙ ap (λ n. due_after plan n (suc d)) is) in
     let more = subst (λ n. 0 < n) after due in
     c.requires.fits d (subst (λ n. d < n) (sym c.requires.size) (due_below plan c.args.job d more)) more
 

@@ -15,7 +15,8 @@ can_add-requires g c =
     let low : k < length plan.jobs.items = omega (arith, some, few) in
     let there = row_at s.followers.items k c.index.result.now (omega (arith, low, count)) c.index.ensures ∙ sym c.deref.ensures.value in
     record {
-      ids = subst (NameSome (length c.args.dues.now)) there (subst (λ n. NameSome n (row s.followers.items k)) (sym c.requires.size) (followers_named plan s.followers.items s.followers_are k low));
+      ids = subst (NameSome (length c.args.dues.now)) there (subst (λ n. NameSome n (row s.followers.items k)) (sym c.requires.size)
+          (followers_named plan s.followers.items s.followers_are k low));
     }
 
 pub returns : goal.returns
@@ -29,4 +30,5 @@ returns g c t d lt due =
     let low : k < length plan.jobs.items = omega (arith, some, few) in
     let is : suc k ≡ c.args.job = omega (arith, some) in
     let there = row_at s.followers.items k c.index.result.now (omega (arith, low, count)) c.index.ensures ∙ sym c.deref.ensures.value in
-    c.can_add.ensures t d (subst (λ n. 0 < n) (sym (sym (ap (times (suc d)) there) ∙ (s.followers_are k (suc d) low ∙ ap (λ n. due_after plan n (suc d)) is))) due)
+    c.can_add.ensures t d (subst (λ n. 0 < n) (sym (sym (ap (times (suc d)) there) ∙ (s.followers_are k (suc d) low ∙ ap (λ n. due_after plan n (suc d)) is)))
+    due)

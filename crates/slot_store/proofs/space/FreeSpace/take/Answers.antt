@@ -24,9 +24,11 @@ overflow_add-hole c =
 
 pub invariant_of-self : goal.invariant_of-self
 invariant_of-self c = record {
-  apart = cut_of c.args.self.now.holes.items c.as_slice.result.now c.cut.new.holes.items c.in-Some.at c.args.len c.args.self.now.top c.index-hole.result.now c.args.self.now.apart c.as_slice.ensures.value c.in-Some.ensures.some.0 (omega arith) c.in-Some.ensures.some.1 c.cut.ensures.items;
+  apart = cut_of c.args.self.now.holes.items c.as_slice.result.now c.cut.new.holes.items c.in-Some.at c.args.len c.args.self.now.top c.index-hole.result.now
+      c.args.self.now.apart c.as_slice.ensures.value c.in-Some.ensures.some.0 (omega arith) c.in-Some.ensures.some.1 c.cut.ensures.items;
   bounded = let z = c.args.self.now in
-      bounded_cut c.first_fit.new.bounds.lens.items c.note.new.self.lens.items z.holes.items c.as_slice.result.now c.cut.new.holes.items c.in-Some.at c.args.len c.index-hole.result.now
+      bounded_cut c.first_fit.new.bounds.lens.items c.note.new.self.lens.items z.holes.items c.as_slice.result.now c.cut.new.holes.items c.in-Some.at c.args.len
+      c.index-hole.result.now
       (subst (λ l. AreBounded c.first_fit.new.bounds.lens.items l) c.as_slice.ensures.value c.first_fit.ensures.bounded)
       c.note.ensures.others c.as_slice.ensures.value c.in-Some.ensures.some.0 c.index-hole.ensures c.note.ensures.within c.cut.ensures.items;
 }
@@ -38,13 +40,17 @@ invariant_of-self-in-None c = record {
 }
 
 pub returns-in-Some-clause-fit : goal.returns-in-Some-clause-fit
-returns-in-Some-clause-fit c = fit_of c.args.self.now.holes.items c.as_slice.result.now c.in-Some.at c.args.len c.args.self.now.top c.index-hole.result.now c.args.self.now.apart c.as_slice.ensures.value c.in-Some.ensures.some.0 (omega arith) c.in-Some.ensures.some.1 c.in-Some.ensures.some.2 c.index-hole.ensures
+returns-in-Some-clause-fit c = fit_of c.args.self.now.holes.items c.as_slice.result.now c.in-Some.at c.args.len c.args.self.now.top c.index-hole.result.now
+    c.args.self.now.apart c.as_slice.ensures.value c.in-Some.ensures.some.0 (omega arith) c.in-Some.ensures.some.1 c.in-Some.ensures.some.2 c.index-hole.ensures
 
 pub returns-in-Some-clause-live : goal.returns-in-Some-clause-live
-returns-in-Some-clause-live c = cut_live_of c.args.self.now.holes.items c.as_slice.result.now c.cut.new.holes.items c.in-Some.at c.args.len c.args.self.now.top c.index-hole.result.now c.args.self.now.apart c.as_slice.ensures.value c.in-Some.ensures.some.0 (omega arith) c.in-Some.ensures.some.1 c.index-hole.ensures c.cut.ensures.items
+returns-in-Some-clause-live c = cut_live_of c.args.self.now.holes.items c.as_slice.result.now c.cut.new.holes.items c.in-Some.at c.args.len c.args.self.now.top
+    c.index-hole.result.now c.args.self.now.apart c.as_slice.ensures.value c.in-Some.ensures.some.0
+    (omega arith) c.in-Some.ensures.some.1 c.index-hole.ensures c.cut.ensures.items
 
 pub returns-in-None-clause-fit : goal.returns-in-None-clause-fit
-returns-in-None-clause-fit c = fit_above c.args.self.now.holes.items c.args.self.now.top c.args.len c.args.self.now.apart (omega arith) (subst (λ l. AreSmall l c.args.len (length l)) c.as_slice.ensures.value c.in-None.ensures.none)
+returns-in-None-clause-fit c = fit_above c.args.self.now.holes.items c.args.self.now.top c.args.len c.args.self.now.apart (omega arith)
+    (subst (λ l. AreSmall l c.args.len (length l)) c.as_slice.ensures.value c.in-None.ensures.none)
 
 pub returns-in-None-clause-live : goal.returns-in-None-clause-live
 returns-in-None-clause-live c = λ w. live_above c.args.self.now.holes.items c.args.self.now.top c.args.len w c.args.self.now.apart

@@ -36,10 +36,15 @@ invariant_of-self c =
     let b2 : taken_once p ≡ 0 = refl in
     let r = z.room in
     let left = c.swap_remove.new.self.items in
-    let listed = unlisted ps z.held.items left s p known z.kept.held c.requires.held (times_removed z.held.items left c.args.at s c.swap_remove.result (omega arith) c.requires.slot c.swap_remove.ensures.value c.swap_remove.ensures.items) refl in
+    let listed = unlisted ps z.held.items left s p known z.kept.held c.requires.held
+    (times_removed z.held.items left c.args.at s c.swap_remove.result (omega arith) c.requires.slot c.swap_remove.ensures.value c.swap_remove.ensures.items)
+    refl in
     record {
-      kept = freed_of ps z.words z.slots z.held.items z.live_words z.peak z.kept s known used c.index.result.now (place_is ps s c.index.result.now known c.index.ensures) c.give.new.self c.give-2.new.self left p refl c.give.ensures.live c.give.ensures.top c.give-2.ensures.live c.give-2.ensures.top listed;
+      kept = freed_of ps z.words z.slots z.held.items z.live_words z.peak z.kept s known used c.index.result.now
+          (place_is ps s c.index.result.now known c.index.ensures) c.give.new.self c.give-2.new.self left p refl c.give.ensures.live c.give.ensures.top
+          c.give-2.ensures.live c.give-2.ensures.top listed;
       room = record { words = omega arith; slots = omega arith; held = omega arith };
-      waits = waits_removed ps z.held.items left z.waiting c.args.at s z.held.len z.completed p z.waits c.requires.first (omega arith) (omega arith) (omega arith) c.swap_remove.ensures.by_index
+      waits = waits_removed ps z.held.items left z.waiting c.args.at s z.held.len z.completed p z.waits c.requires.first (omega arith) (omega arith)
+          (omega arith) c.swap_remove.ensures.by_index
           (listed s ∙ (ap held_once (here ps s p known) ∙ cond-false (is_held p.state) 1 0 refl));
     }

@@ -34,7 +34,9 @@ invariant_of-self c =
     let b2 : taken_once p ≡ 0 = refl in
     let r = z.room in
     record {
-      kept = freed_of ps z.words z.slots z.held.items z.live_words z.peak z.kept s known used c.index.result.now (place_is ps s c.index.result.now known c.index.ensures) c.give.new.self c.give-2.new.self z.held.items p refl c.give.ensures.live c.give.ensures.top c.give-2.ensures.live c.give-2.ensures.top
+      kept = freed_of ps z.words z.slots z.held.items z.live_words z.peak z.kept s known used c.index.result.now
+          (place_is ps s c.index.result.now known c.index.ensures) c.give.new.self c.give-2.new.self z.held.items p refl c.give.ensures.live c.give.ensures.top
+          c.give-2.ensures.live c.give-2.ensures.top
           (not_listed ps z.held.items s p known c.requires.taken refl z.kept.held);
       room = record { words = omega arith; slots = omega arith; held = omega arith };
       waits = waits_set ps z.held.items z.waiting z.completed s p (not_held_if_taken (place_at ps s).state c.requires.taken) z.waits;

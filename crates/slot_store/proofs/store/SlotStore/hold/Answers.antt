@@ -28,9 +28,12 @@ invariant_of-self c =
     let m = c.in-Ok.ensures.capacity in
     let r = z.room in
     record {
-      kept = stays ps z.words z.slots z.held.items z.live_words z.peak z.kept s known used c.push.new.self.items p refl (ap (λ (x : Place). x.span) (place_is ps s c.index.result.now known c.index.ensures))
-          (λ t. subst (λ xs. times xs t ≡ held_once (place_at (set ps s p) t)) (sym c.in-Ok.ensures.items) (listed ps z.held.items s 0 p known c.requires.taken refl z.kept.held t));
+      kept = stays ps z.words z.slots z.held.items z.live_words z.peak z.kept s known used c.push.new.self.items p refl
+          (ap (λ (x : Place). x.span) (place_is ps s c.index.result.now known c.index.ensures))
+          (λ t. subst (λ xs. times xs t ≡ held_once (place_at (set ps s p) t)) (sym c.in-Ok.ensures.items)
+          (listed ps z.held.items s 0 p known c.requires.taken refl z.kept.held t));
       room = record { words = omega arith; slots = omega arith; held = omega arith };
       waits = subst (λ xs. AreWaiting (set ps s p) xs z.waiting z.completed) (sym c.in-Ok.ensures.items)
-          (waits_pushed (set ps s p) z.held.items z.waiting z.completed s (waits_set ps z.held.items z.waiting z.completed s p (not_held_if_taken (place_at ps s).state c.requires.taken) z.waits));
+          (waits_pushed (set ps s p) z.held.items z.waiting z.completed s
+          (waits_set ps z.held.items z.waiting z.completed s p (not_held_if_taken (place_at ps s).state c.requires.taken) z.waits));
     }

@@ -11,7 +11,8 @@ invariant_of-self c =
     let h = c.reserve_all.ensures.held in
     let r = s.room in
     record {
-      kept = kept_moved s.places.items s.words s.slots c.reserve_all.new.words c.reserve_all.new.slots s.held.items c.reserve_all.new.held.items s.live_words s.peak s.kept w.holes w.top n.holes n.top h.0;
+      kept = kept_moved s.places.items s.words s.slots c.reserve_all.new.words c.reserve_all.new.slots s.held.items c.reserve_all.new.held.items s.live_words
+          s.peak s.kept w.holes w.top n.holes n.top h.0;
       room = record { words = omega arith; slots = omega arith; held = omega arith };
       waits = subst (λ xs. AreWaiting s.places.items xs s.waiting s.completed) (sym h.0) s.waits;
     }

@@ -38,11 +38,16 @@ invariant_of-self c =
     let l = z.kept.live in
     let t = used_le ps in
     record {
-      kept = subst (λ m. AreKept (set ps s p) c.give.new.self z.slots z.held.items (z.live_words + c.args.len - c.index.result.now.span.len) m) (sym c.max-self.ensures)
-          (moved_of ps z.words z.slots z.held.items z.live_words z.peak z.kept s known used c.index.result.now (place_is ps s c.index.result.now known c.index.ensures) c.index-2.result.now.version c.args.len c.take-start.result c.take-start.new.self c.give.new.self c.requires.taken c.take-start.ensures.fit c.take-start.ensures.live c.take-start.ensures.top c.give.ensures.live c.give.ensures.top (omega arith));
+      kept = subst (λ m. AreKept (set ps s p) c.give.new.self z.slots z.held.items (z.live_words + c.args.len - c.index.result.now.span.len) m)
+          (sym c.max-self.ensures)
+          (moved_of ps z.words z.slots z.held.items z.live_words z.peak z.kept s known used c.index.result.now
+          (place_is ps s c.index.result.now known c.index.ensures) c.index-2.result.now.version c.args.len c.take-start.result c.take-start.new.self
+          c.give.new.self c.requires.taken c.take-start.ensures.fit c.take-start.ensures.live c.take-start.ensures.top c.give.ensures.live
+          c.give.ensures.top (omega arith));
       room = record { words = omega arith; slots = omega arith; held = omega arith };
       waits = waits_set ps z.held.items z.waiting z.completed s p (not_held_if_taken (place_at ps s).state c.requires.taken) z.waits;
     }
 
 pub returns-clause-fit : goal.returns-clause-fit
-returns-clause-fit c = let z = c.args.self.now in kept_fit z.places.items z.words z.slots z.held.items z.live_words z.peak c.args.len c.take-start.result z.kept c.take-start.ensures.fit
+returns-clause-fit c = let z = c.args.self.now in kept_fit z.places.items z.words z.slots z.held.items z.live_words z.peak c.args.len c.take-start.result z.kept
+    c.take-start.ensures.fit

@@ -29,7 +29,11 @@ returns-then-found-place c =
     let found = c.compare_exchange-found.result in
     let same = c.if-found-place.true in
     record {
-      given = record { home = E.0 ∙ c.loop-place.invariant.home; given = E.2.0 ∙ (ap (λ b. cond b (Given job found) (Saw job found)) (eq-eqb found c.loop-place.place same) ∙ ap (Given job) same) };
+      given = record {
+        home = E.0 ∙ c.loop-place.invariant.home;
+        given = E.2.0
+            ∙ (ap (λ b. cond b (Given job found) (Saw job found)) (eq-eqb found c.loop-place.place same) ∙ ap (Given job) same);
+      };
       low = c.loop-place-test.true;
       none = tt;
     }
@@ -54,4 +58,13 @@ loop-place-preserved c =
 pub returns : goal.returns
 returns c =
     let none = c.loop-place-test.false in
-    record { given = tt; low = tt; none = record { home = c.loop-place.invariant.home; seen = c.loop-place.place; saw = c.loop-place.invariant.saw; all = omega (arith, none) } }
+    record {
+      given = tt;
+      low = tt;
+      none = record {
+        home = c.loop-place.invariant.home;
+        seen = c.loop-place.place;
+        saw = c.loop-place.invariant.saw;
+        all = omega (arith, none);
+      };
+    }

@@ -21,7 +21,8 @@ returns-in-None-number_of-clause-err c =
     let fields = fields_of c.args.fields.now in
     let count : length c.self.inside.columns.items ≡ length c.args.self.now = sym (length-seen c.self.inside.columns.items) ∙ ap length c.self.view_is in
     let same : length fields ≡ length c.args.self.now = omega (arith, count, c.self.inside.columns.ok.0) in
-    inr (row_not_number c.args.row _ fields same (numbers-not fields c.loop-i.i c.in-Some.field.now (sym c.in-Some.ensures.value) c.in-None-number_of.ensures.value))
+    inr (row_not_number c.args.row _ fields same (numbers-not fields c.loop-i.i c.in-Some.field.now
+    (sym c.in-Some.ensures.value) c.in-None-number_of.ensures.value))
 
 pub unreachable-requires : goal.unreachable-requires
 unreachable-requires c =
@@ -40,6 +41,7 @@ loop-i-preserved c =
     let i = c.loop-i.i in
     let held = c.loop-i.self in record {
       columns = value_step c.args.self.now held _ fields i c.in-Some.field.now c.in-Some-number_of.value
-          c.loop-i.invariant.columns (on-ok c.push_value.result (search rules) c.push_value.ensures ∙ ap (λ v. slice_set held i (with_value (slice_index_or held i (empty_column [])) v)) value) lt at number;
+          c.loop-i.invariant.columns (on-ok c.push_value.result (search rules) c.push_value.ensures
+          ∙ ap (λ v. slice_set held i (with_value (slice_index_or held i (empty_column [])) v)) value) lt at number;
       numbers = numbers-more fields i c.in-Some.field.now c.in-Some-number_of.value at number c.loop-i.invariant.numbers;
     }

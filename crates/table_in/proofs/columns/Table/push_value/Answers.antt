@@ -12,6 +12,8 @@ returns c =
     let view : map seen columns ≡ c.args.self.now = c.self.view_is in
     let count : length columns ≡ length c.args.self.now = sym (length-seen columns) ∙ ap length view in
     let lt : c.args.i < length columns = let inside = c.requires in omega (arith, count, inside) in
-    pushed seen columns c.args.i c.index_mut-column.result.now (record { name = c.index_mut-column.result.now.name; values = c.push.new.self }) c.args.value lt c.index_mut-column.ensures.value
-    (ap (λ vs. record { name = c.index_mut-column.result.now.name.items; values = vs }) (c.in_ok-push.ensures.items ∙ ap (λ v. c.index_mut-column.result.now.values.items ++ v ∷ []) value))
+    pushed seen columns c.args.i c.index_mut-column.result.now (record { name = c.index_mut-column.result.now.name; values = c.push.new.self }) c.args.value lt
+    c.index_mut-column.ensures.value
+    (ap (λ vs. record { name = c.index_mut-column.result.now.name.items; values = vs })
+    (c.in_ok-push.ensures.items ∙ ap (λ v. c.index_mut-column.result.now.values.items ++ v ∷ []) value))
     ∙ ap (λ cs. slice_set cs c.args.i (with_value (slice_index_or cs c.args.i (empty_column [])) c.args.value)) view

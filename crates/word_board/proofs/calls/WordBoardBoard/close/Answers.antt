@@ -52,7 +52,8 @@ loop-w-preserved c =
     }
 
 pub free-requires : goal.free-requires
-free-requires c = λ k low. let none : slots_len c.close_with-closed.result.slots ≡ 0 = c.close_with-closed.ensures.counts.1 ∙ c.args.self.no_slots in absurd (omega arith)
+free-requires c = λ k low. let none : slots_len c.close_with-closed.result.slots ≡ 0 = c.close_with-closed.ensures.counts.1 ∙ c.args.self.no_slots in
+    absurd (omega arith)
 
 pub returns-clause-room : goal.returns-clause-room
 returns-clause-room c = c.loop-w.invariant.size
@@ -66,5 +67,6 @@ returns-clause-cells c = λ w low.
     let cells = c.args.self.cells_are in
     let last = c.loop-w-test.false in
     let got = c.loop-w.invariant.written w (omega arith) in
-    let word : get_or s.words (1 + w) 0 ≡ got.0 = ap (λ l. get_or l (1 + w) 0) done.2 ∙ got_at (slots_items c.close_with-closed.result.words) (1 + w) got.0 got.1 in
+    let word : get_or s.words (1 + w) 0 ≡ got.0 = ap (λ l. get_or l (1 + w) 0) done.2
+    ∙ got_at (slots_items c.close_with-closed.result.words) (1 + w) got.0 got.1 in
     got.2 ∙ (ap (cast_signed w64) (sym word) ∙ (sym (ap (cast_signed w64) (window_at s.words 1 key.words w low)) ∙ end))

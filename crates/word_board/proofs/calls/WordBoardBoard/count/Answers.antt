@@ -76,7 +76,8 @@ returns-then-count-clause-step c =
     let e : c.requires.owed.0 ≡ suc (c.index-job.result.now - 1) = omega arith in (
       c.index-job.result.now - 1,
       c.requires.owed.1 ∙ ap Some e,
-      counted_step c.args.self.now c.args.seat.now c.requires.home _ _ _ true _ _ c.count.ensures.view c.if-count.true (ap (λ r. r + (c.index-job.result.now - 1)) c.args.self.now.rests_are),
+      counted_step c.args.self.now c.args.seat.now c.requires.home _ _ _ true _ _ c.count.ensures.view c.if-count.true
+          (ap (λ r. r + (c.index-job.result.now - 1)) c.args.self.now.rests_are),
     )
 
 pub returns-else-count-clause-step : goal.returns-else-count-clause-step
@@ -87,5 +88,6 @@ returns-else-count-clause-step c =
     let e : c.requires.owed.0 ≡ suc (c.index-job.result.now - 1) = omega arith in (
       c.index-job.result.now - 1,
       c.requires.owed.1 ∙ ap Some e,
-      counted_step c.args.self.now c.args.seat.now c.requires.home _ _ _ false _ _ c.count.ensures.view c.if-count.false (ap (λ r. r + (c.index-job.result.now - 1)) c.args.self.now.rests_are),
+      counted_step c.args.self.now c.args.seat.now c.requires.home _ _ _ false _ _ c.count.ensures.view c.if-count.false
+          (ap (λ r. r + (c.index-job.result.now - 1)) c.args.self.now.rests_are),
     )

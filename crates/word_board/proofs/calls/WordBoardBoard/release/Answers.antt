@@ -7,4 +7,5 @@ pub release-requires-clause-seat : goal.release-requires-clause-seat
 release-requires-clause-seat c = seat_of c.args.self.now c.args.seat.now c.requires.home
 
 pub returns-clause-know : goal.returns-clause-know
-returns-clause-know c = ap know c.release.ensures.view ∙ released_is c.args.self.now c.args.seat.now c.requires.home c.args.j.0 c.release.result 0 0 c.requires.job.0 c.requires.due
+returns-clause-know c = ap know c.release.ensures.view ∙ released_is c.args.self.now c.args.seat.now c.requires.home c.args.j.0 c.release.result 0 0
+    c.requires.job.0 c.requires.due

@@ -11,4 +11,5 @@ pub store-requires-clause-lease : goal.store-requires-clause-lease
 store-requires-clause-lease c = let w = c.requires.word in (w.0, w.1, (leased_is c.args.self.now c.args.seat.now c.requires.home w.0 w.1).1, w.2)
 
 pub store-requires-clause-word : goal.store-requires-clause-word
-store-requires-clause-word c = let w = c.requires.word in c.args.self.now.within w.0 c.args.w.0 (writes_read (touches c.args.self.now.table.shared.key (piece_numbered c.args.self.now.table.shared.key w.0)) c.args.w.0 w.2)
+store-requires-clause-word c = let w = c.requires.word in c.args.self.now.within w.0 c.args.w.0
+    (writes_read (touches c.args.self.now.table.shared.key (piece_numbered c.args.self.now.table.shared.key w.0)) c.args.w.0 w.2)

@@ -1,0 +1,19 @@
+use Rattle.std.proofs.Common.{sym, subst}
+use Rattle.std.specs.Prelude.{Vec}
+use Rattle.std.specs.declared.alloc.Global.{Global}
+use Rattle.frame_ast.specs.declared.kernel.Kernel.{Kernel}
+use Rattle.frame_plan.specs.Sections.{AreKernelsOf, AreLeft}
+use Rattle.frame_plan.specs.Tables.{columns_of}
+use Rattle.frame_top.proofs.Sectioning.{made_of}
+use Rattle.frame_top.proofs.sections.next_section.Goals as goal
+
+pub returns-clause-made : goal.returns-clause-made
+returns-clause-made c sections from was =
+    made_of _ _ sections from _ _ c.args.progress.now _ was
+    (c.next.ensures.section from was.carried was.len was.at was.outcome
+    (subst (λ m. AreLeft m was.carried was.len) (sym c.replace-cells.ensures.value) was.left))
+
+pub next-requires-clause-kernels : goal.next-requires-clause-kernels
+next-requires-clause-kernels c some =
+    subst (λ (v : Vec Kernel Global). AreKernelsOf c.args.book.now c.args.script.now (columns_of c.args.table.now) v.items)
+    (sym c.replace-kernels.ensures.value) (c.requires.here.2.kernels some)
