@@ -1,9 +1,9 @@
 """Worked scripts with what they give, read from where the repository has them: no list of them stands here.
 
-`worked_rows()` gives the rows of the tests in crates/top_rows/src/scripts.rt and crates/whole_rows/src/rows.rt, which are
-texts, and those of crates/ast_rows/proofs/Rows*.antt, which are theorems about what the definitions compute. The latter
-are written out as texts: the kernels that a row uses stand before its lines, so the line numbers in what it prints are
-moved by as many. A row with a `repeat` that is written out there is left out here, since the tests have it.
+`worked_rows()` gives the rows of crates/frame_rows/src and of the tests in crates/whole_rows/src/rows.rt, which are texts,
+and those of crates/ast_rows/proofs/Rows*.antt, which are theorems about what the definitions compute. The latter are
+written out as texts: the kernels that a row uses stand before its lines, so the line numbers in what it prints are moved
+by as many. A row with a `repeat` that is written out there is left out here, since the tests have it.
 """
 import collections
 import glob
@@ -26,25 +26,27 @@ def read(path):
 
 
 def unescaped(text):
-    return text.replace('\\"', '"').replace("\\n", "\n")
+    """A string of Rust as what it stands for: a backslash at the end of a line goes on with the next one's first word."""
+    return re.sub(r"\\\n\s*", "", text).replace('\\"', '"').replace("\\n", "\n")
 
 
 # THE ROWS OF THE TESTS
 
-STRING = r'"((?:[^"\\]|\\.)*)"'
+STRING = r'"((?:[^"\\]|\\.|\\\n)*)"'
 TEST_ROW = re.compile(rf"Row \{{\s*kernels: (\w+),\s*script: {STRING},\s*status: (\d+),\s*output: {STRING},")
 # lines after the worked kernels, a status and a text
 PLAIN_ROW = re.compile(rf"\(\s*{STRING},\s*(\d+),\s*{STRING},?\s*\)")
 
 
 def rows_of_tests():
-    kernels = unescaped(re.search(rf"const KERNELS: &str = {STRING}", read("crates/top_rows/src/calls.rt"))[1])
-    text = read("crates/top_rows/src/scripts.rt")
-    rows = TEST_ROW.findall(text)
-    assert len(rows) == text.count("Row {"), "a row of top_rows/src/scripts.rt isn't read"
-    for number, (has_kernels, script, status, output) in enumerate(rows, 1):
-        head = kernels if has_kernels == "true" else ""
-        yield Row(f"top_rows row {number}", head + unescaped(script), None, int(status), unescaped(output))
+    kernels = unescaped(re.search(rf"const KERNELS: &str = {STRING}", read("crates/frame_rows/src/section.rt"))[1])
+    for name in ("job_rows", "container_rows"):
+        text = read(f"crates/frame_rows/src/{name}.rt")
+        rows = TEST_ROW.findall(text)
+        assert len(rows) == text.count("Row {"), f"a row of {name} isn't read"
+        for number, (has_kernels, script, status, output) in enumerate(rows, 1):
+            head = kernels if has_kernels == "true" else ""
+            yield Row(f"{name} row {number}", head + unescaped(script), None, int(status), unescaped(output))
     for number, (lines, status, output) in enumerate(PLAIN_ROW.findall(read("crates/whole_rows/src/rows.rt")), 1):
         yield Row(f"whole_rows row {number}", kernels + unescaped(lines), None, int(status), unescaped(output))
 
