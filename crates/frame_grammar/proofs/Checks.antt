@@ -4,10 +4,10 @@ use Rattle.std.proofs.lemmas.Bool.{ltb-true, lt-ltb}
 use Rattle.std.specs.List.{list_all}
 use Rattle.std.proofs.lemmas.List.Folds.{list_all-append}
 use denote.Enum.Bare.{sameb, same_true}
-use Rattle.frame_grammar.specs.contracts.TokenKind.{the_type as the_kind}
+use Rattle.frame_grammar.specs.contracts.token_kind.TokenKind.{the_type as the_kind}
 use Rattle.frame_grammar.specs.contracts.symbols.Nonterminal.{the_type as the_part}
 use Rattle.frame_grammar.specs.contracts.symbols.Production.{the_type as the_rule}
-use Rattle.frame_grammar.specs.declared.TokenKind.{TokenKind}
+use Rattle.frame_grammar.specs.declared.token_kind.TokenKind.{TokenKind}
 use Rattle.frame_grammar.specs.declared.symbols.Nonterminal.{Nonterminal}
 use Rattle.frame_grammar.specs.declared.symbols.Nonterminal.TheVariants.{File}
 use Rattle.frame_grammar.specs.declared.symbols.Symbol.{Symbol}
@@ -15,11 +15,12 @@ use Rattle.frame_grammar.specs.declared.symbols.Symbol.TheVariants as symbol
 use Rattle.frame_grammar.specs.declared.symbols.Event.{Event}
 use Rattle.frame_grammar.specs.declared.symbols.Production.{Production}
 use Rattle.frame_grammar.specs.declared.symbols.Production.TheVariants as production
-use Rattle.frame_grammar.specs.Grammar.{head_of, body_of, Derives, nothing, terminal, action, expanded}
+use Rattle.frame_grammar.specs.Grammar.{head_of, Derives, nothing, terminal, action, expanded}
+use Rattle.frame_grammar.specs.Bodies.{body_of}
 use Rattle.frame_grammar.specs.Table.{choices_of, default_of}
 use Rattle.frame_grammar.specs.Predict.{found, or_else, predicted, same_kind}
 use Rattle.frame_grammar.specs.Sets.{firsts_of, is_nullable_of, barred_of, rank_of}
-use Rattle.frame_grammar.specs.Parser.{weight, Starts, has_kind}
+use Rattle.frame_grammar.specs.Stack.{weight, Starts, has_kind}
 use Rattle.frame_grammar.proofs.Shortest.{short_of, height_of}
 use Rattle.frame_grammar.proofs.Theory.{IsNullable, IsFine, nullable, nullable-to, Derives-append, and_left, and_right, both}
 use Rattle.std.proofs.lemmas.List.{append-nil}

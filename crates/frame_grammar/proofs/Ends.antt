@@ -7,11 +7,11 @@ use Rattle.std.proofs.lemmas.Bool.{cases_lt}
 use Rattle.std.proofs.Math.Seq.{get_or-append_seam}
 use Rattle.std.proofs.Math.ListN.{get_or-append}
 use denote.Enum.Bare.{sameb, same_true, true_same}
-use Rattle.frame_grammar.specs.contracts.TokenKind.{the_type as the_kind}
+use Rattle.frame_grammar.specs.contracts.token_kind.TokenKind.{the_type as the_kind}
 use Rattle.frame_grammar.specs.contracts.symbols.Nonterminal.{the_type as the_nonterminal}
 use Rattle.frame_grammar.specs.contracts.symbols.Production.{the_type as the_production}
-use Rattle.frame_grammar.specs.declared.TokenKind.{TokenKind}
-use Rattle.frame_grammar.specs.declared.TokenKind.TheVariants.{End}
+use Rattle.frame_grammar.specs.declared.token_kind.TokenKind.{TokenKind}
+use Rattle.frame_grammar.specs.declared.token_kind.TokenKind.TheVariants.{End}
 use Rattle.frame_grammar.specs.declared.symbols.Event.{Event}
 use Rattle.frame_grammar.specs.declared.symbols.Nonterminal.{Nonterminal}
 use Rattle.frame_grammar.specs.declared.symbols.Nonterminal.TheVariants.{File, Kernel, Items}
@@ -19,10 +19,11 @@ use Rattle.frame_grammar.specs.declared.symbols.Symbol.{Symbol}
 use Rattle.frame_grammar.specs.declared.symbols.Symbol.TheVariants as symbol
 use Rattle.frame_grammar.specs.declared.symbols.Production.{Production}
 use Rattle.frame_grammar.specs.declared.symbols.Production.TheVariants as production
-use Rattle.frame_grammar.specs.Grammar.{head_of, body_of, Derives, nothing, terminal, action, expanded}
+use Rattle.frame_grammar.specs.Grammar.{head_of, Derives, nothing, terminal, action, expanded}
+use Rattle.frame_grammar.specs.Bodies.{body_of}
 use Rattle.frame_grammar.specs.Sets.{is_closed_of}
 use Rattle.frame_grammar.specs.Sentences.{IsStart, IsSentence, IsOnlySentence}
-use Rattle.frame_grammar.specs.Parser.{closes}
+use Rattle.frame_grammar.specs.Stack.{closes}
 use Rattle.frame_grammar.proofs.Theory.{and_left, and_right, both}
 use Rattle.frame_grammar.proofs.Run.{goes_on}
 

@@ -1,19 +1,20 @@
 -- What holds of the parser's stack, and how it goes on.
 use Rattle.std.proofs.Common.{suc, add-one, ◌+◌, ℕ, ◌≡◌, true, false, List, [], ◌∷◌, ◌++◌, Some, None, inl, inr, refl, sym, ◌∙◌, ap, subst, append_assoc}
 use Rattle.std.proofs.lemmas.List.{append-nil}
-use Rattle.frame_grammar.specs.declared.TokenKind.{TokenKind}
+use Rattle.frame_grammar.specs.declared.token_kind.TokenKind.{TokenKind}
 use Rattle.frame_grammar.specs.declared.symbols.Nonterminal.{Nonterminal}
 use Rattle.frame_grammar.specs.declared.symbols.Action.{Action}
 use Rattle.frame_grammar.specs.declared.symbols.Symbol.{Symbol}
 use Rattle.frame_grammar.specs.declared.symbols.Symbol.TheVariants as symbol
 use Rattle.frame_grammar.specs.declared.symbols.Event.{Event}
 use Rattle.frame_grammar.specs.declared.symbols.Production.{Production}
-use Rattle.frame_grammar.specs.Grammar.{head_of, body_of, Derives, nothing, terminal, action, expanded}
+use Rattle.frame_grammar.specs.Grammar.{head_of, Derives, nothing, terminal, action, expanded}
+use Rattle.frame_grammar.specs.Bodies.{body_of}
 use Rattle.frame_grammar.specs.Table.{default_of}
 use Rattle.frame_grammar.specs.Sets.{firsts_of, is_nullable_of, barred_of}
 use Rattle.frame_grammar.specs.Sentences.{IsSentence, IsViable}
 use Rattle.frame_grammar.specs.Predict.{predicted}
-use Rattle.frame_grammar.specs.Parser.{Starts, IsClear, IsReached, IsReachedAt, first_of, has_kind}
+use Rattle.frame_grammar.specs.Stack.{Starts, IsClear, IsReached, IsReachedAt, first_of, has_kind}
 use Rattle.frame_grammar.proofs.Theory.{Starts-append, IsClear-append}
 use Rattle.frame_grammar.proofs.Checks.{begins, begins_first, ends, ends_nullable, fine, own, follows, spelled}
 

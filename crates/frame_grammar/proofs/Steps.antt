@@ -4,20 +4,20 @@ use Rattle.std.proofs.lemmas.List.{take_more, append-nil}
 use Rattle.std.proofs.lemmas.Bool.{cases_lt}
 use Rattle.std.specs.Prelude.{not}
 use denote.Enum.Bare.{sameb, same_true, same_false}
-use Rattle.frame_grammar.specs.contracts.TokenKind.{the_type}
-use Rattle.frame_grammar.specs.declared.TokenKind.{TokenKind}
-use Rattle.frame_grammar.specs.declared.TokenKind.TheVariants.{End}
+use Rattle.frame_grammar.specs.contracts.token_kind.TokenKind.{the_type}
+use Rattle.frame_grammar.specs.declared.token_kind.TokenKind.{TokenKind}
+use Rattle.frame_grammar.specs.declared.token_kind.TokenKind.TheVariants.{End}
 use Rattle.frame_grammar.specs.declared.symbols.Nonterminal.{Nonterminal}
 use Rattle.frame_grammar.specs.declared.symbols.Action.{Action}
 use Rattle.frame_grammar.specs.declared.symbols.Symbol.{Symbol}
 use Rattle.frame_grammar.specs.declared.symbols.Symbol.TheVariants as symbol
 use Rattle.frame_grammar.specs.declared.symbols.Event.{Event}
 use Rattle.frame_grammar.specs.declared.symbols.Production.{Production}
-use Rattle.frame_grammar.specs.Grammar.{body_of}
+use Rattle.frame_grammar.specs.Bodies.{body_of}
 use Rattle.frame_grammar.specs.Sets.{is_nullable_of, rank_of}
 use Rattle.frame_grammar.specs.Sentences.{IsStart, IsSentence, IsViable, IsFault, IsOnlySentence, IsEnded}
 use Rattle.frame_grammar.specs.Predict.{found, predicted, same_kind}
-use Rattle.frame_grammar.specs.Parser.{Between, weight, weight_after, closes, IsReached, IsReachedAt, Takes, Stops}
+use Rattle.frame_grammar.specs.Stack.{Between, weight, weight_after, closes, IsReached, IsReachedAt, Takes, Stops}
 use Rattle.frame_grammar.proofs.Theory.{weight-append, nullable, nullable-from}
 use Rattle.frame_grammar.proofs.Checks.{spelled, ends_nullable, lower, own}
 use Rattle.frame_grammar.proofs.Run.{expand, act, shift, viable, finished, only_here, refuses, stuck_empty, stuck_terminal, stuck_nonterminal, reached_start, reached_at}

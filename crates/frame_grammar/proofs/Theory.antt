@@ -1,13 +1,14 @@
 -- What a list of symbols may begin with, and how derivations come together.
 use Rattle.std.proofs.Common.{ℕ, suc, length, ◌&&◌, sym, ◌≡◌, ◌+◌, Bool, true, false, List, [], ◌∷◌, ◌++◌, ◌⊎◌, inl, inr, refl, subst, append_assoc, arith}
-use Rattle.frame_grammar.specs.declared.TokenKind.{TokenKind}
+use Rattle.frame_grammar.specs.declared.token_kind.TokenKind.{TokenKind}
 use Rattle.frame_grammar.specs.declared.symbols.Nonterminal.{Nonterminal}
 use Rattle.frame_grammar.specs.declared.symbols.Symbol.{Symbol}
 use Rattle.frame_grammar.specs.declared.symbols.Symbol.TheVariants as symbol
 use Rattle.frame_grammar.specs.declared.symbols.Event.{Event}
-use Rattle.frame_grammar.specs.Grammar.{body_of, Derives, nothing, terminal, action, expanded}
+use Rattle.frame_grammar.specs.Bodies.{body_of}
+use Rattle.frame_grammar.specs.Grammar.{Derives, nothing, terminal, action, expanded}
 use Rattle.frame_grammar.specs.Sets.{is_nullable_of, barred_of, rank_of}
-use Rattle.frame_grammar.specs.Parser.{weight, weight_after, Starts, IsClear, has_kind}
+use Rattle.frame_grammar.specs.Stack.{weight, weight_after, Starts, IsClear, has_kind}
 
 -- the symbols may spell nothing
 abbrev pub IsNullable : List Symbol → Type 0

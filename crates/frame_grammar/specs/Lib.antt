@@ -1,12 +1,9 @@
+-- promises
 pub mod Grammar
-pub mod Notes
+pub mod Bodies
 pub mod Sentences
+-- for this crate's own contracts
 pub mod Table
-pub mod Sets
 pub mod Predict
-pub mod Parser
-pub mod Shortcuts
-pub mod Waiting
-pub mod Lines
-pub mod Values
-pub mod Operands
+pub mod Sets
+pub mod Stack

@@ -1,9 +1,9 @@
 -- By which production a nonterminal goes on before a token.
 use Rattle.std.specs.Prelude.{Bool, List, [], ◌∷◌, Option, Some, None, if◌then◌else◌}
-use Rattle.frame_grammar.specs.declared.TokenKind.{TokenKind}
+use Rattle.frame_grammar.specs.declared.token_kind.TokenKind.{TokenKind}
 use Rattle.frame_grammar.specs.declared.symbols.Nonterminal.{Nonterminal}
 use Rattle.frame_grammar.specs.declared.symbols.Production.{Production}
-use Rattle.frame_grammar.specs.contracts.TokenKind.{the_type}
+use Rattle.frame_grammar.specs.contracts.token_kind.TokenKind.{the_type}
 use Rattle.frame_grammar.specs.Table.{choices_of, default_of}
 use denote.Enum.Bare.{sameb}
 

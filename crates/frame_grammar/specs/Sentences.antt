@@ -1,7 +1,7 @@
 -- Sentences, viable prefixes, and where a fault of syntax is.
 use Rattle.std.specs.Prelude.{◌≡◌, ◌⊎◌, ℕ, ◌+◌, ◌<◌, ◌≤◌, List, [], ◌∷◌, ◌++◌, length, take}
-use Rattle.frame_grammar.specs.declared.TokenKind.{TokenKind}
-use Rattle.frame_grammar.specs.declared.TokenKind.TheVariants.{End}
+use Rattle.frame_grammar.specs.declared.token_kind.TokenKind.{TokenKind}
+use Rattle.frame_grammar.specs.declared.token_kind.TokenKind.TheVariants.{End}
 use Rattle.frame_grammar.specs.declared.symbols.Nonterminal.{Nonterminal}
 use Rattle.frame_grammar.specs.declared.symbols.Nonterminal.TheVariants.{File, Kernel}
 use Rattle.frame_grammar.specs.declared.symbols.Symbol.TheVariants as symbol

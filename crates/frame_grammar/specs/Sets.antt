@@ -2,8 +2,8 @@
 -- follow it, whether all that it derives ends in a terminal of its own, and more than the steps that it may take
 -- without a token. The proofs check these tables against the productions.
 use Rattle.std.specs.Prelude.{ℕ, Bool, true, false, List, [], ◌∷◌}
-use Rattle.frame_grammar.specs.declared.TokenKind.{TokenKind}
-use Rattle.frame_grammar.specs.declared.TokenKind.TheVariants as kind
+use Rattle.frame_grammar.specs.declared.token_kind.TokenKind.{TokenKind}
+use Rattle.frame_grammar.specs.declared.token_kind.TokenKind.TheVariants as kind
 use Rattle.frame_grammar.specs.declared.symbols.Nonterminal.{Nonterminal}
 use Rattle.frame_grammar.specs.declared.symbols.Nonterminal.TheVariants as nonterminal
 

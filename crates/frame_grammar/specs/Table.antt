@@ -1,6 +1,6 @@
 -- The table by which the parser goes on, without a look at what may follow.
 use Rattle.std.specs.Prelude.{List, [], Option, Some, None}
-use Rattle.frame_grammar.specs.declared.TokenKind.{TokenKind}
+use Rattle.frame_grammar.specs.declared.token_kind.TokenKind.{TokenKind}
 use Rattle.frame_grammar.specs.declared.symbols.Nonterminal.{Nonterminal}
 use Rattle.frame_grammar.specs.declared.symbols.Nonterminal.TheVariants as nonterminal
 use Rattle.frame_grammar.specs.declared.symbols.Production.{Production}

@@ -1,7 +1,7 @@
 //! The grammar as a table: productions' bodies, and which production goes on before which token.
 
 ghost use Rattle.std.specs.Prelude.{◌≡◌, true, false};
-ghost use Rattle.frame_grammar.specs.Grammar.{body_of, written};
+ghost use Rattle.frame_grammar.specs.Bodies.{body_of, written};
 ghost use Rattle.frame_grammar.specs.Table.{choices_of, default_of};
 
 use crate::bodies::{clause, expression, file, kernel, statement};
@@ -39,7 +39,7 @@ fn in_script(symbols: &'static [Symbol]) -> ProductionBody
 // TO ADD A STATEMENT: 5, its body's name.
 
 /// What a production's head is made of by it.
-#[tactic(auto, unfolding(crate::specs::Grammar::body_of))]
+#[tactic(auto, unfolding(crate::specs::Bodies::body_of))]
 pub fn body(production: Production) -> ProductionBody
     ensures { written result.has_lines result.symbols.now ≡ body_of production }
 {

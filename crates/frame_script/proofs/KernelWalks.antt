@@ -8,23 +8,25 @@ use Rattle.frame_ast.specs.declared.kernel.FaultKind.{FaultKind}
 use Rattle.frame_ast.specs.declared.kernel.FaultKind.TheVariants.{DuplicateName, Limit}
 use Rattle.frame_ast.specs.declared.kernel.Kernel.{Kernel}
 use Rattle.frame_grammar.specs.declared.symbols.Event.{Event}
-use Rattle.kernel_code.specs.declared.raw.RawKernel.{RawKernel}
+use Rattle.kernel_raw.specs.declared.raw.RawKernel.{RawKernel}
 use Rattle.kernel_code.specs.declared.check.StaticFault.{StaticFault}
-use Rattle.kernel_code.specs.Raw.{SpellsRaw}
-use Rattle.kernel_code.specs.Marks.{tokens_in, raw_tokens}
-use Rattle.kernel_code.specs.declared.fault.KernelFault.TheVariants.{Refused}
+use Rattle.kernel_raw.specs.RawEvents.{SpellsRaw}
+use Rattle.kernel_text.specs.Marks.{tokens_in}
+use Rattle.kernel_raw.specs.RawTexts.{raw_tokens, text_at}
+use Rattle.kernel_raw.specs.declared.fault.KernelFault.TheVariants.{Refused}
 use Rattle.std.specs.Option.{option_or}
 use Rattle.frame_ast.specs.Lists.{some_if}
-use Rattle.kernel_code.specs.StaticFaults.{text_at, token_text, token_line, first_fault, fault_at, length_fault, lowest, kernel_name_fault, params_fault, nodes_fault, TellsFault}
+use Rattle.kernel_text.specs.Tokens.{token_text, token_line}
+use Rattle.kernel_code.specs.StaticFaults.{first_fault, fault_at, length_fault, lowest, kernel_name_fault, params_fault, nodes_fault, TellsFault}
 use Rattle.kernel_code.proofs.NoFaults.{option_or-none, fault_at-none, lowest-none, some_if-none}
 use Rattle.frame_script.specs.declared.fault.LoadFault.{LoadFault}
 use Rattle.frame_script.specs.declared.fault.LoadFault.TheVariants as load
-use Rattle.frame_script.specs.declared.source.Source.{Source}
-use Rattle.frame_script.specs.KernelIndex.{kernel_at}
-use Rattle.frame_script.specs.Sources.{file_tokens, text_at as said_at}
+use Rattle.script_text.specs.declared.source.Source.{Source}
+use Rattle.script_checks.specs.KernelIndex.{kernel_at}
+use Rattle.script_text.specs.Sources.{file_tokens, text_at as said_at}
 use Rattle.frame_script.specs.Files.{IsRawOf}
 use Rattle.frame_script.specs.Walking.{RefusesKernel}
-use Rattle.frame_script.proofs.NameLemmas.{bytes_eq-swap}
+use Rattle.script_checks.proofs.NameLemmas.{bytes_eq-swap}
 
 neither : (a b : Bool) → (a || b) ≡ false → (a ≡ false) × (b ≡ false)
 neither true b h = cc

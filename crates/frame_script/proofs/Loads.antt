@@ -13,37 +13,36 @@ use Rattle.frame_ast.specs.Accepted.{IsAccepted}
 use Rattle.frame_ast.specs.Checked.{IsChecked}
 use Rattle.frame_grammar.specs.declared.symbols.Nonterminal.TheVariants.{File}
 use Rattle.frame_grammar.specs.declared.symbols.Event.{Event}
-use Rattle.frame_grammar.specs.declared.note.Note.{Note}
-use Rattle.frame_grammar.specs.Notes.{events_of}
+use Rattle.frame_parser.specs.declared.note.Note.{Note}
+use Rattle.frame_parser.specs.Notes.{events_of}
 use Rattle.frame_grammar.specs.Sentences.{IsOnlySentence, IsFault}
-use Rattle.frame_grammar.specs.declared.parser.ParseError.{ParseError}
-use Rattle.frame_grammar.specs.declared.parser.ParseError.TheVariants as stop
-use Rattle.kernel_code.specs.declared.token.Token.{Token}
-use Rattle.kernel_code.specs.declared.mark.Mark.{Mark}
-use Rattle.kernel_code.specs.Marks.{IsOfKind, kind_of, tokens_in}
-use Rattle.kernel_code.specs.StaticFaults.{token_line}
-use Rattle.kernel_code.specs.Tokens.{end_at, tokens_of, up_to_bad}
-use Rattle.kernel_code.specs.Parsing.{kinds}
-use Rattle.kernel_code.proofs.Lexed.{lexed_file_is_whole, lexed_fault_stands, lexed_fault_token}
-use Rattle.kernel_code.proofs.Marks.{kinds-tokens_in}
+use Rattle.frame_parser.specs.declared.parser.ParseError.{ParseError}
+use Rattle.frame_parser.specs.declared.parser.ParseError.TheVariants as stop
+use Rattle.kernel_text.specs.declared.token.Token.{Token}
+use Rattle.kernel_text.specs.declared.mark.Mark.{Mark}
+use Rattle.kernel_text.specs.Marks.{IsOfKind, kind_of, tokens_in}
+use Rattle.kernel_text.specs.Tokens.{token_line, end_at, tokens_of, up_to_bad, kinds}
+use Rattle.kernel_text.proofs.Tokens.Lexed.{lexed_file_is_whole, lexed_fault_stands, lexed_fault_token}
+use Rattle.kernel_text.proofs.Marks.{kinds-tokens_in}
 use Rattle.frame_script.specs.declared.fault.LoadFault.{LoadFault}
 use Rattle.frame_script.specs.declared.fault.LoadFault.TheVariants as load
-use Rattle.frame_script.specs.declared.source.Source.{Source}
+use Rattle.script_text.specs.declared.source.Source.{Source}
 use Rattle.frame_script.specs.declared.walk.Walk.{Walk}
-use Rattle.frame_script.specs.Raw.{RawItems, Nothing, SpellsItems}
-use Rattle.frame_script.specs.Sources.{file_tokens}
+use Rattle.script_text.specs.Raw.{RawItems, Nothing}
+use Rattle.script_text.specs.Events.{SpellsItems}
+use Rattle.script_text.specs.Sources.{file_tokens}
 use Rattle.frame_script.specs.Files.{IsFaultless, IsScriptOf, StandFor, at_start, too_long, nothing}
 use Rattle.frame_script.specs.Writing.{Completes}
 use Rattle.frame_script.specs.Loading.{HasItems, Spells, IsRefused, syntax, static, too_many, refusal_of}
 use Rattle.frame_script.specs.Walking.{scope_of, lists_in, LeftFaultless, IsAt, IsThrough, RefusesItems, Gathers}
-use Rattle.frame_script.proofs.Writing.{ends_within, ends_over}
-use Rattle.frame_script.proofs.Accepting.{accepted}
-use Rattle.frame_script.proofs.FileTokens.{kinds_in_file}
+use Rattle.frame_script.proofs.Writing.Items.{ends_within, ends_over}
+use Rattle.frame_script.proofs.Accepting.Scripts.{accepted}
+use Rattle.script_text.proofs.FileTokens.{kinds_in_file}
 
 -- THE WHOLE IS READ
 
-closed : (w : Walk) (items : RawItems) → length (items ∷ []) ≡ 1 + length w.around.items → reverse w.around.items ≡ []
-closed w items deep = ap reverse (by w.around.items (omega (arith, deep))) where
+closed : (w : Walk) (items : RawItems) → length (items ∷ []) ≡ 1 + length w.outer_tests.items → reverse w.outer_tests.items ≡ []
+closed w items deep = ap reverse (by w.outer_tests.items (omega (arith, deep))) where
   by : (bs : List Bool) → length bs ≡ 0 → bs ≡ []
   by [] h = refl
   by (b ∷ bs) h = cc

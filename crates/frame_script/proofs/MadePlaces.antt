@@ -4,14 +4,14 @@ use Rattle.std.specs.Option.{option_map}
 use Rattle.frame_ast.specs.declared.kernel.Kernel.{Kernel}
 use Rattle.frame_ast.specs.declared.name_kind.NameKind.{NameKind}
 use Rattle.frame_ast.specs.declared.script.Order.{Order}
-use Rattle.frame_script.specs.declared.source.Source.{Source}
-use Rattle.frame_script.specs.Raw.{OrderForm, NewArray, NewColumn, NewList, NewReference, NewMap, NewStream, Slice, View, Copy, Schedule, Combine, Dispose, DisposeAuto}
-use Rattle.frame_script.specs.Sources.{text_at}
-use Rattle.frame_script.specs.Names.{Name, place_in, kind_in}
-use Rattle.frame_script.specs.Faults.{made_by, made_alike}
-use Rattle.frame_script.specs.Spelling.{Says, names_with, place_of}
+use Rattle.script_text.specs.declared.source.Source.{Source}
+use Rattle.script_text.specs.Raw.{OrderForm, NewArray, NewColumn, NewList, NewReference, NewMap, NewStream, Slice, View, Copy, Schedule, Combine, Dispose, DisposeAuto}
+use Rattle.script_text.specs.Sources.{text_at}
+use Rattle.script_checks.specs.Names.{Name, place_in, kind_in}
+use Rattle.script_checks.specs.Faults.{made_by, made_alike}
+use Rattle.script_checks.specs.Spelling.{Says, names_with, place_of}
 use Rattle.frame_script.specs.Made.{made_place}
-use Rattle.frame_script.proofs.PlaceLemmas.{first_made}
+use Rattle.script_checks.proofs.PlaceLemmas.{first_made}
 
 -- the same token
 same_token : {a b : ℕ} {k l : NameKind} → ◌≡◌ {A = Option (ℕ × NameKind)} (Some (a, k)) (Some (b, l)) → a ≡ b

@@ -2,18 +2,19 @@
 use Rattle.std.proofs.Common.{◌≡◌, ℕ, ℤ, List, [], ◌++◌, Option, Some, None, Result, Ok, Err, IsTrue, refl, sym, ◌∙◌, ap}
 use Rattle.std.proofs.lemmas.List.{append-nil}
 use Rattle.kernel_code.specs.declared.check.StaticFault.{StaticFault}
-use Rattle.frame_script.specs.declared.fault.OrderFault.{OrderFault}
+use Rattle.script_checks.specs.declared.fault.OrderFault.{OrderFault}
 use Rattle.frame_ast.specs.declared.kernel.Kernel.{Kernel}
 use Rattle.frame_ast.specs.declared.script.Order.{Order}
-use Rattle.frame_script.specs.declared.source.Source.{Source}
-use Rattle.frame_script.specs.declared.raw.RawOrder.{RawOrder}
-use Rattle.frame_script.specs.declared.raw.RawOrder.TheVariants as raw
-use Rattle.frame_script.specs.Raw.{OrderForm, NewArray, NewColumn, NewList, NewReference, NewMap, NewStream, Slice, View, Copy, Set, Add, Put, Remove, Clear, SetCapacity, Schedule, Combine, Complete, Dispose, DisposeAuto, Print, Flush, Frame, Repeat, When, form_of, closing}
-use Rattle.frame_script.specs.Faults.{Scope, order_faults}
-use Rattle.frame_script.specs.Names.{Name}
-use Rattle.frame_script.specs.Spelling.{Says}
+use Rattle.script_text.specs.declared.source.Source.{Source}
+use Rattle.script_text.specs.declared.raw.RawOrder.{RawOrder}
+use Rattle.script_text.specs.declared.raw.RawOrder.TheVariants as raw
+use Rattle.script_text.specs.Raw.{OrderForm, NewArray, NewColumn, NewList, NewReference, NewMap, NewStream, Slice, View, Copy, Set, Add, Put, Remove, Clear, SetCapacity, Schedule, Combine, Complete, Dispose, DisposeAuto, Print, Flush, Frame, Repeat, When, form_of}
+use Rattle.script_text.specs.Events.{closing}
+use Rattle.script_checks.specs.Faults.{Scope, order_faults}
+use Rattle.script_checks.specs.Names.{Name}
+use Rattle.script_checks.specs.Spelling.{Says}
 use Rattle.frame_script.specs.Files.{literals_of}
-use Rattle.frame_script.specs.Checks.{Gives, is_plain, among}
+use Rattle.script_checks.specs.Checks.{Gives, is_plain, among}
 
 -- it says the same behind other lists of values
 pub said_behind : (s : Source) (names : List Name) (kernels : List Kernel) (literals : ℕ) (x : RawOrder) (o : Order) → IsTrue (is_plain x) →

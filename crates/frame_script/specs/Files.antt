@@ -2,21 +2,21 @@
 use Rattle.std.specs.Prelude.{◌≡◌, ℕ, zero, suc, ◌+◌, Bool, true, false, ◌||◌, ℤ, List, [], ◌∷◌, ◌++◌, length, map, Option, None, Some, string_bytes}
 use Rattle.frame_grammar.specs.declared.symbols.Event.{Event}
 use Rattle.job_base.specs.declared.limits.TheConstants.{MOST_STATEMENTS, MOST_TESTS}
-use Rattle.kernel_code.specs.declared.raw.RawKernel.{RawKernel}
+use Rattle.kernel_raw.specs.declared.raw.RawKernel.{RawKernel}
 use Rattle.kernel_code.specs.declared.check.StaticFault.{StaticFault}
-use Rattle.kernel_code.specs.Raw.{SpellsRaw}
+use Rattle.kernel_raw.specs.RawEvents.{SpellsRaw}
 use Rattle.kernel_code.specs.StaticFaults.{first_fault}
 use Rattle.kernel_code.specs.Trees.{IsKernelOf}
 use Rattle.frame_ast.specs.declared.kernel.Kernel.{Kernel as CheckedKernel}
 use Rattle.frame_ast.specs.declared.script.Statement.{Statement}
 use Rattle.frame_ast.specs.declared.script.Script.{Script}
 use Rattle.frame_ast.specs.Lists.{first_some}
-use Rattle.frame_script.specs.declared.source.Source.{Source}
-use Rattle.frame_script.specs.Raw.{RawItems, Nothing, Kernel, Single, Block, KernelForm, OrderForm, NewArray, When, Repeat}
-use Rattle.frame_script.specs.Sources.{line_at, number_at, signed_at}
-use Rattle.frame_script.specs.Names.{Name as Known}
-use Rattle.frame_script.specs.Faults.{Scope, order_faults}
-use Rattle.frame_script.specs.Spelling.{Says, names_after}
+use Rattle.script_text.specs.declared.source.Source.{Source}
+use Rattle.script_text.specs.Raw.{RawItems, Nothing, Kernel, Single, Block, KernelForm, OrderForm, NewArray, When, Repeat}
+use Rattle.script_text.specs.Sources.{line_at, number_at, signed_at}
+use Rattle.script_checks.specs.Names.{Name as Known}
+use Rattle.script_checks.specs.Faults.{Scope, order_faults}
+use Rattle.script_checks.specs.Spelling.{Says, names_after}
 
 -- FAULTS
 

@@ -2,8 +2,8 @@
 use Rattle.std.specs.Prelude.{◌≡◌, ◌≤◌, ℕ, length}
 use Rattle.frame_ast.specs.declared.kernel.Kernel.{Kernel}
 use Rattle.frame_ast.specs.Checked.{body_nodes, body_depth}
-use Rattle.kernel_code.specs.declared.raw.RawKernel.{RawKernel}
-use Rattle.kernel_code.specs.Depths.{depth_of}
+use Rattle.kernel_raw.specs.declared.raw.RawKernel.{RawKernel}
+use Rattle.kernel_raw.specs.Depths.{depth_of}
 
 -- A kernel has as many nodes as a raw form, and is no deeper than the deepest of those.
 pub record HasNodesOf (raw : RawKernel) (k : Kernel) : Type 0 where

@@ -1,20 +1,9 @@
-pub mod Raw
-pub mod Signs
-pub mod Sources
-pub mod Lines
-pub mod Names
-pub mod Index
-pub mod KernelIndex
-pub mod GuardRooms
-pub mod Checks
-pub mod Scheduled
-pub mod Faults
-pub mod Spelling
+-- promises
 pub mod Files
+pub mod Loading
+-- for this crate's own contracts
+pub mod GuardRooms
 pub mod Copies
 pub mod Writing
-pub mod Reading
-pub mod Items
-pub mod Loading
 pub mod Walking
 pub mod Made

@@ -5,21 +5,20 @@ use Rattle.frame_ast.specs.declared.kernel.FaultKind.TheVariants.{Syntax, TooLon
 use Rattle.frame_ast.specs.declared.script.Script.{Script}
 use Rattle.frame_grammar.specs.declared.symbols.Nonterminal.TheVariants.{File}
 use Rattle.frame_grammar.specs.declared.symbols.Event.{Event}
-use Rattle.frame_grammar.specs.declared.parser.ParseError.{ParseError}
-use Rattle.frame_grammar.specs.declared.parser.ParseError.TheVariants as error
+use Rattle.frame_parser.specs.declared.parser.ParseError.{ParseError}
+use Rattle.frame_parser.specs.declared.parser.ParseError.TheVariants as error
 use Rattle.frame_grammar.specs.Sentences.{IsOnlySentence, IsFault}
-use Rattle.kernel_code.specs.declared.token.Token.{Token}
+use Rattle.kernel_text.specs.declared.token.Token.{Token}
 use Rattle.kernel_code.specs.declared.check.StaticFault.{StaticFault}
-use Rattle.kernel_code.specs.Tokens.{tokens_of}
-use Rattle.kernel_code.specs.Marks.{IsOfKind}
-use Rattle.kernel_code.specs.Parsing.{kinds}
-use Rattle.kernel_code.specs.StaticFaults.{token_line}
+use Rattle.kernel_text.specs.Tokens.{tokens_of, kinds, token_line}
+use Rattle.kernel_text.specs.Marks.{IsOfKind}
 use Rattle.frame_script.specs.declared.fault.LoadFault.{LoadFault}
 use Rattle.frame_script.specs.declared.fault.LoadFault.TheVariants as fault
-use Rattle.frame_script.specs.declared.source.Source.{Source}
-use Rattle.frame_script.specs.Raw.{RawItems, SpellsItems}
-use Rattle.frame_script.specs.Sources.{file_tokens, line_at}
-use Rattle.frame_script.specs.Faults.{Scope}
+use Rattle.script_text.specs.declared.source.Source.{Source}
+use Rattle.script_text.specs.Raw.{RawItems}
+use Rattle.script_text.specs.Events.{SpellsItems}
+use Rattle.script_text.specs.Sources.{file_tokens, line_at}
+use Rattle.script_checks.specs.Faults.{Scope}
 use Rattle.frame_script.specs.Files.{at_start, IsFaultless, HasFault, too_long, IsScriptOf}
 
 -- The bytes of a file and its tokens, each by its one mark, which derive a file of these items.

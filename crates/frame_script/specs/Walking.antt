@@ -6,24 +6,26 @@ use Rattle.frame_ast.specs.declared.kernel.Kernel.{Kernel as CheckedKernel}
 use Rattle.frame_ast.specs.declared.script.Statement.{Statement}
 use Rattle.frame_ast.specs.declared.script.Script.{Script}
 use Rattle.frame_ast.specs.Checked.{IsChecked}
-use Rattle.frame_grammar.specs.declared.TokenKind.{TokenKind}
+use Rattle.frame_grammar.specs.declared.token_kind.TokenKind.{TokenKind}
 use Rattle.frame_grammar.specs.declared.symbols.Event.{Event}
-use Rattle.kernel_code.specs.declared.raw.RawKernel.{RawKernel}
+use Rattle.kernel_raw.specs.declared.raw.RawKernel.{RawKernel}
 use Rattle.kernel_code.specs.declared.check.StaticFault.{StaticFault}
-use Rattle.kernel_code.specs.Parsing.{kinds}
+use Rattle.kernel_text.specs.Tokens.{kinds}
 use Rattle.kernel_code.specs.StaticFaults.{first_fault}
 use Rattle.kernel_code.specs.Trees.{IsKernelOf}
-use Rattle.frame_script.specs.declared.fault.OrderFault.{OrderFault}
-use Rattle.frame_script.specs.declared.fault.OrderFault.TheVariants.{Refused, NoMemory}
-use Rattle.frame_script.specs.declared.source.Source.{Source}
+use Rattle.script_checks.specs.declared.fault.OrderFault.{OrderFault}
+use Rattle.script_checks.specs.declared.fault.OrderFault.TheVariants.{Refused, NoMemory}
+use Rattle.script_text.specs.declared.source.Source.{Source}
 use Rattle.frame_script.specs.declared.walk.Walk.{Walk}
 use Rattle.frame_script.specs.declared.written.OpenBlock.TheVariants as block
-use Rattle.frame_script.specs.Raw.{OrderForm, RawItems, Nothing, Repeat, When, SpellsItems, ItemsStand}
-use Rattle.frame_script.specs.Items.{SpellsOpen}
-use Rattle.frame_script.specs.Sources.{file_tokens, line_at, number_at}
-use Rattle.frame_script.specs.Names.{Name, place_in}
-use Rattle.frame_script.specs.Faults.{Scope, kernel_in}
-use Rattle.frame_script.specs.Spelling.{kernel_place, names_after}
+use Rattle.script_text.specs.Raw.{OrderForm, RawItems, Nothing, Repeat, When}
+use Rattle.script_text.specs.Events.{SpellsItems}
+use Rattle.script_text.specs.Places.{ItemsStand}
+use Rattle.script_text.specs.Items.{SpellsOpen}
+use Rattle.script_text.specs.Sources.{file_tokens, line_at, number_at}
+use Rattle.script_checks.specs.Names.{Name, place_in}
+use Rattle.script_checks.specs.Faults.{Scope, kernel_in}
+use Rattle.script_checks.specs.Spelling.{kernel_place, names_after}
 use Rattle.frame_script.specs.Files.{IsRawOf, IsFaultless, HasFault, IsStatement, at_start, literals_of, literals_in}
 use Rattle.frame_script.specs.Writing.{put, opened, Closes, Completes}
 
@@ -61,7 +63,7 @@ KeepsKernels old new = (text : List ℕ) (k : CheckedKernel) → kernel_in old t
 -- WHAT THE WALK KNOWS
 
 abbrev pub scope_of : Walk → Scope
-scope_of w = record { names = w.names; kernels = w.kernels; blocks = length w.around.items; tested = w.tested }
+scope_of w = record { names = w.names; kernels = w.kernels; blocks = length w.outer_tests.items; tested = w.tested }
 
 abbrev pub lists_in : Vec (Vec ℤ Global) Global → List (List ℤ)
 lists_in literals = map (λ v. v.items) literals.items
@@ -100,11 +102,11 @@ LeftStand kinds (items ∷ rest) = ItemsStand kinds items × LeftStand kinds res
 -- What the walk has of the whole where this is left: of every file that begins so, what is left decides on faults; and
 -- whatever names and kernels are known in the end, the statements so far are those of the whole.
 pub record IsAt (s : Source) (whole : RawItems) (w : Walk) (left : List RawItems) : Type 0 where
-  pub deep : length left ≡ 1 + length w.around.items
+  pub deep : length left ≡ 1 + length w.outer_tests.items
   pub stand : LeftStand (kinds (file_tokens s)) left
-  pub faultless : (end : Scope) → LeftFaultless s (scope_of w) (reverse w.around.items) left end →
+  pub faultless : (end : Scope) → LeftFaultless s (scope_of w) (reverse w.outer_tests.items) left end →
       IsFaultless s at_start whole end
-  pub faulty : (fault : StaticFault) → LeftFaulty s fault (scope_of w) (reverse w.around.items) left →
+  pub faulty : (fault : StaticFault) → LeftFaulty s fault (scope_of w) (reverse w.outer_tests.items) left →
       HasFault s fault at_start whole
   pub literals : lists_in w.literals ++ literals_left s left ≡ literals_in s whole
   pub written : (names : List Name) (kernels : List CheckedKernel) → KeepsNames w.names names →
@@ -124,7 +126,7 @@ Tells s (Refused fault) line kind = (line ≡ line_at s fault.at) × (kind ≡ f
 pub record TakesSingle (s : Source) (at : ℕ) (form : OrderForm) (old new : Walk) : Type 0 where
   pub names : new.names ≡ names_after s old.names form
   pub kernels : new.kernels ≡ old.kernels
-  pub around : new.around ≡ old.around
+  pub around : new.outer_tests ≡ old.outer_tests
   pub tested : new.tested ≡ old.tested
   pub literals : lists_in new.literals ≡ lists_in old.literals ++ literals_of s form
   pub statement : Statement
@@ -136,7 +138,7 @@ pub record Enters (old new : Walk) : Type 0 where
   pub names : new.names ≡ old.names
   pub kernels : new.kernels ≡ old.kernels
   pub literals : new.literals ≡ old.literals
-  pub around : new.around.items ≡ old.around.items ++ old.tested ∷ []
+  pub around : new.outer_tests.items ≡ old.outer_tests.items ++ old.tested ∷ []
 
 pub record TakesRepeat (s : Source) (n : ℕ) (old new : Walk) : Type 0 where
   pub enters : Enters old new
@@ -161,7 +163,7 @@ pub record Leaves (old new : Walk) : Type 0 where
   pub names : new.names ≡ old.names
   pub kernels : new.kernels ≡ old.kernels
   pub literals : new.literals ≡ old.literals
-  pub around : old.around.items ≡ new.around.items ++ new.tested ∷ []
+  pub around : old.outer_tests.items ≡ new.outer_tests.items ++ new.tested ∷ []
   pub written : Closes old.written new.written
 
 -- FILES

@@ -10,11 +10,11 @@ use Rattle.frame_ast.specs.declared.script.Statement.{Statement}
 use Rattle.frame_ast.specs.Accepted.{is_when}
 use Rattle.frame_script.specs.declared.written.OpenBlock.{OpenBlock}
 use Rattle.frame_script.specs.declared.written.OpenBlock.TheVariants as block
-use Rattle.frame_script.specs.declared.raw.RawNumber.{RawNumber}
-use Rattle.frame_script.specs.declared.source.Source.{Source}
-use Rattle.frame_script.specs.Raw.{RawItems, Block, Repeat, When}
-use Rattle.frame_script.specs.Sources.{line_at, number_at}
-use Rattle.frame_script.specs.Names.{Name as Known}
+use Rattle.script_text.specs.declared.raw.RawNumber.{RawNumber}
+use Rattle.script_text.specs.declared.source.Source.{Source}
+use Rattle.script_text.specs.Raw.{RawItems, Block, Repeat, When}
+use Rattle.script_text.specs.Sources.{line_at, number_at}
+use Rattle.script_checks.specs.Names.{Name as Known}
 use Rattle.frame_script.specs.Files.{Repeated, IsStatement, StandFor, Mark, marks_of, literals_in, too_long}
 use Rattle.frame_script.specs.Copies.{AreCopies}
 

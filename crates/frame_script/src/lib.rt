@@ -1,33 +1,23 @@
-//! Scripts as texts: what a file parses to, and its first fault.
+//! Scripts as files: the script that the bytes of a file parse to, or the line and the kind of its first fault.
+//!
+//! `parse_script` finds the tokens of a file and the events of its grammar, and goes over its items once. A kernel is
+//! checked, and known from then on; a statement is checked, its name is known after it, and it is written out; a
+//! `repeat` is written out as often as it says, a `when` counts the statements of its block. A file is refused for its
+//! first fault: of syntax, else static, else `TooLong`.
+//!
+//! `specs/Loading` says which script the bytes parse to, and for what they are refused; `specs/Files` the same of the
+//! items of a file. `specs/Walking` says what is known between two items, `specs/Writing` what is written by then.
 #![tactic(auto)]
 
-mod build;
-mod build_file;
-mod build_item;
-mod build_kernel;
-mod build_words;
-mod checks;
 mod copies;
 mod fault;
 mod guard_room;
-mod kernels;
-mod line_cursor;
 mod load;
-mod names;
-mod order_checks;
-mod raw;
-mod source;
-mod values;
 mod walk;
 mod walk_kernel;
 mod walk_order;
 mod written;
 
 pub use fault::LoadFault;
-pub(crate) use fault::OrderFault;
 pub use frame_ast::script::{Arg, Order, Script, Sign, Statement};
-pub(crate) use kernels::Kernels;
-pub(crate) use line_cursor::LineCursor;
 pub use load::parse_script;
-pub(crate) use names::Names;
-pub(crate) use source::Source;

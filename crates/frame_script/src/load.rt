@@ -5,17 +5,17 @@ ghost use Rattle.job_base.specs.declared.limits.TheConstants.{MOST_SCRIPT_BYTES}
 ghost use Rattle.frame_ast.specs.declared.kernel.FaultKind.{FaultKind};
 ghost use Rattle.frame_ast.specs.declared.kernel.FaultKind.TheVariants.{TooLong};
 ghost use Rattle.frame_ast.specs.Accepted.{IsAccepted};
-ghost use Rattle.kernel_code.specs.Marks.{tokens_in};
+ghost use Rattle.kernel_text.specs.Marks.{tokens_in};
 ghost use Rattle.frame_script.specs.Loading.{Spells, IsRefused, refusal_of};
 ghost use Rattle.frame_script.specs.Walking.{Gathers};
 
-use crate::build_file::file_events;
+use crate::LoadFault;
 use crate::walk::{Walk, walk_file};
-use crate::{LoadFault, Source};
 use frame_ast::kernel::FaultKind;
 use frame_ast::script::Script;
-use frame_grammar::ParseError;
+use frame_parser::ParseError;
 use kernel_code::{Mark, lex, line_at};
+use script_text::{Source, file_events};
 use std::alloc::Global;
 
 /// The script that was written out, or its first statement too many.

@@ -2,27 +2,29 @@
 
 ghost use Rattle.std.specs.Prelude.{◌≡◌, ◌-◌, ◌<◌, ◌≤◌, ◌^◌, ℕ, [], None, Some, false, length, IfOk, MatchOption};
 ghost use Rattle.frame_ast.specs.declared.kernel.FaultKind.{FaultKind};
-ghost use Rattle.frame_grammar.specs.Notes.{events_of};
-ghost use Rattle.kernel_code.specs.Parsing.{kinds};
-ghost use Rattle.kernel_code.specs.Legible.{NamesAreText, NamesStand};
+ghost use Rattle.frame_parser.specs.Notes.{events_of};
+ghost use Rattle.kernel_text.specs.Tokens.{kinds, NamesAreText};
+ghost use Rattle.kernel_raw.specs.Legible.{NamesStand};
 ghost use Rattle.frame_ast.specs.Lists.{first_some};
-ghost use Rattle.frame_script.specs.Raw.{form_of, closing, Repeat, When, IsFile};
-ghost use Rattle.frame_script.specs.Sources.{file_tokens, line_at};
-ghost use Rattle.frame_script.specs.Lines.{IsOn};
-ghost use Rattle.frame_script.specs.Faults.{order_faults};
-ghost use Rattle.frame_script.specs.Checks.{Gives};
+ghost use Rattle.script_text.specs.Raw.{form_of, Repeat, When};
+ghost use Rattle.script_text.specs.Events.{closing};
+ghost use Rattle.script_text.specs.Places.{TestStands, OrderStands, IsFile};
+ghost use Rattle.script_text.specs.Sources.{file_tokens, line_at};
+ghost use Rattle.script_text.specs.Lines.{IsOn};
+ghost use Rattle.script_checks.specs.Faults.{order_faults};
+ghost use Rattle.script_checks.specs.Checks.{Gives};
 ghost use Rattle.frame_script.specs.Writing.{nothing_written};
 ghost use Rattle.frame_script.specs.Walking.{scope_of, Tells, TakesSingle, TakesRepeat, TakesWhen, Takes, Leaves, IsWalking, IsThrough, RefusesItems};
 
-use crate::build_item::{RawItem, raw_item};
-use crate::order_checks::{check_repeat, check_when};
-use crate::raw::{RawNumber, RawOrder};
+use crate::LoadFault;
 use crate::walk_kernel::add_kernel;
-use crate::walk_order::{count_of, make_name, order_said};
+use crate::walk_order::{bind_name, check_statement, count_of};
 use crate::written::Written;
-use crate::{Kernels, LineCursor, LoadFault, Names, OrderFault, Source};
-use frame_grammar::{Note, TokenAt};
+use frame_grammar::TokenAt;
+use frame_parser::Note;
 use job_base::NoMemory;
+use script_checks::{Comparison, Kernels, Names, OrderFault, check_repeat, check_when};
+use script_text::{LineCursor, RawItem, RawNumber, RawOrder, Source, raw_item};
 use std::alloc::Global;
 
 /// What is known after some items of a file, and the part of its script that they are.
@@ -35,12 +37,12 @@ pub struct Walk<'a> {
     /// Whether one of the open blocks is a `when`.
     pub tested: bool,
     /// The same around each open block, the outermost first.
-    pub around: Vec<bool>,
+    pub outer_tests: Vec<bool>,
 }
 
 // The refusal of a file for a fault of a statement.
 #[inline(never)]
-fn told(source: Source<'_>, fault: OrderFault) -> LoadFault
+fn refusal_for(source: Source<'_>, fault: OrderFault) -> LoadFault
     requires few { length source.marks.now < 2 ^ 32 - 1 }
     ensures { (line : ℕ) (kind : FaultKind) → result ≡ LoadFault.Refused line kind →
         Tells source.entry fault line kind }
@@ -62,7 +64,7 @@ impl<'a> Walk<'a> {
         ensures literals { IfOk result (λ walk. walk.literals.items ≡ []) }
         ensures written { IfOk result (λ walk. walk.written ≡ nothing_written) }
         ensures tested { IfOk result (λ walk. walk.tested ≡ false) }
-        ensures around { IfOk result (λ walk. walk.around.items ≡ []) }
+        ensures outer_tests { IfOk result (λ walk. walk.outer_tests.items ≡ []) }
     {
         Ok(Walk {
             // A statement that makes a name has some four tokens, its line's end among them.
@@ -71,12 +73,12 @@ impl<'a> Walk<'a> {
             literals: Vec::new(alloc),
             written: Written::new(alloc),
             tested: false,
-            around: Vec::new(alloc),
+            outer_tests: Vec::new(alloc),
         })
     }
 
     // A statement without a block.
-    fn single(
+    fn take_plain(
         &mut self,
         alloc: Global,
         source: Source<'a>,
@@ -89,7 +91,7 @@ impl<'a> Walk<'a> {
         ensures { Gives (first_some (order_faults source.entry (scope_of self.old) at (form_of raw.now)))
             (λ _. TakesSingle source.entry at (form_of raw.now) self.old self.new) result }
     {
-        let act = order_said(
+        let act = check_statement(
             alloc,
             source,
             &self.names,
@@ -97,7 +99,7 @@ impl<'a> Walk<'a> {
             &mut self.literals,
             raw,
         )?;
-        make_name(source, &mut self.names, raw, &act)?;
+        bind_name(source, &mut self.names, raw, &act)?;
         self.written.add(line, act)?;
         Ok(())
     }
@@ -113,10 +115,10 @@ impl<'a> Walk<'a> {
         ensures { Gives (first_some (order_faults source.entry (scope_of self.old) at (Repeat count)))
             (λ _. TakesRepeat source.entry count self.old self.new) result }
     {
-        let blocks = count_of(self.around.len())?;
+        let blocks = count_of(self.outer_tests.len())?;
         let count = check_repeat(source, blocks, at, count)?;
         self.written.open_repeat(count)?;
-        self.around.push(self.tested)?;
+        self.outer_tests.push(self.tested)?;
         Ok(())
     }
 
@@ -132,22 +134,15 @@ impl<'a> Walk<'a> {
         value: RawNumber,
     ) -> Result<(), OrderFault>
         requires line { line ≡ line_at source at }
+        requires stands { TestStands (kinds (file_tokens source)) sign }
         ensures { Gives (first_some (order_faults source.entry (scope_of self.old) at (When name sign value)))
             (λ _. TakesWhen source.entry at (When name sign value) self.old self.new) result }
     {
-        let blocks = count_of(self.around.len())?;
-        let act = check_when(
-            source,
-            &self.names,
-            blocks,
-            self.tested,
-            at,
-            name,
-            sign,
-            value,
-        )?;
+        let blocks = count_of(self.outer_tests.len())?;
+        let test = Comparison { name, sign, value };
+        let act = check_when(source, &self.names, blocks, self.tested, at, test)?;
         self.written.open_when(line, act)?;
-        self.around.push(self.tested)?;
+        self.outer_tests.push(self.tested)?;
         self.tested = true;
         Ok(())
     }
@@ -155,12 +150,12 @@ impl<'a> Walk<'a> {
     // The end of a block.
     #[inline(never)]
     fn close(&mut self, alloc: Global) -> Result<(), NoMemory>
-        requires inside { 0 < length self.old.around.items }
+        requires inside { 0 < length self.old.outer_tests.items }
         requires open { 0 < length self.old.written.blocks }
         ensures { IfOk result (λ _. Leaves self.old self.new) }
     {
         self.written.close(alloc)?;
-        match self.around.pop() {
+        match self.outer_tests.pop() {
             Some(tested) => self.tested = tested,
             None => unreachable!(),
         }
@@ -169,7 +164,7 @@ impl<'a> Walk<'a> {
 
     // A statement, whose first token lies on this line; of `repeat` and `when`, what stands before the
     // brace.
-    fn order(
+    fn take_statement(
         &mut self,
         alloc: Global,
         source: Source<'a>,
@@ -178,6 +173,7 @@ impl<'a> Walk<'a> {
         raw: &RawOrder<'_>,
     ) -> Result<(), OrderFault>
         requires line { line ≡ line_at source at }
+        requires stands { OrderStands (kinds (file_tokens source)) (form_of raw.now) }
         ensures { Gives (first_some (order_faults source.entry (scope_of self.old) at (form_of raw.now)))
             (λ _. Takes source.entry at (form_of raw.now) self.old self.new) result }
     {
@@ -186,7 +182,7 @@ impl<'a> Walk<'a> {
             RawOrder::When { name, sign, value } => {
                 self.open_when(source, at, line, *name, *sign, *value)
             }
-            _ => self.single(alloc, source, at, line, raw),
+            _ => self.take_plain(alloc, source, at, line, raw),
         }
     }
 
@@ -220,9 +216,9 @@ impl<'a> Walk<'a> {
             }
             RawItem::Order { first, order, next } => {
                 let line = lines.go_to(source, first);
-                match self.order(alloc, source, first, line, &order) {
+                match self.take_statement(alloc, source, first, line, &order) {
                     Ok(()) => Ok(Some(next)),
-                    Err(fault) => Err(told(source, fault)),
+                    Err(fault) => Err(refusal_for(source, fault)),
                 }
             }
             RawItem::End { next } => {

@@ -2,17 +2,19 @@
 
 ghost use Rattle.std.specs.Prelude.{◌≡◌, ◌-◌, ◌<◌, ◌^◌, ℕ, length, IfOk};
 ghost use Rattle.frame_ast.specs.declared.kernel.FaultKind.{FaultKind};
-ghost use Rattle.frame_grammar.specs.Notes.{events_of};
-ghost use Rattle.kernel_code.specs.Raw.{IsKernel};
-ghost use Rattle.kernel_code.specs.Parsing.{kinds};
-ghost use Rattle.kernel_code.specs.Legible.{NamesAreText, NamesStand};
-ghost use Rattle.frame_script.specs.Sources.{file_tokens};
+ghost use Rattle.frame_parser.specs.Notes.{events_of};
+ghost use Rattle.kernel_raw.specs.RawEvents.{IsKernel};
+ghost use Rattle.kernel_text.specs.Tokens.{kinds, NamesAreText};
+ghost use Rattle.kernel_raw.specs.Legible.{NamesStand};
+ghost use Rattle.script_text.specs.Sources.{file_tokens};
 ghost use Rattle.frame_script.specs.Walking.{AddsKernel, RefusesKernel};
 
+use crate::LoadFault;
 use crate::guard_room::has_guard_room;
-use crate::{Kernels, LoadFault, Source};
-use frame_grammar::Note;
+use frame_parser::Note;
 use kernel_code::{KernelFault, check_kernel, raw_kernel};
+use script_checks::Kernels;
+use script_text::Source;
 use std::alloc::Global;
 
 /// Checks the kernel that these notes of the grammar are of, after those that are known, and adds it to them.

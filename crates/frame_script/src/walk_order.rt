@@ -3,27 +3,27 @@
 ghost use Rattle.std.specs.Prelude.{◌≡◌, ◌≤◌, ◌^◌, ◌++◌, ℕ, length, None, Some, MatchOption, MatchResult, IsTrue, IfOk};
 ghost use Rattle.frame_ast.specs.declared.name_kind.NameKind.{NameKind};
 ghost use Rattle.frame_ast.specs.Lists.{first_some};
-ghost use Rattle.frame_script.specs.Raw.{form_of, closing};
-ghost use Rattle.frame_script.specs.Faults.{order_faults, made_by};
-ghost use Rattle.frame_script.specs.Spelling.{Says, names_after, place_of};
+ghost use Rattle.script_text.specs.Raw.{form_of};
+ghost use Rattle.script_text.specs.Events.{closing};
+ghost use Rattle.script_checks.specs.Faults.{order_faults, made_by};
+ghost use Rattle.script_checks.specs.Spelling.{Says, names_after, place_of};
 ghost use Rattle.frame_script.specs.Made.{made_place};
 ghost use Rattle.frame_script.specs.Files.{literals_of};
-ghost use Rattle.frame_script.specs.Checks.{Gives, among, is_plain, valued_form};
+ghost use Rattle.script_checks.specs.Checks.{Gives, among, is_plain, valued_form};
 ghost use Rattle.frame_script.specs.Walking.{lists_in};
 
-use crate::order_checks::{Valued, check_order, valued_array};
-use crate::raw::RawOrder;
-use crate::{Kernels, Names, OrderFault, Source};
 use frame_ast::name_kind::NameKind;
 use frame_ast::script::Order;
 use frame_grammar::TokenAt;
 use job_base::NoMemory;
+use script_checks::{Kernels, Names, OrderFault, Valued, check_order, valued_array};
+use script_text::{RawOrder, Source};
 use std::alloc::Global;
 
 // TO ADD A STATEMENT: 10, the name that it makes, where it makes one.
 
 /// The name that a statement makes, and what it then stands for.
-fn made_name(
+fn name_bound(
     source: Source<'_>,
     names: &Names<'_>,
     raw: &RawOrder<'_>,
@@ -55,7 +55,7 @@ fn made_name(
 }
 
 /// The place of the name that a statement makes, where it makes one.
-fn made_place(act: &Order) -> Option<u32>
+fn place_bound(act: &Order) -> Option<u32>
     ensures { result ≡ made_place act.now }
 {
     match act {
@@ -79,7 +79,7 @@ fn made_place(act: &Order) -> Option<u32>
 /// Makes the name that a statement makes, where it makes one and the name isn't known yet; `act` is what the statement
 /// says.
 // Whether it is known stands in `act`, by which it isn't looked up once more.
-pub fn make_name<'a>(
+pub fn bind_name<'a>(
     source: Source<'a>,
     names: &mut Names<'a>,
     raw: &RawOrder<'_>,
@@ -89,10 +89,10 @@ pub fn make_name<'a>(
         made_place act.now ≡ Some (place_of source (names_after source names.old (form_of raw.now)) at) }
     ensures { IfOk result (λ _. names.new ≡ names_after source.entry names.old (form_of raw.now)) }
 {
-    let Some((at, kind)) = made_name(source, names, raw) else {
+    let Some((at, kind)) = name_bound(source, names, raw) else {
         return Ok(());
     };
-    if let Some(place) = made_place(act)
+    if let Some(place) = place_bound(act)
         && place < names.len()
     {
         return Ok(());
@@ -104,7 +104,7 @@ pub fn make_name<'a>(
 }
 
 // An array with values.
-fn valued<'a>(raw: &RawOrder<'a>) -> Option<Valued<'a>>
+fn as_valued_array<'a>(raw: &RawOrder<'a>) -> Option<Valued<'a>>
     ensures { MatchOption result (closing (form_of raw.now) ≡ None → IsTrue (is_plain raw.now))
         (λ text. form_of raw.now ≡ valued_form text) }
 {
@@ -135,7 +135,7 @@ pub fn count_of(len: usize) -> Result<u32, NoMemory>
 }
 
 /// What a statement without a block says. Where it has values, they become one more of the lists.
-pub fn order_said(
+pub fn check_statement(
     alloc: Global,
     source: Source<'_>,
     names: &Names<'_>,
@@ -149,7 +149,7 @@ pub fn order_said(
         (length literals.old.items) 0 (form_of raw.now) act
         × (lists_in literals.new ≡ lists_in literals.old ++ literals_of source.entry (form_of raw.now))) result }
 {
-    match valued(raw) {
+    match as_valued_array(raw) {
         None => check_order(alloc, source, names, kernels, raw),
         Some(text) => {
             let count = count_of(literals.len())?;

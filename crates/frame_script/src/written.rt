@@ -76,7 +76,7 @@ impl Written {
             && (!order.is_when() || self.tests < MOST_TESTS)
     }
 
-    /// A statement comes next.
+    /// Writes a statement. The first for which there is no room is kept by its line, and none after it is written.
     pub fn add(&mut self, line: u32, act: Order) -> Result<(), NoMemory>
         ensures { IfOk result (λ _. self.new ≡ put self.old (record { line = line; act = act })) }
     {
@@ -94,7 +94,7 @@ impl Written {
         Ok(())
     }
 
-    /// The block of a `repeat` comes next.
+    /// Opens the block of a `repeat`, which is to stand so many times.
     pub fn open_repeat(&mut self, count: u32) -> Result<(), NoMemory>
         ensures { IfOk result (λ _. self.new ≡ opened (block.Repeat (length self.old.statements) count) self.old) }
     {
@@ -103,7 +103,7 @@ impl Written {
         Ok(())
     }
 
-    /// A `when` comes next, and then its block.
+    /// Writes a `when`, and opens its block.
     pub fn open_when(&mut self, line: u32, act: Order) -> Result<(), NoMemory>
         ensures { IfOk result (λ _. self.new ≡ opened (block.When (length self.old.statements))
             (put self.old (record { line = line; act = act }))) }
@@ -114,7 +114,7 @@ impl Written {
         Ok(())
     }
 
-    // Statements between two places come once more.
+    // Writes the statements between two places once more.
     fn copy(&mut self, alloc: Global, start: usize, end: usize) -> Result<(), NoMemory>
         requires order { start ≤ end }
         requires within { end ≤ length self.old.statements }
@@ -127,8 +127,8 @@ impl Written {
         Ok(())
     }
 
-    // The statements from a place on are to stand so many times. Where there are none, that many times none aren't
-    // counted through.
+    // Writes the statements from a place on again until they stand so many times. Where there are none, that many
+    // times none aren't counted through.
     fn repeat(&mut self, alloc: Global, start: usize, count: u32) -> Result<(), NoMemory>
         ensures { IfOk result (λ _. PutsRepeated (count - 1) (drop start self.old.statements) self.old self.new) }
     {

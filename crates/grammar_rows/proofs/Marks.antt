@@ -4,9 +4,9 @@ use Rattle.std.proofs.Common.{◌≡◌, ℕ, ◌+◌, ◌==◌, ◌&&◌, Bool,
 use Rattle.std.proofs.lemmas.Bool.{eqb-true}
 use Rattle.std.proofs.lemmas.List.{append-nil}
 use Rattle.std.specs.Prelude.{unwrap_or}
-use Rattle.frame_grammar.specs.declared.TokenKind.{TokenKind}
-use Rattle.frame_grammar.specs.declared.TokenKind.TheVariants.{Line, End, Bad}
-use Rattle.frame_grammar.specs.declared.TokenKind.TheVariants as kind
+use Rattle.frame_grammar.specs.declared.token_kind.TokenKind.{TokenKind}
+use Rattle.frame_grammar.specs.declared.token_kind.TokenKind.TheVariants.{Line, End, Bad}
+use Rattle.frame_grammar.specs.declared.token_kind.TokenKind.TheVariants as kind
 use Rattle.frame_grammar.proofs.Checks.{same_kind_true}
 use Rattle.std.specs.List.{list_all}
 use Rattle.frame_grammar.specs.declared.symbols.Nonterminal.{Nonterminal}
@@ -15,10 +15,10 @@ use Rattle.frame_grammar.specs.declared.symbols.Action.{Action}
 use Rattle.frame_grammar.specs.declared.symbols.Action.TheVariants as action
 use Rattle.frame_grammar.specs.declared.symbols.Event.{Event}
 use Rattle.frame_grammar.specs.Sentences.{IsStart, IsSentence, IsViable, IsOnlySentence}
-use Rattle.frame_grammar.specs.Parser.{has_kind}
-use Rattle.kernel_code.specs.Spellings.{spelling_of, symbols, reserved_words}
-use Rattle.kernel_code.specs.Words.{is_name, is_number, is_text, closes_text, kind_of}
-use Rattle.frame_grammar.specs.Grammar.{body_of}
+use Rattle.frame_grammar.specs.Stack.{has_kind}
+use Rattle.kernel_text.specs.Spellings.{spelling_of, symbols, reserved_words}
+use Rattle.kernel_text.specs.Words.{is_name, is_number, is_text, closes_text, kind_of}
+use Rattle.frame_grammar.specs.Bodies.{body_of}
 use Rattle.frame_grammar.specs.Table.{choices_of, default_of}
 use Rattle.frame_grammar.specs.Predict.{same_kind}
 use Rattle.grammar_rows.proofs.Walk.{Found, found_in, Says, says}

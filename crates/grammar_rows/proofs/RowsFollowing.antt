@@ -4,8 +4,8 @@
 -- refused here, as one that takes too little is by the sentences of the other rows.
 use Prim.Native.String.{String}
 use Rattle.std.proofs.Common.{List, [], ◌∷◌, ◌++◌, map, refl}
-use Rattle.frame_grammar.specs.declared.TokenKind.{TokenKind}
-use Rattle.frame_grammar.specs.declared.TokenKind.TheVariants.{Name, Number, Line}
+use Rattle.frame_grammar.specs.declared.token_kind.TokenKind.{TokenKind}
+use Rattle.frame_grammar.specs.declared.token_kind.TokenKind.TheVariants.{Name, Number, Line}
 use Rattle.frame_grammar.specs.declared.symbols.Nonterminal.TheVariants.{Kernel}
 use Rattle.grammar_rows.proofs.Marks.{Mark, word, said, GoesOnBy, kernel_goes_on, tables}
 

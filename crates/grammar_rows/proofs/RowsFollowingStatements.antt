@@ -1,8 +1,8 @@
 -- What may follow in a file outside of its kernels: by which tokens, and by no others, it goes on.
 use Prim.Native.String.{String}
 use Rattle.std.proofs.Common.{List, [], ◌∷◌, ◌++◌, map, refl}
-use Rattle.frame_grammar.specs.declared.TokenKind.{TokenKind}
-use Rattle.frame_grammar.specs.declared.TokenKind.TheVariants.{Name, Number, Text, Line, End}
+use Rattle.frame_grammar.specs.declared.token_kind.TokenKind.{TokenKind}
+use Rattle.frame_grammar.specs.declared.token_kind.TokenKind.TheVariants.{Name, Number, Text, Line, End}
 use Rattle.frame_grammar.specs.declared.symbols.Nonterminal.TheVariants.{File}
 use Rattle.grammar_rows.proofs.Marks.{Mark, word, text as quoted, line, said, GoesOnBy, file_goes_on, tables}
 

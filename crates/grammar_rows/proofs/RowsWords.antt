@@ -1,6 +1,6 @@
 -- How tokens are spelled.
 use Rattle.std.proofs.Common.{◌≡◌, [], ◌∷◌, map, refl}
-use Rattle.frame_grammar.specs.declared.TokenKind.TheVariants.{Name, Number, Text, Bad, OpenBrace, CloseBrace, OpenParen, CloseParen, OpenBracket, CloseBracket, Comma, Semicolon, Colon, Assign, Equal, NotEqual, Less, LessEqual, Greater, GreaterEqual, Plus, Minus, Star, Slash, Percent, Not, AndAnd, OrOr, DotDot, Job, Parallel, Ro, Wo, Rw, Int, Array, List as ListWord, Ref, Map, Stream, By, Var, If, Else, For, In, While, Begin, Write, Add, Remove, Clear, TryAdd, Len, Has, Count, At, Index, Column, Reference, Slice, View, Copy, Set, Put, SetCapacity, Schedule, Waive, After, Combine, Complete, Dispose, As, Print, Flush, Repeat, Frame, Temp, TempJob, Persistent, Defer, Auto, When}
+use Rattle.frame_grammar.specs.declared.token_kind.TokenKind.TheVariants.{Name, Number, Text, Bad, OpenBrace, CloseBrace, OpenParen, CloseParen, OpenBracket, CloseBracket, Comma, Semicolon, Colon, Assign, Equal, NotEqual, Less, LessEqual, Greater, GreaterEqual, Plus, Minus, Star, Slash, Percent, Not, AndAnd, OrOr, DotDot, Job, Parallel, Ro, Wo, Rw, Int, Array, List as ListWord, Ref, Map, Stream, By, Var, If, Else, For, In, While, Begin, Write, Add, Remove, Clear, TryAdd, Len, Has, Count, At, Index, Column, Reference, Slice, View, Copy, Set, Put, SetCapacity, Schedule, Waive, After, Combine, Complete, Dispose, As, Print, Flush, Repeat, Frame, Temp, TempJob, Persistent, Defer, Auto, When}
 use Rattle.grammar_rows.proofs.Marks.{said, quoted, tables}
 
 -- { } ( ) [ ] , ; : = == != < <= > >= + - * / % ! && || ..

@@ -1,15 +1,15 @@
 -- How far the grammar's table goes on along some tokens, computed, and what that shows of sentences.
 use Rattle.std.proofs.Common.{◌≡◌, ℕ, zero, suc, ◌+◌, ◌<◌, ◌≤◌, Bool, true, false, List, [], ◌∷◌, ◌++◌, length, take, drop, get_or, Option, Some, None, refl, sym, ◌∙◌, ap, subst, arith, drop-cons, length-drop, take_all, add-one}
-use Rattle.frame_grammar.specs.declared.TokenKind.{TokenKind}
+use Rattle.frame_grammar.specs.declared.token_kind.TokenKind.{TokenKind}
 use Rattle.frame_grammar.specs.declared.symbols.Nonterminal.{Nonterminal}
 use Rattle.frame_grammar.specs.declared.symbols.Production.{Production}
 use Rattle.frame_grammar.specs.declared.symbols.Symbol.{Symbol}
 use Rattle.frame_grammar.specs.declared.symbols.Symbol.TheVariants as symbol
 use Rattle.frame_grammar.specs.declared.symbols.Event.{Event}
-use Rattle.frame_grammar.specs.Grammar.{body_of}
+use Rattle.frame_grammar.specs.Bodies.{body_of}
 use Rattle.frame_grammar.specs.Sentences.{IsStart, IsViable, IsOnlySentence, IsFault}
 use Rattle.frame_grammar.specs.Predict.{predicted, same_kind}
-use Rattle.frame_grammar.specs.Parser.{Between, Takes, Stops}
+use Rattle.frame_grammar.specs.Stack.{Between, Takes, Stops}
 use Rattle.frame_grammar.proofs.Checks.{same_kind_true}
 use Rattle.frame_grammar.proofs.Run.{viable}
 use Rattle.frame_grammar.proofs.Steps.{Leads, leads_start, taken, stops_empty, stops_at, goes_on_by, acts, between_start, between_more, finds, fault_at, kinds_differ}

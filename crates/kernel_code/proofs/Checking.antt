@@ -3,12 +3,12 @@ use Rattle.std.proofs.Common.{◌≡◌, List, None}
 use Rattle.frame_grammar.specs.declared.symbols.Event.{Event}
 use Rattle.frame_ast.specs.declared.kernel.Kernel.{Kernel}
 use Rattle.frame_ast.specs.Checked.{IsChecked}
-use Rattle.kernel_code.specs.declared.raw.RawKernel.{RawKernel}
-use Rattle.kernel_code.specs.Raw.{SpellsRaw}
+use Rattle.kernel_raw.specs.declared.raw.RawKernel.{RawKernel}
+use Rattle.kernel_raw.specs.RawEvents.{SpellsRaw}
 use Rattle.kernel_code.specs.StaticFaults.{first_fault}
 use Rattle.kernel_code.specs.Trees.{IsKernelOf}
-use Rattle.kernel_code.proofs.Fitting as fitting
-use Rattle.kernel_code.proofs.Limits as limits
+use Rattle.kernel_code.proofs.Fitting.Kernels as fitting
+use Rattle.kernel_code.proofs.Limits.Kernels as limits
 
 pub checked : (events : List Event) (raw : RawKernel) (k : Kernel) (earlier : List Kernel) → SpellsRaw events raw → first_fault raw earlier ≡ None
     → IsKernelOf raw k → IsChecked k

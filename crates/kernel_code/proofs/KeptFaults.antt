@@ -11,18 +11,20 @@ use Rattle.frame_ast.specs.declared.kernel.FaultKind.{FaultKind}
 use Rattle.frame_ast.specs.declared.kernel.FaultKind.TheVariants.{DuplicateName, Limit}
 use Rattle.frame_ast.specs.declared.kernel.Kernel.{Kernel}
 use Rattle.frame_ast.specs.Lists.{some_if}
-use Rattle.kernel_code.specs.declared.raw.RawForm.{RawForm}
-use Rattle.kernel_code.specs.declared.raw.RawForm.TheVariants as form
-use Rattle.kernel_code.specs.declared.raw.RawNode.{RawNode}
-use Rattle.kernel_code.specs.declared.raw.RawParam.{RawParam}
-use Rattle.kernel_code.specs.declared.raw.RawKernel.{RawKernel}
-use Rattle.kernel_code.specs.declared.raw.TheConstants.{MOST_KEPT}
+use Rattle.kernel_raw.specs.declared.raw.RawForm.{RawForm}
+use Rattle.kernel_raw.specs.declared.raw.RawForm.TheVariants as form
+use Rattle.kernel_raw.specs.declared.raw.RawNode.{RawNode}
+use Rattle.kernel_raw.specs.declared.raw.RawParam.{RawParam}
+use Rattle.kernel_raw.specs.declared.raw.RawKernel.{RawKernel}
+use Rattle.kernel_raw.specs.declared.raw.TheConstants.{MOST_KEPT}
 use Rattle.kernel_code.specs.declared.check.StaticFault.{StaticFault}
 use Rattle.kernel_code.specs.declared.check.names.Named.{Named}
 use Rattle.kernel_code.specs.declared.check.names.Named.TheVariants.{Parameter, Variable, LoopVariable}
 use Rattle.kernel_code.specs.declared.check.names.Local.{Local}
-use Rattle.kernel_code.specs.StaticFaults.{text_at, depth_at, declares, is_loop, end_in, end_within, block_end, local_of, local_if, locals_from, locals_before, parameter, in_scope, local_among, meaning_of, is_begin, is_inside, is_number, begun_among, is_begun, lowest, length_fault, param_fault_of, use_fault, answer_fault, declared_fault, token_fault, size_fault, used_fault, name_fault, fault_at, first_of_two, node_fault, nodes_fault, first_fault, kernel_name_fault, params_fault, param_name_fault, param_kind_fault}
-use Rattle.kernel_code.proofs.Keeping.{lt-of, ge-of, of-lt, get-take}
+use Rattle.kernel_raw.specs.RawTexts.{text_at, depth_at}
+use Rattle.kernel_code.specs.Scopes.{declares, is_loop, end_in, end_within, block_end, local_of, local_if, locals_from, locals_before, parameter, in_scope, local_among, meaning_of, is_begin, is_inside, is_number, begun_among, is_begun}
+use Rattle.kernel_code.specs.StaticFaults.{lowest, length_fault, param_fault_of, use_fault, answer_fault, declared_fault, token_fault, size_fault, used_fault, name_fault, fault_at, first_of_two, node_fault, nodes_fault, first_fault, kernel_name_fault, params_fault, param_name_fault, param_kind_fault}
+use Rattle.kernel_raw.proofs.Reading.Keeping.{lt-of, ge-of, of-lt, get-take}
 
 -- TOO MANY NODES
 

@@ -3,15 +3,16 @@ use Rattle.std.proofs.Common.{ℕ, ◌≡◌, ◌<◌, Bool, true, false, cond, 
 use Rattle.std.specs.Prelude.{◌==◌, ◌||◌, nat_le}
 use Rattle.std.proofs.lemmas.Bool.Decides.{nat_tests}
 use Rattle.frame_ast.specs.declared.kernel.FaultKind.{FaultKind}
-use Rattle.kernel_code.specs.declared.raw.RawForm.{RawForm}
-use Rattle.kernel_code.specs.declared.raw.RawForm.TheVariants as form
-use Rattle.kernel_code.specs.declared.raw.RawNode.{RawNode}
-use Rattle.kernel_code.specs.declared.raw.RawKernel.{RawKernel}
+use Rattle.kernel_raw.specs.declared.raw.RawForm.{RawForm}
+use Rattle.kernel_raw.specs.declared.raw.RawForm.TheVariants as form
+use Rattle.kernel_raw.specs.declared.raw.RawNode.{RawNode}
+use Rattle.kernel_raw.specs.declared.raw.RawKernel.{RawKernel}
 use Rattle.kernel_code.specs.declared.check.StaticFault.{StaticFault}
 use Rattle.kernel_code.specs.Known.{IsFaultless}
 use Rattle.std.specs.Option.{option_or}
 use Rattle.frame_ast.specs.Lists.{some_if}
-use Rattle.kernel_code.specs.StaticFaults.{number_of, lowest, fault_at, declares, locals_before, token_fault, size_fault, name_fault, node_fault}
+use Rattle.kernel_code.specs.StaticFaults.{number_of, lowest, fault_at, token_fault, size_fault, name_fault, node_fault}
+use Rattle.kernel_code.specs.Scopes.{declares, locals_before}
 
 choice-some : {A : Type 0} (b : Bool) (x y : A) → cond b (Some x) (Some y) ≡ None → ⊥
 choice-some true x y h = cc

@@ -6,10 +6,11 @@ use Rattle.std.specs.Option.{option_or, option_map}
 use Rattle.std.specs.Str.{bytes_eq}
 use Rattle.std.proofs.lemmas.List.{length-map}
 use Rattle.job_base.proofs.FirstPlace.{position-map}
-use Rattle.kernel_code.specs.declared.raw.RawKernel.{RawKernel}
+use Rattle.kernel_raw.specs.declared.raw.RawKernel.{RawKernel}
 use Rattle.kernel_code.specs.declared.check.names.Local.{Local}
 use Rattle.kernel_code.specs.declared.check.names.Named.TheVariants.{Parameter}
-use Rattle.kernel_code.specs.StaticFaults.{text_at, parameter, local_among, meaning_among}
+use Rattle.kernel_raw.specs.RawTexts.{text_at}
+use Rattle.kernel_code.specs.Scopes.{parameter, local_among, meaning_among}
 use Rattle.kernel_code.specs.Known.{AreNames}
 
 -- there are as many

@@ -2,15 +2,16 @@
 use Rattle.std.proofs.Common.{ℕ, ◌≡◌, ◌<◌, ◌≤◌, ◌+◌, Bool, true, false, List, [], ◌∷◌, ◌++◌, length, get_or, take, drop, Option, Some, None, append-nil, append_assoc, refl, ap, sym, subst, ◌∙◌, add-one, arith, drop-cons}
 use Rattle.std.specs.Prelude.{◌||◌}
 use Rattle.std.proofs.lemmas.List.{take_more, length_push, drop_all, length-take}
-use Rattle.kernel_code.specs.declared.raw.RawNode.{RawNode}
-use Rattle.kernel_code.specs.declared.raw.RawKernel.{RawKernel}
+use Rattle.kernel_raw.specs.declared.raw.RawNode.{RawNode}
+use Rattle.kernel_raw.specs.declared.raw.RawKernel.{RawKernel}
 use Rattle.kernel_code.specs.declared.check.names.Local.{Local}
 use Rattle.kernel_code.specs.declared.check.names.Meaning.{Meaning}
 use Rattle.kernel_code.specs.declared.check.names.Named.{Named}
 use Rattle.kernel_code.specs.declared.check.streams.StreamBlock.{StreamBlock}
 use Rattle.kernel_code.specs.declared.check.StaticFault.{StaticFault}
 use Rattle.std.specs.Option.{option_or}
-use Rattle.kernel_code.specs.StaticFaults.{declares, local_of, local_if, locals_from, locals_before, begun_among, node_fault, nodes_fault}
+use Rattle.kernel_code.specs.Scopes.{declares, local_of, local_if, locals_from, locals_before, begun_among}
+use Rattle.kernel_code.specs.StaticFaults.{node_fault, nodes_fault}
 use Rattle.kernel_code.specs.Known.{stands_in, is_block, answer_named, name_stored, meaning_at, meanings_from, IsKnown}
 use Rattle.kernel_code.proofs.NoFaults.{few-locals, node_fault-none}
 

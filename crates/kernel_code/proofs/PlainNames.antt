@@ -6,15 +6,17 @@ use Rattle.std.specs.Option.{option_or}
 use Rattle.frame_ast.specs.Lists.{some_if}
 use Rattle.frame_ast.specs.declared.kernel.FaultKind.TheVariants.{Limit}
 use Rattle.frame_ast.specs.declared.kernel.FaultKind.{FaultKind}
-use Rattle.kernel_code.specs.declared.raw.RawForm.{RawForm}
-use Rattle.kernel_code.specs.declared.raw.RawForm.TheVariants as form
-use Rattle.kernel_code.specs.declared.raw.RawNode.{RawNode}
-use Rattle.kernel_code.specs.declared.raw.RawKernel.{RawKernel}
+use Rattle.kernel_raw.specs.declared.raw.RawForm.{RawForm}
+use Rattle.kernel_raw.specs.declared.raw.RawForm.TheVariants as form
+use Rattle.kernel_raw.specs.declared.raw.RawNode.{RawNode}
+use Rattle.kernel_raw.specs.declared.raw.RawKernel.{RawKernel}
 use Rattle.kernel_code.specs.declared.check.names.Local.{Local}
 use Rattle.kernel_code.specs.declared.check.names.Meaning.{Meaning}
 use Rattle.kernel_code.specs.declared.check.names.Named.{Named}
 use Rattle.kernel_code.specs.declared.check.streams.StreamBlock.{StreamBlock}
-use Rattle.kernel_code.specs.StaticFaults.{text_at, is_over_limit, meaning_of, declares, as_local, locals_before, lowest, fault_at, local_of, local_if, is_begin, is_inside, is_number, parameter, used_fault, token_fault, size_fault, name_fault, first_of_two, node_fault}
+use Rattle.kernel_raw.specs.RawTexts.{text_at}
+use Rattle.kernel_code.specs.StaticFaults.{is_over_limit, lowest, fault_at, used_fault, token_fault, size_fault, name_fault, first_of_two, node_fault}
+use Rattle.kernel_code.specs.Scopes.{meaning_of, declares, as_local, locals_before, local_of, local_if, is_begin, is_inside, is_number, parameter}
 use Rattle.kernel_code.specs.Known.{has_name, has_answer, only_uses, meaning_if, name_named, used_name, plain_name, name_stored, stands_in, IsKnown}
 use Rattle.kernel_code.proofs.Passing.{known_next, meaning_pushed}
 

@@ -3,16 +3,18 @@ use Rattle.std.specs.Prelude.{◌≡◌, ℕ, ◌≤◌, nat_le, nat_lt, ◌==�
 use Rattle.std.specs.List.{list_any}
 use Rattle.std.specs.Borrow.{Bor}
 use Rattle.job_base.specs.declared.limits.TheConstants.{MOST_LOCALS}
-use Rattle.kernel_code.specs.declared.raw.RawForm.{RawForm}
-use Rattle.kernel_code.specs.declared.raw.RawForm.TheVariants as form
-use Rattle.kernel_code.specs.declared.raw.RawNode.{RawNode}
-use Rattle.kernel_code.specs.declared.raw.RawKernel.{RawKernel}
+use Rattle.kernel_raw.specs.declared.raw.RawForm.{RawForm}
+use Rattle.kernel_raw.specs.declared.raw.RawForm.TheVariants as form
+use Rattle.kernel_raw.specs.declared.raw.RawNode.{RawNode}
+use Rattle.kernel_raw.specs.declared.raw.RawKernel.{RawKernel}
 use Rattle.kernel_code.specs.declared.check.names.Named.{Named}
 use Rattle.kernel_code.specs.declared.check.names.Named.TheVariants.{Parameter, Variable, LoopVariable}
 use Rattle.kernel_code.specs.declared.check.names.Local.{Local}
 use Rattle.kernel_code.specs.declared.check.names.Meaning.{Meaning}
 use Rattle.kernel_code.specs.declared.check.streams.StreamBlock.{StreamBlock}
-use Rattle.kernel_code.specs.StaticFaults.{text_at, declares, local_of, as_local, locals_before, parameter, is_begin, is_inside, is_number, begun_among, meaning_of, used_fault, token_fault, size_fault, name_fault}
+use Rattle.kernel_raw.specs.RawTexts.{text_at}
+use Rattle.kernel_code.specs.Scopes.{declares, local_of, as_local, locals_before, parameter, is_begin, is_inside, is_number, begun_among, meaning_of}
+use Rattle.kernel_code.specs.StaticFaults.{used_fault, token_fault, size_fault, name_fault}
 
 -- whether node i stands in a block of stream x
 abbrev pub is_in : ℕ → ℕ → StreamBlock → Bool

@@ -1,19 +1,7 @@
-pub mod Spellings
-pub mod Words
-pub mod Tokens
-pub mod Fronts
-pub mod Marks
-pub mod Depths
-pub mod Raw
+-- promises
+pub mod Scopes
 pub mod StaticFaults
-pub mod Numbers
 pub mod Trees
-pub mod Reading
-pub mod Keeping
-pub mod Parsing
-pub mod Edges
-pub mod Widths
+-- for this crate's own contracts
 pub mod Known
 pub mod Places
-pub mod Legible
-pub mod Letters

@@ -4,15 +4,16 @@ use Rattle.frame_ast.specs.declared.kernel.Expr.{Expr}
 use Rattle.frame_ast.specs.declared.kernel.Expr.TheVariants.{Number, Index, Local, Value, Element', Length, Has', Count', Negative', Not', And', Or', Binary'}
 use Rattle.frame_ast.specs.declared.kernel.Stmt.{Stmt}
 use Rattle.frame_ast.specs.declared.kernel.Stmt.TheOpen.{Stmt-F, Assign, SetValue, Store, Add, AddPair, TryAdd, RemoveAt, RemoveKey, Write}
-use Rattle.kernel_code.specs.declared.raw.RawForm.{RawForm}
-use Rattle.kernel_code.specs.declared.raw.RawForm.TheVariants as form
-use Rattle.kernel_code.specs.declared.raw.RawNode.{RawNode}
-use Rattle.kernel_code.specs.declared.raw.RawKernel.{RawKernel}
+use Rattle.kernel_raw.specs.declared.raw.RawForm.{RawForm}
+use Rattle.kernel_raw.specs.declared.raw.RawForm.TheVariants as form
+use Rattle.kernel_raw.specs.declared.raw.RawNode.{RawNode}
+use Rattle.kernel_raw.specs.declared.raw.RawKernel.{RawKernel}
 use Rattle.kernel_code.specs.declared.check.names.Meaning.{Meaning}
-use Rattle.kernel_code.specs.Raw.{RawExpr, Leaf, One, Two, Infix, RawBlock, Nothing, Simple, Nested, Branched, expr_size, parts_size, block_size, expr_node, statement_node}
+use Rattle.kernel_raw.specs.Raw.{RawExpr, Leaf, One, Two, Infix, RawBlock, Nothing, Simple, Nested, Branched, expr_size, parts_size, block_size, expr_node, statement_node}
 use Rattle.kernel_code.specs.declared.check.names.Named.{Named}
 use Rattle.kernel_code.specs.declared.check.names.Named.TheVariants.{Parameter, Variable, LoopVariable}
-use Rattle.kernel_code.specs.StaticFaults.{nodes_fault, value_at}
+use Rattle.kernel_code.specs.StaticFaults.{nodes_fault}
+use Rattle.kernel_raw.specs.RawTexts.{value_at}
 use Rattle.kernel_code.specs.Known.{meanings_from, number_named}
 use Rattle.kernel_code.specs.Trees.{Joint, Both, Either, By, ExprOf, BlockOf, kind_at, is_minus}
 
@@ -224,15 +225,15 @@ abbrev pub set_of : Option Named → Expr → Stmt-F Stmt
 set_of (Some (Parameter x)) e = SetValue x e
 set_of named e = Assign (number_named named) e
 
-abbrev pub one_part : RawForm → Meaning → Expr → Stmt-F Stmt
-one_part form.Var m e = Assign (number_named m.name) e
-one_part form.SetName m e = set_of m.name e
-one_part form.SetRemove m e = RemoveKey (number_named m.answer) (number_named m.name) e
-one_part form.AddItem m e = Add (number_named m.name) e
-one_part form.Remove m e = RemoveAt (number_named m.name) e
-one_part _ m e = Write (number_named m.name) e
+abbrev pub statement_with_one : RawForm → Meaning → Expr → Stmt-F Stmt
+statement_with_one form.Var m e = Assign (number_named m.name) e
+statement_with_one form.SetName m e = set_of m.name e
+statement_with_one form.SetRemove m e = RemoveKey (number_named m.answer) (number_named m.name) e
+statement_with_one form.AddItem m e = Add (number_named m.name) e
+statement_with_one form.Remove m e = RemoveAt (number_named m.name) e
+statement_with_one _ m e = Write (number_named m.name) e
 
-abbrev pub two_parts : RawForm → Meaning → Expr → Expr → Stmt-F Stmt
-two_parts form.SetPlace m e f = Store (number_named m.name) e f
-two_parts form.SetTryAdd m e f = TryAdd (number_named m.answer) (number_named m.name) e f
-two_parts _ m e f = AddPair (number_named m.name) e f
+abbrev pub statement_with_two : RawForm → Meaning → Expr → Expr → Stmt-F Stmt
+statement_with_two form.SetPlace m e f = Store (number_named m.name) e f
+statement_with_two form.SetTryAdd m e f = TryAdd (number_named m.answer) (number_named m.name) e f
+statement_with_two _ m e f = AddPair (number_named m.name) e f

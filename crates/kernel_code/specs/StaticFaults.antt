@@ -1,9 +1,8 @@
--- The static faults of a kernel: what its names are where they stand, what each form needs of its name, and which fault
--- comes first.
+-- The static faults of a kernel: what each form needs of its name, the faults of one token, and which fault comes
+-- first.
 --
--- Nodes, locals and parameters are numbered from 0. A name that several things have is the parameter, else the first
--- local.
-use Rattle.std.specs.Prelude.{◌≡◌, ℕ, ◌+◌, ◌-◌, ◌*◌, ◌==◌, nat_lt, nat_le, Bool, true, false, ◌&&◌, ◌||◌, not, is_some, unwrap_or, if◌then◌else◌, List, [], ◌∷◌, ◌++◌, length, take, fold, position, slice_get, Option, None, Some, option_map}
+-- Nodes, locals and parameters are numbered from 0.
+use Rattle.std.specs.Prelude.{◌≡◌, ℕ, ◌+◌, ◌==◌, nat_lt, nat_le, Bool, ◌||◌, not, is_some, if◌then◌else◌, List, [], ◌∷◌, length, take, slice_get, Option, None, Some}
 use Rattle.std.specs.Option.{option_or}
 use Rattle.std.specs.List.{list_any}
 use Rattle.std.specs.Str.{bytes_eq}
@@ -18,157 +17,18 @@ use Rattle.frame_ast.specs.declared.kernel.ParamKind.TheVariants as kind
 use Rattle.frame_ast.specs.declared.kernel.Kernel.{Kernel}
 use Rattle.frame_ast.specs.Lists.{some_if}
 use Rattle.frame_ast.specs.Checked.{Touch, Demand, written, nothing, a_value, read_elements, measurable, read_map, read_stream, written_elements, written_list, written_map, changed_map, clearable, written_stream}
-use Rattle.kernel_code.specs.declared.token.Token.{Token}
-use Rattle.kernel_code.specs.declared.fault.KernelFault.{KernelFault}
-use Rattle.kernel_code.specs.declared.fault.KernelFault.TheVariants.{Refused, NoMemory}
-use Rattle.kernel_code.specs.declared.raw.RawForm.{RawForm}
-use Rattle.kernel_code.specs.declared.raw.RawForm.TheVariants as form
-use Rattle.kernel_code.specs.declared.raw.RawNode.{RawNode}
-use Rattle.kernel_code.specs.declared.raw.RawParam.{RawParam}
-use Rattle.kernel_code.specs.declared.raw.RawKernel.{RawKernel}
+use Rattle.kernel_raw.specs.declared.fault.KernelFault.{KernelFault}
+use Rattle.kernel_raw.specs.declared.fault.KernelFault.TheVariants.{Refused, NoMemory}
+use Rattle.kernel_raw.specs.declared.raw.RawForm.{RawForm}
+use Rattle.kernel_raw.specs.declared.raw.RawForm.TheVariants as form
+use Rattle.kernel_raw.specs.declared.raw.RawNode.{RawNode}
+use Rattle.kernel_raw.specs.declared.raw.RawParam.{RawParam}
+use Rattle.kernel_raw.specs.declared.raw.RawKernel.{RawKernel}
 use Rattle.kernel_code.specs.declared.check.names.Named.{Named}
 use Rattle.kernel_code.specs.declared.check.names.Named.TheVariants.{Parameter, Variable, LoopVariable}
-use Rattle.kernel_code.specs.declared.check.names.Local.{Local}
 use Rattle.kernel_code.specs.declared.check.StaticFault.{StaticFault}
-use Rattle.kernel_code.specs.Marks.{raw_tokens}
-use Rattle.kernel_code.specs.Tokens.{text_of}
-
--- TEXTS
-
-abbrev pub token_text : List ℕ → Option Token → List ℕ
-token_text source None = []
-token_text source (Some token) = text_of source token
-
--- the bytes of the token at a place
-abbrev pub text_at : RawKernel → ℕ → List ℕ
-text_at raw at = token_text raw.source.now (slice_get (raw_tokens raw) at)
-
-abbrev pub token_line : Option Token → ℕ
-token_line None = 0
-token_line (Some token) = token.line
-
--- the line of the token at a place
-abbrev pub line_at : RawKernel → ℕ → ℕ
-line_at raw at = token_line (slice_get (raw_tokens raw) at)
-
--- the value of decimal digits
-abbrev pub value_of : List ℕ → ℕ
-value_of = fold (λ value digit. 10 * value + (digit - 48)) 0
-
--- the value of the Number at a place
-abbrev pub value_at : RawKernel → ℕ → ℕ
-value_at raw at = value_of (text_at raw at)
-
--- DEPTH
-
--- how deep node i stands among all nodes of the kernel, also among those that are not kept
-abbrev pub depth_at : RawKernel → ℕ → ℕ
-depth_at raw i = unwrap_or (slice_get raw.depths.items i) 0
-
--- SCOPES
-
--- whether a node is the `var` or the `for` of a local
-abbrev pub declares : RawForm → Bool
-declares form.Var = true
-declares form.For = true
-declares _ = false
-
-abbrev pub is_loop : RawForm → Bool
-is_loop form.For = true
-is_loop _ = false
-
--- the node behind the block of statement p in which node d stands: its first block, else its second one
-abbrev pub end_in : ℕ → ℕ → RawNode → ℕ
-end_in d p owner =
-    let first = p + 1 + owner.heads + owner.inside in
-    if nat_lt d first then first else p + 1 + owner.after
-
-abbrev pub end_within : List RawNode → ℕ → ℕ → Option RawNode → ℕ
-end_within nodes d p None = length nodes
-end_within nodes d p (Some owner) = end_in d p owner
-
--- the node behind the block in which node d stands, whose owner is this statement
-abbrev pub block_end : List RawNode → ℕ → Option ℕ → ℕ
-block_end nodes d None = length nodes
-block_end nodes d (Some p) = end_within nodes d p (slice_get nodes p)
-
--- The local of node d. A loop variable is in scope in the block of its `for`, any other local from the statement behind
--- its `var` to the end of the block.
-abbrev pub local_of : List RawNode → ℕ → RawNode → Local
-local_of nodes d node =
-    let inner = d + 1 + node.heads in
-    if is_loop node.form
-    then record { name = node.name; start = inner; end = inner + node.inside; is_loop = true }
-    else record { name = node.name; start = d + 1 + node.after; end = block_end nodes d node.owner; is_loop = false }
-
-abbrev pub local_if : Bool → Local → List Local
-local_if b l = if b then l ∷ [] else []
-
--- the locals of these nodes, from node d on
-abbrev pub locals_from : List RawNode → ℕ → List RawNode → List Local
-locals_from nodes d [] = []
-locals_from nodes d (node ∷ more) =
-    local_if (declares node.form) (local_of nodes d node) ++ locals_from nodes (d + 1) more
-
--- the locals that are declared before node i, in and out of scope
-abbrev pub locals_before : List RawNode → ℕ → List Local
-locals_before nodes i = locals_from nodes 0 (take i nodes)
-
--- the locals of a kernel
-abbrev pub locals_of : List RawNode → List Local
-locals_of nodes = locals_from nodes 0 nodes
-
--- NAMES
-
--- the parameter that a name is
-abbrev pub parameter : RawKernel → List ℕ → Option ℕ
-parameter raw text = position (λ p. bytes_eq (text_at raw p.name) text) raw.params.items
-
--- what local k is
-abbrev pub as_local : Local → ℕ → Named
-as_local l k = if l.is_loop then LoopVariable k else Variable k
-
-abbrev pub in_scope : ℕ → Local → Bool
-in_scope i l = nat_le l.start i && nat_lt i l.end
-
--- the local in scope at node i that a name is, among these from local k on
-abbrev pub local_among : RawKernel → ℕ → List ℕ → ℕ → List Local → Option Named
-local_among raw i text k [] = None
-local_among raw i text k (l ∷ more) =
-    if in_scope i l && bytes_eq (text_at raw l.name) text then Some (as_local l k)
-    else local_among raw i text (k + 1) more
-
-abbrev pub meaning_among : RawKernel → List Local → ℕ → List ℕ → Option Named
-meaning_among raw locals i text =
-    option_or (option_map (λ x. Parameter x) (parameter raw text)) (local_among raw i text 0 locals)
-
--- what a name is at node i
-abbrev pub meaning_of : RawKernel → ℕ → List ℕ → Option Named
-meaning_of raw i text = meaning_among raw (locals_before raw.nodes.items i) i text
-
--- STREAMS
-
-abbrev pub is_begin : RawForm → Bool
-is_begin form.Begin = true
-is_begin _ = false
-
--- whether node i stands in the block of node b
-abbrev pub is_inside : ℕ → ℕ → RawNode → Bool
-is_inside i b node = nat_le (b + 1 + node.heads) i && nat_lt i (b + 1 + node.heads + node.inside)
-
-abbrev pub is_number : ℕ → Option ℕ → Bool
-is_number x None = false
-is_number x (Some y) = x == y
-
--- whether node i stands in the block of a `begin` of parameter x, among these nodes from node b on
-abbrev pub begun_among : RawKernel → ℕ → ℕ → ℕ → List RawNode → Bool
-begun_among raw x i b [] = false
-begun_among raw x i b (node ∷ more) =
-    (is_begin node.form && (is_inside i b node && is_number x (parameter raw (text_at raw node.name))))
-    || begun_among raw x i (b + 1) more
-
-abbrev pub is_begun : RawKernel → ℕ → ℕ → Bool
-is_begun raw i x = begun_among raw x i 0 (take i raw.nodes.items)
+use Rattle.kernel_raw.specs.RawTexts.{text_at, line_at, value_at, depth_at}
+use Rattle.kernel_code.specs.Scopes.{meaning_of, locals_before, is_begun}
 
 -- WHAT FORMS NEED
 

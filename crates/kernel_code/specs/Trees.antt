@@ -3,8 +3,8 @@
 use Rattle.std.specs.Prelude.{◌≡◌, ℕ, ◌+◌, pos, Bool, true, false, List, [], ◌∷◌, length, map, Option, Some, None, slice_get}
 use Rattle.std.specs.String.{string_bytes}
 use Rattle.job_base.specs.declared.Access.{Access}
-use Rattle.frame_grammar.specs.declared.TokenKind.{TokenKind}
-use Rattle.frame_grammar.specs.declared.TokenKind.TheVariants as token
+use Rattle.frame_grammar.specs.declared.token_kind.TokenKind.{TokenKind}
+use Rattle.frame_grammar.specs.declared.token_kind.TokenKind.TheVariants as token
 use Rattle.frame_grammar.specs.declared.symbols.Event.{Event}
 use Rattle.frame_ast.specs.declared.kernel.ParamKind.{ParamKind}
 use Rattle.frame_ast.specs.declared.kernel.Param.{Param}
@@ -15,14 +15,15 @@ use Rattle.frame_ast.specs.declared.kernel.Expr.{Expr}
 use Rattle.frame_ast.specs.declared.kernel.Expr.TheVariants.{Number, Index, Local, Value, Element', Length, Has', Count', Item', Negative', Not', And', Or', Binary'}
 use Rattle.frame_ast.specs.declared.kernel.Stmt.{Stmt, out-Stmt}
 use Rattle.frame_ast.specs.declared.kernel.Stmt.TheOpen.{Assign, SetValue, Store, Add, AddPair, TryAdd, RemoveAt, RemoveKey, Clear, Write, Begin, If, For, While}
-use Rattle.kernel_code.specs.declared.token.Token.{Token}
-use Rattle.kernel_code.specs.declared.raw.RawForm.TheVariants as form
-use Rattle.kernel_code.specs.declared.raw.RawParam.{RawParam}
-use Rattle.kernel_code.specs.declared.raw.RawKernel.{RawKernel}
+use Rattle.kernel_text.specs.declared.token.Token.{Token}
+use Rattle.kernel_raw.specs.declared.raw.RawForm.TheVariants as form
+use Rattle.kernel_raw.specs.declared.raw.RawParam.{RawParam}
+use Rattle.kernel_raw.specs.declared.raw.RawKernel.{RawKernel}
 use Rattle.kernel_code.specs.declared.check.names.Named.TheVariants.{Parameter, Variable, LoopVariable}
-use Rattle.kernel_code.specs.Marks.{raw_tokens}
-use Rattle.kernel_code.specs.Raw.{RawExpr, Leaf, One, Two, Infix, RawBlock, Nothing, Simple, Nested, Branched, expr_size, block_size, SpellsRaw}
-use Rattle.kernel_code.specs.StaticFaults.{text_at, value_at, locals_before, locals_of, meaning_of}
+use Rattle.kernel_raw.specs.RawTexts.{raw_tokens, text_at, value_at}
+use Rattle.kernel_raw.specs.Raw.{RawExpr, Leaf, One, Two, Infix, RawBlock, Nothing, Simple, Nested, Branched, expr_size, block_size}
+use Rattle.kernel_raw.specs.RawEvents.{SpellsRaw}
+use Rattle.kernel_code.specs.Scopes.{locals_before, locals_of, meaning_of}
 
 -- OPERATORS
 

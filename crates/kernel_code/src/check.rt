@@ -2,9 +2,10 @@
 ghost use Rattle.std.specs.Prelude.{◌≡◌, ◌<◌, ◌+◌, ◌^◌, ℕ, length, None, Some, IfOk, IfErr, OnOk};
 ghost use Rattle.std.specs.Option.{option_or};
 ghost use Rattle.frame_ast.specs.Checked.{IsChecked};
-ghost use Rattle.kernel_code.specs.StaticFaults.{text_at, fault_at, kernel_name_fault, params_fault, first_fault, TellsFault};
+ghost use Rattle.kernel_raw.specs.RawTexts.{text_at};
+ghost use Rattle.kernel_code.specs.StaticFaults.{fault_at, kernel_name_fault, params_fault, first_fault, TellsFault};
 ghost use Rattle.kernel_code.specs.Trees.{IsKernelOf};
-ghost use Rattle.kernel_code.specs.Legible.{IsParsed};
+ghost use Rattle.kernel_raw.specs.Legible.{IsParsed};
 
 mod demands;
 mod expressions;
@@ -22,10 +23,9 @@ use crate::check::kernels::kernel_of;
 use crate::check::params::{fault_at, kernel_name_fault, params_fault};
 use crate::check::resolve::resolve;
 use crate::check::texts::{line_at, text_at};
-use crate::fault::KernelFault;
-use crate::raw::RawKernel;
 use frame_ast::kernel::{FaultKind, Kernel};
 use frame_grammar::TokenAt;
+use kernel_raw::{KernelFault, RawKernel};
 use std::alloc::Global;
 
 /// A static fault, at the token of that place among those of the kernel.

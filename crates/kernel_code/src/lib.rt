@@ -1,34 +1,17 @@
-//! Kernels as texts.
+//! What kernels mean: their names are looked up, and their static faults found.
 //!
-//! `lex` finds the tokens of a file. `parse_kernel` reads the kernel that begins at one of them, and
-//! `raw_kernel` makes a raw form of the events of one: each part by its token, no name looked up.
-//! `check_kernel` looks the names up, and answers the kernel or its first static fault.
+//! `check_kernel` makes the kernel that a raw kernel is, or reports its first static fault: the first in the order of
+//! the tokens, and of the faults of one token that of the lowest number. It takes memory for the nodes that are kept
+//! and for the tree. Texts and raw forms are of `kernel_text` and `kernel_raw`, whose public names stand here too, so
+//! that who reads kernels uses this crate alone.
 #![tactic(auto)]
 
-mod changes;
 mod check;
-mod decimal;
-mod depths;
-mod fault;
-mod first;
-mod kernel;
-mod late;
-mod lexer;
-mod mark;
-mod part;
-mod raw;
-mod reader;
-mod spelling;
-mod token;
-mod word;
 
 pub use check::{StaticFault, check_kernel};
-pub use depths::are_shallow;
-pub use fault::KernelFault;
 pub use frame_ast::kernel::{Body, FaultKind, Kernel, Param, ParamKind};
 pub use frame_grammar::{TokenAt, TokenKind};
-pub use kernel::{parse_kernel, raw_kernel};
-pub use lexer::lex;
-pub use mark::{Mark, line_at, lines_in};
-pub use raw::{RawForm, RawKernel, RawNode, RawParam};
-pub use token::Token;
+pub use kernel_raw::{
+    KernelFault, RawForm, RawKernel, RawNode, RawParam, are_shallow, parse_kernel, raw_kernel,
+};
+pub use kernel_text::{Mark, Token, lex, line_at, lines_in};

@@ -6,13 +6,13 @@ use Rattle.frame_ast.specs.declared.script.Statement.{Statement}
 use Rattle.frame_ast.specs.declared.script.Script.{Script}
 use Rattle.frame_grammar.specs.declared.symbols.Event.{Event}
 use Rattle.frame_ast.specs.Lists.{first_some}
-use Rattle.kernel_code.specs.declared.raw.RawKernel.{RawKernel}
+use Rattle.kernel_raw.specs.declared.raw.RawKernel.{RawKernel}
 use Rattle.kernel_code.specs.declared.check.StaticFault.{StaticFault}
-use Rattle.frame_script.specs.declared.source.Source.{Source}
-use Rattle.frame_script.specs.Sources.{number_at}
-use Rattle.frame_script.specs.Names.{Name}
-use Rattle.frame_script.specs.Raw.{OrderForm, Repeat, RawItems, Nothing, Kernel, Single, Block}
-use Rattle.frame_script.specs.Faults.{Scope, order_faults}
+use Rattle.script_text.specs.declared.source.Source.{Source}
+use Rattle.script_text.specs.Sources.{number_at}
+use Rattle.script_checks.specs.Names.{Name}
+use Rattle.script_text.specs.Raw.{OrderForm, Repeat, RawItems, Nothing, Kernel, Single, Block}
+use Rattle.script_checks.specs.Faults.{Scope, order_faults}
 use Rattle.frame_script.specs.Files.{IsRawOf, IsFaultless, HasFault, literals_of, literals_in, Repeated, IsStatement, StandFor, Mark, copies_of, marks_of, excess, too_long, IsScriptOf, in_block}
 use Rattle.frame_script.specs.Files as file
 use Rattle.text_laws.proofs.Sources.{SameFile, same_line, same_number, same_faults, same_after, same_literals, same_says}

@@ -2,8 +2,8 @@
 use Rattle.std.proofs.Common.{ℕ, ◌≡◌, List, [], sym, ap, ◌∙◌, subst}
 use Rattle.frame_ast.specs.declared.kernel.Stmt.{Stmt}
 use Rattle.frame_ast.specs.declared.kernel.Stmt.TheOpen.{Assign, SetValue, Store, Add, AddPair, TryAdd, RemoveAt, RemoveKey, Clear, Write, Begin, For}
-use Rattle.kernel_code.specs.declared.raw.RawKernel.{RawKernel}
-use Rattle.kernel_code.specs.Raw.{RawBlock}
+use Rattle.kernel_raw.specs.declared.raw.RawKernel.{RawKernel}
+use Rattle.kernel_raw.specs.Raw.{RawBlock}
 use Rattle.kernel_code.specs.Trees.{BlockOf}
 use Rattle.kernel_code.specs.Trees as tree
 use Rattle.tree_laws.specs.Same.{SameStmt, SameBody}

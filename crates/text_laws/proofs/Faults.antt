@@ -3,12 +3,12 @@ use Rattle.std.proofs.Common.{◌≡◌, List, [], ◌∷◌, ◌++◌, Option, 
 use Rattle.frame_ast.specs.declared.kernel.Kernel.{Kernel as CheckedKernel}
 use Rattle.frame_grammar.specs.declared.symbols.Event.{Event}
 use Rattle.frame_ast.specs.Lists.{first_some}
-use Rattle.kernel_code.specs.declared.raw.RawKernel.{RawKernel}
+use Rattle.kernel_raw.specs.declared.raw.RawKernel.{RawKernel}
 use Rattle.kernel_code.specs.declared.check.StaticFault.{StaticFault}
 use Rattle.kernel_code.specs.StaticFaults.{first_fault}
-use Rattle.frame_script.specs.declared.source.Source.{Source}
-use Rattle.frame_script.specs.Raw.{OrderForm, RawItems}
-use Rattle.frame_script.specs.Faults.{Scope, order_faults}
+use Rattle.script_text.specs.declared.source.Source.{Source}
+use Rattle.script_text.specs.Raw.{OrderForm, RawItems}
+use Rattle.script_checks.specs.Faults.{Scope, order_faults}
 use Rattle.frame_script.specs.Files.{IsRawOf, IsFaultless, HasFault, after_order, after_kernel, in_block, after_block}
 use Rattle.frame_script.specs.Files as file
 use Rattle.tree_laws.specs.Same.{SameKernel}

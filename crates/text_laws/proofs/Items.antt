@@ -3,12 +3,13 @@ use Rattle.std.proofs.Common.{◌≡◌, ℕ, Bool, true, false, List, [], ◌�
 use Rattle.frame_grammar.specs.declared.symbols.Action.{Action}
 use Rattle.frame_grammar.specs.declared.symbols.Action.TheVariants as action
 use Rattle.frame_grammar.specs.declared.symbols.Event.{Event}
-use Rattle.kernel_code.specs.Raw.{on, opening}
-use Rattle.kernel_code.specs.Raw as code
-use Rattle.frame_script.specs.Raw.{OrderForm, Repeat, When, KernelForm, RawItems, Nothing, Kernel, Single, Block, closing, SpellsOrder, SpellsKernel, BeginsKernel, SpellsItems, nothing, kernel, single, block}
-use Rattle.frame_script.specs.Reading.{nothing_read, order_from, len_to_close}
-use Rattle.frame_script.proofs.Orders.{order_read}
-use Rattle.frame_script.proofs.KernelEnds.{kernel_ends}
+use Rattle.kernel_raw.specs.RawEvents.{on, opening}
+use Rattle.kernel_raw.specs.Raw as code
+use Rattle.script_text.specs.Raw.{OrderForm, Repeat, When, KernelForm, RawItems, Nothing, Kernel, Single, Block}
+use Rattle.script_text.specs.Events.{closing, SpellsOrder, SpellsKernel, BeginsKernel, SpellsItems, nothing, kernel, single, block}
+use Rattle.script_text.specs.Reading.{nothing_read, order_from, len_to_close}
+use Rattle.script_text.proofs.Reading.Orders.{order_read}
+use Rattle.script_text.proofs.Reading.KernelEnds.{kernel_ends}
 
 -- items of whose kernels only the events are told
 abbrev pub unsaid : KernelForm

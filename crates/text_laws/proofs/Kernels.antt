@@ -3,10 +3,10 @@ use Rattle.std.proofs.Common.{◌≡◌, List, [], ◌∷◌, map, sym, ◌∙�
 use Rattle.frame_grammar.specs.declared.symbols.Event.{Event}
 use Rattle.frame_ast.specs.declared.kernel.Param.{Param}
 use Rattle.frame_ast.specs.declared.kernel.Kernel.{Kernel}
-use Rattle.kernel_code.specs.declared.raw.RawKernel.{RawKernel}
-use Rattle.kernel_code.specs.StaticFaults.{text_at}
+use Rattle.kernel_raw.specs.declared.raw.RawKernel.{RawKernel}
+use Rattle.kernel_raw.specs.RawTexts.{text_at}
 use Rattle.kernel_code.specs.Trees.{IsKernelOf, ParamText, param_text}
-use Rattle.frame_script.specs.declared.source.Source.{Source}
+use Rattle.script_text.specs.declared.source.Source.{Source}
 use Rattle.frame_script.specs.Files.{IsRawOf}
 use Rattle.tree_laws.specs.Same.{SameParam, SameKernel, Pairwise}
 use Rattle.text_laws.proofs.Raws.{Parts, same_text, same_params, same_locals}

@@ -3,17 +3,17 @@ use Rattle.std.proofs.Common.{◌≡◌, ℕ, true, List, map, refl, sym, ap, �
 use Rattle.std.specs.Prelude.{slice_get}
 use Rattle.frame_ast.specs.declared.script.Script.{Script}
 use Rattle.frame_grammar.specs.declared.symbols.Nonterminal.TheVariants.{File}
-use Rattle.kernel_code.specs.declared.token.Token.{Token}
+use Rattle.kernel_text.specs.declared.token.Token.{Token}
 use Rattle.kernel_code.specs.declared.check.StaticFault.{StaticFault}
-use Rattle.kernel_code.specs.Tokens.{tokens_of}
-use Rattle.kernel_code.specs.Marks.{tokens_in}
-use Rattle.kernel_code.proofs.Marks.{marks_once}
-use Rattle.kernel_code.specs.Parsing.{kinds}
-use Rattle.frame_script.specs.declared.source.Source.{Source}
-use Rattle.frame_script.specs.Sources.{line_at}
-use Rattle.frame_script.specs.Names.{Name}
-use Rattle.frame_script.specs.Raw.{RawItems, SpellsItems}
-use Rattle.frame_script.specs.Faults.{Scope}
+use Rattle.kernel_text.specs.Tokens.{tokens_of, kinds}
+use Rattle.kernel_text.specs.Marks.{tokens_in}
+use Rattle.kernel_text.proofs.Marks.{marks_once}
+use Rattle.script_text.specs.declared.source.Source.{Source}
+use Rattle.script_text.specs.Sources.{line_at}
+use Rattle.script_checks.specs.Names.{Name}
+use Rattle.script_text.specs.Raw.{RawItems}
+use Rattle.script_text.specs.Events.{SpellsItems}
+use Rattle.script_checks.specs.Faults.{Scope}
 use Rattle.frame_script.specs.Files.{at_start, IsFaultless, HasFault, too_long, IsScriptOf, StandFor}
 use Rattle.frame_script.specs.Loading.{HasItems, HasNoSyntax, syntax, static, too_many}
 use Rattle.tree_laws.specs.Same.{SameKernel, SameScript, Pairwise}

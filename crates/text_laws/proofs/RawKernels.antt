@@ -3,15 +3,16 @@ use Rattle.std.proofs.Common.{◌≡◌, ℕ, ◌+◌, ◌<◌, Bool, true, fals
 use Rattle.frame_grammar.specs.declared.symbols.Action.{Action}
 use Rattle.frame_grammar.specs.declared.symbols.Action.TheVariants as action
 use Rattle.frame_grammar.specs.declared.symbols.Event.{Event}
-use Rattle.kernel_code.specs.declared.raw.RawParam.{RawParam}
-use Rattle.kernel_code.specs.declared.raw.RawKernel.{RawKernel}
-use Rattle.kernel_code.specs.declared.raw.TheConstants.{MOST_KEPT}
-use Rattle.kernel_code.specs.Depths.{depths_of, kept_depths}
-use Rattle.kernel_code.specs.Raw.{RawExpr, Leaf, One, Two, Infix, RawBlock, Nothing, Simple, Nested, Branched, ExprBelow, PartsBelow, BlockBelow, ParamsBelow, on, opening, SpellsParams, SpellsRaw, IsKernel, block_size, block_nodes}
-use Rattle.kernel_code.specs.Reading.{Reading, run, nothing_read, is_parallel}
-use Rattle.kernel_code.proofs.Meanings.{expr_up, parts_up, block_up, width_up, params_up}
-use Rattle.kernel_code.proofs.Kernels.{HasRead, reads_kernel}
-use Rattle.frame_script.specs.declared.source.Source.{Source}
+use Rattle.kernel_raw.specs.declared.raw.RawParam.{RawParam}
+use Rattle.kernel_raw.specs.declared.raw.RawKernel.{RawKernel}
+use Rattle.kernel_raw.specs.declared.raw.TheConstants.{MOST_KEPT}
+use Rattle.kernel_raw.specs.Depths.{depths_of, kept_depths}
+use Rattle.kernel_raw.specs.Raw.{RawExpr, Leaf, One, Two, Infix, RawBlock, Nothing, Simple, Nested, Branched, ExprBelow, PartsBelow, BlockBelow, ParamsBelow, block_size, block_nodes}
+use Rattle.kernel_raw.specs.RawEvents.{on, opening, SpellsParams, SpellsRaw, IsKernel}
+use Rattle.kernel_raw.specs.Reading.{Reading, run, nothing_read, is_parallel}
+use Rattle.kernel_raw.proofs.Derived.Meanings.{expr_up, parts_up, block_up, width_up, params_up}
+use Rattle.kernel_raw.proofs.Reading.Kernels.{HasRead, reads_kernel}
+use Rattle.script_text.specs.declared.source.Source.{Source}
 use Rattle.frame_script.specs.Files.{IsRawOf}
 use Rattle.text_laws.proofs.Raws.{parts_of}
 

@@ -1,11 +1,13 @@
 -- What is read of a raw kernel: its parts, wherever they lie in memory.
 use Rattle.std.proofs.Common.{ℕ, ◌≡◌, ◌<◌, ◌^◌, refl, sym, ◌∙◌, subst, List, map, Bool, length, arith, Vec, Global}
 use Rattle.frame_ast.specs.declared.kernel.Kernel.{Kernel}
-use Rattle.kernel_code.specs.declared.mark.Mark.{Mark}
-use Rattle.kernel_code.specs.declared.raw.RawKernel.{RawKernel}
-use Rattle.kernel_code.specs.declared.raw.RawParam.{RawParam}
-use Rattle.kernel_code.specs.declared.raw.RawNode.{RawNode}
-use Rattle.kernel_code.specs.StaticFaults.{text_at, value_at, meaning_of, locals_before, locals_of, first_fault}
+use Rattle.kernel_text.specs.declared.mark.Mark.{Mark}
+use Rattle.kernel_raw.specs.declared.raw.RawKernel.{RawKernel}
+use Rattle.kernel_raw.specs.declared.raw.RawParam.{RawParam}
+use Rattle.kernel_raw.specs.declared.raw.RawNode.{RawNode}
+use Rattle.kernel_raw.specs.RawTexts.{text_at, value_at}
+use Rattle.kernel_code.specs.Scopes.{meaning_of, locals_before, locals_of}
+use Rattle.kernel_code.specs.StaticFaults.{first_fault}
 use Rattle.kernel_code.specs.Trees.{kind_at, raw_param_text}
 
 pub record Parts : Type 0 where

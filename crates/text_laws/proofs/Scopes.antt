@@ -11,16 +11,17 @@ use Rattle.frame_ast.specs.declared.kernel.FaultKind.TheVariants.{DuplicateName,
 use Rattle.frame_ast.specs.declared.kernel.Param.{Param}
 use Rattle.frame_ast.specs.declared.kernel.Kernel.{Kernel as CheckedKernel}
 use Rattle.frame_ast.specs.Checked.{expr_nodes, expr_depth, body_nodes, body_depth}
-use Rattle.kernel_code.specs.declared.raw.RawKernel.{RawKernel}
-use Rattle.kernel_code.specs.StaticFaults.{text_at, fault_at, lowest, length_fault, params_fault, nodes_fault, first_fault}
+use Rattle.kernel_raw.specs.declared.raw.RawKernel.{RawKernel}
+use Rattle.kernel_raw.specs.RawTexts.{text_at}
+use Rattle.kernel_code.specs.StaticFaults.{fault_at, lowest, length_fault, params_fault, nodes_fault, first_fault}
 use Rattle.frame_ast.specs.declared.name_kind.NameKind.TheVariants as kind
-use Rattle.frame_script.specs.declared.raw.RawArg.{RawArg}
-use Rattle.frame_script.specs.declared.raw.RawSizes.{RawSizes}
-use Rattle.frame_script.specs.declared.source.Source.{Source}
-use Rattle.frame_script.specs.Sources as source
-use Rattle.frame_script.specs.Names.{Name}
-use Rattle.frame_script.specs.Raw.{OrderForm, Schedule}
-use Rattle.frame_script.specs.Faults.{Scope, unless, make_fault, sizes_fit, room_fits, kernel_fault, arg_fault, args_faults, sizes_faults, handles_faults, waived_fault, waive_fault, kernel_in, param_in, scheduled_faults, order_faults}
+use Rattle.script_text.specs.declared.raw.RawArg.{RawArg}
+use Rattle.script_text.specs.declared.raw.RawSizes.{RawSizes}
+use Rattle.script_text.specs.declared.source.Source.{Source}
+use Rattle.script_text.specs.Sources as source
+use Rattle.script_checks.specs.Names.{Name}
+use Rattle.script_text.specs.Raw.{OrderForm, Schedule}
+use Rattle.script_checks.specs.Faults.{Scope, unless, make_fault, sizes_fit, room_fits, kernel_fault, arg_fault, args_faults, sizes_faults, handles_faults, waived_fault, waive_fault, kernel_in, param_in, scheduled_faults, order_faults}
 use Rattle.tree_laws.specs.Same.{SameParam, SameKernel, Pairwise}
 use Rattle.tree_laws.proofs.Checks.{same_nodes, same_depth, same_measures, same_count}
 

@@ -2,13 +2,13 @@
 use Rattle.std.proofs.Common.{ℕ, ◌≡◌, refl, sym, ◌∙◌, subst, ap, List}
 use Rattle.frame_ast.specs.declared.kernel.Kernel.{Kernel}
 use Rattle.frame_ast.specs.declared.script.Order.{Order}
-use Rattle.kernel_code.specs.declared.mark.Mark.{Mark}
-use Rattle.frame_script.specs.declared.source.Source.{Source}
-use Rattle.frame_script.specs.Sources.{line_at, number_at}
-use Rattle.frame_script.specs.Raw.{OrderForm, Schedule}
-use Rattle.frame_script.specs.Names.{Name}
-use Rattle.frame_script.specs.Faults.{Scope, order_faults}
-use Rattle.frame_script.specs.Spelling.{Says}
+use Rattle.kernel_text.specs.declared.mark.Mark.{Mark}
+use Rattle.script_text.specs.declared.source.Source.{Source}
+use Rattle.script_text.specs.Sources.{line_at, number_at}
+use Rattle.script_text.specs.Raw.{OrderForm, Schedule}
+use Rattle.script_checks.specs.Names.{Name}
+use Rattle.script_checks.specs.Faults.{Scope, order_faults}
+use Rattle.script_checks.specs.Spelling.{Says}
 use Rattle.frame_script.specs.Files.{after_order, literals_of}
 
 pub record SameFile (s t : Source) : Type 0 where

@@ -8,12 +8,12 @@ use Rattle.frame_ast.specs.declared.kernel.Kernel.{Kernel as CheckedKernel}
 use Rattle.frame_ast.specs.declared.script.Order.{Order}
 use Rattle.frame_ast.specs.declared.script.Order.TheVariants as order
 use Rattle.frame_ast.specs.declared.script.Statement.{Statement}
-use Rattle.frame_script.specs.declared.source.Source.{Source}
-use Rattle.frame_script.specs.Sources.{text_at, number_at}
-use Rattle.frame_script.specs.Names.{Name}
-use Rattle.frame_script.specs.Raw.{OrderForm, NewColumn, Schedule, Combine, Dispose, Repeat, RawItems, Nothing, Kernel, Single, Block}
-use Rattle.frame_script.specs.Faults.{kernel_in}
-use Rattle.frame_script.specs.Spelling.{kernel_place, param_place, params_of, params_named, Says}
+use Rattle.script_text.specs.declared.source.Source.{Source}
+use Rattle.script_text.specs.Sources.{text_at, number_at}
+use Rattle.script_checks.specs.Names.{Name}
+use Rattle.script_text.specs.Raw.{OrderForm, NewColumn, Schedule, Combine, Dispose, Repeat, RawItems, Nothing, Kernel, Single, Block}
+use Rattle.script_checks.specs.Faults.{kernel_in}
+use Rattle.script_checks.specs.Spelling.{kernel_place, param_place, params_of, params_named, Says}
 use Rattle.frame_script.specs.Files.{literals_of, literals_in, Repeated, IsStatement, StandFor}
 use Rattle.tree_laws.specs.Same.{SameParam, SameKernel, SameOrder, SameStatement, Pairwise}
 use Rattle.text_laws.proofs.Scopes.{SameMaybe, same_kernel_in, same_append, same_length}

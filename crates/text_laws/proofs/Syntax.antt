@@ -1,7 +1,7 @@
 -- Tokens are a file or have one first token with which none goes on.
 use Rattle.std.proofs.Common.{◌≡◌, ℕ, ◌+◌, ◌<◌, ◌≤◌, inl, inr, List, ◌++◌, take, drop, sym, ◌∙◌, ap, subst, arith, append_assoc, take-append-drop, take-take}
 use Rattle.std.proofs.lemmas.Bool.{cases_lt}
-use Rattle.frame_grammar.specs.declared.TokenKind.{TokenKind}
+use Rattle.frame_grammar.specs.declared.token_kind.TokenKind.{TokenKind}
 use Rattle.frame_grammar.specs.declared.symbols.Nonterminal.{Nonterminal}
 use Rattle.frame_grammar.specs.Sentences.{IsViable, IsSentence, IsFault}
 

@@ -2,11 +2,12 @@
 use Rattle.std.proofs.Common.{ℕ, ◌≡◌, pos, Bool, true, false, Some, refl, ap, sym, ◌∙◌, subst}
 use Rattle.frame_ast.specs.declared.kernel.Expr.{Expr}
 use Rattle.frame_ast.specs.declared.kernel.Expr.TheVariants.{Number, Local, Value, Element', Length, Has', Count', Item', Binary'}
-use Rattle.kernel_code.specs.declared.raw.RawKernel.{RawKernel}
+use Rattle.kernel_raw.specs.declared.raw.RawKernel.{RawKernel}
 use Rattle.kernel_code.specs.declared.check.names.Named.{Named}
 use Rattle.kernel_code.specs.declared.check.names.Named.TheVariants.{Parameter, Variable, LoopVariable}
-use Rattle.kernel_code.specs.Raw.{RawExpr}
-use Rattle.kernel_code.specs.StaticFaults.{text_at, meaning_of}
+use Rattle.kernel_raw.specs.Raw.{RawExpr}
+use Rattle.kernel_raw.specs.RawTexts.{text_at}
+use Rattle.kernel_code.specs.Scopes.{meaning_of}
 use Rattle.kernel_code.specs.Trees.{Joint, Both, Either, By, joint_of, is_minus, kind_at, ExprOf, Declares}
 use Rattle.kernel_code.specs.Trees as tree
 use Rattle.tree_laws.specs.Same.{SameExpr}

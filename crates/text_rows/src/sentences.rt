@@ -1,8 +1,9 @@
 ghost use Rattle.std.specs.Prelude.{◌<◌, length};
 ghost use Rattle.frame_grammar.specs.Sentences.{IsStart};
 
+use frame_grammar::Nonterminal;
 use frame_grammar::TokenKind::{self, *};
-use frame_grammar::{Nonterminal, ParseError, parse};
+use frame_parser::{ParseError, parse};
 use std::alloc::Global;
 use std::test::Fail;
 

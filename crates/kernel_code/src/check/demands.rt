@@ -1,12 +1,13 @@
-// What forms need of their names.
+//! What forms need of their names.
+
 ghost use Rattle.std.specs.Prelude.{◌≡◌, is_some, IfSome};
 ghost use Rattle.frame_ast.specs.declared.kernel.ParamKind.{ParamKind};
 ghost use Rattle.kernel_code.specs.StaticFaults.{demand_of, demand_fault, variable_fault, loop_variable_fault, answer_kind_fault, number_of, lowest};
 ghost use Rattle.frame_ast.specs.Lists.{some_if};
 
-use crate::raw::{RawForm, RawParam};
 use frame_ast::kernel::{FaultKind, ParamKind};
 use job_base::Access;
+use kernel_raw::{RawForm, RawParam};
 
 // Whether a parameter of a kind may be the name of a form.
 fn fits(form: RawForm, kind: ParamKind) -> bool
@@ -26,7 +27,15 @@ fn fits(form: RawForm, kind: ParamKind) -> bool
         }
         RawForm::AddItem | RawForm::Remove => matches!(kind, ParamKind::List),
         RawForm::Clear => matches!(kind, ParamKind::List | ParamKind::Map),
-        _ => false,
+        RawForm::Number
+        | RawForm::Index
+        | RawForm::Unary
+        | RawForm::Binary
+        | RawForm::Var
+        | RawForm::If
+        | RawForm::IfElse
+        | RawForm::For
+        | RawForm::While => false,
     }
 }
 
@@ -43,7 +52,23 @@ fn reads(form: RawForm, kind: ParamKind) -> bool
         | RawForm::SetTryAdd
         | RawForm::SetRemove => true,
         RawForm::Length => matches!(kind, ParamKind::List | ParamKind::Map),
-        _ => false,
+        RawForm::Number
+        | RawForm::Index
+        | RawForm::Unary
+        | RawForm::Binary
+        | RawForm::Var
+        | RawForm::SetName
+        | RawForm::SetPlace
+        | RawForm::AddItem
+        | RawForm::AddPair
+        | RawForm::Remove
+        | RawForm::Clear
+        | RawForm::Write
+        | RawForm::Begin
+        | RawForm::If
+        | RawForm::IfElse
+        | RawForm::For
+        | RawForm::While => false,
     }
 }
 
@@ -62,7 +87,21 @@ fn writes(form: RawForm) -> bool
         | RawForm::Clear
         | RawForm::Write
         | RawForm::Begin => true,
-        _ => false,
+        RawForm::Number
+        | RawForm::Index
+        | RawForm::Name
+        | RawForm::Element
+        | RawForm::Length
+        | RawForm::Has
+        | RawForm::Count
+        | RawForm::Item
+        | RawForm::Unary
+        | RawForm::Binary
+        | RawForm::Var
+        | RawForm::If
+        | RawForm::IfElse
+        | RawForm::For
+        | RawForm::While => false,
     }
 }
 

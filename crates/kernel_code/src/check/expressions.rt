@@ -1,14 +1,15 @@
-// The expressions of a kernel without faults.
-//
-// The nodes of an expression stand in the order of their tokens. A part that is no operator between
-// two sides has what is under it after it. After the left side of an operator stands the operator
-// itself, which says how many nodes its left side has, and then the right side.
+//! The expressions of a kernel without faults.
+//!
+//! The nodes of an expression stand in the order of their tokens. A part that is no operator between
+//! two sides has what is under it after it. After the left side of an operator stands the operator
+//! itself, which says how many nodes its left side has, and then the right side.
+
 ghost use Rattle.std.specs.Prelude.{◌≡◌, ◌≤◌, ◌<◌, ◌+◌, ◌-◌, ◌↔◌, ℕ, pos, min, if◌then◌else◌, length, slice_get, IfOk, IfSome, MatchOption, Some, IsTrue};
-ghost use Rattle.kernel_code.specs.declared.raw.RawNode.{RawNode};
+ghost use Rattle.kernel_raw.specs.declared.raw.RawNode.{RawNode};
 ghost use Rattle.kernel_code.specs.declared.check.names.Meaning.{Meaning};
 ghost use Rattle.frame_ast.specs.declared.kernel.Expr.TheVariants.{Negative', Not'};
-ghost use Rattle.kernel_code.specs.Raw.{RawExpr};
-ghost use Rattle.kernel_code.specs.StaticFaults.{value_at};
+ghost use Rattle.kernel_raw.specs.Raw.{RawExpr};
+ghost use Rattle.kernel_raw.specs.RawTexts.{value_at};
 ghost use Rattle.kernel_code.specs.Known.{number_named};
 ghost use Rattle.kernel_code.specs.Trees.{kind_at, is_minus, operator_of, joint_of};
 ghost use Rattle.kernel_code.specs.Places.{value_named, leaf_of, IsOneOf, IsJoint, IsHere, IsAtomHere, Begins, IsBuilt, IsResolved};
@@ -16,10 +17,10 @@ ghost use Rattle.kernel_code.specs.Places.{value_named, leaf_of, IsOneOf, IsJoin
 use crate::check::names::{Meaning, Named};
 use crate::check::nodes::MOST_NUMBER;
 use crate::check::texts::value_at;
-use crate::raw::{RawForm, RawKernel, RawNode};
 use frame_ast::kernel::{Expr, Operator};
 use frame_grammar::{TokenAt, TokenKind};
 use job_base::NoMemory;
+use kernel_raw::{RawForm, RawKernel, RawNode};
 use std::alloc::Global;
 
 /// What was built of nodes, and the place of the node after them.
@@ -91,7 +92,7 @@ fn value_named(named: Option<Named>) -> Expr
 }
 
 // The expression of a node with nothing under it.
-fn leaf(raw: &RawKernel<'_>, node: RawNode, named: Option<Named>) -> Expr
+fn leaf_expression(raw: &RawKernel<'_>, node: RawNode, named: Option<Named>) -> Expr
     ensures { result ≡ leaf_of raw.now node.form node.at named }
 {
     match node.form {
@@ -114,7 +115,7 @@ fn unary(is_minus: bool, inner: Box<Expr>) -> Expr
 }
 
 // The expression of a node with one expression under it.
-fn one(
+fn one_operand(
     alloc: Global,
     raw: &RawKernel<'_>,
     node: RawNode,
@@ -157,7 +158,7 @@ fn operator_of(kind: TokenKind) -> Operator
 }
 
 // The expression of an operator between two sides.
-fn join(alloc: Global, kind: TokenKind, left: Expr, right: Expr) -> Result<Expr, NoMemory>
+fn binary(alloc: Global, kind: TokenKind, left: Expr, right: Expr) -> Result<Expr, NoMemory>
     ensures { IfOk result (λ x. IsJoint (joint_of kind) left right x) }
 {
     let sides = Box::new(alloc, (left, right))?;
@@ -214,7 +215,7 @@ fn atom(
         RawForm::Element | RawForm::Has | RawForm::Count | RawForm::Unary => {
             let inner = expression(alloc, raw, meanings, at + 1)?;
             Ok(Built {
-                expr: one(alloc, raw, node, named, inner.expr)?,
+                expr: one_operand(alloc, raw, node, named, inner.expr)?,
                 next: inner.next,
             })
         }
@@ -228,7 +229,7 @@ fn atom(
             })
         }
         _ => Ok(Built {
-            expr: leaf(raw, node, named),
+            expr: leaf_expression(raw, node, named),
             next: at + 1,
         }),
     }
@@ -256,7 +257,7 @@ fn chain(
     let right = expression(alloc, raw, meanings, next + 1)?;
     let both = Built {
         next: right.next,
-        expr: join(alloc, kind_at(raw, node.at), expr, right.expr)?,
+        expr: binary(alloc, kind_at(raw, node.at), expr, right.expr)?,
     };
     chain(alloc, raw, meanings, start, both)
 }

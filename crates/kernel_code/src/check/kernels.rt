@@ -1,18 +1,21 @@
-// The kernel that a raw kernel without faults is.
+//! The kernel that a raw kernel without faults is.
+
 ghost use Rattle.std.specs.Prelude.{◌≡◌, ◌≤◌, ℕ, None, Some, length, map, slice_get, string_bytes, IfOk, IsUtf8};
 ghost use Rattle.job_base.specs.declared.limits.TheConstants.{MOST_WIDTH};
-ghost use Rattle.kernel_code.specs.StaticFaults.{text_at, params_fault, locals_of};
+ghost use Rattle.kernel_raw.specs.RawTexts.{text_at};
+ghost use Rattle.kernel_code.specs.StaticFaults.{params_fault};
+ghost use Rattle.kernel_code.specs.Scopes.{locals_of};
 ghost use Rattle.kernel_code.specs.Trees.{param_text, raw_param_text, width_at, IsKernelOf};
 ghost use Rattle.kernel_code.specs.Places.{IsResolved};
-ghost use Rattle.kernel_code.specs.Legible.{IsLegible, IsParsed};
+ghost use Rattle.kernel_raw.specs.Legible.{IsLegible, IsParsed};
 
 use crate::check::resolve::Meanings;
 use crate::check::statements::block;
 use crate::check::texts::{text_at, value_at};
-use crate::raw::RawKernel;
 use frame_ast::kernel::{Body, Kernel, Param};
 use frame_grammar::TokenAt;
 use job_base::NoMemory;
+use kernel_raw::RawKernel;
 use std::alloc::Global;
 use std::str;
 

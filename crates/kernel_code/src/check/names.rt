@@ -1,17 +1,19 @@
-// What names stand for: parameters and locals.
+//! What names stand for: parameters and locals.
+
 ghost use Rattle.std.specs.Prelude.{◌≡◌, ◌≤◌, ◌<◌, ◌^◌, ℕ, length, if◌then◌else◌, IfOk, IfSome};
 ghost use Rattle.std.specs.List.{position};
 ghost use Rattle.std.specs.Str.{bytes_eq};
 ghost use Rattle.job_base.specs.declared.limits.TheConstants.{MOST_LOCALS, MOST_PARAMS};
-ghost use Rattle.kernel_code.specs.StaticFaults.{text_at, parameter, in_scope, as_local, local_among, meaning_among};
+ghost use Rattle.kernel_raw.specs.RawTexts.{text_at};
+ghost use Rattle.kernel_code.specs.Scopes.{parameter, in_scope, as_local, local_among, meaning_among};
 ghost use Rattle.kernel_code.specs.declared.check.names.Named.TheVariants.{Variable, LoopVariable};
 ghost use Rattle.kernel_code.specs.Known.{AreNames};
 
 use crate::check::texts::{is_spelled, text_at};
-use crate::mark::is_same;
-use crate::raw::RawKernel;
 use frame_grammar::TokenAt;
 use job_base::NoMemory;
+use kernel_raw::RawKernel;
+use kernel_text::is_same;
 use std::alloc::Global;
 
 /// What a name stands for, by its number among the parameters or the locals.

@@ -1,6 +1,9 @@
-// What the names of a node are, and its faults.
+//! What the names of a node are, and its faults.
+
 ghost use Rattle.std.specs.Prelude.{◌≡◌, ◌≤◌, ◌<◌, ℕ, None, Some, length, slice_get, false, IsTrue, MatchResult};
-ghost use Rattle.kernel_code.specs.StaticFaults.{text_at, use_fault, answer_fault, declared_fault, token_fault, size_fault, name_fault, first_of_two, node_fault, locals_before, is_over_limit, meaning_of, block_fault, param_fault_of, is_begun};
+ghost use Rattle.kernel_raw.specs.RawTexts.{text_at};
+ghost use Rattle.kernel_code.specs.StaticFaults.{use_fault, answer_fault, declared_fault, token_fault, size_fault, name_fault, first_of_two, node_fault, is_over_limit, block_fault, param_fault_of};
+ghost use Rattle.kernel_code.specs.Scopes.{locals_before, meaning_of, is_begun};
 ghost use Rattle.kernel_code.specs.Known.{AreBegun, AreNames, answer_named, name_named, meaning_if, has_name, has_answer};
 
 use crate::check::StaticFault;
@@ -11,10 +14,10 @@ use crate::check::names::{Local, Meaning, Named, meaning_of};
 use crate::check::params::{fault_at, length_fault};
 use crate::check::streams::{StreamBlock, stands_in};
 use crate::check::texts::{is_above, text_at};
-use crate::raw::{RawForm, RawKernel, RawNode};
 use frame_ast::kernel::FaultKind;
 use frame_grammar::TokenAt;
 use job_base::limits::{MOST_LOCALS, MOST_PARAMS};
+use kernel_raw::{RawForm, RawKernel, RawNode};
 
 /// The greatest number of a kernel's text.
 pub const MOST_NUMBER: u64 = 9_223_372_036_854_775_807;

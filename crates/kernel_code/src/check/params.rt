@@ -1,6 +1,8 @@
-// The faults of a kernel's name and of its parameters.
+//! The faults of a kernel's name and of its parameters.
+
 ghost use Rattle.std.specs.Prelude.{◌≡◌, ◌≤◌, ◌<◌, ℕ, length};
-ghost use Rattle.kernel_code.specs.StaticFaults.{length_fault, kernel_name_fault, param_name_fault, stream_fault, width_word_fault, width_fault, param_kind_fault, param_fault, params_fault, fault_at, text_at, value_at};
+ghost use Rattle.kernel_code.specs.StaticFaults.{length_fault, kernel_name_fault, param_name_fault, stream_fault, width_word_fault, width_fault, param_kind_fault, param_fault, params_fault, fault_at};
+ghost use Rattle.kernel_raw.specs.RawTexts.{text_at, value_at};
 ghost use Rattle.std.specs.List.{list_any};
 ghost use Rattle.std.specs.Str.{bytes_eq};
 ghost use Rattle.std.specs.String.{string_bytes};
@@ -8,11 +10,11 @@ ghost use Rattle.std.specs.String.{string_bytes};
 use crate::check::StaticFault;
 use crate::check::demands::{fault_if, lowest};
 use crate::check::texts::{is_spelled, text_at, value_at};
-use crate::raw::{RawKernel, RawParam};
 use frame_ast::kernel::{FaultKind, Kernel, ParamKind};
 use frame_grammar::TokenAt;
 use job_base::Access;
 use job_base::limits::{MOST_KERNELS, MOST_NAME_BYTES, MOST_PARAMS, MOST_WIDTH};
+use kernel_raw::{RawKernel, RawParam};
 
 /// A fault of the token at a place.
 pub fn fault_at(at: TokenAt, kind: Option<FaultKind>) -> Option<StaticFault>

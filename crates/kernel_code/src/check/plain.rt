@@ -1,6 +1,9 @@
-// What the names of plain nodes are: of almost all nodes, of which little is asked.
+//! What the names of plain nodes are: of almost all nodes, of which little is asked.
+
 ghost use Rattle.std.specs.Prelude.{◌≡◌, ◌≤◌, ℕ, length, is_none, IsTrue};
-ghost use Rattle.kernel_code.specs.StaticFaults.{text_at, use_fault, locals_before};
+ghost use Rattle.kernel_raw.specs.RawTexts.{text_at};
+ghost use Rattle.kernel_code.specs.StaticFaults.{use_fault};
+ghost use Rattle.kernel_code.specs.Scopes.{locals_before};
 ghost use Rattle.kernel_code.specs.Known.{AreNames, only_uses, used_name, plain_name};
 
 use crate::check::demands::{demand_fault, loop_variable_fault, variable_fault};
@@ -8,8 +11,8 @@ use crate::check::names::{Local, Named, meaning_of};
 use crate::check::nodes::{atom_fault, has_name};
 use crate::check::params::length_fault;
 use crate::check::texts::text_at;
-use crate::raw::{RawForm, RawKernel, RawNode};
 use job_base::limits::{MOST_LOCALS, MOST_PARAMS};
+use kernel_raw::{RawForm, RawKernel, RawNode};
 
 fn only_uses(form: RawForm) -> bool
     ensures { result ≡ only_uses form }

@@ -1,6 +1,9 @@
-// What the names of all nodes stand for, up to the first fault.
+//! What the names of all nodes stand for, up to the first fault.
+
 ghost use Rattle.std.specs.Prelude.{◌≡◌, ◌≤◌, ◌<◌, ◌++◌, ◌||◌, ◌+◌, ℕ, None, Some, length, slice_get, vec_len, IfOk, OnOk, MatchResult};
-ghost use Rattle.kernel_code.specs.StaticFaults.{depth_at, is_over_limit, declares, is_loop, is_begin, end_in, block_end, local_of, local_if, locals_before, locals_of, node_fault, nodes_fault};
+ghost use Rattle.kernel_raw.specs.RawTexts.{depth_at};
+ghost use Rattle.kernel_code.specs.StaticFaults.{is_over_limit, node_fault, nodes_fault};
+ghost use Rattle.kernel_code.specs.Scopes.{declares, is_loop, is_begin, end_in, block_end, local_of, local_if, locals_before, locals_of};
 ghost use Rattle.kernel_code.specs.Known.{AreNames, stands_in, is_block, IsKnown, name_named, name_stored, meanings_from};
 
 use crate::check::StaticFault;
@@ -8,9 +11,9 @@ use crate::check::names::{Local, Meaning, Named, as_local, names_of, parameter_a
 use crate::check::nodes::look_up;
 use crate::check::plain::plain_name;
 use crate::check::streams::{StreamBlock, close_blocks};
-use crate::raw::{RawForm, RawKernel, RawNode};
 use job_base::NoMemory;
 use job_base::limits::{MOST_DEPTH, MOST_LOCALS, MOST_NODES, MOST_PARAMS};
+use kernel_raw::{RawForm, RawKernel, RawNode};
 use std::alloc::Global;
 
 /// What the names of the nodes stand for, and how many locals there are.

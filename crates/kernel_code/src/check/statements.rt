@@ -1,18 +1,19 @@
-// The statements of a kernel without faults.
-//
-// A statement has the nodes of its expressions behind it, and then those of its blocks.
+//! The statements of a kernel without faults.
+//!
+//! A statement has the nodes of its expressions behind it, and then those of its blocks.
+
 ghost use Rattle.std.specs.Prelude.{◌≡◌, ◌≤◌, ◌<◌, ◌+◌, ℕ, Option, List, length, slice_get, IfOk, Some, IsTrue};
 ghost use Rattle.frame_ast.specs.declared.kernel.Stmt.{Stmt, out-Stmt};
-ghost use Rattle.kernel_code.specs.Raw.{RawBlock, block_size, statement_count};
+ghost use Rattle.kernel_raw.specs.Raw.{RawBlock, block_size, statement_count};
 ghost use Rattle.kernel_code.specs.Known.{number_named};
 ghost use Rattle.kernel_code.specs.Trees.{BlockOf};
-ghost use Rattle.kernel_code.specs.Places.{set_of, one_part, two_parts, has_first, IsFirst, IsBlockHere, IsResolved};
+ghost use Rattle.kernel_code.specs.Places.{set_of, statement_with_one, statement_with_two, has_first, IsFirst, IsBlockHere, IsResolved};
 
 use crate::check::expressions::{expression, meaning_at, node_at, number_of};
 use crate::check::names::{Meaning, Named};
-use crate::raw::{RawForm, RawKernel, RawNode};
 use frame_ast::kernel::{Expr, Stmt};
 use job_base::NoMemory;
+use kernel_raw::{RawForm, RawKernel, RawNode};
 use std::alloc::Global;
 
 // The statement `x = e;`.
@@ -28,8 +29,8 @@ fn set_of(named: Option<Named>, e: Expr) -> Stmt
 }
 
 // The statement of a form with one expression and no block.
-fn one_part(form: RawForm, meaning: Meaning, e: Expr) -> Stmt
-    ensures { out-Stmt result ≡ one_part form meaning e }
+fn statement_with_one(form: RawForm, meaning: Meaning, e: Expr) -> Stmt
+    ensures { out-Stmt result ≡ statement_with_one form meaning e }
 {
     match form {
         RawForm::Var => Stmt::Assign(number_of(meaning.name), e),
@@ -44,8 +45,8 @@ fn one_part(form: RawForm, meaning: Meaning, e: Expr) -> Stmt
 }
 
 // The statement of a form with two expressions and no block.
-fn two_parts(form: RawForm, meaning: Meaning, e: Expr, f: Expr) -> Stmt
-    ensures { out-Stmt result ≡ two_parts form meaning e f }
+fn statement_with_two(form: RawForm, meaning: Meaning, e: Expr, f: Expr) -> Stmt
+    ensures { out-Stmt result ≡ statement_with_two form meaning e f }
 {
     match form {
         RawForm::SetPlace => Stmt::Store(number_of(meaning.name), e, f),
@@ -80,12 +81,12 @@ fn statement(
         | RawForm::Remove
         | RawForm::Write => {
             let e = expression(alloc, raw, meanings, at + 1)?;
-            Ok(one_part(node.form, meaning, e.expr))
+            Ok(statement_with_one(node.form, meaning, e.expr))
         }
         RawForm::SetPlace | RawForm::SetTryAdd | RawForm::AddPair => {
             let e = expression(alloc, raw, meanings, at + 1)?;
             let f = expression(alloc, raw, meanings, e.next)?;
-            Ok(two_parts(node.form, meaning, e.expr, f.expr))
+            Ok(statement_with_two(node.form, meaning, e.expr, f.expr))
         }
         RawForm::Begin => {
             let e = expression(alloc, raw, meanings, at + 1)?;

@@ -1,4 +1,5 @@
-// The `begin` blocks in which nodes stand.
+//! The `begin` blocks in which nodes stand.
+
 ghost use Rattle.std.specs.Prelude.{◌≡◌, ◌≤◌, ◌<◌, ℕ, length};
 ghost use Rattle.kernel_code.specs.Known.{is_in, stands_in};
 

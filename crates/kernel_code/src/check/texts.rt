@@ -1,11 +1,11 @@
-// What the tokens of a kernel say: their bytes, their lines, the values of Numbers.
+//! What the tokens of a kernel say: their bytes, their lines, the values of Numbers.
+
 ghost use Rattle.std.specs.Prelude.{◌≡◌, ◌<◌, ◌≤◌, ◌+◌, ◌^◌, min, nat_lt, length};
 ghost use Rattle.std.specs.Str.{bytes_eq};
-ghost use Rattle.kernel_code.specs.StaticFaults.{text_at, line_at, value_at};
+ghost use Rattle.kernel_raw.specs.RawTexts.{text_at, line_at, value_at};
 
-use crate::mark;
-use crate::raw::RawKernel;
 use frame_grammar::TokenAt;
+use kernel_raw::RawKernel;
 
 /// The bytes of the token at a place.
 pub fn text_at<'a>(raw: &RawKernel<'a>, at: TokenAt) -> &'a [u8]
@@ -32,7 +32,7 @@ pub fn line_at(raw: &RawKernel<'_>, at: TokenAt) -> u32
     requires { raw.now.line + length raw.now.marks.now < 2 ^ 32 }
     ensures { result ≡ line_at raw.now at }
 {
-    mark::line_at(raw.marks, raw.line, at)
+    kernel_text::line_at(raw.marks, raw.line, at)
 }
 
 /// The value of the Number at a place, or 2 ^ 64 - 1 where it is greater.

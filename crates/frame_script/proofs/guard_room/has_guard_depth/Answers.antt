@@ -2,8 +2,8 @@ use Rattle.std.proofs.Common.{ℕ, ◌≡◌, ◌≤◌, true, sym, subst, ◌�
 use Rattle.std.proofs.lemmas.Bool.Decides.{nat_tests}
 use Rattle.frame_ast.specs.Checked.{body_depth}
 use Rattle.frame_ast.specs.Accepted.{up_to}
-use Rattle.kernel_code.specs.Depths.{depth_of}
-use Rattle.kernel_code.proofs.Widths.{shallow-depth}
+use Rattle.kernel_raw.specs.Depths.{depth_of}
+use Rattle.kernel_raw.proofs.Widths.{shallow-depth}
 use Rattle.frame_script.proofs.guard_room.has_guard_depth.Goals as goal
 
 fits : (d most : ℕ) → d ≤ most → up_to most d ≡ true

@@ -1,20 +1,19 @@
 use Rattle.std.proofs.Common.{◌≡◌, Err, List, All, map, refl, sym, ◌∙◌, ap, subst, arith}
-use Rattle.frame_grammar.specs.declared.TokenKind.{TokenKind}
+use Rattle.frame_grammar.specs.declared.token_kind.TokenKind.{TokenKind}
 use Rattle.frame_grammar.specs.declared.symbols.Event.{Event}
-use Rattle.frame_grammar.specs.declared.note.Note.{Note}
-use Rattle.frame_grammar.specs.Notes.{events_of}
-use Rattle.kernel_code.specs.declared.mark.Mark.{Mark}
-use Rattle.kernel_code.specs.Marks.{IsOfKind, kind_of, tokens_in}
-use Rattle.kernel_code.specs.Tokens.{tokens_of, up_to_bad}
-use Rattle.kernel_code.specs.Parsing.{kinds}
-use Rattle.kernel_code.specs.Legible.{NamesAreText, NamesStand}
+use Rattle.frame_parser.specs.declared.note.Note.{Note}
+use Rattle.frame_parser.specs.Notes.{events_of}
+use Rattle.kernel_text.specs.declared.mark.Mark.{Mark}
+use Rattle.kernel_text.specs.Marks.{IsOfKind, kind_of, tokens_in}
+use Rattle.kernel_text.specs.Tokens.{tokens_of, up_to_bad, kinds, NamesAreText}
+use Rattle.kernel_raw.specs.Legible.{NamesStand}
 use Rattle.frame_script.specs.declared.fault.LoadFault.TheVariants as load
-use Rattle.frame_script.specs.declared.source.Source.{Source}
-use Rattle.frame_script.specs.Raw.{IsFile}
-use Rattle.frame_script.specs.Sources.{file_tokens}
+use Rattle.script_text.specs.declared.source.Source.{Source}
+use Rattle.script_text.specs.Places.{IsFile}
+use Rattle.script_text.specs.Sources.{file_tokens}
 use Rattle.frame_script.specs.Loading.{refusal_of}
-use Rattle.frame_script.proofs.FileTokens.{few_marks, marks_ended, kinds_in_file}
-use Rattle.frame_script.proofs.WalkSteps.{exit_is}
+use Rattle.script_text.proofs.FileTokens.{few_marks, marks_ended, kinds_in_file}
+use Rattle.frame_script.proofs.Walking.EventSteps.{exit_is}
 use Rattle.frame_script.proofs.Loads.{IsRead, read_of, spelled, script_accepted, stopped, refused_statically, refused_as_long, if_ok}
 use Rattle.frame_script.proofs.load.parse_script.Goals as goal
 

@@ -1,6 +1,6 @@
 use Rattle.std.proofs.Common.{[], ◌∷◌, arith}
-use Rattle.frame_script.specs.Items.{outside}
-use Rattle.frame_script.proofs.GoingSteps.{at_first}
+use Rattle.script_text.specs.Items.{outside}
+use Rattle.frame_script.proofs.Walking.ItemSteps.{at_first}
 use Rattle.frame_script.proofs.walk.walk_file.Goals as goal
 
 pub loop-walk-init : goal.loop-walk-init
@@ -14,7 +14,7 @@ loop-walk-init c =
         spells = file.spells;
         left = file.items ∷ [];
         opens = outside file.spells;
-        is = at_first c.args.source file.items c.in_ok-walk.walk file.stand w.names w.kernels w.literals w.written w.tested w.around;
+        is = at_first c.args.source file.items c.in_ok-walk.walk file.stand w.names w.kernels w.literals w.written w.tested w.outer_tests;
       };
       on = c.new-lines.ensures.on c.args.source;
     }

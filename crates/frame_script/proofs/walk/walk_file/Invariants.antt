@@ -1,6 +1,6 @@
 use Rattle.std.proofs.Common.{◌≤◌, ◌-◌, length}
-use Rattle.frame_grammar.specs.Notes.{events_of}
-use Rattle.frame_script.specs.Lines.{IsOn}
+use Rattle.frame_parser.specs.Notes.{events_of}
+use Rattle.script_text.specs.Lines.{IsOn}
 use Rattle.frame_script.specs.Walking.{IsWalking}
 use Rattle.frame_script.proofs.walk.walk_file.Given as goal
 

@@ -1,8 +1,8 @@
 use Rattle.std.proofs.Common.{◌≡◌, None, sym, ◌∙◌, ap, subst}
-use Rattle.frame_grammar.specs.Notes.{events_of}
+use Rattle.frame_parser.specs.Notes.{events_of}
 use Rattle.kernel_code.specs.StaticFaults.{first_fault, TellsFault}
-use Rattle.kernel_code.proofs.Rooms as rooms
-use Rattle.kernel_code.specs.declared.fault.KernelFault.TheVariants.{Refused}
+use Rattle.kernel_code.proofs.Limits.Rooms as rooms
+use Rattle.kernel_raw.specs.declared.fault.KernelFault.TheVariants.{Refused}
 use Rattle.frame_script.specs.Walking.{RefusesKernel}
 use Rattle.frame_script.specs.Files.{IsRawOf}
 use Rattle.frame_script.proofs.KernelWalks.{raw_of, name_free, same_text, kernel_refused, of_refusal}

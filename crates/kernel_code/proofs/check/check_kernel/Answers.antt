@@ -2,10 +2,11 @@ use Rattle.std.proofs.Common.{◌≡◌, List, Option, Some, None, rules, ◌∙
 use Rattle.std.specs.Option.{option_or}
 use Rattle.frame_ast.specs.declared.kernel.Kernel.{Kernel}
 use Rattle.kernel_code.specs.declared.check.StaticFault.{StaticFault}
-use Rattle.kernel_code.specs.declared.raw.RawKernel.{RawKernel}
-use Rattle.kernel_code.specs.StaticFaults.{text_at, fault_at, kernel_name_fault, params_fault, nodes_fault, first_fault, TellsFault}
+use Rattle.kernel_raw.specs.declared.raw.RawKernel.{RawKernel}
+use Rattle.kernel_raw.specs.RawTexts.{text_at}
+use Rattle.kernel_code.specs.StaticFaults.{fault_at, kernel_name_fault, params_fault, nodes_fault, first_fault, TellsFault}
 use Rattle.kernel_code.proofs.NoFaults.{option_or-none}
-use Rattle.kernel_code.proofs.BuiltKernels.{few-params}
+use Rattle.kernel_code.proofs.Built.Kernels.{few-params}
 use Rattle.kernel_code.proofs.Checking.{checked}
 use Rattle.kernel_code.proofs.check.check_kernel.Goals as goal
 

@@ -1,15 +1,15 @@
 use Rattle.std.proofs.Common.{◌-◌, Err, length, drop, refl, sym, ◌∙◌, ap, subst}
-use Rattle.frame_grammar.specs.Notes.{events_of}
+use Rattle.frame_parser.specs.Notes.{events_of}
 use Rattle.frame_script.specs.declared.fault.LoadFault.TheVariants as load
-use Rattle.kernel_code.specs.Raw.{IsKernel}
-use Rattle.kernel_code.specs.Parsing.{kinds}
-use Rattle.kernel_code.specs.Legible.{NamesStand}
-use Rattle.kernel_code.proofs.Names.{names_stand-take, names_stand-drop}
-use Rattle.frame_script.specs.Sources.{file_tokens}
-use Rattle.frame_script.specs.Items.{Leads}
+use Rattle.kernel_raw.specs.RawEvents.{IsKernel}
+use Rattle.kernel_text.specs.Tokens.{kinds}
+use Rattle.kernel_raw.specs.Legible.{NamesStand}
+use Rattle.kernel_raw.proofs.Derived.Names.{names_stand-take, names_stand-drop}
+use Rattle.script_text.specs.Sources.{file_tokens}
+use Rattle.script_text.specs.Items.{Leads}
 use Rattle.frame_script.specs.Walking.{AddsKernel, RefusesKernel}
-use Rattle.frame_script.proofs.Noted.{noted_between}
-use Rattle.frame_script.proofs.WalkSteps.{kernel_stands, went_past_kernel, refused_in_kernel, went_past_order, refused_in_order, written_inside, went_out, exit_is}
+use Rattle.script_text.proofs.Noted.{noted_between}
+use Rattle.frame_script.proofs.Walking.EventSteps.{kernel_stands, went_past_kernel, refused_in_kernel, order_stands, went_past_order, refused_in_order, written_inside, went_out, exit_is}
 use Rattle.frame_script.proofs.walk.Walk.step.Goals as goal
 
 pub add_kernel-requires-clause-kernel : goal.add_kernel-requires-clause-kernel
@@ -54,6 +54,13 @@ returns-in-Kernel-clause-walked c =
           (noted_between c.args.notes.now c.args.at (c.in-Kernel.next - c.args.at) ∙ leads.2.events_are) c.in_ok-add_kernel-in-Kernel.ensures.added) refl,
     )
 
+pub take_statement-requires-clause-stands : goal.take_statement-requires-clause-stands
+take_statement-requires-clause-stands c =
+    let g = c.requires.walking in
+    let all = events_of c.args.notes.now in
+    let leads = subst (λ x. Leads all c.args.at x g.left) c.in-Order.is (c.in_ok-raw_item.ensures g.left g.opens) in
+    order_stands c.args.source all c.args.at c.in-Order.first c.in-Order.order c.in-Order.next c.args.self.now g leads.2
+
 pub returns-in-Ok-clause-walked : goal.returns-in-Ok-clause-walked
 returns-in-Ok-clause-walked c =
     let g = c.requires.walking in
@@ -61,7 +68,7 @@ returns-in-Ok-clause-walked c =
     let leads = subst (λ x. Leads all c.args.at x g.left) c.in-Order.is (c.in_ok-raw_item.ensures g.left g.opens) in (
       leads.0,
       leads.1,
-      went_past_order c.args.source all c.args.at c.in-Order.first c.in-Order.order c.in-Order.next c.args.self.now c.order.new.self
+      went_past_order c.args.source all c.args.at c.in-Order.first c.in-Order.order c.in-Order.next c.args.self.now c.take_statement.new.self
           c.requires.text g leads.2 c.in-Ok.ensures.0 c.in-Ok.ensures.1,
     )
 
@@ -71,7 +78,7 @@ returns-in-Order-clause-refused c line kind is =
     let all = events_of c.args.notes.now in
     let leads = subst (λ x. Leads all c.args.at x g.left) c.in-Order.is (c.in_ok-raw_item.ensures g.left g.opens) in
     refused_in_order c.args.source all c.args.at c.in-Order.first c.in-Order.order c.in-Order.next c.args.self.now c.in-Err.fault line kind g leads.2
-    c.in-Err.ensures (c.told.ensures line kind cc)
+    c.in-Err.ensures (c.refusal_for.ensures line kind cc)
 
 pub close-requires-clause-open : goal.close-requires-clause-open
 close-requires-clause-open c =

@@ -1,6 +1,6 @@
 use Rattle.std.proofs.Common.{rules, arith, ◌≡◌, ◌<◌, ◌≤◌, ◌∙◌, ap, subst, length, take, drop, get_or}
 use Rattle.frame_script.specs.Writing.{PutsCopies}
-use Rattle.frame_script.proofs.WritingRepeats.{copied_none, copied_more, as_long}
+use Rattle.frame_script.proofs.Writing.Repeats.{copied_none, copied_more, as_long}
 use Rattle.frame_script.proofs.written.Written.copy.Goals as goal
 
 pub loop-at-init : goal.loop-at-init

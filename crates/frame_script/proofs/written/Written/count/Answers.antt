@@ -2,7 +2,7 @@ use Rattle.std.proofs.Common.{rules, arith, ◌≡◌, ◌∙◌, ◌-◌, List,
 use Rattle.frame_ast.specs.declared.script.Statement.{Statement}
 use Rattle.frame_script.specs.Writing.{Writing, with_count, count_at}
 use Rattle.frame_script.specs.contracts.written.Written.{the_view}
-use Rattle.frame_script.proofs.WritingCounts.{counts_behind, nothing_counts}
+use Rattle.frame_script.proofs.Writing.Counts.{counts_behind, nothing_counts}
 use Rattle.frame_script.proofs.written.Written.count.Goals as goal
 
 pub returns-then-at-len : goal.returns-then-at-len

@@ -1,7 +1,7 @@
 use Rattle.std.proofs.Common.{rules, arith, ◌≡◌, ◌≤◌, ◌-◌, ◌+◌, ◌∙◌, true, refl, sym, ap, subst, [], length, take, drop}
 use Rattle.std.specs.Option.{is_some}
 use Rattle.frame_script.specs.Writing.{PutsCopies}
-use Rattle.frame_script.proofs.WritingRepeats.{nothing_repeated, once_more, left_over, as_often, as_long, same_block}
+use Rattle.frame_script.proofs.Writing.Repeats.{nothing_repeated, once_more, left_over, as_often, as_long, same_block}
 use Rattle.frame_script.proofs.written.Written.repeat.Goals as goal
 
 pub returns-then-end-start : goal.returns-then-end-start

@@ -2,18 +2,18 @@ use Rattle.std.proofs.Common.{sym, ap, subst, ◌∙◌, arith, IsTrue}
 use Rattle.std.proofs.lemmas.Result.{IfOk-weaker}
 use Rattle.kernel_code.specs.Trees.{joint_of}
 use Rattle.kernel_code.specs.Places.{is_one, IsJoint}
-use Rattle.kernel_code.proofs.BuiltExpressions.{faultless_at, meaning_is, atom_leaf, atom_one, atom_item, first_part, chain_stop, chain_more}
+use Rattle.kernel_code.proofs.Built.Expressions.{faultless_at, meaning_is, atom_leaf, atom_one, atom_item, first_part, chain_stop, chain_more}
 use Rattle.kernel_code.proofs.check.expressions.+expression.Goals as goal
 
-pub atom-returns-in_ok-one-in-Element-clause-built :
-    goal.atom-returns-in_ok-one-in-Element-clause-built
-atom-returns-in_ok-one-in-Element-clause-built t c r e here =
+pub atom-returns-in_ok-one_operand-in-Element-clause-built :
+    goal.atom-returns-in_ok-one_operand-in-Element-clause-built
+atom-returns-in_ok-one_operand-in-Element-clause-built t c r e here =
     let raw = c.args.raw.now in
     let there = sym c.node_at.ensures.node ∙ c.in-Some.is in
     let known = ap (λ m. m.name) (c.meaning_at-named.ensures _ (meaning_is raw c.args.meanings.now c.args.at c.in-Some.node r there)) in
     let form_is : IsTrue (is_one c.in-Some.node.form) = grind (arith, c.in-Element.is) in
     atom_one raw c.args.at c.in-Some.node _ c.in_ok-inner-in-Element.inner.expr _ _ there (faultless_at raw _ _ _ r there) known form_is
-    (c.in_ok-inner-in-Element.ensures.built r) c.in_ok-one-in-Element.ensures e here
+    (c.in_ok-inner-in-Element.ensures.built r) c.in_ok-one_operand-in-Element.ensures e here
 
 pub atom-returns-in_ok-both-in-Item-clause-built : goal.atom-returns-in_ok-both-in-Item-clause-built
 atom-returns-in_ok-both-in-Item-clause-built t c r e here =
@@ -31,7 +31,7 @@ atom-returns-in_default-form-clause-built t c r e here =
     let there = sym c.node_at.ensures.node ∙ c.in-Some.is in
     let known = ap (λ m. m.name) (c.meaning_at-named.ensures _ (meaning_is raw c.args.meanings.now c.args.at node r there)) in
     atom_leaf raw c.args.at node _ _ there (faultless_at raw _ _ _ r there) known c.in_default-form.not-Element c.in_default-form.not-Has
-    c.in_default-form.not-Count c.in_default-form.not-Unary c.in_default-form.not-Item c.leaf.ensures e here
+    c.in_default-form.not-Count c.in_default-form.not-Unary c.in_default-form.not-Item c.leaf_expression.ensures e here
 
 pub chain-returns-in_default-clause-built : goal.chain-returns-in_default-clause-built
 chain-returns-in_default-clause-built t c r l e b here built = chain_stop c.args.raw.now c.args.start _ _ c.in_default.ensures.cases b here built
@@ -39,10 +39,10 @@ chain-returns-in_default-clause-built t c r l e b here built = chain_stop c.args
 pub chain-returns-clause-built : goal.chain-returns-clause-built
 chain-returns-clause-built t c =
     IfOk-weaker c.chain.result _ _ (λ last h r l e b here built.
-    chain_more c.args.raw.now c.args.start c.in-Some.node _ _ c.in_ok-join.field-0 last.expr _ _ last.next c.in-Some.ensures.cases.0 c.in-Some.ensures.cases.1
+    chain_more c.args.raw.now c.args.start c.in-Some.node _ _ c.in_ok-binary.field-0 last.expr _ _ last.next c.in-Some.ensures.cases.0 c.in-Some.ensures.cases.1
     c.in-Some.ensures.cases.2
-    (c.in_ok-right.ensures.built r) (subst (λ k. IsJoint (joint_of k) c.args.left.expr c.in_ok-right.right.expr c.in_ok-join.field-0) c.kind_at.ensures
-    c.in_ok-join.ensures) (λ u v w. h r u e v here w) b here built) c.chain.ensures.built
+    (c.in_ok-right.ensures.built r) (subst (λ k. IsJoint (joint_of k) c.args.left.expr c.in_ok-right.right.expr c.in_ok-binary.field-0) c.kind_at.ensures
+    c.in_ok-binary.ensures) (λ u v w. h r u e v here w) b here built) c.chain.ensures.built
 
 pub expression-returns-clause-built : goal.expression-returns-clause-built
 expression-returns-clause-built t c =

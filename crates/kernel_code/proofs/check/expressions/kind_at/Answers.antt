@@ -1,7 +1,7 @@
 use Rattle.std.proofs.Common.{sym, ◌∙◌, ap}
 use Rattle.std.proofs.lemmas.Bool.{ltb-true, ltb-false}
 use Rattle.kernel_code.specs.Trees.{kind_of_token, kind_at}
-use Rattle.kernel_code.proofs.Marks.{token_there, no_token}
+use Rattle.kernel_text.proofs.Marks.{token_there, no_token}
 use Rattle.kernel_code.proofs.check.expressions.kind_at.Goals as goal
 
 pub returns-in-Some : goal.returns-in-Some

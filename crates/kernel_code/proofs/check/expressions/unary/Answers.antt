@@ -1,4 +1,4 @@
-use Rattle.kernel_code.proofs.Leaves.{negative_is, opposite_is}
+use Rattle.kernel_code.proofs.Built.Leaves.{negative_is, opposite_is}
 use Rattle.kernel_code.proofs.check.expressions.unary.Goals as goal
 
 pub returns-then-is_minus : goal.returns-then-is_minus

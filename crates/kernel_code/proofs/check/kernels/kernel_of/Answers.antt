@@ -1,10 +1,10 @@
 use Rattle.std.proofs.Common.{None, List, refl, sym, subst, arith}
 use Rattle.frame_grammar.specs.declared.symbols.Event.{Event}
-use Rattle.kernel_code.specs.Raw.{SpellsRaw}
+use Rattle.kernel_raw.specs.RawEvents.{SpellsRaw}
 use Rattle.kernel_code.specs.Places.{IsResolved}
 use Rattle.kernel_code.specs.Trees.{BlockOf}
-use Rattle.kernel_code.proofs.Counting.{all-kept}
-use Rattle.kernel_code.proofs.BuiltKernels.{body-here, body-size}
+use Rattle.kernel_code.proofs.Built.Counting.{all-kept}
+use Rattle.kernel_code.proofs.Built.Kernels.{body-here, body-size}
 use Rattle.kernel_code.proofs.check.kernels.kernel_of.Goals as goal
 
 pub returns : goal.returns

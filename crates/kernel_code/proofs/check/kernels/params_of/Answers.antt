@@ -1,6 +1,6 @@
 use Rattle.std.proofs.Common.{refl, arith}
 use Rattle.std.proofs.lemmas.Option.{slice_get_read}
-use Rattle.kernel_code.proofs.BuiltKernels.{width-within}
+use Rattle.kernel_code.proofs.Built.Kernels.{width-within}
 use Rattle.kernel_code.proofs.check.kernels.params_of.Goals as goal
 
 pub width_of-requires : goal.width_of-requires

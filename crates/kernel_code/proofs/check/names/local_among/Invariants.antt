@@ -1,5 +1,5 @@
 use Rattle.std.proofs.Common.{◌≡◌, drop}
-use Rattle.kernel_code.specs.StaticFaults.{local_among}
+use Rattle.kernel_code.specs.Scopes.{local_among}
 use Rattle.kernel_code.proofs.check.names.local_among.Given as goal
 
 abbrev pub invariant-loop-k : goal.invariant-loop-k

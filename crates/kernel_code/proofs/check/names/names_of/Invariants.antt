@@ -1,5 +1,5 @@
 use Rattle.std.proofs.Common.{◌≡◌, map, take}
-use Rattle.kernel_code.specs.StaticFaults.{text_at}
+use Rattle.kernel_raw.specs.RawTexts.{text_at}
 use Rattle.kernel_code.proofs.check.names.names_of.Given as goal
 
 abbrev pub invariant-loop-param : goal.invariant-loop-param

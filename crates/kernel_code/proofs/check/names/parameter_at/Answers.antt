@@ -1,5 +1,5 @@
 use Rattle.std.proofs.Common.{◌∙◌, ap}
-use Rattle.kernel_code.specs.StaticFaults.{parameter}
+use Rattle.kernel_code.specs.Scopes.{parameter}
 use Rattle.kernel_code.proofs.ParamNames.{names_tell}
 use Rattle.kernel_code.proofs.check.names.parameter_at.Goals as goal
 

@@ -2,9 +2,9 @@ use Rattle.std.proofs.Common.{◌≡◌, sym, ap, ◌∙◌, arith}
 use Rattle.frame_ast.specs.declared.kernel.Stmt.TheViews.{outs-Clear, outs-Begin, outs-If, outs-For, outs-While}
 use Rattle.frame_ast.specs.declared.kernel.Stmt.TheOpen.{Clear}
 use Rattle.kernel_code.specs.Places.{group_of}
-use Rattle.kernel_code.proofs.BuiltExpressions.{faultless_at, meaning_is}
-use Rattle.kernel_code.proofs.BuiltBlocks.{partly_start, partly_end, partly_next, partly_missing}
-use Rattle.kernel_code.proofs.BuiltStatements.{one_first, two_first, bare_first, begin_first, if_first, if_else_first, for_first, while_first, rest-group}
+use Rattle.kernel_code.proofs.Built.Expressions.{faultless_at, meaning_is}
+use Rattle.kernel_code.proofs.Built.Blocks.{partly_start, partly_end, partly_next, partly_missing}
+use Rattle.kernel_code.proofs.Built.Statements.{one_first, two_first, bare_first, begin_first, if_first, if_else_first, for_first, while_first, rest-group}
 use Rattle.kernel_code.proofs.check.statements.+statement.Goals as goal
 
 pub block-loop-at-init : goal.block-loop-at-init
@@ -36,7 +36,7 @@ statement-returns-in_ok-e-in-Var t c r owner b has here =
     let raw = c.args.raw.now in
     let group : group_of c.args.node.form ≡ 2 = grind (arith, c.in-Var.is) in
     one_first raw c.args.at c.args.node _ (faultless_at raw _ _ _ r c.requires) (c.meaning_at-meaning.ensures _ (meaning_is raw _ _ _ r c.requires)) c.requires
-    c.in_ok-e-in-Var.e.expr _ _ group (c.in_ok-e-in-Var.ensures.built r) c.one_part.ensures owner b has here
+    c.in_ok-e-in-Var.e.expr _ _ group (c.in_ok-e-in-Var.ensures.built r) c.statement_with_one.ensures owner b has here
 
 pub statement-returns-in_ok-f-in-SetPlace : goal.statement-returns-in_ok-f-in-SetPlace
 statement-returns-in_ok-f-in-SetPlace t c r owner b has here =
@@ -44,7 +44,7 @@ statement-returns-in_ok-f-in-SetPlace t c r owner b has here =
     let group : group_of c.args.node.form ≡ 3 = grind (arith, c.in-SetPlace.is) in
     two_first raw c.args.at c.args.node _ (faultless_at raw _ _ _ r c.requires) (c.meaning_at-meaning.ensures _ (meaning_is raw _ _ _ r c.requires)) c.requires
     c.in_ok-e-in-SetPlace.e.expr c.in_ok-f-in-SetPlace.f.expr _ _ _ group (c.in_ok-e-in-SetPlace.ensures.built r)
-    (c.in_ok-f-in-SetPlace.ensures.built r) c.two_parts.ensures owner b has here
+    (c.in_ok-f-in-SetPlace.ensures.built r) c.statement_with_two.ensures owner b has here
 
 pub statement-returns-in_ok-body-in-Begin : goal.statement-returns-in_ok-body-in-Begin
 statement-returns-in_ok-body-in-Begin t c r owner b has here =

@@ -1,7 +1,7 @@
 use Rattle.std.proofs.Common.{ℕ, ◌≡◌, ◌≤◌, Option, length, ◌+◌, ◌-◌, ◌*◌}
-use Rattle.kernel_code.specs.Raw.{RawBlock, block_size}
+use Rattle.kernel_raw.specs.Raw.{RawBlock, block_size}
 use Rattle.kernel_code.specs.Places.{IsResolved, IsBlockHere}
-use Rattle.kernel_code.proofs.BuiltBlocks.{IsPartly}
+use Rattle.kernel_code.proofs.Built.Blocks.{IsPartly}
 use Rattle.kernel_code.proofs.check.statements.+statement.Given as goal
 
 abbrev pub decreases-statement : goal.decreases-statement

@@ -1,6 +1,6 @@
 use Rattle.std.proofs.Common.{refl, arith}
 use Rattle.std.proofs.lemmas.Option.{slice_get_read, slice_get_past}
-use Rattle.kernel_code.proofs.CountedBlocks.{counted_start, counted_next, counted_end, counted_missing}
+use Rattle.kernel_code.proofs.Built.CountedBlocks.{counted_start, counted_next, counted_end, counted_missing}
 use Rattle.kernel_code.proofs.check.statements.count_statements.Goals as goal
 
 pub loop-at-init : goal.loop-at-init

@@ -1,7 +1,7 @@
 use Rattle.std.proofs.Common.{ℕ, ◌≡◌, ◌≤◌, ◌+◌, ◌-◌, Option}
-use Rattle.kernel_code.specs.Raw.{RawBlock, block_size}
+use Rattle.kernel_raw.specs.Raw.{RawBlock, block_size}
 use Rattle.kernel_code.specs.Places.{IsBlockHere}
-use Rattle.kernel_code.proofs.CountedBlocks.{IsCounted}
+use Rattle.kernel_code.proofs.Built.CountedBlocks.{IsCounted}
 use Rattle.kernel_code.proofs.check.statements.count_statements.Given as goal
 
 abbrev pub invariant-loop-at : goal.invariant-loop-at

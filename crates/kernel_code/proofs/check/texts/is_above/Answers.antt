@@ -1,9 +1,11 @@
 use Rattle.std.proofs.Common.{◌+◌, take, sym, ◌∙◌, ap, arith}
 use Rattle.std.specs.Prelude.{nat_lt}
 use Rattle.std.proofs.lemmas.Bool.{ltb-true, ltb-false, le-ltb}
-use Rattle.kernel_code.specs.Marks.{lines_in}
-use Rattle.kernel_code.specs.StaticFaults.{token_text, value_of, value_at}
-use Rattle.kernel_code.proofs.Marks.{token_there, no_token}
+use Rattle.kernel_text.specs.Marks.{lines_in}
+use Rattle.kernel_text.specs.Tokens.{token_text}
+use Rattle.kernel_text.specs.Numbers.{value_of}
+use Rattle.kernel_raw.specs.RawTexts.{value_at}
+use Rattle.kernel_text.proofs.Marks.{token_there, no_token}
 use Rattle.kernel_code.proofs.check.texts.is_above.Goals as goal
 
 pub returns-in-Some : goal.returns-in-Some

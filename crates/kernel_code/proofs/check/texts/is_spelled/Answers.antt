@@ -1,9 +1,10 @@
 use Rattle.std.proofs.Common.{◌≡◌, ℕ, ◌+◌, ◌==◌, List, [], ◌∷◌, length, take, refl, sym, ◌∙◌, ap, arith}
 use Rattle.std.specs.Str.{bytes_eq}
 use Rattle.std.proofs.lemmas.Bool.{ltb-true, ltb-false, ne_eqb}
-use Rattle.kernel_code.specs.Marks.{lines_in}
-use Rattle.kernel_code.specs.StaticFaults.{token_text, text_at}
-use Rattle.kernel_code.proofs.Marks.{token_there, no_token}
+use Rattle.kernel_text.specs.Marks.{lines_in}
+use Rattle.kernel_text.specs.Tokens.{token_text}
+use Rattle.kernel_raw.specs.RawTexts.{text_at}
+use Rattle.kernel_text.proofs.Marks.{token_there, no_token}
 use Rattle.kernel_code.proofs.check.texts.is_spelled.Goals as goal
 
 pub returns-in-Some : goal.returns-in-Some

@@ -1,8 +1,9 @@
 use Rattle.std.proofs.Common.{◌+◌, take, sym, ◌∙◌, ap}
 use Rattle.std.proofs.lemmas.Bool.{ltb-true, ltb-false}
-use Rattle.kernel_code.specs.Marks.{lines_in}
-use Rattle.kernel_code.specs.StaticFaults.{token_text, text_at}
-use Rattle.kernel_code.proofs.Marks.{token_there, no_token}
+use Rattle.kernel_text.specs.Marks.{lines_in}
+use Rattle.kernel_text.specs.Tokens.{token_text}
+use Rattle.kernel_raw.specs.RawTexts.{text_at}
+use Rattle.kernel_text.proofs.Marks.{token_there, no_token}
 use Rattle.kernel_code.proofs.check.texts.text_at.Goals as goal
 
 pub returns-in-Some : goal.returns-in-Some

@@ -1,8 +1,10 @@
 use Rattle.std.proofs.Common.{◌+◌, min, take, sym, ◌∙◌, ap}
 use Rattle.std.proofs.lemmas.Bool.{ltb-true, ltb-false}
-use Rattle.kernel_code.specs.Marks.{lines_in}
-use Rattle.kernel_code.specs.StaticFaults.{token_text, value_of, value_at}
-use Rattle.kernel_code.proofs.Marks.{token_there, no_token}
+use Rattle.kernel_text.specs.Marks.{lines_in}
+use Rattle.kernel_text.specs.Tokens.{token_text}
+use Rattle.kernel_text.specs.Numbers.{value_of}
+use Rattle.kernel_raw.specs.RawTexts.{value_at}
+use Rattle.kernel_text.proofs.Marks.{token_there, no_token}
 use Rattle.kernel_code.proofs.check.texts.value_at.Goals as goal
 
 pub returns-in-Some : goal.returns-in-Some

@@ -1,9 +1,0 @@
-use Rattle.std.proofs.Common.{◌≡◌, ◌≤◌, ◌+◌, ◌++◌, length, map, reverse}
-use Rattle.frame_grammar.specs.Waiting.{alone}
-use Rattle.frame_grammar.proofs.stack.push_in_script.Given as goal
-
-abbrev pub invariant-loop-symbol : goal.invariant-loop-symbol
-invariant-loop-symbol l = record {
-  so_far : l.stack.items ++ map alone (reverse l.symbol-iterator.iter.rest.now) ≡ l.fn.stack.items ++ map alone (reverse l.fn.symbols);
-  room : l.stack.len + length l.symbol-iterator.iter.rest.now ≤ l.stack.cap;
-}

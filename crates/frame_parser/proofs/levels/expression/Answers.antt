@@ -1,0 +1,11 @@
+use Rattle.std.proofs.Common.{refl}
+use Rattle.frame_parser.specs.StackSymbols.{standing}
+use Rattle.frame_parser.proofs.Takings.{told_going}
+use Rattle.frame_parser.proofs.Stacks.{behind}
+use Rattle.frame_parser.proofs.Expressions.{levels}
+use Rattle.frame_parser.proofs.levels.expression.Goals as goal
+
+pub returns : goal.returns
+returns c ahead place done =
+    told_going ahead place done done done _ _ _ refl (behind c.args.stack.now.items _ _ c.in_ok-put.ensures)
+    (levels ahead place done (standing c.args.stack.now.items))

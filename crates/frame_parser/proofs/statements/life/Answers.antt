@@ -1,0 +1,10 @@
+use Rattle.std.proofs.Common.{sym, ◌∙◌, refl}
+use Rattle.frame_parser.specs.Notes.{events_of}
+use Rattle.frame_parser.proofs.Takings.{told_going}
+use Rattle.frame_parser.proofs.StatementTakings.{no_life}
+use Rattle.frame_parser.proofs.statements.life.Goals as goal
+
+pub returns-in_ok-note : goal.returns-in_ok-note
+returns-in_ok-note c ss =
+    told_going c.args.ahead c.args.place (events_of c.args.events.now.items) _ _ _ ss ss c.in_ok-note.ensures refl
+    (no_life c.args.ahead c.args.place (events_of c.args.events.now.items) ss (sym c.tells_life.ensures ∙ c.if-tells_life.false))

@@ -1,0 +1,12 @@
+use Rattle.frame_parser.specs.StackSymbols.{standing}
+use Rattle.frame_parser.specs.Notes.{events_of}
+use Rattle.frame_parser.proofs.Takings.{told}
+use Rattle.frame_parser.proofs.Stacks.{behind}
+use Rattle.frame_parser.proofs.StatementTakings.{maybe_plain}
+use Rattle.frame_parser.proofs.statements.maybe_signed.Goals as goal
+
+pub returns-in_ok-put-in-Number : goal.returns-in_ok-put-in-Number
+returns-in_ok-put-in-Number c =
+    told c.args.ahead _ c.args.place (events_of c.args.events.now.items) _ _ _ _ _ c.in-Number.is c.in_ok-note-in-Number.ensures
+    (behind c.args.stack.now.items _ _ c.in_ok-put-in-Number.ensures)
+    (maybe_plain c.args.place (events_of c.args.events.now.items) (standing c.args.stack.now.items))

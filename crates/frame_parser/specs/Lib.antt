@@ -1,0 +1,9 @@
+-- promises
+pub mod Notes
+-- for this crate's own contracts
+pub mod Parser
+pub mod Shortcuts
+pub mod StackSymbols
+pub mod Lines
+pub mod Values
+pub mod Operands

@@ -1,7 +1,0 @@
-use Rattle.std.proofs.Common.{◌≡◌, drop}
-use Rattle.frame_grammar.specs.Notes.{events_of}
-use Rattle.frame_script.specs.Reading.{reading_of, nothing_read, order_from}
-use Rattle.frame_script.proofs.build.listed_order.Given as goal
-
-abbrev pub invariant-loop-index : goal.invariant-loop-index
-invariant-loop-index l = order_from (reading_of l.reader) (drop l.index (events_of l.notes)) ≡ order_from nothing_read (events_of l.notes)

@@ -1,6 +1,0 @@
-use Rattle.std.proofs.Common.{ap}
-use Rattle.frame_script.specs.Index.{first_of}
-use Rattle.frame_script.proofs.names.first_for.Goals as goal
-
-pub returns : goal.returns
-returns c = ap (first_of c.args.firsts.now) c.bucket_of.ensures.bucket

@@ -1,6 +1,0 @@
-use Rattle.std.proofs.Common.{min, ◌∙◌, ap}
-use Rattle.kernel_code.specs.StaticFaults.{value_of}
-use Rattle.kernel_code.proofs.mark.Mark.read_value.Goals as goal
-
-pub returns : goal.returns
-returns c line = c.value_of.ensures ∙ ap (λ text. min 18446744073709551615 (value_of text)) (c.whole_text.ensures line)

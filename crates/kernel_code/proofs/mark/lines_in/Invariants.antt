@@ -1,7 +1,0 @@
-use Rattle.std.proofs.Common.{◌≡◌, ◌+◌, drop}
-use Rattle.kernel_code.specs.Marks.{lines_in}
-use Rattle.kernel_code.proofs.mark.lines_in.Given as goal
-
--- those counted and those to come are all
-abbrev pub invariant-loop-mark : goal.invariant-loop-mark
-invariant-loop-mark l = l.lines + lines_in (drop l.mark-index l.marks) ≡ lines_in l.marks

@@ -1,5 +1,0 @@
-use Rattle.kernel_code.proofs.Marks.{numbered}
-use Rattle.kernel_code.proofs.mark.number_of.Goals as goal
-
-pub returns-clause-number : goal.returns-clause-number
-returns-clause-number c = numbered c.args.kind

@@ -1,0 +1,7 @@
+mod Examples
+pub mod Words
+pub mod Marks
+pub mod Tokens
+pub mod Decimals
+pub mod Values
+pub mod Glances

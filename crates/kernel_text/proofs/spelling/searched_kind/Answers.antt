@@ -1,0 +1,12 @@
+use Rattle.std.proofs.Common.{unwrap_or, ◌∙◌, ap}
+use Rattle.frame_grammar.specs.declared.token_kind.TokenKind.TheVariants.{Name}
+use Rattle.kernel_text.specs.Spellings.{spelled, reserved_words}
+use Rattle.kernel_text.proofs.Words.Reserved.{spelled-filter}
+use Rattle.kernel_text.proofs.spelling.searched_kind.Goals as goal
+
+-- a reserved word is among those with its first byte
+pub returns : goal.returns
+returns c =
+    c.unwrap_or.ensures
+    ∙ ap (λ kind. unwrap_or kind Name) (c.spelled.ensures ∙ ap (λ kinds. spelled kinds c.args.word.now) c.reserved_with.ensures
+    ∙ spelled-filter reserved_words c.args.word.now)

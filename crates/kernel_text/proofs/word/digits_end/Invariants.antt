@@ -1,0 +1,20 @@
+use Rattle.std.proofs.Common.{◌+◌, ◌≡◌, drop, length}
+use Rattle.std.specs.List.{prefix_len}
+use Rattle.std.specs.Char.{is_ascii_digit}
+use Rattle.kernel_text.proofs.word.digits_end.Given as goal
+
+-- the rest stands from here on, and the run from here on ends where the whole one does
+abbrev pub invariant-loop-rest : goal.invariant-loop-rest
+invariant-loop-rest l = record {
+  here : l.rest ≡ drop l.end l.source;
+  run : l.end + prefix_len is_ascii_digit (drop l.end l.source) ≡ l.from + prefix_len is_ascii_digit (drop l.from l.source);
+}
+
+abbrev pub decreases-loop-rest : goal.decreases-loop-rest
+decreases-loop-rest l = length l.rest
+
+abbrev pub invariant-loop-byte : goal.invariant-loop-byte
+invariant-loop-byte l = record {
+  here : drop l.byte-index l.byte-items ≡ drop l.end l.source;
+  run : l.end + prefix_len is_ascii_digit (drop l.end l.source) ≡ l.from + prefix_len is_ascii_digit (drop l.from l.source);
+}

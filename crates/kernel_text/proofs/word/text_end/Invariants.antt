@@ -1,0 +1,12 @@
+use Rattle.std.proofs.Common.{length, ◌-◌, ◌≤◌, ◌+◌, ◌≡◌, drop}
+use Rattle.std.specs.List.{prefix_len}
+use Rattle.kernel_text.specs.Words.{stands_in_text}
+use Rattle.kernel_text.proofs.word.text_end.Given as goal
+
+-- the run from here on ends where the whole one does
+abbrev pub invariant-loop-end : goal.invariant-loop-end
+invariant-loop-end l = (l.end ≤ length l.source) × (l.end + prefix_len stands_in_text (drop l.end l.source) ≡ l.from + prefix_len stands_in_text
+    (drop l.from l.source))
+
+abbrev pub decreases-loop-end : goal.decreases-loop-end
+decreases-loop-end l = length l.source - l.end

@@ -1,0 +1,9 @@
+use Rattle.std.proofs.Common.{rules, None}
+use Rattle.script_checks.proofs.FaultLemmas.{exits, checking}
+use Rattle.script_checks.proofs.order_checks.changes.print.Goals as goal
+
+pub returns-in_err-name : goal.returns-in_err-name
+returns-in_err-name c = exits _ _ c.from_residual.result _ c.from_residual.ensures.1 (search (rules, checking))
+
+pub returns : goal.returns
+returns c = (search (rules, checking), cc (c.in_ok-name.ensures.1 None))

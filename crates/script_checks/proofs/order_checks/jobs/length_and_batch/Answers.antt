@@ -1,0 +1,12 @@
+use Rattle.std.proofs.Common.{rules}
+use Rattle.script_checks.proofs.FaultLemmas.{exits, checking}
+use Rattle.script_checks.proofs.order_checks.jobs.length_and_batch.Goals as goal
+
+pub returns-in_err-len : goal.returns-in_err-len
+returns-in_err-len c = exits _ _ c.from_residual.result _ c.from_residual.ensures.1 (search (rules, checking))
+
+pub returns-in_err-batch : goal.returns-in_err-batch
+returns-in_err-batch c = exits _ _ c.from_residual-in_err-batch.result _ c.from_residual-in_err-batch.ensures.1 (search (rules, checking))
+
+pub returns : goal.returns
+returns c = (search (rules, checking), cc (c.in_ok-len.ensures.1, c.in_ok-batch.ensures.1))

@@ -1,0 +1,9 @@
+-- promises
+pub mod Names
+pub mod Faults
+pub mod Spelling
+pub mod Checks
+-- for this crate's own contracts
+pub mod Index
+pub mod KernelIndex
+pub mod Scheduled

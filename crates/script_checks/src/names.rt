@@ -1,0 +1,178 @@
+//! The names of a script, in the order of their first making.
+
+ghost use Rattle.std.specs.Prelude.{◌≡◌, ℕ, All, ◌<◌, ◌-◌, ◌^◌, List, [], length, map, replicate, IfOk, None, IsUtf8, string_bytes};
+ghost use Rattle.script_checks.specs.Names.{Name, place_in, kind_in, with_name};
+ghost use Rattle.script_checks.specs.Index.{known_of, hash_of, bucket_of, first_for, IsIndex};
+
+use frame_ast::name_kind::NameKind;
+use job_base::NoMemory;
+use std::alloc::Global;
+use std::collections::BTreeMap;
+use std::hash::{FoldHasher, Hasher};
+use std::marker::Model;
+use std::str;
+
+/// A name, and what it stands for.
+#[derive(Clone, Copy, Drop)]
+pub struct Entry<'a> {
+    pub text: &'a [u8],
+    pub kind: NameKind,
+}
+
+// A name as text.
+fn text_of(alloc: Global, bytes: &[u8]) -> Result<String, NoMemory>
+    requires { IsUtf8 bytes.now }
+    ensures { IfOk result (λ text. string_bytes text ≡ bytes.now) }
+{
+    match str::from_utf8(bytes) {
+        Ok(text) => Ok(String::from_str(alloc, text)?),
+        Err(_) => unreachable!(),
+    }
+}
+
+// The hash by which a name is found: half of what std's hasher makes of its bytes.
+fn hash_of(text: &[u8]) -> u32
+    ensures { result ≡ hash_of text.now }
+{
+    let mut hasher = FoldHasher::default();
+    hasher.write(text);
+    (hasher.finish() >> 32) as u32
+}
+
+// The bucket of a name, where there are so many: each has as large a part of all hashes.
+fn bucket_of(count: usize, text: &[u8]) -> usize
+    requires some { 0 < count }
+    requires few { count < 2 ^ 32 }
+    ensures bucket { result ≡ bucket_of count text.now }
+    ensures within { result < count }
+{
+    ((u64::from(hash_of(text)) * count as u64) >> 32) as usize
+}
+
+// The place of the first name of a text's bucket, where the first ones have these places.
+fn first_for(firsts: &[Option<u32>], text: &[u8]) -> Option<u32>
+    requires some { 0 < length firsts.now }
+    requires few { length firsts.now < 2 ^ 32 }
+    ensures { result ≡ first_for firsts.now text.now }
+{
+    firsts[bucket_of(firsts.len(), text)]
+}
+
+// So many buckets without a name.
+fn empty_buckets(alloc: Global, count: usize) -> Result<Vec<Option<u32>>, NoMemory>
+    ensures { IfOk result (λ buckets. buckets.items ≡ replicate count None) }
+{
+    Ok(vec![in alloc; None; count]?)
+}
+
+/// The most buckets that names have.
+const MOST_BUCKETS: usize = 65_536;
+
+/// The names that are known, each with what it stands for. A name's place is its number among them.
+///
+/// They stand in buckets by their hashes. Most are the first of their bucket, and a look-up of one compares its bytes
+/// once. An enemy can make names of one bucket: all but the first of them are found in a tree, so no look-up takes more
+/// comparisons than that is deep.
+#[derive(Drop)]
+pub struct Names<'a> {
+    /// The place of the first name of each bucket.
+    firsts: Vec<Option<u32>>,
+    /// The places of the names in whose bucket an earlier name is.
+    others: BTreeMap<&'a [u8], u32>,
+    entries: Vec<Entry<'a>>,
+}
+
+impl<'a> Model for Names<'a> {
+    ghost Value = { List Name };
+
+    ghost view = { λ s. map known_of s.entries.items };
+
+    ghost invariant = { λ s. IsIndex s.firsts.items s.others s.entries.items };
+}
+
+impl<'a> Names<'a> {
+    ghost use Rattle.std.specs.Option.{option_map};
+
+    /// No names yet, in so many buckets, but at least one and at most 65,536.
+    ///
+    /// Look-ups are fast where there are about as many buckets as names.
+    pub fn new(alloc: Global, buckets: usize) -> Result<Self, NoMemory>
+        ensures { IfOk result (λ names. names ≡ []) }
+    {
+        Ok(Names {
+            firsts: empty_buckets(alloc, buckets.clamp(1, MOST_BUCKETS))?,
+            others: BTreeMap::new(alloc),
+            entries: Vec::new(alloc),
+        })
+    }
+
+    /// How many names are known.
+    pub fn len(&self) -> u32
+        ensures length { result ≡ length self.now }
+        ensures few { length self.now < 2 ^ 32 }
+    {
+        self.entries.len() as u32
+    }
+
+    // The place of a name.
+    fn place(&self, text: &[u8]) -> Option<u32>
+        ensures { result ≡ place_in self.now text.now }
+    {
+        let first = first_for(&self.firsts, text)?;
+        if self.entries[first as usize].text == text {
+            return Some(first);
+        }
+        self.others.get(text).copied()
+    }
+
+    /// The place of a name, and what it stands for.
+    pub fn get(&self, text: &[u8]) -> Option<(u32, NameKind)>
+        ensures place { option_map (λ r. r.0) result ≡ place_in self.now text.now }
+        ensures kind { option_map (λ r. r.1) result ≡ kind_in self.now text.now }
+    {
+        let place = self.place(text)?;
+        Some((place, self.entries[place as usize].kind))
+    }
+
+    /// The names as texts.
+    pub fn texts(&self, alloc: Global) -> Result<Vec<String>, NoMemory>
+        requires { All (λ name. IsUtf8 name.text) self.now }
+        ensures { IfOk result (λ texts. map string_bytes texts.items ≡ map (λ n. n.text) self.now) }
+    {
+        let mut texts = Vec::new(alloc);
+        for entry in &self.entries {
+            texts.push(text_of(alloc, entry.text)?)?;
+        }
+        Ok(texts)
+    }
+
+    /// Makes a name: where it is known already, it stays as it is.
+    pub fn make(&mut self, text: &'a [u8], kind: NameKind) -> Result<(), NoMemory>
+        requires { length self.old < 2 ^ 32 - 1 }
+        ensures { IfOk result (λ _. self.new ≡ with_name self.old text.now kind) }
+    {
+        let place = self.entries.len() as u32;
+        match first_for(&self.firsts, text) {
+            None => {
+                self.entries.push(Entry { text, kind })?;
+                let bucket = bucket_of(self.firsts.len(), text);
+                self.firsts[bucket] = Some(place);
+            }
+            Some(first) => {
+                let is_first = self.entries[first as usize].text == text;
+                if is_first {
+                    return Ok(());
+                }
+                if self.others.contains_key(text) {
+                    return Ok(());
+                }
+                self.entries.push(Entry { text, kind })?;
+                if self.others.insert(text, place).is_err() {
+                    self.entries.pop();
+                    return Err(NoMemory);
+                }
+            }
+        }
+        Ok(())
+    }
+}

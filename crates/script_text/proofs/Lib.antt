@@ -1,0 +1,4 @@
+pub mod Noted
+pub mod FileTokens
+pub mod Derivations
+pub mod Reading
