@@ -1,259 +1,193 @@
--- An accepted schedule with `defer`: its job fits, and the plan goes on with it.
-use Rattle.std.proofs.Common.{◌≡◌, ℕ, zero, suc, ◌+◌, ◌<◌, ◌≤◌, ◌^◌, Bool, true, false, ◌&&◌, ◌||◌, List, [], ◌∷◌, ◌++◌, length, map, get_or, Option, Some, None, refl, sym, ap, subst, ◌∙◌, arith}
-use Rattle.std.specs.Prelude.{slice_get, nat_eq, if◌then◌else◌}
-use Rattle.std.proofs.lemmas.List.{get_or-map}
-use Rattle.frame_ast.specs.declared.kernel.ParamKind.TheVariants.{List as ListKind}
+-- With `defer` the guarded kernel stands in for the kernel of an accepted schedule.
+use Rattle.std.proofs.Common.{◌≡◌, ℕ, ◌+◌, ◌-◌, ◌<◌, ◌≤◌, ◌^◌, true, pos, List, [], ◌∷◌, ◌++◌, Option, None, Some, refl, sym, ap, subst, ◌∙◌, arith}
+use Rattle.std.specs.Prelude.{slice_get}
+use Rattle.job_base.specs.Cells.{cell_list}
 use Rattle.frame_ast.specs.declared.kernel.Kernel.{Kernel}
 use Rattle.frame_ast.specs.declared.kernel.Param.{Param}
-use Rattle.frame_ast.specs.declared.script.Arg.{Arg}
 use Rattle.frame_ast.specs.Arguments.{length_of}
-use Rattle.frame_ast.specs.Conflicts.{Need, blocking, automatic, with_uses, uses_it, writes_it}
-use Rattle.frame_ast.specs.Contents.{Contents, words_of}
-use Rattle.frame_ast.specs.Effects.{all_broken, view_broken, steps_by}
-use Rattle.frame_ast.specs.Fitting.{is_given, is_written, ArgsFit, NameFits}
-use Rattle.frame_ast.specs.Forms.{form_of}
-use Rattle.frame_ast.specs.JobRuns.{Ran, Run, no_run, run_of, executes, deferred_steps}
-use Rattle.frame_ast.specs.Jobs.{Jobs, only, both, with_job}
-use Rattle.frame_ast.specs.Laws.{IsKnown}
-use Rattle.frame_ast.specs.Orders.{kernel_params, kernel_parallel, job_length}
-use Rattle.frame_ast.specs.Refusals.{jobs_named}
-use Rattle.frame_ast.specs.Schedules.{Given, is_list, givens, arguments_of, leave_all, widths_from}
-use Rattle.frame_ast.specs.States.{Value, ScriptState, with_at, contents_at}
-use Rattle.frame_ast.proofs.Forms.{words_by_form}
-use Rattle.kernel_exec.specs.Binds.{widths}
+use Rattle.frame_ast.specs.Conflicts.{uses_it, writes_it}
+use Rattle.frame_ast.specs.Contents.{Contents, Cells as Elements}
+use Rattle.frame_ast.specs.JobRuns.{full_steps, deferred_steps, executes}
+use Rattle.frame_ast.specs.Jobs.{Jobs}
+use Rattle.frame_ast.specs.Orders.{job_length}
+use Rattle.frame_ast.specs.Schedules.{arguments_of, writes_to, widths_from}
+use Rattle.frame_ast.specs.States.{ScriptState, container_at, contents_at}
+use Rattle.kernel_exec.specs.declared.binds.Bind.{Bind}
+use Rattle.kernel_exec.specs.Binds.{IsWordOf, widths}
+use Rattle.kernel_exec.specs.Conditions.{BindsFit}
+use Rattle.kernel_exec.specs.Laws.{at_indexes, HaveOwnParts}
+use Rattle.kernel_exec.specs.Layout.{StandFor}
 use Rattle.merge_laws.specs.Graph.{Cells}
 use Rattle.frame_core.specs.declared.plan.JobPlan.{JobPlan}
-use Rattle.frame_core.specs.declared.plan.Segment.{Segment}
 use Rattle.frame_core.specs.Ordered.{JobFits}
-use Rattle.frame_core.proofs.Small.{some_is, none_some, get_below}
-use Rattle.plan_laws.specs.Drafts.{Draft}
-use Rattle.plan_laws.specs.Enrolling.{IsEnrolled}
-use Rattle.plan_laws.specs.Leaving.{AllHeld}
-use Rattle.plan_laws.specs.Planned.{Outline, IsPlanned, Closes}
-use Rattle.plan_laws.specs.Scheduling.{script_trap}
-use Rattle.plan_laws.proofs.Leaving.{all_leave, all_hold, none_leaves}
-use Rattle.defer_laws.specs.Deferring.{Deferred, IsDeferredJob, DeferredJobsFit, DeferredSchedulesArePlanned}
-use Rattle.defer_laws.proofs.DeferredJob as at_hand
-use Rattle.defer_laws.proofs.DeferredJob.{NeedsWidths, Unrefused, IsAtHand}
-use Rattle.defer_laws.proofs.DeferredTouches as touches
-use Rattle.defer_laws.proofs.Started.{IsStarted, started_jobs_are_planned}
-use Rattle.defer_laws.proofs.StepRuns.{steps_on_contents}
-use Rattle.defer_laws.proofs.Uses.{used_are, written_are, given_below, written_given, read_free, write_free, unblocked, deps_up}
-
--- ---- small lemmas
-
-get_is : {A : Type 0} (xs : List A) (i : ℕ) (z d : A) → slice_get xs i ≡ Some z → get_or xs i d ≡ z
-get_is [] i z d e = absurd (none_some e)
-get_is (x ∷ xs) zero z d e = some_is e
-get_is (x ∷ xs) (suc i) z d e = get_is xs i z d e
+use Rattle.frame_core.specs.Touched.{IsBound, IsBoundToWrite}
+use Rattle.frame_core.proofs.Small.{not_both, get_below}
+use Rattle.plan_laws.specs.Accepting.{Schedule, deps_of, argument_binds, indexes_of, needs_of, IsPlannedJob, StandsIn}
+use Rattle.plan_laws.specs.Binds.{bind_of_container, start_at}
+use Rattle.plan_laws.specs.Drafts.{Draft, cells_of}
+use Rattle.plan_laws.specs.Enrolling.{IsOfArgument}
+use Rattle.plan_laws.specs.Planned.{Outline}
+use Rattle.plan_laws.proofs.AtHand as at_hand
+use Rattle.plan_laws.proofs.AtHand.{IsAtHand}
+use Rattle.plan_laws.proofs.LeftWords.{argument_word, any_by, writes_by}
+use Rattle.plan_laws.proofs.Owners.{word_has}
+use Rattle.plan_laws.proofs.Uses.{argument_used, argument_written, list_used}
+use Rattle.defer_laws.specs.Deferring.{capacity_of, guarded_kernel, Guards, GuardedKernelsStandIn}
+use Rattle.defer_laws.specs.GuardedRuns.{word_at}
+use Rattle.defer_laws.proofs.GuardFitting as guard
+use Rattle.defer_laws.proofs.GuardedRuns.{guarded_indexes_run_alike}
+use Rattle.defer_laws.proofs.Lengths as lengths
 
 -- its length is that of the list, whatever else is there
 deferred_length : (s : ScriptState) (cut : Option (ℕ × ℕ)) (defer : ℕ × ℕ) → job_length s cut (Some defer) ≡ length_of (contents_at s defer.0)
 deferred_length s None defer = refl
 deferred_length s (Some c) defer = refl
 
--- view numbers alone are changed for the lists that may be written
-module _ (s : ScriptState) where
-  abbrev with_views : (ℕ → Contents) → (ℕ → ℕ) → ScriptState
-  with_views K v = record s { contents = K; view = v }
+module _ (x : Outline) (s : ScriptState) (defer : ℕ × ℕ) (old new : Kernel) (d : Draft) (guards : Guards old new) where
+  -- with `defer`
+  module _ (o : Schedule) (is : IsAtHand x s (record o { defer = Some defer }) d (Some old)) where
+    abbrev deferred : Schedule
+    deferred = record o { defer = Some defer }
 
-  abbrev broken : List Given → (ℕ → ℕ) → ℕ → ℕ
-  broken [] v = v
-  broken (g ∷ more) v = broken more (if is_list g.kind && g.need.writes then with_at v g.need.container (v g.need.container + 1) else v)
+    abbrev ps : List Param
+    ps = old.params.items
 
-  broken_are : (gs : List Given) (K : ℕ → Contents) (v : ℕ → ℕ) → all_broken gs (with_views K v) ≡ with_views K (broken gs v)
-  broken_are [] K v = refl
-  broken_are (g ∷ more) K v = by (broken_are more K) (is_list g.kind && g.need.writes)
-    where
-      by : ((v : ℕ → ℕ) → all_broken more (with_views K v) ≡ with_views K (broken more v)) → (b : Bool)
-          → all_broken more (if b then view_broken g.need.container (with_views K v) else with_views K v)
-          ≡ with_views K (broken more (if b then with_at v g.need.container (v g.need.container + 1) else v))
-      by rest true = rest (with_at v g.need.container (v g.need.container + 1))
-      by rest false = rest v
+    abbrev ws : List ℕ
+    ws = widths_from old.parallel o.waive 0 ps
 
--- ---- the statement, with its kernel and its run at hand
+    abbrev binds : List Bind
+    binds = argument_binds x.starts s o old
 
-abbrev deps_with : ScriptState → Deferred → Option Kernel → Jobs
-deps_with s o k =
-    let named = jobs_named s o.after in
-    let needs = map (λ v. v.need) (givens s (kernel_params k) o.args (Some o.defer)) in
-    if o.auto then both named (automatic s.book s.uses named needs) else named
+    abbrev start : ℕ
+    start = start_at x.starts s defer.0
 
-abbrev accepted_with : ScriptState → Deferred → Option Kernel → Run → ScriptState
-accepted_with s o k run =
-    let params = kernel_params k in
-    let gs = givens s params o.args (Some o.defer) in
-    let needs = map (λ v. v.need) gs in
-    let job = s.book.count + 1 in
-    let ran = run (widths_from (kernel_parallel k) o.waive 0 params) (steps_by (Some o.defer)) (job_length s o.cut (Some o.defer))
-    (arguments_of s params o.args) in
-    let left = all_broken gs (leave_all params o.args ran.store s) in
-    record left {
-      values = with_at s.values o.handle (Value.Handle (only job));
-      uses = with_uses s.uses job needs;
-      book = with_job s.book (deps_with s o k);
-      traps = s.traps ++ map (λ t. record { job = job; index = t.0; trap = t.1 }) ran.traps;
+    abbrev all : List Bind
+    all = binds ++ word_at start ∷ []
+
+    abbrev before : Cells
+    before = cells_of x.plan d
+
+    abbrev c : ℕ
+    c = container_at s defer.0
+
+    abbrev len : ℕ
+    len = length_of (contents_at s defer.0)
+
+    abbrev cap : ℕ
+    cap = capacity_of (contents_at s defer.0)
+
+    old_fit : BindsFit old binds
+    old_fit = at_hand.binds_fit x s deferred old d is
+
+    length_within : start + 1 ≤ x.plan.cells
+    length_within = lengths.length_within x s o defer old d is
+
+    new_fit : BindsFit new all
+    new_fit = guard.binds_fit old new guards.guarded binds start old_fit (lengths.length_only x s o defer old d is) (let le = length_within in omega arith)
+
+    -- ---- its job fits the guarded kernel
+
+    job_fits : (deps : Jobs) (job : JobPlan) → IsPlannedJob x d deferred (guarded_kernel x.starts s deferred defer.0 old new) deps job → JobFits x.plan job new
+    job_fits deps job pj = record {
+      binds = subst (BindsFit new) (sym pj.binds) new_fit;
+      within = λ y b h. guard.binds_within old new guards.guarded binds start x.plan.cells (at_hand.within x s deferred old d is) length_within y b
+          (ap (λ bs. slice_get bs y) (sym pj.binds) ∙ h);
+      widths = record {
+        waived = o.waive;
+        widths_are = ap widths pj.binds
+            ∙ guard.binds_have_widths old new guards.guarded binds start o.waive is.deferrable (at_hand.widths_are x s deferred old d is);
+      };
+      cut = pj.cut;
+      one = pj.one;
+      deps = pj.known_deps;
+      is_parallel = λ h. (pj.parallel h).0;
+      parts = λ h. subst (HaveOwnParts new) (sym pj.binds) (guard.own_parts old new guards.guarded binds start old_fit.count
+          (at_hand.own_parts x s deferred old d is is.deferrable (pj.parallel h).1));
     }
 
-module _ (x : Outline) (s : ScriptState) (o : Deferred) (old new : Kernel) (d : Draft) (job : JobPlan) where
-  abbrev ps : List Param
-  ps = old.params.items
+    -- ---- it does what the old kernel does
 
-  abbrev gs : List Given
-  gs = givens s ps o.args (Some o.defer)
+    alike : at_indexes new all full_steps cap 0 before ≡ at_indexes old binds deferred_steps (indexes_of s deferred old) 0 before
+    alike =
+        let held = lengths.is_held x s o defer old d is in
+        let le = held.1 in
+        let count : cap ≡ len + (cap - len) = omega arith in
+        let long = deferred_length s o.cut defer in
+        ap (λ n. at_indexes new all full_steps n 0 before) count
+        ∙ guarded_indexes_run_alike old new binds start len (cap - len) before guards.words guards.checked old_fit
+        (lengths.length_unwritten x s o defer old d is) held.0
+        ∙ (λ i. at_indexes old binds deferred_steps (executes (sym is.deferrable i) (sym long i)) 0 before)
 
-  abbrev needs : List Need
-  needs = map (λ v. v.need) gs
+    stand : StandFor all before (arguments_of s ps o.args ++ Elements (cell_list before start 1) ∷ [])
+    stand = guard.stand_more binds (word_at start) before (arguments_of s ps o.args) (Elements (cell_list before start 1))
+        (at_hand.stand x s deferred old d is) refl
 
-  abbrev deps : Jobs
-  deps = deps_with s o (Some old)
+    -- ---- a word of a bind is one of an argument's container, or the length
 
-  one_more : s.book.count + 1 ≡ suc s.book.count
-  one_more = omega arith
+    of_bound : (w : ℕ) → IsBound new.params.items all w → IsOfArgument x s (uses_it (needs_of s deferred old)) w
+    of_bound w b = guard.by_end (λ z. IsWordOf z w → IsOfArgument x s (uses_it (needs_of s deferred old)) w) binds (word_at start) b.number b.bind b.has_bind
+        (λ lt at word.
+        let r = at_hand.bind_here x s deferred old d is b.number b.bind at in
+        let a = argument_word x.starts s ps ws o.args b.number w b.bind (at_hand.all_fit x s deferred old d is) at word in
+        record {
+          container = container_at s a.name;
+          below = a.below;
+          alive = a.alive;
+          is_of = argument_used s (Some defer) ps o.args (container_at s a.name)
+              (any_by s ps o.args b.number a.name (container_at s a.name) r.param r.has_param a.has refl);
+          word = word_has x.starts s (container_at s a.name) w a.word;
+        })
+        (λ end word.
+        let lo = word.from in
+        let hi = word.below in
+        let at : w ≡ start = omega arith in
+        record {
+          container = c;
+          below = is.list_fits.made;
+          alive = is.list_fits.alive;
+          is_of = list_used s ps o.args defer;
+          word = word_has x.starts s c w (subst (IsWordOf (bind_of_container x.starts s c)) (sym at) (lengths.length_word x s o defer old d is));
+        })
+        b.word
 
-  -- what a run makes of the state
-  abbrev state_of : Ran (List Contents) → ScriptState → ScriptState
-  state_of r left = record left {
-    values = with_at s.values o.handle (Value.Handle (only (s.book.count + 1)));
-    uses = with_uses s.uses (s.book.count + 1) needs;
-    book = with_job s.book deps;
-    traps = s.traps ++ map (script_trap (s.book.count + 1)) r.traps;
-  }
+    of_written : (w : ℕ) → IsBoundToWrite new.params.items all w → IsOfArgument x s (writes_it (needs_of s deferred old)) w
+    of_written w b =
+        let p = guard.old_param old new guards.guarded binds start b.bound.number b.bound.param b.bound.has_param b.writes in
+        let few = get_below ps b.bound.number p.0 p.1 in
+        let count = old_fit.count in
+        guard.by_end (λ z. IsWordOf z w → IsOfArgument x s (writes_it (needs_of s deferred old)) w) binds (word_at start) b.bound.number b.bound.bind
+        b.bound.has_bind
+        (λ lt at word.
+        let a = argument_word x.starts s ps ws o.args b.bound.number w b.bound.bind (at_hand.all_fit x s deferred old d is) at word in
+        record {
+          container = container_at s a.name;
+          below = a.below;
+          alive = a.alive;
+          is_of = argument_written s (Some defer) ps o.args (container_at s a.name)
+              (writes_by s ps o.args b.bound.number a.name (container_at s a.name) p.0 p.1 a.has refl (ap writes_to p.2.access ∙ b.writes));
+          word = word_has x.starts s (container_at s a.name) w a.word;
+        })
+        (λ end word. absurd (omega arith))
+        b.bound.word
 
-  abbrev t : ScriptState
-  t = accepted_with s o (Some old) (run_of old)
+  module _ (deps : Jobs) (job : JobPlan) where
+    abbrev StandIn : Schedule → Type 0
+    StandIn o = IsAtHand x s o d (Some old) → IsPlannedJob x d o (guarded_kernel x.starts s o defer.0 old new) deps job
+        → StandsIn x s d o old (guarded_kernel x.starts s o defer.0 old new) job
 
-  module _ (is : IsAtHand x s o old new d deps job) where
-    abbrev ran : Ran (List Contents)
-    ran = at_hand.ran x s o old new d deps job is
+    stands : (o : Schedule) → StandIn (record o { defer = Some defer })
+    stands o is pj = record {
+      fits = job_fits o is deps job pj;
+      checked = guards.checked;
+      alike = alike o is;
+      contents = arguments_of s old.params.items o.args ++ Elements (cell_list (cells_of x.plan d) (start_at x.starts s defer.0) 1) ∷ [];
+      stand = stand o is;
+      bound = of_bound o is;
+      bound_to_write = of_written o is;
+    }
 
-    abbrev after : Cells
-    after = at_hand.after x s o old new d deps job is
-
-    abbrev params : List Param
-    params = touches.params x s o old new d deps job is
-
-    abbrev args : List Arg
-    args = touches.args x s o old new d deps job is
-
-    ran_is : run_of old (widths_from old.parallel o.waive 0 ps) (steps_by (Some o.defer)) (job_length s o.cut (Some o.defer)) (arguments_of s ps o.args) ≡ ran
-    ran_is =
-        let len_is = deferred_length s o.cut o.defer in
-        λ i. steps_on_contents old (widths_from old.parallel o.waive 0 ps) deferred_steps (executes (is.parallel i) (len_is i)) 0 (arguments_of s ps o.args)
-
-    abbrev left : ℕ → Contents
-    left = all_leave x.starts s ps o.args ran.store s.contents
-
-    abbrev u : ScriptState
-    u = state_of ran (with_views s left (broken s gs s.view))
-
-    u_is : t ≡ u
-    u_is =
-        ap (λ (r : Ran (List Contents)). state_of r (all_broken gs (leave_all ps o.args r.store s))) ran_is
-        ∙ ap (state_of ran) (ap (all_broken gs) (all_hold x.starts s ps o.args ran.store s.contents) ∙ broken_are s gs left s.view)
-
-    sizes : ((c : ℕ) → c < s.made → form_of (t.contents c) ≡ form_of (s.contents c)) → (c : ℕ) → words_of (u.contents c) ≡ words_of (s.contents c)
-    sizes forms c = by (is_written s ps o.args c) refl
-      where
-        by : (b : Bool) → is_written s ps o.args c ≡ b → words_of (u.contents c) ≡ words_of (s.contents c)
-        by true h =
-            ap (λ (t : ScriptState). words_of (t.contents c)) (sym u_is) ∙ sym (words_by_form (t.contents c))
-            ∙ ap words_of (forms c (given_below s (Some o.defer) ps o.args c is.args_fit (written_given s ps o.args c h)).0) ∙ words_by_form (s.contents c)
-        by false h = ap words_of (none_leaves x.starts s ps o.args ran.store s.contents c h)
-
-    given_is : (c : ℕ) → uses_it needs c ≡ is_given s params args c
-    given_is c = used_are s ps o.args o.defer c ∙ sym (touches.is_given_now x s o old new d deps job is c)
-
-    written_is : (c : ℕ) → writes_it needs c ≡ is_written s params args c
-    written_is c = written_are s ps o.args o.defer c ∙ sym (touches.is_written_now x s o old new d deps job is c)
-
-    module _ (known : IsKnown s) (forms : (c : ℕ) → c < s.made → form_of (t.contents c) ≡ form_of (s.contents c)) where
-      free : (j : ℕ) → 0 < j → j ≤ s.book.count → blocking s.book s.uses deps needs j ≡ false
-      free = unblocked s known o.auto old.parallel gs o.after is.unrefused
-
-      enrolled : IsEnrolled x s u (length d.jobs) job params args deps
-      enrolled = record {
-        has = at_hand.has_job x s o old new d deps job is;
-        made = refl;
-        alive = refl;
-        range = refl;
-        words = sizes forms;
-        book = refl;
-        users = λ c j. (let used = given_is c in λ i. (s.uses c).users j || (nat_eq j (one_more i) && used i));
-        writers = λ c j. (let written = written_is c in λ i. (s.uses c).writers j || (nat_eq j (one_more i) && written i));
-        deps_up = deps_up s known o.auto old.parallel gs o.after;
-        deps_are = is.planned.deps_are;
-        used_alive = touches.given_alive x s o old new d deps job is;
-        readers = λ c j given w. let up = (known.uses c).users j ((known.uses c).writers j w) in
-            read_free s deps c j needs (given_is c ∙ given) w (free j up.0 up.1);
-        writers_too = λ c j given w. let up = (known.uses c).users j w in write_free s deps c j needs (written_is c ∙ given) w (free j up.0 up.1);
-        reads = touches.reads_are x s o old new d deps job is;
-        writes = touches.writes_are x s o old new d deps job is;
-      }
-
-      held : AllHeld x.starts u after
-      held = λ c below alive. subst (λ t. AllHeld x.starts t after) (all_hold x.starts s ps o.args ran.store s.contents)
-          (at_hand.left_held x s o old new d deps job is) c below alive
-
-      started : IsStarted x s u d job new params args deps ran.traps
-      started = record {
-        jobs_later = is.planned.jobs_later;
-        jobs_are = is.planned.jobs_are;
-        has_kernel = is.planned.has_kernel;
-        checked = is.planned.checked;
-        fits = at_hand.job_fits x s o old new d deps job is;
-        first = is.planned.first;
-        enrolled = enrolled;
-        held = held;
-        stand = at_hand.parts_stand x s o old new d deps job is;
-        traps_are = at_hand.traps_are x s o old new d deps job is;
-        lines = refl;
-        refused = refl;
-        traps_more = λ i. s.traps ++ map (script_trap (one_more i)) ran.traps;
-      }
-
-  -- ---- what is asked of the kernel and of the run
-
-  module _ (small : x.plan.cells < 2 ^ 32) (was : IsPlanned x s d) where
-    abbrev Fits : Option Kernel → Type 0
-    Fits ok = kernel_parallel ok ≡ true → Unrefused s o ok → ArgsFit s (Some o.defer) (kernel_params ok) o.args → NameFits s true ListKind o.defer.0
-        → NeedsWidths o ok
-        → IsDeferredJob x s d o old new (deps_with s o ok) job → JobFits x.plan job new
-
-    all_at_hand : old.parallel ≡ true → Unrefused s o (Some old) → ArgsFit s (Some o.defer) ps o.args → NameFits s true ListKind o.defer.0
-        → NeedsWidths o (Some old) → IsDeferredJob x s d o old new deps job
-        → IsAtHand x s o old new d deps job
-    all_at_hand parallel unrefused fit list widths planned =
-        record { small = small; was = was; parallel = parallel; unrefused = unrefused; args_fit = fit; list_fits = list; widths = widths; planned = planned }
-
-    fits : Fits (Some old)
-    fits parallel unrefused fit list widths planned = at_hand.job_fits x s o old new d deps job (all_at_hand parallel unrefused fit list widths planned)
-
-    module _ (e : Draft) (segment : Segment) (known : IsKnown s) (starts : segment.starts ≡ Some (record { 0 = suc (length d.jobs) }))
-        (closes : Closes d e segment (job ∷ []) []) where
-      abbrev Goes : Option Kernel → Run → Type 0
-      Goes ok run = kernel_parallel ok ≡ true → Unrefused s o ok → ArgsFit s (Some o.defer) (kernel_params ok) o.args → NameFits s true ListKind o.defer.0
-          → NeedsWidths o ok
-          → ((c : ℕ) → c < s.made → form_of ((accepted_with s o ok run).contents c) ≡ form_of (s.contents c))
-          → IsDeferredJob x s d o old new (deps_with s o ok) job → IsPlanned x (accepted_with s o ok run) e
-
-      goes : Goes (Some old) (run_of old)
-      goes parallel unrefused fit list widths forms planned =
-          let is = all_at_hand parallel unrefused fit list widths planned in
-          subst (λ t. IsPlanned x t e) (sym (u_is is))
-          (started_jobs_are_planned x small s (u is) d e segment job new (params is) (args is) deps (ran is).traps known was
-          (started is known forms) starts closes)
-
-pub deferred_jobs_fit : DeferredJobsFit
-deferred_jobs_fit x g s o old new d job small was a has pj =
-    subst (Fits x s o old new d job small was) (sym has) (fits x s o old new d job small was) a.parallel a.unrefused a.args_fit a.list_fits a.widths pj
-
-pub deferred_schedules_are_planned : DeferredSchedulesArePlanned
-deferred_schedules_are_planned x g s o old new d e segment job small known was a has pj starts closes =
-    let run_is : run_of old ≡ get_or g.runs o.kernel no_run =
-    sym (ap (λ rs. get_or rs o.kernel no_run) a.runs ∙ get_or-map run_of g.kernels o.kernel old no_run (get_below g.kernels o.kernel old has)
-    ∙ ap run_of (get_is g.kernels o.kernel old old has)) in
-    subst (λ ok. Goes x s o old new d job small was e segment known starts closes ok (get_or g.runs o.kernel no_run)) (sym has)
-    (subst (Goes x s o old new d job small was e segment known starts closes (Some old)) run_is
-    (goes x s o old new d job small was e segment known starts closes))
-    a.parallel a.unrefused a.args_fit a.list_fits a.widths a.forms pj
+pub guarded_kernels_stand_in : GuardedKernelsStandIn
+guarded_kernels_stand_in x g s o defer old new d job small was a deferred has guards pj =
+    let same : record o { defer = Some defer } ≡ o = λ i. record o { defer = sym deferred i } in
+    subst (StandIn x s defer old new d guards (deps_of g s o) job) same (stands x s defer old new d guards (deps_of g s o) job o)
+    (at_hand.at_hand x g s o old d small was a has) pj

@@ -25,15 +25,17 @@ use Rattle.kernel_exec.specs.Layout.{Holds}
 use Rattle.kernel_exec.proofs.Rights.{uses_word}
 use Rattle.merge_laws.specs.Graph.{Cells}
 use Rattle.frame_core.proofs.Small.{some_is, none_some, or_false_left, or_false_right}
+use Rattle.plan_laws.specs.Accepting.{Schedule, argument_binds}
 use Rattle.plan_laws.specs.Binds.{bind_of, bind_as, bind_by, array_for, start_at}
 use Rattle.plan_laws.specs.Drafts.{Draft, cells_of}
 use Rattle.plan_laws.specs.Planned.{Outline, jobs_before, IsPlanned}
+use Rattle.plan_laws.proofs.AtHand as at_hand
+use Rattle.plan_laws.proofs.AtHand.{IsAtHand}
 use Rattle.plan_laws.proofs.LeftWords.{argument_word}
 use Rattle.plan_laws.proofs.Making.{alive_is_live}
 use Rattle.plan_laws.proofs.Owners.{words_apart, word_has}
 use Rattle.defer_laws.specs.Deferring.{capacity_of}
-use Rattle.defer_laws.proofs.ArgumentBinds.{binds, all_fit, bind_here}
-use Rattle.defer_laws.proofs.StepRuns.{written_use, no_length}
+use Rattle.plan_laws.proofs.LeftWords.{written_use, no_length}
 
 -- ---- a list
 
@@ -116,10 +118,12 @@ is_array_kind RefKind e = absurd cc
 is_array_kind MapKind e = absurd cc
 is_array_kind StreamKind e = absurd cc
 
-module _ (x : Outline) (small : x.plan.cells < 2 ^ 32) (s : ScriptState) (d : Draft) (was : IsPlanned x s d) (k : Kernel) (waive : List ℕ) (args : List Arg)
-    (defer : ℕ × ℕ)
-    (fits : fit.ArgsFit s (Some defer) k.params.items args) (un : AreUnshared s k.params.items args) (list : NameFits s true ListKind defer.0)
-    (no_alias : first_alias [] (givens s k.params.items args (Some defer)) ≡ None) where
+-- a schedule that has the length of the list
+module _ (x : Outline) (s : ScriptState) (o : Schedule) (defer : ℕ × ℕ) (k : Kernel) (d : Draft)
+    (is : IsAtHand x s (record o { defer = Some defer }) d (Some k)) where
+  abbrev deferred : Schedule
+  deferred = record o { defer = Some defer }
+
   abbrev c : ℕ
   c = container_at s defer.0
 
@@ -127,17 +131,17 @@ module _ (x : Outline) (small : x.plan.cells < 2 ^ 32) (s : ScriptState) (d : Dr
   start = start_at x.starts s defer.0
 
   is_list : kind_of (contents_at s defer.0) ≡ kind.List
-  is_list = whole_is_list s (s.values defer.0) list.value
+  is_list = whole_is_list s (s.values defer.0) is.list_fits.value
 
   pub is_held : (cells_of x.plan d start ≡ pos (length_of (contents_at s defer.0))) × (length_of (contents_at s defer.0) ≤ capacity_of (contents_at s defer.0))
-  is_held = list_held (cells_of x.plan d) start (contents_at s defer.0) is_list (was.standing.contents c list.made list.alive)
+  is_held = list_held (cells_of x.plan d) start (contents_at s defer.0) is_list (is.was.standing.contents c is.list_fits.made is.list_fits.alive)
 
   pub length_word : IsWordOf (bind_of start (contents_at s defer.0)) start
   length_word = list_word start (contents_at s defer.0) is_list
 
   pub length_within : start + 1 ≤ x.plan.cells
   length_within =
-      let le = was.standing.within c (alive_is_live s c list.made list.alive) in
+      let le = is.was.standing.within c (alive_is_live s c is.list_fits.made is.list_fits.alive) in
       let lt = length_word.below in
       omega arith
 
@@ -146,15 +150,15 @@ module _ (x : Outline) (small : x.plan.cells < 2 ^ 32) (s : ScriptState) (d : Dr
 
   -- an argument that is written has the length word as the length of a view alone
   pub length_only : (y : ℕ) (p : Param) (b : Bind) → slice_get k.params.items y ≡ Some p → writes_to p.access ≡ true
-      → slice_get (binds x small s d was k waive args (Some defer) fits un) y ≡ Some b → IsWordOf b start → IsLength b start
+      → slice_get (argument_binds x.starts s o k) y ≡ Some b → IsWordOf b start → IsLength b start
   length_only y p b hp writes hb word =
-      let r = bind_here x small s d was k waive args (Some defer) fits un y b hb in
-      let a = argument_word x.starts s k.params.items _ args y start b (all_fit x small s d was k waive args (Some defer) fits un) hb word in
-      let same : container_at s a.name ≡ c = words_apart x.plan x.starts (jobs_before x) (length d.jobs) s was.ordered.ledger (container_at s a.name) c start
-      (alive_is_live s (container_at s a.name) a.below a.alive) (alive_is_live s c list.made list.alive)
+      let r = at_hand.bind_here x s deferred k d is y b hb in
+      let a = argument_word x.starts s k.params.items _ o.args y start b (at_hand.all_fit x s deferred k d is) hb word in
+      let same : container_at s a.name ≡ c = words_apart x.plan x.starts (jobs_before x) (length d.jobs) s is.was.ordered.ledger (container_at s a.name) c start
+      (alive_is_live s (container_at s a.name) a.below a.alive) (alive_is_live s c is.list_fits.made is.list_fits.alive)
       (word_has x.starts s (container_at s a.name) start a.word) (word_has x.starts s c start length_word) in
-      let apart = fails_at s (λ g. alias g length_given) k.params.items args y a.name p
-      (no_alias_before [] (given_args s k.params.items args) length_given no_alias) hp a.has in
+      let apart = fails_at s (λ g. alias g length_given) k.params.items o.args y a.name p
+      (no_alias_before [] (given_args s k.params.items o.args) length_given (at_hand.no_alias x s deferred k d is)) hp a.has in
       let both = same_list (nat_eq (container_at s a.name) c) (writes_to p.access) (is_array p.kind) (nat_eq a.name defer.0)
       (eq-eqb (container_at s a.name) c same) writes apart in
       let arg_is : r.arg ≡ Name defer.0 = some_is (sym r.has_arg ∙ a.has) ∙ ap Name (eqb-true a.name defer.0 both.1) in
@@ -162,10 +166,10 @@ module _ (x : Outline) (small : x.plan.cells < 2 ^ 32) (s : ScriptState) (d : Dr
       subst (λ b. IsLength b start) r.is
       (subst (λ a. IsLength (bind_by x.starts s r.param r.width a) start) (sym arg_is)
       (subst (λ q. IsLength (bind_as q r.width (s.values defer.0) start (contents_at s defer.0)) start) (sym kind_is)
-      (view_length s r.width start (s.values defer.0) (contents_at s defer.0) list.value is_list)))
+      (view_length s r.width start (s.values defer.0) (contents_at s defer.0) is.list_fits.value is_list)))
 
   -- so the old kernel doesn't write it
-  pub length_unwritten : (from to : ℕ) → IsWritten k.params.items (binds x small s d was k waive args (Some defer) fits un) from to start → ⊥
+  pub length_unwritten : (from to : ℕ) → IsWritten k.params.items (argument_binds x.starts s o k) from to start → ⊥
   length_unwritten from to u =
       let v = written_use u.param u.bind from to start u.writes in
       no_length u.bind from to start v.1 (length_only u.number u.param u.bind u.has_param v.0 u.has_bind (uses_word u.bind from to start v.1))

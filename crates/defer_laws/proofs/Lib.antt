@@ -1,11 +1,4 @@
 pub mod GuardedRuns
-pub mod StepRuns
-pub mod ArgumentBinds
 pub mod Lengths
 pub mod GuardFitting
-pub mod Uses
-pub mod Started
-pub mod DeferredJob
-pub mod DeferredTouches
 pub mod Deferring
-pub mod DeferTexts

@@ -1,22 +1,10 @@
 //! Laws over the definitions. A function here does nothing: its contract is the law.
-ghost use Rattle.defer_laws.specs.DeferTexts.{DeferredSchedulesAreAccepted};
-ghost use Rattle.defer_laws.specs.Deferring.{DeferredJobsFit, DeferredSchedulesArePlanned};
+ghost use Rattle.defer_laws.specs.Deferring.{GuardedKernelsStandIn};
 ghost use Rattle.defer_laws.specs.GuardedRuns.{GuardedIndexesRunAlike};
 
-/// What an accepted script says of a schedule with `defer` that isn't refused, read from its text.
-pub fn deferred_schedules_are_accepted()
-    ensures { DeferredSchedulesAreAccepted }
-{}
-
-/// The job that is planned for it fits the guarded kernel.
-pub fn deferred_jobs_fit()
-    ensures { DeferredJobsFit }
-{}
-
-/// It starts a job, which runs in pieces at every index that the list can have as the language runs it whole for the
-/// list's length.
-pub fn deferred_schedules_are_planned()
-    ensures { DeferredSchedulesArePlanned }
+/// The guarded kernel, at every index that the list can have, stands in for the kernel of a schedule with `defer`.
+pub fn guarded_kernels_stand_in()
+    ensures { GuardedKernelsStandIn }
 {}
 
 // A STEP

@@ -1,4 +1,4 @@
-//! Why a plan does what its script says where the length of a job is deferred: the laws that a planner stands on beside
+//! Why a plan does what its script says where the length of a job is deferred: the law that a planner stands on beside
 //! those of plan_laws. There is no code here: each function is a law, which does nothing, and its contract says the law
 //! over the definitions in `specs/`.
 //!
@@ -7,8 +7,8 @@
 //! an index for each element that the list can have. Its last array is the word in which the list keeps its length.
 //!
 //! `specs/GuardedRuns` says that such a job does at all its indexes what the old kernel does at those below the length.
-//! `specs/Deferring` says that a plan goes on with it as the script does, and `specs/DeferTexts` that what this asks of
-//! the language holds of each schedule with `defer` of an accepted script that isn't refused.
+//! `specs/Deferring` says that so the guarded kernel stands in for the schedule's own, which is what plan_laws asks of
+//! the kernel of any schedule.
 //!
 //! That a planner makes such a job isn't said here, nor which kernels have a guarded one.
 #![tactic(auto)]

@@ -1,5 +1,6 @@
--- Binding arguments: what a job is given is what the laws of planning ask, and a copy of its kernel asks the same.
-use Rattle.std.proofs.Common.{◌≡◌, ⊎_elim, ℕ, zero, suc, ◌+◌, Bool, false, List, [], ◌∷◌, length, Some, None, refl, sym, ap, subst, ◌∙◌}
+-- Binding arguments: what a job is given is what the laws of planning ask, where the list after `defer` may be given as an
+-- array. A copy of its kernel asks the same.
+use Rattle.std.proofs.Common.{◌≡◌, ◌⊎◌, ⊎_elim, ℕ, zero, suc, ◌+◌, ◌<◌, Bool, true, false, List, [], ◌∷◌, length, Option, Some, None, refl, sym, ap, subst, ◌∙◌}
 use Rattle.std.specs.Prelude.{slice_get}
 use Rattle.frame_ast.specs.declared.kernel.Param.{Param}
 use Rattle.frame_ast.specs.declared.kernel.ParamKind.{ParamKind}
@@ -8,6 +9,7 @@ use Rattle.frame_ast.specs.declared.name_kind.NameKind.{NameKind}
 use Rattle.frame_ast.specs.declared.name_kind.NameKind.TheVariants as kind
 use Rattle.frame_ast.specs.declared.script.Arg.{Arg}
 use Rattle.frame_ast.specs.declared.script.Arg.TheVariants.{Name, Number}
+use Rattle.frame_ast.specs.Accepted.{is_deferred}
 use Rattle.frame_ast.specs.Contents.{Contents, Cells as Elements, Single, Items, Pairs, Entries}
 use Rattle.frame_ast.specs.Fitting.{FitsKind, NameFits, ArgFits, ArgsFit}
 use Rattle.frame_ast.specs.Kinds.{kind_of}
@@ -15,7 +17,7 @@ use Rattle.frame_ast.specs.Orders.{Setting}
 use Rattle.frame_ast.specs.Schedules.{width_at, widths_from}
 use Rattle.frame_ast.specs.States as states
 use Rattle.frame_ast.specs.States.{ScriptState, container_at, container_of, contents_at}
-use Rattle.frame_core.proofs.Small.{not_both, some_is, none_some}
+use Rattle.frame_core.proofs.Small.{some_is, none_some}
 use Rattle.plan_laws.specs.Binds.{bind_of, bind_for, bind_as, array_for, stream_of, start_at, bind_by, binds_by}
 use Rattle.plan_laws.specs.Planned.{Outline}
 use Rattle.plan_laws.specs.Printing.{FitsContents, IsUsable}
@@ -23,14 +25,15 @@ use Rattle.tree_laws.specs.Same.{SameParam, Pairwise}
 use Rattle.frame_plan.specs.declared.state.Planner.{Planner}
 use Rattle.frame_plan.specs.JobBinds.{as_array, as_stream, as_kind, bind_of_value, job_bind, job_binds}
 use Rattle.frame_plan.specs.Stands.{Agrees, Stands}
+use Rattle.frame_plan.specs.Uses.{IsNameBelow}
 use Rattle.frame_plan.proofs.Binding.{binds_at}
 use Rattle.frame_plan.proofs.Meaning.{some_at}
 use Rattle.frame_plan.proofs.ScheduleText.{EachBelow}
 
 -- ---- a value that fits a parameter
 
-module _ (s : ScriptState) where
-  pub fits_contents : (k : ParamKind) (v : states.Value) → FitsKind s false k v → FitsContents v (s.contents (container_of v))
+module _ (s : ScriptState) (d : Bool) where
+  fits_contents : (k : ParamKind) (v : states.Value) → FitsKind s d k v → FitsContents v (s.contents (container_of v))
   fits_contents IntKind v h = absurd h
   fits_contents ArrayKind states.Dead h = absurd h
   fits_contents ArrayKind (states.Whole c) h = tt
@@ -60,14 +63,15 @@ module _ (s : ScriptState) where
 
   -- as an array, and as a whole container
 
-  whole_array : (width start : ℕ) (c : Contents) → kind_of c ≡ kind.Array → as_array width (bind_of start c) ≡ array_for width (states.Whole 0) start c
-  whole_array width start (Elements xs) h = refl
-  whole_array width start (Single z) h = absurd cc
-  whole_array width start (Items cap xs) h = refl
-  whole_array width start (Pairs cap ps) h = refl
-  whole_array width start (Entries room es) h = absurd cc
+  whole_elements : (width start : ℕ) (c : Contents) → (kind_of c ≡ kind.Array) ⊎ ((d ≡ true) × (kind_of c ≡ kind.List))
+      → as_array width (bind_of start c) ≡ array_for width (states.Whole 0) start c
+  whole_elements width start (Elements xs) h = refl
+  whole_elements width start (Single z) h = ⊎_elim (λ e. absurd cc) (λ (u : (d ≡ true) × (kind.Reference ≡ kind.List)). let e = u.1 in absurd cc) h
+  whole_elements width start (Items cap xs) h = refl
+  whole_elements width start (Pairs cap ps) h = refl
+  whole_elements width start (Entries room es) h = ⊎_elim (λ e. absurd cc) (λ (u : (d ≡ true) × (kind.Stream ≡ kind.List)). let e = u.1 in absurd cc) h
 
-  pub view_array : (width start number c : ℕ) (k : Contents) → kind_of k ≡ kind.List
+  view_array : (width start number c : ℕ) (k : Contents) → kind_of k ≡ kind.List
       → as_array width (bind_for (states.View c number) start k) ≡ array_for width (states.View c number) start k
   view_array width start number c (Elements xs) h = refl
   view_array width start number c (Single z) h = absurd cc
@@ -75,10 +79,10 @@ module _ (s : ScriptState) where
   view_array width start number c (Pairs cap ps) h = refl
   view_array width start number c (Entries room es) h = absurd cc
 
-  array_is : (width start : ℕ) (v : states.Value) → FitsKind s false ArrayKind v
+  array_is : (width start : ℕ) (v : states.Value) → FitsKind s d ArrayKind v
       → as_array width (bind_for v start (s.contents (container_of v))) ≡ array_for width v start (s.contents (container_of v))
   array_is width start states.Dead h = absurd h
-  array_is width start (states.Whole c) h = whole_array width start (s.contents c) (⊎_elim (λ a. a) (λ d. absurd (not_both d.0 refl)) h)
+  array_is width start (states.Whole c) h = whole_elements width start (s.contents c) h
   array_is width start (states.Slice c from len) h = refl
   array_is width start (states.View c number) h = view_array width start number c (s.contents c) h.0
   array_is width start (states.Handle jobs) h = absurd h
@@ -97,7 +101,7 @@ module _ (s : ScriptState) where
   stream_is width start (Pairs cap ps) = refl
   stream_is width start (Entries room es) = refl
 
-  pub kind_is : (k : ParamKind) (width start : ℕ) (v : states.Value) → FitsKind s false k v
+  kind_is : (k : ParamKind) (width start : ℕ) (v : states.Value) → FitsKind s d k v
       → as_kind k width (bind_for v start (s.contents (container_of v))) ≡ bind_as k width v start (s.contents (container_of v))
   kind_is IntKind width start v h = absurd h
   kind_is ArrayKind width start v h = array_is width start v h
@@ -110,19 +114,19 @@ module _ (s : ScriptState) where
 -- ---- all arguments
 
 module _ (p : Planner) (g : Setting) (begun : ScriptState) (n : ℕ) (s : ScriptState) (found : List ℕ) (st : Stands p g begun n s found) (x : Outline)
-    (a : Agrees p g begun found x) where
-  arg_is : (q : Param) (width : ℕ) (arg : Arg) → Rattle.frame_plan.specs.Uses.IsNameBelow (length p.values.items) arg → ArgFits s None q arg
+    (a : Agrees p g begun found x) (defer : Option (ℕ × ℕ)) where
+  arg_is : (q : Param) (width : ℕ) (arg : Arg) → IsNameBelow (length p.values.items) arg → ArgFits s defer q arg
       → job_bind p q.kind width arg ≡ bind_by x.starts s q width arg
   arg_is q width (Number z) below fit = refl
   arg_is q width (Name m) below fit =
       let v = some_at p.values.items m below in
-      let usable : IsUsable s m = record { below = fit.made; fits = fits_contents s q.kind (s.values m) fit.value } in
+      let usable : IsUsable s m = record { below = fit.made; fits = fits_contents s (is_deferred defer m) q.kind (s.values m) fit.value } in
       ap (λ o. as_kind q.kind width (bind_of_value p o)) v.1
       ∙ ap (as_kind q.kind width) (binds_at p g begun n s found st x a m v.0 v.1 usable)
-      ∙ kind_is s q.kind width (start_at x.starts s m) (s.values m) fit.value
+      ∙ kind_is s (is_deferred defer m) q.kind width (start_at x.starts s m) (s.values m) fit.value
 
   pub args_are : (parallel : Bool) (waive : List ℕ) (y : ℕ) (qs : List Param) (args : List Arg) → EachBelow (length p.values.items) args
-      → ArgsFit s None qs args
+      → ArgsFit s defer qs args
       → job_binds p parallel waive y qs args ≡ binds_by x.starts s qs (widths_from parallel waive y qs) args
   args_are parallel waive y [] args below fit = refl
   args_are parallel waive y (q ∷ qs) [] below fit = absurd fit

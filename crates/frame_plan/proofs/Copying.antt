@@ -62,6 +62,7 @@ module _ (g : Setting) (s : ScriptState) (home : Box NewJob Global) (asked : New
     kernel = asked.kernel;
     args = asked.args.items;
     cut = asked.cut;
+    defer = None;
     waive = asked.waive.items;
     after = asked.after.items;
   }
@@ -93,10 +94,12 @@ module _ (g : Setting) (s : ScriptState) (home : Box NewJob Global) (asked : New
   pub new_is_accepted : IsAcceptedSchedule g s o → IsAcceptedSchedule h s o
   new_is_accepted a = record {
     runs = a.runs ∙ same_runs g.kernels h.kernels pairs;
+    deferrable = tt;
     unrefused = sym (same_refusal g h.kernels pairs s order) ∙ a.unrefused;
     args_fit = subst (λ k. ArgsFit s None (kernel_params k) asked.args.items) (sym has_new)
         (same_args_fit s old.params.items new.params.items asked.args.items same.params
         (subst (λ k. ArgsFit s None (kernel_params k) asked.args.items) is_old a.args_fit));
+    list_fits = tt;
     widths = subst (λ k. Widths (kernel_params k) (kernel_parallel k)) (sym has_new)
         (new_widths (subst (λ k. Widths (kernel_params k) (kernel_parallel k)) is_old a.widths));
     forms = λ c lt. ap (λ (t : ScriptState). form_of (t.contents c)) (sym new_accepted) ∙ a.forms c lt;

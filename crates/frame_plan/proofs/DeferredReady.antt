@@ -30,16 +30,17 @@ use Rattle.frame_plan.specs.declared.state.Planner.{Planner}
 use Rattle.frame_plan.specs.declared.uses.NamedUse.{NamedUse}
 use Rattle.frame_plan.specs.Accesses.{IsPushed, HasHandle, jobs_by}
 use Rattle.frame_plan.specs.Causes.{as_refused}
-use Rattle.frame_plan.specs.Deferring.{IsLengthUse, IsDeferredStart, MayBeGuarded, deferred_refusal, noted_uses, with_length}
+use Rattle.frame_plan.specs.Deferring.{IsLengthUse, IsGuardedRun, MayBeGuarded, deferred_refusal, noted_uses, with_length}
 use Rattle.frame_plan.specs.Noting.{MayNoteAll}
-use Rattle.frame_plan.specs.Starting.{AreDeps, IsFull}
+use Rattle.frame_plan.specs.Starting.{AreDeps, IsFull, IsScheduled}
+use Rattle.frame_plan.specs.declared.accepting.Run.{Run}
 use Rattle.frame_plan.specs.Steps.{state_at, state_after, IsStep, StandsAt, HasStepped, PassesLimit}
 use Rattle.frame_plan.specs.Uses.{ForNames, IsUse, IsNameBelow, tags_of}
 use Rattle.frame_plan.proofs.DeferredChoosing.{deferred_refusal_is}
 use Rattle.frame_plan.proofs.DeferredMeaning.{length_value}
-use Rattle.frame_plan.proofs.DeferredNeeds as waiting
-use Rattle.frame_plan.proofs.DeferredRefused.{uses_named, deferred_named}
-use Rattle.frame_plan.proofs.DeferredScheduled.{accepted_is}
+use Rattle.frame_plan.proofs.Needs as waiting
+use Rattle.frame_plan.proofs.CauseNames.{uses_named, deferred_named}
+use Rattle.frame_plan.proofs.Scheduled.{accepted_is}
 use Rattle.frame_plan.proofs.DeferredStarted as started
 use Rattle.frame_plan.proofs.DeferredText as text
 use Rattle.frame_plan.proofs.DeferredText.{IsDeferredText, deferred_text}
@@ -190,7 +191,7 @@ module _ (script : Script) (table : Table) (begun : ScriptState) (n : ℕ) (foun
                 let e = count_is in (up.0, omega arith)
 
             module _ (deps : Jobs) (are_deps : AreDeps asked.auto (jobs_of named) p.jobs p.safety (tags_of (with_length uses length_use)) deps) where
-              waits : deps ≡ Rattle.defer_laws.specs.Deferring.deps_of g s (started.o script table begun n found line home asked list batch)
+              waits : deps ≡ Rattle.plan_laws.specs.Accepting.deps_of g s (started.o script table begun n found line home asked list batch)
               waits = started.waits_are script table begun n found line home asked list batch step the_text p st uses length_use
                   (jobs_of named) named_is in_text is_length none deps are_deps
 
@@ -200,14 +201,17 @@ module _ (script : Script) (table : Table) (begun : ScriptState) (n : ℕ) (foun
                   (jobs_of named) named_is in_text is_length none j (sym (ap (λ f. f j) waits) ∙ h) in
                   let e = count_is in (up.0, omega arith)
 
-              pub accepted_on : (q : Planner) (waived : List ℕ) → waived ≡ asked.waive.items
-                  → IsDeferredStart script p q asked.handle asked.kernel given list batch waived (noted_uses uses length_use) deps
+              pub accepted_on : (mid q : Planner) (run : Run) (args : List Arg) (waived : List ℕ) (us : List NamedUse) → args ≡ asked.args.items
+                  → waived ≡ asked.waive.items → us ≡ noted_uses uses length_use
+                  → IsGuardedRun script p mid asked.kernel args waived list batch run → IsScheduled mid q asked.handle run us deps
                   → HasStepped script table begun n found p q x
-              accepted_on q waived w d =
-                  started.deferred_on script table begun n found line home asked list batch step the_text p st uses length_use
-                  (jobs_of named) named_is in_text is_length none q deps waits
-                  (subst (λ ws. IsDeferredStart script p q asked.handle asked.kernel asked.args.items list batch ws (noted_uses uses length_use) deps) w
-                  (subst (λ as_. IsDeferredStart script p q asked.handle asked.kernel as_ list batch waived (noted_uses uses length_use) deps) given_is d))
+              accepted_on mid q run args waived us e w u r d =
+                  started.goes_on script table begun n found line home asked list batch step the_text p st uses length_use
+                  (jobs_of named) named_is in_text is_length none mid q run
+                  (subst (λ as_. IsGuardedRun script p mid asked.kernel as_ asked.waive.items list batch run) e
+                  (subst (λ ws. IsGuardedRun script p mid asked.kernel args ws list batch run) w r))
+                  deps waits
+                  (subst (λ us. IsScheduled mid q asked.handle run us deps) u d)
 
             -- there are all jobs already
             pub fails : (fault : PlanFault) → IsFull fault (count_of p.jobs) → PassesLimit fault (state_after script table n x)

@@ -19,7 +19,7 @@ use Rattle.frame_plan.specs.Deferring.{MayBeGuarded, by_list}
 use Rattle.frame_plan.specs.Steps.{IsStep}
 use Rattle.frame_plan.specs.Uses.{IsNameBelow}
 use Rattle.frame_plan.proofs.Reaching.{fits_at, used_below, made_below}
-use Rattle.frame_plan.proofs.ScheduleText.{EachBelow}
+use Rattle.frame_plan.proofs.ScheduleText.{EachBelow, args_below, all_below_names}
 use Rattle.frame_ast.specs.declared.script.NewJob.{NewJob}
 use Rattle.frame_plan.specs.Starting.{in_box}
 
@@ -36,26 +36,6 @@ module _ (script : Script) (table : Table) (n line : ℕ) (home : Box NewJob Glo
 
     abbrev defer : Option (ℕ × ℕ)
     defer = Some (list, batch)
-
-    args_below : (made : ℕ) (ps : List Param) (as_ : List Arg) → args_fit (names made) defer ps as_ ≡ true → (length as_ ≡ length ps) × EachBelow many as_
-    args_below made [] [] e = (refl, tt)
-    args_below made [] (a ∷ as_) e = absurd cc
-    args_below made (p ∷ ps) [] e = absurd cc
-    args_below made (p ∷ ps) (a ∷ as_) e =
-        let parts = and_parts (arg_fits (names made) defer p a) (args_fit (names made) defer ps as_) e in
-        let more = args_below made ps as_ parts.1 in
-        (ap suc more.0, (one a parts.0, more.1))
-      where
-        one : (a : Arg) → arg_fits (names made) defer p a ≡ true → IsNameBelow many a
-        one (Name m) h = used_below script table n x step made m (kinds_for p.kind (is_deferred defer m)) h
-        one (Number z) h = tt
-
-    all_below_names : (made : ℕ) (ns : List ℕ) → all_used (names made) ns ≡ true → (k d : ℕ) → k < length ns → get_or ns k d < many
-    all_below_names made [] e k d lt = absurd (omega arith)
-    all_below_names made (m ∷ ns) e zero d lt = used_below script table n x step made m (kind.Handle ∷ [])
-        (and_parts (uses (names made) m (kind.Handle ∷ [])) (list_all (λ n. uses (names made) n (kind.Handle ∷ [])) ns) e).0
-    all_below_names made (m ∷ ns) e (suc k) d lt = all_below_names made ns
-        (and_parts (uses (names made) m (kind.Handle ∷ [])) (list_all (λ n. uses (names made) n (kind.Handle ∷ [])) ns) e).1 k d (omega arith)
 
     pub record IsDeferredText : Type 0 where
       pub source : Kernel
@@ -92,7 +72,7 @@ module _ (script : Script) (table : Table) (n line : ℕ) (home : Box NewJob Glo
             let u = and_parts (uses (names made) list (kind.List ∷ [])) (batch_fits batch) f.0 in
             let s = and_parts (nat_le 1 batch) (up_to MOST_INDEXES batch) u.1 in
             let d = and_parts _ (all_used (names made) asked.after.items) c.1 in
-            let below = args_below made k.params.items asked.args.items b.0 in
+            let below = args_below script table n x step defer made k.params.items asked.args.items b.0 in
             let checked = step.accepted.kernels asked.kernel k at in
             let few = leb-true (length k.params.items) MOST_PARAMS checked.count in
             record {
@@ -105,7 +85,7 @@ module _ (script : Script) (table : Table) (n line : ℕ) (home : Box NewJob Glo
               each = below.0;
               few = (let e = below.0 in omega arith);
               below = below.1;
-              after_below = all_below_names made asked.after.items d.1;
+              after_below = all_below_names script table n x step defer made asked.after.items d.1;
             }
 
 -- there is no cut beside a `defer`

@@ -13,24 +13,24 @@ use Rattle.frame_plan.specs.Deferring.{IsGuardOf, IsGuardedAnew, IsGuardedAt}
 use Rattle.frame_plan.specs.Stands.{AreKernels, IsGuardedCopy}
 use Rattle.frame_plan.proofs.Naming.{set_either, set_long}
 
-module _ (script : Script) (g : Setting) (is_g : g.kernels ≡ script.kernels.items) (p after middle : Planner) (kernel place : ℕ) (ks : AreKernels p g)
-    (kept : (after.kernels ≡ p.kernels) × (after.plan.kernels ≡ p.plan.kernels) × (after.guards ≡ p.guards))
-    (guarded : IsGuardedAt script after middle kernel place)
-    (source : Kernel) (has_source : slice_get script.kernels.items kernel ≡ Some source) where
-  pub middle_is : middle ≡ record after { guards = middle.guards; plan = record after.plan { kernels = middle.plan.kernels } }
-  middle_is = ⊎_elim
-      (λ (l : (slice_get after.guards.items kernel ≡ Some (Some place)) × (middle ≡ after)). l.1
-      ∙ (λ i. record after { guards = (sym l.1 i).guards; plan = record after.plan { kernels = (sym l.1 i).plan.kernels } }))
-      (λ (r : IsGuardedAnew script after middle kernel place). r.rest)
-      guarded
+-- nothing but the copies and their places changes
+pub moved : (script : Script) (p middle : Planner) (kernel place : ℕ) → IsGuardedAt script p middle kernel place
+    → middle ≡ record p { guards = middle.guards; plan = record p.plan { kernels = middle.plan.kernels } }
+moved script p middle kernel place guarded = ⊎_elim
+    (λ (l : (slice_get p.guards.items kernel ≡ Some (Some place)) × (middle ≡ p)). l.1
+    ∙ ap (λ (m : Planner). record p { guards = m.guards; plan = record p.plan { kernels = m.plan.kernels } }) (sym l.1))
+    (λ (r : IsGuardedAnew script p middle kernel place). r.rest)
+    guarded
 
+module _ (script : Script) (g : Setting) (is_g : g.kernels ≡ script.kernels.items) (p middle : Planner) (kernel place : ℕ) (ks : AreKernels p g)
+    (guarded : IsGuardedAt script p middle kernel place)
+    (source : Kernel) (has_source : slice_get script.kernels.items kernel ≡ Some source) where
   -- the copies so far keep their places
   grown : (k : ℕ) (it : Kernel) → slice_get p.plan.kernels.items k ≡ Some it → slice_get middle.plan.kernels.items k ≡ Some it
   grown k it h = ⊎_elim
-      (λ (l : (slice_get after.guards.items kernel ≡ Some (Some place)) × (middle ≡ after)). ap (λ (m : Planner). slice_get m.plan.kernels.items k) l.1
-      ∙ ap (λ (v : Vec Kernel Global). slice_get v.items k) kept.1 ∙ h)
-      (λ (r : IsGuardedAnew script after middle kernel place).
-      ap (λ xs. slice_get xs k) (r.copies ∙ ap (λ (v : Vec Kernel Global). v.items ++ r.copy ∷ []) kept.1)
+      (λ (l : (slice_get p.guards.items kernel ≡ Some (Some place)) × (middle ≡ p)). ap (λ (m : Planner). slice_get m.plan.kernels.items k) l.1 ∙ h)
+      (λ (r : IsGuardedAnew script p middle kernel place).
+      ap (λ xs. slice_get xs k) r.copies
       ∙ get_before p.plan.kernels.items (r.copy ∷ []) k (get_below p.plan.kernels.items k it h) ∙ h)
       guarded
 
@@ -42,8 +42,8 @@ module _ (script : Script) (g : Setting) (is_g : g.kernels ≡ script.kernels.it
 
   pub has_guard : HasGuard
   has_guard = ⊎_elim
-      (λ (l : (slice_get after.guards.items kernel ≡ Some (Some place)) × (middle ≡ after)).
-      let c = ks.guards kernel place (ap (λ (v : Vec (Option ℕ) Global). slice_get v.items kernel) (sym kept.2) ∙ l.0) in
+      (λ (l : (slice_get p.guards.items kernel ≡ Some (Some place)) × (middle ≡ p)).
+      let c = ks.guards kernel place l.0 in
       let same : c.old ≡ source = some_is (sym c.is_old ∙ ap (λ ks. slice_get ks kernel) is_g ∙ has_source) in
       record {
         copy = c.new;
@@ -56,35 +56,34 @@ module _ (script : Script) (g : Setting) (is_g : g.kernels ≡ script.kernels.it
           footprint = c.footprint;
         });
       })
-      (λ (r : IsGuardedAnew script after middle kernel place). record {
+      (λ (r : IsGuardedAnew script p middle kernel place). record {
         copy = r.copy;
         here =
             ap (λ xs. slice_get xs place) r.copies
-            ∙ (let e : place ≡ length after.plan.kernels.items + 0 = (let l = r.last in omega arith) in
-            ap (slice_get (after.plan.kernels.items ++ r.copy ∷ [])) e)
-            ∙ get_behind after.plan.kernels.items (r.copy ∷ []) 0;
+            ∙ (let e : place ≡ length p.plan.kernels.items + 0 = (let l = r.last in omega arith) in
+            ap (slice_get (p.plan.kernels.items ++ r.copy ∷ [])) e)
+            ∙ get_behind p.plan.kernels.items (r.copy ∷ []) 0;
         guards = subst (λ (k : Kernel). IsGuardOf k r.copy) (some_is (sym r.is_source ∙ has_source)) r.guards;
       })
       guarded
 
   pub copies_few : length middle.plan.kernels.items ≤ suc (length p.plan.kernels.items)
   copies_few = ⊎_elim
-      (λ (l : (slice_get after.guards.items kernel ≡ Some (Some place)) × (middle ≡ after)). let e = ap (λ (m : Planner). length m.plan.kernels.items) l.1
-      ∙ ap (λ (v : Vec Kernel Global). length v.items) kept.1 in omega arith)
-      (λ (r : IsGuardedAnew script after middle kernel place). let e = ap length r.copies ∙ length-append after.plan.kernels.items (r.copy ∷ []) in
-      let f = ap (λ (v : Vec Kernel Global). length v.items) kept.1 in omega arith)
+      (λ (l : (slice_get p.guards.items kernel ≡ Some (Some place)) × (middle ≡ p)).
+      let e = ap (λ (m : Planner). length m.plan.kernels.items) l.1 in omega arith)
+      (λ (r : IsGuardedAnew script p middle kernel place). let e = ap length r.copies ∙ length-append p.plan.kernels.items (r.copy ∷ []) in omega arith)
       guarded
 
   -- what a whole plan has after them, it has after those so far
   pub kernels_later : (all : List Kernel) → (rest : List Kernel) × (all ≡ middle.plan.kernels.items ++ rest)
       → (rest : List Kernel) × (all ≡ p.plan.kernels.items ++ rest)
   kernels_later all r = ⊎_elim
-      (λ (l : (slice_get after.guards.items kernel ≡ Some (Some place)) × (middle ≡ after)).
-      (r.0, r.1 ∙ ap (λ (m : Planner). m.plan.kernels.items ++ r.0) l.1 ∙ ap (λ (v : Vec Kernel Global). v.items ++ r.0) kept.1))
-      (λ (a : IsGuardedAnew script after middle kernel place). (
+      (λ (l : (slice_get p.guards.items kernel ≡ Some (Some place)) × (middle ≡ p)).
+      (r.0, r.1 ∙ ap (λ (m : Planner). m.plan.kernels.items ++ r.0) l.1))
+      (λ (a : IsGuardedAnew script p middle kernel place). (
         a.copy ∷ r.0,
         r.1 ∙ ap (λ xs. xs ++ r.0) a.copies
-            ∙ append_assoc after.plan.kernels.items (a.copy ∷ []) r.0 ∙ ap (λ (v : Vec Kernel Global). v.items ++ a.copy ∷ r.0) kept.1,
+            ∙ append_assoc p.plan.kernels.items (a.copy ∷ []) r.0,
       ))
       guarded
 
@@ -105,10 +104,8 @@ module _ (script : Script) (g : Setting) (is_g : g.kernels ≡ script.kernels.it
 
       long : length middle.guards.items ≡ length p.guards.items
       long = ⊎_elim
-          (λ (l : (slice_get after.guards.items kernel ≡ Some (Some place)) × (middle ≡ after)). ap (λ (m : Planner). length m.guards.items) l.1
-          ∙ ap (λ (v : Vec (Option ℕ) Global). length v.items) kept.2)
-          (λ (r : IsGuardedAnew script after middle kernel place). ap length r.places ∙ set_long after.guards.items kernel (Some place)
-          ∙ ap (λ (v : Vec (Option ℕ) Global). length v.items) kept.2)
+          (λ (l : (slice_get p.guards.items kernel ≡ Some (Some place)) × (middle ≡ p)). ap (λ (m : Planner). length m.guards.items) l.1)
+          (λ (r : IsGuardedAnew script p middle kernel place). ap length r.places ∙ set_long p.guards.items kernel (Some place))
           guarded
 
       old_guard : (k at : ℕ) → slice_get p.guards.items k ≡ Some (Some at) → IsGuardedCopy q g k at
@@ -137,24 +134,24 @@ module _ (script : Script) (g : Setting) (is_g : g.kernels ≡ script.kernels.it
 
       guard_at : (k at : ℕ) → slice_get middle.guards.items k ≡ Some (Some at) → IsGuardedCopy q g k at
       guard_at k at h = ⊎_elim
-          (λ (l : (slice_get after.guards.items kernel ≡ Some (Some place)) × (middle ≡ after)). old_guard k at
-          (ap (λ (v : Vec (Option ℕ) Global). slice_get v.items k) (sym kept.2) ∙ ap (λ (m : Planner). slice_get m.guards.items k) (sym l.1) ∙ h))
-          (λ (r : IsGuardedAnew script after middle kernel place). ⊎_elim
+          (λ (l : (slice_get p.guards.items kernel ≡ Some (Some place)) × (middle ≡ p)). old_guard k at
+          (ap (λ (m : Planner). slice_get m.guards.items k) (sym l.1) ∙ h))
+          (λ (r : IsGuardedAnew script p middle kernel place). ⊎_elim
           (λ e. subst (λ k. IsGuardedCopy q g k at) (sym e.0) (subst (λ at. IsGuardedCopy q g kernel at) (sym (some_is e.1)) new_guard))
-          (λ e. old_guard k at (ap (λ (v : Vec (Option ℕ) Global). slice_get v.items k) (sym kept.2) ∙ e.1))
-          (set_either after.guards.items kernel (Some place) k (Some at) (ap (λ xs. slice_get xs k) (sym r.places) ∙ h)))
+          (λ e. old_guard k at e.1)
+          (set_either p.guards.items kernel (Some place) k (Some at) (ap (λ xs. slice_get xs k) (sym r.places) ∙ h)))
           guarded
 
       all_checked : (at : ℕ) (k : Kernel) → slice_get middle.plan.kernels.items at ≡ Some k → IsChecked k
       all_checked at k h = ⊎_elim
-          (λ (l : (slice_get after.guards.items kernel ≡ Some (Some place)) × (middle ≡ after)). ks.checked at k
-          (ap (λ (v : Vec Kernel Global). slice_get v.items at) (sym kept.1) ∙ ap (λ (m : Planner). slice_get m.plan.kernels.items at) (sym l.1) ∙ h))
-          (λ (r : IsGuardedAnew script after middle kernel place). ⊎_elim
-          (λ e. ks.checked at k (ap (λ (v : Vec Kernel Global). slice_get v.items at) (sym kept.1) ∙ e.1))
+          (λ (l : (slice_get p.guards.items kernel ≡ Some (Some place)) × (middle ≡ p)). ks.checked at k
+          (ap (λ (m : Planner). slice_get m.plan.kernels.items at) (sym l.1) ∙ h))
+          (λ (r : IsGuardedAnew script p middle kernel place). ⊎_elim
+          (λ e. ks.checked at k e.1)
           (λ e. last r e.0 e.2)
-          (get_either after.plan.kernels.items (r.copy ∷ []) at k (ap (λ xs. slice_get xs at) (sym r.copies) ∙ h)))
+          (get_either p.plan.kernels.items (r.copy ∷ []) at k (ap (λ xs. slice_get xs at) (sym r.copies) ∙ h)))
           guarded
         where
-          last : (r : IsGuardedAnew script after middle kernel place) (i : ℕ) → slice_get (r.copy ∷ []) i ≡ Some k → IsChecked k
+          last : (r : IsGuardedAnew script p middle kernel place) (i : ℕ) → slice_get (r.copy ∷ []) i ≡ Some k → IsChecked k
           last r zero e = subst IsChecked (some_is e) r.guards.checked
           last r (suc i) e = absurd (none_some e)

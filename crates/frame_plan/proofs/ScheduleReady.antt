@@ -46,17 +46,21 @@ use Rattle.frame_ast.specs.Schedules.{alias}
 use Rattle.frame_plan.specs.Noting.{MayNoteAll}
 use Rattle.frame_plan.specs.Causes as causes
 use Rattle.frame_plan.specs.Causes.{has_cause, first_with, alias_after, or_next, greatest_blocker, pending_of, refusal_by, as_refused}
-use Rattle.frame_plan.specs.Starting.{AreDeps, IsFull, IsScheduled}
+use Rattle.frame_plan.specs.Starting.{AreDeps, IsFull, IsPlainRun, IsScheduled}
+use Rattle.frame_plan.specs.declared.accepting.Run.{Run}
 use Rattle.frame_plan.specs.Steps.{state_at, state_after, IsStep, StandsAt, HasStepped, PassesLimit}
 use Rattle.frame_plan.specs.Uses.{given_of, AreNamesBelow, ForNames, IsUse, tags_by, tags_of}
+use Rattle.frame_plan.proofs.CauseNames.{AreNamed, uses_named, refusal_named}
 use Rattle.frame_plan.proofs.Choosing.{AreAlive, refusal_is}
-use Rattle.frame_plan.proofs.JobStarted as started
+use Rattle.frame_plan.proofs.PlainStarted as started
 use Rattle.frame_plan.proofs.Meaning.{AreMeant, uses_meant}
 use Rattle.frame_plan.proofs.NewNames.{jobs_are}
+use Rattle.frame_plan.proofs.Needs.{needs_up, needs_are, deps_are}
 use Rattle.frame_plan.proofs.Notes.{needs}
 use Rattle.frame_plan.proofs.Outlining as outlining
 use Rattle.frame_plan.proofs.Reaching.{statements_few, within}
 use Rattle.frame_plan.proofs.Restating.{accepted_state, said_nobody}
+use Rattle.frame_plan.proofs.Rooms as rooms
 use Rattle.frame_plan.proofs.ScheduleText as texts
 use Rattle.frame_plan.proofs.ScheduleText.{IsText, all_below, each_lower}
 use Rattle.frame_ast.specs.declared.script.NewJob.{NewJob}
@@ -64,83 +68,6 @@ use Rattle.frame_ast.specs.declared.script.NewJob.{NewJob}
 pub if_err : {T E : Type 0} (r : Result T E) {P Q : E → Type 0} → ((e : E) → P e → Q e) → IfErr r P → IfErr r Q
 if_err (Ok x) f h = tt
 if_err (Err e) f h = f e h
-
--- a cut has few pieces
-cut_few : (n step : ℕ) → 1 ≤ step → n ≤ 64 * step → cut_count n step ≤ 64
-cut_few n step one le = by (nat_eq n 0)
-  where
-    dc : ℕ
-    dc = div_ceil n step
-
-    low : dc ≤ 64
-    low =
-        let bound = (div_ceil_times n step one).1 in
-        let below : div_ceil n step * step < 65 * step = omega arith in
-        let lt = lt_of_mul-lt-mul_right step below in
-        omega arith
-
-    by : (b : Bool) → (if b then 1 else div_ceil n step) ≤ 64
-    by true = omega arith
-    by false = low
-
-few_pieces : (xs : List JobPlan) → ((j : ℕ) (x : JobPlan) → slice_get xs j ≡ Some x → pieces_of x ≤ 64) → pieces_before xs (length xs) ≤ 64 * length xs
-few_pieces [] h = omega arith
-few_pieces (x ∷ xs) h = let one = h 0 x refl in let more = few_pieces xs (λ j y at. h (suc j) y at) in omega arith
-
--- ---- the name of a cause is one of the uses'
-
-abbrev AreNamed : ℕ → List NamedUse → Type 0
-AreNamed m [] = Unit {0}
-AreNamed m (u ∷ us) = (u.name < m) × AreNamed m us
-
-first_named : (m : ℕ) (r : Refusal) (test : NamedUse → Bool) (us : List NamedUse) (cause : Cause) → AreNamed m us → first_with r test us ≡ Some cause
-    → cause.name < m
-first_named m r test [] cause named e = absurd cc
-first_named m r test (u ∷ us) cause named e = by (test u) e (λ e. first_named m r test us cause named.1 e)
-  where
-    by : (b : Bool) → (if b then Some (record { refusal = r; name = u.name }) else first_with r test us) ≡ Some cause
-        → (first_with r test us ≡ Some cause → cause.name < m) → cause.name < m
-    by true e rest = subst (λ (c : Cause). c.name < m) (some_is e) named.0
-    by false e rest = rest e
-
-alias_named : (m : ℕ) (before us : List NamedUse) (cause : Cause) → AreNamed m us → alias_after before us ≡ Some cause → cause.name < m
-alias_named m before [] cause named e = absurd cc
-alias_named m before (u ∷ us) cause named e = by (list_any (λ a. alias (given_of a) (given_of u)) before) e
-    (λ e. alias_named m (before ++ u ∷ []) us cause named.1 e)
-  where
-    by : (b : Bool) → (if b then Some (record { refusal = Alias; name = u.name }) else alias_after (before ++ u ∷ []) us) ≡ Some cause
-        → (alias_after (before ++ u ∷ []) us ≡ Some cause → cause.name < m) → cause.name < m
-    by true e rest = subst (λ (c : Cause). c.name < m) (some_is e) named.0
-    by false e rest = rest e
-
-either_cause : {P : Type 0} (o next : Option Cause) (cause : Cause) → (o ≡ Some cause → P) → (next ≡ Some cause → P) → or_next o next ≡ Some cause → P
-either_cause None next cause f g e = g e
-either_cause (Some c) next cause f g e = f e
-
-refusal_named : (m : ℕ) (us : List NamedUse) (parallel auto : Bool) (cause : Cause) → AreNamed m us → refusal_by us parallel auto ≡ Some cause → cause.name < m
-refusal_named m us parallel auto cause named e =
-    either_cause _ _ cause (first_named m Disposed (has_cause parallel Disposed) us cause named) (λ e.
-    either_cause _ _ cause (first_named m StaleView (has_cause parallel StaleView) us cause named) (λ e.
-    either_cause _ _ cause (first_named m NotParallel (has_cause parallel NotParallel) us cause named) (λ e.
-    either_cause _ _ cause (first_named m TempInJob (has_cause parallel TempInJob) us cause named) (λ e.
-    either_cause _ _ cause (alias_named m [] us cause named) (λ e. by auto e) e) e) e) e) e
-  where
-    on : (n : ℕ) → causes.pending_on us n ≡ Some cause → cause.name < m
-    on zero e = absurd cc
-    on (suc j) e = first_named m (Pending (record { 0 = suc j })) (has_cause false (Pending (record { 0 = suc j }))) us cause named e
-
-    by : (b : Bool) → (if b then None else pending_of us) ≡ Some cause → cause.name < m
-    by true e = absurd cc
-    by false e = on (greatest_blocker us) e
-
-uses_named : (p : Planner) (named : Jobs) (qs : List Param) (args : List Arg) (us : List NamedUse) → ForNames (IsUse p named) qs args us
-    → AreNamed (length p.values.items) us
-uses_named p named [] args us e = subst (AreNamed (length p.values.items)) (sym e) tt
-uses_named p named (q ∷ qs) [] us e = subst (AreNamed (length p.values.items)) (sym e) tt
-uses_named p named (q ∷ qs) (Number z ∷ args) us h = uses_named p named qs args us h
-uses_named p named (q ∷ qs) (Name n ∷ args) [] h = absurd h
-uses_named p named (q ∷ qs) (Name n ∷ args) (u ∷ us) h =
-    (subst (λ k. k < length p.values.items) (sym h.0.named) (get_below p.values.items n h.0.value h.0.has), uses_named p named qs args us h.1)
 
 pub no_cause : (o : Option Cause) → ((c : Cause) → o ≡ Some c → ⊥) → o ≡ None
 no_cause None h = refl
@@ -199,32 +126,14 @@ module _ (script : Script) (p : Planner) (line : ℕ) (home : Box NewJob Global)
     named_up jobs e = subst (AreUpTo (count_of p.jobs)) (sym e) (subst (λ k. AreUpTo k (jobs_named s asked.after.items)) (sym st.jobs.count)
         (named_among s st.known asked.after.items))
 
-    section_jobs : s.book.count ≡ begun.book.count + length p.plan.jobs.items
-    section_jobs = outlining.jobs_are p script table begun n s found st
-
     pub before_low : p.jobs_before ≤ count_of p.jobs
-    before_low = let e = section_jobs in let b = st.numbers.before in let c = st.jobs.count in omega arith
-
-    most : count_of p.jobs ≤ MOST_JOBS
-    most = p.jobs.room.0
+    before_low = rooms.jobs_after script table p begun n s found st
 
     pub room : count_of p.jobs ≢ MOST_JOBS → vec_len p.plan.jobs < MOST_JOBS
-    room ne = let e = section_jobs in let c = st.jobs.count in let m = most in let len = p.plan.jobs.ok.0 in omega arith
+    room = rooms.job_room script table p begun n s found st
 
     pub pieces_low : p.plan.pieces ≤ MOST_PIECES * MOST_JOBS
-    pieces_low =
-        let planned = st.planned (outlining.outline p script table begun n s found st) (outlining.agrees p script table begun n s found st) in
-        let few = few_pieces p.plan.jobs.items (λ j y at. let fit = (planned.fitting.jobs_fit j y at).2 in
-        by y.parallel y.cut.n y.cut.step fit.cut.step.0 fit.cut.pieces) in
-        let e = section_jobs in
-        let c = st.jobs.count in
-        let m = most in
-        let is = st.numbers.pieces in
-        omega arith
-      where
-        by : (b : Bool) (n step : ℕ) → 1 ≤ step → n ≤ 64 * step → (if b then cut_count n step else 1) ≤ 64
-        by true n step one le = cut_few n step one le
-        by false n step one le = omega arith
+    pieces_low = rooms.few_pieces script table p begun n s found st
 
     -- ---- the code's slices are the statement's vectors
 
@@ -263,67 +172,17 @@ module _ (script : Script) (p : Planner) (line : ℕ) (home : Box NewJob Global)
         alive : AreAlive s gs
         alive = started.alive script table begun n found line home asked step text p st uses named are none
 
-        -- the jobs that the safety book keeps are known
-        latest_up : (l : Latest) (u : Uses) (writes : Bool) → StandForUses s.book l u → AreUses s.book u → AreUpTo s.book.count (conflicting_in l writes)
-        latest_up l u writes stand known j e =
-            let parts = and_parts (nat_lt 0 j) (nat_eq j l.writer || (writes && l.readers j)) e in
-            let above = ltb-true 0 j parts.0 in
-            ⊎_elim
-            (λ is. let same = eqb-true j l.writer is in let writer = stand.writer in let low = greatest_below u.writers s.book.count in (above, omega arith))
-            (λ is. known.users j (and_parts (u.users j) (nat_lt l.writer j) (sym (stand.readers j) ∙ (and_parts writes (l.readers j) is).1)).0)
-            (or_cases (nat_eq j l.writer) (writes && l.readers j) parts.1)
-
-        noted : (us : List NamedUse) (gs : List Given) → AreMeant p s named us gs → AreAlive s gs
-            → AreUpTo s.book.count (conflicting_with p.safety (tags_of us))
-        noted [] [] m a j e = absurd (not_both e refl)
-        noted [] (h ∷ more) m a j e = absurd m
-        noted (u ∷ us) [] m a j e = absurd m
-        noted (u ∷ us) (h ∷ gs) m a j e =
-            let k = m.0.known_by a.0 in
-            let kept = st.containers.each h.need.container k.0 k.1 in
-            let slot : k.2.0.slot.0 ≡ k.0.slot.0 = (λ i. (k.2.2 i).0) in
-            ⊎_elim
-            (λ here. latest_up (state_of p.safety k.2.0.slot.0).latest (s.uses h.need.container) (writes_to u.access)
-            (subst (λ n. StandForUses s.book (state_of p.safety n).latest (s.uses h.need.container)) (sym slot) (kept.uses k.3))
-            (st.known.uses h.need.container) j here)
-            (λ more. noted us gs m.1 a.1 j more)
-            (or_cases (conflicting_in (state_of p.safety k.2.0.slot.0).latest (writes_to u.access) j) (conflicting_with p.safety (tags_of us) j)
-            (subst (λ o. conflicting_with p.safety (tags_by o u.access (tags_of us)) j ≡ true) k.2.1 e))
-
         pub noted_up : AreUpTo (count_of p.jobs) (conflicting_with p.safety (tags_of uses))
-        noted_up = subst (λ k. AreUpTo k (conflicting_with p.safety (tags_of uses))) (sym st.jobs.count) (noted uses gs meant alive)
-
-        -- the needs of the schedule are its uses
-        are_needs : (us : List NamedUse) (gs : List Given) → AreMeant p s named us gs → AreAlive s gs → AreNeeds s.book s.uses p.safety (tags_of us) (needs gs)
-        are_needs [] [] m a = tt
-        are_needs [] (h ∷ gs) m a = absurd m
-        are_needs (u ∷ us) [] m a = absurd m
-        are_needs (u ∷ us) (h ∷ gs) m a =
-            let k = m.0.known_by a.0 in
-            let kept = st.containers.each h.need.container k.0 k.1 in
-            let slot : k.2.0.slot.0 ≡ k.0.slot.0 = (λ i. (k.2.2 i).0) in
-            let given = m.0.given in
-            subst (λ o. AreNeeds s.book s.uses p.safety (tags_by o u.access (tags_of us)) (h.need ∷ needs gs)) (sym k.2.1) (
-              record {
-                writes = sym (λ i. (given i).need.writes);
-                latest = subst (λ n. StandForUses s.book (state_of p.safety n).latest (s.uses h.need.container)) (sym slot) (kept.uses k.3);
-              },
-              are_needs us gs m.1 a.1,
-            )
+        noted_up = subst (λ k. AreUpTo k (conflicting_with p.safety (tags_of uses))) (sym st.jobs.count)
+            (needs_up s.book s.uses st.known.uses p.safety (tags_of uses) (needs gs) (needs_are p g begun n s found st named uses gs meant alive))
 
         pub deps_is : (deps : Jobs) → AreDeps asked.auto named p.jobs p.safety (tags_of uses) deps
             → deps ≡ deps_of g s (started.o script table begun n found line home asked)
-        deps_is deps d = by asked.auto d ∙ ap (λ gs. let named = jobs_named s asked.after.items in
-            if asked.auto then both named (automatic s.book s.uses named (needs gs)) else named)
+        deps_is deps d =
+            deps_are p g begun n s found st named asked.auto uses gs meant alive deps d
+            ∙ ap (λ named. if asked.auto then both named (automatic s.book s.uses named (needs gs)) else named) named_are
+            ∙ ap (λ gs. let named = jobs_named s asked.after.items in if asked.auto then both named (automatic s.book s.uses named (needs gs)) else named)
             (sym (started.gives_are script table begun n found line home asked step text p st uses named are none))
-          where
-            by : (b : Bool) → AreDeps b named p.jobs p.safety (tags_of uses) deps
-                → deps ≡ (let named = jobs_named s asked.after.items in if b then both named (automatic s.book s.uses named (needs gs)) else named)
-            by false d = d ∙ named_are
-            by true d =
-                let set = d.3 s.book s.uses (needs gs) st.jobs st.known.uses (are_needs uses gs meant alive) in
-                d.1 ∙ (λ i. both (named_are i) d.0) ∙ (λ i j. jobs_named s asked.after.items j
-                || (set j ∙ ap (λ a. automatic s.book s.uses a (needs gs) j) named_are) i)
 
         pub deps_up : (deps : Jobs) → AreDeps asked.auto named p.jobs p.safety (tags_of uses) deps → AreUpTo (count_of p.jobs) deps
         deps_up deps d = subst (AreUpTo (count_of p.jobs)) (sym (deps_is deps d))
@@ -344,16 +203,17 @@ module _ (script : Script) (p : Planner) (line : ℕ) (home : Box NewJob Global)
             omega arith
         fails_so TooManyWords full = absurd full
 
-        pub goes_on : (new : Planner) (deps : Jobs) (xs : List Arg) (ws : List ℕ) (us : List NamedUse) → xs ≡ asked.args.items → ws ≡ asked.waive.items
-            → us ≡ uses
+        pub goes_on : (mid new : Planner) (run : Run) (deps : Jobs) (xs : List Arg) (ws : List ℕ) (us : List NamedUse) → xs ≡ asked.args.items
+            → ws ≡ asked.waive.items → us ≡ uses
             → AreDeps asked.auto named p.jobs p.safety (tags_of uses) deps
-            → IsScheduled script p new asked.handle asked.kernel xs asked.cut ws us deps
+            → IsPlainRun script p mid asked.kernel xs asked.cut ws run → IsScheduled mid new asked.handle run us deps
             → HasStepped script table begun n found p new x
-        goes_on new deps xs ws us e f u d is =
-            started.goes_on script table begun n found line home asked step text p st uses named are none new deps (deps_is deps d)
-            (subst (λ xs. IsScheduled script p new asked.handle asked.kernel xs asked.cut asked.waive.items uses deps) e
-            (subst (λ ws. IsScheduled script p new asked.handle asked.kernel xs asked.cut ws uses deps) f
-            (subst (λ us. IsScheduled script p new asked.handle asked.kernel xs asked.cut ws us deps) u is)))
+        goes_on mid new run deps xs ws us e f u d r is =
+            started.goes_on script table begun n found line home asked step text p st uses named are none mid new run
+            (subst (λ xs. IsPlainRun script p mid asked.kernel xs asked.cut asked.waive.items run) e
+            (subst (λ ws. IsPlainRun script p mid asked.kernel xs asked.cut ws run) f r))
+            deps (deps_is deps d)
+            (subst (λ us. IsScheduled mid new asked.handle run us deps) u is)
 
       -- why it is refused, as the code asks
       pub refused_by : (k : Kernel) → slice_get script.kernels.items asked.kernel ≡ Some k → (us : List NamedUse) → us ≡ uses → (o : Option Cause)
@@ -370,9 +230,7 @@ module _ (script : Script) (p : Planner) (line : ℕ) (home : Box NewJob Global)
           → HasHandle said new asked.handle nobody
           → HasStepped script table begun n found p new x
       refused_on new said cause k h us e is pushed has =
-          let low = refusal_named (length p.values.items) us k.parallel asked.auto cause
-          (subst (AreNamed (length p.values.items)) (sym e) (uses_named p named text.source.params.items asked.args.items uses are)) (sym is) in
-          let each = st.each in
-          let below : cause.name < length g.names = omega arith in
+          let below = refusal_named (length g.names) us k.parallel asked.auto (subst (AreNamed (length g.names)) (sym e)
+          (uses_named p named (length g.names) text.source.params.items asked.args.items uses are text.below)) cause (sym is) in
           said_nobody script table begun n found x step (refused cause.refusal cause.name) p st (sym (refused_by k h us e (Some cause) is)) below
           said new asked.handle refl refl refl (inr (λ c. refl)) pushed has

@@ -13,7 +13,7 @@ use Rattle.frame_ast.specs.declared.script.Order.TheVariants.{Schedule as Schedu
 use Rattle.frame_ast.specs.declared.script.Script.{Script}
 use Rattle.frame_ast.specs.declared.script.Statement.{Statement}
 use Rattle.frame_ast.specs.declared.name_kind.NameKind.TheVariants as kind
-use Rattle.frame_ast.specs.Accepted.{Names, uses, makes, all_used, arg_fits, args_fit, one_of, cut_fits, schedule_fits, kinds_for}
+use Rattle.frame_ast.specs.Accepted.{Names, uses, makes, all_used, arg_fits, args_fit, one_of, is_deferred, cut_fits, schedule_fits, kinds_for}
 use Rattle.frame_ast.specs.Checked.{IsChecked}
 use Rattle.frame_ast.specs.Orders.{Table, setting}
 use Rattle.frame_plan.specs.Steps.{IsStep}
@@ -37,6 +37,35 @@ each_lower n m le [] h = tt
 each_lower n m le (Name k ∷ as_) h = (let lt = h.0 in omega arith, each_lower n m le as_ h.1)
 each_lower n m le (Number z ∷ as_) h = (tt, each_lower n m le as_ h.1)
 
+-- the names of a statement, and of its arguments
+module _ (script : Script) (table : Table) (n : ℕ) (x : Statement) (step : IsStep script table n x) (defer : Option (ℕ × ℕ)) where
+  abbrev pub its_names : ℕ → Names
+  its_names made = record { kinds = step.accepted.kinds; made = made }
+
+  abbrev pub its_many : ℕ
+  its_many = length (setting script table).names
+
+  pub args_below : (made : ℕ) (ps : List Param) (as_ : List Arg) → args_fit (its_names made) defer ps as_ ≡ true
+      → (length as_ ≡ length ps) × EachBelow its_many as_
+  args_below made [] [] e = (refl, tt)
+  args_below made [] (a ∷ as_) e = absurd cc
+  args_below made (p ∷ ps) [] e = absurd cc
+  args_below made (p ∷ ps) (a ∷ as_) e =
+      let parts = and_parts (arg_fits (its_names made) defer p a) (args_fit (its_names made) defer ps as_) e in
+      let more = args_below made ps as_ parts.1 in
+      (ap suc more.0, (one a parts.0, more.1))
+    where
+      one : (a : Arg) → arg_fits (its_names made) defer p a ≡ true → IsNameBelow its_many a
+      one (Name m) h = used_below script table n x step made m (kinds_for p.kind (is_deferred defer m)) h
+      one (Number z) h = tt
+
+  pub all_below_names : (made : ℕ) (ns : List ℕ) → all_used (its_names made) ns ≡ true → (k d : ℕ) → k < length ns → get_or ns k d < its_many
+  all_below_names made [] e k d lt = absurd (omega arith)
+  all_below_names made (m ∷ ns) e zero d lt = used_below script table n x step made m (kind.Handle ∷ [])
+      (and_parts (uses (its_names made) m (kind.Handle ∷ [])) (list_all (λ n. uses (its_names made) n (kind.Handle ∷ [])) ns) e).0
+  all_below_names made (m ∷ ns) e (suc k) d lt = all_below_names made ns
+      (and_parts (uses (its_names made) m (kind.Handle ∷ [])) (list_all (λ n. uses (its_names made) n (kind.Handle ∷ [])) ns) e).1 k d (omega arith)
+
 module _ (script : Script) (table : Table) (n line : ℕ) (home : Box NewJob Global) (asked : NewJob) where
   abbrev pub x : Statement
   x = record { line = line; act = Scheduled (in_box home (undeferred asked)) }
@@ -47,26 +76,6 @@ module _ (script : Script) (table : Table) (n line : ℕ) (home : Box NewJob Glo
 
     abbrev many : ℕ
     many = length (setting script table).names
-
-    args_below : (made : ℕ) (ps : List Param) (as_ : List Arg) → args_fit (names made) None ps as_ ≡ true → (length as_ ≡ length ps) × EachBelow many as_
-    args_below made [] [] e = (refl, tt)
-    args_below made [] (a ∷ as_) e = absurd cc
-    args_below made (p ∷ ps) [] e = absurd cc
-    args_below made (p ∷ ps) (a ∷ as_) e =
-        let parts = and_parts (arg_fits (names made) None p a) (args_fit (names made) None ps as_) e in
-        let more = args_below made ps as_ parts.1 in
-        (ap suc more.0, (one a parts.0, more.1))
-      where
-        one : (a : Arg) → arg_fits (names made) None p a ≡ true → IsNameBelow many a
-        one (Name m) h = used_below script table n x step made m (kinds_for p.kind false) h
-        one (Number z) h = tt
-
-    all_below_names : (made : ℕ) (ns : List ℕ) → all_used (names made) ns ≡ true → (k d : ℕ) → k < length ns → get_or ns k d < many
-    all_below_names made [] e k d lt = absurd (omega arith)
-    all_below_names made (m ∷ ns) e zero d lt = used_below script table n x step made m (kind.Handle ∷ [])
-        (and_parts (uses (names made) m (kind.Handle ∷ [])) (list_all (λ n. uses (names made) n (kind.Handle ∷ [])) ns) e).0
-    all_below_names made (m ∷ ns) e (suc k) d lt = all_below_names made ns
-        (and_parts (uses (names made) m (kind.Handle ∷ [])) (list_all (λ n. uses (names made) n (kind.Handle ∷ [])) ns) e).1 k d (omega arith)
 
     pub record IsText : Type 0 where
       pub source : Kernel
@@ -97,7 +106,7 @@ module _ (script : Script) (table : Table) (n line : ℕ) (home : Box NewJob Glo
             let c = and_parts (cut_fits asked.cut && true) _ a.1 in
             let f = and_parts (cut_fits asked.cut) true c.0 in
             let d = and_parts _ (all_used (names made) asked.after.items) c.1 in
-            let below = args_below made k.params.items asked.args.items b.0 in
+            let below = args_below script table n x step None made k.params.items asked.args.items b.0 in
             let checked = step.accepted.kernels asked.kernel k at in
             let few = leb-true (length k.params.items) MOST_PARAMS checked.count in
             record {
@@ -110,5 +119,5 @@ module _ (script : Script) (table : Table) (n line : ℕ) (home : Box NewJob Glo
               below = below.1;
               one = b.1;
               cut_fit = f.0;
-              after_below = all_below_names made asked.after.items d.1;
+              after_below = all_below_names script table n x step None made asked.after.items d.1;
             }

@@ -1,30 +1,22 @@
--- An accepted schedule: the planner that scheduled its job stands for the state after it.
+-- The state after an accepted schedule, by what changes, and the two numbers of a schedule.
 use Rattle.std.proofs.Common.{◌≡◌, ⊎_elim, ℕ, ◌+◌, ◌<◌, ◌≤◌, Bool, true, false, ◌&&◌, List, [], ◌∷◌, length, map, get_or, Option, Some, None, pos, refl, sym, ap, subst, ◌∙◌}
-use Rattle.std.specs.Prelude.{option_map, is_some, if◌then◌else◌}
+use Rattle.std.specs.Prelude.{is_some, if◌then◌else◌}
 use Rattle.std.proofs.lemmas.List.{length-replicate}
-use Rattle.std.proofs.lemmas.Bool.{or_cases}
-use Rattle.job_base.specs.declared.Refusal.TheVariants.{NotParallel, Alias, TempInJob}
 use Rattle.frame_ast.specs.declared.kernel.Param.{Param}
 use Rattle.frame_ast.specs.declared.script.Arg.{Arg}
 use Rattle.frame_ast.specs.declared.script.Arg.TheVariants.{Name, Number}
 use Rattle.frame_ast.specs.Accepted.{one_of}
-use Rattle.frame_ast.specs.Conflicts.{Need, blocking, automatic, with_uses}
+use Rattle.frame_ast.specs.Conflicts.{with_uses}
 use Rattle.frame_ast.specs.Contents.{Contents, Cells, Single, Items, Pairs, Entries}
-use Rattle.frame_ast.specs.Effects.{all_broken, view_broken}
+use Rattle.frame_ast.specs.Effects.{all_broken, view_broken, steps_by}
 use Rattle.frame_ast.specs.Forms.{form_of}
-use Rattle.frame_ast.specs.JobRuns.{executes, no_run, full_steps}
-use Rattle.frame_ast.specs.Jobs.{Jobs, both, only, with_job}
-use Rattle.frame_ast.specs.Laws.{IsKnown, AreUpTo, GreatestIsNamed}
+use Rattle.frame_ast.specs.JobRuns.{executes, no_run}
+use Rattle.frame_ast.specs.Jobs.{only, with_job}
 use Rattle.frame_ast.specs.Orders.{Setting, params_of, is_parallel, job_length}
-use Rattle.frame_ast.specs.Refusals.{refused, disposed, stale, is_temp, first_given, jobs_named, pending, schedule_refusal}
-use Rattle.frame_ast.specs.Schedules.{Given, arguments_of, givens, first_alias, is_list, is_shared, writes_to, leave, leave_all, left_in, widths_from}
+use Rattle.frame_ast.specs.Schedules.{Given, arguments_of, is_list, writes_to, leave, leave_all, left_in, widths_from}
 use Rattle.frame_ast.specs.States as states
 use Rattle.frame_ast.specs.States.{ScriptState, with_at, with_contents, container_at, contents_at}
-use Rattle.frame_ast.proofs.Blocking.{greatest_blocker_is_named, blocking_among}
-use Rattle.frame_ast.proofs.Covering.{automatic_sets_cover}
-use Rattle.frame_ast.proofs.Known.{named_among}
-use Rattle.frame_ast.proofs.NameKinds.{first_none}
-use Rattle.plan_laws.specs.Accepting.{Schedule, accepted, deps_of}
+use Rattle.plan_laws.specs.Accepting.{Schedule, uses_of, accepted, deps_of}
 use Rattle.plan_laws.specs.Binds.{bind_of}
 use Rattle.frame_plan.specs.Growth.{numbers_of}
 use Rattle.frame_plan.specs.Starting.{numbers_by}
@@ -74,14 +66,14 @@ broken_is (g ∷ gs) s =
     by true = refl
     by false = refl
 
--- the contents that a job leaves, and the view numbers
-abbrev pub left : Setting → ScriptState → Schedule → ScriptState
-left g s o = leave_all (params_of g o.kernel) o.args
-    (get_or g.runs o.kernel no_run (widths_from (is_parallel g o.kernel) o.waive 0 (params_of g o.kernel)) full_steps (job_length s o.cut None)
-    (arguments_of s (params_of g o.kernel) o.args)).store s
+abbrev stored : Setting → ScriptState → Schedule → List Contents
+stored g s o =
+    (get_or g.runs o.kernel no_run (widths_from (is_parallel g o.kernel) o.waive 0 (params_of g o.kernel)) (steps_by o.defer) (job_length s o.cut o.defer)
+    (arguments_of s (params_of g o.kernel) o.args)).store
 
-abbrev pub gives : Setting → ScriptState → Schedule → List Given
-gives g s o = givens s (params_of g o.kernel) o.args None
+-- the contents that a job leaves
+abbrev pub left : Setting → ScriptState → Schedule → ScriptState
+left g s o = leave_all (params_of g o.kernel) o.args (stored g s o) s
 
 pub broken_left : (gs : List Given) (ps : List Param) (args : List Arg) (news : List Contents) (s : ScriptState)
     → all_broken gs (leave_all ps args news s) ≡ record s {
@@ -96,68 +88,26 @@ broken_left gs ps args news s =
     ∙ ap (λ (u : ScriptState). record u { view = x.view }) (leave_all_is ps args news s)
     ∙ (λ i. record s { contents = sym same i; view = x.view })
 
-pub view_is : (g : Setting) (s : ScriptState) (o : Schedule) → (accepted g s o).view ≡ (all_broken (gives g s o) (left g s o)).view
-view_is g s o = refl
-
 pub left_view : (g : Setting) (s : ScriptState) (o : Schedule) → (left g s o).view ≡ s.view
-left_view g s o = ap (λ (u : ScriptState). u.view) (leave_all_is (params_of g o.kernel) o.args
-    (get_or g.runs o.kernel no_run (widths_from (is_parallel g o.kernel) o.waive 0 (params_of g o.kernel)) full_steps (job_length s o.cut None)
-    (arguments_of s (params_of g o.kernel) o.args)).store s)
+left_view g s o = ap (λ (u : ScriptState). u.view) (leave_all_is (params_of g o.kernel) o.args (stored g s o) s)
 
 -- the state after an accepted schedule, by what changes
 pub accepted_is : (g : Setting) (s : ScriptState) (o : Schedule) → accepted g s o ≡ record s {
   values = with_at s.values o.handle (states.Handle (only (s.book.count + 1)));
   contents = (accepted g s o).contents;
   view = (accepted g s o).view;
-  uses = with_uses s.uses (s.book.count + 1) (map (λ v. v.need) (givens s (params_of g o.kernel) o.args None));
+  uses = with_uses s.uses (s.book.count + 1) (map (λ v. v.need) (uses_of g s o));
   book = with_job s.book (deps_of g s o);
   traps = (accepted g s o).traps;
 }
 accepted_is g s o =
     ap (λ (l : ScriptState). record l {
       values = with_at s.values o.handle (states.Handle (only (s.book.count + 1)));
-      uses = with_uses s.uses (s.book.count + 1) (map (λ v. v.need) (gives g s o));
+      uses = with_uses s.uses (s.book.count + 1) (map (λ v. v.need) (uses_of g s o));
       book = with_job s.book (deps_of g s o);
       traps = (accepted g s o).traps;
     })
-    (broken_left (gives g s o) (params_of g o.kernel) o.args
-    (get_or g.runs o.kernel no_run (widths_from (is_parallel g o.kernel) o.waive 0 (params_of g o.kernel)) full_steps (job_length s o.cut None)
-    (arguments_of s (params_of g o.kernel) o.args)).store s)
-
-pub unpending : (s : ScriptState) (parallel auto : Bool) (gs : List Given) (after : List ℕ) → schedule_refusal s parallel auto gs after ≡ None
-    → (if auto then None else pending s (jobs_named s after) (map (λ g. g.need) gs)) ≡ None
-unpending s parallel auto gs after none =
-    let first = first_none (disposed s (map (λ g. g.need.name) gs)) _ none in
-    let second = first_none (stale s (map (λ g. g.need.name) gs)) _ first.1 in
-    let third = first_none (option_map (refused NotParallel) (first_given (λ g. parallel && (g.need.writes && is_shared g.kind)) gs)) _ second.1 in
-    let fourth = first_none (option_map (refused TempInJob) (first_given (λ g. is_temp (s.life g.need.container)) gs)) _ third.1 in
-    let fifth = first_none (option_map (refused Alias) (first_alias [] gs)) _ fourth.1 in
-    (first_none (if auto then None else pending s (jobs_named s after) (map (λ g. g.need) gs)) [] fifth.1).0
-
--- no job blocks a schedule that isn't refused, and what it waits for is known
-module _ (s : ScriptState) (known : IsKnown s) (auto : Bool) (after : List ℕ) (needs : List Need)
-    (none : (if auto then None else pending s (jobs_named s after) needs) ≡ None) where
-  abbrev pub deps_for : Jobs
-  deps_for = (let named = jobs_named s after in if auto then both named (automatic s.book s.uses named needs) else named)
-
-  pub unblocked : (j : ℕ) → 0 < j → j ≤ s.book.count → blocking s.book s.uses deps_for needs j ≡ false
-  unblocked j above le = by auto none
-    where
-      by : (b : Bool) → (if b then None else pending s (jobs_named s after) needs) ≡ None
-          → blocking s.book s.uses (let named = jobs_named s after in if b then both named (automatic s.book s.uses named needs) else named) needs j ≡ false
-      by true h = (automatic_sets_cover s.book s.uses (jobs_named s after) needs known.book known.uses).none_left j
-      by false h = subst (λ r. GreatestIsNamed s (jobs_named s after) needs r) h (greatest_blocker_is_named s (jobs_named s after) needs) j above le
-
-  pub deps_up : AreUpTo s.book.count deps_for
-  deps_up j = by auto
-    where
-      by : (b : Bool) → (let named = jobs_named s after in if b then both named (automatic s.book s.uses named needs) else named) j ≡ true
-          → (0 < j) × (j ≤ s.book.count)
-      by true h = ⊎_elim (named_among s known after j)
-          (λ a. blocking_among s.book s.uses known.uses (jobs_named s after) needs j
-          ((automatic_sets_cover s.book s.uses (jobs_named s after) needs known.book known.uses).blocks j a))
-          (or_cases (jobs_named s after j) (automatic s.book s.uses (jobs_named s after) needs j) h)
-      by false h = named_among s known after j h
+    (broken_left (uses_of g s o) (params_of g o.kernel) o.args (stored g s o) s)
 
 -- the two numbers of a schedule, by the state before it
 pub numbers_are : (s : ScriptState) (cut : Option (ℕ × ℕ)) → numbers_by cut ≡ numbers_of s cut None

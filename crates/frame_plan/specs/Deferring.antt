@@ -2,7 +2,6 @@
 use Rattle.std.specs.Prelude.{Box, ℕ, ◌+◌, ◌≡◌, ◌≤◌, ◌⊎◌, Bool, true, false, ◌&&◌, ◌||◌, nat_eq, if◌then◌else◌, List, [], ◌∷◌, ◌++◌, length, Option, None, Some, slice_get, slice_set}
 use Rattle.std.specs.List.{list_any}
 use Rattle.std.specs.declared.alloc.Global.{Global}
-use Rattle.batch_cut.specs.Cuts.{step_of}
 use Rattle.job_base.specs.declared.Access.TheVariants.{Read}
 use Rattle.job_base.specs.declared.limits.TheConstants.{MOST_INDEXES}
 use Rattle.job_base.specs.declared.Refusal.TheVariants.{Disposed, StaleView, NotParallel, Alias, TempInJob}
@@ -15,27 +14,23 @@ use Rattle.frame_ast.specs.declared.script.Arg.{Arg}
 use Rattle.frame_ast.specs.declared.script.NewJob.{NewJob}
 use Rattle.frame_ast.specs.declared.script.Order.TheVariants.{Schedule}
 use Rattle.frame_ast.specs.declared.script.Statement.{Statement}
-use Rattle.frame_ast.specs.Jobs.{Jobs as JobSet, Book, only, with_job}
+use Rattle.frame_ast.specs.Jobs.{Jobs as JobSet}
 use Rattle.frame_ast.specs.Schedules.{Given, alias}
 use Rattle.job_defer.specs.Guarded.{IsGuarded, GuardsContents, GuardsWords, GuardsFootprint}
 use Rattle.kernel_exec.specs.declared.binds.Bind.{Bind}
 use Rattle.kernel_exec.specs.declared.binds.Bind.TheVariants.{List as WholeList}
-use Rattle.job_handle.specs.Books.{StandsFor, count_of}
-use Rattle.safety_handle.specs.Entries.{state_of}
-use Rattle.frame_core.specs.declared.plan.JobPlan.{JobPlan}
-use Rattle.frame_core.specs.Ordered.{IsCutIn}
 use Rattle.defer_laws.specs.GuardedRuns.{word_at}
 use Rattle.native_list.specs.declared.ListAt.{ListAt}
+use Rattle.frame_plan.specs.declared.accepting.Run.{Run}
 use Rattle.frame_plan.specs.declared.state.Value.{Value}
 use Rattle.frame_plan.specs.declared.state.Planner.{Planner}
 use Rattle.frame_plan.specs.declared.causes.Cause.{Cause}
 use Rattle.frame_plan.specs.declared.uses.NamedUse.{NamedUse}
-use Rattle.frame_plan.specs.Accesses.{tag_for, HasHandle}
+use Rattle.frame_plan.specs.Accesses.{tag_for}
 use Rattle.frame_plan.specs.Causes.{has_cause, first_with, alias_of, pending_of, or_next}
 use Rattle.frame_plan.specs.Growth.{is_none}
 use Rattle.frame_plan.specs.JobBinds.{bind_of_value, job_binds}
-use Rattle.frame_plan.specs.Noting.{noted_all}
-use Rattle.frame_plan.specs.Starting.{in_box, AreLater, IsStarted}
+use Rattle.frame_plan.specs.Starting.{in_box, IsCutBy}
 use Rattle.frame_plan.specs.Uses.{IsBlockedBy, number_of_value, is_temp_in, given_of}
 
 -- THE SCHEDULE
@@ -157,32 +152,16 @@ IsListAt p name at = bind_of_value p (slice_get p.values.items name) ≡ WholeLi
 
 -- ITS JOB
 
--- A job with a deferred length is scheduled: the book of jobs has it, the safety book has its uses, and the segment at
--- hand starts it. It has an index for each element that the list can have.
-pub record IsDeferredStart (script : Script) (old new : Planner) (handle kernel : ℕ) (args : List Arg)
-    (list batch : ℕ) (waive : List ℕ) (noted : List NamedUse) (deps : JobSet) : Type 0 where
+-- What is run for it: the planner has the guarded copy of its kernel. There is an index for each element that the list
+-- can have.
+pub record IsGuardedRun (script : Script) (old new : Planner) (kernel : ℕ) (args : List Arg) (waive : List ℕ)
+    (list batch : ℕ) (run : Run) : Type 0 where
   pub source : Kernel
   pub is_source : slice_get script.kernels.items kernel ≡ Some source
-  -- the planner after the job was noted
-  pub after : Planner
-  pub jobs : (b : Book) → StandsFor old.jobs b → StandsFor after.jobs (with_job b deps)
-  pub safety : (k : ℕ) → state_of after.safety k ≡ noted_all (count_of old.jobs + 1) noted (state_of old.safety) k
-  pub rest : after ≡ record old { jobs = after.jobs; safety = after.safety }
-  -- what is planned
   pub at : ListAt
   pub list_at : IsListAt old list at
-  pub job : JobPlan
-  pub binds : job.binds.items
+  pub guarded : IsGuardedAt script old new kernel run.kernel
+  pub binds : run.binds.items
       ≡ job_binds old source.parallel waive 0 source.params.items args ++ word_at at.start ∷ []
-  pub later_are : AreLater old.jobs_before (count_of old.jobs) deps job.deps.items
-  pub indexes : job.cut.n ≡ at.cap
-  pub step : job.cut.step ≡ step_of at.cap batch
-  pub cut : IsCutIn job
-  pub parallel : job.parallel ≡ (source.parallel && is_none waive)
-  -- after its kernel was guarded, after it was started, and at last its name
-  pub middle : Planner
-  pub guarded : IsGuardedAt script after middle kernel job.kernel
-  pub first : job.first.0 ≡ middle.plan.pieces
-  pub ended : Planner
-  pub started : IsStarted middle ended job
-  pub named : HasHandle ended new handle (only (count_of old.jobs + 1))
+  pub cut_by : IsCutBy (Some (at.cap, batch)) run.cut
+  pub parallel : run.parallel ≡ (source.parallel && is_none waive)

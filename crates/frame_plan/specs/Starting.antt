@@ -28,6 +28,7 @@ use Rattle.plan_laws.specs.Ledgers.{later}
 use Rattle.plan_laws.specs.Planned.{AreJobsUpTo}
 use Rattle.tree_laws.specs.Same.{SameKernel}
 use Rattle.job_base.specs.declared.JobId.{JobId}
+use Rattle.frame_plan.specs.declared.accepting.Run.{Run}
 use Rattle.frame_plan.specs.declared.state.Planner.{Planner}
 use Rattle.frame_plan.specs.declared.uses.NamedUse.{NamedUse}
 use Rattle.frame_plan.specs.Accesses.{HasHandle}
@@ -104,11 +105,19 @@ pub record IsStarted (old new : Planner) (job : JobPlan) : Type 0 where
     };
   }
 
--- A job is scheduled: the book of jobs has it, the safety book has its uses, and the segment at hand starts it.
-pub record IsScheduled (script : Script) (old new : Planner) (handle kernel : ℕ) (args : List Arg)
-    (cut : Option (ℕ × ℕ)) (waive : List ℕ) (uses : List NamedUse) (deps : Jobs) : Type 0 where
+-- What is run for a schedule without `defer`: the planner has a copy of its kernel.
+pub record IsPlainRun (script : Script) (old new : Planner) (kernel : ℕ) (args : List Arg) (cut : Option (ℕ × ℕ))
+    (waive : List ℕ) (run : Run) : Type 0 where
   pub source : Kernel
   pub is_source : slice_get script.kernels.items kernel ≡ Some source
+  pub copied : IsCopied script old new kernel run.kernel
+  pub binds : run.binds.items ≡ job_binds old source.parallel waive 0 source.params.items args
+  pub cut_by : IsCutBy cut run.cut
+  pub parallel : run.parallel ≡ (source.parallel && is_none waive)
+
+-- A job is scheduled: the book of jobs has it, the safety book has its uses, and the segment at hand starts it.
+pub record IsScheduled (old new : Planner) (handle : ℕ) (run : Run) (uses : List NamedUse) (deps : Jobs)
+    : Type 0 where
   -- the planner after the job was noted
   pub after : Planner
   pub jobs : (b : Book) → StandsFor old.jobs b → StandsFor after.jobs (with_job b deps)
@@ -116,16 +125,19 @@ pub record IsScheduled (script : Script) (old new : Planner) (handle kernel : �
   pub rest : after ≡ record old { jobs = after.jobs; safety = after.safety }
   -- what is planned
   pub job : JobPlan
-  pub binds : job.binds.items ≡ job_binds old source.parallel waive 0 source.params.items args
+  pub runs : job ≡ record {
+    kernel = run.kernel;
+    binds = run.binds;
+    cut = run.cut;
+    parallel = run.parallel;
+    deps = job.deps;
+    first = job.first;
+  }
   pub later_are : AreLater old.jobs_before (count_of old.jobs) deps job.deps.items
-  pub cut_by : IsCutBy cut job.cut
-  pub parallel : job.parallel ≡ (source.parallel && is_none waive)
-  -- after its kernel was copied, after it was started, and at last its name
-  pub middle : Planner
-  pub copied : IsCopied script after middle kernel job.kernel
-  pub first : job.first.0 ≡ middle.plan.pieces
+  pub first : job.first.0 ≡ after.plan.pieces
+  -- after it was started, and at last its name
   pub ended : Planner
-  pub started : IsStarted middle ended job
+  pub started : IsStarted after ended job
   pub named : HasHandle ended new handle (only (count_of old.jobs + 1))
 
 -- The dependency set: the named jobs, and with `auto` the automatic set of the uses.

@@ -3,12 +3,13 @@ ghost use Rattle.std.specs.Prelude.{◌≡◌, ◌<◌, ◌≤◌, Some, vec_len
 ghost use Rattle.frame_plan.specs.Stands.{IsThere};
 ghost use Rattle.frame_plan.specs.Accesses.{tag_in, tag_for, slice_in, view_in, bind_by, is_gone, AreThere, IsCause, IsGone, MayUse};
 
+use crate::blocked::refusal_of_blocked;
 use crate::state::{Container, Planner, Value};
 use job_base::Refusal;
 use job_handle::Handle;
 use kernel_exec::Bind;
 use native_array::ArrayAt;
-use safety_handle::{Blocked, Tag};
+use safety_handle::Tag;
 
 impl Planner {
     /// The tag of a container that there is.
@@ -74,9 +75,7 @@ impl Planner {
         };
         match answer {
             Ok(()) => None,
-            Err(Blocked::Disposed) => Some(Refusal::Disposed),
-            Err(Blocked::StaleView) => Some(Refusal::StaleView),
-            Err(Blocked::Pending(job)) => Some(Refusal::Pending(job)),
+            Err(blocked) => Some(refusal_of_blocked(blocked)),
         }
     }
 

@@ -1,24 +1,20 @@
 // The list after `defer` as one more use of a job's: it is read.
-ghost use Rattle.std.specs.Prelude.{◌≡◌, ℕ, ◌<◌, ◌≤◌, vec_len, IfOk};
+ghost use Rattle.std.specs.Prelude.{◌≡◌, ◌<◌, vec_len, IfOk};
 ghost use Rattle.std.specs.List.{list_any};
-ghost use Rattle.job_base.specs.declared.limits.TheConstants.{MOST_JOBS};
 ghost use Rattle.frame_ast.specs.Laws.{AreUpTo};
 ghost use Rattle.frame_ast.specs.Schedules.{alias};
 ghost use Rattle.job_handle.specs.Sets.{jobs_of};
 ghost use Rattle.job_handle.specs.Books.{count_of};
-ghost use Rattle.safety_handle.specs.Entries.{state_of};
 ghost use Rattle.frame_plan.specs.Accesses.{AreThere};
 ghost use Rattle.frame_plan.specs.Uses.{given_of};
-ghost use Rattle.frame_plan.specs.Noting.{MayNoteAll, noted_all};
 ghost use Rattle.frame_plan.specs.Deferring as deferring;
-ghost use Rattle.frame_plan.specs.Deferring.{IsLengthUse, IsListName, IsListAt, length_given, noted_uses};
+ghost use Rattle.frame_plan.specs.Deferring.{IsLengthUse, IsListName, IsListAt, length_given};
 
 use crate::causes::{Cause, first_alias, first_with, pending};
-use crate::noting::note;
 use crate::state::Planner;
 use crate::uses::{NamedUse, number_of};
 use frame_ast::kernel::{ParamKind, writes_to};
-use job_base::{Access, JobId, NoMemory, Refusal};
+use job_base::{Access, NoMemory, Refusal};
 use job_handle::Handle;
 use kernel_exec::Bind;
 use native_list::ListAt;
@@ -58,21 +54,6 @@ impl Planner {
             _ => unreachable!(),
         }
     }
-
-    /// A new job has these uses, and reads the list after `defer`.
-    pub(crate) fn note_deferred(&mut self, args: &[NamedUse], length: &NamedUse, job: JobId)
-        requires job { (0 < job.0) × (job.0 ≤ MOST_JOBS) }
-        requires may { MayNoteAll (noted_uses args.now length.now) (state_of self.old.safety) }
-        ensures noted { (k : ℕ) → state_of self.new.safety k ≡ noted_all job.0 (noted_uses args.now length.now)
-            (state_of self.old.safety) k }
-        ensures rest { self.new ≡ record self.old { safety = self.new.safety } }
-    {
-        self.note_all(args, job);
-        // An argument of the list uses it already, and may write it.
-        if !has_container(args, length.container) {
-            note(&mut self.safety, length, job);
-        }
-    }
 }
 
 /// The uses of the arguments and of the list.
@@ -89,6 +70,22 @@ pub(crate) fn with_length(
     }
     all.push(*length)?;
     Ok(all)
+}
+
+/// Those of them that are noted of the job. An argument of the list uses it already, and may write it.
+pub(crate) fn noted_uses(
+    args: Vec<NamedUse>,
+    all: Vec<NamedUse>,
+    length: &NamedUse,
+) -> Vec<NamedUse>
+    requires { all.items ≡ deferring.with_length args.items length.now }
+    ensures { result.items ≡ deferring.noted_uses args.items length.now }
+{
+    if has_container(&args, length.container) {
+        args
+    } else {
+        all
+    }
 }
 
 /// The cause for which such a schedule is refused; `all` are the uses of the arguments and of the list. With `auto` no

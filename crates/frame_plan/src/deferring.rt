@@ -1,31 +1,23 @@
 // `schedule` with `defer`: a job with as many indexes as a list can have, of which those below the list's length act.
-ghost use Rattle.std.specs.Prelude.{Box, ◌≡◌, ◌≢◌, ◌*◌, ◌^◌, ◌<◌, ◌≤◌, slice_get, ◌++◌, ◌∷◌, [], length, vec_len, IfErr, IfOk, OnOk, None, Some};
-ghost use Rattle.job_base.specs.declared.limits.TheConstants.{MOST_INDEXES, MOST_JOBS, MOST_PARAMS, MOST_PIECES};
+ghost use Rattle.std.specs.Prelude.{Box, ◌≡◌, ◌^◌, ◌<◌, ◌≤◌, slice_get, ◌++◌, ◌∷◌, [], length, vec_len, IfErr, IfOk, OnOk, None, Some};
+ghost use Rattle.job_base.specs.declared.limits.TheConstants.{MOST_INDEXES, MOST_PARAMS};
 ghost use Rattle.frame_ast.specs.declared.kernel.Kernel.{Kernel};
 ghost use Rattle.std.specs.declared.alloc.Global.{Global};
 ghost use Rattle.frame_ast.specs.declared.script.NewJob.{NewJob};
-ghost use Rattle.frame_ast.specs.Laws.{AreUpTo};
-ghost use Rattle.job_handle.specs.Books.{count_of};
-ghost use Rattle.job_handle.specs.Sets.{jobs_of};
-ghost use Rattle.safety_handle.specs.Entries.{state_of};
 ghost use Rattle.defer_laws.specs.GuardedRuns as deferred;
-ghost use Rattle.frame_plan.specs.Deferring.{IsDeferredStart, IsKernelGuardable, IsListName, deferring, noted_uses};
-ghost use Rattle.frame_plan.specs.Noting.{MayNoteAll};
-ghost use Rattle.frame_plan.specs.Starting.{IsFull};
+ghost use Rattle.frame_plan.specs.Deferring.{IsGuardedRun, IsKernelGuardable, IsListName, deferring};
 ghost use Rattle.frame_plan.specs.Accesses.{AreThere};
 ghost use Rattle.frame_plan.specs.JobBinds.{job_binds};
 ghost use Rattle.frame_plan.specs.Steps.{IsBefore, GoesOnIn, FailsIn};
 ghost use Rattle.frame_plan.specs.Uses.{AreNamesBelow};
 
-use crate::deferred_uses::{deferred_refusal, with_length};
+use crate::accepting::Run;
+use crate::deferred_uses::{deferred_refusal, noted_uses, with_length};
 use crate::scheduling::is_split;
 use crate::state::{PlanFault, Planner};
-use crate::uses::NamedUse;
 use frame_ast::kernel::Kernel;
 use frame_ast::script::{Arg, NewJob, Script};
-use frame_core::JobPlan;
-use job_base::{NoMemory, PieceId};
-use job_handle::Handle;
+use job_base::NoMemory;
 use kernel_exec::Bind;
 use native_array::ArrayAt;
 use native_list::ListAt;
@@ -81,17 +73,21 @@ impl Planner {
         let uses = self.uses(alloc, params, &job.args, &named)?;
         let length = self.length_use(list, &named);
         let all = with_length(alloc, &uses, &length)?;
-        match deferred_refusal(&uses, &length, &all, parallel, job.auto) {
-            Some(cause) => self.refuse_schedule(line, job.handle, cause)?,
-            None => {
-                let deps = self.deps(alloc, job.auto, &named, &all)?;
-                self.accept_deferred(
-                    alloc, script, job.handle, job.kernel, &job.args, list, batch, &job.waive,
-                    &uses, &length, &deps,
-                )?;
-            }
+        if let Some(cause) = deferred_refusal(&uses, &length, &all, parallel, job.auto) {
+            self.refuse_schedule(line, job.handle, cause)?;
+            return Ok(());
         }
-        Ok(())
+        let deps = self.deps(alloc, job.auto, &named, &all)?;
+        let noted = noted_uses(uses, all, &length);
+        let run = self.guarded_run(
+            alloc,
+            script,
+            job.kernel,
+            &job.args,
+            &job.waive,
+            (list, batch),
+        )?;
+        self.accept(alloc, job.handle, run, &noted, &deps)
     }
 
     /// The binds of the arguments, and the word that holds the length of the list.
@@ -116,21 +112,16 @@ impl Planner {
         Ok(binds)
     }
 
-    /// The job is scheduled.
-    fn accept_deferred(
+    /// What the job of a schedule with `defer` runs: the guarded kernel, of which the plan has a copy then.
+    fn guarded_run(
         &mut self,
         alloc: Global,
         script: &Script,
-        handle: u32,
         kernel: u32,
         args: &[Arg],
-        list: u32,
-        batch: u32,
         waive: &[u32],
-        uses: &[NamedUse],
-        length_use: &NamedUse,
-        deps: &Handle,
-    ) -> Result<(), PlanFault>
+        defer: (u32, u32),
+    ) -> Result<Run, NoMemory>
         requires kernel { kernel < vec_len script.now.kernels }
         requires guards { vec_len self.old.guards ≡ vec_len script.now.kernels }
         requires guardable { IsKernelGuardable script.now kernel }
@@ -140,41 +131,22 @@ impl Planner {
         requires args { length args.now ≤ MOST_PARAMS }
         requires names { AreNamesBelow (vec_len self.old.values) args.now }
         requires there { AreThere (vec_len self.old.containers) (vec_len self.old.handles) self.old.values.items }
-        requires list { list < vec_len self.old.values }
-        requires is_list { IsListName self.old list }
-        requires batch { (1 ≤ batch) × (batch ≤ MOST_INDEXES) }
-        requires handle { handle < vec_len self.old.values }
-        requires handles { vec_len self.old.handles < 2 ^ 32 }
-        requires uses { MayNoteAll (noted_uses uses.now length_use.now) (state_of self.old.safety) }
-        requires deps { AreUpTo (count_of self.old.jobs) (jobs_of deps.now) }
-        requires before { self.old.jobs_before ≤ count_of self.old.jobs }
-        requires room { count_of self.old.jobs ≢ MOST_JOBS → vec_len self.old.plan.jobs < MOST_JOBS }
-        requires pieces { self.old.plan.pieces ≤ MOST_PIECES * MOST_JOBS }
-
-        ensures done { OnOk result (IsDeferredStart script.now self.old self.new handle kernel args.now list batch
-            waive.now (noted_uses uses.now length_use.now) (jobs_of deps.now)) }
-        ensures full { IfErr result (λ fault. IsFull fault (count_of self.old.jobs)) }
+        requires list { defer.0 < vec_len self.old.values }
+        requires is_list { IsListName self.old defer.0 }
+        requires batch { (1 ≤ defer.1) × (defer.1 ≤ MOST_INDEXES) }
+        ensures { IfOk result (λ run.
+            IsGuardedRun script.now self.old self.new kernel args.now waive.now defer.0 defer.1 run) }
     {
         let of = &script.kernels[kernel as usize];
-        let at = self.list_at(list);
+        let at = self.list_at(defer.0);
         let binds = self.deferred_binds(alloc, of, args, waive, at)?;
-        let later = self.later_jobs(alloc, deps)?;
-        let Ok(job) = self.jobs.add(deps) else {
-            return Err(PlanFault::Jobs);
-        };
-        self.note_deferred(uses, length_use, job);
         let place = self.guarded(alloc, script, kernel)?;
-        let plan = JobPlan {
+        Ok(Run {
             kernel: place,
             binds,
-            cut: batch_cut::cut(at.cap, batch),
+            cut: batch_cut::cut(at.cap, defer.1),
             parallel: is_split(of.parallel, waive),
-            deps: later,
-            first: PieceId(self.plan.pieces),
-        };
-        self.start(alloc, plan)?;
-        self.name_jobs(handle, &Handle::of(job))?;
-        Ok(())
+        })
     }
 }
 

@@ -4,14 +4,14 @@ ghost use Rattle.frame_ast.specs.declared.script.Order.TheVariants.{Dispose as D
 ghost use Rattle.frame_ast.specs.Laws.{AreUpTo};
 ghost use Rattle.job_handle.specs.Books.{count_of};
 ghost use Rattle.job_handle.specs.Sets.{jobs_of};
-ghost use Rattle.frame_plan.specs.Accesses.{AreThere, cause_of};
+ghost use Rattle.frame_plan.specs.Accesses.{AreThere};
 ghost use Rattle.frame_plan.specs.Endings.{CanEnd, CanHold, Disposes, DisposesAfter, IsDisposable, IsGiven, IsHeldBack, IsReadyToDispose, number_of};
 ghost use Rattle.frame_plan.specs.Steps.{IsReady};
 
+use crate::blocked::refusal_of_blocked;
 use crate::state::{Planner, Value};
 use job_base::{NoMemory, Refusal};
 use job_handle::Handle;
-use safety_handle::Blocked;
 
 impl Planner {
     /// `dispose` without `after`. Every user is completed, so the words come back at once.
@@ -66,7 +66,7 @@ impl Planner {
         let tag = self.tag_of(number, None);
         match self.safety.check_dispose(&tag, deps, &self.jobs) {
             Ok(()) => Ok(number),
-            Err(blocked) => Err(refusal_for(blocked)),
+            Err(blocked) => Err(refusal_of_blocked(blocked)),
         }
     }
 
@@ -100,16 +100,5 @@ pub(crate) fn container_of(value: Value) -> Option<u32>
     match value {
         Value::Dead | Value::Jobs(_) => None,
         Value::Whole(of) | Value::Slice { of, .. } | Value::View { of, .. } => Some(of),
-    }
-}
-
-/// The refusal for which a use is blocked.
-fn refusal_for(blocked: Blocked) -> Refusal
-    ensures { Some result ≡ cause_of (Some blocked) }
-{
-    match blocked {
-        Blocked::Disposed => Refusal::Disposed,
-        Blocked::StaleView => Refusal::StaleView,
-        Blocked::Pending(job) => Refusal::Pending(job),
     }
 }

@@ -16,8 +16,10 @@
 //! plan of one section to the next.
 #![tactic(auto)]
 
+mod accepting;
 mod access;
 mod beginning;
+mod blocked;
 mod capacity;
 mod causes;
 mod changing;

@@ -26,7 +26,7 @@ impl Planner {
 }
 
 /// The job has this use.
-pub(crate) fn note(book: &mut SafetyBook, one: &NamedUse, job: JobId)
+fn note(book: &mut SafetyBook, one: &NamedUse, job: JobId)
     requires job { (0 < job.0) × (job.0 ≤ MOST_JOBS) }
     requires may { MayNote one.now (state_of book.old) }
     ensures { (k : ℕ) → state_of book.new k ≡ noted job.0 one.now (state_of book.old) k }

@@ -1,32 +1,30 @@
 // `schedule`: a job that is refused, or that the segment at hand starts.
-ghost use Rattle.std.specs.Prelude.{Box, ◌≡◌, ◌≢◌, ◌*◌, ◌<◌, ◌≤◌, ◌^◌, true, ◌&&◌, IfErr, IfOk, OnOk, Some, slice_get, vec_len, length};
+ghost use Rattle.std.specs.Prelude.{Box, ◌≡◌, ◌<◌, ◌≤◌, ◌^◌, true, ◌&&◌, IfErr, IfOk, OnOk, Some, slice_get, vec_len, length};
 ghost use Rattle.frame_ast.specs.declared.kernel.Kernel.{Kernel};
-ghost use Rattle.job_base.specs.declared.limits.TheConstants.{MOST_JOBS, MOST_PARAMS, MOST_PIECES};
+ghost use Rattle.job_base.specs.declared.limits.TheConstants.{MOST_PARAMS};
 ghost use Rattle.std.specs.declared.alloc.Global.{Global};
 ghost use Rattle.frame_ast.specs.declared.script.NewJob.{NewJob};
 ghost use Rattle.frame_ast.specs.Accepted.{cut_fits};
 ghost use Rattle.frame_ast.specs.Jobs.{nobody};
 ghost use Rattle.frame_core.specs.declared.plan.Act.TheVariants.{Say};
 ghost use Rattle.auto_deps.specs.Needs.{conflicting_with};
-ghost use Rattle.safety_handle.specs.Entries.{state_of};
 ghost use Rattle.frame_plan.specs.Accesses.{AreThere, HasHandle, IsPushed};
 ghost use Rattle.frame_plan.specs.Growth.{is_none};
-ghost use Rattle.frame_plan.specs.Noting.{MayNoteAll};
-ghost use Rattle.frame_plan.specs.Starting.{AreDeps, IsFull, IsScheduled, scheduling};
+ghost use Rattle.frame_plan.specs.Starting.{AreDeps, IsPlainRun, scheduling};
 ghost use Rattle.frame_ast.specs.Laws.{AreUpTo};
 ghost use Rattle.job_handle.specs.Sets.{jobs_of};
 ghost use Rattle.job_handle.specs.Books.{count_of};
 ghost use Rattle.frame_plan.specs.Steps.{IsBefore, GoesOnIn, FailsIn};
 ghost use Rattle.frame_plan.specs.Uses.{AreNamesBelow, tags_of};
 
+use crate::accepting::Run;
 use crate::causes::{Cause, refusal_of};
 use crate::new_job::cut_of;
 use crate::state::{PlanFault, Planner};
 use crate::uses::NamedUse;
 use auto_deps::automatic;
 use frame_ast::script::{Arg, NewJob, Script};
-use frame_core::JobPlan;
-use job_base::{Access, NoMemory, PieceId};
+use job_base::{Access, NoMemory};
 use job_handle::Handle;
 use safety_handle::Tag;
 use std::alloc::Global;
@@ -57,9 +55,8 @@ impl Planner {
             return Ok(());
         }
         let deps = self.deps(alloc, job.auto, &named, &uses)?;
-        self.accept(
-            alloc, script, job.handle, job.kernel, &job.args, job.cut, &job.waive, &uses, &deps,
-        )
+        let run = self.plain_run(alloc, script, job.kernel, &job.args, job.cut, &job.waive)?;
+        self.accept(alloc, job.handle, run, &uses, &deps)
     }
 
     /// A refused schedule makes no job.
@@ -100,19 +97,16 @@ impl Planner {
         Ok(named.combine(&automatic(&tags, named, &self.safety, &self.jobs)))
     }
 
-    /// The job is scheduled.
-    fn accept(
+    /// What the job of a schedule without `defer` runs: its kernel, of which the plan has a copy then.
+    fn plain_run(
         &mut self,
         alloc: Global,
         script: &Script,
-        handle: u32,
         kernel: u32,
         args: &[Arg],
         cut: Option<(u32, u32)>,
         waive: &[u32],
-        uses: &[NamedUse],
-        deps: &Handle,
-    ) -> Result<(), PlanFault>
+    ) -> Result<Run, NoMemory>
         requires kernel { kernel < vec_len script.now.kernels }
         requires kernels { vec_len self.old.kernels ≡ vec_len script.now.kernels }
         requires copies { vec_len self.old.plan.kernels < 2 ^ 32 }
@@ -121,38 +115,18 @@ impl Planner {
         requires args { length args.now ≤ MOST_PARAMS }
         requires names { AreNamesBelow (vec_len self.old.values) args.now }
         requires there { AreThere (vec_len self.old.containers) (vec_len self.old.handles) self.old.values.items }
-        requires handle { handle < vec_len self.old.values }
-        requires handles { vec_len self.old.handles < 2 ^ 32 }
         requires cut { cut_fits cut ≡ true }
-        requires uses { MayNoteAll uses.now (state_of self.old.safety) }
-        requires deps { AreUpTo (count_of self.old.jobs) (jobs_of deps.now) }
-        requires before { self.old.jobs_before ≤ count_of self.old.jobs }
-        requires room { count_of self.old.jobs ≢ MOST_JOBS → vec_len self.old.plan.jobs < MOST_JOBS }
-        requires pieces { self.old.plan.pieces ≤ MOST_PIECES * MOST_JOBS }
-
-        ensures done { OnOk result (
-            IsScheduled script.now self.old self.new handle kernel args.now cut waive.now uses.now (jobs_of deps.now)) }
-        ensures full { IfErr result (λ fault. IsFull fault (count_of self.old.jobs)) }
+        ensures { IfOk result (λ run. IsPlainRun script.now self.old self.new kernel args.now cut waive.now run) }
     {
         let of = &script.kernels[kernel as usize];
         let binds = self.job_binds(alloc, of, args, waive)?;
-        let later = self.later_jobs(alloc, deps)?;
-        let Ok(job) = self.jobs.add(deps) else {
-            return Err(PlanFault::Jobs);
-        };
-        self.note_all(uses, job);
         let place = self.copied(alloc, script, kernel)?;
-        let plan = JobPlan {
+        Ok(Run {
             kernel: place,
             binds,
             cut: cut_of(cut),
             parallel: is_split(of.parallel, waive),
-            deps: later,
-            first: PieceId(self.plan.pieces),
-        };
-        self.start(alloc, plan)?;
-        self.name_jobs(handle, &Handle::of(job))?;
-        Ok(())
+        })
     }
 }
 

@@ -2,8 +2,6 @@
 use Rattle.std.proofs.Common.{◌≡◌, ◌≢◌, ℕ, zero, suc, ◌+◌, ◌-◌, ◌<◌, ◌≤◌, ◌⊎◌, inl, inr, ⊎_elim, Bool, true, false, eqb-true, eq-eqb, ◌&&◌, ◌||◌, not, List, [], ◌∷◌, ◌++◌, length, refl, sym, ap, subst, ◌∙◌, arith}
 use Rattle.std.specs.Prelude.{nat_eq, nat_lt, nat_le, slice_get}
 use Rattle.std.proofs.lemmas.Bool.{or_left, or_right, cases_eq, cases_lt}
-use Rattle.frame_ast.specs.declared.kernel.Param.{Param}
-use Rattle.frame_ast.specs.declared.script.Arg.{Arg}
 use Rattle.frame_ast.specs.Jobs.{Jobs, Book, greatest, ancestors_in, happens_before, Ancestor}
 use Rattle.frame_ast.specs.Conflicts.{has_pending}
 use Rattle.frame_ast.specs.Laws.{IsKnown}
@@ -26,7 +24,6 @@ use Rattle.frame_core.proofs.Small.{not_both, either_bool}
 use Rattle.frame_core.proofs.Touching.{writes_read}
 use Rattle.plan_laws.specs.Drafts.{Draft, part_piece, parts, pieces_of}
 use Rattle.plan_laws.specs.Ledgers.{Owner, Held, Own, owner, number_of, later, is_own_word, owner_live, owner_words, owner_users, owner_writers, ledger_of}
-use Rattle.frame_ast.specs.Fitting.{is_given, is_written}
 use Rattle.plan_laws.specs.Planned.{Outline, ledger_at, jobs_before, IsOrdered, IsPlanned}
 use Rattle.plan_laws.specs.Enrolling.{IsOfArgument, IsEnrolled, ArePartsApart, EnrolledJobsAreInOrder}
 use Rattle.plan_laws.proofs.Owners.{owner_held, owner_own, own_above, words_apart, has_is_word}
@@ -81,9 +78,9 @@ own_once plan (suc j) (suc k) w a b = ⊎_elim
     (λ ge. ⊎_elim (λ lt. absurd (own_less plan k j w lt b a)) (λ le. let e : j ≡ k = omega arith in ap suc e) (cases_lt k j))
     (cases_lt j k)
 
-module _ (x : Outline) (s t : ScriptState) (d : Draft) (job : JobPlan) (params : List Param) (args : List Arg) (deps : Jobs) (known : IsKnown s)
+module _ (x : Outline) (s t : ScriptState) (d : Draft) (job : JobPlan) (given writable : ℕ → Bool) (deps : Jobs) (known : IsKnown s)
     (was : IsPlanned x s d)
-    (en : IsEnrolled x s t (length d.jobs) job params args deps) where
+    (en : IsEnrolled x s t (length d.jobs) job given writable deps) where
   abbrev n : ℕ
   n = length d.jobs
 
@@ -115,17 +112,17 @@ module _ (x : Outline) (s t : ScriptState) (d : Draft) (job : JobPlan) (params :
 
   -- who used a container uses it still; who uses it did so, or is the new job
   user_kept : (c k : ℕ) → (s.uses c).users k ≡ true → (t.uses c).users k ≡ true
-  user_kept c k e = en.users c k ∙ or_left ((s.uses c).users k) (nat_eq k (suc s.book.count) && is_given s params args c) e
+  user_kept c k e = en.users c k ∙ or_left ((s.uses c).users k) (nat_eq k (suc s.book.count) && given c) e
 
-  user_was : (c k : ℕ) → (t.uses c).users k ≡ true → ((s.uses c).users k ≡ true) ⊎ ((k ≡ suc s.book.count) × (is_given s params args c ≡ true))
-  user_was c k e = ⊎_elim (λ u. inl u) (λ u. let b = and_both (nat_eq k (suc s.book.count)) (is_given s params args c) u in
+  user_was : (c k : ℕ) → (t.uses c).users k ≡ true → ((s.uses c).users k ≡ true) ⊎ ((k ≡ suc s.book.count) × (given c ≡ true))
+  user_was c k e = ⊎_elim (λ u. inl u) (λ u. let b = and_both (nat_eq k (suc s.book.count)) (given c) u in
       inr (eqb-true k (suc s.book.count) b.0, b.1)) (or_cases _ _ (sym (en.users c k) ∙ e))
 
   writer_kept : (c k : ℕ) → (s.uses c).writers k ≡ true → (t.uses c).writers k ≡ true
-  writer_kept c k e = en.writers c k ∙ or_left ((s.uses c).writers k) (nat_eq k (suc s.book.count) && is_written s params args c) e
+  writer_kept c k e = en.writers c k ∙ or_left ((s.uses c).writers k) (nat_eq k (suc s.book.count) && writable c) e
 
-  writer_was : (c k : ℕ) → (t.uses c).writers k ≡ true → ((s.uses c).writers k ≡ true) ⊎ ((k ≡ suc s.book.count) × (is_written s params args c ≡ true))
-  writer_was c k e = ⊎_elim (λ u. inl u) (λ u. let b = and_both (nat_eq k (suc s.book.count)) (is_written s params args c) u in
+  writer_was : (c k : ℕ) → (t.uses c).writers k ≡ true → ((s.uses c).writers k ≡ true) ⊎ ((k ≡ suc s.book.count) × (writable c ≡ true))
+  writer_was c k e = ⊎_elim (λ u. inl u) (λ u. let b = and_both (nat_eq k (suc s.book.count)) (writable c) u in
       inr (eqb-true k (suc s.book.count) b.0, b.1)) (or_cases _ _ (sym (en.writers c k) ∙ e))
 
   completed_same : t.book.completed ≡ s.book.completed
@@ -242,17 +239,7 @@ module _ (x : Outline) (s t : ScriptState) (d : Draft) (job : JobPlan) (params :
       let u = later_in before (t.uses c).writers j e in
       in_later before (t.uses c).users j u.0 (⊎_elim (λ w. user_kept c (before + j) ((known.uses c).writers (before + j) w))
       (λ w. en.users c (before + j) ∙ or_right ((s.uses c).users (before + j)) _
-      (both_and (eq-eqb (before + j) (suc s.book.count) w.0) (wrote params args c w.1))) (writer_was c (before + j) u.1))
-    where
-      wrote : (ps : List Param) (as_ : List Arg) (c : ℕ) → is_written s ps as_ c ≡ true → is_given s ps as_ c ≡ true
-      wrote [] as_ c e = absurd (not_both e refl)
-      wrote (p ∷ ps) [] c e = absurd (not_both e refl)
-      wrote (p ∷ ps) (a ∷ as_) c e = by (Rattle.frame_ast.specs.Fitting.is_of s a c) (Rattle.frame_ast.specs.Schedules.writes_to p.access) (wrote ps as_ c) e
-        where
-          by : (o w : Bool) → (is_written s ps as_ c ≡ true → is_given s ps as_ c ≡ true) → ((o && w) || is_written s ps as_ c) ≡ true
-              → (o || is_given s ps as_ c) ≡ true
-          by true w f e = refl
-          by false w f e = f e
+      (both_and (eq-eqb (before + j) (suc s.book.count) w.0) (en.writable_given c w.1))) (writer_was c (before + j) u.1))
   written (Own i) j e = e
 
   -- own words are no container's, and no other job's
@@ -313,12 +300,12 @@ module _ (x : Outline) (s t : ScriptState) (d : Draft) (job : JobPlan) (params :
       (λ a. inr (ancestor_later k pos a))
       (or_cases (s.book.completed (before + k)) (ancestors_in s.book deps (before + k)) e)
 
-  uses_new : (c : ℕ) → is_given s params args c ≡ true → m.users (number_of (Held c)) (suc n) ≡ true
+  uses_new : (c : ℕ) → given c ≡ true → m.users (number_of (Held c)) (suc n) ≡ true
   uses_new c e = ap (λ o. owner_users before t o (suc n)) (owner_held c)
       ∙ in_later before (t.uses c).users (suc n) (omega arith) (en.users c (before + suc n)
       ∙ or_right ((s.uses c).users (before + suc n)) _ (both_and (eq-eqb (before + suc n) (suc s.book.count) (let count = old.count in omega arith)) e))
 
-  writes_new : (c : ℕ) → is_written s params args c ≡ true → m.writers (number_of (Held c)) (suc n) ≡ true
+  writes_new : (c : ℕ) → writable c ≡ true → m.writers (number_of (Held c)) (suc n) ≡ true
   writes_new c e = ap (λ o. owner_writers before t o (suc n)) (owner_held c)
       ∙ in_later before (t.uses c).writers (suc n) (omega arith) (en.writers c (before + suc n)
       ∙ or_right ((s.uses c).writers (before + suc n)) _ (both_and (eq-eqb (before + suc n) (suc s.book.count) (let count = old.count in omega arith)) e))
@@ -327,7 +314,7 @@ module _ (x : Outline) (s t : ScriptState) (d : Draft) (job : JobPlan) (params :
   own_live = ap (owner_live t (suc n)) (owner_own (suc n)) ∙ both_and (let f : nat_lt 0 (suc n) ≡ true = grind arith in f)
       (let f : nat_le (suc n) (suc n) ≡ true = grind arith in f)
 
-  is_used : (w : ℕ) → (is_own_word x.plan (suc n) w ≡ true) ⊎ IsOfArgument x s (is_given s params args) w → IsUsedBy m (suc n) w
+  is_used : (w : ℕ) → (is_own_word x.plan (suc n) w ≡ true) ⊎ IsOfArgument x s given w → IsUsedBy m (suc n) w
   is_used w (inl own) = record {
     container = number_of (Own (suc n));
     live = own_live;
@@ -341,7 +328,7 @@ module _ (x : Outline) (s t : ScriptState) (d : Draft) (job : JobPlan) (params :
     user = uses_new a.container a.is_of;
   }
 
-  written_is : (w : ℕ) → (is_own_word x.plan (suc n) w ≡ true) ⊎ IsOfArgument x s (is_written s params args) w → IsWrittenBy m (suc n) w
+  written_is : (w : ℕ) → (is_own_word x.plan (suc n) w ≡ true) ⊎ IsOfArgument x s writable w → IsWrittenBy m (suc n) w
   written_is w (inl own) = record {
     container = number_of (Own (suc n));
     live = own_live;
@@ -359,11 +346,11 @@ module _ (x : Outline) (s t : ScriptState) (d : Draft) (job : JobPlan) (params :
   old_job : (k : ℕ) → k < suc n → before + k ≢ suc s.book.count
   old_job k lt e = let count = old.count in omega arith
 
-  new_user : (c : ℕ) → (t.uses c).users (before + suc n) ≡ true → is_given s params args c ≡ true
+  new_user : (c : ℕ) → (t.uses c).users (before + suc n) ≡ true → given c ≡ true
   new_user c e = ⊎_elim (λ u. let up = (known.uses c).users (before + suc n) u in let hi = up.1 in let count = old.count in absurd (omega arith)) (λ u. u.1)
       (user_was c (before + suc n) e)
 
-  new_writer : (c : ℕ) → (t.uses c).writers (before + suc n) ≡ true → is_written s params args c ≡ true
+  new_writer : (c : ℕ) → (t.uses c).writers (before + suc n) ≡ true → writable c ≡ true
   new_writer c e = ⊎_elim (λ u. let up = (known.uses c).users (before + suc n) ((known.uses c).writers (before + suc n) u) in let hi = up.1 in
       let count = old.count in absurd (omega arith)) (λ u. u.1) (writer_was c (before + suc n) e)
 
@@ -420,5 +407,5 @@ module _ (x : Outline) (s t : ScriptState) (d : Draft) (job : JobPlan) (params :
       (all_parts k le a)
 
 pub enrolled_jobs_are_in_order : EnrolledJobsAreInOrder
-enrolled_jobs_are_in_order x s t d job params args deps k known was en le apart_ =
-    (is_m x s t d job params args deps known was en, in_order x s t d job params args deps known was en k le apart_)
+enrolled_jobs_are_in_order x s t d job given writable deps k known was en le apart_ =
+    (is_m x s t d job given writable deps known was en, in_order x s t d job given writable deps known was en k le apart_)

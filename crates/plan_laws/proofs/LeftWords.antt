@@ -12,7 +12,6 @@ use Rattle.job_base.specs.declared.Access.TheVariants.{Read, Write, Both}
 use Rattle.frame_ast.specs.Checked.{IsChecked, is_read}
 use Rattle.frame_ast.specs.Arguments.{argument}
 use Rattle.frame_ast.specs.Contents.{Contents, Cells as Elements, Single, Items, Pairs, Entries}
-use Rattle.frame_ast.specs.JobRuns.{full_steps}
 use Rattle.frame_ast.specs.Ranges.{Starts}
 use Rattle.frame_ast.specs.Schedules.{writes_to, arguments_of}
 use Rattle.frame_ast.specs.States.{ScriptState, Value, container_at, contents_at}
@@ -144,7 +143,7 @@ writes_if Write e = refl
 writes_if Both e = refl
 
 -- what is written is used through a bind that may be written
-written_use : (p : Param) (b : Bind) (from to w : ℕ) → Writes p.access b from to w → (writes_to p.access ≡ true) × Uses b from to w
+pub written_use : (p : Param) (b : Bind) (from to w : ℕ) → Writes p.access b from to w → (writes_to p.access ≡ true) × Uses b from to w
 written_use p b from to w u = by (is_read p.access) refl u
   where
     by : (r : Bool) → is_read p.access ≡ r → WritesBy r b from to w → (writes_to p.access ≡ true) × Uses b from to w
@@ -152,7 +151,7 @@ written_use p b from to w u = by (is_read p.access) refl u
     by false e u = (writes_if p.access e, u)
 
 -- a length isn't used
-no_length : (b : Bind) (from to w : ℕ) → Uses b from to w → IsLength b w → ⊥
+pub no_length : (b : Bind) (from to w : ℕ) → Uses b from to w → IsLength b w → ⊥
 no_length (Int z) from to w u l = l
 no_length (Array at own) from to w u l = l
 no_length (View at own) from to w u l = let is = u.is in omega arith
@@ -161,12 +160,12 @@ no_length (Ref at) from to w u l = l
 no_length (Map at) from to w u l = l
 no_length (Stream at own) from to w u l = l
 
-module _ (starts : Starts) (s : ScriptState) (kernel : Kernel) (ws : List ℕ) (args : List Arg) (defer : Option (ℕ × ℕ)) (n limit : ℕ) (old new : Cells)
+module _ (starts : Starts) (s : ScriptState) (kernel : Kernel) (ws : List ℕ) (args : List Arg) (defer : Option (ℕ × ℕ)) (steps n limit : ℕ) (old new : Cells)
     (checked : IsChecked kernel)
     (binds_fit : BindsFit kernel (binds_by starts s kernel.params.items ws args)) (args_are_fit : fit.ArgsFit s defer kernel.params.items args)
     (len : length ws ≡ length kernel.params.items) (un : AreUnshared s kernel.params.items args)
     (held : AllHeld starts s old) (apart : AreApartBelow starts s limit)
-    (is : (w : ℕ) → w < limit → new w ≡ (at_indexes kernel (binds_by starts s kernel.params.items ws args) full_steps n 0 old).store w) where
+    (is : (w : ℕ) → w < limit → new w ≡ (at_indexes kernel (binds_by starts s kernel.params.items ws args) steps n 0 old).store w) where
   args_fit : ArgsFit s kernel.params.items ws args
   args_fit = args_are s defer kernel.params.items ws args args_are_fit len
 
@@ -176,7 +175,7 @@ module _ (starts : Starts) (s : ScriptState) (kernel : Kernel) (ws : List ℕ) (
   stays : (c w : ℕ) → c < s.made → s.alive c ≡ true → IsWordOf (bind_of_container starts s c) w → (IsWritten kernel.params.items binds 0 (0 + n) w → ⊥)
       → new w ≡ old w
   stays c w below alive word out = is w (apart.below c w below alive word)
-      ∙ only_written_words_change.at_many kernel binds full_steps n 0 old w checked binds_fit out
+      ∙ only_written_words_change.at_many kernel binds steps n 0 old w checked binds_fit out
 
   -- who writes a word of a container
   writer_of : (c w : ℕ) → c < s.made → s.alive c ≡ true → IsWordOf (bind_of_container starts s c) w → (u : IsWritten kernel.params.items binds 0 (0 + n) w)
@@ -186,15 +185,16 @@ module _ (starts : Starts) (s : ScriptState) (kernel : Kernel) (ws : List ℕ) (
       let a = argument_word starts s kernel.params.items ws args u.number w u.bind args_fit u.has_bind (uses_word u.bind 0 (0 + n) w v.1) in
       (a.name, a.has, apart.apart (container_at s a.name) c w a.below below a.alive alive a.word word, v.0, v.1)
 
-  job_leaves : JobLeaves starts s kernel.params.items ws args old new (on_contents kernel (widths binds) n 0 (arguments_of s kernel.params.items args)).store
+  job_leaves : JobLeaves starts s kernel.params.items ws args old new
+      (on_contents kernel (widths binds) steps n 0 (arguments_of s kernel.params.items args)).store
   job_leaves =
       let given = arguments_stand starts s old kernel.params.items ws args defer held args_are_fit len in
-      let run = words_run_as_contents kernel binds n 0 old (arguments_of s kernel.params.items args) checked binds_fit given in
+      let run = words_run_as_contents kernel binds steps n 0 old (arguments_of s kernel.params.items args) checked binds_fit given in
       record {
         stand = record {
           count = run.store.count;
-          each = λ x b h. still b (at_indexes kernel binds full_steps n 0 old).store new
-              (argument (on_contents kernel (widths binds) n 0 (arguments_of s kernel.params.items args)).store x) (run.store.each x b h)
+          each = λ x b h. still b (at_indexes kernel binds steps n 0 old).store new
+              (argument (on_contents kernel (widths binds) steps n 0 (arguments_of s kernel.params.items args)).store x) (run.store.each x b h)
               (λ w u. let a = argument_word starts s kernel.params.items ws args x w b args_fit h u in
               is w (apart.below (container_at s a.name) w a.below a.alive a.word));
         };
@@ -222,5 +222,5 @@ module _ (starts : Starts) (s : ScriptState) (kernel : Kernel) (ws : List ℕ) (
       fits_at (p ∷ ps) (q ∷ ws) (a ∷ as_) (suc x) m f h = fits_at ps ws as_ x m f.1 h
 
 pub jobs_leave : JobsLeave
-jobs_leave starts s kernel ws args defer n limit old new checked binds_fit args_fit len un held apart is =
-    job_leaves starts s kernel ws args defer n limit old new checked binds_fit args_fit len un held apart is
+jobs_leave starts s kernel ws args defer steps n limit old new checked binds_fit args_fit len un held apart is =
+    job_leaves starts s kernel ws args defer steps n limit old new checked binds_fit args_fit len un held apart is

@@ -30,7 +30,11 @@ pub mod AtStart
 pub mod Walking
 pub mod Becoming
 pub mod Accepting
-pub mod JobFitting
+pub mod ArgumentBinds
+pub mod AtHand
+pub mod JobAtHand
+pub mod PlainKernels
+pub mod Uses
 pub mod ScheduleTexts
 pub mod Usable
 pub mod Filling

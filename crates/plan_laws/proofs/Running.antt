@@ -35,10 +35,10 @@ use Rattle.plan_laws.specs.Drafts.{parts}
 use Rattle.plan_laws.specs.Running.{WordsRunAsContents, indexes_before, AreFirstParts, PiecesRunAsOne, AllIndexesRun}
 
 pub words_run_as_contents : WordsRunAsContents
-words_run_as_contents kernel binds zero from cells args checked fit st = record { store = st; traps = refl }
-words_run_as_contents kernel binds (suc n) from cells args checked fit st =
-    let e = stands_after kernel binds checked fit from full_steps cells args st in
-    let r = words_run_as_contents kernel binds n (from + 1) _ _ checked fit e.store in
+words_run_as_contents kernel binds steps zero from cells args checked fit st = record { store = st; traps = refl }
+words_run_as_contents kernel binds steps (suc n) from cells args checked fit st =
+    let e = stands_after kernel binds checked fit from steps cells args st in
+    let r = words_run_as_contents kernel binds steps n (from + 1) _ _ checked fit e.store in
     record { store = r.store; traps = λ i. trap_at from (e.trap i) ++ r.traps i }
 
 -- ---- the indexes of pieces

@@ -4,7 +4,6 @@ use Rattle.frame_ast.specs.declared.kernel.Kernel.{Kernel}
 use Rattle.frame_ast.specs.declared.script.Arg.{Arg}
 use Rattle.frame_ast.specs.Checked.{IsChecked}
 use Rattle.frame_ast.specs.Contents.{Contents}
-use Rattle.frame_ast.specs.JobRuns.{full_steps}
 use Rattle.frame_ast.specs.Ranges.{Starts}
 use Rattle.frame_ast.specs.Schedules.{arguments_of}
 use Rattle.frame_ast.specs.States.{ScriptState}
@@ -29,21 +28,21 @@ pub record AreApartBelow (starts : Starts) (s : ScriptState) (limit : ℕ) : Typ
       → c ≡ d
   pub below : (c w : ℕ) → c < s.made → s.alive c ≡ true → IsWordOf (bind_of_container starts s c) w → w < limit
 
--- What so many indexes of a job with these arguments make of the words and of the contents.
+-- What so many indexes of a job with these arguments, each with so many steps, make of the words and of the contents.
 
-abbrev pub words_left : Starts → ScriptState → Kernel → List ℕ → List Arg → ℕ → Cells → Cells
-words_left starts s kernel ws args n cells =
-    (at_indexes kernel (binds_by starts s kernel.params.items ws args) full_steps n 0 cells).store
+abbrev pub words_left : Starts → ScriptState → Kernel → List ℕ → List Arg → ℕ → ℕ → Cells → Cells
+words_left starts s kernel ws args steps n cells =
+    (at_indexes kernel (binds_by starts s kernel.params.items ws args) steps n 0 cells).store
 
-abbrev pub contents_left : Starts → ScriptState → Kernel → List ℕ → List Arg → ℕ → List Contents
-contents_left starts s kernel ws args n =
+abbrev pub contents_left : Starts → ScriptState → Kernel → List ℕ → List Arg → ℕ → ℕ → List Contents
+contents_left starts s kernel ws args steps n =
     let given = widths (binds_by starts s kernel.params.items ws args) in
-    (on_contents kernel given n 0 (arguments_of s kernel.params.items args)).store
+    (on_contents kernel given steps n 0 (arguments_of s kernel.params.items args)).store
 
 -- It leaves the contents that the language says.
 abbrev pub JobsLeave : Type 0
 JobsLeave = (starts : Starts) (s : ScriptState) (kernel : Kernel) (ws : List ℕ) (args : List Arg)
-    (defer : Option (ℕ × ℕ)) (n limit : ℕ) (old new : Cells)
+    (defer : Option (ℕ × ℕ)) (steps n limit : ℕ) (old new : Cells)
     → IsChecked kernel
     → BindsFit kernel (binds_by starts s kernel.params.items ws args)
     → ArgsFit s defer kernel.params.items args
@@ -51,5 +50,5 @@ JobsLeave = (starts : Starts) (s : ScriptState) (kernel : Kernel) (ws : List ℕ
     → AreUnshared s kernel.params.items args
     → AllHeld starts s old
     → AreApartBelow starts s limit
-    → ((w : ℕ) → w < limit → new w ≡ words_left starts s kernel ws args n old w)
-    → JobLeaves starts s kernel.params.items ws args old new (contents_left starts s kernel ws args n)
+    → ((w : ℕ) → w < limit → new w ≡ words_left starts s kernel ws args steps n old w)
+    → JobLeaves starts s kernel.params.items ws args old new (contents_left starts s kernel ws args steps n)

@@ -22,10 +22,10 @@ use Rattle.plan_laws.specs.Drafts.{parts, parts_traps}
 
 -- WORDS AND CONTENTS
 
--- so many indexes from one on, on contents
-abbrev pub on_contents : Kernel → List ℕ → ℕ → ℕ → List Contents → Ran (List Contents)
-on_contents kernel ws n from args = indexes
-    (λ index args. execution (arguments ws index) kernel.body.statements.items full_steps index args)
+-- so many indexes from one on, on contents, each with so many steps
+abbrev pub on_contents : Kernel → List ℕ → ℕ → ℕ → ℕ → List Contents → Ran (List Contents)
+on_contents kernel ws steps n from args = indexes
+    (λ index args. execution (arguments ws index) kernel.body.statements.items steps index args)
     n from args
 
 -- the words afterwards stand for the contents afterwards, and the traps are the same
@@ -34,14 +34,14 @@ pub record AreAlike (binds : List Bind) (on_words : Ran Cells) (ran : Ran (List 
   pub traps : on_words.traps ≡ ran.traps
 
 abbrev pub WordsRunAsContents : Type 0
-WordsRunAsContents = (kernel : Kernel) (binds : List Bind) (n from : ℕ) (cells : Cells) (args : List Contents)
+WordsRunAsContents = (kernel : Kernel) (binds : List Bind) (steps n from : ℕ) (cells : Cells) (args : List Contents)
     → IsChecked kernel
     → BindsFit kernel binds
     → StandFor binds cells args
     → AreAlike
     binds
-    (at_indexes kernel binds full_steps n from cells)
-    (on_contents kernel (widths binds) n from args)
+    (at_indexes kernel binds steps n from cells)
+    (on_contents kernel (widths binds) steps n from args)
 
 -- PIECES
 

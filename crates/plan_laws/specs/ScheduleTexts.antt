@@ -13,22 +13,22 @@ use Rattle.frame_ast.specs.Scripts.{final}
 use Rattle.frame_ast.specs.States.{ScriptState}
 use Rattle.plan_laws.specs.Accepting.{Schedule, accepted, IsAcceptedSchedule}
 
--- what a schedule says where it has no `defer`, which is the second argument
-abbrev pub plain_of : NewJob → Option (ℕ × ℕ) → Option Schedule
-plain_of job None = Some (record {
+-- what a schedule says
+abbrev pub schedule_by : NewJob → Schedule
+schedule_by job = record {
   auto = job.auto;
   handle = job.handle;
   kernel = job.kernel;
   args = job.args.items;
   cut = job.cut;
+  defer = job.defer;
   waive = job.waive.items;
   after = job.after.items;
-})
-plain_of job (Some defer) = None
+}
 
--- the schedule of a statement that is one and has no `defer`
+-- the schedule of a statement that is one
 abbrev pub schedule_of : Order → Option Schedule
-schedule_of (order.Schedule job) = plain_of job.value job.value.defer
+schedule_of (order.Schedule job) = Some (schedule_by job.value)
 schedule_of _ = None
 
 -- The statement does what an accepted schedule does, and the language accepts it as one.

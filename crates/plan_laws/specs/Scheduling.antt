@@ -1,84 +1,61 @@
--- A job that is scheduled, with its kernel and its arguments at hand.
-use Rattle.std.specs.Prelude.{ℕ, suc, ◌≡◌, ◌<◌, ◌^◌, ◌&&◌, ◌||◌, nat_eq, true, List, [], ◌∷◌, ◌++◌, length, map, Option, Some}
-use Rattle.frame_ast.specs.declared.kernel.Kernel.{Kernel}
-use Rattle.frame_ast.specs.declared.script.Arg.{Arg}
-use Rattle.frame_ast.specs.Checked.{IsChecked}
-use Rattle.frame_ast.specs.Contents.{Contents, words_of}
-use Rattle.frame_ast.specs.Conflicts.{Uses}
-use Rattle.frame_ast.specs.Jobs.{Jobs, happens_before, with_job}
-use Rattle.frame_ast.specs.JobRuns.{Ran}
-use Rattle.frame_ast.specs.Laws.{IsKnown, AreUpTo}
-use Rattle.frame_ast.specs.Schedules.{arguments_of, leave_all}
-use Rattle.frame_ast.specs.States.{ScriptState, JobTrap}
+-- A job that the segment at hand starts, whatever its kernel and its arguments are: the plan goes on.
+use Rattle.std.specs.Prelude.{ℕ, suc, ◌≡◌, ◌<◌, ◌^◌, Bool, List, [], ◌∷◌, ◌++◌, length, map, Some}
 use Rattle.job_base.specs.declared.Trap.{Trap}
-use Rattle.kernel_exec.specs.Binds.{widths}
+use Rattle.frame_ast.specs.declared.kernel.Kernel.{Kernel}
+use Rattle.frame_ast.specs.Checked.{IsChecked}
+use Rattle.frame_ast.specs.Contents.{Contents}
+use Rattle.frame_ast.specs.Jobs.{Jobs}
+use Rattle.frame_ast.specs.Laws.{IsKnown}
+use Rattle.frame_ast.specs.States.{ScriptState, JobTrap}
+use Rattle.kernel_exec.specs.Layout.{StandFor}
+use Rattle.merge_laws.specs.Graph.{Cells}
+use Rattle.merge_laws.specs.Pieces.{cells_after}
 use Rattle.frame_core.specs.declared.plan.JobPlan.{JobPlan}
 use Rattle.frame_core.specs.declared.plan.Segment.{Segment}
-use Rattle.frame_core.specs.Names.{kernel_of, has_job, pieces_before}
+use Rattle.frame_core.specs.Names.{kernel_of, pieces_before}
+use Rattle.frame_core.specs.Names as names
 use Rattle.frame_core.specs.Ordered.{JobFits}
-use Rattle.plan_laws.specs.Binds.{binds_by}
-use Rattle.plan_laws.specs.Drafts.{Draft}
-use Rattle.plan_laws.specs.Ledgers.{later}
-use Rattle.frame_ast.specs.Fitting.{ArgsFit, AreUnshared, is_given, is_written}
-use Rattle.plan_laws.specs.Planned.{Outline, jobs_before, IsPlanned, Closes}
-use Rattle.plan_laws.specs.Running.{on_contents}
-
-abbrev pub ran_of : ScriptState → Kernel → List ℕ → ℕ → List Arg → Ran (List Contents)
-ran_of s k ws n args = on_contents k ws n 0 (arguments_of s k.params.items args)
+use Rattle.frame_core.specs.Output.{job_trap}
+use Rattle.plan_laws.specs.Drafts.{Draft, parts, parts_traps, pieces_of}
+use Rattle.plan_laws.specs.Enrolling.{IsEnrolled}
+use Rattle.plan_laws.specs.Leaving.{AllHeld}
+use Rattle.plan_laws.specs.Planned.{Outline, IsPlanned, Closes}
 
 abbrev pub script_trap : ℕ → ℕ × Trap → JobTrap
 script_trap j t = record { job = j; index = t.0; trap = t.1 }
 
--- the state afterwards, but for names and view numbers
-abbrev pub scheduled : ScriptState → Kernel → List ℕ → ℕ → List Arg → Jobs → (ℕ → Uses) → ScriptState
-scheduled s k ws n args deps uses = record s {
-  contents = (leave_all k.params.items args (ran_of s k ws n args).store s).contents;
-  uses = uses;
-  book = with_job s.book deps;
-  traps = s.traps ++ map (script_trap (suc s.book.count)) (ran_of s k ws n args).traps;
-}
+-- the cells after the first pieces of the next job
+abbrev pub cells_with : Outline → Draft → ℕ → Cells
+cells_with x d i = cells_after (parts x.plan (length d.jobs) i ++ pieces_of x.plan d)
 
-pub record IsScheduledJob (x : Outline) (s : ScriptState) (d : Draft) (job : JobPlan) (k : Kernel) (ws : List ℕ)
-    (args : List Arg) (deps : Jobs) (uses : ℕ → Uses) : Type 0 where
+-- What is known of the job and of the state after its schedule: its pieces are enrolled, words stand for contents
+-- before each piece and after all of them, and the traps are those of the script.
+pub record IsStarted (x : Outline) (s t : ScriptState) (d : Draft) (job : JobPlan) (k : Kernel)
+    (given writable : ℕ → Bool) (deps : Jobs) (traps : List (ℕ × Trap)) : Type 0 where
   pub jobs_later : List JobPlan
   pub jobs_are : x.plan.jobs.items ≡ (d.jobs ++ job ∷ []) ++ jobs_later
   pub has_kernel : kernel_of x.plan job ≡ Some k
   pub checked : IsChecked k
   pub fits : JobFits x.plan job k
   pub first : job.first.0 ≡ pieces_before d.jobs (length d.jobs)
-  pub binds : job.binds.items ≡ binds_by x.starts s k.params.items ws args
-  pub widths_are : widths job.binds.items ≡ ws
-  pub defer : Option (ℕ × ℕ)
-  pub args_fit : ArgsFit s defer k.params.items args
-  pub unshared : AreUnshared s k.params.items args
-  pub deps_up : AreUpTo s.book.count deps
-  pub deps_are : (j : ℕ) → has_job job.deps.items j ≡ later (jobs_before x) deps j
-  -- its uses, none of which is blocked
-  pub users : (c j : ℕ) → (uses c).users j
-      ≡ ((s.uses c).users j || (nat_eq j (suc s.book.count) && is_given s k.params.items args c))
-  pub writers : (c j : ℕ) → (uses c).writers j
-      ≡ ((s.uses c).writers j || (nat_eq j (suc s.book.count) && is_written s k.params.items args c))
-  pub readers_free : (c j : ℕ)
-      → is_given s k.params.items args c ≡ true
-      → (s.uses c).writers j ≡ true
-      → happens_before s.book deps j ≡ true
-  pub writers_free : (c j : ℕ)
-      → is_written s k.params.items args c ≡ true
-      → (s.uses c).users j ≡ true
-      → happens_before s.book deps j ≡ true
-  -- containers keep their sizes
-  pub sizes : (c : ℕ)
-      → words_of ((leave_all k.params.items args (ran_of s k ws job.cut.n args).store s).contents c)
-      ≡ words_of (s.contents c)
+  pub enrolled : IsEnrolled x s t (length d.jobs) job given writable deps
+  pub held : AllHeld x.starts t (cells_with x d (names.pieces_of job))
+  pub stand : (i : ℕ) → i < names.pieces_of job
+      → (contents : List Contents) × StandFor job.binds.items (cells_with x d i) contents
+  pub traps_are : parts_traps x.plan (pieces_of x.plan d) (length d.jobs) (names.pieces_of job)
+      ≡ map (job_trap (length d.jobs)) traps
+  pub lines : t.lines ≡ s.lines
+  pub refused : t.refused ≡ s.refused
+  pub traps_more : t.traps ≡ s.traps ++ map (script_trap (suc s.book.count)) traps
 
-abbrev pub ScheduledJobsArePlanned : Type 0
-ScheduledJobsArePlanned = (x : Outline)
+abbrev pub StartedJobsArePlanned : Type 0
+StartedJobsArePlanned = (x : Outline)
     → x.plan.cells < 2 ^ 32
-    → (s : ScriptState) (d e : Draft) (segment : Segment) (job : JobPlan) (k : Kernel) (ws : List ℕ) (args : List Arg)
-    (deps : Jobs) (uses : ℕ → Uses)
+    → (s t : ScriptState) (d e : Draft) (segment : Segment) (job : JobPlan) (k : Kernel) (given writable : ℕ → Bool)
+    (deps : Jobs) (traps : List (ℕ × Trap))
     → IsKnown s
     → IsPlanned x s d
-    → IsScheduledJob x s d job k ws args deps uses
+    → IsStarted x s t d job k given writable deps traps
     → segment.starts ≡ Some (record { 0 = suc (length d.jobs) })
     → Closes d e segment (job ∷ []) []
-    → IsPlanned x (scheduled s k ws job.cut.n args deps uses) e
+    → IsPlanned x t e

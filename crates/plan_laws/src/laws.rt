@@ -1,5 +1,5 @@
 //! Laws over the definitions. A function here does nothing: its contract is the law.
-ghost use Rattle.plan_laws.specs.Accepting.{PlannedJobsFit, SchedulesArePlanned};
+ghost use Rattle.plan_laws.specs.Accepting.{PlainKernelsStandIn, SchedulesArePlanned};
 ghost use Rattle.plan_laws.specs.Accessing.{AcceptedNamesAreWritable, AddsArePlanned, ClearsArePlanned};
 ghost use Rattle.plan_laws.specs.Accessing.{NamesAreWritable, PutsArePlanned, RemovesArePlanned, SetsArePlanned};
 ghost use Rattle.plan_laws.specs.Apart.{PartsAreApart};
@@ -20,7 +20,7 @@ ghost use Rattle.plan_laws.specs.Printing.{NamesAreUsable, PrintsArePlanned};
 ghost use Rattle.plan_laws.specs.Refusing.{RefusalsArePlanned};
 ghost use Rattle.plan_laws.specs.Running.{AllIndexesRun, PiecesRunAsOne, WordsRunAsContents};
 ghost use Rattle.plan_laws.specs.ScheduleTexts.{SchedulesAreAccepted};
-ghost use Rattle.plan_laws.specs.Scheduling.{ScheduledJobsArePlanned};
+ghost use Rattle.plan_laws.specs.Scheduling.{StartedJobsArePlanned};
 ghost use Rattle.plan_laws.specs.Sections.{SectionsBegin};
 ghost use Rattle.plan_laws.specs.WholePlans.{ListsOrderPlans};
 
@@ -148,12 +148,12 @@ pub fn schedules_are_accepted()
     ensures { SchedulesAreAccepted }
 {}
 
-/// The job that is planned for an accepted schedule fits its kernel.
-pub fn planned_jobs_fit()
-    ensures { PlannedJobsFit }
+/// The kernel of a schedule that isn't deferred stands in for itself: its job fits it.
+pub fn plain_kernels_stand_in()
+    ensures { PlainKernelsStandIn }
 {}
 
-/// A schedule that isn't deferred starts a job, which runs in pieces as the language runs it whole.
+/// A schedule starts a job of a kernel that stands in for its own. It runs in pieces as the language runs that whole.
 pub fn schedules_are_planned()
     ensures { SchedulesArePlanned }
 {}
@@ -227,7 +227,7 @@ pub fn enrolled_jobs_are_in_order()
     ensures { EnrolledJobsAreInOrder }
 {}
 
-/// The same with the kernel and the arguments at hand.
-pub fn scheduled_jobs_are_planned()
-    ensures { ScheduledJobsArePlanned }
+/// The segment at hand starts a job, whatever its kernel and its arguments are.
+pub fn started_jobs_are_planned()
+    ensures { StartedJobsArePlanned }
 {}

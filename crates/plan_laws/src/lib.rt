@@ -20,7 +20,8 @@
 //!    word by word, `Apart` and `Enrolling` that its pieces are in order, and `Scheduling` joins them. `WholePlans` and
 //!    `Ending` speak of a whole plan as the list of its pieces.
 //!
-//! What a planner keeps beside the plan, as books and a store of words, isn't spoken of here. Neither is `defer`.
+//! A schedule may run another kernel in place of its own (`Accepting`), as `defer_laws` does for the length of a list.
+//! What a planner keeps beside the plan, as books and a store of words, isn't spoken of here.
 #![tactic(auto)]
 
 pub mod laws;

@@ -6,7 +6,6 @@ use Rattle.safety_handle.specs.Entries.{state_of}
 use Rattle.frame_plan.specs.declared.state.Planner.{Planner}
 use Rattle.frame_plan.specs.Accesses.{HasHandle}
 use Rattle.frame_plan.specs.Noting.{noted_all}
-use Rattle.frame_plan.proofs.Accessing.{read_some}
 use Rattle.frame_plan.proofs.state.Planner.accept.Goals as goal
 
 pub returns-clause-done : goal.returns-clause-done
@@ -17,26 +16,20 @@ returns-clause-done c =
     let jobs = ap (λ (p : Planner). p.jobs) rest in
     let number = c.in-Ok.ensures.number in
     record {
-      source = c.index-of.result.now;
-      is_source = read_some c.args.script.now.kernels c.args.kernel c.index-of.result.now c.requires.kernel c.index-of.ensures;
       after = after;
       jobs = λ b st. subst (λ k. StandsFor k (with_job b (jobs_of c.args.deps.now))) (sym jobs) (c.in-Ok.ensures.book b st);
       safety = λ k. c.note_all.ensures.noted k ∙ ap (λ j. noted_all j c.args.uses.now (state_of old.safety) k) number;
       rest = rest ∙ (λ i. record old { jobs = sym jobs i; safety = after.safety });
       job = record {
-        kernel = c.in_ok-place.place;
-        binds = c.in_ok-binds.binds;
-        cut = c.cut_of.result;
-        parallel = c.is_split.result;
+        kernel = c.args.run.kernel;
+        binds = c.args.run.binds;
+        cut = c.args.run.cut;
+        parallel = c.args.run.parallel;
         deps = c.in_ok-later.later;
-        first = record { 0 = c.copied.new.self.plan.pieces };
+        first = record { 0 = after.plan.pieces };
       };
-      binds = c.in_ok-binds.ensures;
+      runs = refl;
       later_are = c.in_ok-later.ensures;
-      cut_by = c.cut_of.ensures;
-      parallel = c.is_split.ensures;
-      middle = c.copied.new.self;
-      copied = c.in_ok-place.ensures;
       first = refl;
       ended = c.start.new.self;
       started = c.in_ok-start.ensures;

@@ -29,4 +29,4 @@ returns-in-Err c =
     may_not c.args.self.now c.args.name (jobs_of c.args.deps.now) c.index-value.result.now c.in-Some.number
     (read_some c.args.self.now.values c.args.name c.index-value.result.now c.requires.name c.index-value.ensures)
     (sym c.container_of.ensures ∙ c.in-Some.is) c.tag_of-tag.result c.tag_of-tag.ensures (Err c.in-Err.blocked) c.in-Err.ensures
-    c.in-Err.blocked c.refusal_for.result refl c.refusal_for.ensures
+    c.in-Err.blocked c.refusal_of_blocked.result refl c.refusal_of_blocked.ensures

@@ -1,13 +1,22 @@
 -- What each part needs, and how the statement goes on, by the lemmas on schedules of an accepted script.
-use Rattle.std.proofs.Common.{◌∙◌, ap, refl, sym, subst}
+use Rattle.std.proofs.Common.{◌≢◌, ◌*◌, ◌<◌, ◌≤◌, ◌^◌, ◌∙◌, ap, refl, sym, subst}
+use Rattle.std.specs.Prelude.{vec_len}
+use Rattle.job_base.specs.declared.limits.TheConstants.{MOST_JOBS, MOST_PIECES}
+use Rattle.safety_handle.specs.Entries.{state_of}
+use Rattle.frame_plan.specs.declared.state.Planner.{Planner}
+use Rattle.frame_plan.specs.Noting.{MayNoteAll}
+use Rattle.frame_plan.proofs.CopyPlaces.{moved}
 use Rattle.job_handle.specs.Sets.{jobs_of}
-use Rattle.frame_plan.proofs.Accessing.{read_some}
+use Rattle.frame_ast.specs.Orders.{setting}
+use Rattle.frame_plan.specs.Accesses.{AreThere}
+use Rattle.frame_plan.proofs.Accessing.{read_some, are_there}
 use Rattle.frame_plan.proofs.Binding.{on_ok}
 use Rattle.job_handle.specs.Books.{count_of}
 use Rattle.frame_ast.specs.Laws.{AreUpTo}
 use Rattle.auto_deps.specs.Needs.{conflicting_with}
 use Rattle.frame_plan.specs.Causes.{as_refused}
-use Rattle.frame_plan.specs.Starting.{AreDeps}
+use Rattle.frame_plan.specs.Starting.{AreDeps, IsFull}
+use Rattle.frame_plan.specs.Steps.{state_at}
 use Rattle.frame_plan.specs.Uses.{tags_of}
 use Rattle.frame_plan.proofs.ScheduleReady as ready
 use Rattle.frame_plan.proofs.ScheduleReady.{no_cause, if_err}
@@ -67,45 +76,62 @@ deps-requires-clause-named c =
     (jobs_of c.jobs_of_all-named.result) (ready.named_is c.args.script.now c.args.self.now c.args.line r.0 c.args.job.now r.1.table r.1.begun r.1.n
     r.1.found r.1.step r.1.stands (jobs_of c.jobs_of_all-named.result) c.deref.result.now c.deref.ensures.value c.jobs_of_all-named.ensures)
 
-pub accept-requires-clause-kernel : goal.accept-requires-clause-kernel
-accept-requires-clause-kernel c =
+pub plain_run-requires-clause-kernel : goal.plain_run-requires-clause-kernel
+plain_run-requires-clause-kernel c =
     let r = c.requires.ready in
     ready.kernel_below c.args.script.now c.args.self.now c.args.line r.0 c.args.job.now r.1.table r.1.begun r.1.n r.1.found r.1.step r.1.stands
 
-pub accept-requires-clause-copies : goal.accept-requires-clause-copies
-accept-requires-clause-copies c =
+pub plain_run-requires-clause-copies : goal.plain_run-requires-clause-copies
+plain_run-requires-clause-copies c =
     let r = c.requires.ready in
     ready.copies_low c.args.script.now c.args.self.now c.args.line r.0 c.args.job.now r.1.table r.1.begun r.1.n r.1.found r.1.step r.1.stands
 
 pub accept-requires-clause-handle : goal.accept-requires-clause-handle
 accept-requires-clause-handle c =
     let r = c.requires.ready in
-    ready.handle_below c.args.script.now c.args.self.now c.args.line r.0 c.args.job.now r.1.table r.1.begun r.1.n r.1.found r.1.step r.1.stands
+    subst (λ (k : Planner). c.args.job.now.handle < vec_len k.values)
+    (sym (moved c.args.script.now c.args.self.now c.plain_run.new.self c.args.job.now.kernel c.in_ok-run.run'.kernel c.in_ok-run.ensures.copied))
+    (ready.handle_below c.args.script.now c.args.self.now c.args.line r.0 c.args.job.now r.1.table r.1.begun r.1.n r.1.found r.1.step r.1.stands)
+
+pub accept-requires-clause-there : goal.accept-requires-clause-there
+accept-requires-clause-there c =
+    let r = c.requires.ready in
+    subst (λ (k : Planner). AreThere (vec_len k.containers) (vec_len k.handles) k.values.items)
+    (sym (moved c.args.script.now c.args.self.now c.plain_run.new.self c.args.job.now.kernel c.in_ok-run.run'.kernel c.in_ok-run.ensures.copied))
+    (are_there c.args.self.now (setting c.args.script.now r.1.table) r.1.begun r.1.n (state_at c.args.script.now r.1.table r.1.n) r.1.found r.1.stands)
 
 pub accept-requires-clause-handles : goal.accept-requires-clause-handles
 accept-requires-clause-handles c =
     let r = c.requires.ready in
-    ready.handles_low c.args.script.now c.args.self.now c.args.line r.0 c.args.job.now r.1.table r.1.begun r.1.n r.1.found r.1.step r.1.stands
+    subst (λ (k : Planner). vec_len k.handles < 2 ^ 32)
+    (sym (moved c.args.script.now c.args.self.now c.plain_run.new.self c.args.job.now.kernel c.in_ok-run.run'.kernel c.in_ok-run.ensures.copied))
+    (ready.handles_low c.args.script.now c.args.self.now c.args.line r.0 c.args.job.now r.1.table r.1.begun r.1.n r.1.found r.1.step r.1.stands)
 
-pub accept-requires-clause-cut : goal.accept-requires-clause-cut
-accept-requires-clause-cut c =
+pub plain_run-requires-clause-cut : goal.plain_run-requires-clause-cut
+plain_run-requires-clause-cut c =
     let r = c.requires.ready in
     (ready.text c.args.script.now c.args.self.now c.args.line r.0 c.args.job.now r.1.table r.1.begun r.1.n r.1.found r.1.step r.1.stands).cut_fit
 
 pub accept-requires-clause-before : goal.accept-requires-clause-before
 accept-requires-clause-before c =
     let r = c.requires.ready in
-    ready.before_low c.args.script.now c.args.self.now c.args.line r.0 c.args.job.now r.1.table r.1.begun r.1.n r.1.found r.1.step r.1.stands
+    subst (λ (k : Planner). k.jobs_before ≤ count_of k.jobs)
+    (sym (moved c.args.script.now c.args.self.now c.plain_run.new.self c.args.job.now.kernel c.in_ok-run.run'.kernel c.in_ok-run.ensures.copied))
+    (ready.before_low c.args.script.now c.args.self.now c.args.line r.0 c.args.job.now r.1.table r.1.begun r.1.n r.1.found r.1.step r.1.stands)
 
 pub accept-requires-clause-room : goal.accept-requires-clause-room
 accept-requires-clause-room c =
     let r = c.requires.ready in
-    ready.room c.args.script.now c.args.self.now c.args.line r.0 c.args.job.now r.1.table r.1.begun r.1.n r.1.found r.1.step r.1.stands
+    subst (λ (k : Planner). count_of k.jobs ≢ MOST_JOBS → vec_len k.plan.jobs < MOST_JOBS)
+    (sym (moved c.args.script.now c.args.self.now c.plain_run.new.self c.args.job.now.kernel c.in_ok-run.run'.kernel c.in_ok-run.ensures.copied))
+    (ready.room c.args.script.now c.args.self.now c.args.line r.0 c.args.job.now r.1.table r.1.begun r.1.n r.1.found r.1.step r.1.stands)
 
 pub accept-requires-clause-pieces : goal.accept-requires-clause-pieces
 accept-requires-clause-pieces c =
     let r = c.requires.ready in
-    ready.pieces_low c.args.script.now c.args.self.now c.args.line r.0 c.args.job.now r.1.table r.1.begun r.1.n r.1.found r.1.step r.1.stands
+    subst (λ (k : Planner). k.plan.pieces ≤ MOST_PIECES * MOST_JOBS)
+    (sym (moved c.args.script.now c.args.self.now c.plain_run.new.self c.args.job.now.kernel c.in_ok-run.run'.kernel c.in_ok-run.ensures.copied))
+    (ready.pieces_low c.args.script.now c.args.self.now c.args.line r.0 c.args.job.now r.1.table r.1.begun r.1.n r.1.found r.1.step r.1.stands)
 
 pub deps-requires-clause-noted : goal.deps-requires-clause-noted
 deps-requires-clause-noted c =
@@ -145,23 +171,25 @@ accept-requires-clause-uses c =
     (ready.kernel_below c.args.script.now c.args.self.now c.args.line r.0 c.args.job.now r.1.table r.1.begun r.1.n r.1.found r.1.step r.1.stands)
     c.index-2.ensures) c.deref-4.result.now c.deref-4.ensures.value c.refusal_of.result c.refusal_of.ensures)
     ∙ ap as_refused (no_cause c.refusal_of.result c.in_default.not-Some) in
-    ready.may_note c.args.script.now c.args.self.now c.args.line r.0 c.args.job.now r.1.table r.1.begun r.1.n r.1.found r.1.step r.1.stands uses named named_are
-    given none c.deref-8.result.now c.deref-8.ensures.value
+    subst (λ (k : Planner). MayNoteAll c.deref-8.result.now (state_of k.safety))
+    (sym (moved c.args.script.now c.args.self.now c.plain_run.new.self c.args.job.now.kernel c.in_ok-run.run'.kernel c.in_ok-run.ensures.copied))
+    (ready.may_note c.args.script.now c.args.self.now c.args.line r.0 c.args.job.now r.1.table r.1.begun r.1.n r.1.found r.1.step
+    r.1.stands uses named named_are given none c.deref-8.result.now c.deref-8.ensures.value)
 
-pub accept-requires-clause-each : goal.accept-requires-clause-each
-accept-requires-clause-each c =
+pub plain_run-requires-clause-each : goal.plain_run-requires-clause-each
+plain_run-requires-clause-each c =
     let r = c.requires.ready in
     (λ k h. ready.length_is c.args.script.now c.args.self.now c.args.line r.0 c.args.job.now r.1.table r.1.begun r.1.n r.1.found r.1.step r.1.stands k h
     k.params.items c.deref-6.result.now refl c.deref-6.ensures.value)
 
-pub accept-requires-clause-args : goal.accept-requires-clause-args
-accept-requires-clause-args c =
+pub plain_run-requires-clause-args : goal.plain_run-requires-clause-args
+plain_run-requires-clause-args c =
     let r = c.requires.ready in
     ready.few_args c.args.script.now c.args.self.now c.args.line r.0 c.args.job.now r.1.table r.1.begun r.1.n r.1.found r.1.step r.1.stands c.deref-6.result.now
     c.deref-6.ensures.value
 
-pub accept-requires-clause-names : goal.accept-requires-clause-names
-accept-requires-clause-names c =
+pub plain_run-requires-clause-names : goal.plain_run-requires-clause-names
+plain_run-requires-clause-names c =
     let r = c.requires.ready in
     ready.names_below c.args.script.now c.args.self.now c.args.line r.0 c.args.job.now r.1.table r.1.begun r.1.n r.1.found r.1.step r.1.stands
     c.deref-6.result.now c.deref-6.ensures.value
@@ -183,9 +211,11 @@ accept-requires-clause-deps c =
     (ready.kernel_below c.args.script.now c.args.self.now c.args.line r.0 c.args.job.now r.1.table r.1.begun r.1.n r.1.found r.1.step r.1.stands)
     c.index-2.ensures) c.deref-4.result.now c.deref-4.ensures.value c.refusal_of.result c.refusal_of.ensures)
     ∙ ap as_refused (no_cause c.refusal_of.result c.in_default.not-Some) in
-    ready.deps_up c.args.script.now c.args.self.now c.args.line r.0 c.args.job.now r.1.table r.1.begun r.1.n r.1.found r.1.step r.1.stands uses named named_are
+    subst (λ (k : Planner). AreUpTo (count_of k.jobs) (jobs_of c.in_ok-deps.deps))
+    (sym (moved c.args.script.now c.args.self.now c.plain_run.new.self c.args.job.now.kernel c.in_ok-run.run'.kernel c.in_ok-run.ensures.copied))
+    (ready.deps_up c.args.script.now c.args.self.now c.args.line r.0 c.args.job.now r.1.table r.1.begun r.1.n r.1.found r.1.step r.1.stands uses named named_are
     given none (jobs_of c.in_ok-deps.deps) (subst (λ us. AreDeps c.args.job.now.auto named c.args.self.now.jobs c.args.self.now.safety (tags_of us)
-    (jobs_of c.in_ok-deps.deps)) c.deref-5.ensures.value c.in_ok-deps.ensures)
+    (jobs_of c.in_ok-deps.deps)) c.deref-5.ensures.value c.in_ok-deps.ensures))
 
 pub returns-in-Some-clause-goes_on : goal.returns-in-Some-clause-goes_on
 returns-in-Some-clause-goes_on c home table begun n found step st =
@@ -220,10 +250,10 @@ returns-clause-goes_on c = on_ok c.accept.result (λ is home table begun n found
     c.deref-4.result.now c.deref-4.ensures.value c.refusal_of.result c.refusal_of.ensures)
     ∙ ap as_refused (no_cause c.refusal_of.result c.in_default.not-Some) in
     ready.goes_on c.args.script.now c.args.self.now c.args.line home c.args.job.now table begun n found step st uses named named_are given none
-    c.accept.new.self (jobs_of c.in_ok-deps.deps) c.deref-6.result.now c.deref-7.result.now c.deref-8.result.now c.deref-6.ensures.value
-    c.deref-7.ensures.value c.deref-8.ensures.value
+    c.plain_run.new.self c.accept.new.self c.in_ok-run.run' (jobs_of c.in_ok-deps.deps) c.deref-6.result.now c.deref-7.result.now
+    c.deref-8.result.now c.deref-6.ensures.value c.deref-7.ensures.value c.deref-8.ensures.value
     (subst (λ us. AreDeps c.args.job.now.auto named c.args.self.now.jobs c.args.self.now.safety (tags_of us) (jobs_of c.in_ok-deps.deps))
-    c.deref-5.ensures.value c.in_ok-deps.ensures) is) c.accept.ensures.done
+    c.deref-5.ensures.value c.in_ok-deps.ensures) c.in_ok-run.ensures is) c.accept.ensures.done
 
 pub returns-clause-fails : goal.returns-clause-fails
 returns-clause-fails c = if_err c.accept.result (λ fault full home table begun n found step st.
@@ -240,5 +270,7 @@ returns-clause-fails c = if_err c.accept.result (λ fault full home table begun 
     (ready.kernel_below c.args.script.now c.args.self.now c.args.line home c.args.job.now table begun n found step st) c.index-2.ensures)
     c.deref-4.result.now c.deref-4.ensures.value c.refusal_of.result c.refusal_of.ensures)
     ∙ ap as_refused (no_cause c.refusal_of.result c.in_default.not-Some) in
-    ready.fails_so c.args.script.now c.args.self.now c.args.line home c.args.job.now table begun n found step st uses named named_are given none fault full)
+    ready.fails_so c.args.script.now c.args.self.now c.args.line home c.args.job.now table begun n found step st uses named named_are given none fault
+    (subst (λ (k : Planner). IsFull fault (count_of k.jobs))
+    (moved c.args.script.now c.args.self.now c.plain_run.new.self c.args.job.now.kernel c.in_ok-run.run'.kernel c.in_ok-run.ensures.copied) full))
     c.accept.ensures.full

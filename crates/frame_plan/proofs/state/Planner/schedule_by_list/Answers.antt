@@ -1,4 +1,6 @@
-use Rattle.std.proofs.Common.{◌≡◌, refl, sym, ap, subst, ◌∙◌}
+use Rattle.std.proofs.Common.{◌≡◌, ◌≢◌, ◌*◌, ◌<◌, ◌≤◌, ◌^◌, refl, sym, ap, subst, ◌∙◌}
+use Rattle.std.specs.Prelude.{vec_len}
+use Rattle.job_base.specs.declared.limits.TheConstants.{MOST_JOBS, MOST_PIECES}
 use Rattle.frame_ast.specs.declared.kernel.Kernel.{Kernel}
 use Rattle.frame_ast.specs.Laws.{AreUpTo}
 use Rattle.job_handle.specs.Books.{count_of}
@@ -7,17 +9,20 @@ use Rattle.safety_handle.specs.Entries.{state_of}
 use Rattle.auto_deps.specs.Needs.{conflicting_with}
 use Rattle.frame_plan.specs.declared.state.Planner.{Planner}
 use Rattle.frame_core.proofs.Small.{some_is}
-use Rattle.frame_plan.specs.Deferring.{IsDeferredStart, deferred_refusal, noted_uses, with_length}
+use Rattle.frame_plan.specs.Deferring.{deferred_refusal, with_length}
 use Rattle.frame_plan.specs.Noting.{MayNoteAll}
-use Rattle.frame_plan.specs.Starting.{AreDeps}
-use Rattle.frame_plan.specs.Steps.{state_at, HasStepped}
+use Rattle.frame_plan.specs.Starting.{AreDeps, IsFull}
+use Rattle.frame_plan.specs.Steps.{state_at}
 use Rattle.frame_plan.specs.Uses.{tags_of}
-use Rattle.frame_plan.proofs.Accessing.{read_some}
+use Rattle.frame_ast.specs.Orders.{setting}
+use Rattle.frame_plan.specs.Accesses.{AreThere}
+use Rattle.frame_plan.proofs.Accessing.{read_some, are_there}
 use Rattle.frame_plan.proofs.DeferredReady as ready
-use Rattle.frame_plan.proofs.NewContainers.{handed_on}
+use Rattle.frame_plan.proofs.Binding.{on_ok}
+use Rattle.frame_plan.proofs.GuardPlaces.{moved}
 use Rattle.frame_plan.proofs.Rooms as rooms
+use Rattle.frame_plan.proofs.ScheduleReady.{no_cause, if_err}
 use Rattle.frame_plan.proofs.state.Planner.schedule_by_list.Goals as goal
-use Rattle.frame_plan.proofs.state.Planner.schedule_by_list.Goals.{in-Some+in_ok-refuse_schedule-in-Some, in-None+in_ok-deps-in-None+in_ok-accept_deferred-in-None}
 
 pub index-requires : goal.index-requires
 index-requires c =
@@ -31,8 +36,8 @@ index-requires-2 c =
     ready.kernel_below c.args.script.now r.1.table r.1.begun r.1.n r.1.found c.args.line r.0 c.args.job.now c.args.list c.args.batch r.1.step c.args.self.now
     r.1.stands
 
-pub accept_deferred-requires-clause-kernel : goal.accept_deferred-requires-clause-kernel
-accept_deferred-requires-clause-kernel c =
+pub guarded_run-requires-clause-kernel : goal.guarded_run-requires-clause-kernel
+guarded_run-requires-clause-kernel c =
     let r = c.requires.ready in
     ready.kernel_below c.args.script.now r.1.table r.1.begun r.1.n r.1.found c.args.line r.0 c.args.job.now c.args.list c.args.batch r.1.step c.args.self.now
     r.1.stands
@@ -82,8 +87,8 @@ length_use-length-requires-clause-name c =
     ready.list_below c.args.script.now r.1.table r.1.begun r.1.n r.1.found c.args.line r.0 c.args.job.now c.args.list c.args.batch r.1.step c.args.self.now
     r.1.stands
 
-pub accept_deferred-requires-clause-list : goal.accept_deferred-requires-clause-list
-accept_deferred-requires-clause-list c =
+pub guarded_run-requires-clause-list : goal.guarded_run-requires-clause-list
+guarded_run-requires-clause-list c =
     let r = c.requires.ready in
     ready.list_below c.args.script.now r.1.table r.1.begun r.1.n r.1.found c.args.line r.0 c.args.job.now c.args.list c.args.batch r.1.step c.args.self.now
     r.1.stands
@@ -94,11 +99,13 @@ refuse_schedule-requires-clause-name c =
     ready.handle_below c.args.script.now r.1.table r.1.begun r.1.n r.1.found c.args.line r.0 c.args.job.now c.args.list c.args.batch r.1.step c.args.self.now
     r.1.stands
 
-pub accept_deferred-requires-clause-handle : goal.accept_deferred-requires-clause-handle
-accept_deferred-requires-clause-handle c =
+pub accept-requires-clause-handle : goal.accept-requires-clause-handle
+accept-requires-clause-handle c =
     let r = c.requires.ready in
-    ready.handle_below c.args.script.now r.1.table r.1.begun r.1.n r.1.found c.args.line r.0 c.args.job.now c.args.list c.args.batch r.1.step c.args.self.now
-    r.1.stands
+    subst (λ (k : Planner). c.args.job.now.handle < vec_len k.values)
+    (sym (moved c.args.script.now c.args.self.now c.guarded_run.new.self c.args.job.now.kernel c.in_ok-run.run'.kernel c.in_ok-run.ensures.guarded))
+    (ready.handle_below c.args.script.now r.1.table r.1.begun r.1.n r.1.found c.args.line r.0 c.args.job.now c.args.list c.args.batch r.1.step c.args.self.now
+    r.1.stands)
 
 pub refuse_schedule-requires-clause-few : goal.refuse_schedule-requires-clause-few
 refuse_schedule-requires-clause-few c =
@@ -106,11 +113,20 @@ refuse_schedule-requires-clause-few c =
     ready.handles_few c.args.script.now r.1.table r.1.begun r.1.n r.1.found c.args.line r.0 c.args.job.now c.args.list c.args.batch r.1.step c.args.self.now
     r.1.stands
 
-pub accept_deferred-requires-clause-handles : goal.accept_deferred-requires-clause-handles
-accept_deferred-requires-clause-handles c =
+pub accept-requires-clause-there : goal.accept-requires-clause-there
+accept-requires-clause-there c =
     let r = c.requires.ready in
-    ready.handles_few c.args.script.now r.1.table r.1.begun r.1.n r.1.found c.args.line r.0 c.args.job.now c.args.list c.args.batch r.1.step c.args.self.now
-    r.1.stands
+    subst (λ (k : Planner). AreThere (vec_len k.containers) (vec_len k.handles) k.values.items)
+    (sym (moved c.args.script.now c.args.self.now c.guarded_run.new.self c.args.job.now.kernel c.in_ok-run.run'.kernel c.in_ok-run.ensures.guarded))
+    (are_there c.args.self.now (setting c.args.script.now r.1.table) r.1.begun r.1.n (state_at c.args.script.now r.1.table r.1.n) r.1.found r.1.stands)
+
+pub accept-requires-clause-handles : goal.accept-requires-clause-handles
+accept-requires-clause-handles c =
+    let r = c.requires.ready in
+    subst (λ (k : Planner). vec_len k.handles < 2 ^ 32)
+    (sym (moved c.args.script.now c.args.self.now c.guarded_run.new.self c.args.job.now.kernel c.in_ok-run.run'.kernel c.in_ok-run.ensures.guarded))
+    (ready.handles_few c.args.script.now r.1.table r.1.begun r.1.n r.1.found c.args.line r.0 c.args.job.now c.args.list c.args.batch r.1.step c.args.self.now
+    r.1.stands)
 
 pub deps-requires-clause-noted : goal.deps-requires-clause-noted
 deps-requires-clause-noted c =
@@ -120,170 +136,177 @@ deps-requires-clause-noted c =
     let at = read_some c.args.script.now.kernels c.args.job.now.kernel c.index.result.now below c.index.ensures in
     let at2 = read_some c.args.script.now.kernels c.args.job.now.kernel c.index-2.result.now below c.index-2.ensures in
     let same = ap (λ (k : Kernel). k.parallel) (some_is (sym at2 ∙ at)) in
-    let unrefused = c.in-None.ensures ∙ ap (λ us. deferred_refusal us c.length_use-length.result c.index-2.result.now.parallel c.args.job.now.auto)
+    let unrefused = sym (no_cause c.deferred_refusal.result c.in_default.not-Some) ∙ c.deferred_refusal.ensures
+    ∙ ap (λ us. deferred_refusal us c.length_use-length.result c.index-2.result.now.parallel c.args.job.now.auto)
     c.deref-5.ensures.value in
-    let all = c.deref-in-None.ensures.value ∙ c.in_ok-all.ensures ∙ ap (λ us. with_length us c.length_use-length.result) c.deref-4.ensures.value in
+    let all = c.deref-7.ensures.value ∙ c.in_ok-all.ensures ∙ ap (λ us. with_length us c.length_use-length.result) c.deref-4.ensures.value in
     subst (λ us. AreUpTo (count_of c.args.self.now.jobs) (conflicting_with c.args.self.now.safety (tags_of us))) (sym all)
     (ready.conflicts_up c.args.script.now r.1.table r.1.begun r.1.n r.1.found c.args.line r.0 c.args.job.now c.args.list c.args.batch r.1.step c.args.self.now
     r.1.stands c.jobs_of_all-named.result c.deref.result.now c.deref.ensures.value c.jobs_of_all-named.ensures c.index.result.now at c.deref-2.result.now
     c.deref-2.ensures.value c.deref-3.result.now c.deref-3.ensures.value c.in_ok-uses.uses.items c.in_ok-uses.ensures c.length_use-length.result
     c.length_use-length.ensures c.index-2.result.now.parallel same unrefused)
 
-pub accept_deferred-requires-clause-guardable : goal.accept_deferred-requires-clause-guardable
-accept_deferred-requires-clause-guardable c =
+pub guarded_run-requires-clause-guardable : goal.guarded_run-requires-clause-guardable
+guarded_run-requires-clause-guardable c =
     let r = c.requires.ready in
     ready.guardable c.args.script.now r.1.table r.1.begun r.1.n r.1.found c.args.line r.0 c.args.job.now c.args.list c.args.batch r.1.step c.args.self.now
     r.1.stands
 
-pub accept_deferred-requires-clause-copies : goal.accept_deferred-requires-clause-copies
-accept_deferred-requires-clause-copies c =
+pub guarded_run-requires-clause-copies : goal.guarded_run-requires-clause-copies
+guarded_run-requires-clause-copies c =
     let r = c.requires.ready in
     ready.copies_few c.args.script.now r.1.table r.1.begun r.1.n r.1.found c.args.line r.0 c.args.job.now c.args.list c.args.batch r.1.step c.args.self.now
     r.1.stands
 
-pub accept_deferred-requires-clause-each : goal.accept_deferred-requires-clause-each
-accept_deferred-requires-clause-each c =
+pub guarded_run-requires-clause-each : goal.guarded_run-requires-clause-each
+guarded_run-requires-clause-each c =
     let r = c.requires.ready in
     λ k at. ready.each_arg c.args.script.now r.1.table r.1.begun r.1.n r.1.found c.args.line r.0 c.args.job.now c.args.list c.args.batch r.1.step
-    c.args.self.now r.1.stands c.deref-in-None-2.result.now k.params.items k c.deref-in-None-2.ensures.value refl at
+    c.args.self.now r.1.stands c.deref-8.result.now k.params.items k c.deref-8.ensures.value refl at
 
-pub accept_deferred-requires-clause-args : goal.accept_deferred-requires-clause-args
-accept_deferred-requires-clause-args c =
+pub guarded_run-requires-clause-args : goal.guarded_run-requires-clause-args
+guarded_run-requires-clause-args c =
     let r = c.requires.ready in
     ready.few_args c.args.script.now r.1.table r.1.begun r.1.n r.1.found c.args.line r.0 c.args.job.now c.args.list c.args.batch r.1.step c.args.self.now
-    r.1.stands c.deref-in-None-2.result.now c.deref-in-None-2.ensures.value
+    r.1.stands c.deref-8.result.now c.deref-8.ensures.value
 
-pub accept_deferred-requires-clause-names : goal.accept_deferred-requires-clause-names
-accept_deferred-requires-clause-names c =
+pub guarded_run-requires-clause-names : goal.guarded_run-requires-clause-names
+guarded_run-requires-clause-names c =
     let r = c.requires.ready in
     ready.args_below c.args.script.now r.1.table r.1.begun r.1.n r.1.found c.args.line r.0 c.args.job.now c.args.list c.args.batch r.1.step c.args.self.now
-    r.1.stands c.deref-in-None-2.result.now c.deref-in-None-2.ensures.value
+    r.1.stands c.deref-8.result.now c.deref-8.ensures.value
 
-pub accept_deferred-requires-clause-is_list : goal.accept_deferred-requires-clause-is_list
-accept_deferred-requires-clause-is_list c =
+pub guarded_run-requires-clause-is_list : goal.guarded_run-requires-clause-is_list
+guarded_run-requires-clause-is_list c =
     let r = c.requires.ready in
     let below = ready.kernel_below c.args.script.now r.1.table r.1.begun r.1.n r.1.found c.args.line r.0 c.args.job.now c.args.list c.args.batch r.1.step
     c.args.self.now r.1.stands in
     let at = read_some c.args.script.now.kernels c.args.job.now.kernel c.index.result.now below c.index.ensures in
     let at2 = read_some c.args.script.now.kernels c.args.job.now.kernel c.index-2.result.now below c.index-2.ensures in
     let same = ap (λ (k : Kernel). k.parallel) (some_is (sym at2 ∙ at)) in
-    let unrefused = c.in-None.ensures ∙ ap (λ us. deferred_refusal us c.length_use-length.result c.index-2.result.now.parallel c.args.job.now.auto)
+    let unrefused = sym (no_cause c.deferred_refusal.result c.in_default.not-Some) ∙ c.deferred_refusal.ensures
+    ∙ ap (λ us. deferred_refusal us c.length_use-length.result c.index-2.result.now.parallel c.args.job.now.auto)
     c.deref-5.ensures.value in
     ready.list_named c.args.script.now r.1.table r.1.begun r.1.n r.1.found c.args.line r.0 c.args.job.now c.args.list c.args.batch r.1.step c.args.self.now
     r.1.stands c.jobs_of_all-named.result c.deref.result.now c.deref.ensures.value c.jobs_of_all-named.ensures c.index.result.now at c.deref-2.result.now
     c.deref-2.ensures.value c.deref-3.result.now c.deref-3.ensures.value c.in_ok-uses.uses.items c.in_ok-uses.ensures c.length_use-length.result
     c.length_use-length.ensures c.index-2.result.now.parallel same unrefused
 
-pub accept_deferred-requires-clause-batch : goal.accept_deferred-requires-clause-batch
-accept_deferred-requires-clause-batch c =
+pub guarded_run-requires-clause-batch : goal.guarded_run-requires-clause-batch
+guarded_run-requires-clause-batch c =
     let r = c.requires.ready in
     ready.batch_fit c.args.script.now r.1.table r.1.begun r.1.n r.1.found c.args.line r.0 c.args.job.now c.args.list c.args.batch r.1.step c.args.self.now
     r.1.stands
 
-pub accept_deferred-requires-clause-uses : goal.accept_deferred-requires-clause-uses
-accept_deferred-requires-clause-uses c =
+pub accept-requires-clause-uses : goal.accept-requires-clause-uses
+accept-requires-clause-uses c =
     let r = c.requires.ready in
     let below = ready.kernel_below c.args.script.now r.1.table r.1.begun r.1.n r.1.found c.args.line r.0 c.args.job.now c.args.list c.args.batch r.1.step
     c.args.self.now r.1.stands in
     let at = read_some c.args.script.now.kernels c.args.job.now.kernel c.index.result.now below c.index.ensures in
     let at2 = read_some c.args.script.now.kernels c.args.job.now.kernel c.index-2.result.now below c.index-2.ensures in
     let same = ap (λ (k : Kernel). k.parallel) (some_is (sym at2 ∙ at)) in
-    let unrefused = c.in-None.ensures ∙ ap (λ us. deferred_refusal us c.length_use-length.result c.index-2.result.now.parallel c.args.job.now.auto)
+    let unrefused = sym (no_cause c.deferred_refusal.result c.in_default.not-Some) ∙ c.deferred_refusal.ensures
+    ∙ ap (λ us. deferred_refusal us c.length_use-length.result c.index-2.result.now.parallel c.args.job.now.auto)
     c.deref-5.ensures.value in
-    subst (λ us. MayNoteAll (noted_uses us c.length_use-length.result) (state_of c.args.self.now.safety)) (sym c.deref-in-None-4.ensures.value)
+    subst (λ (k : Planner). MayNoteAll c.deref-10.result.now (state_of k.safety))
+    (sym (moved c.args.script.now c.args.self.now c.guarded_run.new.self c.args.job.now.kernel c.in_ok-run.run'.kernel c.in_ok-run.ensures.guarded))
+    (subst (λ us. MayNoteAll us (state_of c.args.self.now.safety)) (sym (c.deref-10.ensures.value ∙ c.noted_uses-noted.ensures))
     (ready.may_note_all c.args.script.now r.1.table r.1.begun r.1.n r.1.found c.args.line r.0 c.args.job.now c.args.list c.args.batch r.1.step c.args.self.now
     r.1.stands c.jobs_of_all-named.result c.deref.result.now c.deref.ensures.value c.jobs_of_all-named.ensures c.index.result.now at c.deref-2.result.now
     c.deref-2.ensures.value c.deref-3.result.now c.deref-3.ensures.value c.in_ok-uses.uses.items c.in_ok-uses.ensures c.length_use-length.result
-    c.length_use-length.ensures c.index-2.result.now.parallel same unrefused)
+    c.length_use-length.ensures c.index-2.result.now.parallel same unrefused))
 
-pub accept_deferred-requires-clause-deps : goal.accept_deferred-requires-clause-deps
-accept_deferred-requires-clause-deps c =
+pub accept-requires-clause-deps : goal.accept-requires-clause-deps
+accept-requires-clause-deps c =
     let r = c.requires.ready in
     let below = ready.kernel_below c.args.script.now r.1.table r.1.begun r.1.n r.1.found c.args.line r.0 c.args.job.now c.args.list c.args.batch r.1.step
     c.args.self.now r.1.stands in
     let at = read_some c.args.script.now.kernels c.args.job.now.kernel c.index.result.now below c.index.ensures in
     let at2 = read_some c.args.script.now.kernels c.args.job.now.kernel c.index-2.result.now below c.index-2.ensures in
     let same = ap (λ (k : Kernel). k.parallel) (some_is (sym at2 ∙ at)) in
-    let unrefused = c.in-None.ensures ∙ ap (λ us. deferred_refusal us c.length_use-length.result c.index-2.result.now.parallel c.args.job.now.auto)
+    let unrefused = sym (no_cause c.deferred_refusal.result c.in_default.not-Some) ∙ c.deferred_refusal.ensures
+    ∙ ap (λ us. deferred_refusal us c.length_use-length.result c.index-2.result.now.parallel c.args.job.now.auto)
     c.deref-5.ensures.value in
-    let all = c.deref-in-None.ensures.value ∙ c.in_ok-all.ensures ∙ ap (λ us. with_length us c.length_use-length.result) c.deref-4.ensures.value in
+    let all = c.deref-7.ensures.value ∙ c.in_ok-all.ensures ∙ ap (λ us. with_length us c.length_use-length.result) c.deref-4.ensures.value in
     let waits = subst (λ us. AreDeps c.args.job.now.auto (jobs_of c.jobs_of_all-named.result) c.args.self.now.jobs c.args.self.now.safety (tags_of us)
-    (jobs_of c.in_ok-deps-in-None.deps)) all c.in_ok-deps-in-None.ensures in
-    ready.deps_up c.args.script.now r.1.table r.1.begun r.1.n r.1.found c.args.line r.0 c.args.job.now c.args.list c.args.batch r.1.step c.args.self.now
+    (jobs_of c.in_ok-deps.deps)) all c.in_ok-deps.ensures in
+    subst (λ (k : Planner). AreUpTo (count_of k.jobs) (jobs_of c.in_ok-deps.deps))
+    (sym (moved c.args.script.now c.args.self.now c.guarded_run.new.self c.args.job.now.kernel c.in_ok-run.run'.kernel c.in_ok-run.ensures.guarded))
+    (ready.deps_up c.args.script.now r.1.table r.1.begun r.1.n r.1.found c.args.line r.0 c.args.job.now c.args.list c.args.batch r.1.step c.args.self.now
     r.1.stands c.jobs_of_all-named.result c.deref.result.now c.deref.ensures.value c.jobs_of_all-named.ensures c.index.result.now at c.deref-2.result.now
     c.deref-2.ensures.value c.deref-3.result.now c.deref-3.ensures.value c.in_ok-uses.uses.items c.in_ok-uses.ensures c.length_use-length.result
-    c.length_use-length.ensures c.index-2.result.now.parallel same unrefused (jobs_of c.in_ok-deps-in-None.deps) waits
+    c.length_use-length.ensures c.index-2.result.now.parallel same unrefused (jobs_of c.in_ok-deps.deps) waits)
 
-pub accept_deferred-requires-clause-before : goal.accept_deferred-requires-clause-before
-accept_deferred-requires-clause-before c =
+pub accept-requires-clause-before : goal.accept-requires-clause-before
+accept-requires-clause-before c =
     let r = c.requires.ready in
-    rooms.jobs_after c.args.script.now r.1.table c.args.self.now r.1.begun r.1.n (state_at c.args.script.now r.1.table r.1.n) r.1.found r.1.stands
+    subst (λ (k : Planner). k.jobs_before ≤ count_of k.jobs)
+    (sym (moved c.args.script.now c.args.self.now c.guarded_run.new.self c.args.job.now.kernel c.in_ok-run.run'.kernel c.in_ok-run.ensures.guarded))
+    (rooms.jobs_after c.args.script.now r.1.table c.args.self.now r.1.begun r.1.n (state_at c.args.script.now r.1.table r.1.n) r.1.found r.1.stands)
 
-pub accept_deferred-requires-clause-room : goal.accept_deferred-requires-clause-room
-accept_deferred-requires-clause-room c =
+pub accept-requires-clause-room : goal.accept-requires-clause-room
+accept-requires-clause-room c =
     let r = c.requires.ready in
-    rooms.job_room c.args.script.now r.1.table c.args.self.now r.1.begun r.1.n (state_at c.args.script.now r.1.table r.1.n) r.1.found r.1.stands
+    subst (λ (k : Planner). count_of k.jobs ≢ MOST_JOBS → vec_len k.plan.jobs < MOST_JOBS)
+    (sym (moved c.args.script.now c.args.self.now c.guarded_run.new.self c.args.job.now.kernel c.in_ok-run.run'.kernel c.in_ok-run.ensures.guarded))
+    (rooms.job_room c.args.script.now r.1.table c.args.self.now r.1.begun r.1.n (state_at c.args.script.now r.1.table r.1.n) r.1.found r.1.stands)
 
-pub accept_deferred-requires-clause-pieces : goal.accept_deferred-requires-clause-pieces
-accept_deferred-requires-clause-pieces c =
+pub accept-requires-clause-pieces : goal.accept-requires-clause-pieces
+accept-requires-clause-pieces c =
     let r = c.requires.ready in
-    rooms.few_pieces c.args.script.now r.1.table c.args.self.now r.1.begun r.1.n (state_at c.args.script.now r.1.table r.1.n) r.1.found r.1.stands
+    subst (λ (k : Planner). k.plan.pieces ≤ MOST_PIECES * MOST_JOBS)
+    (sym (moved c.args.script.now c.args.self.now c.guarded_run.new.self c.args.job.now.kernel c.in_ok-run.run'.kernel c.in_ok-run.ensures.guarded))
+    (rooms.few_pieces c.args.script.now r.1.table c.args.self.now r.1.begun r.1.n (state_at c.args.script.now r.1.table r.1.n) r.1.found r.1.stands)
 
-pub returns-in_err-accept_deferred-in-None-clause-fails : goal.returns-in_err-accept_deferred-in-None-clause-fails
-returns-in_err-accept_deferred-in-None-clause-fails c =
-    let fault = c.in_err-accept_deferred-in-None.field-0.0 in
-    handed_on c.from_residual-in_err-accept_deferred-in-None.result fault _ c.from_residual-in_err-accept_deferred-in-None.ensures.1
-    (λ home table begun n found step st.
+pub noted_uses-noted-requires : goal.noted_uses-noted-requires
+noted_uses-noted-requires c = c.in_ok-all.ensures ∙ ap (λ us. with_length us c.length_use-length.result) c.deref-4.ensures.value
+
+pub returns-in-Some-clause-goes_on : goal.returns-in-Some-clause-goes_on
+returns-in-Some-clause-goes_on c home table begun n found step st =
     let below = ready.kernel_below c.args.script.now table begun n found c.args.line home c.args.job.now c.args.list c.args.batch step c.args.self.now st in
     let at = read_some c.args.script.now.kernels c.args.job.now.kernel c.index.result.now below c.index.ensures in
     let at2 = read_some c.args.script.now.kernels c.args.job.now.kernel c.index-2.result.now below c.index-2.ensures in
     let same = ap (λ (k : Kernel). k.parallel) (some_is (sym at2 ∙ at)) in
-    let unrefused = c.in-None.ensures ∙ ap (λ us. deferred_refusal us c.length_use-length.result c.index-2.result.now.parallel c.args.job.now.auto)
-    c.deref-5.ensures.value in
+    ready.refused_on c.args.script.now table begun n found c.args.line home c.args.job.now c.args.list c.args.batch step c.args.self.now st
+    c.jobs_of_all-named.result c.deref.result.now c.deref.ensures.value c.jobs_of_all-named.ensures c.index.result.now at c.deref-2.result.now
+    c.deref-2.ensures.value c.deref-3.result.now c.deref-3.ensures.value c.in_ok-uses.uses.items c.in_ok-uses.ensures c.length_use-length.result
+    c.length_use-length.ensures c.index-2.result.now.parallel same c.in-Some.cause
+    (sym c.in-Some.is ∙ c.deferred_refusal.ensures
+    ∙ ap (λ us. deferred_refusal us c.length_use-length.result c.index-2.result.now.parallel c.args.job.now.auto) c.deref-5.ensures.value)
+    c.refuse_schedule.new.self c.in_ok-refuse_schedule.ensures
+
+pub returns-clause-goes_on : goal.returns-clause-goes_on
+returns-clause-goes_on c = on_ok c.accept.result (λ is home table begun n found step st.
+    let below = ready.kernel_below c.args.script.now table begun n found c.args.line home c.args.job.now c.args.list c.args.batch step c.args.self.now st in
+    let at = read_some c.args.script.now.kernels c.args.job.now.kernel c.index.result.now below c.index.ensures in
+    let at2 = read_some c.args.script.now.kernels c.args.job.now.kernel c.index-2.result.now below c.index-2.ensures in
+    let same = ap (λ (k : Kernel). k.parallel) (some_is (sym at2 ∙ at)) in
+    let unrefused = sym (no_cause c.deferred_refusal.result c.in_default.not-Some) ∙ c.deferred_refusal.ensures
+    ∙ ap (λ us. deferred_refusal us c.length_use-length.result c.index-2.result.now.parallel c.args.job.now.auto) c.deref-5.ensures.value in
+    let all = c.deref-7.ensures.value ∙ c.in_ok-all.ensures ∙ ap (λ us. with_length us c.length_use-length.result) c.deref-4.ensures.value in
+    let waits = subst (λ us. AreDeps c.args.job.now.auto (jobs_of c.jobs_of_all-named.result) c.args.self.now.jobs c.args.self.now.safety (tags_of us)
+    (jobs_of c.in_ok-deps.deps)) all c.in_ok-deps.ensures in
+    ready.accepted_on c.args.script.now table begun n found c.args.line home c.args.job.now c.args.list c.args.batch step c.args.self.now st
+    c.jobs_of_all-named.result c.deref.result.now c.deref.ensures.value c.jobs_of_all-named.ensures c.index.result.now at c.deref-2.result.now
+    c.deref-2.ensures.value c.deref-3.result.now c.deref-3.ensures.value c.in_ok-uses.uses.items c.in_ok-uses.ensures c.length_use-length.result
+    c.length_use-length.ensures c.index-2.result.now.parallel same
+    unrefused (jobs_of c.in_ok-deps.deps) waits c.guarded_run.new.self c.accept.new.self c.in_ok-run.run' c.deref-8.result.now c.deref-9.result.now
+    c.deref-10.result.now c.deref-8.ensures.value c.deref-9.ensures.value (c.deref-10.ensures.value ∙ c.noted_uses-noted.ensures) c.in_ok-run.ensures is)
+    c.accept.ensures.done
+
+pub returns-clause-fails : goal.returns-clause-fails
+returns-clause-fails c = if_err c.accept.result (λ fault full home table begun n found step st.
+    let below = ready.kernel_below c.args.script.now table begun n found c.args.line home c.args.job.now c.args.list c.args.batch step c.args.self.now st in
+    let at = read_some c.args.script.now.kernels c.args.job.now.kernel c.index.result.now below c.index.ensures in
+    let at2 = read_some c.args.script.now.kernels c.args.job.now.kernel c.index-2.result.now below c.index-2.ensures in
+    let same = ap (λ (k : Kernel). k.parallel) (some_is (sym at2 ∙ at)) in
+    let unrefused = sym (no_cause c.deferred_refusal.result c.in_default.not-Some) ∙ c.deferred_refusal.ensures
+    ∙ ap (λ us. deferred_refusal us c.length_use-length.result c.index-2.result.now.parallel c.args.job.now.auto) c.deref-5.ensures.value in
     ready.fails c.args.script.now table begun n found c.args.line home c.args.job.now c.args.list c.args.batch step c.args.self.now st
     c.jobs_of_all-named.result c.deref.result.now c.deref.ensures.value c.jobs_of_all-named.ensures c.index.result.now at c.deref-2.result.now
     c.deref-2.ensures.value c.deref-3.result.now c.deref-3.ensures.value c.in_ok-uses.uses.items c.in_ok-uses.ensures c.length_use-length.result
-    c.length_use-length.ensures c.index-2.result.now.parallel same unrefused fault c.in_err-accept_deferred-in-None.ensures.full)
-
-pub returns-clause-goes_on : goal.returns-clause-goes_on
-returns-clause-goes_on c home table begun n found step st =
-    let below = ready.kernel_below c.args.script.now table begun n found c.args.line home c.args.job.now c.args.list c.args.batch step c.args.self.now st in
-    let at = read_some c.args.script.now.kernels c.args.job.now.kernel c.index.result.now below c.index.ensures in
-    let at2 = read_some c.args.script.now.kernels c.args.job.now.kernel c.index-2.result.now below c.index-2.ensures in
-    let same = ap (λ (k : Kernel). k.parallel) (some_is (sym at2 ∙ at)) in
-    elim c.match-deferred_refusal.branch [
-      | in-Some+in_ok-refuse_schedule-in-Some w ↦
-          onward w.refuse_schedule.new.self c.match-deferred_refusal.self w.self-is
-          (ready.refused_on c.args.script.now table begun n found c.args.line home c.args.job.now c.args.list c.args.batch step c.args.self.now st
-          c.jobs_of_all-named.result c.deref.result.now c.deref.ensures.value c.jobs_of_all-named.ensures c.index.result.now at c.deref-2.result.now
-          c.deref-2.ensures.value c.deref-3.result.now c.deref-3.ensures.value c.in_ok-uses.uses.items c.in_ok-uses.ensures c.length_use-length.result
-          c.length_use-length.ensures c.index-2.result.now.parallel same w.in-Some.cause
-          (w.in-Some.ensures ∙ ap (λ us. deferred_refusal us c.length_use-length.result c.index-2.result.now.parallel c.args.job.now.auto)
-          c.deref-5.ensures.value) w.refuse_schedule.new.self w.in_ok-refuse_schedule-in-Some.ensures)
-      | in-None+in_ok-deps-in-None+in_ok-accept_deferred-in-None w ↦
-          let unrefused = w.in-None.ensures ∙ ap (λ us. deferred_refusal us c.length_use-length.result c.index-2.result.now.parallel c.args.job.now.auto)
-          c.deref-5.ensures.value in
-          let all = w.deref-in-None.ensures.value ∙ c.in_ok-all.ensures ∙ ap (λ us. with_length us c.length_use-length.result) c.deref-4.ensures.value in
-          let deps = jobs_of w.in_ok-deps-in-None.deps in
-          let waits = subst (λ us. AreDeps c.args.job.now.auto (jobs_of c.jobs_of_all-named.result) c.args.self.now.jobs c.args.self.now.safety
-          (tags_of us) deps) all w.in_ok-deps-in-None.ensures in
-          let given = w.deref-in-None-2.ensures.value ∙ sym c.deref-3.ensures.value in
-          let q = w.accept_deferred.new.self in
-          let done = subst (λ us. IsDeferredStart c.args.script.now c.args.self.now q c.args.job.now.handle c.args.job.now.kernel w.deref-in-None-2.result.now
-          c.args.list c.args.batch w.deref-in-None-3.result.now (noted_uses us c.length_use-length.result) deps) w.deref-in-None-4.ensures.value
-          w.in_ok-accept_deferred-in-None.ensures.done in
-          onward q c.match-deferred_refusal.self w.self-is
-          (ready.accepted_on c.args.script.now table begun n found c.args.line home c.args.job.now c.args.list c.args.batch step c.args.self.now st
-          c.jobs_of_all-named.result c.deref.result.now c.deref.ensures.value c.jobs_of_all-named.ensures c.index.result.now at c.deref-2.result.now
-          c.deref-2.ensures.value c.deref-3.result.now c.deref-3.ensures.value c.in_ok-uses.uses.items c.in_ok-uses.ensures c.length_use-length.result
-          c.length_use-length.ensures c.index-2.result.now.parallel same unrefused deps waits q w.deref-in-None-3.result.now w.deref-in-None-3.ensures.value
-          (subst (λ as_. IsDeferredStart c.args.script.now c.args.self.now q c.args.job.now.handle c.args.job.now.kernel as_ c.args.list c.args.batch
-          w.deref-in-None-3.result.now (noted_uses c.in_ok-uses.uses.items c.length_use-length.result) deps) given done))
-    ]
-  where
-    onward : (q r : Planner) → r ≡ q → HasStepped c.args.script.now table begun n found c.args.self.now q
-        (ready.x c.args.script.now table begun n found c.args.line home c.args.job.now c.args.list c.args.batch)
-        → HasStepped c.args.script.now table begun n found c.args.self.now r
-        (ready.x c.args.script.now table begun n found c.args.line home c.args.job.now c.args.list c.args.batch)
-    onward q r e h = subst (λ k. HasStepped c.args.script.now table begun n found c.args.self.now k
-        (ready.x c.args.script.now table begun n found c.args.line home c.args.job.now c.args.list c.args.batch)) (sym e) h
+    c.length_use-length.ensures c.index-2.result.now.parallel same unrefused fault
+    (subst (λ (k : Planner). IsFull fault (count_of k.jobs))
+    (moved c.args.script.now c.args.self.now c.guarded_run.new.self c.args.job.now.kernel c.in_ok-run.run'.kernel c.in_ok-run.ensures.guarded) full))
+    c.accept.ensures.full

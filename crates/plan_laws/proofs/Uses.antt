@@ -1,39 +1,29 @@
--- The uses of a schedule with `defer`: those of its arguments, and the reading one of its list.
-use Rattle.std.proofs.Common.{◌≡◌, ℕ, ◌<◌, ◌≤◌, ⊎_elim, Bool, true, false, ◌&&◌, ◌||◌, not, eqb-true, List, [], ◌∷◌, ◌++◌, map, Option, Some, None, refl, sym, ap, subst, ◌∙◌}
-use Rattle.std.specs.Prelude.{nat_eq, if◌then◌else◌}
+-- The uses of a schedule: those of its arguments, and with `defer` the reading one of its list. No job is in their way.
+use Rattle.std.proofs.Common.{◌≡◌, ℕ, ◌<◌, ◌≤◌, ⊎_elim, Bool, true, false, ◌&&◌, ◌||◌, not, eqb-true, eq-eqb, List, [], ◌∷◌, map, Option, Some, None, refl, sym, ap, subst, ◌∙◌}
+use Rattle.std.specs.Prelude.{nat_eq, if◌then◌else◌, option_map}
 use Rattle.std.proofs.lemmas.Bool.{or_cases, or_left, or_right, and_parts}
-use Rattle.job_base.specs.declared.Access.TheVariants.{Read}
+use Rattle.job_base.specs.declared.Refusal.TheVariants.{NotParallel, Alias, TempInJob}
 use Rattle.frame_ast.specs.declared.kernel.Param.{Param}
 use Rattle.frame_ast.specs.declared.script.Arg.{Arg}
 use Rattle.frame_ast.specs.declared.script.Arg.TheVariants.{Name, Number}
 use Rattle.frame_ast.specs.Conflicts.{Uses, Need, conflicts, blocking, automatic, uses_it, writes_it}
 use Rattle.frame_ast.specs.Fitting as fit
-use Rattle.frame_ast.specs.Fitting.{is_of, is_given, is_written}
+use Rattle.frame_ast.specs.Fitting.{is_given, is_written, LengthFits}
 use Rattle.frame_ast.specs.Jobs.{Jobs, both, happens_before}
 use Rattle.frame_ast.specs.Laws.{IsKnown, AreUpTo, GreatestIsNamed}
 use Rattle.frame_ast.specs.Refusals.{jobs_named, pending, refused, disposed, stale, is_temp, first_given, schedule_refusal}
-use Rattle.frame_ast.specs.Schedules.{Given, writes_to, is_shared, first_alias, givens}
+use Rattle.frame_ast.specs.Schedules.{Given, writes_to, is_shared, first_alias, given_length, givens}
 use Rattle.frame_ast.specs.States.{ScriptState, container_at}
 use Rattle.frame_ast.proofs.Blocking.{greatest_blocker_is_named, blocking_among}
 use Rattle.frame_ast.proofs.Covering.{automatic_sets_cover}
 use Rattle.frame_ast.proofs.NameKinds.{first_none}
-use Rattle.job_base.specs.declared.Refusal.TheVariants.{NotParallel, Alias, TempInJob}
-use Rattle.std.specs.Prelude.{option_map}
 use Rattle.frame_core.proofs.Small.{not_both, or_false_left, or_false_right}
-
-or_assoc : (a b c : Bool) → (a || (b || c)) ≡ ((a || b) || c)
-or_assoc true b c = refl
-or_assoc false b c = refl
 
 and_turned : (a b : Bool) → (a && b) ≡ (b && a)
 and_turned true true = refl
 and_turned true false = refl
 and_turned false true = refl
 and_turned false false = refl
-
-unwritten : (b w : Bool) → w ≡ false → ((b && w) || false) ≡ false
-unwritten true w e = ap (λ w. w || false) e
-unwritten false w e = refl
 
 -- who isn't in the way happens before
 is_before : (a h : Bool) → a ≡ true → (a && not h) ≡ false → h ≡ true
@@ -51,67 +41,70 @@ unpending s parallel auto gs after none =
     let fifth = first_none (option_map (refused Alias) (first_alias [] gs)) _ fourth.1 in
     (first_none (if auto then None else pending s (jobs_named s after) (map (λ g. g.need) gs)) [] fifth.1).0
 
+-- what may be written is used
+pub written_used : (needs : List Need) (c : ℕ) → writes_it needs c ≡ true → uses_it needs c ≡ true
+written_used [] c e = absurd (not_both e refl)
+written_used (n ∷ more) c e = ⊎_elim
+    (λ here. or_left (nat_eq c n.container) (uses_it more c) (and_parts n.writes (nat_eq c n.container) here).1)
+    (λ there. or_right (nat_eq c n.container) (uses_it more c) (written_used more c there))
+    (or_cases (n.writes && nat_eq c n.container) (writes_it more c) e)
+
 module _ (s : ScriptState) where
-  -- ---- as if the list were a last argument, which is only read
-
-  module _ (last : Param) (list : ℕ) where
-    pub given_more : (defer : Option (ℕ × ℕ)) (ps : List Param) (as_ : List Arg) (c : ℕ) → fit.ArgsFit s defer ps as_
-        → is_given s (ps ++ last ∷ []) (as_ ++ Name list ∷ []) c ≡ (is_given s ps as_ c || (nat_eq c (container_at s list) || false))
-    given_more defer [] [] c f = refl
-    given_more defer [] (a ∷ as_) c f = absurd f
-    given_more defer (p ∷ ps) [] c f = absurd f
-    given_more defer (p ∷ ps) (a ∷ as_) c f =
-        ap (λ b. is_of s a c || b) (given_more defer ps as_ c f.1) ∙ or_assoc (is_of s a c) (is_given s ps as_ c) (nat_eq c (container_at s list) || false)
-
-    pub written_more : (defer : Option (ℕ × ℕ)) (ps : List Param) (as_ : List Arg) (c : ℕ) → fit.ArgsFit s defer ps as_ → last.access ≡ Read
-        → is_written s (ps ++ last ∷ []) (as_ ++ Name list ∷ []) c ≡ is_written s ps as_ c
-    written_more defer [] [] c f read = unwritten (nat_eq c (container_at s list)) (writes_to last.access) (ap writes_to read)
-    written_more defer [] (a ∷ as_) c f read = absurd f
-    written_more defer (p ∷ ps) [] c f read = absurd f
-    written_more defer (p ∷ ps) (a ∷ as_) c f read = ap (λ b. (is_of s a c && writes_to p.access) || b) (written_more defer ps as_ c f.1 read)
-
   -- ---- the uses of a statement
 
-  abbrev pub needs_of : List Param → List Arg → ℕ × ℕ → List Need
-  needs_of ps as_ defer = map (λ g. g.need) (givens s ps as_ (Some defer))
+  abbrev pub needs_by : List Param → List Arg → Option (ℕ × ℕ) → List Need
+  needs_by ps as_ defer = map (λ g. g.need) (givens s ps as_ defer)
 
-  pub used_are : (ps : List Param) (as_ : List Arg) (defer : ℕ × ℕ) (c : ℕ)
-      → uses_it (needs_of ps as_ defer) c ≡ (is_given s ps as_ c || (nat_eq c (container_at s defer.0) || false))
-  used_are [] as_ defer c = refl
-  used_are (p ∷ ps) [] defer c = refl
-  used_are (p ∷ ps) (Name n ∷ as_) defer c =
-      ap (λ b. nat_eq c (container_at s n) || b) (used_are ps as_ defer c)
-      ∙ or_assoc (nat_eq c (container_at s n)) (is_given s ps as_ c) (nat_eq c (container_at s defer.0) || false)
-  used_are (p ∷ ps) (Number z ∷ as_) defer c = used_are ps as_ defer c
-
-  pub written_are : (ps : List Param) (as_ : List Arg) (defer : ℕ × ℕ) (c : ℕ) → writes_it (needs_of ps as_ defer) c ≡ is_written s ps as_ c
-  written_are [] as_ defer c = refl
-  written_are (p ∷ ps) [] defer c = refl
-  written_are (p ∷ ps) (Name n ∷ as_) defer c =
-      let turned = and_turned (writes_to p.access) (nat_eq c (container_at s n)) in
-      let more = written_are ps as_ defer c in
-      λ i. turned i || more i
-  written_are (p ∷ ps) (Number z ∷ as_) defer c = written_are ps as_ defer c
-
-  pub given_below : (defer : Option (ℕ × ℕ)) (ps : List Param) (as_ : List Arg) (c : ℕ) → fit.ArgsFit s defer ps as_ → is_given s ps as_ c ≡ true
-      → (c < s.made) × (s.alive c ≡ true)
-  given_below defer [] as_ c f e = absurd (not_both e refl)
-  given_below defer (p ∷ ps) [] c f e = absurd (not_both e refl)
-  given_below defer (p ∷ ps) (Name n ∷ as_) c f e = ⊎_elim
-      (λ here. let at = eqb-true c (container_at s n) here in (subst (λ c. c < s.made) (sym at) f.0.made, subst (λ c. s.alive c ≡ true) (sym at) f.0.alive))
-      (λ there. given_below defer ps as_ c f.1 there)
+  pub argument_used : (defer : Option (ℕ × ℕ)) (ps : List Param) (as_ : List Arg) (c : ℕ) → is_given s ps as_ c ≡ true
+      → uses_it (needs_by ps as_ defer) c ≡ true
+  argument_used defer [] as_ c e = absurd (not_both e refl)
+  argument_used defer (p ∷ ps) [] c e = absurd (not_both e refl)
+  argument_used defer (p ∷ ps) (Name n ∷ as_) c e = ⊎_elim
+      (λ here. or_left (nat_eq c (container_at s n)) (uses_it (needs_by ps as_ defer) c) here)
+      (λ there. or_right (nat_eq c (container_at s n)) (uses_it (needs_by ps as_ defer) c) (argument_used defer ps as_ c there))
       (or_cases (nat_eq c (container_at s n)) (is_given s ps as_ c) e)
-  given_below defer (p ∷ ps) (Number z ∷ as_) c f e = given_below defer ps as_ c f.1 e
+  argument_used defer (p ∷ ps) (Number z ∷ as_) c e = argument_used defer ps as_ c e
 
-  pub written_given : (ps : List Param) (as_ : List Arg) (c : ℕ) → is_written s ps as_ c ≡ true → is_given s ps as_ c ≡ true
-  written_given [] as_ c e = absurd (not_both e refl)
-  written_given (p ∷ ps) [] c e = absurd (not_both e refl)
-  written_given (p ∷ ps) (a ∷ as_) c e = by (is_of s a c) (writes_to p.access) (written_given ps as_ c) e
-    where
-      by : (o w : Bool) → (is_written s ps as_ c ≡ true → is_given s ps as_ c ≡ true) → ((o && w) || is_written s ps as_ c) ≡ true
-          → (o || is_given s ps as_ c) ≡ true
-      by true w f e = refl
-      by false w f e = f e
+  pub argument_written : (defer : Option (ℕ × ℕ)) (ps : List Param) (as_ : List Arg) (c : ℕ) → is_written s ps as_ c ≡ true
+      → writes_it (needs_by ps as_ defer) c ≡ true
+  argument_written defer [] as_ c e = absurd (not_both e refl)
+  argument_written defer (p ∷ ps) [] c e = absurd (not_both e refl)
+  argument_written defer (p ∷ ps) (Name n ∷ as_) c e = ⊎_elim
+      (λ here. or_left (writes_to p.access && nat_eq c (container_at s n)) (writes_it (needs_by ps as_ defer) c)
+      (and_turned (writes_to p.access) (nat_eq c (container_at s n)) ∙ here))
+      (λ there. or_right (writes_to p.access && nat_eq c (container_at s n)) (writes_it (needs_by ps as_ defer) c)
+      (argument_written defer ps as_ c there))
+      (or_cases (nat_eq c (container_at s n) && writes_to p.access) (is_written s ps as_ c) e)
+  argument_written defer (p ∷ ps) (Number z ∷ as_) c e = argument_written defer ps as_ c e
+
+  pub list_used : (ps : List Param) (as_ : List Arg) (defer : ℕ × ℕ) → uses_it (needs_by ps as_ (Some defer)) (container_at s defer.0) ≡ true
+  list_used [] as_ defer = or_left (nat_eq (container_at s defer.0) (container_at s defer.0)) false
+      (eq-eqb (container_at s defer.0) (container_at s defer.0) refl)
+  list_used (p ∷ ps) [] defer = or_left (nat_eq (container_at s defer.0) (container_at s defer.0)) false
+      (eq-eqb (container_at s defer.0) (container_at s defer.0) refl)
+  list_used (p ∷ ps) (Name n ∷ as_) defer = or_right (nat_eq (container_at s defer.0) (container_at s n)) _ (list_used ps as_ defer)
+  list_used (p ∷ ps) (Number z ∷ as_) defer = list_used ps as_ defer
+
+  -- ---- they are alive
+
+  list_alive : (defer : Option (ℕ × ℕ)) (c : ℕ) → LengthFits s defer → uses_it (map (λ g. g.need) (given_length s defer)) c ≡ true
+      → (c < s.made) × (s.alive c ≡ true)
+  list_alive None c l e = absurd (not_both e refl)
+  list_alive (Some defer) c l e =
+      let at : c ≡ container_at s defer.0 = eqb-true c (container_at s defer.0)
+      (⊎_elim (λ h. h) (λ h. absurd (not_both h refl)) (or_cases (nat_eq c (container_at s defer.0)) false e)) in
+      (subst (λ c. c < s.made) (sym at) l.made, subst (λ c. s.alive c ≡ true) (sym at) l.alive)
+
+  pub used_alive : (defer : Option (ℕ × ℕ)) (ps : List Param) (as_ : List Arg) (c : ℕ) → fit.ArgsFit s defer ps as_ → LengthFits s defer
+      → uses_it (needs_by ps as_ defer) c ≡ true
+      → (c < s.made) × (s.alive c ≡ true)
+  used_alive defer [] as_ c f l e = list_alive defer c l e
+  used_alive defer (p ∷ ps) [] c f l e = absurd f
+  used_alive defer (p ∷ ps) (Name n ∷ as_) c f l e = ⊎_elim
+      (λ here. let at = eqb-true c (container_at s n) here in (subst (λ c. c < s.made) (sym at) f.0.made, subst (λ c. s.alive c ≡ true) (sym at) f.0.alive))
+      (λ there. used_alive defer ps as_ c f.1 l there)
+      (or_cases (nat_eq c (container_at s n)) (uses_it (needs_by ps as_ defer) c) e)
+  used_alive defer (p ∷ ps) (Number z ∷ as_) c f l e = used_alive defer ps as_ c f.1 l e
 
   -- ---- none of them is blocked
 

@@ -1,4 +1,4 @@
--- What a job with a deferred length is given: its arguments, of which the list may be one, and the word of the length.
+-- The list after `defer`: its words, and the word that holds its length.
 use Rattle.std.proofs.Common.{◌≡◌, ◌⊎◌, ⊎_elim, ℕ, ◌+◌, ◌<◌, ◌≤◌, Bool, true, List, [], ◌∷◌, length, get_or, Option, Some, None, refl, sym, ap, subst, ◌∙◌, arith}
 use Rattle.std.specs.Prelude.{slice_get}
 use Rattle.job_base.specs.declared.limits.TheConstants.{MOST_INDEXES}
@@ -31,77 +31,11 @@ use Rattle.frame_plan.specs.Deferring.{IsListBind, IsListName, IsListAt}
 use Rattle.frame_plan.specs.JobBinds.{as_array, as_kind, bind_of_value, job_bind, job_binds}
 use Rattle.frame_plan.specs.Stands.{jobs_at, value_for, IsThere, Agrees, Stands}
 use Rattle.frame_plan.specs.Uses.{IsNameBelow}
-use Rattle.frame_plan.proofs.Arguments.{fits_contents, view_array, kind_is}
 use Rattle.frame_plan.proofs.Binding.{binds_at}
 use Rattle.frame_plan.proofs.Meaning.{some_at}
 use Rattle.frame_plan.proofs.ScheduleText.{EachBelow}
 
--- ---- a value that fits a parameter, where the list may be given as an array
-
-module _ (s : ScriptState) (d : Bool) where
-  deferred_contents : (k : ParamKind) (v : states.Value) → FitsKind s d k v → FitsContents v (s.contents (container_of v))
-  deferred_contents IntKind v h = absurd h
-  deferred_contents ArrayKind states.Dead h = absurd h
-  deferred_contents ArrayKind (states.Whole c) h = tt
-  deferred_contents ArrayKind (states.Slice c start len) h = h
-  deferred_contents ArrayKind (states.View c number) h = h.0
-  deferred_contents ArrayKind (states.Handle jobs) h = absurd h
-  deferred_contents ListKind v h = fits_contents s ListKind v h
-  deferred_contents RefKind v h = fits_contents s RefKind v h
-  deferred_contents MapKind v h = fits_contents s MapKind v h
-  deferred_contents StreamKind v h = fits_contents s StreamKind v h
-
-  whole_elements : (width start : ℕ) (c : Contents) → (kind_of c ≡ kind.Array) ⊎ ((d ≡ true) × (kind_of c ≡ kind.List))
-      → as_array width (bind_of start c) ≡ array_for width (states.Whole 0) start c
-  whole_elements width start (Elements xs) h = refl
-  whole_elements width start (Single z) h = ⊎_elim (λ e. absurd cc) (λ (u : (d ≡ true) × (kind.Reference ≡ kind.List)). let e = u.1 in absurd cc) h
-  whole_elements width start (Items cap xs) h = refl
-  whole_elements width start (Pairs cap ps) h = refl
-  whole_elements width start (Entries room es) h = ⊎_elim (λ e. absurd cc) (λ (u : (d ≡ true) × (kind.Stream ≡ kind.List)). let e = u.1 in absurd cc) h
-
-  deferred_array : (width start : ℕ) (v : states.Value) → FitsKind s d ArrayKind v
-      → as_array width (bind_for v start (s.contents (container_of v))) ≡ array_for width v start (s.contents (container_of v))
-  deferred_array width start states.Dead h = absurd h
-  deferred_array width start (states.Whole c) h = whole_elements width start (s.contents c) h
-  deferred_array width start (states.Slice c from len) h = refl
-  deferred_array width start (states.View c number) h = view_array s width start number c (s.contents c) h.0
-  deferred_array width start (states.Handle jobs) h = absurd h
-
-  deferred_kind : (k : ParamKind) (width start : ℕ) (v : states.Value) → FitsKind s d k v
-      → as_kind k width (bind_for v start (s.contents (container_of v))) ≡ bind_as k width v start (s.contents (container_of v))
-  deferred_kind IntKind width start v h = absurd h
-  deferred_kind ArrayKind width start v h = deferred_array width start v h
-  deferred_kind ListKind width start v h = kind_is s ListKind width start v h
-  deferred_kind RefKind width start v h = kind_is s RefKind width start v h
-  deferred_kind MapKind width start v h = kind_is s MapKind width start v h
-  deferred_kind StreamKind width start v h = kind_is s StreamKind width start v h
-
--- ---- all arguments
-
 module _ (p : Planner) (g : Setting) (begun : ScriptState) (n : ℕ) (s : ScriptState) (found : List ℕ) (st : Stands p g begun n s found) where
-  module _ (x : Outline) (a : Agrees p g begun found x) (defer : Option (ℕ × ℕ)) where
-    deferred_arg : (q : Param) (width : ℕ) (arg : Arg) → IsNameBelow (length p.values.items) arg → ArgFits s defer q arg
-        → job_bind p q.kind width arg ≡ bind_by x.starts s q width arg
-    deferred_arg q width (Number z) below fit = refl
-    deferred_arg q width (Name m) below fit =
-        let v = some_at p.values.items m below in
-        let usable : IsUsable s m = record { below = fit.made; fits = deferred_contents s (is_deferred defer m) q.kind (s.values m) fit.value } in
-        ap (λ o. as_kind q.kind width (bind_of_value p o)) v.1
-        ∙ ap (as_kind q.kind width) (binds_at p g begun n s found st x a m v.0 v.1 usable)
-        ∙ deferred_kind s (is_deferred defer m) q.kind width (start_at x.starts s m) (s.values m) fit.value
-
-    pub deferred_args : (parallel : Bool) (waive : List ℕ) (y : ℕ) (qs : List Param) (args : List Arg) → EachBelow (length p.values.items) args
-        → ArgsFit s defer qs args
-        → job_binds p parallel waive y qs args ≡ binds_by x.starts s qs (widths_from parallel waive y qs) args
-    deferred_args parallel waive y [] args below fit = refl
-    deferred_args parallel waive y (q ∷ qs) [] below fit = absurd fit
-    deferred_args parallel waive y (q ∷ qs) (arg ∷ args) below fit =
-        let one = deferred_arg q (width_at parallel waive y q) arg below.0 fit.0 in
-        let more = deferred_args parallel waive (y + 1) qs args below.1 fit.1 in
-        λ i. one i ∷ more i
-
-  -- ---- the list
-
   -- the words of a whole list
   pub record IsList (list : ℕ) : Type 0 where
     pub at : ListAt

@@ -13,7 +13,7 @@ use Rattle.frame_core.proofs.Small.{some_is, none_some}
 use Rattle.frame_plan.specs.declared.causes.Cause.{Cause}
 use Rattle.frame_plan.specs.declared.state.Planner.{Planner}
 use Rattle.frame_plan.specs.declared.uses.NamedUse.{NamedUse}
-use Rattle.frame_plan.specs.Causes.{has_cause, first_with, alias_after, alias_of, greatest_blocker, pending_of, or_next}
+use Rattle.frame_plan.specs.Causes.{has_cause, first_with, alias_after, alias_of, greatest_blocker, pending_of, or_next, refusal_by}
 use Rattle.frame_plan.specs.Causes as causes
 use Rattle.frame_plan.specs.Deferring.{with_length, length_given, deferred_refusal}
 use Rattle.frame_plan.specs.Uses.{given_of, ForNames, IsUse}
@@ -71,6 +71,18 @@ module _ (m : ℕ) where
       by : (n : ℕ) → IsNamed (causes.pending_on us n)
       by zero = none_named
       by (suc j) = first_named (Pending (record { 0 = suc j })) (has_cause false (Pending (record { 0 = suc j }))) us are
+
+  pub refusal_named : (us : List NamedUse) (parallel auto : Bool) → AreNamed m us → IsNamed (refusal_by us parallel auto)
+  refusal_named us parallel auto are =
+      next_named _ _ (first_named Disposed (has_cause parallel Disposed) us are)
+      (next_named _ _ (first_named StaleView (has_cause parallel StaleView) us are)
+      (next_named _ _ (first_named NotParallel (has_cause parallel NotParallel) us are)
+      (next_named _ _ (first_named TempInJob (has_cause parallel TempInJob) us are)
+      (next_named _ _ (alias_named [] us are) (by auto)))))
+    where
+      by : (b : Bool) → IsNamed (if b then None else pending_of us)
+      by true = none_named
+      by false = pending_named us are
 
   pub deferred_named : (us : List NamedUse) (u : NamedUse) (parallel auto : Bool) → AreNamed m us → u.name < m → IsNamed (deferred_refusal us u parallel auto)
   deferred_named us u parallel auto are lt =
