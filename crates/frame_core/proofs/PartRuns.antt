@@ -137,20 +137,3 @@ job_of_piece plan j i x p e =
 pub kernel_there : (plan : Plan) (j : ℕ) (x : JobPlan) (k : Kernel) → IsWellOrderedPlan plan → job_at plan j ≡ Some x
     → k ≡ Rattle.std.proofs.Common.get_or plan.kernels.items x.kernel k → kernel_of plan x ≡ Some k
 kernel_there plan j x k well hx e = slice_get_read plan.kernels.items (length plan.kernels.items) x.kernel k refl (well.jobs.has_kernel j x hx) e
-
--- the piece that a number below that of all pieces of jobs names
-pub record Finds (plan : Plan) (p j : ℕ) (x : JobPlan) : Type 0 where
-  pub job : job_at plan j ≡ Some x
-  pub below : p - x.first.0 < pieces_of x
-  pub is : piece_numbered plan p ≡ OfJob j (p - x.first.0)
-
-pub finds : (plan : Plan) (p j : ℕ) (x : JobPlan) → IsWellOrderedPlan plan → j < length plan.jobs.items → pieces_before plan.jobs.items j ≤ p
-    → p < pieces_before plan.jobs.items (j + 1)
-    → x ≡ Rattle.std.proofs.Common.get_or plan.jobs.items j x → Finds plan p j x
-finds plan p j x well lt lo hi e =
-    let there : job_at plan j ≡ Some x = slice_get_read plan.jobs.items (length plan.jobs.items) j x refl lt e in
-    let first = well.order.firsts j x there in
-    let next = pieces_next plan.jobs.items j x there in
-    let up : j + 1 ≡ suc j = omega arith in
-    let hi' : p < pieces_before plan.jobs.items (suc j) = subst (λ k. p < pieces_before plan.jobs.items k) up hi in
-    record { job = there; below = omega arith; is = part_numbered plan p j x there lo hi ∙ ap (λ f. OfJob j (p - f)) (sym first) }

@@ -34,13 +34,13 @@ pub fn touches(alloc: Global, plan: &Plan, p: PieceId) -> Result<Vec<Touch>, NoM
     Ok(out)
 }
 
-// Whether some operations touch a word: with `only`, whether they write it.
-fn is_of_ops(only: bool, ops: &[Op], w: u32) -> bool
+// Whether some operations touch a word: with `written_only`, whether they write it.
+fn is_of_ops(written_only: bool, ops: &[Op], w: u32) -> bool
     requires fits { (plan : Plan) × All (OpFits plan) ops.now × (plan.cells < 2 ^ 32) }
-    ensures { result ≡ hits only (ops_touch ops.now) w }
+    ensures { result ≡ hits written_only (ops_touch ops.now) w }
 {
     for i in 0..ops.len() {
-        if act_touches(&ops[i].act).is_hit(only, w) {
+        if act_touches(&ops[i].act).is_hit(written_only, w) {
             return true;
         }
     }
@@ -68,9 +68,9 @@ struct Part<'a> {
     span: Span,
 }
 
-// Whether some indexes touch a word through some binds: with `only`, whether they write it.
+// Whether some indexes touch a word through some binds: with `written_only`, whether they write it.
 fn is_of_binds(
-    only: bool,
+    written_only: bool,
     parallel: bool,
     params: &[Param],
     binds: &[Bind],
@@ -81,7 +81,8 @@ fn is_of_binds(
     requires fits { (x : ℕ) (b : Bind) → slice_get binds.now x ≡ Some b → end_of b < 2 ^ 32 }
     requires few { span.now.start + span.now.len < 2 ^ 32 }
     ensures { result
-        ≡ hits only (binds_touch parallel params.now binds.now span.now.start (span.now.start + span.now.len)) w }
+        ≡ hits written_only
+        (binds_touch parallel params.now binds.now span.now.start (span.now.start + span.now.len)) w }
 {
     for i in 0..binds.len() {
         let touches = bind_touches(
@@ -91,7 +92,7 @@ fn is_of_binds(
             span.start,
             span.start + span.len,
         );
-        if touches.is_hit(only, w) {
+        if touches.is_hit(written_only, w) {
             return true;
         }
     }
@@ -144,23 +145,24 @@ impl Plan {
         self.touch(true, p, w)
     }
 
-    fn touch(&self, only: bool, p: PieceId, w: Word) -> bool
+    fn touch(&self, written_only: bool, p: PieceId, w: Word) -> bool
         requires well { IsWellOrderedPlan self.now }
         requires piece { p.0 < piece_count self.now }
-        ensures { result ≡ hits only (touches self.now (piece_numbered self.now p.0)) w.0 }
+        ensures { result ≡ hits written_only (touches self.now (piece_numbered self.now p.0)) w.0 }
     {
         match self.piece(p) {
-            Piece::OfScript(k) => self.touch_of_segment(only, k, w.0),
-            Piece::OfJob(j, i) => self.touch_of_part(only, j, i, w.0),
+            Piece::OfScript(k) => self.touch_of_segment(written_only, k, w.0),
+            Piece::OfJob(j, i) => self.touch_of_part(written_only, j, i, w.0),
         }
     }
 
-    fn touch_of_segment(&self, only: bool, k: u32, w: u32) -> bool
+    fn touch_of_segment(&self, written_only: bool, k: u32, w: u32) -> bool
         requires well { IsWellOrderedPlan self.now }
         requires segment { k < length self.now.segments.items }
-        ensures { result ≡ hits only (touches self.now (OfScript k)) w }
+        ensures { result ≡ hits written_only (touches self.now (OfScript k)) w }
     {
-        is_of_ops(only, &self.segments[k as usize].ops, w) || self.notes_read(k).is_hit(only, w)
+        is_of_ops(written_only, &self.segments[k as usize].ops, w)
+            || self.notes_read(k).is_hit(written_only, w)
     }
 
     fn list_segment(&self, out: &mut Vec<Touch>, k: u32) -> Result<(), NoMemory>
@@ -187,14 +189,21 @@ impl Plan {
         }
     }
 
-    fn touch_of_part(&self, only: bool, j: u32, i: u32, w: u32) -> bool
+    fn touch_of_part(&self, written_only: bool, j: u32, i: u32, w: u32) -> bool
         requires well { IsWellOrderedPlan self.now }
         requires piece { IsPieceOf self.now (OfJob j i) }
-        ensures { result ≡ hits only (touches self.now (OfJob j i)) w }
+        ensures { result ≡ hits written_only (touches self.now (OfJob j i)) w }
     {
         let part = self.part(j, i);
-        part.own.is_hit(only, w)
-            || is_of_binds(only, part.parallel, part.params, part.binds, &part.span, w)
+        part.own.is_hit(written_only, w)
+            || is_of_binds(
+                written_only,
+                part.parallel,
+                part.params,
+                part.binds,
+                &part.span,
+                w,
+            )
     }
 
     fn list_part(&self, out: &mut Vec<Touch>, j: u32, i: u32) -> Result<(), NoMemory>

@@ -4,12 +4,11 @@
 //! [`apply_op`] does one statement of a segment and [`run_piece`] one piece of a job, over any memory. A [`Board`] is
 //! where workers begin, count and open pieces, and a [`Lease`] is the memory of a piece that was begun.
 //!
-//! A piece has three names, which give one another (`laws::pieces_are_named`): calls take its number, the laws of the
-//! merge its place in script order, and definitions what it is of ([`Piece`]).
+//! A piece has three names, which give one another (`laws::pieces_are_named`): most calls take its number, the laws of
+//! the merge its place in script order, and definitions what it is of ([`Piece`]).
 //!
-//! [`touches`] alone takes memory. [`apply_op`] is one match. [`run_piece`] finds its job by halving, and beside the
-//! run of the kernel it writes three words where an index trapped, and none else. A lease tests nothing: what a piece
-//! may touch is known before.
+//! [`touches`] alone takes memory. [`apply_op`] is one match. [`run_piece`] writes, beside the run of the kernel, three
+//! words where an index trapped, and none else. A lease tests nothing: what a piece may touch is known before.
 //!
 //! A script reaches this crate as a plan alone, and that the plan is well ordered is a condition of the calls. `specs/`
 //! says what a plan means, in this order: `Names` and `Pieces` (what its numbers name, script order, places), `Touches`

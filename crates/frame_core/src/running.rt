@@ -1,19 +1,19 @@
 //! The run of a job's piece.
-ghost use Rattle.std.specs.Prelude.{◌≡◌, ◌<◌};
+ghost use Rattle.std.specs.Prelude.{◌≡◌};
 ghost use Rattle.frame_core.specs.declared.piece.Piece.TheVariants.{OfJob};
-ghost use Rattle.frame_core.specs.Names.{job_pieces};
-ghost use Rattle.frame_core.specs.Pieces.{piece_numbered, IsPieceOf};
+ghost use Rattle.frame_core.specs.Pieces.{IsPieceOf};
 ghost use Rattle.frame_core.specs.Effects.{touches, piece_cells};
 ghost use Rattle.frame_core.specs.Rights.{MayReadIn, MayWriteIn};
 ghost use Rattle.frame_core.specs.Ordered.{IsWellOrderedPlan};
 
 use crate::notes::write_notes;
 use crate::plan::Plan;
-use job_base::{Mem, PieceId};
+use job_base::Mem;
 use kernel_exec::{Scratch, execute_indexes};
 
-// Runs piece i of the job at place j.
-fn run_part<M: Mem>(plan: &Plan, j: u32, i: u32, scratch: &mut Scratch, mem: &mut M)
+/// Runs piece i of the job at place j, both from 0: its indexes in order, whether the earlier ones trapped or not. How
+/// many trapped, and the first of them, stand in the piece's own words afterwards.
+pub fn run_piece<M: Mem>(plan: &Plan, j: u32, i: u32, scratch: &mut Scratch, mem: &mut M)
     requires well { IsWellOrderedPlan plan.now }
     requires piece { IsPieceOf plan.now (OfJob j i) }
     requires readable { MayReadIn (touches plan.now (OfJob j i)) (M.readable mem.old) }
@@ -27,20 +27,4 @@ fn run_part<M: Mem>(plan: &Plan, j: u32, i: u32, scratch: &mut Scratch, mem: &mu
     let span = job.indexes(i);
     let notes = execute_indexes(kernel, &job.binds, &span, scratch, mem);
     write_notes(plan.cells + 3 * (job.first.0 + i), &notes, mem);
-}
-
-/// Runs a piece of a job: its indexes in order, whether the earlier ones trapped or not. How many trapped, and the
-/// first of them, stand in the piece's own words afterwards.
-pub fn run_piece<M: Mem>(plan: &Plan, p: PieceId, scratch: &mut Scratch, mem: &mut M)
-    requires well { IsWellOrderedPlan plan.now }
-    requires piece { p.0 < job_pieces plan.now }
-    requires readable { MayReadIn (touches plan.now (piece_numbered plan.now p.0)) (M.readable mem.old) }
-    requires writable { MayWriteIn (touches plan.now (piece_numbered plan.now p.0)) (M.writable mem.old) }
-    ensures cells { M.cells mem.new ≡ piece_cells plan.now (piece_numbered plan.now p.0) (M.cells mem.old) }
-    ensures readable { M.readable mem.new ≡ M.readable mem.old }
-    ensures writable { M.writable mem.new ≡ M.writable mem.old }
-{
-    let j = plan.job_with(p.0);
-    let first = plan.jobs[j as usize].first.0;
-    run_part(plan, j, p.0 - first, scratch, mem);
 }

@@ -61,19 +61,9 @@ fn whole_touch(bind: &Bind, written: bool) -> Touch
     requires fits { end_of bind.now < 2 ^ 32 }
     ensures { result ≡ whole bind.now written }
 {
-    let (start, words) = match *bind {
-        Bind::Int(_) => (0, 0),
-        Bind::Array { at, own: _ } => (at.start, u64::from(at.len)),
-        Bind::View { at, own: _ } => (at.start, u64::from(at.cap) + 1),
-        Bind::List(at) => (at.start, u64::from(at.cap) + 1),
-        Bind::Ref(at) => (at.start, 1),
-        Bind::Map(at) => (at.start, native_map::words_of(at.cap)),
-        Bind::Stream { at, own: _ } => { (at.start, u64::from(at.count) * index_words(at.room)) }
-    };
-    let end = u64::from(start) + words;
     Touch {
-        from: start,
-        end: end as u32,
+        from: bind.start(),
+        end: bind.end() as u32,
         written,
     }
 }

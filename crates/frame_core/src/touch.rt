@@ -14,11 +14,11 @@ pub struct Touch {
 }
 
 impl Touch {
-    // Whether it has a word, and is of the kind asked for: with `only` one that is written.
-    pub(crate) fn is_hit(&self, only: bool, w: u32) -> bool
-        ensures { result ≡ (counts only self.now && has_word self.now w) }
+    // Whether it has a word, and is of the kind asked for: with `written_only` one that is written.
+    pub(crate) fn is_hit(&self, written_only: bool, w: u32) -> bool
+        ensures { result ≡ (counts written_only self.now && has_word self.now w) }
     {
-        (self.written || !only) && self.from <= w && w < self.end
+        (self.written || !written_only) && self.from <= w && w < self.end
     }
 }
 
@@ -32,13 +32,14 @@ pub(crate) enum AtMostTwo {
 
 impl AtMostTwo {
     // Whether one of them has a word, and is of the kind asked for.
-    pub(crate) fn is_hit(&self, only: bool, w: u32) -> bool
-        ensures { result ≡ hits only (listed self.now) w }
+    pub(crate) fn is_hit(&self, written_only: bool, w: u32) -> bool
+        ensures { result ≡ hits written_only (listed self.now) w }
     {
         match self {
             AtMostTwo::Zero => false,
-            AtMostTwo::One(touch) => touch.is_hit(only, w),
-            AtMostTwo::Two(first, second) => first.is_hit(only, w) || second.is_hit(only, w),
+            AtMostTwo::One(touch) => touch.is_hit(written_only, w),
+            AtMostTwo::Two(first, second) => first.is_hit(written_only, w)
+                || second.is_hit(written_only, w),
         }
     }
 

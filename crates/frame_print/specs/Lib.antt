@@ -1,2 +1,3 @@
+-- promises
 pub mod Gathering
 pub mod Reports

@@ -13,7 +13,7 @@ use job_base::{Mem, Sink, SinkFault, Word};
 
 impl Waiting {
     /// Puts a number of a list, after what comes before its place. There is one look for room.
-    #[inline]
+    #[inline(always)]
     pub fn put_number<S: Sink>(
         &mut self,
         place: usize,

@@ -12,7 +12,7 @@ pub const LONGEST_NUMBER: usize = 20;
 
 impl Waiting {
     // Lets two digits wait.
-    #[inline]
+    #[inline(always)]
     fn keep_two_digits(&mut self, n: u64)
         requires number { n < 100 }
         requires room { length self.old + 2 ≤ ROOM }
@@ -23,7 +23,7 @@ impl Waiting {
     }
 
     // Lets a number of one to four digits wait.
-    #[inline]
+    #[inline(always)]
     fn keep_short_number(&mut self, n: u64)
         requires number { n < 10000 }
         requires room { length self.old + 4 ≤ ROOM }
@@ -54,8 +54,8 @@ impl Waiting {
     }
 
     /// Lets a number wait. One of up to four digits that isn't negative is written in place, which costs less than a
-    /// copy.
-    #[inline]
+    /// copy, and without a call, which is a fifth of what a number costs.
+    #[inline(always)]
     pub fn keep_number(&mut self, n: i64)
         requires { length self.old + LONGEST_NUMBER ≤ ROOM }
         ensures text { self.new ≡ self.old ++ signed_decimal n }

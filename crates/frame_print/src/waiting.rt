@@ -58,7 +58,7 @@ impl Waiting {
     }
 
     /// Lets a byte wait for which there is room.
-    #[inline]
+    #[inline(always)]
     pub fn keep_byte(&mut self, byte: u8)
         requires { length self.old < ROOM }
         ensures { self.new ≡ self.old ++ byte ∷ [] }
@@ -151,7 +151,7 @@ impl Waiting {
     }
 
     /// Lets what comes before a place of a list wait, for which there is room.
-    #[inline]
+    #[inline(always)]
     pub fn keep_comma(&mut self, place: usize)
         requires { length self.old + 2 ≤ ROOM }
         ensures { self.new ≡ self.old ++ comma_before place }

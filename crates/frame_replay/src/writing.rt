@@ -10,7 +10,7 @@ ghost use Rattle.frame_core.specs.Rights.{MayReadIn, MayWriteIn};
 ghost use Rattle.frame_core.specs.Know.{piece_count};
 ghost use Rattle.frame_core.specs.Ordered.{IsWellOrderedPlan};
 
-use frame_core::{Plan, Touch, apply_op, run_piece};
+use frame_core::{Piece, Plan, Touch, apply_op, run_piece};
 use job_base::{FlatMem, Mem, NoMemory, PieceId, Word};
 use kernel_exec::Scratch;
 use std::alloc::Global;
@@ -51,11 +51,9 @@ fn run_any<M: Mem>(plan: &Plan, p: u32, scratch: &mut Scratch, mem: &mut M)
     ensures readable { M.readable mem.new ≡ M.readable mem.old }
     ensures writable { M.writable mem.new ≡ M.writable mem.old }
 {
-    let parts = plan.job_pieces();
-    if p < parts {
-        run_piece(plan, PieceId(p), scratch, mem);
-    } else {
-        run_segment(plan, p - parts, mem);
+    match plan.piece(PieceId(p)) {
+        Piece::OfJob(j, i) => run_piece(plan, j, i, scratch, mem),
+        Piece::OfScript(k) => run_segment(plan, k, mem),
     }
 }
 

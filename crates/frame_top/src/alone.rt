@@ -31,7 +31,7 @@ use std::mem;
 use table_in::{Table, TableFault, read_table};
 
 // Runs the next section, and says whether there is one after it.
-fn run_next<S: Sink>(
+fn run_next_section<S: Sink>(
     alloc: Global,
     script: &Script,
     table: &Table,
@@ -83,7 +83,7 @@ fn run_sections<S: Sink>(
     };
     let mut book = first;
     for _section in 0..MOST_TESTS + 1 {
-        match run_next(alloc, script, table, &mut book, &mut progress, sink) {
+        match run_next_section(alloc, script, table, &mut book, &mut progress, sink) {
             Ok(true) => {}
             Ok(false) => return finish(&mut progress, sink),
             Err(NoMemory) => return close(&mut progress, NO_MEMORY, sink),

@@ -96,7 +96,7 @@ fn report_depth<S: Sink>(
 }
 
 /// Runs a script.
-fn run_script<R: Threads + Wait + Sync, S: Sink, G: Gate + Sync>(
+fn answer_run<R: Threads + Wait + Sync, S: Sink, G: Gate + Sync>(
     rt: &R,
     alloc: Global,
     script: &Script,
@@ -142,6 +142,6 @@ pub fn answer_frame<R: Threads + Wait + Sync, S: Sink, G: Gate + Sync>(
     if options.depth {
         report_depth(alloc, script, table, options.workers, sink)
     } else {
-        run_script(rt, alloc, script, table, options.workers, sink, gate)
+        answer_run(rt, alloc, script, table, options.workers, sink, gate)
     }
 }

@@ -169,7 +169,7 @@ pub(crate) fn take_run(
 }
 
 // Runs the next section, and says whether there is one after it.
-fn run_next<R: Threads + Wait + Sync, S: Sink, G: Gate + Sync>(
+fn run_next_section<R: Threads + Wait + Sync, S: Sink, G: Gate + Sync>(
     rt: &R,
     alloc: Global,
     script: &Script,
@@ -277,7 +277,7 @@ pub fn run_sections<R: Threads + Wait + Sync, S: Sink, G: Gate + Sync>(
     };
     let mut book = first;
     for _section in 0..MOST_TESTS + 1 {
-        match run_next(
+        match run_next_section(
             rt,
             alloc,
             script,

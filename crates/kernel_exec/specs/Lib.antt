@@ -1,3 +1,4 @@
+-- promises
 pub mod Binds
 pub mod Footprint
 pub mod Layout
@@ -5,6 +6,7 @@ pub mod Words
 pub mod Conditions
 pub mod Runs
 pub mod Laws
+pub mod Notes
+-- for this crate's own contracts
 pub mod Asides
 pub mod Machines
-pub mod Notes

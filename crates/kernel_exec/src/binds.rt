@@ -1,5 +1,8 @@
 // Where arguments stand.
+ghost use Rattle.std.specs.Prelude.{◌≡◌};
+ghost use Rattle.kernel_exec.specs.Binds.{kind_of, start_of, end_of};
 
+use frame_ast::kernel::ParamKind;
 use native_array::{ArrayAt, RefAt};
 use native_list::ListAt;
 use native_map::MapAt;
@@ -23,4 +26,49 @@ pub enum Bind {
     Ref(RefAt),
     Map(MapAt),
     Stream { at: StreamAt, own: bool },
+}
+
+impl Bind {
+    /// The kind of parameter that it is for.
+    pub fn kind(self) -> ParamKind
+        ensures { result ≡ kind_of self }
+    {
+        match self {
+            Bind::Int(_) => ParamKind::Int,
+            Bind::Array { .. } | Bind::View { .. } => ParamKind::Array,
+            Bind::List(_) => ParamKind::List,
+            Bind::Ref(_) => ParamKind::Ref,
+            Bind::Map(_) => ParamKind::Map,
+            Bind::Stream { .. } => ParamKind::Stream,
+        }
+    }
+
+    /// Its first word, or 0 for an `int`, which has none.
+    pub fn start(self) -> u32
+        ensures { result ≡ start_of self }
+    {
+        match self {
+            Bind::Int(_) => 0,
+            Bind::Array { at, .. } => at.start,
+            Bind::View { at, .. } | Bind::List(at) => at.start,
+            Bind::Ref(at) => at.start,
+            Bind::Map(at) => at.start,
+            Bind::Stream { at, .. } => at.start,
+        }
+    }
+
+    /// The word behind its last one, or 0 for an `int`. It may be past the last word that there is.
+    pub fn end(self) -> u64
+        ensures { result ≡ end_of self }
+    {
+        let start = u64::from(self.start());
+        match self {
+            Bind::Int(_) => 0,
+            Bind::Array { at, .. } => start + u64::from(at.len),
+            Bind::View { at, .. } | Bind::List(at) => start + (u64::from(at.cap) + 1),
+            Bind::Ref(_) => start + 1,
+            Bind::Map(at) => start + native_map::words_of(at.cap),
+            Bind::Stream { at, .. } => start + native_stream::words_of(at.count, at.room),
+        }
+    }
 }

@@ -127,7 +127,7 @@ fn deep_left<M: Mem>(
 {
     match in_place(call, mem, left) {
         Some(m) => apply(op, m, n, machine),
-        None => near(call, machine, mem, op, left, n),
+        None => left_deep(call, machine, mem, op, left, n),
     }
 }
 
@@ -158,15 +158,15 @@ fn deep_right<M: Mem>(
         return with_right(call, machine, mem, op, left, n);
     }
     match left {
-        Expr::Local(k) => behind(call, machine, mem, op, machine.locals[*k as usize], right),
-        _ => far(call, machine, mem, op, left, right),
+        Expr::Local(k) => right_deep(call, machine, mem, op, machine.locals[*k as usize], right),
+        _ => both_deep(call, machine, mem, op, left, right),
     }
 }
 
 // The left side is a number already, and the right one is deep.
 #[cycle(value)]
 #[inline(never)]
-fn behind<M: Mem>(
+fn right_deep<M: Mem>(
     call: &Call<'_>,
     machine: &mut Machine,
     mem: &mut M,
@@ -190,7 +190,7 @@ fn behind<M: Mem>(
 // The right side is a number already, and the left one is deep.
 #[cycle(value)]
 #[inline(never)]
-fn near<M: Mem>(
+fn left_deep<M: Mem>(
     call: &Call<'_>,
     machine: &mut Machine,
     mem: &mut M,
@@ -214,7 +214,7 @@ fn near<M: Mem>(
 // Both sides are deep.
 #[cycle(value)]
 #[inline(never)]
-fn far<M: Mem>(
+fn both_deep<M: Mem>(
     call: &Call<'_>,
     machine: &mut Machine,
     mem: &mut M,

@@ -1,2 +1,3 @@
+-- promises
 pub mod Standing
 pub mod Texts

@@ -3,10 +3,10 @@ use Rattle.std.specs.Prelude.{◌≡◌, ◌⊎◌, ℕ, List, []}
 use Rattle.frame_ast.specs.declared.kernel.FaultKind.{FaultKind}
 use Rattle.frame_ast.specs.declared.kernel.FaultKind.TheVariants.{Syntax}
 use Rattle.frame_ast.specs.declared.kernel.Kernel.{Kernel}
-use Rattle.kernel_code.specs.declared.token.Token.{Token}
-use Rattle.kernel_code.specs.declared.fault.KernelFault.TheVariants.{Refused}
-use Rattle.kernel_code.specs.declared.raw.RawKernel.{RawKernel}
-use Rattle.kernel_code.specs.Parsing.{StandsAt, StopsAt}
+use Rattle.kernel_text.specs.declared.token.Token.{Token}
+use Rattle.kernel_raw.specs.declared.fault.KernelFault.TheVariants.{Refused}
+use Rattle.kernel_raw.specs.declared.raw.RawKernel.{RawKernel}
+use Rattle.kernel_raw.specs.Parsing.{StandsAt, StopsAt}
 use Rattle.kernel_code.specs.StaticFaults.{first_fault, TellsFault}
 use Rattle.kernel_code.specs.Trees.{IsKernelOf}
 

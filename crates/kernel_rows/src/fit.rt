@@ -1,6 +1,6 @@
 // Whether binds suit a kernel and stand in a memory, as a test.
-ghost use Rattle.std.specs.Prelude.{◌≡◌, ◌≤◌, ◌<◌, ◌^◌, length, IsTrue};
-ghost use Rattle.kernel_exec.specs.Binds.{kind_of, start_of, end_of};
+ghost use Rattle.std.specs.Prelude.{◌≡◌, length, IsTrue};
+ghost use Rattle.kernel_exec.specs.Binds.{kind_of};
 ghost use Rattle.kernel_exec.specs.Conditions.{BindsFit};
 ghost use Rattle.kernel_rows.specs.Standing.{AreBelow, AreOfKinds, Apart, ApartFrom, AreApart};
 
@@ -11,49 +11,14 @@ use kernel_exec::Bind;
 fn is_of_kind(bind: Bind, kind: ParamKind) -> bool
     ensures { IsTrue result → kind_of bind ≡ kind }
 {
-    match bind {
-        Bind::Int(_) => matches!(kind, ParamKind::Int),
-        Bind::Array { .. } | Bind::View { .. } => matches!(kind, ParamKind::Array),
-        Bind::List(_) => matches!(kind, ParamKind::List),
-        Bind::Ref(_) => matches!(kind, ParamKind::Ref),
-        Bind::Map(_) => matches!(kind, ParamKind::Map),
-        Bind::Stream { .. } => matches!(kind, ParamKind::Stream),
-    }
-}
-
-fn start_of(bind: Bind) -> u32
-    ensures { result ≡ start_of bind }
-{
-    match bind {
-        Bind::Int(_) => 0,
-        Bind::Array { at, .. } => at.start,
-        Bind::View { at, .. } | Bind::List(at) => at.start,
-        Bind::Ref(at) => at.start,
-        Bind::Map(at) => at.start,
-        Bind::Stream { at, .. } => at.start,
-    }
-}
-
-// The word behind the last one.
-fn end_of(bind: Bind) -> u64
-    ensures { result ≡ end_of bind }
-{
-    let start = u64::from(start_of(bind));
-    match bind {
-        Bind::Int(_) => 0,
-        Bind::Array { at, .. } => start + u64::from(at.len),
-        Bind::View { at, .. } | Bind::List(at) => start + (u64::from(at.cap) + 1),
-        Bind::Ref(_) => start + 1,
-        Bind::Map(at) => start + native_map::words_of(at.cap),
-        Bind::Stream { at, .. } => start + native_stream::words_of(at.count, at.room),
-    }
+    bind.kind() == kind
 }
 
 // Whether no word is of both.
 fn is_apart(a: Bind, b: Bind) -> bool
     ensures { IsTrue result → Apart a b }
 {
-    end_of(a) <= u64::from(start_of(b)) || end_of(b) <= u64::from(start_of(a))
+    a.end() <= u64::from(b.start()) || b.end() <= u64::from(a.start())
 }
 
 fn is_apart_from(a: Bind, binds: &[Bind]) -> bool
@@ -82,7 +47,7 @@ fn are_below(binds: &[Bind], n: u32) -> bool
     ensures { IsTrue result → AreBelow binds.now n }
 {
     for b in binds {
-        if end_of(*b) > u64::from(n) {
+        if b.end() > u64::from(n) {
             return false;
         }
     }

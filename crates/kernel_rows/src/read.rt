@@ -3,8 +3,8 @@ ghost use Rattle.std.specs.Prelude.{◌≡◌, ◌≤◌, ◌<◌, ℕ, length, 
 ghost use Rattle.job_base.specs.declared.limits.TheConstants.{MOST_SCRIPT_BYTES};
 ghost use Rattle.frame_ast.specs.declared.kernel.FaultKind.{FaultKind};
 ghost use Rattle.frame_ast.specs.Checked.{IsChecked};
-ghost use Rattle.kernel_code.specs.Marks.{tokens_in};
-ghost use Rattle.kernel_code.specs.Tokens.{tokens_of, up_to_bad};
+ghost use Rattle.kernel_text.specs.Marks.{tokens_in};
+ghost use Rattle.kernel_text.specs.Tokens.{tokens_of, up_to_bad};
 ghost use Rattle.kernel_rows.specs.Texts.{IsKernelAt, IsRefusedAt};
 
 use frame_ast::kernel::Kernel;

@@ -13,9 +13,9 @@ use Rattle.frame_core.specs.Effects.{touches, piece_cells}
 use Rattle.frame_core.specs.Graphs.{graph_of, piece_at, cells_at, before_piece, cells_after}
 use Rattle.frame_core.specs.Names.{is_job, job_at, job_pieces, pieces_of, segment_at, starts_in}
 use Rattle.frame_core.specs.Ordered.{IsCutIn, IsWellOrderedPlan}
-use Rattle.frame_core.specs.Pieces.{IsPieceOf, order_from, parts_of, piece_numbered, place_of, script_order, segment_place, started, starter_of}
+use Rattle.frame_core.specs.Pieces.{IsPieceOf, order_from, parts_of, place_of, script_order, segment_place, started, starter_of}
 use Rattle.frame_core.specs.Rights.{MayReadIn, MayWriteIn}
-use Rattle.frame_core.proofs.Numbered.{number_numbered, numbered_number, pieces_within}
+use Rattle.frame_core.proofs.Numbered.{pieces_within}
 use Rattle.frame_core.proofs.Orders.{at_place, starter_alone}
 use Rattle.frame_core.proofs.Placing.{length_parts}
 use Rattle.frame_core.proofs.Planned.{has_kernel}
@@ -93,17 +93,13 @@ module _ (plan : Plan) (well : IsWellOrderedPlan plan) where
     unfolding place_of
     part_place i = ap (λ l. suc (place l + i)) own
 
-    part_named : (p i : ℕ) → p ≡ x.first.0 + i → i < pieces_of x → piece_numbered plan p ≡ OfJob j i
-    part_named p i at lt = ap (piece_numbered plan) (at ∙ ap (λ n. n + i) (well.order.firsts j x has)) ∙ numbered_number plan (OfJob j i) (x, has, lt)
-
-    pub part_step : (i p : ℕ) (old new : Cells) → i < pieces_of x → p ≡ x.first.0 + i → old ≡ before_part plan k i
-        → new ≡ piece_cells plan (piece_numbered plan p) old → new ≡ before_part plan k (i + 1)
-    part_step i p old new lt at o n =
+    pub part_step : (i : ℕ) (old new : Cells) → i < pieces_of x → old ≡ before_part plan k i
+        → new ≡ piece_cells plan (OfJob j i) old → new ≡ before_part plan k (i + 1)
+    part_step i old new lt o n =
         let up : suc (place k + i) ≡ place k + (i + 1) = omega arith in
-        n ∙ (ap (λ y. piece_cells plan y old) (part_named p i at lt)
-        ∙ (ap (piece_cells plan (OfJob j i)) o
+        n ∙ (ap (piece_cells plan (OfJob j i)) o
         ∙ (sym (step (OfJob j i) (suc (place k + i)) (x, has, lt) (part_place i))
-        ∙ ap (λ n. cells_before (graph_of plan) (suc n)) up)))
+        ∙ ap (λ n. cells_before (graph_of plan) (suc n)) up))
 
     pub parts_end : (i : ℕ) (cells : Cells) → i ≡ pieces_of x → cells ≡ before_part plan k i → cells ≡ before_piece plan (OfScript (k + 1))
     parts_end i cells e c =
@@ -121,9 +117,6 @@ module _ (plan : Plan) (well : IsWellOrderedPlan plan) where
 
   pub may_write : (writable now : ℕ → Bool) → AllowsAll plan writable → now ≡ writable → (x : Piece) → IsPieceOf plan x → MayWriteIn (touches plan x) now
   may_write writable now all same x is w t = rw (ap (λ f. f w) same) (all w ((pieces_stay_within plan well x is).read w (writes_read (touches plan x) w t)))
-
-  pub named : (p : ℕ) → p < job_pieces plan → IsPieceOf plan (piece_numbered plan p)
-  named p lt = (number_numbered plan p (omega arith)).is
 
 -- the job of a number
 module _ (plan : Plan) (well : IsWellOrderedPlan plan) (id : JobId) (is : IsJobOf plan id) (x : JobPlan) (at : x ≡ get_or plan.jobs.items (id.0 - 1) x) where

@@ -14,7 +14,7 @@ use crate::segment::run_alike;
 use crate::tally::{no_traps, with_refused};
 use frame_core::{Plan, run_piece};
 use frame_print::{Outgoing, Report};
-use job_base::{JobId, Mem, PieceId, Sink};
+use job_base::{JobId, Mem, Sink};
 use kernel_exec::Scratch;
 
 // Runs the pieces of the job that a segment starts.
@@ -30,10 +30,10 @@ fn run_parts<M: Mem>(plan: &Plan, k: u32, job: JobId, scratch: &mut Scratch, mem
     ensures readable { M.readable mem.new ≡ M.readable mem.old }
     ensures writable { M.writable mem.new ≡ M.writable mem.old }
 {
-    let entry = &plan.jobs[job.0 as usize - 1];
-    let first = entry.first.0;
+    let j = job.0 - 1;
+    let entry = &plan.jobs[j as usize];
     for i in 0..entry.pieces() {
-        run_piece(plan, PieceId(first + i), scratch, mem);
+        run_piece(plan, j, i, scratch, mem);
     }
 }
 

@@ -43,10 +43,9 @@ module _ (plan : Plan) (well : IsWellOrderedPlan plan) (id : JobId) (is : IsJobO
         below plan id.0 j p x (number_is plan well id is x at) (there plan well id is x at) (low plan well id is x at n p count (omega arith))
         (high plan well id is x at n p count (omega (arith, lt)))
 
-    pub own : (claims : Claims) (claimed : Claimed) → claimed.piece.0 ≡ x.first.0 + place → claimed.more ≡ ltb (place + 1) n
-        → HasPlace claims j place claimed.token → IsOwn plan claims j claimed
-    own claims claimed number more has = record {
-      place = place;
+    pub own : (claims : Claims) (claimed : Claimed) → claimed.job ≡ j → claimed.place ≡ place → claimed.piece.0 ≡ x.first.0 + place
+        → claimed.more ≡ ltb (place + 1) n → HasPlace claims j place claimed.token → IsOwn plan claims claimed
+    own claims claimed job here number more has = rw (job, here) (record {
       there = (x, there plan well id is x at, omega (arith, lt, count));
       number = number ∙ ap (λ f. f + place) (first_is plan well id is x at);
       token = has;
@@ -56,7 +55,7 @@ module _ (plan : Plan) (well : IsWellOrderedPlan plan) (id : JobId) (is : IsJobO
             let same : pieces_of x ≡ pieces_of y = ap pieces_of (some_is (sym (there plan well id is x at) ∙ got)) in
             more ∙ lt-ltb (place + 1) n (omega (arith, count, same, less))),
       );
-    }
+    })
 
   pub spent : (claims : Claims) (token : Seat ℕ View) → SawAll claims j n token → IsSpent plan claims id (AllGiven token)
   spent claims token saw = (

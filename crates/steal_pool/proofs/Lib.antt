@@ -7,3 +7,4 @@ mod Turns
 mod Joining
 mod Giving
 mod Claiming
+mod PartRights

@@ -35,19 +35,17 @@ pub record SawAll (claims : Claims) (job count : ℕ) (token : Seat ℕ View) : 
   pub saw : token.me.0 ≡ Saw job seen
   pub all : count ≤ seen
 
--- The piece is one of the job at place j, and its place there is given to who has it.
-pub record IsOwn (plan : Plan) (claims : Claims) (j : ℕ) (claimed : Claimed) : Type 0 where
-  pub place : ℕ
-  pub there : IsPieceOf plan (OfJob j place)
-  pub number : claimed.piece.0 ≡ number_of plan (OfJob j place)
-  pub token : HasPlace claims j place claimed.token
-  pub more : IsTrue claimed.more ↔ IsPieceOf plan (OfJob j (place + 1))
+-- The piece is that of its job and place, and its place there is given to who has it.
+pub record IsOwn (plan : Plan) (claims : Claims) (claimed : Claimed) : Type 0 where
+  pub there : IsPieceOf plan (OfJob claimed.job claimed.place)
+  pub number : claimed.piece.0 ≡ number_of plan (OfJob claimed.job claimed.place)
+  pub token : HasPlace claims claimed.job claimed.place claimed.token
+  pub more : IsTrue claimed.more ↔ IsPieceOf plan (OfJob claimed.job (claimed.place + 1))
 
 -- The piece is one of a job, and given to who has it.
 pub record IsGiven (plan : Plan) (claims : Claims) (claimed : Claimed) : Type 0 where
   pub piece : claimed.piece.0 < job_pieces plan
-  pub job : ℕ
-  pub own : IsOwn plan claims job claimed
+  pub own : IsOwn plan claims claimed
 
 -- There is no such job, or the token saw all its pieces given.
 abbrev pub IsSpent : Plan → Claims → JobId → Spent → Type 0

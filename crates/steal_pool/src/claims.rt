@@ -24,6 +24,9 @@ pub struct Claims {
 /// comes to where it is run.
 pub struct Claimed {
     pub piece: PieceId,
+    /// The place of its job among the plan's jobs, and which of the job's pieces it is, both from 0.
+    pub job: u32,
+    pub place: u32,
     pub more: bool,
     pub token: Token,
 }
@@ -74,7 +77,8 @@ impl Claims {
     pub fn next(&self, plan: &Plan, job: JobId) -> Result<Claimed, Spent>
         requires well { IsWellOrderedPlan plan.now }
         requires claims { AreClaimsOf plan.now self.now }
-        ensures own { IfOk result (IsOwn plan.now self.now (job.0 - 1)) }
+        ensures own { IfOk result (IsOwn plan.now self.now) }
+        ensures job { IfOk result (λ claimed. claimed.job ≡ job.0 - 1) }
         ensures of_job { IfOk result (λ claimed. is_of plan.now job.0 claimed.piece.0 ≡ true) }
         ensures piece { IfOk result (λ claimed. claimed.piece.0 < job_pieces plan.now) }
         ensures spent { IfErr result (IsSpent plan.now self.now job) }
@@ -88,6 +92,8 @@ impl Claims {
         match self.next_place(index, count) {
             Ok((place, token)) => Ok(Claimed {
                 piece: PieceId(entry.first.0 + place as u32),
+                job: job.0 - 1,
+                place: place as u32,
                 more: place + 1 < count,
                 token,
             }),

@@ -1,9 +1,9 @@
 // What is run on a seat's lease.
 ghost use Rattle.std.specs.Prelude.{◌≡◌, ◌<◌, ◌≤◌, ◌+◌, ◌^◌, Some, length};
 ghost use Rattle.frame_print.specs.Reports.{IsReportOf};
-ghost use Rattle.frame_core.specs.declared.piece.Piece.TheVariants.{OfScript};
+ghost use Rattle.frame_core.specs.declared.piece.Piece.TheVariants.{OfScript, OfJob};
 ghost use Rattle.frame_core.specs.Names.{job_pieces};
-ghost use Rattle.frame_core.specs.Pieces.{piece_numbered};
+ghost use Rattle.frame_core.specs.Pieces.{IsPieceOf, number_of, piece_numbered};
 ghost use Rattle.frame_core.specs.Effects.{piece_cells};
 ghost use Rattle.frame_core.specs.Graphs.{before_piece};
 ghost use Rattle.frame_core.specs.Output.{plan_traps, segment_lines, segment_refused};
@@ -19,16 +19,19 @@ use kernel_exec::Scratch;
 use plan_run::run_segment;
 use std::marker::Brand;
 
-fn run_part_on<B: Board, K: Holding>(
+fn run_piece_as<B: Board, K: Holding>(
     plan: &Plan,
     board: &B,
     seat: B::Seat,
     p: PieceId,
+    j: u32,
+    i: u32,
     scratch: &mut Scratch,
 ) -> B::Seat
     requires plan { plan.now ≡ B.plan board.now }
     requires well { IsWellOrderedPlan plan.now }
-    requires piece { p.0 < job_pieces plan.now }
+    requires piece { IsPieceOf plan.now (OfJob j i) }
+    requires number { p.0 ≡ number_of plan.now (OfJob j i) }
     requires is { K.piece ≡ p.0 }
     requires name { B.name board.now ≡ K.name }
     requires home { B.home seat ≡ K.name }
@@ -41,37 +44,40 @@ fn run_part_on<B: Board, K: Holding>(
     ensures cells { (B.know result).cells ≡ piece_cells plan.now (piece_numbered plan.now p.0) (B.know seat).cells }
 {
     let mut lease: Lease<B, K> = Lease::over(board, seat);
-    run_piece(plan, p, scratch, &mut lease);
+    run_piece(plan, j, i, scratch, &mut lease);
     lease.into_seat()
 }
 
-/// Runs a piece of a job on the seat's lease.
-pub fn hold_part<B: Board>(
+/// Runs piece i of the job at place j, which has number p, on the seat's lease of it.
+pub fn run_piece_leased<B: Board>(
     plan: &Plan,
     board: &B,
     seat: B::Seat,
     p: PieceId,
+    j: u32,
+    i: u32,
     scratch: &mut Scratch,
 ) -> B::Seat
     requires plan { plan.now ≡ B.plan board.now }
     requires well { IsWellOrderedPlan plan.now }
-    requires piece { p.0 < job_pieces plan.now }
+    requires piece { IsPieceOf plan.now (OfJob j i) }
+    requires number { p.0 ≡ number_of plan.now (OfJob j i) }
     requires home { B.home seat ≡ B.name board.now }
     requires lease { (B.know seat).lease ≡ Some p.0 }
     ensures home { B.home result ≡ B.home seat }
     ensures still { IsStill (B.know seat) (B.know result) }
     ensures cells { (B.know result).cells ≡ piece_cells plan.now (piece_numbered plan.now p.0) (B.know seat).cells }
 {
-    run_part_on::<B, Brand>(plan, board, seat, p, scratch)
+    run_piece_as::<B, Brand>(plan, board, seat, p, j, i, scratch)
 }
 
 /// A seat, and the traps that were counted.
-pub struct Counted<S> {
+pub struct SegmentRun<S> {
     pub seat: S,
     pub traps: Report,
 }
 
-fn run_segment_on<B: Board, K: Holding, S: Sink>(
+fn run_segment_as<B: Board, K: Holding, S: Sink>(
     plan: &Plan,
     board: &B,
     seat: B::Seat,
@@ -80,7 +86,7 @@ fn run_segment_on<B: Board, K: Holding, S: Sink>(
     sink: &mut S,
     failed: &mut bool,
     refused: &mut u64,
-) -> Counted<B::Seat>
+) -> SegmentRun<B::Seat>
     requires plan { plan.now ≡ B.plan board.now }
     requires well { IsWellOrderedPlan plan.now }
     requires index { i < length plan.now.segments.items }
@@ -104,14 +110,14 @@ fn run_segment_on<B: Board, K: Holding, S: Sink>(
 {
     let mut lease: Lease<B, K> = Lease::over(board, seat);
     let traps = run_segment(plan, i, &mut lease, out, sink, failed, refused);
-    Counted {
+    SegmentRun {
         seat: lease.into_seat(),
         traps,
     }
 }
 
 /// Runs a segment on the seat's lease.
-pub fn hold_segment<B: Board, S: Sink>(
+pub fn run_segment_leased<B: Board, S: Sink>(
     plan: &Plan,
     board: &B,
     seat: B::Seat,
@@ -120,7 +126,7 @@ pub fn hold_segment<B: Board, S: Sink>(
     sink: &mut S,
     failed: &mut bool,
     refused: &mut u64,
-) -> Counted<B::Seat>
+) -> SegmentRun<B::Seat>
     requires plan { plan.now ≡ B.plan board.now }
     requires well { IsWellOrderedPlan plan.now }
     requires index { i < length plan.now.segments.items }
@@ -137,5 +143,5 @@ pub fn hold_segment<B: Board, S: Sink>(
     ensures refused { refused.new ≡ refused.old + segment_refused plan.now i }
     ensures traps { i + 1 ≡ length plan.now.segments.items → IsReportOf (plan_traps plan.now) result.traps }
 {
-    run_segment_on::<B, Brand, S>(plan, board, seat, i, out, sink, failed, refused)
+    run_segment_as::<B, Brand, S>(plan, board, seat, i, out, sink, failed, refused)
 }

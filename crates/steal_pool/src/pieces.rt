@@ -9,7 +9,7 @@ ghost use Rattle.steal_pool.specs.Seats.{IsIdle, IsOn, IsSteady, IsReleased, May
 
 use crate::claims::{Claimed, Claims};
 use crate::crew::{Crew, Shared};
-use crate::held::hold_part;
+use crate::held::run_piece_leased;
 use crate::idling::{leave_search, wake_script};
 use crate::place::Tools;
 use crate::queue::Queue;
@@ -100,7 +100,7 @@ fn release_after<B: Board>(
 }
 
 /// A seat, and whether it ran a piece.
-pub struct Ran<S> {
+pub struct Turn<S> {
     pub seat: S,
     pub ran: bool,
 }
@@ -132,12 +132,12 @@ fn end_piece<B: Board>(
 }
 
 // Runs a piece of a job that is given to this worker, if it is open.
-fn run_piece<R, B: Board, G: Gate>(
+fn run_given_piece<R, B: Board, G: Gate>(
     crew: &Crew<R, B, G>,
     tools: &mut Tools,
     seat: B::Seat,
     claimed: Claimed,
-) -> Ran<B::Seat>
+) -> Turn<B::Seat>
     requires crew { IsCrewOf crew.now.plan.now (B.plan crew.now.board.now) crew.now.shared.now }
     requires home { B.home seat ≡ B.name crew.now.board.now }
     requires idle { IsIdle (B.know seat) }
@@ -150,22 +150,24 @@ fn run_piece<R, B: Board, G: Gate>(
     let board = crew.board;
     let Claimed {
         piece,
+        job,
+        place,
         more: _,
         token: _,
     } = claimed;
     let mut own = seat;
     if !board.begin(&mut own, piece) {
-        return Ran {
+        return Turn {
             seat: own,
             ran: false,
         };
     }
     crew.gate.enter(tools.number, piece);
-    let mut own = hold_part(plan, board, own, piece, &mut tools.scratch);
+    let mut own = run_piece_leased(plan, board, own, piece, job, place, &mut tools.scratch);
     crew.gate.leave(tools.number, piece);
     board.end(&mut own);
     end_piece(plan, board, &mut own, &mut tools.queue, crew.shared);
-    Ran {
+    Turn {
         seat: own,
         ran: true,
     }
@@ -239,7 +241,7 @@ pub fn help<R, B: Board, G: Gate>(
     crew: &Crew<R, B, G>,
     tools: &mut Tools,
     seat: B::Seat,
-) -> Ran<B::Seat>
+) -> Turn<B::Seat>
     requires crew { IsCrewOf crew.now.plan.now (B.plan crew.now.board.now) crew.now.shared.now }
     requires home { B.home seat ≡ B.name crew.now.board.now }
     requires idle { IsIdle (B.know seat) }
@@ -248,7 +250,7 @@ pub fn help<R, B: Board, G: Gate>(
     ensures on { IsOn (B.know seat) (B.know result.seat) }
 {
     match next_piece::<B>(crew.plan, crew.shared, tools, &seat) {
-        Some(claimed) => run_piece(crew, tools, seat, claimed),
-        None => Ran { seat, ran: false },
+        Some(claimed) => run_given_piece(crew, tools, seat, claimed),
+        None => Turn { seat, ran: false },
     }
 }

@@ -11,7 +11,7 @@ ghost use Rattle.steal_pool.specs.Crews.{IsCrewOf};
 ghost use Rattle.steal_pool.specs.Seats.{IsIdle, IsOn, IsAt, MayOpenNone};
 
 use crate::crew::Crew;
-use crate::held::{Counted, hold_segment};
+use crate::held::{SegmentRun, run_segment_leased};
 use crate::idling::leave_search;
 use crate::pieces::release_job;
 use crate::place::Tools;
@@ -49,7 +49,7 @@ fn start_job<B: Board>(
 }
 
 // Runs the next segment: waits for its jobs, opens it, runs it and starts its job.
-fn run_next<R: Wait, B: Board, S: Sink, G: Gate>(
+fn run_next_segment<R: Wait, B: Board, S: Sink, G: Gate>(
     crew: &Crew<R, B, G>,
     tools: &mut Tools,
     seat: B::Seat,
@@ -58,7 +58,7 @@ fn run_next<R: Wait, B: Board, S: Sink, G: Gate>(
     failed: &mut bool,
     refused: &mut u64,
     i: u32,
-) -> Counted<B::Seat>
+) -> SegmentRun<B::Seat>
     requires crew { IsCrewOf crew.now.plan.now (B.plan crew.now.board.now) crew.now.shared.now }
     requires home { B.home seat ≡ B.name crew.now.board.now }
     requires at { IsAt i (B.know seat) }
@@ -81,31 +81,31 @@ fn run_next<R: Wait, B: Board, S: Sink, G: Gate>(
     board.open_piece(&mut own, piece);
     let own = begin_opened(crew.rt, board, own, piece);
     crew.gate.enter(tools.number, piece);
-    let Counted {
+    let SegmentRun {
         seat: mut own,
         traps,
-    } = hold_segment(plan, board, own, i, out, sink, failed, refused);
+    } = run_segment_leased(plan, board, own, i, out, sink, failed, refused);
     crew.gate.leave(tools.number, piece);
     board.end(&mut own);
     start_job(plan, board, &mut own, &mut tools.queue, segment.starts);
     leave_search(crew.shared, tools);
-    Counted { seat: own, traps }
+    SegmentRun { seat: own, traps }
 }
 
 /// A seat, and how the run ended.
-pub struct Scripted<S> {
+pub struct ScriptRun<S> {
     pub seat: S,
     pub end: RunEnd,
 }
 
 /// Runs all segments in order, and says their lines.
-pub fn run_script<R: Wait, B: Board, S: Sink, G: Gate>(
+pub fn run_script_thread<R: Wait, B: Board, S: Sink, G: Gate>(
     crew: &Crew<R, B, G>,
     tools: &mut Tools,
     seat: B::Seat,
     out: &mut Outgoing,
     sink: &mut S,
-) -> Scripted<B::Seat>
+) -> ScriptRun<B::Seat>
     requires crew { IsCrewOf crew.now.plan.now (B.plan crew.now.board.now) crew.now.shared.now }
     requires home { B.home seat ≡ B.name crew.now.board.now }
     requires at { IsAt 0 (B.know seat) }
@@ -120,7 +120,7 @@ pub fn run_script<R: Wait, B: Board, S: Sink, G: Gate>(
     let mut refused = 0u64;
     let mut last = no_traps();
     for i in 0..crew.plan.segments.len() as u32 {
-        let Counted { seat: next, traps } = run_next(
+        let SegmentRun { seat: next, traps } = run_next_segment(
             crew,
             tools,
             own,
@@ -133,7 +133,7 @@ pub fn run_script<R: Wait, B: Board, S: Sink, G: Gate>(
         own = next;
         last = traps;
     }
-    Scripted {
+    ScriptRun {
         seat: own,
         end: RunEnd::of(failed, with_refused(&last, refused)),
     }

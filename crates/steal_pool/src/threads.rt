@@ -9,9 +9,9 @@ ghost use Rattle.steal_pool.specs.Seats.{IsReady, IsFirst};
 
 use crate::crew::{Crew, Shared};
 use crate::idling::{end_workers, leave_search, pause};
-use crate::pieces::{Ran, help};
+use crate::pieces::{Turn, help};
 use crate::place::Place;
-use crate::script::{Scripted, run_script};
+use crate::script::{ScriptRun, run_script_thread};
 use crate::shown_plan::ShowsPlan;
 use crossbeam_utils::Backoff;
 use frame_core::{Board, Plan};
@@ -49,7 +49,7 @@ where
     let backoff = Backoff::new();
     let mut own = seat;
     for _ in rt.forever() {
-        let Ran { seat: next, ran } = help(&crew, &mut place.tools, own);
+        let Turn { seat: next, ran } = help(&crew, &mut place.tools, own);
         own = next;
         if ran {
             backoff.reset();
@@ -93,7 +93,7 @@ where
     let Some(seat) = place.seat.take() else {
         unreachable!()
     };
-    let Scripted { seat: own, end } = run_script(&crew, &mut place.tools, seat, out, sink);
+    let ScriptRun { seat: own, end } = run_script_thread(&crew, &mut place.tools, seat, out, sink);
     place.seat = Some(own);
     end_workers(shared);
     end

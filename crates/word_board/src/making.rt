@@ -61,7 +61,7 @@ fn number_jobs(alloc: Global, plan: &Plan, parts: u32) -> Result<Vec<u32>, Alloc
 }
 
 /// The words of a new board.
-fn lay_words(alloc: Global, plan: &Plan, parts: u32) -> Result<Vec<u64>, AllocError>
+fn first_words(alloc: Global, plan: &Plan, parts: u32) -> Result<Vec<u64>, AllocError>
     requires well { IsWellOrderedPlan plan.now }
     requires parts { parts ≡ job_pieces plan.now }
 
@@ -78,7 +78,7 @@ fn lay_words(alloc: Global, plan: &Plan, parts: u32) -> Result<Vec<u64>, AllocEr
 }
 
 /// Seats, of which the first is the one that is handed in.
-fn deal(
+fn make_seats(
     alloc: Global,
     board: &WordBoard,
     first: WordSeat,
@@ -118,7 +118,7 @@ impl WordBoard {
     {
         let parts = (plan.words - plan.cells) / 3;
         let jobs = number_jobs(alloc, plan, parts)?;
-        let words = lay_words(alloc, plan, parts)?;
+        let words = first_words(alloc, plan, parts)?;
         let (table, token) = Table::of_words(alloc, words.as_slice(), plan)?;
         let states = 1 + plan.words as usize;
         let rests = states + parts as usize + plan.segments.len();
@@ -130,7 +130,7 @@ impl WordBoard {
             rests,
             waits: rests + plan.jobs.len(),
         };
-        let all = deal(alloc, &board, WordSeat { token, piece: 0 }, seats)?;
+        let all = make_seats(alloc, &board, WordSeat { token, piece: 0 }, seats)?;
         Ok((board, all))
     }
 }

@@ -20,14 +20,14 @@ decreases-sides::deep_left g l = 7 * the_size l.left.now + 3
 abbrev pub decreases-sides::deep_right : goal.decreases-sides::deep_right
 decreases-sides::deep_right g l = 7 * max (the_size l.left.now) (the_size l.right.now) + 5
 
-abbrev pub decreases-sides::behind : goal.decreases-sides::behind
-decreases-sides::behind g l = 7 * the_size l.right.now + 2
+abbrev pub decreases-sides::right_deep : goal.decreases-sides::right_deep
+decreases-sides::right_deep g l = 7 * the_size l.right.now + 2
 
-abbrev pub decreases-sides::near : goal.decreases-sides::near
-decreases-sides::near g l = 7 * the_size l.left.now + 2
+abbrev pub decreases-sides::left_deep : goal.decreases-sides::left_deep
+decreases-sides::left_deep g l = 7 * the_size l.left.now + 2
 
-abbrev pub decreases-sides::far : goal.decreases-sides::far
-decreases-sides::far g l = 7 * max (the_size l.left.now) (the_size l.right.now) + 2
+abbrev pub decreases-sides::both_deep : goal.decreases-sides::both_deep
+decreases-sides::both_deep g l = 7 * max (the_size l.left.now) (the_size l.right.now) + 2
 
 abbrev pub decreases-values::eval_element : goal.decreases-values::eval_element
 decreases-values::eval_element g l = 7 * the_size l.place.now + 2

@@ -18,8 +18,9 @@ returns-in-Ok-false g c =
     record {
       answer = Caused _ refl (at_last g.S.Sink.taken g.S.Sink.faults _ _ c.loop-section._section _ _ _ _ _ _ _ was
           (subst (λ b. RunsOn g.S.Sink.taken g.S.Sink.faults c.args.script.now
-          (columns_of c.args.table.now) c.loop-section._section was.from c.loop-section.sink c.loop-section.progress c.run_next.new.sink c.run_next.new.book
-          c.run_next.new.progress b) c.in-Ok-false.field-0-test next)
+          (columns_of c.args.table.now) c.loop-section._section was.from c.loop-section.sink c.loop-section.progress c.run_next_section.new.sink
+          c.run_next_section.new.book
+          c.run_next_section.new.progress b) c.in-Ok-false.field-0-test next)
           c.finish.new.sink c.finish.new.progress c.finish.result c.finish.ensures.closed);
       later = let first = was.later in let second = c.in-Ok-false.ensures.later in let third = c.finish.ensures.later in omega (arith, first, second, third);
     }
@@ -27,7 +28,8 @@ returns-in-Ok-false g c =
 pub returns-in-Err : goal.returns-in-Err
 returns-in-Err g c =
     record {
-      answer = at_none g.S.Sink.taken g.S.Sink.faults _ _ c.loop-section._section _ c.loop-section.progress c.run_next.new.progress _ c.loop-section.sink _ _ _
+      answer = at_none g.S.Sink.taken g.S.Sink.faults _ _ c.loop-section._section _ c.loop-section.progress c.run_next_section.new.progress _
+          c.loop-section.sink _ _ _
           _ c.loop-section.invariant
           c.in-Err.ensures.sink c.in-Err.ensures.waits c.in-Err.ensures.failed c.close.ensures.closed;
       later = let first = c.loop-section.invariant.later in let second = c.in-Err.ensures.later in let third = c.close.ensures.later in
@@ -39,10 +41,11 @@ loop-section-preserved g c =
     let was = c.loop-section.invariant in
     let next = c.in-Ok-true.ensures.next c.loop-section._section was.from was.ran in
     subst (λ n. InSections g.S.Sink.taken g.S.Sink.faults c.args.script.now
-    (columns_of c.args.table.now) n c.run_next.new.book c.run_next.new.progress c.args.sink.now c.run_next.new.sink) (omega arith)
+    (columns_of c.args.table.now) n c.run_next_section.new.book c.run_next_section.new.progress c.args.sink.now c.run_next_section.new.sink) (omega arith)
     (one_more g.S.Sink.taken g.S.Sink.faults _ _ c.loop-section._section _ _ _ _ _ _ _ was
     (subst (λ b. RunsOn g.S.Sink.taken g.S.Sink.faults c.args.script.now (columns_of c.args.table.now) c.loop-section._section was.from c.loop-section.sink
-    c.loop-section.progress c.run_next.new.sink c.run_next.new.book c.run_next.new.progress b) c.in-Ok-true.field-0-test next) c.in-Ok-true.ensures.later)
+    c.loop-section.progress c.run_next_section.new.sink c.run_next_section.new.book c.run_next_section.new.progress b) c.in-Ok-true.field-0-test next)
+    c.in-Ok-true.ensures.later)
 
 pub unreachable-requires : goal.unreachable-requires
 unreachable-requires g c =

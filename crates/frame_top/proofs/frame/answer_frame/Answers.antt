@@ -10,8 +10,8 @@ returns-in-Some-clause-answer g c = c.in-Some.ensures.missing c.args.options.dep
 pub report_depth-requires-clause-columns : goal.report_depth-requires-clause-columns
 report_depth-requires-clause-columns g c = c.in_default.ensures.none refl
 
-pub run_script-requires-clause-columns : goal.run_script-requires-clause-columns
-run_script-requires-clause-columns g c lives within = c.in_default.ensures.none refl
+pub answer_run-requires-clause-columns : goal.answer_run-requires-clause-columns
+answer_run-requires-clause-columns g c lives within = c.in_default.ensures.none refl
 
 pub returns-then-options-clause-answer : goal.returns-then-options-clause-answer
 returns-then-options-clause-answer g c =
@@ -22,7 +22,7 @@ returns-then-options-clause-answer g c =
 
 pub returns-else-options-clause-answer : goal.returns-else-options-clause-answer
 returns-else-options-clause-answer g c =
-    subst (λ d. AnswersTo g.S.Sink.taken g.S.Sink.faults c.args.sink.now c.run_script.new.sink
+    subst (λ d. AnswersTo g.S.Sink.taken g.S.Sink.faults c.args.sink.now c.answer_run.new.sink
     (FrameCause c.args.script.now (columns_of c.args.table.now) d c.args.options.workers)
-    (IsCut c.args.script.now (columns_of c.args.table.now) d) c.run_script.result) (sym c.if-options.false)
-    (from_same g.S.Sink.taken g.S.Sink.faults _ _ _ _ _ _ (c.in_default.ensures.same refl) c.run_script.ensures.answer)
+    (IsCut c.args.script.now (columns_of c.args.table.now) d) c.answer_run.result) (sym c.if-options.false)
+    (from_same g.S.Sink.taken g.S.Sink.faults _ _ _ _ _ _ (c.in_default.ensures.same refl) c.answer_run.ensures.answer)

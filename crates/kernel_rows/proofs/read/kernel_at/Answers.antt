@@ -1,10 +1,10 @@
 use Rattle.std.proofs.Common.{◌≡◌, inl, inr, ℕ, List, [], Result, Err, IsErrAnd, refl, sym, ap, subst}
 use Rattle.frame_ast.specs.declared.kernel.FaultKind.TheVariants.{Syntax}
-use Rattle.kernel_code.specs.declared.fault.KernelFault.TheVariants.{Refused}
-use Rattle.kernel_code.specs.declared.raw.RawKernel.{RawKernel}
-use Rattle.kernel_code.specs.declared.token.Token.{Token}
-use Rattle.kernel_code.specs.Marks.{tokens_in}
-use Rattle.kernel_code.specs.Parsing.{StandsAt, StopsAt}
+use Rattle.kernel_raw.specs.declared.fault.KernelFault.TheVariants.{Refused}
+use Rattle.kernel_raw.specs.declared.raw.RawKernel.{RawKernel}
+use Rattle.kernel_text.specs.declared.token.Token.{Token}
+use Rattle.kernel_text.specs.Marks.{tokens_in}
+use Rattle.kernel_raw.specs.Parsing.{StandsAt, StopsAt}
 use Rattle.kernel_code.specs.StaticFaults.{first_fault, TellsFault}
 use Rattle.kernel_rows.proofs.read.kernel_at.Goals as goal
 

@@ -49,7 +49,7 @@ returns-in-Ok-clause-own c =
     let at = c.index-entry.ensures in
     let n = c.from-count.result in
     let count : n ≡ pieces_of x = search (rules, c.from-count.ensures, c.pieces.ensures) in
-    own plan w id is x at n count c.in-Ok.place c.in-Ok.ensures.low c.args.self.now _ refl refl c.in-Ok.ensures.given
+    own plan w id is x at n count c.in-Ok.place c.in-Ok.ensures.low c.args.self.now _ refl refl refl refl c.in-Ok.ensures.given
 
 pub returns-in-Ok-clause-of_job : goal.returns-in-Ok-clause-of_job
 returns-in-Ok-clause-of_job c =

@@ -3,7 +3,7 @@ use Rattle.frame_core.proofs.Small.{none_some}
 use Rattle.word_board.specs.declared.view.View.{View}
 use Rattle.word_board.specs.Boards.{IsNewSeat, AreNewSeats, view_of}
 use Rattle.word_board.proofs.Dealt.{dealt_more, fresh_is_new}
-use Rattle.word_board.proofs.making.deal.Goals as goal
+use Rattle.word_board.proofs.making.make_seats.Goals as goal
 
 pub loop-made-init : goal.loop-made-init
 loop-made-init c =

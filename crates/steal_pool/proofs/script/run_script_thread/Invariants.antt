@@ -3,7 +3,7 @@ use Rattle.frame_print.specs.Reports.{IsReportOf}
 use Rattle.frame_core.specs.Output.{lines_of, refused_of, plan_traps}
 use Rattle.plan_run.specs.Says.{SaysTo}
 use Rattle.steal_pool.specs.Seats.{IsAt}
-use Rattle.steal_pool.proofs.script.run_script.Given as goal
+use Rattle.steal_pool.proofs.script.run_script_thread.Given as goal
 
 abbrev pub invariant-loop-i : goal.invariant-loop-i
 invariant-loop-i g l = record {

@@ -1,6 +1,6 @@
 use Rattle.std.proofs.Common.{◌≡◌, ◌+◌, eqb, length}
 use Rattle.word_board.specs.Boards.{IsNewSeat, AreNewSeats}
-use Rattle.word_board.proofs.making.deal.Given as goal
+use Rattle.word_board.proofs.making.make_seats.Given as goal
 
 abbrev pub invariant-loop-made : goal.invariant-loop-made
 invariant-loop-made l = record {

@@ -1,6 +1,6 @@
 use Rattle.std.proofs.Common.{refl, false}
 use Rattle.frame_top.proofs.Framing.{run_answers, plan_answers}
-use Rattle.frame_top.proofs.frame.run_script.Goals as goal
+use Rattle.frame_top.proofs.frame.answer_run.Goals as goal
 
 pub returns-in-Ok : goal.returns-in-Ok
 returns-in-Ok g c = record {

@@ -3,20 +3,21 @@ use Rattle.frame_core.specs.Output.{plan_lines}
 use Rattle.plan_run.specs.Runs.{IsReport}
 use Rattle.plan_run.specs.Says.{SaysTo, said_to}
 use Rattle.plan_run.proofs.Running.{lines_next, refused_next, refused_few, all_lines, all_reported}
-use Rattle.steal_pool.proofs.script.run_script.Goals as goal
+use Rattle.steal_pool.proofs.script.run_script_thread.Goals as goal
 
-pub run_next-next-requires-clause-few : goal.run_next-next-requires-clause-few
-run_next-next-requires-clause-few g c = refused_few c.args.crew.now.plan.now c.loop-i.i c.loop-i.refused c.requires.crew.well c.loop-i.invariant.refused
+pub run_next_segment-next-requires-clause-few : goal.run_next_segment-next-requires-clause-few
+run_next_segment-next-requires-clause-few g c = refused_few c.args.crew.now.plan.now c.loop-i.i c.loop-i.refused c.requires.crew.well c.loop-i.invariant.refused
 
 pub loop-i-preserved : goal.loop-i-preserved
-loop-i-preserved g c = let i = c.run_next-next.ensures in let v = c.loop-i.invariant in record {
+loop-i-preserved g c = let i = c.run_next_segment-next.ensures in let v = c.loop-i.invariant in record {
   home = i.home ∙ v.home;
   at = i.at;
   says = lines_next c.args.crew.now.plan.now (said_to g.S.Sink.taken g.S.Sink.faults c.args.sink.now c.args.out.now false)
       (said_to g.S.Sink.taken g.S.Sink.faults c.loop-i.sink c.loop-i.out c.loop-i.failed)
-      (said_to g.S.Sink.taken g.S.Sink.faults c.run_next-next.new.sink c.run_next-next.new.out c.run_next-next.new.failed) c.loop-i.i v.says i.text;
+      (said_to g.S.Sink.taken g.S.Sink.faults c.run_next_segment-next.new.sink c.run_next_segment-next.new.out c.run_next_segment-next.new.failed) c.loop-i.i
+      v.says i.text;
   later = let a = v.later in let b = i.later in omega (arith, a, b);
-  refused = refused_next c.args.crew.now.plan.now c.loop-i.i c.loop-i.refused c.run_next-next.new.refused v.refused i.refused;
+  refused = refused_next c.args.crew.now.plan.now c.loop-i.i c.loop-i.refused c.run_next_segment-next.new.refused v.refused i.refused;
   traps = λ p e. i.traps e;
 }
 

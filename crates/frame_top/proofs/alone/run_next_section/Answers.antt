@@ -1,7 +1,7 @@
 use Rattle.std.proofs.Common.{refl, true}
 use Rattle.frame_plan.specs.Tables.{columns_of}
 use Rattle.frame_top.proofs.Sectioning.{said_on}
-use Rattle.frame_top.proofs.alone.run_next.Goals as goal
+use Rattle.frame_top.proofs.alone.run_next_section.Goals as goal
 
 pub returns-clause-next : goal.returns-clause-next
 returns-clause-next g c sections from was =

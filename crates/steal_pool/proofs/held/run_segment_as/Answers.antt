@@ -1,5 +1,5 @@
 use Rattle.plan_run.proofs.Segments.{may_read_as, may_write_as}
-use Rattle.steal_pool.proofs.held.run_segment_on.Goals as goal
+use Rattle.steal_pool.proofs.held.run_segment_as.Goals as goal
 
 pub run_segment-traps-requires-clause-readable : goal.run_segment-traps-requires-clause-readable
 run_segment-traps-requires-clause-readable g c = may_read_as c.args.plan.now

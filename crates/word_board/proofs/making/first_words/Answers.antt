@@ -4,7 +4,7 @@ use Rattle.frame_core.specs.declared.plan.JobPlan.{JobPlan}
 use Rattle.frame_core.specs.declared.plan.Plan.{Plan}
 use Rattle.frame_core.specs.Names.{deps_in, job_at}
 use Rattle.word_board.proofs.Laying.{laid_more, laid_all, laid_none}
-use Rattle.word_board.proofs.making.lay_words.Goals as goal
+use Rattle.word_board.proofs.making.first_words.Goals as goal
 
 -- the job that an index gives
 job_is : (plan : Plan) (j : ℕ) (x : JobPlan) → j < length plan.jobs.items → x ≡ slice_index_or plan.jobs.items j x → job_at plan j ≡ Some x

@@ -3,7 +3,7 @@ use Rattle.frame_core.specs.Output.{segment_lines}
 use Rattle.plan_run.specs.Says.{said_to}
 use Rattle.plan_run.proofs.Saying.{says_after}
 use Rattle.steal_pool.proofs.Turns.{waits_are, starts_are, may_open_it, cells_here, segment_done, segment_owed, segment_dues, segment_rights, segment_at_next}
-use Rattle.steal_pool.proofs.script.run_next.Goals as goal
+use Rattle.steal_pool.proofs.script.run_next_segment.Goals as goal
 
 pub wait_all-own-requires-clause-jobs : goal.wait_all-own-requires-clause-jobs
 wait_all-own-requires-clause-jobs g c = waits_are c.args.crew.now.plan.now c.requires.crew.well c.args.i c.requires.index c.index-segment.result.now
@@ -16,8 +16,8 @@ open_piece-requires-clause-may g c =
     (g.B.Board.know c.args.seat) (g.B.Board.know c.wait_all-own.result) c.deref.result.now c.requires.at c.wait_all-own.ensures.on c.deref.ensures.value
     c.wait_all-own.ensures.seen
 
-pub hold_segment-own-requires-clause-cells : goal.hold_segment-own-requires-clause-cells
-hold_segment-own-requires-clause-cells g c =
+pub run_segment_leased-own-requires-clause-cells : goal.run_segment_leased-own-requires-clause-cells
+run_segment_leased-own-requires-clause-cells g c =
     cells_here c.args.crew.now.plan.now c.requires.crew.well c.args.i c.requires.index c.index-segment.result.now c.index-segment.ensures
     (g.B.Board.plan c.args.crew.now.board.now) c.requires.crew.plan_is (c.job_pieces.result + c.args.i) (ap (λ (n : ℕ). n + c.args.i) c.job_pieces.ensures)
     (g.B.Board.know c.wait_all-own.result) (g.B.Board.know c.open_piece.new.seat) c.open_piece.ensures.know
@@ -29,7 +29,7 @@ end-requires-clause-cells g c =
     (g.B.Board.plan c.args.crew.now.board.now) c.requires.crew.plan_is (c.job_pieces.result + c.args.i) (ap (λ (n : ℕ). n + c.args.i) c.job_pieces.ensures)
     (g.B.Board.know c.wait_all-own.result) (g.B.Board.know c.open_piece.new.seat) c.open_piece.ensures.know
     (g.B.Board.know c.begin_opened-own.result) c.begin_opened-own.ensures.know
-    (g.B.Board.know c.hold_segment-own.result.seat) c.hold_segment-own.ensures.still c.hold_segment-own.ensures.cells
+    (g.B.Board.know c.run_segment_leased-own.result.seat) c.run_segment_leased-own.ensures.still c.run_segment_leased-own.ensures.cells
 
 pub start_job-requires-clause-job : goal.start_job-requires-clause-job
 start_job-requires-clause-job g c = starts_are c.args.crew.now.plan.now c.requires.crew.well c.args.i c.requires.index c.index-segment.result.now
@@ -41,7 +41,7 @@ start_job-requires-clause-owed g c =
     (g.B.Board.plan c.args.crew.now.board.now) c.requires.crew.plan_is (c.job_pieces.result + c.args.i) (ap (λ (n : ℕ). n + c.args.i) c.job_pieces.ensures)
     (g.B.Board.know c.wait_all-own.result) (g.B.Board.know c.open_piece.new.seat) c.open_piece.ensures.know
     (g.B.Board.know c.begin_opened-own.result) c.begin_opened-own.ensures.know
-    (g.B.Board.know c.hold_segment-own.result.seat) c.hold_segment-own.ensures.still
+    (g.B.Board.know c.run_segment_leased-own.result.seat) c.run_segment_leased-own.ensures.still
     (g.B.Board.know c.end.new.seat) c.end.ensures.know c.wait_all-own.ensures.idle.owed
 
 pub start_job-requires-clause-dues : goal.start_job-requires-clause-dues
@@ -50,7 +50,7 @@ start_job-requires-clause-dues g c =
     (g.B.Board.plan c.args.crew.now.board.now) c.requires.crew.plan_is (c.job_pieces.result + c.args.i) (ap (λ (n : ℕ). n + c.args.i) c.job_pieces.ensures)
     (g.B.Board.know c.wait_all-own.result) (g.B.Board.know c.open_piece.new.seat) c.open_piece.ensures.know
     (g.B.Board.know c.begin_opened-own.result) c.begin_opened-own.ensures.know
-    (g.B.Board.know c.hold_segment-own.result.seat) c.hold_segment-own.ensures.still
+    (g.B.Board.know c.run_segment_leased-own.result.seat) c.run_segment_leased-own.ensures.still
     (g.B.Board.know c.end.new.seat) c.end.ensures.know c.wait_all-own.ensures.idle.dues
 
 pub start_job-requires-clause-none : goal.start_job-requires-clause-none
@@ -59,7 +59,7 @@ start_job-requires-clause-none g c =
     (g.B.Board.plan c.args.crew.now.board.now) c.requires.crew.plan_is (c.job_pieces.result + c.args.i) (ap (λ (n : ℕ). n + c.args.i) c.job_pieces.ensures)
     (g.B.Board.know c.wait_all-own.result) (g.B.Board.know c.open_piece.new.seat) c.open_piece.ensures.know
     (g.B.Board.know c.begin_opened-own.result) c.begin_opened-own.ensures.know
-    (g.B.Board.know c.hold_segment-own.result.seat) c.hold_segment-own.ensures.still
+    (g.B.Board.know c.run_segment_leased-own.result.seat) c.run_segment_leased-own.ensures.still
     (g.B.Board.know c.end.new.seat) c.end.ensures.know c.wait_all-own.ensures.idle.rights
 
 pub returns-clause-at : goal.returns-clause-at
@@ -68,7 +68,7 @@ returns-clause-at g c =
     (g.B.Board.plan c.args.crew.now.board.now) c.requires.crew.plan_is (c.job_pieces.result + c.args.i) (ap (λ (n : ℕ). n + c.args.i) c.job_pieces.ensures)
     (g.B.Board.know c.wait_all-own.result) (g.B.Board.know c.open_piece.new.seat) c.open_piece.ensures.know
     (g.B.Board.know c.begin_opened-own.result) c.begin_opened-own.ensures.know
-    (g.B.Board.know c.hold_segment-own.result.seat) c.hold_segment-own.ensures.still
+    (g.B.Board.know c.run_segment_leased-own.result.seat) c.run_segment_leased-own.ensures.still
     (g.B.Board.know c.end.new.seat) c.end.ensures.know (g.B.Board.know c.args.seat)
     (g.B.Board.know c.start_job.new.seat) c.requires.at c.wait_all-own.ensures.on c.start_job.ensures.idle c.start_job.ensures.on
 
@@ -76,5 +76,5 @@ pub returns-clause-text : goal.returns-clause-text
 returns-clause-text g c =
     says_after (said_to g.S.Sink.taken g.S.Sink.faults c.args.sink.now c.args.out.now c.args.failed.now)
     (said_to g.S.Sink.taken g.S.Sink.faults c.wait_all-own.new.sink c.wait_all-own.new.out c.wait_all-own.new.failed)
-    (said_to g.S.Sink.taken g.S.Sink.faults c.hold_segment-own.new.sink c.hold_segment-own.new.out c.hold_segment-own.new.failed) []
-    (segment_lines c.args.crew.now.plan.now c.args.i) c.wait_all-own.ensures.text c.hold_segment-own.ensures.text
+    (said_to g.S.Sink.taken g.S.Sink.faults c.run_segment_leased-own.new.sink c.run_segment_leased-own.new.out c.run_segment_leased-own.new.failed) []
+    (segment_lines c.args.crew.now.plan.now c.args.i) c.wait_all-own.ensures.text c.run_segment_leased-own.ensures.text
