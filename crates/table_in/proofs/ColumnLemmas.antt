@@ -1,15 +1,17 @@
 -- What a table holds, name by name and value by value.
-use Rattle.std.proofs.Common.{refl, ap, ap₂, ◌≡◌, true, false, Some, None, List, [], ◌∷◌, ◌++◌, ◌∙◌, sym, ℕ, ℤ, ◌<◌, ◌≤◌, ◌+◌, arith, length, suc, zero, map, drop, take, pos}
+use Rattle.std.proofs.Common.{refl, ap, ap₂, ◌≡◌, true, false, Some, None, List, [], ◌∷◌, ◌++◌, ◌∙◌, sym, ℕ, ℤ, ◌<◌, ◌≤◌, ◌+◌, arith, length, append-nil, append_assoc, Option, suc, zero, map, drop, take, pos}
 use Rattle.std.specs.Option.{unwrap_or}
 use Rattle.std.specs.List.{slice_set, slice_index_or}
 use Rattle.std.specs.Str.{bytes_eq}
 use Rattle.std.proofs.lemmas.List.{map-append}
 use Rattle.csv.specs.Records.{field_at}
 use Rattle.table_in.specs.Numbers.{Text, number_of}
-use Rattle.table_in.specs.Rows.{Fields}
-use Rattle.table_in.specs.Columns.{NamedColumn, empty_column, with_value, column_named, value_of, first_value, columns_from, with_row}
+use Rattle.table_in.specs.Rows.{Fields, row_fault, or_fault, fault_from}
+use Rattle.table_in.specs.Columns.{NamedColumn, empty_column, with_value, column_named, value_of, first_value, columns_from, with_row, with_values}
+use Rattle.table_in.specs.Plain.{with_rows}
 use Rattle.table_in.specs.declared.columns.Column.{Column}
-use Rattle.table_in.proofs.RowLemmas.{take-field, field_at-none}
+use Rattle.table_in.specs.declared.TableFault.{TableFault}
+use Rattle.table_in.proofs.RowLemmas.{take-field, field_at-none, row_width}
 
 -- ---- what the records say
 
@@ -37,6 +39,55 @@ pub length-with_row : (columns : List NamedColumn) (fields : Fields) → length 
 length-with_row [] fields = refl
 length-with_row (c ∷ columns) [] = refl
 length-with_row (c ∷ columns) (f ∷ fields) = ap suc (length-with_row columns fields)
+
+with_row-values : (columns : List NamedColumn) (fields : Fields) → with_row columns fields ≡ with_values columns (map value_of fields)
+with_row-values [] fields = refl
+with_row-values (c ∷ columns) [] = refl
+with_row-values (c ∷ columns) (f ∷ fields) = ap (λ (l : List NamedColumn). with_value c (value_of f) ∷ l) (with_row-values columns fields)
+
+pub with_row-from : (old new : List NamedColumn) (fields : Fields) (values : List ℤ) → new ≡ with_values old values → map value_of fields ≡ values
+    → new ≡ with_row old fields
+with_row-from old new fields values is held = is ∙ ap (with_values old) (sym held) ∙ sym (with_row-values old fields)
+
+pub with_values-nil : (columns : List NamedColumn) → with_values columns [] ≡ columns
+with_values-nil [] = refl
+with_values-nil (c ∷ columns) = refl
+
+pub length-with_values : (columns : List NamedColumn) (values : List ℤ) → length (with_values columns values) ≡ length columns
+length-with_values [] values = refl
+length-with_values (c ∷ columns) [] = refl
+length-with_values (c ∷ columns) (v ∷ values) = ap suc (length-with_values columns values)
+
+-- what was written over a whole list is what stands there
+pub written : (n : ℕ) (values rest : List ℤ) → n ≡ length values → take n (values ++ rest) ≡ values
+written zero [] rest e = refl
+written zero (v ∷ values) rest e = absurd (omega arith)
+written (suc n) [] rest e = absurd (omega arith)
+written (suc n) (v ∷ values) rest e = ap (λ (l : List ℤ). v ∷ l) (written n values rest (omega arith))
+
+-- ---- more rows
+
+pub length-with_rows : (columns : List NamedColumn) (rows : List Fields) → length (with_rows columns rows) ≡ length columns
+length-with_rows columns [] = refl
+length-with_rows columns (r ∷ rows) = length-with_rows (with_row columns r) rows ∙ length-with_row columns r
+
+pub with_rows-append : (columns : List NamedColumn) (xs ys : List Fields) → with_rows columns (xs ++ ys) ≡ with_rows (with_rows columns xs) ys
+with_rows-append columns [] ys = refl
+with_rows-append columns (x ∷ xs) ys = with_rows-append (with_row columns x) xs ys
+
+-- columns that hold records of their width hold what the records say
+pub with_rows-columns : (names : Fields) (before rows : List Fields) (row : ℕ) → fault_from row (length names) rows ≡ None
+    → with_rows (columns_from names before) rows ≡ columns_from names (before ++ rows)
+with_rows-columns names before [] row sound = ap (columns_from names) (sym (append-nil before))
+with_rows-columns names before (r ∷ rows) row sound =
+    let parts = no_fault (row_fault row (length names) r) (fault_from (row + 1) (length names) rows) sound in
+    ap (λ (l : List NamedColumn). with_rows l rows) (sym (columns_from-more names before r (row_width row (length names) r parts.0)))
+    ∙ with_rows-columns names (before ++ r ∷ []) rows (row + 1) parts.1
+    ∙ ap (columns_from names) (append_assoc before (r ∷ []) rows)
+  where
+    no_fault : (a b : Option TableFault) → or_fault a b ≡ None → (a ≡ None) × (b ≡ None)
+    no_fault None b e = (refl, e)
+    no_fault (Some f) b e = absurd (let bad : Some f ≡ None = e in cc)
 
 -- ---- one more name
 
@@ -70,6 +121,24 @@ value_step init held new fields i f n is step lt at number =
     let value : n ≡ value_of f = ap (λ o. unwrap_or o (pos 0)) number in
     step ∙ ap₂ (λ l v. slice_set l i (with_value (slice_index_or l i (empty_column [])) v)) is value ∙ with_row-more init fields i f lt at
 
+with_values-more : (columns : List NamedColumn) (values : List ℤ) (i : ℕ) → i < length columns → i < length values
+    → slice_set (with_values columns (take i values)) i
+    (with_value (slice_index_or (with_values columns (take i values)) i (empty_column [])) (slice_index_or values i (pos 0)))
+    ≡ with_values columns (take (i + 1) values)
+with_values-more [] values i lt inside = absurd (omega arith)
+with_values-more (c ∷ columns) [] i lt inside = absurd (omega arith)
+with_values-more (c ∷ columns) (v ∷ values) zero lt inside = ap (λ (l : List NamedColumn). with_value c v ∷ l) (sym (with_values-nil columns))
+with_values-more (c ∷ columns) (v ∷ values) (suc i) lt inside =
+    let one_more : suc (i + 1) ≡ suc i + 1 = omega arith in
+    ap (λ (l : List NamedColumn). with_value c v ∷ l) (with_values-more columns values i (omega arith) (omega arith))
+    ∙ ap (λ n. with_values (c ∷ columns) (take n (v ∷ values))) one_more
+
+pub push_step : (init held new : List NamedColumn) (values : List ℤ) (i : ℕ) (n : ℤ) → held ≡ with_values init (take i values)
+    → new ≡ slice_set held i (with_value (slice_index_or held i (empty_column [])) n) → n ≡ slice_index_or values i (pos 0)
+    → i < length init → i < length values → new ≡ with_values init (take (i + 1) values)
+push_step init held new values i n is step value lt inside =
+    step ∙ ap₂ (λ l v. slice_set l i (with_value (slice_index_or l i (empty_column [])) v)) is value ∙ with_values-more init values i lt inside
+
 -- a column with one more value, seen by its name and values
 pub pushed : {X : Type 0} (f : X → NamedColumn) (xs : List X) (i : ℕ) (old new : X) (v : ℤ) → i < length xs → old ≡ slice_index_or xs i old
     → f new ≡ with_value (f old) v
@@ -77,6 +146,13 @@ pub pushed : {X : Type 0} (f : X → NamedColumn) (xs : List X) (i : ℕ) (old n
 pushed f [] i old new v lt at e = absurd (omega arith)
 pushed f (x ∷ xs) zero old new v lt at e = ap (λ (c : NamedColumn). c ∷ map f xs) (e ∙ ap (λ y. with_value (f y) v) at)
 pushed f (x ∷ xs) (suc i) old new v lt at e = ap (λ (l : List NamedColumn). f x ∷ l) (pushed f xs i old new v (omega arith) at e)
+
+-- a column with the same name and values in its place
+pub kept : {X : Type 0} (f : X → NamedColumn) (xs : List X) (i : ℕ) (old new : X) → i < length xs → old ≡ slice_index_or xs i old → f new ≡ f old
+    → map f (slice_set xs i new) ≡ map f xs
+kept f [] i old new lt at e = absurd (omega arith)
+kept f (x ∷ xs) zero old new lt at e = ap (λ (c : NamedColumn). c ∷ map f xs) (e ∙ ap f at)
+kept f (x ∷ xs) (suc i) old new lt at e = ap (λ (l : List NamedColumn). f x ∷ l) (kept f xs i old new (omega arith) at e)
 
 pub within : (fields : Fields) (i : ℕ) → None ≡ field_at fields i → i < length fields → ⊥
 within fields i none lt =

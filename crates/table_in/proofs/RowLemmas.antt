@@ -11,9 +11,9 @@ use Rattle.csv.specs.declared.parser.Action.TheVariants as act
 use Rattle.table_in.specs.Numbers.{Text, number_of}
 use Rattle.table_in.specs.declared.TableFault.TheVariants.{Unequal, NotNumber}
 use Rattle.std.specs.Option.{is_some}
-use Rattle.std.proofs.lemmas.Bool.{and_from, ne_eqb, eq-eqb}
+use Rattle.std.proofs.lemmas.Bool.{and_from, ne_eqb, eq-eqb, eqb-true}
 use Rattle.std.proofs.lemmas.List.Folds.{list_all-append}
-use Rattle.table_in.specs.Rows.{Fields, rows_in, or_fault, row_fault, fault_from, table_fault, all_numbers}
+use Rattle.table_in.specs.Rows.{Fields, rows_in, or_fault, row_fault, fault_from, all_numbers}
 
 -- ---- a record takes a byte at least
 
@@ -49,7 +49,7 @@ start_record_between c = go (eqb c 13 || eqb c 10)
     go true e = absurd (let bad : false ≡ true = e in cc)
     go false e = start_field_between c e
 
-step_between : (s : State) (c : ℕ) → is_end (step default_config s c).1 ≡ true → ends_at_end (step default_config s c).0 ≡ false
+pub step_between : (s : State) (c : ℕ) → is_end (step default_config s c).1 ≡ true → ends_at_end (step default_config s c).0 ≡ false
 step_between st.StartRecord c e = start_record_between c e
 step_between st.StartField c e = start_field_between c e
 step_between st.InField c e = in_field_between c e
@@ -80,10 +80,10 @@ step_between st.AfterCr c e = go (eqb c 10) e
     go false e = start_record_between c e
 
 -- what a record leaves: no more bytes, and a state between records
-abbrev Leaves : Read → ℕ → Type 0
+abbrev pub Leaves : Read → ℕ → Type 0
 Leaves p n = (length p.2 ≤ n) × (ends_at_end p.1 ≡ false)
 
-leaves : (s : State) (fields : Fields) (field xs : Text) (p : Read) → next_record default_config s fields field xs ≡ Some p → Leaves p (length xs)
+pub leaves : (s : State) (fields : Fields) (field xs : Text) (p : Read) → next_record default_config s fields field xs ≡ Some p → Leaves p (length xs)
 unfolding next_record
 leaves s fields field [] p e = go (ends_at_end s) e
   where
@@ -112,7 +112,7 @@ leaves s fields field (c ∷ rest) p e =
         (omega arith, h.1)
 
 -- a record between records takes a byte at least
-fewer : (s : State) (xs : Text) (p : Read) → ends_at_end s ≡ false → next_record default_config s [] [] xs ≡ Some p
+pub fewer : (s : State) (xs : Text) (p : Read) → ends_at_end s ≡ false → next_record default_config s [] [] xs ≡ Some p
     → (length p.2 + 1 ≤ length xs) × (ends_at_end p.1 ≡ false)
 unfolding next_record
 fewer s [] p between e =
@@ -172,24 +172,25 @@ rows-front source rows s2 ys h =
       λ none. ap (records_next (records_from default_config k)) none,
     )
 
--- a text has no more records than bytes
-pub rows-few : (source : Text) (rows : List Fields) (s2 : State) (ys : Text) → Reached default_config st.StartRecord (strip_bom source) rows s2 ys
-    → length rows ≤ length source
+-- a byte-order mark is some bytes less
+pub strip_bom-shorter : (t : Text) → length (strip_bom t) ≤ length t
 unfolding strip_bom
-rows-few source rows s2 ys h =
-    let few : length rows + length ys ≤ length (strip_bom source) = reached-fewer rows st.StartRecord s2 (strip_bom source) ys refl h in
-    let shorter : length (strip_bom source) ≤ length source = strip source in
-    omega arith
+strip_bom-shorter [] = omega arith
+strip_bom-shorter (x ∷ []) = omega arith
+strip_bom-shorter (x ∷ y ∷ []) = omega arith
+strip_bom-shorter (x ∷ y ∷ z ∷ rest) = mark (Rattle.csv.specs.Reading.is_bom x y z) x y z rest
   where
     mark : (b : Bool) (x y z : ℕ) (rest : Text) → length (cond b rest (x ∷ y ∷ z ∷ rest)) ≤ length (x ∷ y ∷ z ∷ rest)
     mark true x y z rest = omega arith
     mark false x y z rest = omega arith
 
-    strip : (t : Text) → length (strip_bom t) ≤ length t
-    strip [] = omega arith
-    strip (x ∷ []) = omega arith
-    strip (x ∷ y ∷ []) = omega arith
-    strip (x ∷ y ∷ z ∷ rest) = mark (Rattle.csv.specs.Reading.is_bom x y z) x y z rest
+-- a text has no more records than bytes
+pub rows-few : (source : Text) (rows : List Fields) (s2 : State) (ys : Text) → Reached default_config st.StartRecord (strip_bom source) rows s2 ys
+    → length rows ≤ length source
+rows-few source rows s2 ys h =
+    let few : length rows + length ys ≤ length (strip_bom source) = reached-fewer rows st.StartRecord s2 (strip_bom source) ys refl h in
+    let shorter : length (strip_bom source) ≤ length source = strip_bom-shorter source in
+    omega arith
 
 -- ---- faults
 
@@ -261,29 +262,38 @@ row_sound row width fields same good =
     let test : eqb (length fields) width ≡ true = eq-eqb _ _ same in
     rw (test, good) refl
 
+pub row_width : (row wide : ℕ) (fields : Fields) → row_fault row wide fields ≡ None → length fields ≡ wide
+row_width row wide fields e = go (eqb (length fields) wide) refl
+  where
+    go : (b : Bool) → eqb (length fields) wide ≡ b → length fields ≡ wide
+    go true same = eqb-true _ _ same
+    go false other =
+        let bad : Some (Unequal row) ≡ None = rw other at e in
+        absurd (cc)
+
 -- ---- the whole
 
-pub faulty : (source : Text) (names : Fields) (rows : List Fields) (fields : Fields) (s2 : State) (ys : Text) (row : ℕ) (fault : TableFault)
-    → Reached default_config st.StartRecord (strip_bom source) (names ∷ (rows ++ fields ∷ [])) s2 ys → fault_from 2 (length names) rows ≡ None
-    → row ≡ 2 + length rows
-    → row_fault row (length names) fields ≡ Some fault → table_fault (rows_in source) ≡ Some fault
-faulty source names rows fields s2 ys row fault h sound is e =
-    let front = rows-front source (names ∷ (rows ++ fields ∷ [])) s2 ys h in
-    ap table_fault front.1
-    ∙ fault_from-append 2 (length names) (rows ++ fields ∷ []) front.0
-    ∙ ap (λ o. or_fault o (fault_from (2 + length (rows ++ fields ∷ [])) (length names) front.0))
-    (fault_from-append 2 (length names) rows (fields ∷ []) ∙ ap (λ o. or_fault o (or_fault (row_fault (2 + length rows) (length names) fields) None)) sound
-    ∙ ap (λ o. or_fault o None) (ap (λ n. row_fault n (length names) fields) (sym is) ∙ e))
+pub faulty : (source : Text) (rows : List Fields) (fields : Fields) (s2 : State) (ys : Text) (first width row : ℕ) (fault : TableFault)
+    → Reached default_config st.StartRecord (strip_bom source) (rows ++ fields ∷ []) s2 ys → fault_from first width rows ≡ None
+    → row ≡ first + length rows
+    → row_fault row width fields ≡ Some fault → fault_from first width (rows_in source) ≡ Some fault
+faulty source rows fields s2 ys first width row fault h sound is e =
+    let front = rows-front source (rows ++ fields ∷ []) s2 ys h in
+    ap (fault_from first width) front.1
+    ∙ fault_from-append first width (rows ++ fields ∷ []) front.0
+    ∙ ap (λ o. or_fault o (fault_from (first + length (rows ++ fields ∷ [])) width front.0))
+    (fault_from-append first width rows (fields ∷ []) ∙ ap (λ o. or_fault o (or_fault (row_fault (first + length rows) width fields) None)) sound
+    ∙ ap (λ o. or_fault o None) (ap (λ n. row_fault n width fields) (sym is) ∙ e))
 
-pub sound-more : (names : Fields) (rows : List Fields) (fields : Fields) (row : ℕ) → fault_from 2 (length names) rows ≡ None → row ≡ 2 + length rows
-    → row_fault row (length names) fields ≡ None → fault_from 2 (length names) (rows ++ fields ∷ []) ≡ None
-sound-more names rows fields row sound is e =
-    fault_from-append 2 (length names) rows (fields ∷ []) ∙ ap (λ o. or_fault o (or_fault (row_fault (2 + length rows) (length names) fields) None)) sound
-    ∙ ap (λ o. or_fault o None) (ap (λ n. row_fault n (length names) fields) (sym is) ∙ e)
+pub sound-more : (first width : ℕ) (rows : List Fields) (fields : Fields) (row : ℕ) → fault_from first width rows ≡ None → row ≡ first + length rows
+    → row_fault row width fields ≡ None → fault_from first width (rows ++ fields ∷ []) ≡ None
+sound-more first width rows fields row sound is e =
+    fault_from-append first width rows (fields ∷ []) ∙ ap (λ o. or_fault o (or_fault (row_fault (first + length rows) width fields) None)) sound
+    ∙ ap (λ o. or_fault o None) (ap (λ n. row_fault n width fields) (sym is) ∙ e)
 
-pub all-read : (source : Text) (names : Fields) (rows : List Fields) (s2 : State) (ys : Text)
-    → Reached default_config st.StartRecord (strip_bom source) (names ∷ rows) s2 ys
-    → next_record default_config s2 [] [] ys ≡ None → rows_in source ≡ names ∷ rows
-all-read source names rows s2 ys h none =
-    let front = rows-front source (names ∷ rows) s2 ys h in
-    front.1 ∙ ap (λ (l : List Fields). (names ∷ rows) ++ l) (front.2 none) ∙ append-nil (names ∷ rows)
+pub all-read : (source : Text) (rows : List Fields) (s2 : State) (ys : Text)
+    → Reached default_config st.StartRecord (strip_bom source) rows s2 ys
+    → next_record default_config s2 [] [] ys ≡ None → rows_in source ≡ rows
+all-read source rows s2 ys h none =
+    let front = rows-front source rows s2 ys h in
+    front.1 ∙ ap (λ (l : List Fields). rows ++ l) (front.2 none) ∙ append-nil rows

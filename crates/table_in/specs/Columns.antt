@@ -42,6 +42,12 @@ with_row [] fields = []
 with_row (c ∷ columns) [] = c ∷ columns
 with_row (c ∷ columns) (field ∷ fields) = with_value c (value_of field) ∷ with_row columns fields
 
+-- the columns with one more value each
+abbrev pub with_values : List NamedColumn → List ℤ → List NamedColumn
+with_values [] values = []
+with_values (c ∷ columns) [] = c ∷ columns
+with_values (c ∷ columns) (v ∷ values) = with_value c v ∷ with_values columns values
+
 -- the records have no fault, and the table holds what they do
 pub record HoldsRows (rows : List Fields) (table : List NamedColumn) : Type 0 where
   pub sound : table_fault rows ≡ None

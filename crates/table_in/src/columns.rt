@@ -1,7 +1,7 @@
 // The columns of a table.
 ghost use Rattle.std.specs.Prelude.{◌≡◌, ◌<◌, ◌⊎◌, IfOk, IfErr, OnOk, IfSome, Some, None, [], ◌∷◌, ◌++◌, length, map, option_map, slice_set, slice_index_or};
 ghost use Rattle.csv.specs.Records.{fields_of};
-ghost use Rattle.table_in.specs.Columns.{NamedColumn, column_named, columns_from, with_row, with_value, empty_column};
+ghost use Rattle.table_in.specs.Columns.{NamedColumn, column_named, columns_from, with_row, with_value, with_values, empty_column};
 ghost use Rattle.table_in.specs.Rows.{row_fault};
 
 use crate::TableFault;
@@ -53,6 +53,21 @@ impl Table {
         None
     }
 
+    /// One more column, with these values. A caller that has numbers needs no text for them.
+    pub fn push_column(
+        &mut self,
+        alloc: Global,
+        name: &[u8],
+        values: &[i64],
+    ) -> Result<(), AllocError>
+        ensures { OnOk result (self.new ≡ self.old ++ record { name = name.now; values = values.now } ∷ []) }
+    {
+        let name = name.to_vec(alloc)?;
+        let values = values.to_vec(alloc)?;
+        self.columns.push(Column { name, values })?;
+        Ok(())
+    }
+
     // One more column, with no value yet.
     fn push_name(&mut self, alloc: Global, name: &[u8]) -> Result<(), AllocError>
         ensures { OnOk result (self.new ≡ self.old ++ empty_column name.now ∷ []) }
@@ -73,6 +88,45 @@ impl Table {
     {
         let column = &mut self.columns[i];
         column.values.push(value)?;
+        Ok(())
+    }
+
+    /// How many columns there are.
+    pub(crate) fn width(&self) -> usize
+        ensures { result ≡ length self.now }
+    {
+        self.columns.len()
+    }
+
+    // Takes memory for this many values more in a column.
+    fn make_room_in(&mut self, i: usize, rows: usize) -> Result<(), AllocError>
+        requires { i < length self.old }
+        ensures { OnOk result (self.new ≡ self.old) }
+    {
+        let column = &mut self.columns[i];
+        column.values.reserve(rows)?;
+        Ok(())
+    }
+
+    /// Takes memory for this many values more in each column, so that they are not moved while they grow.
+    pub(crate) fn make_room(&mut self, rows: usize) -> Result<(), AllocError>
+        ensures { OnOk result (self.new ≡ self.old) }
+    {
+        let width = self.width();
+        for i in 0..width {
+            self.make_room_in(i, rows)?;
+        }
+        Ok(())
+    }
+
+    /// Adds a record of these numbers.
+    pub(crate) fn push_values(&mut self, values: &[i64]) -> Result<(), AllocError>
+        requires { length values.now ≡ length self.old }
+        ensures { OnOk result (self.new ≡ with_values self.old values.now) }
+    {
+        for i in 0..values.len() {
+            self.push_value(i, values[i])?;
+        }
         Ok(())
     }
 

@@ -3,11 +3,18 @@
 //! A table is a text of comma-separated values, as the crate `csv` reads it with its default settings: a byte-order
 //! mark at the head is skipped, and empty lines give no record. The first record holds the names of the columns, and
 //! every later one has a number for each column.
+//!
+//! The records below the names are mostly plain: digits, a `-` before them, spaces round them, commas between. Those
+//! are read where they stand, in one pass over the bytes. From the first other record on, as one with a quote in it or
+//! a faulty one, `csv` reads the text record by record: so a table with a field in quotes near its head is read slowly.
 #![tactic(auto)]
 
 mod columns;
+mod names;
 mod numbers;
+mod plain;
 mod reading;
+mod rows;
 
 pub use columns::Table;
 pub use reading::read_table;

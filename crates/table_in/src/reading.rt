@@ -1,12 +1,89 @@
 // A whole text, record by record.
-ghost use Rattle.std.specs.Prelude.{◌≡◌, ◌≤◌, ◌⊎◌, IfOk, IfErr, Some, None, length};
+ghost use Rattle.std.specs.Prelude.{◌≡◌, ◌≤◌, ◌<◌, ◌+◌, ◌⊎◌, IfOk, IfErr, OnOk, Some, None, [], length};
+ghost use Rattle.csv.specs.Reading.{is_bom, strip_bom};
 ghost use Rattle.job_base.specs.declared.limits.TheConstants.{MOST_TABLE_BYTES};
-ghost use Rattle.table_in.specs.Rows.{rows_in, table_fault};
-ghost use Rattle.table_in.specs.Columns.{HoldsRows};
+ghost use Rattle.table_in.specs.Rows.{Fields, rows_in, table_fault, fault_from};
+ghost use Rattle.table_in.specs.Columns.{HoldsRows, columns_from};
+ghost use Rattle.table_in.specs.Plain.{AddsRows, BeginsWith};
 
+use crate::names::names_end;
+use crate::rows::push_plain_rows;
 use crate::{Table, TableFault};
 use csv::{ByteRecord, ReaderBuilder};
 use std::alloc::Global;
+
+// The table of the names that the first record holds.
+fn read_names(alloc: Global, source: &[u8]) -> Result<Table, TableFault>
+    ensures ok { IfOk result (λ t. (names : Fields) × BeginsWith (strip_bom source.now) names
+        × (t ≡ columns_from names [])) }
+    ensures err { IfErr result (λ f. (f ≡ TableFault.NoMemory) ⊎ (table_fault (rows_in source.now) ≡ Some f)) }
+{
+    let mut reader = ReaderBuilder::new()
+        .has_headers(false)
+        .from_reader(alloc, source);
+    let mut record = ByteRecord::new(alloc);
+    let has_names = match reader.read_byte_record(&mut record) {
+        Ok(has_names) => has_names,
+        Err(_) => return Err(TableFault::NoMemory),
+    };
+    if !has_names {
+        return Err(TableFault::Empty);
+    }
+    match Table::named(alloc, &record) {
+        Ok(table) => Ok(table),
+        Err(_) => Err(TableFault::NoMemory),
+    }
+}
+
+// Adds what the records of a text hold, of which the first has this number.
+fn push_rows(table: &mut Table, alloc: Global, text: &[u8], first: u32) -> Result<(), TableFault>
+    requires { first + length text.now < 4294967295 }
+    ensures ok { OnOk result (AddsRows first table.old table.new (rows_in text.now)) }
+    ensures err { IfErr result (λ f. (f ≡ TableFault.NoMemory)
+        ⊎ (fault_from first (length table.old) (rows_in text.now) ≡ Some f)) }
+{
+    let mut reader = ReaderBuilder::new()
+        .has_headers(false)
+        .flexible(true)
+        .from_reader(alloc, text);
+    // One record is read into again and again, so a row takes no memory but that of its values.
+    let mut record = ByteRecord::new(alloc);
+    for row in first..u32::MAX {
+        let has_row = match reader.read_byte_record(&mut record) {
+            Ok(has_row) => has_row,
+            Err(_) => return Err(TableFault::NoMemory),
+        };
+        if !has_row {
+            return Ok(());
+        }
+        match table.push_row(&record, row) {
+            Ok(()) => {}
+            Err(fault) => return Err(fault),
+        }
+    }
+    // A record takes a byte at least, so there are fewer.
+    unreachable!()
+}
+
+fn is_mark(a: u8, b: u8, c: u8) -> bool
+    ensures { result ≡ is_bom a b c }
+{
+    a == 0xEF && b == 0xBB && c == 0xBF
+}
+
+// The text after a byte-order mark at its head.
+fn skip_mark(source: &[u8]) -> &[u8]
+    ensures { result.now ≡ strip_bom source.entry.now }
+{
+    if source.len() < 3 {
+        return source;
+    }
+    if is_mark(source[0], source[1], source[2]) {
+        &source[3..]
+    } else {
+        source
+    }
+}
 
 /// Reads a table of at most `MOST_TABLE_BYTES` bytes.
 ///
@@ -17,36 +94,13 @@ pub fn read_table(alloc: Global, source: &[u8]) -> Result<Table, TableFault>
     ensures ok { IfOk result (HoldsRows (rows_in source.now)) }
     ensures err { IfErr result (λ f. (f ≡ TableFault.NoMemory) ⊎ (table_fault (rows_in source.now) ≡ Some f)) }
 {
-    let mut reader = ReaderBuilder::new()
-        .has_headers(false)
-        .flexible(true)
-        .from_reader(alloc, source);
-    // One record is read into again and again, so a row takes no memory but that of its values.
-    let mut record = ByteRecord::new(alloc);
-    let has_names = match reader.read_byte_record(&mut record) {
-        Ok(has_names) => has_names,
-        Err(_) => return Err(TableFault::NoMemory),
+    let mut table = read_names(alloc, source)?;
+    let text = skip_mark(source);
+    let Ok(stand) = push_plain_rows(&mut table, alloc, text, names_end(text)) else {
+        return Err(TableFault::NoMemory);
     };
-    if !has_names {
-        return Err(TableFault::Empty);
+    match push_rows(&mut table, alloc, &text[stand.at..], stand.row) {
+        Ok(()) => Ok(table),
+        Err(fault) => Err(fault),
     }
-    let mut table = match Table::named(alloc, &record) {
-        Ok(table) => table,
-        Err(_) => return Err(TableFault::NoMemory),
-    };
-    for row in 2..u32::MAX {
-        let has_row = match reader.read_byte_record(&mut record) {
-            Ok(has_row) => has_row,
-            Err(_) => return Err(TableFault::NoMemory),
-        };
-        if !has_row {
-            return Ok(table);
-        }
-        match table.push_row(&record, row) {
-            Ok(()) => {}
-            Err(fault) => return Err(fault),
-        }
-    }
-    // A record takes a byte at least, so there are fewer.
-    unreachable!()
 }

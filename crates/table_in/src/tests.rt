@@ -2,7 +2,7 @@ use super::*;
 use std::test::Fail;
 
 /// Each text with a name, and the values of the first column of that name.
-const COLUMNS: [(&[u8], &[u8], Option<&[i64]>); 20] = [
+const COLUMNS: [(&[u8], &[u8], Option<&[i64]>); 30] = [
     (b"a,b\n1,2\n3,4\n", b"b", Some(&[2, 4])),
     (b"a,b\n1,2\n3,4", b"a", Some(&[1, 3])),
     (b"a,b\n1,2\n", b"c", None),
@@ -27,10 +27,32 @@ const COLUMNS: [(&[u8], &[u8], Option<&[i64]>); 20] = [
     ),
     (b"a\n00000000000000000000000000000001\n", b"a", Some(&[1])),
     (b"a,\n1,2\n", b"", Some(&[2])),
+    // Spaces round numbers, and ends of lines of each kind.
+    (b"a,b\n 1 ,  -2 \n3,4\n", b"b", Some(&[-2, 4])),
+    (b"a\n\r\n\r1\r\r2", b"a", Some(&[1, 2])),
+    // Numbers of more digits than are sure to fit.
+    (
+        b"a\n999999999999999999\n1000000000000000000\n",
+        b"a",
+        Some(&[999_999_999_999_999_999, 1_000_000_000_000_000_000]),
+    ),
+    (
+        b"a\n-000000000000000000009223372036854775808\n",
+        b"a",
+        Some(&[i64::MIN]),
+    ),
+    // Names in quotes, with plain numbers below them.
+    (b"\"a,\nb\",c\n1,2\n", b"c", Some(&[2])),
+    (b"\"a\"\"\nb\",c\n1,2\n", b"a\"\nb", Some(&[1])),
+    (b"a\"b,c\n1,2\n", b"a\"b", Some(&[1])),
+    // A field in quotes after plain ones, and plain ones after it.
+    (b"a\n1\n\"2\"\n3\n", b"a", Some(&[1, 2, 3])),
+    (b"a,b\n1,2\n\"3\",\" 4\"\n5,6", b"b", Some(&[2, 4, 6])),
+    (b"a,b\n1,2\n\r\n3,\"4\"", b"a", Some(&[1, 3])),
 ];
 
 /// Each text that is no table, with its fault. The record of names is number 1.
-const FAULTS: [(&[u8], TableFault); 22] = [
+const FAULTS: [(&[u8], TableFault); 31] = [
     (b"", TableFault::Empty),
     (b"\n\r\n\n", TableFault::Empty),
     (b"\xEF\xBB\xBF", TableFault::Empty),
@@ -59,6 +81,20 @@ const FAULTS: [(&[u8], TableFault); 22] = [
         TableFault::NotNumber { row: 2 },
     ),
     (b"a\n1\n\xFF\n", TableFault::NotNumber { row: 3 }),
+    // A byte-order mark counts at the head alone.
+    (b"a\n\xEF\xBB\xBF7\n", TableFault::NotNumber { row: 2 }),
+    (b"a\n1\n\n\xEF\xBB\xBF7\n", TableFault::NotNumber { row: 3 }),
+    // Faults after plain records.
+    (b"a,b\n1,2\n1,\n", TableFault::NotNumber { row: 3 }),
+    (b"a,b\n1,2\n1,2,3\n", TableFault::Unequal { row: 3 }),
+    (b"a,b\n1,2\n1,2,\n", TableFault::Unequal { row: 3 }),
+    (b"a\n1\n\"2\"\nx\n", TableFault::NotNumber { row: 4 }),
+    (b"a\n1\n\"2\n3\"\n", TableFault::NotNumber { row: 3 }),
+    (b"a\n1-2\n", TableFault::NotNumber { row: 2 }),
+    (
+        b"a\n18446744073709551617\n",
+        TableFault::NotNumber { row: 2 },
+    ),
 ];
 
 #[test]
@@ -102,6 +138,14 @@ fn tells_faults(rt: HostRuntime) -> Result<(), Fail> {
         let told = format!(in rt.alloc(); "{fault}")?;
         assert_eq!(rt; told.as_str(), text);
     }
+    Ok(())
+}
+
+#[test]
+fn takes_a_column(rt: HostRuntime) -> Result<(), Fail> {
+    let mut table = Table::none(rt.alloc());
+    table.push_column(rt.alloc(), b"a".as_slice(), [7i64, -8].as_slice())?;
+    assert!(rt; table.column(b"a".as_slice()) == Some([7i64, -8].as_slice()));
     Ok(())
 }
 

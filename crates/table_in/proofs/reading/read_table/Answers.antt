@@ -1,82 +1,38 @@
-use Rattle.std.proofs.Common.{◌≡◌, ◌∙◌, ap, inl, inr, true, false, subst, arith}
-use Rattle.csv.specs.Records.{fields_of}
-use Rattle.csv.specs.Reading.{Ready, ReadRecord, builder_config, builder_names_headers, builder_trim, default_config}
-use Rattle.csv.specs.declared.reader.Trim.TheVariants as trim
-use Rattle.table_in.proofs.ReadLemmas.{left_in, starts, empty, goes_on, faults, few, ends, row_width}
+use Rattle.std.proofs.Common.{◌≡◌, ◌-◌, ap, inl, inr, length, drop, take, arith, length-drop}
+use Rattle.std.proofs.lemmas.List.{take_rest}
+use Rattle.csv.specs.Reading.{strip_bom}
+use Rattle.table_in.proofs.RowLemmas.{strip_bom-shorter}
+use Rattle.table_in.proofs.WholeLemmas.{table_of, fault_of}
 use Rattle.table_in.proofs.reading.read_table.Goals as goal
 
-pub returns-then-not-has_names-clause-err : goal.returns-then-not-has_names-clause-err
-returns-then-not-has_names-clause-err c =
-    let fr = c.from_reader-reader.ensures in
-    let settings = c.flexible.ensures in
-    let before = c.has_headers.ensures in
-    let config : c.from_reader-reader.result.config ≡ default_config = fr.config ∙ ap builder_config settings ∙ ap builder_config before
-    ∙ c.new.ensures.config in
-    let no_trim : c.from_reader-reader.result.trim ≡ trim.None = fr.trim ∙ ap builder_trim settings ∙ ap builder_trim before ∙ c.new.ensures.trim in
-    let headers : c.from_reader-reader.result.has_headers ≡ false = fr.has_headers ∙ ap builder_names_headers settings ∙ ap builder_names_headers before in
-    let ready : Ready c.from_reader-reader.result = inr (inr (headers, fr.headers)) in
-    let read = c.in-Ok.ensures.reads no_trim ready in
-    let none : ReadRecord left_in c.from_reader-reader.result c.read_byte_record.new.self false (fields_of c.read_byte_record.new.row) =
-    subst (λ b. ReadRecord left_in c.from_reader-reader.result c.read_byte_record.new.self b (fields_of c.read_byte_record.new.row)) c.if-not-has_names.true
-    read in
-    inr (empty c.from_reader-reader.result c.read_byte_record.new.self c.args.source.now (fields_of c.read_byte_record.new.row) config fr.source fr.state none)
+pub push_plain_rows-requires-clause-small : goal.push_plain_rows-requires-clause-small
+push_plain_rows-requires-clause-small c =
+    let shorter = strip_bom-shorter c.args.source.now in
+    let same : length c.skip_mark-text.result.now ≡ length (strip_bom c.args.source.now) = ap length c.skip_mark-text.ensures in
+    omega (arith, shorter, same, c.requires)
 
-pub loop-row-init : goal.loop-row-init
-loop-row-init c =
-    let fr = c.from_reader-reader.ensures in
-    let settings = c.flexible.ensures in
-    let before = c.has_headers.ensures in
-    let config : c.from_reader-reader.result.config ≡ default_config = fr.config ∙ ap builder_config settings ∙ ap builder_config before
-    ∙ c.new.ensures.config in
-    let no_trim : c.from_reader-reader.result.trim ≡ trim.None = fr.trim ∙ ap builder_trim settings ∙ ap builder_trim before ∙ c.new.ensures.trim in
-    let headers : c.from_reader-reader.result.has_headers ≡ false = fr.has_headers ∙ ap builder_names_headers settings ∙ ap builder_names_headers before in
-    let ready : Ready c.from_reader-reader.result = inr (inr (headers, fr.headers)) in
-    let read = c.in-Ok.ensures.reads no_trim ready in
-    let some : ReadRecord left_in c.from_reader-reader.result c.read_byte_record.new.self true (fields_of c.read_byte_record.new.row) =
-    subst (λ b. ReadRecord left_in c.from_reader-reader.result c.read_byte_record.new.self b (fields_of c.read_byte_record.new.row)) c.if-not-has_names.false
-    read in
-    starts c.from_reader-reader.result c.read_byte_record.new.self c.args.source.now
-    (fields_of c.read_byte_record.new.row) c.in-Ok-named.table config fr.source fr.state no_trim
-    (c.in-Ok.ensures.ready no_trim) some c.in-Ok-named.ensures
+pub push_rows-requires : goal.push_rows-requires
+push_rows-requires c =
+    let text = c.skip_mark-text.result.now in
+    let at = c.in-Ok.stand.at in
+    let shorter = strip_bom-shorter c.args.source.now in
+    let same : length text ≡ length (strip_bom c.args.source.now) = ap length c.skip_mark-text.ensures in
+    let rest : length (take (length text - at) (drop at text)) ≡ length (drop at text) = ap length (take_rest text at) in
+    omega (arith, shorter, same, rest, length-drop at text, c.in-Ok.ensures.few, c.in-Ok.ensures.within, c.requires)
 
-pub returns-then-not-has_row-clause-ok : goal.returns-then-not-has_row-clause-ok
-returns-then-not-has_row-clause-ok c =
-    let along = c.loop-row.invariant in
-    let read = c.in-Ok-read_byte_record.ensures.reads along.trims along.ready in
-    let none : ReadRecord left_in c.loop-row.reader c.read_byte_record-in-loop-row.new.self false (fields_of c.read_byte_record-in-loop-row.new.row) =
-    subst (λ b. ReadRecord left_in c.loop-row.reader c.read_byte_record-in-loop-row.new.self b (fields_of c.read_byte_record-in-loop-row.new.row))
-    c.if-not-has_row.true read in
-    ends c.loop-row.reader c.read_byte_record-in-loop-row.new.self c.args.source.now c.loop-row.table c.loop-row.row
-    (fields_of c.read_byte_record-in-loop-row.new.row) along none
+pub returns-in-Ok-push_rows-clause-ok : goal.returns-in-Ok-push_rows-clause-ok
+returns-in-Ok-push_rows-clause-ok c =
+    let names = c.in_ok-table.ensures.ok in
+    table_of c.args.source.now c.skip_mark-text.result.now names.0 c.names_end.result c.in_ok-table.table c.push_plain_rows.new.table
+    c.push_rows.new.table c.in-Ok.stand.at c.in-Ok.stand.row c.skip_mark-text.ensures names.1 c.names_end.ensures names.2 c.in-Ok.ensures
+    c.in-Ok-push_rows.ensures.ok
 
-pub returns-in-Err-push_row-clause-err : goal.returns-in-Err-push_row-clause-err
-returns-in-Err-push_row-clause-err c =
-    let along = c.loop-row.invariant in
-    let read = c.in-Ok-read_byte_record.ensures.reads along.trims along.ready in
-    let some : ReadRecord left_in c.loop-row.reader c.read_byte_record-in-loop-row.new.self true (fields_of c.read_byte_record-in-loop-row.new.row) =
-    subst (λ b. ReadRecord left_in c.loop-row.reader c.read_byte_record-in-loop-row.new.self b (fields_of c.read_byte_record-in-loop-row.new.row))
-    c.if-not-has_row.false read in
-    elim c.in-Err-push_row.ensures.err [
+pub returns-in-Err-clause-err : goal.returns-in-Err-clause-err
+returns-in-Err-clause-err c =
+    let names = c.in_ok-table.ensures.ok in
+    elim c.in-Err.ensures.err [
       | inl memory ↦ inl memory
-      | inr fault ↦ inr (faults c.loop-row.reader c.read_byte_record-in-loop-row.new.self c.args.source.now c.loop-row.table c.loop-row.row
-          (fields_of c.read_byte_record-in-loop-row.new.row) c.in-Err-push_row.fault along some fault)
+      | inr fault ↦ inr (fault_of c.args.source.now c.skip_mark-text.result.now names.0 c.names_end.result c.in_ok-table.table
+          c.push_plain_rows.new.table c.in-Ok.stand.at c.in-Ok.stand.row c.in-Err.fault c.skip_mark-text.ensures names.1 c.names_end.ensures names.2
+          c.in-Ok.ensures fault)
     ]
-
-pub loop-row-preserved : goal.loop-row-preserved
-loop-row-preserved c =
-    let along = c.loop-row.invariant in
-    let read = c.in-Ok-read_byte_record.ensures.reads along.trims along.ready in
-    let some : ReadRecord left_in c.loop-row.reader c.read_byte_record-in-loop-row.new.self true (fields_of c.read_byte_record-in-loop-row.new.row) =
-    subst (λ b. ReadRecord left_in c.loop-row.reader c.read_byte_record-in-loop-row.new.self b (fields_of c.read_byte_record-in-loop-row.new.row))
-    c.if-not-has_row.false read in
-    let sound = c.in-Ok-push_row.ensures.sound in
-    goes_on c.loop-row.reader c.read_byte_record-in-loop-row.new.self c.args.source.now c.loop-row.table c.push_row.new.self c.loop-row.row
-    (fields_of c.read_byte_record-in-loop-row.new.row)
-    along some (c.in-Ok-read_byte_record.ensures.ready along.trims) sound c.in-Ok-push_row.ensures.values
-    (row_width c.loop-row.row _ (fields_of c.read_byte_record-in-loop-row.new.row) sound)
-
-pub unreachable-requires : goal.unreachable-requires
-unreachable-requires c =
-    let small = few c.loop-row.reader c.args.source.now c.loop-row.table c.loop-row.row c.loop-row.invariant c.requires in
-    let last = c.loop-row-test.false in
-    absurd (omega (arith, small, last))

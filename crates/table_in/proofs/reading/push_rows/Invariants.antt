@@ -1,0 +1,5 @@
+use Rattle.table_in.proofs.ReadLemmas.{Along}
+use Rattle.table_in.proofs.reading.push_rows.Given as goal
+
+abbrev pub invariant-loop-row : goal.invariant-loop-row
+invariant-loop-row l = Along l.reader l.text l.initial.table l.table l.first l.row
