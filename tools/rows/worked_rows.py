@@ -1,23 +1,15 @@
-"""Worked scripts with what they give, read from where the repository has them: no list of them stands here.
+"""Worked scripts with what they give, as files: those of rows and of examples.
 
-`worked_rows()` gives the rows of crates/frame_rows/src and of the tests in crates/whole_rows/src/rows.rt, which are texts,
-and those of crates/ast_rows/proofs/Rows*.antt, which are theorems about what the definitions compute. The latter are
-written out as texts: the kernels that a row uses stand before its lines, so the line numbers in what it prints are moved
-by as many. A row with a `repeat` that is written out there is left out here, since the tests have it.
+NAME.frame is a script, NAME.csv its table where it has one, and NAME.out what it prints. rows/NAME.status is the exit
+status; that of an example is seen in what it prints.
 """
 import collections
-import glob
 import os
-import re
 
 ROOT = os.path.dirname(os.path.dirname(os.path.dirname(os.path.abspath(__file__))))
+PARTS = (".frame", ".out", ".status")
 
 Row = collections.namedtuple("Row", "name script table status output")
-
-
-def worked_rows():
-    yield from rows_of_tests()
-    yield from rows_of_theorems()
 
 
 def read(path):
@@ -25,190 +17,46 @@ def read(path):
         return file.read()
 
 
-def unescaped(text):
-    """A string of Rust as what it stands for: a backslash at the end of a line goes on with the next one's first word."""
-    return re.sub(r"\\\n\s*", "", text).replace('\\"', '"').replace("\\n", "\n")
+def names_in(folder):
+    return sorted(file.removesuffix(".frame") for file in os.listdir(f"{ROOT}/{folder}") if file.endswith(".frame"))
 
 
-# THE ROWS OF THE TESTS
-
-STRING = r'"((?:[^"\\]|\\.|\\\n)*)"'
-TEST_ROW = re.compile(rf"Row \{{\s*kernels: (\w+),\s*script: {STRING},\s*status: (\d+),\s*output: {STRING},")
-# lines after the worked kernels, a status and a text
-PLAIN_ROW = re.compile(rf"\(\s*{STRING},\s*(\d+),\s*{STRING},?\s*\)")
+def row_at(path, status):
+    table = read(f"{path}.csv") if os.path.exists(f"{ROOT}/{path}.csv") else None
+    return Row(path, read(f"{path}.frame"), table, status, read(f"{path}.out"))
 
 
-def rows_of_tests():
-    kernels = unescaped(re.search(rf"const KERNELS: &str = {STRING}", read("crates/frame_rows/src/section.rt"))[1])
-    for name in ("job_rows", "container_rows"):
-        text = read(f"crates/frame_rows/src/{name}.rt")
-        rows = TEST_ROW.findall(text)
-        assert len(rows) == text.count("Row {"), f"a row of {name} isn't read"
-        for number, (has_kernels, script, status, output) in enumerate(rows, 1):
-            head = kernels if has_kernels == "true" else ""
-            yield Row(f"{name} row {number}", head + unescaped(script), None, int(status), unescaped(output))
-    for number, (lines, status, output) in enumerate(PLAIN_ROW.findall(read("crates/whole_rows/src/rows.rt")), 1):
-        yield Row(f"whole_rows row {number}", kernels + unescaped(lines), None, int(status), unescaped(output))
+def worked_row(name):
+    return row_at(f"rows/{name}", int(read(f"rows/{name}.status")))
 
 
-# THE ROWS THAT ARE THEOREMS
-
-# the table that `prices` stands for in crates/ast_rows/proofs/RowsContainers.antt
-PRICES = "item,price\n1,250\n2,-30\n3,80\n"
-SIGNS = {"Eq": "==", "Ne": "!=", "Lt": "<", "Le": "<=", "Gt": ">", "Ge": ">="}
-LIVES = {"Persistent": "", "Temp": " temp", "TempJob": " tempjob"}
-
-KERNEL = re.compile(r"^-- ((?:job|parallel) (\w+)\((.*?)\) \{.*\})$", re.MULTILINE)
-THEOREM = re.compile(r"^(\w+) : Gives (.*?)\n(?=unfolding|\w+ = )", re.MULTILINE | re.DOTALL)
-ABBREVIATION = re.compile(r"^abbrev pub (\w+) : List .*\n\1 = (.*?)\n(?=\n|$)", re.MULTILINE | re.DOTALL)
-TOKEN = re.compile(r'"(?:[^"\\]|\\.)*"|\d+|[\w.]+|∷|\+\+|\[\]|[()]')
+def worked_rows():
+    return map(worked_row, names_in("rows"))
 
 
-def rows_of_theorems():
-    kernels = {name: (text, re.findall(r"(\w+):", params))
-               for text, name, params in KERNEL.findall(read("crates/ast_rows/proofs/Kernels.antt"))}
-    for path in sorted(glob.glob(f"{ROOT}/crates/ast_rows/proofs/Rows*.antt")):
-        text = read(os.path.relpath(path, ROOT))
-        words = {name: value for name, (value, _) in
-                 ((name, expression(TOKEN.findall(body), WORDS)) for name, body in ABBREVIATION.findall(text))}
-        theorems = THEOREM.findall(text)
-        assert len(theorems) == text.count(" : Gives "), f"a row of {path} isn't read"
-        for name, body in theorems:
-            (_, lines, table, output, status), _ = arguments(TOKEN.findall(body), {**WORDS, **words})
-            if all(former < line for (former, _), (line, _) in zip(lines, lines[1:])):
-                script, moved = written(lines, kernels)
-                yield Row(f"ast_rows {name}", script, table, status, moved_lines(output, moved))
+def examples():
+    for name in names_in("examples"):
+        yield row_at(f"examples/{name}", status_of(read(f"examples/{name}.out")))
 
 
-def written(lines, kernels):
-    """The text of a row, and by how many its lines are moved."""
-    used = sorted({kernel for _, said in lines for kernel in re.findall(r"schedule (?:auto )?\w+ (\w+)\(", said.text)})
-    moved = len(used) - (lines[0][0] - 1 if lines else 0)
-    texts, ends = {}, []
-    for line, said in lines:
-        texts[line + moved] = re.sub(r" waive( \d+)+", lambda found: waived(found[0], said.text, kernels), said.text)
-        ends = [left - 1 for left in ends]
-        if said.block:
-            ends.append(said.block)
-        for _ in range(ends.count(0)):
-            texts[line + moved + 1] = "}"
-        ends = [left for left in ends if left]
-    rest = [texts.get(line, "") for line in range(len(used) + 1, max(texts, default=0) + 1)]
-    return "".join(line + "\n" for line in [kernels[name][0] for name in used] + rest), moved
+def status_of(output):
+    """The status of a run that printed this, where it was read and planned."""
+    lines = output.split("\n")
+    if any(line.startswith("traps ") for line in lines):
+        return 5
+    return 1 if any(line.startswith("refused ") for line in lines) else 0
 
 
-def waived(clause, statement, kernels):
-    """Parameters after `waive` by their names; a theorem has their numbers."""
-    params = kernels[re.search(r"(\w+)\(", statement)[1]][1]
-    return " waive " + " ".join(params[int(number)] for number in clause.split()[1:])
+def files_of(row):
+    """The words of the command that name a row's files."""
+    return [f"{ROOT}/{row.name}{part}" for part in (".frame", ".csv") if part == ".frame" or row.table is not None]
 
 
-def moved_lines(output, moved):
-    def by(found):
-        return found[1] + str(int(found[2]) + moved)
-
-    return re.sub(r"(made on line )(\d+)", by, re.sub(r"(?m)^(refused |overdue )(\d+)", by, output))
-
-
-# A statement as it is written, and of a `when` how many statements its block has.
-Said = collections.namedtuple("Said", "text block", defaults=(0,))
-
-
-def arguments(tokens, words):
-    """The values that stand one after another, up to a closing parenthesis or an infix, and the tokens after them."""
-    values = []
-    while tokens and tokens[0] not in (")", "∷", "++"):
-        token, tokens = tokens[0], tokens[1:]
-        if token == "(":
-            value, tokens = expression(tokens, words)
-            tokens = tokens[1:]
-        elif token == "[]":
-            value = []
-        elif token[0] == '"':
-            value = unescaped(token[1:-1])
-        else:
-            value = int(token) if token.isdigit() else words[token]
-        values.append(value)
-    return values, tokens
-
-
-def expression(tokens, words):
-    """The value of what tokens begin with, and the tokens after it."""
-    values, tokens = arguments(tokens, words)
-    value = values[0](*values[1:]) if callable(values[0]) else values[0]
-    if tokens and tokens[0] in ("∷", "++"):
-        rest, after = expression(tokens[1:], words)
-        return ([value] + rest if tokens[0] == "∷" else value + rest), after
-    return value, tokens
-
-
-def numbers(values):
-    return " ".join(str(value) for value in values)
-
-
-def array_of(life, name, values):
-    return Said(f"array {name} {len(values)}{life} = {numbers(values)}")
-
-
-def schedule(handle, kernel, args, options):
-    text = f"{handle} {kernel}({', '.join(args + [str(n) for n in options.get('numbers', [])])})"
-    if "cut" in options:
-        text += f" {numbers(options['cut'])}"
-    if "defer" in options:
-        text += f" defer {numbers(options['defer'])}"
-    if "waive" in options:
-        text += f" waive {numbers(options['waive'])}"
-    if "after" in options:
-        text += f" after {numbers(options['after'])}"
-    return text
-
-
-# The words of crates/ast_rows/proofs/Script.antt.
-WORDS = {
-    "no_table": None,
-    "prices": PRICES,
-    "pos": lambda n: n,
-    "negsuc": lambda n: -n - 1,
-    **{f"Sign.{name}": sign for name, sign in SIGNS.items()},
-    **{f"Life.{name}": life for name, life in LIVES.items()},
-    "lines": lambda line, said: list(enumerate(said, line)),
-    "array": lambda x, n: Said(f"array {x} {n}"),
-    "array_for": lambda life, x, n: Said(f"array {x} {n}{life}"),
-    "array_of": lambda x, values: array_of("", x, values),
-    "array_of_for": array_of,
-    "fills": lambda x, life, values: array_of(life, x, values),
-    "column": lambda x, name: Said(f'column {x} "{name}"'),
-    "list": lambda x, cap: Said(f"list {x} {cap}"),
-    "reference": lambda x: Said(f"reference {x}"),
-    "reference_of": lambda x, n: Said(f"reference {x} = {n}"),
-    "map_": lambda x, cap: Said(f"map {x} {cap}"),
-    "stream": lambda x, count, room: Said(f"stream {x} {count} {room}"),
-    "slice": lambda x, of, start, length: Said(f"slice {x} {of} {start} {length}"),
-    "view": lambda x, of: Said(f"view {x} {of}"),
-    "copy": lambda x, of: Said(f"copy {x} {of}"),
-    "set": lambda x, i, n: Said(f"set {x} {i} = {n}"),
-    "set_to": lambda x, n: Said(f"set {x} = {n}"),
-    "add": lambda x, n: Said(f"add {x} {n}"),
-    "add_pair": lambda x, key, n: Said(f"add {x} {key} {n}"),
-    "put": lambda x, key, n: Said(f"put {x} {key} {n}"),
-    "remove": lambda x, n: Said(f"remove {x} {n}"),
-    "clear": lambda x: Said(f"clear {x}"),
-    "setcapacity": lambda x, n: Said(f"setcapacity {x} {n}"),
-    "print": lambda x: Said(f"print {x}"),
-    "plain": {},
-    "after": lambda handles, options: {**options, "after": handles},
-    "cut": lambda n, batch, options: {**options, "cut": (n, batch)},
-    "defer": lambda l, batch, options: {**options, "defer": (l, batch)},
-    "waive": lambda params, options: {**options, "waive": params},
-    "numbers": lambda values, options: {**options, "numbers": values},
-    "schedule": lambda *said: Said("schedule " + schedule(*said)),
-    "schedule_auto": lambda *said: Said("schedule auto " + schedule(*said)),
-    "combine": lambda h, handles: Said(" ".join(["combine", h, *handles])),
-    "complete": lambda h: Said(f"complete {h}"),
-    "complete_auto": lambda x: Said(f"complete auto {x}"),
-    "dispose": lambda x: Said(f"dispose {x}"),
-    "dispose_after": lambda x, handles, d: Said(f"dispose {x} after {' '.join(handles)} as {d}"),
-    "dispose_auto": lambda x, d: Said(f"dispose auto {x} as {d}"),
-    "frame": Said("frame"),
-    "when": lambda x, sign, n, count: Said(f"when {x} {sign} {n} {{", count),
-}
+def faults():
+    """What is wrong with the names of the files in rows."""
+    files = set(os.listdir(f"{ROOT}/rows")) - {"tables"}
+    names = {name for name, _ in map(os.path.splitext, files)}
+    for name in sorted(names):
+        yield from (f"rows/{name}{part} is missing" for part in PARTS if name + part not in files)
+        files -= {name + part for part in (*PARTS, ".csv")}
+    yield from (f"rows/{name} is no part of a row" for name in sorted(files))

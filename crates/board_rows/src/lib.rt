@@ -2,8 +2,8 @@
 //! 1, 4 and 64 workers: on the board without locks, which the program uses, and on the one with a lock, which has to
 //! give the same. Two workers that run at once, and sinks that fail, on each board. Tests alone.
 //!
-//! **Which rows.** Those of `frame_rows` whose scripts are accepted and have one plan. A script with a test has a plan
-//! for each section, and what is printed of all of them is told by the top call.
+//! **Which rows.** Those of `worked_rows` whose scripts are accepted and have one plan. A script with a block that is
+//! decided has a plan for each section, and what is printed of all of them is told by the top call.
 //!
 //! **Calls that wait for good aren't tested.** A call of the board with a lock waits for good where a seat claims
 //! what isn't so: a lease, a count or a duty that it hasn't. By public calls no seat comes to that. What a seat

@@ -3,7 +3,6 @@ ghost use Rattle.frame_core.specs.Ordered.{IsWellOrderedPlan};
 
 use crate::runs::{RUNS, run_plan};
 use frame_core::Plan;
-use frame_rows::rows::{AUTOMATIC_DEPENDENCIES, PARTS, PENDING_JOBS, Row, TRAPS, WIDTHS_AND_LIVES};
 use frame_rows::texts::ADDED_COLUMN;
 use frame_rows::{section_in, section_with};
 use job_base::{MemSink, OpenGate};
@@ -12,6 +11,7 @@ use std::sync::Wait;
 use std::test::Fail;
 use std::thread::Threads;
 use table_in::{Table, read_table};
+use worked_rows::{AUTOMATIC_DEPENDENCIES, KERNELS, PARTS, PENDING_JOBS, Row, WIDTHS_AND_LIVES};
 
 // Where a plan gives something else than this status and output, and what.
 fn difference_of<R: Threads + Wait + Send + Sync + Copy + Drop>(
@@ -47,8 +47,7 @@ fn difference<R: Threads + Wait + Send + Sync + Copy + Drop>(
     rows: &[Row],
 ) -> Result<Option<String>, Fail> {
     for row in rows {
-        let text = row.text(alloc)?;
-        let section = section_in(alloc, text.as_str(), &Table::none(alloc))?;
+        let section = section_in(alloc, row.script, &Table::none(alloc))?;
         if section.test.is_some() {
             return Err(Fail::new("the script has more than one plan"));
         }
@@ -72,8 +71,8 @@ fn parts(rt: HostRuntime) -> Result<(), Fail> {
 }
 
 #[test]
-fn traps(rt: HostRuntime) -> Result<(), Fail> {
-    assert_eq!(rt; difference(rt, rt.alloc(), TRAPS)?, None);
+fn kernels(rt: HostRuntime) -> Result<(), Fail> {
+    assert_eq!(rt; difference(rt, rt.alloc(), KERNELS)?, None);
     Ok(())
 }
 

@@ -1,2 +1,3 @@
+-- promises
 pub mod Between
 pub mod NewSeats

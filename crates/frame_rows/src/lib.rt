@@ -1,19 +1,16 @@
 //! Worked scripts, planned by `frame_plan` and then looked at, replayed, run on boards and measured.
 //!
 //! `section_in` plans the first section of a script, `section_of` that of one that may use the worked kernels.
-//! `run_on` runs a plan on any board, `run_kind` on a new board of a kind. `rows` has worked scripts with what they
-//! give. All else is tests: of what plans say, of legal and illegal events, of a board before a run and after runs,
-//! of footprints, of depths and of limits.
+//! `run_on` runs a plan on any board, `run_kind` on a new board of a kind. All else is tests: of what plans say, of
+//! legal and illegal events, of a board before a run and after runs, of footprints, of depths and of limits.
 #![tactic(auto)]
 
 #[cfg(test)]
 mod boards;
-mod container_rows;
 #[cfg(test)]
 mod depths;
 #[cfg(test)]
 mod footprints;
-mod job_rows;
 #[cfg(test)]
 mod limits;
 #[cfg(test)]
@@ -22,7 +19,6 @@ mod outcomes;
 mod plans;
 #[cfg(test)]
 mod replays;
-pub mod rows;
 mod running;
 mod section;
 pub mod texts;

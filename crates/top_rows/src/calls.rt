@@ -1,6 +1,5 @@
 // Whole runs, over files and a sink in memory.
 
-use frame_rows::rows::Row;
 use frame_rows::texts::{ADDED_COLUMN, TOTAL, TWO_BUMPS};
 use frame_rows::with_kernels;
 use frame_top::run_frame;
@@ -8,6 +7,7 @@ use job_base::{CountingGate, Gate, MemFiles, MemSink, OpenGate, PieceId};
 use std::sync::Wait;
 use std::test::Fail;
 use std::thread::Threads;
+use worked_rows::Row;
 
 const USAGE: &str =
     "usage: frame_run [--workers N] [--depth] SCRIPT [TABLE] or frame_run [--workers N] [--depth] --gen NUMBER --jobs \
@@ -58,9 +58,8 @@ pub fn difference<R: Threads + Wait + Sync + AllocGlobal>(
 ) -> Result<Option<String>, Fail> {
     let alloc = rt.alloc();
     for row in rows {
-        let script = row.text(alloc)?;
         let given = Given {
-            script: script.as_bytes(),
+            script: row.script.as_bytes(),
             table: b"",
         };
         for workers in ["1", "4", "64"] {
@@ -70,7 +69,7 @@ pub fn difference<R: Threads + Wait + Sync + AllocGlobal>(
             if status != row.status || sink.bytes() != row.output.as_bytes() {
                 let told = format!(in alloc;
                     "at {} workers status {} of {}",
-                    workers, status, row.script
+                    workers, status, row.name
                 )?;
                 return Ok(Some(told));
             }

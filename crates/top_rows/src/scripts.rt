@@ -1,10 +1,8 @@
 // Worked scripts, each with its output and status at 1, 4 and 64 workers.
 
 use crate::calls::difference;
-use frame_rows::rows::{
-    AUTOMATIC_DEPENDENCIES, PARTS, PENDING_JOBS, TESTS, TRAPS, WIDTHS_AND_LIVES,
-};
 use std::test::Fail;
+use worked_rows::{AUTOMATIC_DEPENDENCIES, BLOCKS, KERNELS, PARTS, PENDING_JOBS, WIDTHS_AND_LIVES};
 
 #[test]
 fn pending_jobs_are_named(rt: HostRuntime) -> Result<(), Fail> {
@@ -19,8 +17,8 @@ fn containers_and_their_parts(rt: HostRuntime) -> Result<(), Fail> {
 }
 
 #[test]
-fn traps_are_counted(rt: HostRuntime) -> Result<(), Fail> {
-    assert_eq!(rt; difference(&rt, TRAPS)?, None);
+fn kernels_and_their_traps(rt: HostRuntime) -> Result<(), Fail> {
+    assert_eq!(rt; difference(&rt, KERNELS)?, None);
     Ok(())
 }
 
@@ -31,8 +29,8 @@ fn widths_lives_and_lengths(rt: HostRuntime) -> Result<(), Fail> {
 }
 
 #[test]
-fn automatic_dependencies_and_tests(rt: HostRuntime) -> Result<(), Fail> {
+fn automatic_dependencies_and_blocks(rt: HostRuntime) -> Result<(), Fail> {
     assert_eq!(rt; difference(&rt, AUTOMATIC_DEPENDENCIES)?, None);
-    assert_eq!(rt; difference(&rt, TESTS)?, None);
+    assert_eq!(rt; difference(&rt, BLOCKS)?, None);
     Ok(())
 }

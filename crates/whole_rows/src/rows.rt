@@ -3,6 +3,7 @@
 use crate::frames::{Given, difference, difference_at, with_kernels};
 use frame_rows::texts::{BUMPS, TOTAL};
 use std::test::Fail;
+use worked_rows::LIMITS;
 
 const USAGE: &str =
     "usage: frame_run [--workers N] [--depth] SCRIPT [TABLE] or frame_run [--workers N] [--depth] \
@@ -49,39 +50,14 @@ fn a_large_frame(rt: HostRuntime) -> Result<(), Fail> {
 }
 
 #[test]
-fn scripts_that_are_refused(rt: HostRuntime) -> Result<(), Fail> {
-    let rows = [
-        ("array a", 3, "script refused line 13: syntax\n"),
-        (
-            "array a 2 = 1",
-            3,
-            "script refused line 13: kind mismatch\n",
-        ),
-        (
-            "array x 1\narray y 1\nschedule h scale(x, y) 4 0",
-            3,
-            "script refused line 15: limit\n",
-        ),
-        ("repeat 65536 {\nflush\n}\n", 0, ""),
-        ("repeat 65536 {\nflush\n}\nflush", 9, "limit: statements\n"),
-        (
-            "array a 1\ncombine h\nrepeat 4096 {\nschedule h bump(a) after h\n}\ncomplete h\nprint a",
-            0,
-            "a = [4096]\n",
-        ),
-        (
-            "array a 1\ncombine h\nrepeat 4097 {\nschedule h bump(a) after h\n}\ncomplete h\nprint a",
-            9,
-            "limit: jobs\n",
-        ),
-    ];
-    for (lines, status, text) in rows {
-        let script = with_kernels(rt.alloc(), lines)?;
-        let given = Given::script(&script);
+fn scripts_at_a_limit(rt: HostRuntime) -> Result<(), Fail> {
+    for row in LIMITS {
+        let given = Given::script(row.script);
         assert_eq!(rt;
-            difference(&rt, &["s"], &given, status, text)?,
+            difference(&rt, &["s"], &given, row.status, row.output)?,
             None,
-            "{lines}"
+            "{}",
+            row.name
         );
     }
     Ok(())
