@@ -12,11 +12,12 @@ use std::sync::Wait;
 use std::thread::Threads;
 
 // The examples, and which of them have a table.
-const EXAMPLES: [(&str, bool); 18] = [
+const EXAMPLES: [(&str, bool); 19] = [
     ("auto", false),
     ("deferred", false),
     ("events", false),
     ("fall", false),
+    ("frame", false),
     ("frames", false),
     ("guide_first_job", false),
     ("guide_frames", false),

@@ -1,0 +1,62 @@
+// Word lists and what they are read as.
+use crate::{GraphCommand, read_graph_words};
+use command_words::Command;
+use std::alloc::{AllocError, Global};
+use std::test::Fail;
+
+// What the words, parted by spaces, are read as, or why they aren't.
+fn read(alloc: Global, line: &str) -> Result<String, AllocError> {
+    let mut words = Vec::new(alloc);
+    for word in line.split(' ') {
+        words.push(String::from_str(alloc, word)?)?;
+    }
+    match read_graph_words(alloc, words) {
+        Ok(GraphCommand { command, dot }) => match command {
+            Command::Run {
+                workers,
+                script,
+                table,
+                ..
+            } => {
+                let table = table.unwrap_or(String::from_str(alloc, "none")?);
+                format!(in alloc; "run {workers} {script} {table} {dot}")
+            }
+            Command::Gen {
+                workers,
+                number,
+                jobs,
+                ..
+            } => { format!(in alloc; "gen {workers} {number} {jobs} {dot}") }
+        },
+        Err(fault) => format!(in alloc; "{fault}"),
+    }
+}
+
+const USAGE: &str = "the words are not of the command";
+
+const ROWS: [(&str, &str); 14] = [
+    ("s", "run 4 s none false"),
+    ("--dot s", "run 4 s none true"),
+    ("s t --dot", "run 4 s t true"),
+    ("--workers 8 --dot s", "run 8 s none true"),
+    ("--workers=8 s --dot t", "run 8 s t true"),
+    ("--gen 7 --jobs 3", "gen 4 7 3 false"),
+    ("--gen=7 --dot --jobs=3", "gen 4 7 3 true"),
+    ("--dot", USAGE),
+    ("--dot --dot s", USAGE),
+    ("--dot=1 s", USAGE),
+    ("--workers --dot s", USAGE),
+    ("--workers --dot --dot s", USAGE),
+    ("--depth s", USAGE),
+    ("--dot --depth s", USAGE),
+];
+
+#[test]
+fn words(rt: HostRuntime) -> Result<(), Fail> {
+    let alloc = rt.alloc();
+    for (line, want) in ROWS {
+        let is = read(alloc, line)?;
+        assert_eq!(rt; is.as_str(), want, "of {line}");
+    }
+    Ok(())
+}

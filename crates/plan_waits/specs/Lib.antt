@@ -1,0 +1,4 @@
+-- promises
+pub mod Arrows
+-- for this crate's own contracts
+pub mod Marks
