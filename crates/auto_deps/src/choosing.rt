@@ -36,8 +36,8 @@ pub fn automatic(
     let mut before = jobs.before(after);
     while let Some(j) = wanted.latest_outside(&before) {
         let job = Handle::of(j);
-        chosen = chosen.combine(&job);
-        before = before.combine(&jobs.closure(&job));
+        chosen.add_all(&job);
+        before.add_all(&jobs.closure(&job));
     }
     chosen
 }
@@ -49,7 +49,7 @@ fn conflicting(uses: &[(Tag, Access)], book: &SafetyBook) -> Handle
     let mut all = Handle::empty();
     for (tag, access) in uses {
         let jobs = book.conflicting(tag.slot, writes_to(*access));
-        all = all.combine(&jobs);
+        all.add_all(&jobs);
     }
     all
 }

@@ -2,12 +2,13 @@
 use Rattle.std.proofs.Common.{◌≡◌, ℕ, ◌+◌, ◌-◌, ◌*◌, ◌/◌, ◌%◌, ◌^◌, ◌<◌, ◌≤◌, ⊎_elim, max, Bool, true, false, ◌&&◌, ◌||◌, ne_eqb, List, length, replicate, slice_index, bit_or, refl, sym, ap, subst, ◌∙◌, arith}
 use Rattle.std.specs.Prelude.{nat_eq, nat_lt}
 use Rattle.std.specs.Int.{bit_at}
+use Rattle.std.specs.Int.Bits.{or_zero_r}
 use Rattle.std.proofs.lemmas.Bool.{cases_Bool, cases_eq, cases_lt, and_parts, and_from, and_right, eq-eqb, eqb-true, lt-ltb, ltb-true}
 use Rattle.std.proofs.lemmas.List.{length-replicate, get_or-replicate, get_or-set_same, get_or-set_other}
 use Rattle.std.proofs.lemmas.Nat.{one_shl}
 use Rattle.std.proofs.lemmas.Nat.Bits.{bit_at_or, bit_at-lt, bit_at-zero, bit_at-pow_same, bit_at-pow_other}
 use Rattle.std.proofs.Math.ListN.{set, get_or-eq_default}
-use Rattle.std.proofs.Math.Nat.{div-add-mod, div-eq_of_lt-le, mod-lt}
+use Rattle.std.proofs.Math.Nat.{div-add-mod, mod-lt}
 use Rattle.frame_ast.specs.Jobs.{nobody, only, both}
 use Rattle.job_handle.specs.declared.handle.Handle.{Handle}
 use Rattle.job_handle.specs.Sets.{bit_of, jobs_of}
@@ -104,21 +105,20 @@ of_jobs n j h p le room e = λ i k. (same_test (jobs_of h k) (nat_eq k j) (λ t.
         (and_from (nat_lt 0 j && nat_lt j 4097) (bit_of h.words (j - 1)) (and_from (nat_lt 0 j) (nat_lt j 4097) (lt-ltb 0 j p) (lt-ltb j 4097 (omega arith)))
         (ap (λ x. nat_eq (bit_at x ((j - 1) % 64)) 1) word ∙ ap (λ x. nat_eq x 1) (bit_at-pow_same ((j - 1) % 64))))
 
--- WORDS THAT HAVE WHAT OTHERS HAVE
-
-has_bits : (x y : ℕ) → bit_or x y ≡ x → (i : ℕ) → nat_eq (bit_at y i) 1 ≡ true → nat_eq (bit_at x i) 1 ≡ true
-has_bits x y e i t =
-    let a = bit_at-lt x i in
-    let m : max (bit_at x i) (bit_at y i) ≡ bit_at x i = sym (bit_at_or x y i) ∙ ap (λ w. bit_at w i) e in
-    let one : bit_at y i ≡ 1 = eqb-true (bit_at y i) 1 t in
-    eq-eqb (bit_at x i) 1 (omega arith)
-
-pub has_word : (x y : Handle) (at : ℕ) → nat_eq (bit_or (slice_index x.words at) (slice_index y.words at)) (slice_index x.words at) ≡ true
-    → (k : ℕ) → 64 * at < k → k ≤ 64 * at + 64 → jobs_of y k ≡ true → jobs_of x k ≡ true
-has_word x y at e k low high t =
-    let here : at ≡ (k - 1) / 64 = sym (div-eq_of_lt-le 64 {m = k - 1} (omega arith) (omega arith)) in
-    let p = and_parts (nat_lt 0 k && nat_lt k 4097) (bit_of y.words (k - 1)) t in
-    and_from (nat_lt 0 k && nat_lt k 4097) (bit_of x.words (k - 1)) p.0
-    (has_bits (slice_index x.words ((k - 1) / 64)) (slice_index y.words ((k - 1) / 64))
-    (subst (λ i. bit_or (slice_index x.words i) (slice_index y.words i) ≡ slice_index x.words i) here
-    (eqb-true (bit_or (slice_index x.words at) (slice_index y.words at)) (slice_index x.words at) e)) ((k - 1) % 64) p.1)
+-- one job more
+pub inserted : (a r : Handle) (j mask : ℕ) → 0 < j → j ≤ 4096 → length a.words ≡ 64 → mask ≡ 1 * 2 ^ ((j - 1) % 64) % 2 ^ 64
+    → r.words ≡ set a.words ((j - 1) / 64) (bit_or (slice_index a.words ((j - 1) / 64)) mask)
+    → jobs_of r ≡ both (jobs_of a) (only j)
+inserted a r j mask low high size m e =
+    let at = (j - 1) / 64 in
+    let one : Handle = record { words = set (replicate 64 0) at mask } in
+    let zeros : length (replicate {A = ℕ} 64 0) ≡ 64 = length-replicate {A = ℕ} 64 0 in
+    let within : at < 64 = omega arith in
+    or_jobs a one r (λ k lt. ap (λ ws. slice_index ws k) e ∙ ⊎_elim
+    (λ q. subst (λ i. slice_index (set a.words at (bit_or (slice_index a.words at) mask)) i ≡ bit_or (slice_index a.words i) (slice_index one.words i)) (sym q)
+    (get_or-set_same a.words at (bit_or (slice_index a.words at) mask) 0 (omega arith)
+    ∙ ap (λ x. bit_or (slice_index a.words at) x) (sym (get_or-set_same (replicate 64 0) at mask 0 (omega arith)))))
+    (λ ne. get_or-set_other a.words at k (bit_or (slice_index a.words at) mask) 0 ne
+    ∙ sym (ap (λ x. bit_or (slice_index a.words k) x) (get_or-set_other (replicate 64 0) at k mask 0 ne ∙ zeros_read 64 k) ∙ or_zero_r (slice_index a.words k)))
+    (cases_eq k at))
+    ∙ ap (λ s. both (jobs_of a) s) (of_jobs 64 j one low high within (ap (λ x. set (replicate 64 0) at x) m))

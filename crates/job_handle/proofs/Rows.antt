@@ -1,6 +1,6 @@
 -- The rows of a book are the ancestors of single jobs, and unions of rows are the ancestors of sets.
 use Rattle.std.proofs.Common.{◌≡◌, ℕ, suc, ◌+◌, ◌-◌, ◌<◌, ◌≤◌, ⊎_elim, ◌⊎◌, inl, inr, Bool, true, false, if◌then◌else◌, ◌&&◌, ◌||◌, List, [], ◌∷◌, ◌++◌, length, slice_index_or, refl, sym, ap, subst, subst₂, ◌∙◌, arith}
-use Rattle.std.specs.Prelude.{nat_eq, nat_lt}
+use Rattle.std.specs.Prelude.{not, nat_eq, nat_lt}
 use Rattle.std.proofs.lemmas.Bool.{or_left, or_right, or_cases, and_parts, and_from, eq-eqb, eqb-true, ltb-true, cases_eq, cases_lt}
 use Rattle.std.proofs.lemmas.List.{get_or_append_left}
 use Rattle.std.proofs.Math.Seq.{get_or-append_seam}
@@ -9,7 +9,7 @@ use Rattle.frame_ast.specs.Laws.{AreUpTo, IsBook}
 use Rattle.frame_ast.proofs.Ancestry.{contains, least, closes, grows, through}
 use Rattle.frame_ast.proofs.Known.{job_book, completed_book}
 use Rattle.job_handle.specs.declared.handle.Handle.{Handle}
-use Rattle.job_handle.specs.Sets.{bit_of, jobs_of, HaveOwnJobs}
+use Rattle.job_handle.specs.Sets.{bit_of, jobs_of, outside, HaveOwnJobs}
 use Rattle.job_handle.specs.Books.{AreRowsOf, IsUnion}
 use Rattle.job_handle.proofs.Booleans.{not_both, same_test}
 
@@ -26,6 +26,10 @@ itself b m = contains b.deps b.count (only m) m (eq-eqb m m refl)
 
 low : (h : Handle) (k : ℕ) → jobs_of h k ≡ true → 0 < k
 low h k e = ltb-true 0 k (and_parts (nat_lt 0 k) (nat_lt k 4097) (and_parts (nat_lt 0 k && nat_lt k 4097) (bit_of h.words (k - 1)) e).0).0
+
+in_other : (x y : Bool) → (x && not y) ≡ false → x ≡ true → y ≡ true
+in_other x true f t = refl
+in_other x false f t = absurd (not_both (and_from x true t refl) f)
 
 -- UNIONS OF ROWS
 
@@ -82,6 +86,24 @@ module _ (made : ℕ) (table : List Handle) (ended h : Handle) where
     where
       within : (m : ℕ) → (m ≤ left) ⊎ (left < m)
       within m = ⊎_elim (λ lt. inr lt) (λ ge. inl ge) (cases_lt left m)
+
+  -- no job up to `left` is left to be taken
+  pub none_left : (all : Handle) (left : ℕ) → IsUnion made table ended h all left
+      → ((k : ℕ) → 0 < k → k ≤ left → outside (jobs_of h) (jobs_of all) k ≡ false) → IsUnion made table ended h all 0
+  none_left all left C none = passed_by all left 0 C (λ k low high wanted. in_other (jobs_of h k) (jobs_of all k) (none k low high) wanted)
+
+  -- the row of the last job up to `left` that isn't there
+  pub next_row : (all more row : Handle) (left j : ℕ) → IsUnion made table ended h all left → left ≤ made → 0 < j → j ≤ left
+      → outside (jobs_of h) (jobs_of all) j ≡ true → ((k : ℕ) → j < k → k ≤ left → outside (jobs_of h) (jobs_of all) k ≡ false)
+      → row ≡ slice_index_or table (j - 1) row → jobs_of row j ≡ true
+      → jobs_of more ≡ both (jobs_of all) (jobs_of row) → IsUnion made table ended h more (j - 1)
+  next_row all more row left j C within low high wanted none at own e =
+      let same : j ≡ suc (j - 1) = omega arith in
+      one_more all more row (j - 1)
+      (passed_by all left (suc (j - 1)) C (λ k above below t. in_other (jobs_of h k) (jobs_of all k) (none k (omega arith) below) t))
+      (omega arith)
+      (subst (λ k. jobs_of h k ≡ true) same (and_parts (jobs_of h j) (not (jobs_of all j)) wanted).0)
+      at (subst (λ k. jobs_of row k ≡ true) same own) e
 
   pub all_there : (all : Handle) → IsUnion made table ended h all 0 → AreUpTo made (jobs_of h) → (b : Book) → AreRowsOf made table ended b → (k : ℕ)
       → jobs_of all k ≡ ancestors_in b (jobs_of h) k
@@ -160,11 +182,11 @@ module _ (b : Book) (B : IsBook b) (after : Jobs) (among : AreUpTo b.count after
       (or_cases (b.deps i j) (nat_eq i (suc b.count) && after j) d))
       (suc b.count) (only m) (λ i g. let q : i ≡ m = eqb-true i m g in (omega arith, contains b.deps b.count (only m) i g)) k t).1)
 
-pub adds : (made : ℕ) (table : List Handle) (ended h all one row : Handle) → length table ≡ made
+pub adds : (made : ℕ) (table : List Handle) (ended h all row : Handle) → length table ≡ made
     → ((b : Book) → AreRowsOf made table ended b → (k : ℕ) → jobs_of all k ≡ ancestors_in b (jobs_of h) k)
-    → jobs_of one ≡ only (made + 1) → jobs_of row ≡ both (jobs_of all) (jobs_of one) → AreUpTo made (jobs_of h)
+    → jobs_of row ≡ both (jobs_of all) (only (made + 1)) → AreUpTo made (jobs_of h)
     → (b : Book) → AreRowsOf made table ended b → AreRowsOf (made + 1) (table ++ row ∷ []) ended (with_job b (jobs_of h))
-adds made table ended h all one row size is single e known b F = record {
+adds made table ended h all row size is e known b F = record {
   known = job_book b F.known (jobs_of h) among;
   count = let n = F.count in omega arith;
   rows = λ j d lt k. ⊎_elim
@@ -172,8 +194,8 @@ adds made table ended h all one row size is single e known b F = record {
       let s : made + 1 ≡ suc b.count = omega arith in
       let last : suc b.count ≡ suc j = omega arith in
       ap (λ x. jobs_of x k) (ap (λ i. slice_index_or (table ++ row ∷ []) i d) (let i : j ≡ length table = omega arith in i) ∙ get_or-append_seam table row [] d)
-      ∙ (λ x. e x k) ∙ ap (λ x. x || jobs_of one k) (is b F k)
-      ∙ ap (λ x. ancestors_in b (jobs_of h) k || x) ((λ x. single x k) ∙ ap (λ i. nat_eq k i) s)
+      ∙ (λ x. e x k) ∙ ap (λ x. x || nat_eq k (made + 1)) (is b F k)
+      ∙ ap (λ i. ancestors_in b (jobs_of h) k || nat_eq k i) s
       ∙ new_row b F.known (jobs_of h) among k
       ∙ ap (λ i. ancestors_in (with_job b (jobs_of h)) (only i) k) last)
       (λ ne. let n = F.count in
@@ -187,23 +209,30 @@ adds made table ended h all one row size is single e known b F = record {
     among = known_in made table ended h known b F
 
 -- the row of the new job has it
-own_added : (made : ℕ) (table : List Handle) (one all row : Handle) → length table ≡ made → HaveOwnJobs made table → jobs_of one ≡ only (made + 1)
-    → jobs_of row ≡ both (jobs_of all) (jobs_of one)
+own_added : (made : ℕ) (table : List Handle) (all row : Handle) → length table ≡ made → HaveOwnJobs made table
+    → jobs_of row ≡ both (jobs_of all) (only (made + 1))
     → HaveOwnJobs (made + 1) (table ++ row ∷ [])
-own_added made table one all row size own single e j d lt = ⊎_elim
+own_added made table all row size own e j d lt = ⊎_elim
     (λ q. ap (λ x. jobs_of x (suc j)) (ap (λ i. slice_index_or (table ++ row ∷ []) i d) (let i : j ≡ length table = omega arith in i)
     ∙ get_or-append_seam table row [] d)
-    ∙ (λ x. e x (suc j)) ∙ or_right (jobs_of all (suc j)) (jobs_of one (suc j)) ((λ x. single x (suc j)) ∙ eq-eqb (suc j) (made + 1) (omega arith)))
+    ∙ (λ x. e x (suc j)) ∙ or_right (jobs_of all (suc j)) (nat_eq (suc j) (made + 1)) (eq-eqb (suc j) (made + 1) (omega arith)))
     (λ ne. ap (λ x. jobs_of x (suc j)) (get_or_append_left table (row ∷ []) d j (omega arith)) ∙ own j d (omega arith))
     (cases_eq j made)
 
 -- the rows after a push that may have found no memory
+pub own_grown : (ok : Bool) (made made' : ℕ) (table table' : List Handle) (all row : Handle) → length table ≡ made → HaveOwnJobs made table
+    → jobs_of row ≡ both (jobs_of all) (only (made + 1))
+    → made' ≡ (if ok then made + 1 else made) → table' ≡ (if ok then table ++ row ∷ [] else table) → HaveOwnJobs made' table'
+own_grown true made made' table table' all row size own e n t =
+    subst₂ (λ m l. HaveOwnJobs m l) (sym n) (sym t) (own_added made table all row size own e)
+own_grown false made made' table table' all row size own e n t = subst₂ (λ m l. HaveOwnJobs m l) (sym n) (sym t) own
+
+-- the same where the new job is given as a set
 pub own_pushed : (ok : Bool) (made made' : ℕ) (table table' : List Handle) (one all row : Handle) → length table ≡ made → HaveOwnJobs made table
     → jobs_of one ≡ only (made + 1) → jobs_of row ≡ both (jobs_of all) (jobs_of one)
     → made' ≡ (if ok then made + 1 else made) → table' ≡ (if ok then table ++ row ∷ [] else table) → HaveOwnJobs made' table'
-own_pushed true made made' table table' one all row size own single e n t =
-    subst₂ (λ m l. HaveOwnJobs m l) (sym n) (sym t) (own_added made table one all row size own single e)
-own_pushed false made made' table table' one all row size own single e n t = subst₂ (λ m l. HaveOwnJobs m l) (sym n) (sym t) own
+own_pushed ok made made' table table' one all row size own single e =
+    own_grown ok made made' table table' all row size own (e ∙ ap (λ s. both (jobs_of all) s) single)
 
 pub no_jobs : {made : ℕ} {table : List Handle} {ended : Handle} → made ≡ 0 → jobs_of ended ≡ nobody → AreRowsOf made table ended empty_book
 no_jobs z e = record {

@@ -32,3 +32,8 @@ abbrev pub IsNext : Jobs → ℕ → ℕ → Option JobId → Type 0
 IsNext set from to None = (k : ℕ) → from < k → k ≤ to → set k ≡ false
 IsNext set from to (Some j) = (from < j.0) × (j.0 ≤ to) × (set j.0 ≡ true)
     × ((k : ℕ) → from < k → k < j.0 → set k ≡ false)
+
+-- An answer is the greatest job of a set up to job `to`, or there is none.
+abbrev pub IsLast : Jobs → ℕ → Option JobId → Type 0
+IsLast set to None = (k : ℕ) → 0 < k → k ≤ to → set k ≡ false
+IsLast set to (Some j) = (0 < j.0) × (j.0 ≤ to) × (set j.0 ≡ true) × ((k : ℕ) → j.0 < k → k ≤ to → set k ≡ false)

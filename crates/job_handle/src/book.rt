@@ -3,7 +3,7 @@ ghost use Rattle.std.specs.Prelude.{◌≡◌, ℕ, ◌+◌, ◌<◌, ◌≤◌,
 ghost use Rattle.job_base.specs.declared.limits.TheConstants.{MOST_JOBS};
 ghost use Rattle.job_handle.specs.Sets.{HaveOwnJobs};
 
-use crate::handle::{Handle, WORD_JOBS};
+use crate::handle::Handle;
 use job_base::limits::MOST_JOBS;
 use job_base::{JobId, NoMemory};
 use std::alloc::Global;
@@ -64,7 +64,8 @@ impl JobBook {
             return Err(BookFull);
         }
         let j = JobId(self.count() + 1);
-        let row = self.closure(deps).combine(&Handle::of(j));
+        let mut row = self.closure(deps);
+        row.insert(j);
         match self.rows.push(row) {
             Ok(()) => Ok(j),
             Err(_) => unreachable!(),
@@ -80,7 +81,14 @@ impl JobBook {
         ensures book { (b : Book) → StandsFor self.old b → StandsFor self.new (with_completed b (jobs_of h.now)) }
     {
         let all = self.closure(h);
-        self.completed = self.completed.combine(&all);
+        self.completed.add_all(&all);
+    }
+
+    /// The jobs that were completed.
+    pub fn completed(&self) -> &Handle
+        ensures { (b : Book) → StandsFor self.now b → (j : ℕ) → jobs_of result.now j ≡ b.completed j }
+    {
+        &self.completed
     }
 
     /// Whether a job of the book was completed.
@@ -120,20 +128,22 @@ impl JobBook {
         // adds nothing, and neither does a whole word of them. A job that waits for all earlier ones then takes few
         // rows.
         let mut all = Handle::empty();
-        let mut left = self.rows.len();
-        while left > 0 {
-            let word = (left - 1) / WORD_JOBS;
-            if all.has_word_of(h, word) {
-                left = word * WORD_JOBS;
-            } else {
-                let j = JobId(left as u32);
-                if h.has(j) && !all.has(j) {
-                    all = all.combine(&self.rows[left - 1]);
-                }
-                left -= 1;
-            }
+        let mut left = self.count();
+        while let Some(j) = h.latest_up_to(&all, left) {
+            all.add_all(&self.rows[j.0 as usize - 1]);
+            left = j.0 - 1;
         }
         all
+    }
+
+    /// Whether a job, 1 to [`MOST_JOBS`], happens before a statement that waits for `after`. Where it was completed or
+    /// is one of `after` itself, two tests say so.
+    pub fn is_before(&self, after: &Handle, j: JobId) -> bool
+        requires jobs { AreUpTo (count_of self.now) (jobs_of after.now) }
+        requires job { (0 < j.0) × (j.0 ≤ MOST_JOBS) }
+        ensures { (b : Book) → StandsFor self.now b → result ≡ happens_before b (jobs_of after.now) j.0 }
+    {
+        self.completed.has(j) || after.has(j) || self.closure(after).has(j)
     }
 
     /// What happens before a statement that waits for `after`: what was completed, and `after` with its ancestors.
@@ -142,6 +152,8 @@ impl JobBook {
         ensures { (b : Book) → StandsFor self.now b → (k : ℕ)
             → jobs_of result k ≡ happens_before b (jobs_of after.now) k }
     {
-        self.completed.combine(&self.closure(after))
+        let mut all = self.completed;
+        all.add_all(&self.closure(after));
+        all
     }
 }

@@ -1,14 +1,15 @@
 // A set of jobs in a fixed array.
-ghost use Rattle.std.specs.Prelude.{◌≡◌, ℕ, ◌<◌, ◌≤◌, ◌+◌, ◌*◌, IsTrue, true};
+ghost use Rattle.std.specs.Prelude.{◌≡◌, ℕ, ◌<◌, ◌≤◌, ◌+◌, ◌-◌, ◌*◌, ◌/◌, ◌&&◌, not, false, nat_eq, Some, IfSome, IfNone};
+ghost use Rattle.std.specs.Int.{bit_at};
 ghost use Rattle.frame_ast.specs.Jobs.{nobody, only, both, greatest};
 ghost use Rattle.frame_ast.specs.Laws.{AreUpTo};
-ghost use Rattle.job_handle.specs.Sets.{jobs_of, outside, job_numbered, IsNext};
+ghost use Rattle.job_handle.specs.Sets.{jobs_of, outside, job_numbered, IsLast, IsNext};
 
 use job_base::JobId;
 use job_base::limits::MOST_JOBS;
 
 // The jobs of a word, a bit for each.
-pub(crate) const WORD_JOBS: usize = 64;
+const WORD_JOBS: usize = 64;
 
 // The words of a handle.
 const WORDS: usize = 64;
@@ -57,11 +58,27 @@ impl Handle {
     pub fn combine(&self, other: &Handle) -> Handle
         ensures { jobs_of result ≡ both (jobs_of self.now) (jobs_of other.now) }
     {
-        let mut words = self.words;
+        let mut all = *self;
+        all.add_all(other);
+        all
+    }
+
+    /// The jobs of another set are added: `combine` in place, without a copy of 512 bytes.
+    pub fn add_all(&mut self, other: &Handle)
+        ensures { jobs_of self.new ≡ both (jobs_of self.old) (jobs_of other.now) }
+    {
         for i in 0..WORDS {
-            words[i] |= other.words[i];
+            self.words[i] |= other.words[i];
         }
-        Handle { words }
+    }
+
+    /// A job, 1 to [`MOST_JOBS`], is added.
+    pub fn insert(&mut self, j: JobId)
+        requires { (0 < j.0) × (j.0 ≤ MOST_JOBS) }
+        ensures { jobs_of self.new ≡ both (jobs_of self.old) (only j.0) }
+    {
+        let at = (j.0 - 1) as usize;
+        self.words[at / WORD_JOBS] |= 1u64 << (at % WORD_JOBS);
     }
 
     /// The greatest job that is in this set and not in another one, or none.
@@ -69,50 +86,103 @@ impl Handle {
         ensures { (n : ℕ) → AreUpTo n (jobs_of self.now)
             → result ≡ job_numbered (greatest (outside (jobs_of self.now) (jobs_of other.now)) n) }
     {
-        let mut left = MOST_JOBS;
+        self.latest_up_to(other, MOST_JOBS)
+    }
+
+    /// The greatest job up to job `to` that is in this set and not in another one, or none. It costs a step a word.
+    pub(crate) fn latest_up_to(&self, other: &Handle, to: u32) -> Option<JobId>
+        requires { to ≤ MOST_JOBS }
+        ensures { IsLast (outside (jobs_of self.now) (jobs_of other.now)) to result }
+    {
+        let mut left = to;
         while left > 0 {
-            let word = (left as usize - 1) / WORD_JOBS;
-            if other.has_word_of(self, word) {
-                left = (word * WORD_JOBS) as u32;
-            } else {
-                let j = JobId(left);
-                if self.has(j) && !other.has(j) {
-                    return Some(j);
-                }
-                left -= 1;
+            if let Some(j) = self.latest_in_word(other, left) {
+                return Some(j);
             }
+            left = ((left as usize - 1) / WORD_JOBS * WORD_JOBS) as u32;
         }
         None
     }
 
     /// The least job after job `from` and up to job `to` that is in this set and not in another one, or none. It costs
-    /// a step a word, and one a job in words that have such a job.
+    /// a step a word.
     pub fn next_outside(&self, other: &Handle, from: u32, to: u32) -> Option<JobId>
         requires { to ≤ MOST_JOBS }
         ensures { IsNext (outside (jobs_of self.now) (jobs_of other.now)) from to result }
     {
         let mut at = from;
         while at < to {
-            let word = at as usize / WORD_JOBS;
-            if other.has_word_of(self, word) {
-                at = ((word + 1) * WORD_JOBS) as u32;
-            } else {
-                at += 1;
-                let next = JobId(at);
-                if self.has(next) && !other.has(next) {
-                    return Some(next);
-                }
+            if let Some(j) = self.next_in_word(other, at) {
+                return if j.0 <= to { Some(j) } else { None };
             }
+            at = ((at as usize / WORD_JOBS + 1) * WORD_JOBS) as u32;
         }
         None
     }
 
-    /// Whether this set has all that another has of the jobs of word `at`. It is one step for all of them.
-    pub(crate) fn has_word_of(&self, other: &Handle, at: usize) -> bool
-        requires { at < WORDS }
-        ensures { IsTrue result → (k : ℕ) → WORD_JOBS * at < k → k ≤ WORD_JOBS * at + WORD_JOBS
-            → jobs_of other.now k ≡ true → jobs_of self.now k ≡ true }
+    // `latest_up_to` among the jobs of one word: that of job `to`.
+    fn latest_in_word(&self, other: &Handle, to: u32) -> Option<JobId>
+        requires { (0 < to) × (to ≤ MOST_JOBS) }
+        ensures some { IfSome result (λ j. IsLast (outside (jobs_of self.now) (jobs_of other.now)) to (Some j)) }
+        ensures none { IfNone result ((k : ℕ) → WORD_JOBS * ((to - 1) / WORD_JOBS) < k → k ≤ to
+            → outside (jobs_of self.now) (jobs_of other.now) k ≡ false) }
     {
-        self.words[at] | other.words[at] == self.words[at]
+        let at = to as usize - 1;
+        let word = at / WORD_JOBS;
+        let all = self.word_outside(other, word);
+        // Most words have none. They are passed by before a mask is made.
+        if all == 0 {
+            return None;
+        }
+        let bits = all & (u64::MAX >> (WORD_JOBS - 1 - at % WORD_JOBS));
+        if bits == 0 {
+            return None;
+        }
+        Some(JobId((word * WORD_JOBS) as u32 + highest(bits) + 1))
     }
+
+    // `next_outside` among the jobs of one word: that of job `from` + 1.
+    fn next_in_word(&self, other: &Handle, from: u32) -> Option<JobId>
+        requires { from < MOST_JOBS }
+        ensures some { IfSome result (λ j. IsNext (outside (jobs_of self.now) (jobs_of other.now)) from j.0 (Some j)) }
+        ensures none { IfNone result ((k : ℕ) → from < k → k ≤ WORD_JOBS * (from / WORD_JOBS) + WORD_JOBS
+            → outside (jobs_of self.now) (jobs_of other.now) k ≡ false) }
+    {
+        let at = from as usize;
+        let word = at / WORD_JOBS;
+        let all = self.word_outside(other, word);
+        if all == 0 {
+            return None;
+        }
+        let bits = all & (u64::MAX << (at % WORD_JOBS));
+        if bits == 0 {
+            return None;
+        }
+        Some(JobId((word * WORD_JOBS) as u32 + bits.trailing_zeros() + 1))
+    }
+
+    // The jobs of word `at` that are in this set and not in another one, a bit for each.
+    fn word_outside(&self, other: &Handle, at: usize) -> u64
+        requires { at < WORDS }
+        ensures { (i : ℕ) → i < WORD_JOBS → nat_eq (bit_at result i) 1
+            ≡ outside (jobs_of self.now) (jobs_of other.now) (WORD_JOBS * at + i + 1) }
+    {
+        bits_without(self.words[at], other.words[at])
+    }
+}
+
+// The bits of a word that another one hasn't.
+fn bits_without(bits: u64, others: u64) -> u64
+    ensures { (i : ℕ) → i < WORD_JOBS → nat_eq (bit_at result i) 1
+        ≡ (nat_eq (bit_at bits i) 1 && not (nat_eq (bit_at others i) 1)) }
+{
+    bits & !others
+}
+
+// The place of the highest bit that is set.
+fn highest(bits: u64) -> u32
+    requires { 0 < bits }
+    ensures { (result < WORD_JOBS) × (bit_at bits result ≡ 1) × ((i : ℕ) → result < i → bit_at bits i ≡ 0) }
+{
+    u64::BITS - 1 - bits.leading_zeros()
 }

@@ -1,7 +1,7 @@
 -- A set of the jobs whose use conflicts, and the greatest of them that doesn't happen before.
-use Rattle.std.proofs.Common.{◌≡◌, ℕ, zero, suc, ◌+◌, ◌-◌, ◌<◌, ◌≤◌, ⊎_elim, Bool, true, false, ◌&&◌, ◌||◌, Option, None, refl, sym, ap, subst, ◌∙◌, arith}
+use Rattle.std.proofs.Common.{◌≡◌, ℕ, zero, suc, ◌+◌, ◌-◌, ◌<◌, ◌≤◌, ⊎_elim, Bool, true, false, ◌&&◌, ◌||◌, Option, None, Some, is_some, refl, sym, ap, subst, ◌∙◌, arith}
 use Rattle.std.specs.Prelude.{not, nat_eq, nat_lt, if◌then◌else◌}
-use Rattle.std.proofs.lemmas.Bool.{cond-false, or_left, or_right, or_cases, and_parts, and_from, eqb-true, ltb-true, lt-ltb, false_from_ne_true}
+use Rattle.std.proofs.lemmas.Bool.{cond-false, or_left, or_right, or_cases, and_parts, and_from, eqb-true, ltb-true, lt-ltb, not_from_true, false_from_ne_true}
 use Rattle.job_base.specs.declared.JobId.{JobId}
 use Rattle.job_base.specs.declared.limits.TheConstants.{MOST_JOBS}
 use Rattle.frame_ast.specs.Jobs.{Jobs, nobody, only, both, greatest, Book, happens_before}
@@ -14,7 +14,7 @@ use Rattle.job_handle.specs.Sets.{bit_of, jobs_of, outside, job_numbered}
 use Rattle.job_handle.specs.Books.{StandsFor}
 use Rattle.job_handle.proofs.Booleans.{not_both, same_test}
 use Rattle.safety_handle.specs.Uses.{Latest, StandForUses, latest_blockers}
-use Rattle.safety_handle.specs.Entries.{conflicting_in}
+use Rattle.safety_handle.specs.Entries.{conflicting_in, readers_in}
 use Rattle.safety_handle.proofs.Latest.{latest_decide}
 
 -- SETS
@@ -110,3 +110,27 @@ nothing_blocks book l after writes free b u F U S =
     none k some =
         (λ i. (sym (lt-ltb 0 k some) i && (nat_eq k l.writer || (writes && l.readers k))) && not (happens_before b (jobs_of after) k))
         ∙ (λ i. free k i && not (happens_before b (jobs_of after) k))
+
+-- where a use waits for all jobs that conflict, none blocks
+pub waited_for : (book : JobBook) (l : Latest) (after : Handle) (writes : Bool)
+    → ((b : Book) → StandsFor book b → (k : ℕ) → conflicting_in l writes k ≡ true → happens_before b (jobs_of after) k ≡ true)
+    → (b : Book) (u : Uses) → StandsFor book b → AreUses b u → StandForUses b l u → None ≡ job_numbered (blocker b u (jobs_of after) writes)
+waited_for book l after writes waits b u F U S =
+    ap (λ n. job_numbered n) (none_greatest (latest_blockers b l (jobs_of after) writes) b.count none ∙ latest_decide b l u F.known U S (jobs_of after) writes)
+  where
+    none : (k : ℕ) → 0 < k → latest_blockers b l (jobs_of after) writes k ≡ false
+    none k some = false_from_ne_true (latest_blockers b l (jobs_of after) writes k) (λ t.
+        let p = and_parts (nat_eq k l.writer || (writes && l.readers k)) (not (happens_before b (jobs_of after) k)) t in
+        not_both p.1 (not_from_true (happens_before b (jobs_of after) k)
+        (waits b F k (and_from (nat_lt 0 k) (nat_eq k l.writer || (writes && l.readers k)) (lt-ltb 0 k some) p.0))))
+
+-- the writer is the only job that conflicts where no reader counts
+pub only_writer : (l : Latest) (writes : Bool) (k : ℕ) → ((k : ℕ) → (writes && l.readers k) ≡ false) → conflicting_in l writes k ≡ true → k ≡ l.writer
+only_writer l writes k unread t = ⊎_elim
+    (λ q. eqb-true k l.writer q)
+    (λ r. absurd (not_both r (unread k)))
+    (or_cases (nat_eq k l.writer) (writes && l.readers k) (and_parts (nat_lt 0 k) (nat_eq k l.writer || (writes && l.readers k)) t).1)
+
+pub no_readers : (readers : Option Handle) → is_some readers ≡ false → (k : ℕ) → readers_in readers k ≡ false
+no_readers None none k = refl
+no_readers (Some h) none k = absurd (not_both refl none)

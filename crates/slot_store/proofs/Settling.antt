@@ -163,6 +163,19 @@ all_settled b ps xs n done W all held same known s = ⊎_elim
     (λ f. settled_if_not_held b (place_at ps s) f)
     (cases_Bool (is_held (place_at ps s).state))
 
+-- where no slot is held
+no_times : (xs : List Waiting) (s : ℕ) → length xs ≡ 0 → times xs s ≡ 0
+no_times [] s none = refl
+no_times (x ∷ xs) s none = absurd (omega arith)
+
+pub none_held : (b : Book) (ps : List Place) (xs : List Waiting) → length xs ≡ 0 → ((s : ℕ) → times xs s ≡ held_once (place_at ps s)) → (s : ℕ)
+    → place_at ps s ≡ settled b (place_at ps s)
+none_held b ps xs none held s = ⊎_elim
+    (λ t. let h = held s in let o : held_once (place_at ps s) ≡ 1 = cond-true (is_held (place_at ps s).state) 1 0 t in
+    let z = no_times xs s none in absurd (omega arith))
+    (λ f. sym (settled_if_not_held b (place_at ps s) f))
+    (cases_Bool (is_held (place_at ps s).state))
+
 -- sums over settled places
 pub sum_settled : (f : Place → ℕ) → f unused ≡ 0 → (b : Book) (ps qs : List Place) → ((s : ℕ) → place_at qs s ≡ settled b (place_at ps s))
     → sum_by f qs ≡ sum_by (λ p. f (settled b p)) ps

@@ -1,9 +1,9 @@
 -- For which jobs held slots wait.
-use Rattle.std.proofs.Common.{◌≡◌, ◌≢◌, ℕ, zero, suc, ◌+◌, ◌-◌, ◌<◌, ◌≤◌, ⊎_elim, Bool, true, false, ◌&&◌, ◌||◌, not, if◌then◌else◌, Option, Some, None, IfSome, List, [], ◌∷◌, ◌++◌, length, get_or, set, refl, ap, sym, ◌∙◌, subst, arith, get_or-set_same, get_or-set_other}
+use Rattle.std.proofs.Common.{◌≡◌, ◌≢◌, ℕ, zero, suc, ◌+◌, ◌-◌, ◌<◌, ◌≤◌, ⊎_elim, Bool, true, false, not, if◌then◌else◌, Option, Some, None, IfSome, List, [], ◌∷◌, ◌++◌, length, get_or, set, refl, ap, sym, ◌∙◌, subst, arith, get_or-set_same, get_or-set_other}
 use Rattle.std.specs.Option.{IfNone}
-use Rattle.std.proofs.lemmas.Bool.{and_from, and_left, and_parts, cases_eq, cases_lt, cases_Bool, both_ways, ltb-true, not_from_false, or_from}
+use Rattle.std.proofs.lemmas.Bool.{and_from, and_parts, cases_eq, cases_lt, cases_Bool, both_ways, ltb-true, not_from_false}
 use Rattle.job_base.specs.declared.JobId.{JobId}
-use Rattle.frame_ast.specs.Jobs.{Jobs, Book, nobody, ancestors, greatest, happens_before}
+use Rattle.frame_ast.specs.Jobs.{Jobs, greatest}
 use Rattle.frame_ast.specs.Laws.{AreUpTo}
 use Rattle.frame_ast.proofs.Ancestry.{greatest_in, greatest_none}
 use Rattle.job_handle.specs.declared.handle.Handle.{Handle}
@@ -247,18 +247,3 @@ held_some q users done o is f = subst (λ (r : State). IfSome o (λ j. (0 < j.0)
 pub held_none : (q : State) (users done : Handle) (o : Option JobId) → q ≡ Held users → IfNone o ((j : ℕ) → jobs_of users j ≡ true → jobs_of done j ≡ true)
     → IfNone o ((j : ℕ) → users_of q j ≡ true → jobs_of done j ≡ true)
 held_none q users done o is f = subst (λ (r : State). IfNone o ((j : ℕ) → users_of r j ≡ true → jobs_of done j ≡ true)) (sym is) f
-
--- nobody leads to nobody
-pub no_ancestors : (deps : ℕ → Jobs) (n : ℕ) (wanted : Jobs) → ((j : ℕ) → wanted j ≡ false) → (k : ℕ) → ancestors deps n wanted k ≡ false
-no_ancestors deps zero wanted none k = none k
-no_ancestors deps (suc n) wanted none k = no_ancestors deps n (λ i. wanted i || (wanted (suc n) && deps (suc n) i))
-    (λ i. or_from _ _ (none i) (and_left _ _ (none (suc n)))) k
-
-pub same_completed : (b : Book) (empty result : Handle) → jobs_of empty ≡ nobody → ((k : ℕ) → jobs_of result k ≡ happens_before b (jobs_of empty) k) → (j : ℕ)
-    → jobs_of result j ≡ b.completed j
-same_completed b empty result e h j = h j ∙ (ap (λ x. b.completed j || x) (no_ancestors b.deps b.count (jobs_of empty) (λ k i. e i k) j)
-    ∙ or_none (b.completed j))
-  where
-    or_none : (x : Bool) → (x || false) ≡ x
-    or_none true = refl
-    or_none false = refl

@@ -48,16 +48,21 @@ fn block_of(at: u32) -> usize
     ((at / BLOCK) as usize).min(BLOCKS - 1)
 }
 
-/// The first hole that has `len` numbers.
-pub(crate) fn first_fit(holes: &[Span], bounds: &mut Bounds, top: u32, len: u32) -> Option<usize>
+/// The first hole that has `len` numbers. Only the blocks from the first hole to the last one are looked at.
+pub(crate) fn first_fit(holes: &[Span], bounds: &mut Bounds, len: u32) -> Option<usize>
     requires some { 0 < len }
-    requires holes { AreHoles 0 holes.now top }
+    requires holes { (top : ℕ) × AreHoles 0 holes.now top }
     requires bounded { AreBounded bounds.old.lens.items holes.now }
     ensures some { IfSome result (λ i. (i < length holes.now) × (len ≤ len_of holes.now i) × AreSmall holes.now len i) }
     ensures none { IfNone result (AreSmall holes.now len (length holes.now)) }
     ensures bounded { AreBounded bounds.new.lens.items holes.now }
 {
-    for block in 0..block_of(top) + 1 {
+    if holes.is_empty() {
+        return None;
+    }
+    let first = holes[0];
+    let last = holes[holes.len() - 1];
+    for block in block_of(first.start)..block_of(last.start) + 1 {
         if let Some(i) = fit_in_block(holes, bounds, block, len) {
             return Some(i);
         }

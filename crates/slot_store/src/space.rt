@@ -69,7 +69,7 @@ impl FreeSpace {
             return 0;
         }
         let top = self.top;
-        match first_fit(self.holes.as_slice(), &mut self.bounds, top, len) {
+        match first_fit(self.holes.as_slice(), &mut self.bounds, len) {
             Some(at) => {
                 let hole = self.holes[at];
                 cut(&mut self.holes, at, len);

@@ -22,7 +22,7 @@ pub struct SlotStore {
     // Each of the first `waiting` waits for a job that isn't in `completed`. The others are to be looked at.
     held: Vec<Waiting>,
     waiting: usize,
-    // The jobs that were completed at the last `settle`.
+    // The jobs that were completed at the last `settle` that found a held slot.
     completed: Handle,
     live_words: u32,
     peak: u32,
@@ -181,6 +181,10 @@ impl SlotStore {
         ensures fewer { slots_in_use self.new ≤ slots_in_use self.old }
         ensures peak { peak_of self.new ≡ peak_of self.old }
     {
+        // Most scripts hold nothing. Then no set of jobs is gone through.
+        if self.held.is_empty() {
+            return;
+        }
         self.note_completed(book);
         while self.waiting < self.held.len() {
             self.settle_next();
@@ -307,7 +311,7 @@ impl SlotStore {
         ensures same { IsSame self.old self.new }
         ensures completed { (b : Book) → StandsFor book.now b → (j : ℕ) → jobs_of self.new.completed j ≡ b.completed j }
     {
-        let completed = book.before(&Handle::empty());
+        let completed = *book.completed();
         self.waiting = self.still_waiting(&completed);
         self.completed = completed;
     }

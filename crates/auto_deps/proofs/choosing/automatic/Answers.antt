@@ -43,16 +43,16 @@ loop-j-smaller c =
     let d = (goal.at.loop-j-smaller c).In-Some in
     fewer c.args.jobs.now c.args.after.now c.conflicting-wanted.result c.loop-j.chosen c.loop-j.before c.loop-j.invariant
     (count_of c.args.jobs.now) c.in-Some.j.0 (found d) (known d)
-    c.of-job.result c.closure.result c.combine-chosen.result c.combine-before.result c.of-job.ensures c.closure.ensures.all c.closure.ensures.own
-    c.combine-chosen.ensures c.combine-before.ensures
+    c.of-job.result c.closure.result c.add_all.new.self c.add_all-in-Some.new.self c.of-job.ensures c.closure.ensures.all c.closure.ensures.own
+    c.add_all.ensures c.add_all-in-Some.ensures
 
 pub loop-j-preserved : goal.loop-j-preserved
 loop-j-preserved c =
     let d = (goal.at.loop-j-preserved c).In-Some in
     one_more c.args.jobs.now c.args.after.now c.conflicting-wanted.result c.loop-j.chosen c.loop-j.before c.loop-j.invariant
     (count_of c.args.jobs.now) c.in-Some.j.0 (found d) (known d)
-    c.of-job.result c.closure.result c.combine-chosen.result c.combine-before.result c.of-job.ensures c.closure.ensures.all c.closure.ensures.own
-    c.combine-chosen.ensures c.combine-before.ensures
+    c.of-job.result c.closure.result c.add_all.new.self c.add_all-in-Some.new.self c.of-job.ensures c.closure.ensures.all c.closure.ensures.own
+    c.add_all.ensures c.add_all-in-Some.ensures
 
 -- THE ANSWER
 

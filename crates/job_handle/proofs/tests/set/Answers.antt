@@ -1,4 +1,4 @@
-use Rattle.std.proofs.Common.{sym, subst, ◌≤◌, arith}
+use Rattle.std.proofs.Common.{sym, subst, arith}
 use Rattle.frame_ast.specs.Laws.{AreUpTo}
 use Rattle.job_handle.specs.Sets.{jobs_of}
 use Rattle.job_handle.specs.Books.{count_of}

@@ -1,10 +1,14 @@
-use Rattle.std.proofs.Common.{ℕ, ◌+◌, List, vec_len, is_ok, sym, ap, subst₂, ◌∙◌}
-use Rattle.frame_ast.specs.Jobs.{Book, only, with_job}
+use Rattle.std.proofs.Common.{◌≡◌, ℕ, ◌+◌, List, vec_len, is_ok, sym, ap, subst₂, ◌∙◌}
+use Rattle.frame_ast.specs.Jobs.{Book, only, both, with_job}
 use Rattle.job_handle.specs.declared.handle.Handle.{Handle}
 use Rattle.job_handle.specs.Sets.{jobs_of}
 use Rattle.job_handle.specs.Books.{StandsFor, AreRowsOf}
-use Rattle.job_handle.proofs.Rows.{adds, own_pushed}
+use Rattle.job_handle.proofs.Rows.{adds, own_grown}
 use Rattle.job_handle.proofs.book.JobBook.add.Goals as goal
+
+row_is : (count made : ℕ) (all row : Handle) → count ≡ made → jobs_of row ≡ both (jobs_of all) (only (count + 1))
+    → jobs_of row ≡ both (jobs_of all) (only (made + 1))
+row_is count made all row same e = e ∙ ap (λ n. both (jobs_of all) (only (n + 1))) same
 
 pub returns-clause-book : goal.returns-clause-book
 returns-clause-book c =
@@ -12,12 +16,13 @@ returns-clause-book c =
     let deps = c.args.deps.now in
     subst₂ (λ (n : ℕ) (rows : List Handle). (b : Book) → StandsFor book b → AreRowsOf n rows book.completed (with_job b (jobs_of deps)))
     (sym c.in-Ok.ensures.len) (sym c.in-Ok.ensures.items)
-    (adds (vec_len book.rows) book.rows.items book.completed deps c.closure.result c.of.result c.combine-row.result (sym book.rows.ok.0) c.closure.ensures.all
-    (c.of.ensures ∙ ap (λ n. only (n + 1)) c.count.ensures.count) c.combine-row.ensures c.requires)
+    (adds (vec_len book.rows) book.rows.items book.completed deps c.closure-row.result c.insert.new.self (sym book.rows.ok.0) c.closure-row.ensures.all
+    (row_is c.count.result (vec_len book.rows) c.closure-row.result c.insert.new.self c.count.ensures.count c.insert.ensures) c.requires)
 
 pub invariant_of-self-clause-own : goal.invariant_of-self-clause-own
 invariant_of-self-clause-own c =
     let book = c.args.self.now in
-    own_pushed (is_ok c.push.result) (vec_len book.rows) (vec_len c.push.new.self) book.rows.items c.push.new.self.items c.of.result c.closure.result
-    c.combine-row.result (sym book.rows.ok.0) book.own
-    (c.of.ensures ∙ ap (λ n. only (n + 1)) c.count.ensures.count) c.combine-row.ensures c.push.ensures.len c.push.ensures.items
+    own_grown (is_ok c.push.result) (vec_len book.rows) (vec_len c.push.new.self) book.rows.items c.push.new.self.items c.closure-row.result
+    c.insert.new.self (sym book.rows.ok.0) book.own
+    (row_is c.count.result (vec_len book.rows) c.closure-row.result c.insert.new.self c.count.ensures.count c.insert.ensures) c.push.ensures.len
+    c.push.ensures.items

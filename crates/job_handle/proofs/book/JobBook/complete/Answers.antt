@@ -5,5 +5,5 @@ use Rattle.job_handle.proofs.book.JobBook.complete.Goals as goal
 pub returns-clause-book : goal.returns-clause-book
 returns-clause-book c =
     let book = c.args.self.now in
-    completes (vec_len book.rows) book.rows.items book.completed c.args.h.now c.closure-all.result c.combine-self.result c.closure-all.ensures.all
-    c.combine-self.ensures c.requires
+    completes (vec_len book.rows) book.rows.items book.completed c.args.h.now c.closure-all.result c.add_all.new.self c.closure-all.ensures.all
+    c.add_all.ensures c.requires

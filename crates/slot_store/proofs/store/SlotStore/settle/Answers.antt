@@ -1,6 +1,7 @@
-use Rattle.std.proofs.Common.{refl, sym, ◌∙◌, arith}
+use Rattle.std.proofs.Common.{◌≡◌, vec_len, refl, sym, ◌∙◌, arith}
+use Rattle.std.proofs.lemmas.Bool.{eqb-true}
 use Rattle.slot_store.specs.Places.{live_len, used_once}
-use Rattle.slot_store.proofs.Settling.{all_settled, sum_settled}
+use Rattle.slot_store.proofs.Settling.{all_settled, none_held, sum_settled}
 use Rattle.slot_store.proofs.store.SlotStore.settle.Goals as goal
 
 pub returns-clause-places : goal.returns-clause-places
@@ -17,3 +18,17 @@ returns-clause-live c = λ b st. sum_settled live_len refl b c.args.self.now.pla
 
 pub returns-clause-used : goal.returns-clause-used
 returns-clause-used c = λ b st. sum_settled used_once refl b c.args.self.now.places.items c.loop-self.self.places.items (returns-clause-places c b st)
+
+pub returns-then-is_empty-clause-places : goal.returns-then-is_empty-clause-places
+returns-then-is_empty-clause-places c = λ b st s.
+    let z = c.args.self.now in
+    let none : vec_len z.held ≡ 0 = eqb-true (vec_len z.held) 0 (sym c.is_empty.ensures ∙ c.if-is_empty.true) in
+    none_held b z.places.items z.held.items (let size = z.held.ok.0 in omega arith) z.kept.held s
+
+pub returns-then-is_empty-clause-live : goal.returns-then-is_empty-clause-live
+returns-then-is_empty-clause-live c = λ b st. let places = c.args.self.now.places.items in
+    sum_settled live_len refl b places places (returns-then-is_empty-clause-places c b st)
+
+pub returns-then-is_empty-clause-used : goal.returns-then-is_empty-clause-used
+returns-then-is_empty-clause-used c = λ b st. let places = c.args.self.now.places.items in
+    sum_settled used_once refl b places places (returns-then-is_empty-clause-places c b st)

@@ -1,6 +1,0 @@
-use Rattle.std.proofs.Common.{◌≡◌, ℕ, ◌<◌, ◌≤◌, length, slice_index, bit_or}
-use Rattle.job_handle.proofs.handle.Handle.combine.Given as goal
-
-abbrev pub invariant-loop-i : goal.invariant-loop-i
-invariant-loop-i l = (length l.words ≡ 64) × ((k : ℕ) → k < l.i → slice_index l.words k ≡ bit_or (slice_index l.self.words k) (slice_index l.other.words k))
-    × ((k : ℕ) → l.i ≤ k → slice_index l.words k ≡ slice_index l.self.words k)
