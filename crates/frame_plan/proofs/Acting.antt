@@ -12,14 +12,14 @@ use Rattle.frame_ast.specs.Checks.{refusal}
 use Rattle.frame_ast.specs.Orders.{Table, setting}
 use Rattle.frame_ast.specs.States.{ScriptState}
 use Rattle.frame_core.proofs.Small.{some_is, not_both}
-use Rattle.frame_plan.specs.declared.state.PlanFault.{PlanFault}
-use Rattle.frame_plan.specs.declared.state.Planner.{Planner}
-use Rattle.frame_plan.specs.Growth.{Grows}
+use Rattle.plan_state.specs.declared.state.PlanFault.{PlanFault}
+use Rattle.plan_state.specs.declared.state.Planner.{Planner}
+use Rattle.plan_state.specs.Growth.{Grows}
 use Rattle.frame_plan.specs.Runs.{IsActingTest, NoneActs, IsAtStatement, IsFurther, HasPassed, StopsAt, GoesPast, FailsAtPlace}
-use Rattle.frame_plan.specs.Stands.{Stands}
-use Rattle.frame_plan.specs.Steps.{state_at, state_after, StandsAt, HasStepped, AtStatement, IsStep, IsBefore, IsReady, GoesOn, GoesOnIn, GoesOnWith, FailsBy, FailsIn, FailsWith, PassesLimit}
-use Rattle.frame_plan.specs.Tests.{IsRefused}
-use Rattle.frame_plan.proofs.Reaching.{next_state}
+use Rattle.plan_state.specs.Stands.{Stands}
+use Rattle.plan_state.specs.Steps.{state_at, state_after, StandsAt, HasStepped, AtStatement, IsStep, IsBefore, IsReady, GoesOn, GoesOnIn, GoesOnWith, FailsBy, FailsIn, FailsWith, PassesLimit}
+use Rattle.plan_statements.specs.Tests.{IsRefused}
+use Rattle.plan_state.proofs.Reaching.{next_state}
 
 -- the statement, with its form written out
 abbrev pub written : Statement → Order → Statement

@@ -17,17 +17,17 @@ use Rattle.frame_core.proofs.Small.{some_is}
 use Rattle.plan_laws.specs.Drafts.{Draft}
 use Rattle.plan_laws.specs.Ledgers.{later}
 use Rattle.frame_plan.specs.declared.sections.SectionBook.{SectionBook}
-use Rattle.frame_plan.specs.declared.state.Planner.{Planner}
-use Rattle.frame_plan.specs.Growth.{given_from, given_in, span_by, greatest_end, waits_in, waits_of, unless_none, deps_after, StartAs}
+use Rattle.plan_state.specs.declared.state.Planner.{Planner}
+use Rattle.plan_state.specs.Growth.{given_from, given_in, span_by, greatest_end, waits_in, waits_of, unless_none, deps_after, StartAs}
 use Rattle.frame_plan.specs.Layouts.{spans_between, greatest_end_at, carried_spans, completed_between, HasRanges, HasGrown}
 use Rattle.frame_plan.specs.Resuming.{IsResumed}
 use Rattle.frame_plan.specs.Runs.{IsActingTest, IsStop}
 use Rattle.frame_plan.specs.Sections.{IsBetween, IsOutcome, AreLeft}
-use Rattle.frame_plan.specs.Steps.{state_at}
+use Rattle.plan_state.specs.Steps.{state_at}
 use Rattle.frame_plan.proofs.Handing.{first_later}
 use Rattle.frame_plan.proofs.Laying.{completed_more, no_spans, none_so_far, ranges_more, span_here, spans_more}
-use Rattle.frame_plan.proofs.Quiet.{IsPlain, none_newly, plain_awaits, plain_schedules, plain_span, plain_takes}
-use Rattle.frame_plan.proofs.Reaching.{next_state}
+use Rattle.plan_state.proofs.Quiet.{IsPlain, none_newly, plain_awaits, plain_schedules, plain_span, plain_takes}
+use Rattle.plan_state.proofs.Reaching.{next_state}
 use Rattle.frame_plan.proofs.Resuming.{outcome_is, peak_is, q_is, test_acts}
 
 plain_test : (g : Setting) (s : ScriptState) (a : Order) → IsActingTest g s a → IsPlain g a

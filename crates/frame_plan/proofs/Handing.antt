@@ -23,16 +23,16 @@ use Rattle.plan_laws.specs.Planned.{renumbered}
 use Rattle.frame_plan.specs.declared.section.Section.{Section}
 use Rattle.frame_plan.specs.declared.section.Test.{Test}
 use Rattle.frame_plan.specs.declared.sections.SectionBook.{SectionBook}
-use Rattle.frame_plan.specs.declared.state.PlanFault.{PlanFault}
-use Rattle.frame_plan.specs.declared.state.PlanFault.TheVariants.{NoMemory}
-use Rattle.frame_plan.specs.declared.state.Planner.{Planner}
-use Rattle.frame_plan.specs.Growth.{first_jobs, unless_none}
+use Rattle.plan_state.specs.declared.state.PlanFault.{PlanFault}
+use Rattle.plan_state.specs.declared.state.PlanFault.TheVariants.{NoMemory}
+use Rattle.plan_state.specs.declared.state.Planner.{Planner}
+use Rattle.plan_state.specs.Growth.{first_jobs, unless_none}
 use Rattle.frame_plan.specs.Layouts.{starts_by, IsLaidOut}
 use Rattle.frame_plan.specs.Names.{AreNamesOf}
 use Rattle.frame_plan.specs.References.{IsOfTest, IsTestFor}
 use Rattle.frame_plan.specs.Runs.{IsActingTest, IsStop, IsWithin, PassesOnce, IsFinished, IsEmptied, outline_of}
 use Rattle.frame_plan.specs.Sections.{limit_told, IsTestOf, EndsBy, IsPlannedFrom, IsBetween, IsAt, IsNext, IsPlanOf}
-use Rattle.frame_plan.specs.Steps.{state_at, IsStep}
+use Rattle.plan_state.specs.Steps.{state_at, IsStep}
 use Rattle.frame_plan.proofs.Laying.{scheduled_later}
 use Rattle.frame_plan.proofs.Limiting.{text_passes_none, script_run_passes, run_none}
 use Rattle.frame_plan.proofs.References.{reference_held, reference_inside, first_is_none}

@@ -21,12 +21,12 @@ use Rattle.slot_store.specs.Stores.{peak_of}
 use Rattle.frame_core.specs.declared.plan.JobPlan.{JobPlan}
 use Rattle.frame_core.specs.declared.plan.Segment.{Segment}
 use Rattle.frame_core.proofs.Small.{some_is, none_some, get_before, get_below}
-use Rattle.frame_plan.specs.declared.state.Planner.{Planner}
-use Rattle.frame_plan.specs.Growth.{span_by, greatest_end, StartAs, HasJobOf, IsJobOf, Schedules, SchedulesUnless, deps_after, Awaits, AwaitsUnless, IsStartedAfter, HasWaited, unless_none, newly_completed, Grows}
+use Rattle.plan_state.specs.declared.state.Planner.{Planner}
+use Rattle.plan_state.specs.Growth.{span_by, greatest_end, StartAs, HasJobOf, IsJobOf, Schedules, SchedulesUnless, deps_after, Awaits, AwaitsUnless, IsStartedAfter, HasWaited, unless_none, newly_completed, Grows}
 use Rattle.frame_plan.specs.Layouts.{span_of, spans_at, spans_between, carried_spans, completed_at, completed_between, HasItsJob, AreScheduled, HasRanges, HasGrown}
 use Rattle.frame_plan.specs.Runs.{IsFurther, HasGone}
-use Rattle.frame_plan.specs.Steps.{state_at, StandsAt}
-use Rattle.frame_plan.proofs.Reaching.{next_state}
+use Rattle.plan_state.specs.Steps.{state_at, StandsAt}
+use Rattle.plan_state.proofs.Reaching.{next_state}
 
 -- ---- lists
 

@@ -9,11 +9,11 @@ use Rattle.frame_ast.specs.Lists.{first_some, some_if}
 use Rattle.frame_ast.specs.Orders.{Table, Setting, setting}
 use Rattle.frame_ast.specs.Scripts.{act, act_all}
 use Rattle.frame_ast.specs.States.{ScriptState, at_start}
-use Rattle.frame_plan.specs.declared.state.PlanFault.{PlanFault}
-use Rattle.frame_plan.specs.declared.state.PlanFault.TheVariants.{Jobs, Words, NoMemory}
+use Rattle.plan_state.specs.declared.state.PlanFault.{PlanFault}
+use Rattle.plan_state.specs.declared.state.PlanFault.TheVariants.{Jobs, Words, NoMemory}
 use Rattle.frame_plan.specs.Runs.{IsWithin, PassesOnce}
 use Rattle.frame_plan.specs.Sections.{limit_told}
-use Rattle.frame_plan.specs.Steps.{state_at, PassesLimit}
+use Rattle.plan_state.specs.Steps.{state_at, PassesLimit}
 use Rattle.frame_plan.proofs.Taking.{act_takes, one_of}
 
 -- ---- the first limit of a state

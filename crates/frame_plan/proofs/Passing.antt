@@ -7,14 +7,14 @@ use Rattle.frame_ast.specs.Orders.{Table, Setting, setting}
 use Rattle.frame_ast.specs.Scripts.{act, act_or_pass}
 use Rattle.frame_ast.specs.States.{ScriptState}
 use Rattle.plan_laws.proofs.Disposing.{others_are_planned}
-use Rattle.frame_plan.specs.declared.state.Planner.{Planner}
+use Rattle.plan_state.specs.declared.state.Planner.{Planner}
 use Rattle.frame_plan.specs.Runs.{HasPassed, IsWithin}
-use Rattle.frame_plan.specs.Stands.{Stands, draft_of}
-use Rattle.frame_plan.specs.Steps.{state_at}
-use Rattle.frame_plan.proofs.Naming.{same_names}
-use Rattle.frame_plan.proofs.Quiet.{passed_grows, quiet_still}
-use Rattle.frame_plan.proofs.Reaching.{next_state}
-use Rattle.frame_plan.proofs.Restating.{restated, calm}
+use Rattle.plan_state.specs.Stands.{Stands, draft_of}
+use Rattle.plan_state.specs.Steps.{state_at}
+use Rattle.plan_state.proofs.Naming.{same_names}
+use Rattle.plan_state.proofs.Quiet.{passed_grows, quiet_still}
+use Rattle.plan_state.proofs.Reaching.{next_state}
+use Rattle.plan_state.proofs.Restating.{restated, calm}
 
 pub repassed : (p : Planner) (g : Setting) (begun : ScriptState) (n : ℕ) (s : ScriptState) (found : List ℕ) → Stands p g begun n s found
     → (k : ℕ) → Stands (record p { passing = k }) g begun (suc n) (record s { passing = k }) found

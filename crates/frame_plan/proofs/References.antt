@@ -28,14 +28,14 @@ use Rattle.plan_laws.specs.Leaving.{AllHeld}
 use Rattle.kernel_exec.specs.Binds.{end_of}
 use Rattle.plan_laws.proofs.Making.{alive_is_live}
 use Rattle.frame_plan.specs.Runs.{AreWithin}
-use Rattle.frame_plan.specs.declared.state.Value.{Value}
-use Rattle.frame_plan.specs.declared.state.Value.TheVariants.{Dead, Whole, Slice, View, Jobs}
-use Rattle.frame_plan.specs.declared.state.Planner.{Planner}
+use Rattle.plan_state.specs.declared.state.Value.{Value}
+use Rattle.plan_state.specs.declared.state.Value.TheVariants.{Dead, Whole, Slice, View, Jobs}
+use Rattle.plan_state.specs.declared.state.Planner.{Planner}
 use Rattle.frame_plan.specs.References.{IsReferenceOf}
-use Rattle.frame_plan.specs.Stands.{jobs_at, value_for, IsThere}
-use Rattle.frame_plan.specs.Steps.{state_at, StandsAt, IsStep}
-use Rattle.frame_plan.proofs.Accessing.{there}
-use Rattle.frame_plan.proofs.Reaching.{holds_kinds, fits_at, used_below}
+use Rattle.plan_state.specs.Stands.{jobs_at, value_for, IsThere}
+use Rattle.plan_state.specs.Steps.{state_at, StandsAt, IsStep}
+use Rattle.plan_state.proofs.Accessing.{there}
+use Rattle.plan_state.proofs.Reaching.{holds_kinds, fits_at, used_below}
 
 single : (c : Contents) → RefName ≡ kind_of c → (z : ℤ) × (c ≡ Single z)
 single (Cells xs) e = absurd cc

@@ -40,23 +40,23 @@ use Rattle.plan_laws.proofs.Making.{live_below}
 use Rattle.plan_laws.proofs.Owners.{words_apart}
 use Rattle.plan_laws.proofs.Sections.{sections_begin}
 use Rattle.frame_plan.specs.declared.sections.SectionBook.{SectionBook}
-use Rattle.frame_plan.specs.declared.state.PlanFault.{PlanFault}
-use Rattle.frame_plan.specs.declared.state.PlanFault.TheVariants.{NoMemory}
-use Rattle.frame_plan.specs.declared.state.Container.{Container}
-use Rattle.frame_plan.specs.declared.state.Planner.{Planner}
-use Rattle.frame_plan.specs.declared.state.Written.{Written}
+use Rattle.plan_state.specs.declared.state.PlanFault.{PlanFault}
+use Rattle.plan_state.specs.declared.state.PlanFault.TheVariants.{NoMemory}
+use Rattle.plan_state.specs.declared.state.Container.{Container}
+use Rattle.plan_state.specs.declared.state.Planner.{Planner}
+use Rattle.plan_state.specs.declared.state.Draft.{Draft as SoFar}
 use Rattle.frame_plan.specs.Runs.{IsActingTest, outline_of, PassesOnce}
 use Rattle.frame_plan.specs.Resuming.{IsResumed}
 use Rattle.frame_plan.specs.Sections.{AreKernelsOf, IsBetween, IsOutcome, AreLeft, outcome_of, outcome_by, passed_after}
-use Rattle.frame_plan.specs.Stands.{IsContainer, IsOwned, AreKernels, Agrees, Stands, draft_of}
-use Rattle.frame_plan.specs.Steps.{state_at, StandsAt}
-use Rattle.frame_plan.proofs.Accessing.{there}
+use Rattle.plan_state.specs.Stands.{IsContainer, IsOwned, AreKernels, Agrees, Stands, draft_of}
+use Rattle.plan_state.specs.Steps.{state_at, StandsAt}
+use Rattle.plan_state.proofs.Accessing.{there}
 use Rattle.frame_plan.proofs.Wholes.{plan_so_far, some_planned}
 use Rattle.frame_plan.proofs.Handing.{not_test, no_test, limit_is}
 use Rattle.frame_plan.proofs.Limiting.{text_passes_none}
 use Rattle.frame_plan.proofs.Passing.{repassed}
-use Rattle.frame_plan.proofs.Reaching.{long, next_state}
-use Rattle.frame_plan.proofs.Restating.{accepted_state}
+use Rattle.plan_state.proofs.Reaching.{long, next_state}
+use Rattle.plan_state.proofs.Restating.{accepted_state}
 use Rattle.frame_plan.proofs.References.{name_below}
 use Rattle.frame_plan.proofs.Starting.{none_long, no_pieces}
 
@@ -102,7 +102,7 @@ module _ (script : Script) (table : Table) (old : Planner) (begun : ScriptState)
     (accepted : IsAccepted script) (here : slice_get script.statements.items n ≡ Some x)
     (acts : IsActingTest (setting script table) (state_at script table n) x.act)
     (carried : Cells) (held : AllHeld (λ k. get_or found k 0) (state_at script table n) carried)
-    (before : ℕ) (w : Written)
+    (before : ℕ) (w : SoFar)
     (before_is : before ≡ (state_at script table n).book.count)
     (segments : w.segments.items ≡ []) (jobs : w.jobs.items ≡ []) (waits : w.waits.items ≡ []) (ops : w.ops.items ≡ carried_op (peak_of old.store) 0 ∷ [])
     (literals : map (λ v. v.items) w.literals.items ≡ cell_list carried 0 (peak_of old.store) ∷ []) (pieces : w.pieces ≡ 0)

@@ -17,14 +17,14 @@ use Rattle.frame_core.proofs.Small.{some_is, none_some, not_both}
 use Rattle.plan_laws.specs.Drafts.{empty_draft}
 use Rattle.plan_laws.specs.Planned.{Outline, IsPlanned}
 use Rattle.plan_laws.proofs.AtStart.{nothing_is_planned}
-use Rattle.frame_plan.specs.declared.state.Value.{Value}
-use Rattle.frame_plan.specs.declared.state.Value.TheVariants.{Dead, Jobs}
-use Rattle.frame_plan.specs.declared.state.Planner.{Planner}
-use Rattle.frame_plan.specs.Growth.{given_from, given_in, waits_in, waits_of, unless_none}
+use Rattle.plan_state.specs.declared.state.Value.{Value}
+use Rattle.plan_state.specs.declared.state.Value.TheVariants.{Dead, Jobs}
+use Rattle.plan_state.specs.declared.state.Planner.{Planner}
+use Rattle.plan_state.specs.Growth.{given_from, given_in, waits_in, waits_of, unless_none}
 use Rattle.frame_plan.specs.Runs.{HasBegun}
-use Rattle.frame_plan.specs.Stands.{value_for, IsThere, Agrees, draft_of}
-use Rattle.frame_plan.specs.Steps.{StandsAt}
-use Rattle.frame_plan.proofs.Reaching.{long}
+use Rattle.plan_state.specs.Stands.{value_for, IsThere, Agrees, draft_of}
+use Rattle.plan_state.specs.Steps.{StandsAt}
+use Rattle.plan_state.proofs.Reaching.{long}
 
 pub none_in : {A : Type 0} (xs : List A) (n : ℕ) (x : A) → xs ≡ [] → slice_get xs n ≡ Some x → ⊥
 none_in xs n x e h = none_some (sym (ap (λ l. slice_get l n) e) ∙ h)

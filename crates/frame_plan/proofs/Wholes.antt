@@ -22,11 +22,11 @@ use Rattle.frame_core.specs.Ordered.{IsCutIn, ops_count}
 use Rattle.plan_laws.specs.Finishing.{IsDone}
 use Rattle.plan_laws.specs.Planned.{AreJobsUpTo, IsPlanned}
 use Rattle.plan_laws.proofs.Becoming.{drafts_become_plans}
-use Rattle.frame_plan.specs.declared.state.Planner.{Planner}
+use Rattle.plan_state.specs.declared.state.Planner.{Planner}
 use Rattle.frame_plan.specs.Runs.{AreWithin, outline_of}
-use Rattle.frame_plan.specs.Stands.{Agrees, draft_of}
-use Rattle.frame_plan.specs.Steps.{state_at, StandsAt}
-use Rattle.frame_plan.proofs.Accessing.{there}
+use Rattle.plan_state.specs.Stands.{Agrees, draft_of}
+use Rattle.plan_state.specs.Steps.{state_at, StandsAt}
+use Rattle.plan_state.proofs.Accessing.{there}
 use Rattle.frame_plan.proofs.Passing.{stands_within}
 
 -- ---- pieces are few

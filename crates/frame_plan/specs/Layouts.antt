@@ -19,9 +19,9 @@ use Rattle.frame_core.specs.declared.plan.Plan.{Plan}
 use Rattle.frame_core.specs.declared.plan.Segment.{Segment}
 use Rattle.frame_core.specs.Graphs.{cells_after}
 use Rattle.plan_laws.specs.Leaving.{AllHeld}
-use Rattle.frame_plan.specs.declared.state.Planner.{Planner}
-use Rattle.frame_plan.specs.Growth.{given_so_far, given_from, span_by, greatest_end, Schedules, deps_after, Awaits, HasWaited, first_jobs, unless_none, waits_of, waits_by, newly_completed}
-use Rattle.frame_plan.specs.Steps.{state_at}
+use Rattle.plan_state.specs.declared.state.Planner.{Planner}
+use Rattle.plan_state.specs.Growth.{given_so_far, given_from, span_by, greatest_end, Schedules, deps_after, Awaits, HasWaited, first_jobs, unless_none, waits_of, waits_by, newly_completed}
+use Rattle.plan_state.specs.Steps.{state_at}
 
 -- RANGES
 

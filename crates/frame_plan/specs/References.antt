@@ -6,9 +6,9 @@ use Rattle.frame_ast.specs.declared.script.Statement.{Statement}
 use Rattle.kernel_exec.specs.declared.binds.Bind.TheVariants.{Ref}
 use Rattle.native_array.specs.declared.reference.RefAt.{RefAt}
 use Rattle.frame_plan.specs.declared.section.Test.{Test}
-use Rattle.frame_plan.specs.declared.state.Value.TheVariants.{Whole}
-use Rattle.frame_plan.specs.declared.state.Container.{Container}
-use Rattle.frame_plan.specs.declared.state.Planner.{Planner}
+use Rattle.plan_state.specs.declared.state.Value.TheVariants.{Whole}
+use Rattle.plan_state.specs.declared.state.Container.{Container}
+use Rattle.plan_state.specs.declared.state.Planner.{Planner}
 
 -- The name stands for a whole container, which is a reference at that word.
 pub record IsReferenceOf (p : Planner) (name : ℕ) (at : RefAt) : Type 0 where

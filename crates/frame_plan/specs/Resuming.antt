@@ -5,7 +5,7 @@ use Rattle.frame_ast.specs.declared.kernel.Kernel.{Kernel}
 use Rattle.job_handle.specs.Books.{count_of}
 use Rattle.slot_store.specs.Stores.{peak_of}
 use Rattle.plan_laws.specs.Sections.{carried_op}
-use Rattle.frame_plan.specs.declared.state.Planner.{Planner}
+use Rattle.plan_state.specs.declared.state.Planner.{Planner}
 
 -- It has no plan, and the memory has all words of the containers.
 pub record IsToResume (p : Planner) (mem : List ℤ) : Type 0 where

@@ -19,12 +19,12 @@ use Rattle.plan_laws.specs.Drafts.{empty_draft}
 use Rattle.plan_laws.specs.Finishing.{IsDone}
 use Rattle.plan_laws.specs.Planned.{Outline}
 use Rattle.std.specs.Prelude.{get_or}
-use Rattle.frame_plan.specs.declared.state.PlanFault.{PlanFault}
-use Rattle.frame_plan.specs.declared.state.Planner.{Planner}
-use Rattle.frame_plan.specs.Growth.{given_from, given_so_far, StartAs, Grows, first_jobs, unless_none, waits_of, waits_by}
+use Rattle.plan_state.specs.declared.state.PlanFault.{PlanFault}
+use Rattle.plan_state.specs.declared.state.Planner.{Planner}
+use Rattle.plan_state.specs.Growth.{given_from, given_so_far, StartAs, Grows, first_jobs, unless_none, waits_of, waits_by}
 use Rattle.frame_plan.specs.Layouts.{HasGrown}
-use Rattle.frame_plan.specs.Stands.{draft_of}
-use Rattle.frame_plan.specs.Steps.{state_at, StandsAt, PassesLimit}
+use Rattle.plan_state.specs.Stands.{draft_of}
+use Rattle.plan_state.specs.Steps.{state_at, StandsAt, PassesLimit}
 
 -- WHERE A SECTION ENDS
 

@@ -31,15 +31,15 @@ use Rattle.plan_laws.specs.Planned.{renumbered}
 use Rattle.frame_plan.specs.declared.section.Section.{Section}
 use Rattle.frame_plan.specs.declared.section.Test.{Test}
 use Rattle.frame_plan.specs.declared.sections.SectionBook.{SectionBook}
-use Rattle.frame_plan.specs.declared.state.PlanFault.{PlanFault}
-use Rattle.frame_plan.specs.declared.state.PlanFault.TheVariants.{Jobs, Words, NoMemory}
-use Rattle.frame_plan.specs.declared.state.Planner.{Planner}
-use Rattle.frame_plan.specs.Growth.{StartAs}
+use Rattle.plan_state.specs.declared.state.PlanFault.{PlanFault}
+use Rattle.plan_state.specs.declared.state.PlanFault.TheVariants.{Jobs, Words, NoMemory}
+use Rattle.plan_state.specs.declared.state.Planner.{Planner}
+use Rattle.plan_state.specs.Growth.{StartAs}
 use Rattle.frame_plan.specs.Layouts.{IsLaidOut, HasRanges, HasGrown}
 use Rattle.frame_plan.specs.Names.{AreNamesOf}
 use Rattle.frame_plan.specs.Runs.{IsActingTest, IsStop, NoneActs, IsEmptied}
-use Rattle.frame_plan.specs.Stands.{AreKernels}
-use Rattle.frame_plan.specs.Steps.{state_at, StandsAt}
+use Rattle.plan_state.specs.Stands.{AreKernels}
+use Rattle.plan_state.specs.Steps.{state_at, StandsAt}
 
 -- THE LIMITS
 

@@ -5,60 +5,62 @@ ghost use Rattle.frame_ast.specs.declared.script.Script.{Script};
 ghost use Rattle.frame_ast.specs.Accepted.{IsAccepted};
 ghost use Rattle.frame_ast.specs.Orders.{Table};
 ghost use Rattle.frame_ast.specs.States.{ScriptState};
-ghost use Rattle.frame_plan.specs.Growth.{first_jobs};
+ghost use Rattle.plan_state.specs.Growth.{first_jobs};
 ghost use Rattle.frame_plan.specs.Names.{AreNamesOf};
 ghost use Rattle.frame_plan.specs.Runs.{IsFinished, IsEmptied};
-ghost use Rattle.frame_plan.specs.Steps.{StandsAt};
+ghost use Rattle.plan_state.specs.Steps.{StandsAt};
 
-use crate::state::{Planner, Written};
 use frame_core::{Plan, Segment};
 use job_base::{JobId, NoMemory};
+use plan_state::{Draft, Planner};
 use std::alloc::Global;
 use std::mem;
 
-impl Planner {
-    /// The plan so far as a whole one: the segment at hand is closed, and a last one waits for every job. The planner
-    /// keeps all else that it knows.
-    pub(crate) fn finish(&mut self, alloc: Global, names: Vec<String>) -> Result<Plan, NoMemory>
-        requires { (script : Script) × (table : Table) × (begun : ScriptState) × (n : ℕ) × (found : List ℕ)
-            × StandsAt self.old script table begun n found
-            × (n ≤ length script.statements.items) × IsAccepted script }
-        ensures plan { (script : Script) → IsAccepted script → AreNamesOf script names.items
-            → IfOk result (IsFinished script self.old) }
-        ensures names { IfOk result (λ plan. plan.names.items ≡ names.items) }
-        ensures emptied { OnOk result (IsEmptied self.old self.new) }
-    {
-        let all = all_jobs(alloc, self.plan.jobs.len() as u32)?;
-        let cells = self.store.peak();
-        let Written {
-            kernels,
-            literals,
-            mut segments,
-            jobs,
-            waits,
-            ops,
-            pieces,
-        } = mem::replace(&mut self.plan, Written::none(alloc));
-        segments.push(Segment {
-            waits,
-            ops,
-            starts: None,
-        })?;
-        segments.push(Segment {
-            waits: all,
-            ops: Vec::new(alloc),
-            starts: None,
-        })?;
-        Ok(Plan {
-            kernels,
-            names,
-            literals,
-            jobs,
-            segments,
-            cells,
-            words: cells + 3 * pieces,
-        })
-    }
+/// The plan so far as a whole one: the segment at hand is closed, and a last one waits for every job. The planner
+/// keeps all else that it knows.
+pub(crate) fn finish(
+    planner: &mut Planner,
+    alloc: Global,
+    names: Vec<String>,
+) -> Result<Plan, NoMemory>
+    requires { (script : Script) × (table : Table) × (begun : ScriptState) × (n : ℕ) × (found : List ℕ)
+        × StandsAt planner.old script table begun n found
+        × (n ≤ length script.statements.items) × IsAccepted script }
+    ensures plan { (script : Script) → IsAccepted script → AreNamesOf script names.items
+        → IfOk result (IsFinished script planner.old) }
+    ensures names { IfOk result (λ plan. plan.names.items ≡ names.items) }
+    ensures emptied { OnOk result (IsEmptied planner.old planner.new) }
+{
+    let all = all_jobs(alloc, planner.plan.jobs.len() as u32)?;
+    let cells = planner.store.peak();
+    let Draft {
+        kernels,
+        literals,
+        mut segments,
+        jobs,
+        waits,
+        ops,
+        pieces,
+    } = mem::replace(&mut planner.plan, Draft::none(alloc));
+    segments.push(Segment {
+        waits,
+        ops,
+        starts: None,
+    })?;
+    segments.push(Segment {
+        waits: all,
+        ops: Vec::new(alloc),
+        starts: None,
+    })?;
+    Ok(Plan {
+        kernels,
+        names,
+        literals,
+        jobs,
+        segments,
+        cells,
+        words: cells + 3 * pieces,
+    })
 }
 
 /// So many jobs, in their order.

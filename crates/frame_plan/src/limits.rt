@@ -6,11 +6,11 @@ ghost use Rattle.frame_ast.specs.Contents.{words_of as words_kept};
 ghost use Rattle.frame_ast.specs.Limits.{limit_by_text, job_of, words_by};
 ghost use Rattle.frame_ast.specs.Orders.{no_table, setting, new_array};
 ghost use Rattle.frame_plan.specs.Sections.{limit_told};
-ghost use Rattle.frame_plan.specs.Tables.{columns_of};
+ghost use Rattle.plan_statements.specs.Tables.{columns_of};
 
-use crate::state::PlanFault;
 use frame_ast::script::{Order, Script};
 use job_base::limits::{MOST_CREATED_WORDS, MOST_JOBS};
+use plan_state::PlanFault;
 use table_in::Table;
 
 /// Whether the script has a `when`.
@@ -49,7 +49,30 @@ fn jobs_of(act: &Order) -> u32
 {
     match act {
         Order::Schedule(_) => 1,
-        _ => 0,
+        Order::Array { .. }
+        | Order::Column { .. }
+        | Order::List { .. }
+        | Order::Reference { .. }
+        | Order::Map { .. }
+        | Order::Stream { .. }
+        | Order::Slice { .. }
+        | Order::View { .. }
+        | Order::Copy { .. }
+        | Order::Set { .. }
+        | Order::Add { .. }
+        | Order::Put { .. }
+        | Order::Remove { .. }
+        | Order::Clear { .. }
+        | Order::SetCapacity { .. }
+        | Order::Combine { .. }
+        | Order::Complete { .. }
+        | Order::CompleteAuto { .. }
+        | Order::Dispose { .. }
+        | Order::DisposeAuto { .. }
+        | Order::Print { .. }
+        | Order::Flush
+        | Order::Frame
+        | Order::When { .. } => 0,
     }
 }
 
@@ -67,7 +90,24 @@ fn words_of(act: &Order, script: &Script, table: &Table) -> u64
         Order::Reference { .. } => 1,
         Order::Map { cap, .. } => native_map::words_of(*cap),
         Order::Stream { count, room, .. } => native_stream::words_of(*count, *room),
-        _ => 0,
+        Order::Slice { .. }
+        | Order::View { .. }
+        | Order::Copy { .. }
+        | Order::Set { .. }
+        | Order::Add { .. }
+        | Order::Put { .. }
+        | Order::Remove { .. }
+        | Order::Clear { .. }
+        | Order::Schedule(_)
+        | Order::Combine { .. }
+        | Order::Complete { .. }
+        | Order::CompleteAuto { .. }
+        | Order::Dispose { .. }
+        | Order::DisposeAuto { .. }
+        | Order::Print { .. }
+        | Order::Flush
+        | Order::Frame
+        | Order::When { .. } => 0,
     }
 }
 

@@ -2,7 +2,7 @@
 ghost use Rattle.std.specs.Prelude.{◌≡◌};
 ghost use Rattle.frame_ast.specs.Accepted.{IsAccepted};
 ghost use Rattle.frame_plan.specs.Missing.{lacks_column, missing_from};
-ghost use Rattle.frame_plan.specs.Tables.{columns_of};
+ghost use Rattle.plan_statements.specs.Tables.{columns_of};
 
 use frame_ast::script::{Order, Script};
 use table_in::Table;
@@ -26,6 +26,29 @@ fn is_missing(act: &Order, table: &Table) -> bool
 {
     match act {
         Order::Column { column, .. } => table.column(column).is_none(),
-        _ => false,
+        Order::Array { .. }
+        | Order::List { .. }
+        | Order::Reference { .. }
+        | Order::Map { .. }
+        | Order::Stream { .. }
+        | Order::Slice { .. }
+        | Order::View { .. }
+        | Order::Copy { .. }
+        | Order::Set { .. }
+        | Order::Add { .. }
+        | Order::Put { .. }
+        | Order::Remove { .. }
+        | Order::Clear { .. }
+        | Order::SetCapacity { .. }
+        | Order::Schedule(_)
+        | Order::Combine { .. }
+        | Order::Complete { .. }
+        | Order::CompleteAuto { .. }
+        | Order::Dispose { .. }
+        | Order::DisposeAuto { .. }
+        | Order::Print { .. }
+        | Order::Flush
+        | Order::Frame
+        | Order::When { .. } => false,
     }
 }

@@ -4,183 +4,202 @@ ghost use Rattle.frame_ast.specs.Accepted.{IsAccepted, is_when};
 ghost use Rattle.frame_ast.specs.Orders.{Table as Columns};
 ghost use Rattle.frame_ast.specs.States.{ScriptState};
 ghost use Rattle.frame_plan.specs.Runs.{HasBegun, IsAtStatement, HasPassed, StopsAt, GoesPast, FailsAtPlace, HasRun, PassesOnce};
-ghost use Rattle.frame_plan.specs.Steps.{StandsAt};
-ghost use Rattle.frame_plan.specs.Tables.{columns_of};
+ghost use Rattle.plan_state.specs.Steps.{StandsAt};
+ghost use Rattle.plan_statements.specs.Tables.{columns_of};
 
-use crate::state::{PlanFault, Planner, Value, Written};
 use frame_ast::script::{Order, Script, Statement};
 use job_base::NoMemory;
 use job_handle::JobBook;
+use plan_state::{Draft, PlanFault, Planner, Value};
 use safety_handle::SafetyBook;
 use slot_store::SlotStore;
 use std::alloc::Global;
 use table_in::Table;
 
-impl Planner {
-    /// At the script's beginning.
-    pub(crate) fn new(alloc: Global, script: &Script) -> Result<Planner, NoMemory>
-        ensures { IfOk result (λ p. (table : Columns) → HasBegun script.now table p) }
-    {
-        Ok(Planner {
-            values: dead_values(alloc, script.names.len())?,
-            handles: Vec::new(alloc),
-            containers: Vec::new(alloc),
-            temps: Vec::new(alloc),
-            tempjobs: Vec::new(alloc),
-            overdue: 0,
-            frame: 0,
-            jobs: JobBook::new(alloc)?,
-            safety: SafetyBook::new(alloc)?,
-            store: SlotStore::new(alloc)?,
-            created: 0,
-            passing: 0,
-            jobs_before: 0,
-            kernels: no_copies(alloc, script.kernels.len())?,
-            guards: no_copies(alloc, script.kernels.len())?,
-            plan: Written::none(alloc),
-        })
-    }
+/// At the script's beginning.
+pub(crate) fn at_start(alloc: Global, script: &Script) -> Result<Planner, NoMemory>
+    ensures { IfOk result (λ p. (table : Columns) → HasBegun script.now table p) }
+{
+    Ok(Planner {
+        values: dead_values(alloc, script.names.len())?,
+        handles: Vec::new(alloc),
+        containers: Vec::new(alloc),
+        temps: Vec::new(alloc),
+        tempjobs: Vec::new(alloc),
+        overdue: 0,
+        frame: 0,
+        jobs: JobBook::new(alloc)?,
+        safety: SafetyBook::new(alloc)?,
+        store: SlotStore::new(alloc)?,
+        created: 0,
+        passing: 0,
+        jobs_before: 0,
+        kernels: no_copies(alloc, script.kernels.len())?,
+        guards: no_copies(alloc, script.kernels.len())?,
+        plan: Draft::none(alloc),
+    })
+}
 
-    /// Goes on from a place among the statements to the next `when` that acts, or to the end, and answers where it is.
-    pub(crate) fn run(
-        &mut self,
-        alloc: Global,
-        script: &Script,
-        table: &Table,
-        from: u32,
-    ) -> Result<u32, PlanFault>
-        requires accepted { IsAccepted script.now }
-        requires stands { (begun : ScriptState) × (found : List ℕ)
-            × StandsAt self.old script.now (columns_of table.now) begun from found }
-        requires inside { from ≤ length script.now.statements.items }
-        ensures ran { IfOk result (λ to. (begun : ScriptState) (found : List ℕ)
-            → StandsAt self.old script.now (columns_of table.now) begun from found
-            → HasRun script.now (columns_of table.now) self.old self.new begun from found to) }
-        ensures fails { IfErr result (λ fault. PassesOnce fault script.now (columns_of table.now)) }
-    {
-        let mut at = from;
-        while (at as usize) < script.statements.len() {
-            let statement = &script.statements[at as usize];
-            if !self.pass(alloc, script, table, statement)? {
-                return Ok(at);
-            }
-            at += 1;
+/// Goes on from a place among the statements to the next `when` that acts, or to the end, and answers where it is.
+pub(crate) fn run(
+    planner: &mut Planner,
+    alloc: Global,
+    script: &Script,
+    table: &Table,
+    from: u32,
+) -> Result<u32, PlanFault>
+    requires accepted { IsAccepted script.now }
+    requires stands { (begun : ScriptState) × (found : List ℕ)
+        × StandsAt planner.old script.now (columns_of table.now) begun from found }
+    requires inside { from ≤ length script.now.statements.items }
+    ensures ran { IfOk result (λ to. (begun : ScriptState) (found : List ℕ)
+        → StandsAt planner.old script.now (columns_of table.now) begun from found
+        → HasRun script.now (columns_of table.now) planner.old planner.new begun from found to) }
+    ensures fails { IfErr result (λ fault. PassesOnce fault script.now (columns_of table.now)) }
+{
+    let mut at = from;
+    while (at as usize) < script.statements.len() {
+        let statement = &script.statements[at as usize];
+        if !pass(planner, alloc, script, table, statement)? {
+            return Ok(at);
         }
-        Ok(at)
+        at += 1;
     }
+    Ok(at)
+}
 
-    /// Goes on by one statement. The answer is false at a `when` that acts: there it stays as it was.
-    fn pass(
-        &mut self,
-        alloc: Global,
-        script: &Script,
-        table: &Table,
-        statement: &Statement,
-    ) -> Result<bool, PlanFault>
-        requires { IsAtStatement script.now (columns_of table.now) self.old statement.now }
-        ensures passed { IfOk result (λ went. went ≡ true
-            → HasPassed script.now (columns_of table.now) self.old self.new statement.now) }
-        ensures stops { IfOk result (λ went. went ≡ false
-            → StopsAt script.now (columns_of table.now) self.old statement.now) }
-        ensures past { IfOk result (λ went. went ≡ true
-            → GoesPast script.now (columns_of table.now) self.old statement.now) }
-        ensures stays { IfOk result (λ went. went ≡ false → self.new ≡ self.old) }
-        ensures fails { IfErr result (λ fault.
-            FailsAtPlace script.now (columns_of table.now) fault self.old statement.now) }
+/// Goes on by one statement. The answer is false at a `when` that acts: there it stays as it was.
+fn pass(
+    planner: &mut Planner,
+    alloc: Global,
+    script: &Script,
+    table: &Table,
+    statement: &Statement,
+) -> Result<bool, PlanFault>
+    requires { IsAtStatement script.now (columns_of table.now) planner.old statement.now }
+    ensures passed { IfOk result (λ went. went ≡ true
+        → HasPassed script.now (columns_of table.now) planner.old planner.new statement.now) }
+    ensures stops { IfOk result (λ went. went ≡ false
+        → StopsAt script.now (columns_of table.now) planner.old statement.now) }
+    ensures past { IfOk result (λ went. went ≡ true
+        → GoesPast script.now (columns_of table.now) planner.old statement.now) }
+    ensures stays { IfOk result (λ went. went ≡ false → planner.new ≡ planner.old) }
+    ensures fails { IfErr result (λ fault.
+        FailsAtPlace script.now (columns_of table.now) fault planner.old statement.now) }
+{
+    if planner.passing > 0 {
+        planner.passing -= 1;
+        return Ok(true);
+    }
+    if let Order::When {
+        name,
+        sign,
+        value,
+        count,
+    } = &statement.act
     {
-        if self.passing > 0 {
-            self.passing -= 1;
-            return Ok(true);
-        }
-        if let Order::When {
+        return Ok(plan_statements::refuse_test(
+            planner,
+            statement.line,
+            *name,
+            *sign,
+            *value,
+            *count,
+        )?);
+    }
+    act(planner, alloc, script, table, statement)?;
+    Ok(true)
+}
+
+/// What a statement does that is neither passed by nor a `when`.
+fn act(
+    planner: &mut Planner,
+    alloc: Global,
+    script: &Script,
+    table: &Table,
+    statement: &Statement,
+) -> Result<(), PlanFault>
+    requires at { IsAtStatement script.now (columns_of table.now) planner.old statement.now }
+    requires acts { planner.old.passing ≡ 0 }
+    requires other { is_when statement.now.act ≡ false }
+    ensures passed { OnOk result (HasPassed script.now (columns_of table.now) planner.old planner.new statement.now) }
+    ensures fails { IfErr result (λ fault.
+        FailsAtPlace script.now (columns_of table.now) fault planner.old statement.now) }
+{
+    let line = statement.line;
+    match &statement.act {
+        Order::Array {
             name,
-            sign,
-            value,
+            len,
+            life,
+            values,
+        } => plan_statements::array(planner, line, *name, *len, *life, *values, script),
+        Order::Column { name, column, life } => plan_statements::column(
+            planner, alloc, line, *name, column, *life, table,
+        ),
+        Order::List { name, cap, life } => plan_statements::list(planner, line, *name, *cap, *life),
+        Order::Reference { name, life, value } => plan_statements::reference(
+            planner, alloc, line, *name, *life, *value,
+        ),
+        Order::Map { name, cap, life } => plan_statements::map(planner, line, *name, *cap, *life),
+        Order::Stream {
+            name,
             count,
-        } = &statement.act
-        {
-            return Ok(self.refuse_test(statement.line, *name, *sign, *value, *count)?);
-        }
-        self.act(alloc, script, table, statement)?;
-        Ok(true)
-    }
-
-    /// What a statement does that is neither passed by nor a `when`.
-    fn act(
-        &mut self,
-        alloc: Global,
-        script: &Script,
-        table: &Table,
-        statement: &Statement,
-    ) -> Result<(), PlanFault>
-        requires at { IsAtStatement script.now (columns_of table.now) self.old statement.now }
-        requires acts { self.old.passing ≡ 0 }
-        requires other { is_when statement.now.act ≡ false }
-        ensures passed { OnOk result (HasPassed script.now (columns_of table.now) self.old self.new statement.now) }
-        ensures fails { IfErr result (λ fault.
-            FailsAtPlace script.now (columns_of table.now) fault self.old statement.now) }
-    {
-        let line = statement.line;
-        match &statement.act {
-            Order::Array {
-                name,
-                len,
-                life,
-                values,
-            } => self.array(line, *name, *len, *life, *values, script),
-            Order::Column { name, column, life } => self.column(
-                alloc, line, *name, column, *life, table,
+            room,
+            life,
+        } => plan_statements::stream(planner, line, *name, *count, *room, *life),
+        Order::Slice {
+            name,
+            of,
+            start,
+            len,
+        } => Ok(plan_statements::slice(planner, line, *name, *of, *start, *len)?),
+        Order::View { name, of } => Ok(plan_statements::view(planner, line, *name, *of)?),
+        Order::Copy { name, of } => Ok(plan_statements::copy(planner, line, *name, *of)),
+        Order::Set { name, at, value } => Ok(plan_statements::set(
+            planner, line, *name, *at, *value,
+        )?),
+        Order::Add {
+            name,
+            first,
+            second,
+        } => Ok(plan_statements::add(planner, line, *name, *first, *second)?),
+        Order::Put { name, key, value } => Ok(plan_statements::put(
+            planner, line, *name, *key, *value,
+        )?),
+        Order::Remove { name, at } => Ok(plan_statements::remove(planner, line, *name, *at)?),
+        Order::Clear { name } => Ok(plan_statements::clear(planner, line, *name)?),
+        Order::SetCapacity { name, cap } => plan_statements::set_capacity(
+            planner, line, *name, *cap,
+        ),
+        Order::Schedule(job) => match job.defer {
+            None => plan_schedules::schedule(planner, alloc, script, line, job),
+            Some(defer) => plan_schedules::schedule_deferred(
+                planner, alloc, script, line, job, defer,
             ),
-            Order::List { name, cap, life } => self.list(line, *name, *cap, *life),
-            Order::Reference { name, life, value } => self.reference(
-                alloc, line, *name, *life, *value,
-            ),
-            Order::Map { name, cap, life } => self.map(line, *name, *cap, *life),
-            Order::Stream {
-                name,
-                count,
-                room,
-                life,
-            } => self.stream(line, *name, *count, *room, *life),
-            Order::Slice {
-                name,
-                of,
-                start,
-                len,
-            } => Ok(self.slice(line, *name, *of, *start, *len)?),
-            Order::View { name, of } => Ok(self.view(line, *name, *of)?),
-            Order::Copy { name, of } => Ok(self.copy(line, *name, *of)),
-            Order::Set { name, at, value } => Ok(self.set(line, *name, *at, *value)?),
-            Order::Add {
-                name,
-                first,
-                second,
-            } => Ok(self.add(line, *name, *first, *second)?),
-            Order::Put { name, key, value } => Ok(self.put(line, *name, *key, *value)?),
-            Order::Remove { name, at } => Ok(self.remove(line, *name, *at)?),
-            Order::Clear { name } => Ok(self.clear(line, *name)?),
-            Order::SetCapacity { name, cap } => self.set_capacity(line, *name, *cap),
-            Order::Schedule(job) => match job.defer {
-                None => self.schedule(alloc, script, line, job),
-                Some(defer) => self.schedule_deferred(alloc, script, line, job, defer),
-            },
-            Order::Combine { name, of } => Ok(self.combine(line, *name, of)?),
-            Order::Complete { name } => Ok(self.complete(alloc, *name)?),
-            Order::CompleteAuto { name } => Ok(self.complete_auto(alloc, line, *name)?),
-            Order::Dispose {
-                name,
-                after,
-                handle,
-            } => match *handle {
-                None => Ok(self.dispose(line, *name)?),
-                Some(handle) => Ok(self.dispose_after(line, *name, after, handle)?),
-            },
-            Order::DisposeAuto { name, handle } => Ok(self.dispose_auto(line, *name, *handle)?),
-            Order::Print { name } => Ok(self.print(line, *name)?),
-            Order::Flush => Ok(self.flush(line)),
-            Order::Frame => Ok(self.frame(line)?),
-            Order::When { .. } => unreachable!(),
-        }
+        },
+        Order::Combine { name, of } => Ok(plan_statements::combine(planner, line, *name, of)?),
+        Order::Complete { name } => Ok(plan_statements::complete(planner, alloc, *name)?),
+        Order::CompleteAuto { name } => Ok(plan_statements::complete_auto(
+            planner, alloc, line, *name,
+        )?),
+        Order::Dispose {
+            name,
+            after,
+            handle,
+        } => match *handle {
+            None => Ok(plan_statements::dispose(planner, line, *name)?),
+            Some(handle) => Ok(plan_statements::dispose_after(
+                planner, line, *name, after, handle,
+            )?),
+        },
+        Order::DisposeAuto { name, handle } => Ok(plan_statements::dispose_auto(
+            planner, line, *name, *handle,
+        )?),
+        Order::Print { name } => Ok(plan_statements::print(planner, line, *name)?),
+        Order::Flush => Ok(plan_statements::flush(planner, line)),
+        Order::Frame => Ok(plan_statements::frame(planner, line)?),
+        Order::When { .. } => unreachable!(),
     }
 }
 

@@ -7,16 +7,19 @@ ghost use Rattle.merge_laws.specs.Graph.{Cells};
 ghost use Rattle.frame_plan.specs.Names.{AreNamesOf};
 ghost use Rattle.frame_plan.specs.References.{IsReferenceOf, IsTestFor};
 ghost use Rattle.frame_plan.specs.Sections.{limit_told, passed_after, AreKernelsOf, IsPlannedFrom, IsBetween, IsAt, IsOutcome, AreLeft, IsNext};
-ghost use Rattle.frame_plan.specs.Tables.{columns_of};
+ghost use Rattle.plan_statements.specs.Tables.{columns_of};
 
+use crate::finishing::finish;
 use crate::limits::{check_text, has_test};
+use crate::planner::{at_start, run};
+use crate::resume::begin;
 use crate::section::{Section, Test};
-use crate::state::{PlanFault, Planner, Value};
 use frame_ast::kernel::Kernel;
 use frame_ast::script::{Order, Script};
 use job_base::{FlatMem, NoMemory};
 use kernel_exec::Bind;
 use native_array::RefAt;
+use plan_state::{PlanFault, Planner, Value};
 use std::alloc::Global;
 use table_in::Table;
 
@@ -55,8 +58,8 @@ impl SectionBook {
         if has_test(script) {
             check_text(script, table)?;
         }
-        let mut planner = Planner::new(alloc, script)?;
-        let at = planner.run(alloc, script, table, 0)?;
+        let mut planner = at_start(alloc, script)?;
+        let at = run(&mut planner, alloc, script, table, 0)?;
         Ok(SectionBook { planner, at })
     }
 
@@ -110,7 +113,7 @@ impl SectionBook {
     {
         let test = self.test(script);
         let jobs_before = self.planner.jobs_before;
-        let plan = self.planner.finish(alloc, names)?;
+        let plan = finish(&mut self.planner, alloc, names)?;
         Ok(Section {
             plan,
             jobs_before,
@@ -133,7 +136,7 @@ impl SectionBook {
                 value,
                 ..
             } => Some(Test {
-                at: self.planner.reference_of(*name),
+                at: reference_of(&self.planner, *name),
                 sign: *sign,
                 bound: *value,
             }),
@@ -162,10 +165,10 @@ impl SectionBook {
             → AreLeft cells carried len
             → IsPlannedFrom self.new script.now (columns_of table.now) from) }
     {
-        self.planner.begin(cells, kernels)?;
+        begin(&mut self.planner, cells, kernels)?;
         let statement = &script.statements[self.at as usize];
         self.planner.passing = passed_after(&statement.act, held);
-        match self.planner.run(alloc, script, table, self.at + 1) {
+        match run(&mut self.planner, alloc, script, table, self.at + 1) {
             Ok(at) => {
                 self.at = at;
                 Ok(())
@@ -192,22 +195,44 @@ fn passed_after(act: &Order, held: bool) -> u32
 {
     match act {
         Order::When { count, .. } if !held => *count,
-        _ => 0,
+        Order::Array { .. }
+        | Order::Column { .. }
+        | Order::List { .. }
+        | Order::Reference { .. }
+        | Order::Map { .. }
+        | Order::Stream { .. }
+        | Order::Slice { .. }
+        | Order::View { .. }
+        | Order::Copy { .. }
+        | Order::Set { .. }
+        | Order::Add { .. }
+        | Order::Put { .. }
+        | Order::Remove { .. }
+        | Order::Clear { .. }
+        | Order::SetCapacity { .. }
+        | Order::Schedule(_)
+        | Order::Combine { .. }
+        | Order::Complete { .. }
+        | Order::CompleteAuto { .. }
+        | Order::Dispose { .. }
+        | Order::DisposeAuto { .. }
+        | Order::Print { .. }
+        | Order::Flush
+        | Order::Frame
+        | Order::When { .. } => 0,
     }
 }
 
-impl Planner {
-    /// Where the reference of a name lies.
-    fn reference_of(&self, name: u32) -> RefAt
-        requires { (at : RefAt) × IsReferenceOf self.now name at }
-        ensures { IsReferenceOf self.now name result }
-    {
-        match self.values[name as usize] {
-            Value::Whole(number) => match self.containers[number as usize].bind {
-                Bind::Ref(at) => at,
-                _ => unreachable!(),
-            },
+/// Where the reference of a name lies.
+fn reference_of(planner: &Planner, name: u32) -> RefAt
+    requires { (at : RefAt) × IsReferenceOf planner.now name at }
+    ensures { IsReferenceOf planner.now name result }
+{
+    match planner.values[name as usize] {
+        Value::Whole(number) => match planner.containers[number as usize].bind {
+            Bind::Ref(at) => at,
             _ => unreachable!(),
-        }
+        },
+        _ => unreachable!(),
     }
 }

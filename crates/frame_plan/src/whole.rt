@@ -5,13 +5,13 @@ ghost use Rattle.frame_ast.specs.Accepted.{IsAccepted, is_when};
 ghost use Rattle.frame_ast.specs.Limits.{limit_of};
 ghost use Rattle.frame_ast.specs.Orders.{setting};
 ghost use Rattle.frame_plan.specs.Sections.{limit_told, IsPlanOf};
-ghost use Rattle.frame_plan.specs.Tables.{columns_of};
+ghost use Rattle.plan_statements.specs.Tables.{columns_of};
 
 use crate::section::Section;
 use crate::sections::{SectionBook, names_of};
-use crate::state::PlanFault;
 use frame_ast::script::Script;
 use frame_core::Plan;
+use plan_state::PlanFault;
 use std::alloc::Global;
 use table_in::Table;
 

@@ -3,7 +3,7 @@ ghost use Rattle.std.specs.Prelude.{◌≡◌, ◌<◌, true, length, IfOk};
 ghost use Rattle.job_base.specs.Cells.{cells_of};
 ghost use Rattle.frame_ast.specs.Accepted.{IsAccepted};
 ghost use Rattle.frame_ast.specs.Orders.{compares};
-ghost use Rattle.frame_plan.specs.Tables.{columns_of};
+ghost use Rattle.plan_statements.specs.Tables.{columns_of};
 ghost use Rattle.frame_rows.specs.Between.{IsBetween};
 
 use crate::boards::run_plan;

@@ -1,5 +1,5 @@
 use Rattle.std.proofs.Common.{true, refl}
-use Rattle.frame_plan.proofs.CompletedJobs.{one_more}
+use Rattle.plan_statements.proofs.CompletedJobs.{one_more}
 use Rattle.frame_plan.proofs.finishing.all_jobs.Goals as goal
 
 pub loop-j-preserved : goal.loop-j-preserved

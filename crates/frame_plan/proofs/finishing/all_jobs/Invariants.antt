@@ -1,5 +1,5 @@
 use Rattle.std.proofs.Common.{◌≡◌}
-use Rattle.frame_plan.specs.Growth.{first_jobs}
+use Rattle.plan_state.specs.Growth.{first_jobs}
 use Rattle.frame_plan.proofs.finishing.all_jobs.Given as goal
 
 abbrev pub invariant-loop-j : goal.invariant-loop-j

@@ -1,7 +1,7 @@
 use Rattle.std.proofs.Common.{◌+◌, ◌≤◌, sym, ◌∙◌, arith}
 use Rattle.job_base.specs.declared.limits.TheConstants.{MOST_JOBS, MOST_CREATED_WORDS}
 use Rattle.frame_ast.specs.Orders.{setting}
-use Rattle.frame_plan.specs.Tables.{columns_of}
+use Rattle.plan_statements.specs.Tables.{columns_of}
 use Rattle.frame_plan.proofs.Limiting.{text_jobs, text_words, text_on}
 use Rattle.frame_plan.proofs.limits.check_text.Goals as goal
 

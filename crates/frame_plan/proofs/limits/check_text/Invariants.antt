@@ -2,7 +2,7 @@ use Rattle.std.proofs.Common.{◌≡◌, ◌≤◌, drop}
 use Rattle.job_base.specs.declared.limits.TheConstants.{MOST_JOBS, MOST_CREATED_WORDS}
 use Rattle.frame_ast.specs.Limits.{limit_by_text}
 use Rattle.frame_ast.specs.Orders.{setting}
-use Rattle.frame_plan.specs.Tables.{columns_of}
+use Rattle.plan_statements.specs.Tables.{columns_of}
 use Rattle.frame_plan.proofs.limits.check_text.Given as goal
 
 abbrev pub invariant-loop-statement : goal.invariant-loop-statement

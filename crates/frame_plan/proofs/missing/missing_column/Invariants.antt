@@ -1,6 +1,6 @@
 use Rattle.std.proofs.Common.{◌≡◌, drop}
 use Rattle.frame_plan.specs.Missing.{missing_from}
-use Rattle.frame_plan.specs.Tables.{columns_of}
+use Rattle.plan_statements.specs.Tables.{columns_of}
 use Rattle.frame_plan.proofs.missing.missing_column.Given as goal
 
 abbrev pub invariant-loop-i : goal.invariant-loop-i

@@ -1,5 +1,5 @@
 use Rattle.std.proofs.Common.{pos}
-use Rattle.frame_plan.specs.Tables.{columns_of}
+use Rattle.plan_statements.specs.Tables.{columns_of}
 use Rattle.frame_plan.proofs.Handing.{plan_is}
 use Rattle.frame_plan.proofs.whole.plan.Goals as goal
 

@@ -1,4 +1,4 @@
-use Rattle.frame_plan.specs.Tables.{columns_of}
+use Rattle.plan_statements.specs.Tables.{columns_of}
 use Rattle.frame_rows.specs.Between.{IsBetween}
 use Rattle.frame_rows.proofs.outcomes.outcomes_with.Given as goal
 

@@ -2,10 +2,10 @@ use Rattle.std.proofs.Common.{◌≡◌, ◌⊎◌, inl, inr, [], refl, sym, ◌
 use Rattle.frame_ast.specs.Limits.{limit_of}
 use Rattle.frame_ast.specs.Orders.{setting}
 use Rattle.frame_ast.specs.States.{at_start}
-use Rattle.frame_plan.specs.declared.state.PlanFault.TheVariants.{NoMemory}
+use Rattle.plan_state.specs.declared.state.PlanFault.TheVariants.{NoMemory}
 use Rattle.frame_plan.specs.Sections.{limit_told}
-use Rattle.frame_plan.specs.Steps.{state_at}
-use Rattle.frame_plan.specs.Tables.{columns_of}
+use Rattle.plan_state.specs.Steps.{state_at}
+use Rattle.plan_statements.specs.Tables.{columns_of}
 use Rattle.frame_plan.proofs.Acting.{err_is}
 use Rattle.frame_plan.proofs.Handing.{IsAsked, limit_fails, limit_none, first_later}
 use Rattle.frame_plan.proofs.Passing.{stands_within}
@@ -34,7 +34,7 @@ returns-clause-within c =
       | else-has_test w ↦ inr (sym c.has_test.ensures ∙ w.if-has_test.false)
     ] in
     let ran = c.in_ok-at.ensures.ran at_start [] (c.in_ok-planner.ensures t).stands in
-    limit_none c.args.script.now t c.in_ok-at.at asked ran.stops (stands_within c.run.new.self (setting c.args.script.now t) at_start c.in_ok-at.at
+    limit_none c.args.script.now t c.in_ok-at.at asked ran.stops (stands_within c.run.new.planner (setting c.args.script.now t) at_start c.in_ok-at.at
     (state_at c.args.script.now t c.in_ok-at.at) ran.gone.more ran.gone.stands)
 
 pub returns-clause-at : goal.returns-clause-at
@@ -48,7 +48,7 @@ returns-clause-at c carried len =
     record {
       accepted = c.requires.accepted;
       within = limit_none c.args.script.now t c.in_ok-at.at asked ran.stops
-          (stands_within c.run.new.self (setting c.args.script.now t) at_start c.in_ok-at.at
+          (stands_within c.run.new.planner (setting c.args.script.now t) at_start c.in_ok-at.at
           (state_at c.args.script.now t c.in_ok-at.at) ran.gone.more ran.gone.stands);
       found = ran.gone.more;
       stands = ran.gone.stands;

@@ -5,7 +5,7 @@ use Rattle.frame_core.proofs.Small.{none_some}
 use Rattle.merge_laws.specs.Graph.{Cells}
 use Rattle.frame_plan.specs.declared.sections.SectionBook.{SectionBook}
 use Rattle.frame_plan.specs.Sections.{IsAt, IsBetween, IsOutcome}
-use Rattle.frame_plan.specs.Tables.{columns_of}
+use Rattle.plan_statements.specs.Tables.{columns_of}
 use Rattle.frame_plan.proofs.sections.SectionBook.next.Goals as goal
 
 -- where there is an answer, the book stands at a test

@@ -8,8 +8,8 @@ use Rattle.frame_ast.specs.States.{ScriptState}
 use Rattle.frame_plan.specs.declared.section.Test.{Test}
 use Rattle.frame_plan.specs.References.{IsOfTest, IsTestFor}
 use Rattle.frame_plan.specs.Runs.{IsActingTest, IsStop}
-use Rattle.frame_plan.specs.Steps.{state_at}
-use Rattle.frame_plan.proofs.Accessing.{read_some}
+use Rattle.plan_state.specs.Steps.{state_at}
+use Rattle.plan_state.proofs.Accessing.{read_some}
 use Rattle.frame_plan.proofs.References.{reference}
 use Rattle.frame_plan.proofs.sections.SectionBook.test.Goals as goal
 

@@ -1,6 +1,0 @@
-use Rattle.std.proofs.Common.{◌≡◌, take, drop}
-use Rattle.frame_plan.specs.Causes.{alias_after, alias_of}
-use Rattle.frame_plan.proofs.causes.first_alias.Given as goal
-
-abbrev pub invariant-loop-i : goal.invariant-loop-i
-invariant-loop-i l = alias_after (take l.i l.uses) (drop l.i l.uses) ≡ alias_of l.uses

@@ -1,0 +1,38 @@
+use Rattle.std.proofs.Common.{◌≡◌, length, None, refl, ap, ◌∙◌, arith}
+use Rattle.std.specs.Prelude.{replicate}
+use Rattle.plan_state.specs.declared.state.Value.TheVariants.{Dead}
+use Rattle.frame_plan.proofs.Starting.{begun_new}
+use Rattle.frame_plan.proofs.planner.at_start.Goals as goal
+
+pub returns : goal.returns
+returns c table =
+    let names : c.len.result ≡ length c.args.script.now.names.items = (let e = c.len.ensures in let l = c.args.script.now.names.ok.0 in omega arith) in
+    let kernels : c.len-2.result ≡ length c.args.script.now.kernels.items =
+    (let e = c.len-2.ensures in let l = c.args.script.now.kernels.ok.0 in omega arith) in
+    let guards : c.len-3.result ≡ length c.args.script.now.kernels.items = (let e = c.len-3.ensures in let l = c.args.script.now.kernels.ok.0 in omega arith) in
+    begun_new c.args.script.now table _ (record {
+      values = c.in_ok-dead_values.ensures ∙ ap (λ n. replicate n Dead) names;
+      handles = c.new.ensures.items;
+      containers = c.new-2.ensures.items;
+      temps = c.new-3.ensures.items;
+      tempjobs = c.new-4.ensures.items;
+      overdue = refl;
+      frame = refl;
+      jobs = c.in_ok-new.ensures;
+      places = c.in_ok-new-3.ensures.places;
+      live = c.in_ok-new-3.ensures.live;
+      used = c.in_ok-new-3.ensures.used;
+      peak = c.in_ok-new-3.ensures.peak;
+      created = refl;
+      passing = refl;
+      before = refl;
+      kernels = c.in_ok-no_copies.ensures ∙ ap (λ n. replicate n None) kernels;
+      guards = c.in_ok-no_copies-2.ensures ∙ ap (λ n. replicate n None) guards;
+      plan_kernels = c.none.ensures.kernels;
+      literals = c.none.ensures.literals;
+      segments = c.none.ensures.segments;
+      plan_jobs = c.none.ensures.jobs;
+      waits = c.none.ensures.waits;
+      ops = c.none.ensures.ops;
+      pieces = c.none.ensures.pieces;
+    })

@@ -1,6 +1,0 @@
-use Rattle.std.proofs.Common.{◌≡◌, ◌++◌, drop}
-use Rattle.frame_plan.specs.Uses.{tags_of}
-use Rattle.frame_plan.proofs.scheduling.tags.Given as goal
-
-abbrev pub invariant-loop-i : goal.invariant-loop-i
-invariant-loop-i l = l.tags.items ++ tags_of (drop l.i l.uses) ≡ tags_of l.uses

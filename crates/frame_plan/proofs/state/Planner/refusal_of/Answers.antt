@@ -1,8 +1,0 @@
-use Rattle.frame_plan.proofs.Accessing.{none_up_to}
-use Rattle.frame_plan.proofs.state.Planner.refusal_of.Goals as goal
-
-pub check_write-answer-requires : goal.check_write-answer-requires
-check_write-answer-requires c = none_up_to _ _ c.empty-deps.ensures
-
-pub check_read-answer-requires : goal.check_read-answer-requires
-check_read-answer-requires c = none_up_to _ _ c.empty-deps.ensures

@@ -1,0 +1,43 @@
+// A section begins after a test, with the words that the sections before it left.
+ghost use Rattle.std.specs.Prelude.{◌≡◌, ◌≤◌, ℤ, List, OnOk, length};
+ghost use Rattle.job_base.specs.Cells.{cells_of, cell_list};
+ghost use Rattle.frame_plan.specs.Resuming.{IsResumed, IsToResume};
+
+use frame_ast::kernel::Kernel;
+use frame_core::Act;
+use job_base::{FlatMem, NoMemory, Span};
+use plan_state::Planner;
+
+/// A section begins: its first operation gives the words so far what the last section left. `kernels` are those of
+/// the plan before, so the copies that it had are there.
+pub(crate) fn begin(
+    planner: &mut Planner,
+    cells: FlatMem,
+    kernels: Vec<Kernel>,
+) -> Result<(), NoMemory>
+    requires left { IsToResume planner.old cells }
+    ensures resumed { OnOk result (IsResumed kernels.items planner.old planner.new cells) }
+{
+    let len = planner.store.peak();
+    planner.jobs_before = planner.jobs.count();
+    planner.plan.kernels = kernels;
+    planner.plan.literals.push(first_cells(cells, len))?;
+    planner.push(
+        0,
+        0,
+        Act::Fill {
+            span: Span { start: 0, len },
+            literal: Some(0),
+        },
+    )
+}
+
+/// The first cells of a memory, in its own list: none is moved.
+fn first_cells(cells: FlatMem, len: u32) -> Vec<i64>
+    requires { len ≤ length cells }
+    ensures { result.items ≡ cell_list (cells_of cells) 0 len }
+{
+    let mut list = cells.into_cells();
+    list.truncate(len as usize);
+    list
+}

@@ -1,0 +1,152 @@
+-- The copies of kernels after one more was asked for: each is in its place, and the guarded copies too.
+use Rattle.std.proofs.Common.{◌≡◌, ⊎_elim, ℕ, zero, suc, ◌+◌, ◌≤◌, List, [], ◌∷◌, ◌++◌, length, Option, Some, sym, ap, subst, ◌∙◌, arith, append_assoc}
+use Rattle.std.specs.Prelude.{Vec, slice_get}
+use Rattle.std.specs.declared.alloc.Global.{Global}
+use Rattle.std.proofs.lemmas.List.{length-append}
+use Rattle.frame_ast.specs.declared.kernel.Kernel.{Kernel}
+use Rattle.frame_ast.specs.declared.script.Script.{Script}
+use Rattle.frame_ast.specs.Checked.{IsChecked}
+use Rattle.frame_ast.specs.Orders.{Setting}
+use Rattle.frame_core.proofs.Small.{some_is, none_some, get_below, get_before, get_behind, get_either}
+use Rattle.tree_laws.specs.Same.{SameKernel}
+use Rattle.tree_laws.proofs.Checks.{same_kernels_are_checked}
+use Rattle.plan_state.specs.declared.state.Planner.{Planner}
+use Rattle.plan_state.specs.Stands.{AreKernels, IsCopy}
+use Rattle.plan_schedules.specs.Starting.{IsCopied, IsCopiedAnew}
+use Rattle.plan_state.proofs.Naming.{set_either, set_long}
+
+-- nothing but the copies and their places changes
+pub moved : (script : Script) (p middle : Planner) (kernel place : ℕ) → IsCopied script p middle kernel place
+    → middle ≡ record p { kernels = middle.kernels; plan = record p.plan { kernels = middle.plan.kernels } }
+moved script p middle kernel place copied = ⊎_elim
+    (λ l. l.1 ∙ ap (λ (m : Planner). record p { kernels = m.kernels; plan = record p.plan { kernels = m.plan.kernels } }) (sym l.1))
+    (λ r. r.rest)
+    copied
+
+module _ (script : Script) (g : Setting) (is_g : g.kernels ≡ script.kernels.items) (p middle : Planner) (kernel place : ℕ) (ks : AreKernels p g)
+    (copied : IsCopied script p middle kernel place)
+    (source : Kernel) (has_source : slice_get script.kernels.items kernel ≡ Some source) (checked : IsChecked source) where
+  -- the copies so far keep their places
+  grown : (k : ℕ) (it : Kernel) → slice_get p.plan.kernels.items k ≡ Some it → slice_get middle.plan.kernels.items k ≡ Some it
+  grown k it h = ⊎_elim
+      (λ l. ap (λ (m : Planner). slice_get m.plan.kernels.items k) l.1 ∙ h)
+      (λ r.
+      ap (λ xs. slice_get xs k) r.copies
+      ∙ get_before p.plan.kernels.items (r.copy ∷ []) k (get_below p.plan.kernels.items k it h) ∙ h)
+      copied
+
+  pub record HasCopy : Type 0 where
+    pub copy : Kernel
+    pub here : slice_get middle.plan.kernels.items place ≡ Some copy
+    pub same : SameKernel source copy
+
+  pub has_copy : HasCopy
+  has_copy = ⊎_elim
+      (λ l.
+      let c = ks.copies kernel place l.0 in
+      record {
+        copy = c.new;
+        here = grown place c.new c.is_new;
+        same = subst (λ (k : Kernel). SameKernel k c.new) (some_is (sym c.is_old ∙ ap (λ ks. slice_get ks kernel) is_g ∙ has_source)) c.same;
+      })
+      (λ r. record {
+        copy = r.copy;
+        here =
+            ap (λ xs. slice_get xs place) r.copies
+            ∙ (let e : place ≡ length p.plan.kernels.items + 0 = (let l = r.last in omega arith) in
+            ap (slice_get (p.plan.kernels.items ++ r.copy ∷ [])) e)
+            ∙ get_behind p.plan.kernels.items (r.copy ∷ []) 0;
+        same = subst (λ (k : Kernel). SameKernel k r.copy) (some_is (sym r.is_source ∙ has_source)) r.same;
+      })
+      copied
+
+  pub copies_few : length middle.plan.kernels.items ≤ suc (length p.plan.kernels.items)
+  copies_few = ⊎_elim
+      (λ l. let e : length middle.plan.kernels.items ≡ length p.plan.kernels.items = ap (λ (m : Planner). length m.plan.kernels.items) l.1 in omega arith)
+      (λ r.
+      let e : length middle.plan.kernels.items ≡ length p.plan.kernels.items + 1 = ap length r.copies
+      ∙ length-append p.plan.kernels.items (r.copy ∷ []) in
+      omega arith)
+      copied
+
+  -- what a whole plan has after them, it has after those so far
+  pub kernels_later : (all : List Kernel) → (rest : List Kernel) × (all ≡ middle.plan.kernels.items ++ rest)
+      → (rest : List Kernel) × (all ≡ p.plan.kernels.items ++ rest)
+  kernels_later all r = ⊎_elim
+      (λ l. (r.0, r.1 ∙ ap (λ (m : Planner). m.plan.kernels.items ++ r.0) l.1))
+      (λ a. (
+        a.copy ∷ r.0,
+        r.1 ∙ ap (λ xs. xs ++ r.0) a.copies ∙ append_assoc p.plan.kernels.items (a.copy ∷ []) r.0,
+      ))
+      copied
+
+  -- of a planner that has them
+  pub kernels_stand : (q : Planner) → q.kernels ≡ middle.kernels → q.plan.kernels ≡ middle.plan.kernels → q.guards ≡ p.guards → AreKernels q g
+  kernels_stand q kernels copies guards = record {
+    each = ap (λ (v : Vec (Option ℕ) Global). length v.items) kernels ∙ long ∙ ks.each;
+    each_guard = ap (λ (v : Vec (Option ℕ) Global). length v.items) guards ∙ ks.each_guard;
+    copies = λ k at h. copy_at k at (ap (λ (v : Vec (Option ℕ) Global). slice_get v.items k) (sym kernels) ∙ h);
+    guards = λ k at h.
+        let c = ks.guards k at (ap (λ (v : Vec (Option ℕ) Global). slice_get v.items k) (sym guards) ∙ h) in
+        record {
+          old = c.old;
+          new = c.new;
+          is_old = c.is_old;
+          is_new = there at c.new (grown at c.new c.is_new);
+          guarded = c.guarded;
+          contents = c.contents;
+          words = c.words;
+          footprint = c.footprint;
+        };
+    checked = λ at k h. all_checked at k (ap (λ (v : Vec Kernel Global). slice_get v.items at) (sym copies) ∙ h);
+  }
+    where
+      there : (at : ℕ) (it : Kernel) → slice_get middle.plan.kernels.items at ≡ Some it → slice_get q.plan.kernels.items at ≡ Some it
+      there at it h = ap (λ (v : Vec Kernel Global). slice_get v.items at) copies ∙ h
+
+      long : length middle.kernels.items ≡ length p.kernels.items
+      long = ⊎_elim
+          (λ l. ap (λ (m : Planner). length m.kernels.items) l.1)
+          (λ r. ap length r.kernels ∙ set_long p.kernels.items kernel (Some place))
+          copied
+
+      old_copy : (k at : ℕ) → slice_get p.kernels.items k ≡ Some (Some at) → IsCopy q g k at
+      old_copy k at h = (let c = ks.copies k at h in record {
+        old = c.old;
+        new = c.new;
+        is_old = c.is_old;
+        is_new = there at c.new (grown at c.new c.is_new);
+        same = c.same;
+      })
+
+      new_copy : IsCopy q g kernel place
+      new_copy = (let c = has_copy in record {
+        old = source;
+        new = c.copy;
+        is_old = ap (λ ks. slice_get ks kernel) is_g ∙ has_source;
+        is_new = there place c.copy c.here;
+        same = c.same;
+      })
+
+      copy_at : (k at : ℕ) → slice_get middle.kernels.items k ≡ Some (Some at) → IsCopy q g k at
+      copy_at k at h = ⊎_elim
+          (λ l. old_copy k at (ap (λ (m : Planner). slice_get m.kernels.items k) (sym l.1) ∙ h))
+          (λ r. ⊎_elim
+          (λ e. subst (λ k. IsCopy q g k at) (sym e.0) (subst (λ at. IsCopy q g kernel at) (sym (some_is e.1)) new_copy))
+          (λ e. old_copy k at e.1)
+          (set_either p.kernels.items kernel (Some place) k (Some at) (ap (λ xs. slice_get xs k) (sym r.kernels) ∙ h)))
+          copied
+
+      all_checked : (at : ℕ) (k : Kernel) → slice_get middle.plan.kernels.items at ≡ Some k → IsChecked k
+      all_checked at k h = ⊎_elim
+          (λ l. ks.checked at k (ap (λ (m : Planner). slice_get m.plan.kernels.items at) (sym l.1) ∙ h))
+          (λ r. ⊎_elim
+          (λ e. ks.checked at k e.1)
+          (λ e. last r e.0 e.2)
+          (get_either p.plan.kernels.items (r.copy ∷ []) at k (ap (λ xs. slice_get xs at) (sym r.copies) ∙ h)))
+          copied
+        where
+          last : (r : IsCopiedAnew script p middle kernel place) (i : ℕ) → slice_get (r.copy ∷ []) i ≡ Some k → IsChecked k
+          last r zero e = subst IsChecked (some_is e) (same_kernels_are_checked source r.copy
+              (subst (λ (k : Kernel). SameKernel k r.copy) (some_is (sym r.is_source ∙ has_source)) r.same) checked)
+          last r (suc i) e = absurd (none_some e)

@@ -1,0 +1,227 @@
+-- What a schedule with `defer` is ready for, and that it goes on, refused or not.
+use Rattle.std.proofs.Common.{◌≡◌, ℕ, suc, ◌^◌, ◌<◌, ◌≤◌, inr, Bool, List, [], ◌∷◌, ◌++◌, length, get_or, All, Some, None, refl, sym, ap, subst, ◌∙◌, arith}
+use Rattle.std.specs.Prelude.{Box, slice_get, vec_len}
+use Rattle.std.specs.declared.alloc.Global.{Global}
+use Rattle.job_base.specs.declared.limits.TheConstants.{MOST_INDEXES}
+use Rattle.frame_ast.specs.declared.kernel.Kernel.{Kernel}
+use Rattle.frame_ast.specs.declared.kernel.Param.{Param}
+use Rattle.frame_ast.specs.declared.script.Arg.{Arg}
+use Rattle.frame_ast.specs.declared.script.Script.{Script}
+use Rattle.frame_ast.specs.declared.script.Statement.{Statement}
+use Rattle.frame_ast.specs.Checks.{refusal}
+use Rattle.frame_ast.specs.Jobs.{Jobs, nobody}
+use Rattle.frame_ast.specs.Laws.{AreUpTo}
+use Rattle.frame_ast.specs.Orders.{Table, Setting, setting, kernel_parallel, is_parallel}
+use Rattle.frame_ast.specs.Refusals.{Refused, jobs_named, schedule_refusal}
+use Rattle.frame_ast.specs.Schedules.{given_args}
+use Rattle.frame_ast.specs.States.{ScriptState}
+use Rattle.frame_ast.proofs.Known.{named_among}
+use Rattle.job_handle.specs.declared.handle.Handle.{Handle}
+use Rattle.job_handle.specs.Books.{count_of}
+use Rattle.job_handle.specs.Sets.{jobs_of}
+use Rattle.safety_handle.specs.Entries.{state_of}
+use Rattle.auto_deps.specs.Needs.{conflicting_with}
+use Rattle.frame_core.specs.declared.plan.Act.TheVariants.{Say}
+use Rattle.frame_core.proofs.Small.{some_is, get_below}
+use Rattle.plan_schedules.specs.declared.causes.Cause.{Cause}
+use Rattle.plan_state.specs.declared.state.PlanFault.{PlanFault}
+use Rattle.plan_state.specs.declared.state.PlanFault.TheVariants.{Jobs as TooManyJobs, Words, NoMemory}
+use Rattle.plan_state.specs.declared.state.Planner.{Planner}
+use Rattle.plan_schedules.specs.declared.uses.NamedUse.{NamedUse}
+use Rattle.plan_state.specs.Accesses.{IsPushed, HasHandle, jobs_by}
+use Rattle.plan_schedules.specs.Causes.{as_refused}
+use Rattle.plan_schedules.specs.Deferring.{IsLengthUse, IsGuardedRun, MayBeGuarded, deferred_refusal, noted_uses, with_length}
+use Rattle.plan_schedules.specs.Noting.{MayNoteAll}
+use Rattle.plan_schedules.specs.Starting.{AreDeps, IsFull, IsScheduled}
+use Rattle.plan_schedules.specs.declared.accepting.Run.{Run}
+use Rattle.plan_state.specs.Steps.{state_at, state_after, IsStep, StandsAt, HasStepped, PassesLimit}
+use Rattle.plan_schedules.specs.Uses.{ForNames, IsUse, IsNameBelow, tags_of}
+use Rattle.plan_schedules.proofs.Meaning as meaning
+use Rattle.plan_schedules.proofs.Deferred.Meaning as lengths
+use Rattle.plan_schedules.proofs.Deferred.Choosing.{deferred_refusal_is}
+use Rattle.plan_schedules.proofs.Deferred.Meaning.{length_value}
+use Rattle.plan_schedules.proofs.Needs as waiting
+use Rattle.plan_schedules.proofs.CauseNames.{uses_named, deferred_named}
+use Rattle.plan_schedules.proofs.Scheduled.{accepted_is}
+use Rattle.plan_schedules.proofs.Deferred.Started as started
+use Rattle.plan_schedules.proofs.Deferred.Texts as text
+use Rattle.plan_schedules.proofs.Deferred.Texts.{IsDeferredText, deferred_text}
+use Rattle.plan_state.proofs.Naming.{jobs_are}
+use Rattle.plan_state.proofs.Reaching.{statements_few}
+use Rattle.plan_state.proofs.Restating.{accepted_state, said_nobody}
+use Rattle.plan_schedules.proofs.Texts.{all_below, each_lower}
+use Rattle.frame_ast.specs.declared.script.NewJob.{NewJob}
+
+module _ (script : Script) (table : Table) (begun : ScriptState) (n : ℕ) (found : List ℕ) (line : ℕ) (home : Box NewJob Global) (asked : NewJob)
+    (list batch : ℕ) where
+  abbrev g : Setting
+  g = setting script table
+
+  abbrev s : ScriptState
+  s = state_at script table n
+
+  abbrev pub x : Statement
+  x = text.x script table n line home asked list batch
+
+  module _ (step : IsStep script table n x) (p : Planner) (st : StandsAt p script table begun n found) where
+    abbrev the_text : IsDeferredText script table n line home asked list batch step
+    the_text = deferred_text script table n line home asked list batch step
+
+    values_long : vec_len p.values ≡ length g.names
+    values_long = let len = p.values.ok.0 in let e = st.each in omega arith
+
+    pub handle_below : asked.handle < vec_len p.values
+    handle_below = let lt = the_text.handle_below in let e = values_long in omega arith
+
+    pub list_below : list < vec_len p.values
+    list_below = let lt = the_text.list_below in let e = values_long in omega arith
+
+    pub kernel_below : asked.kernel < vec_len script.kernels
+    kernel_below = let lt = get_below script.kernels.items asked.kernel the_text.source the_text.has in let len = script.kernels.ok.0 in omega arith
+
+    pub after_below : (names : List ℕ) → names ≡ asked.after.items → (k d : ℕ) → k < length names → get_or names k d < vec_len p.values
+    after_below names e = subst (λ ns. (k d : ℕ) → k < length ns → get_or ns k d < vec_len p.values) (sym e)
+        (λ k d lt. let low = the_text.after_below k d lt in let e = values_long in omega arith)
+
+    pub each_arg : (given : List Arg) (params : List Param) (source : Kernel) → given ≡ asked.args.items → params ≡ source.params.items
+        → slice_get script.kernels.items asked.kernel ≡ Some source → length given ≡ length params
+    each_arg given params source e f at =
+        ap length e ∙ the_text.each ∙ ap (λ (k : Kernel). length k.params.items) (some_is (sym the_text.has ∙ at)) ∙ sym (ap length f)
+
+    pub few_args : (given : List Arg) → given ≡ asked.args.items → length given ≤ 16
+    few_args given e = let few = the_text.few in let l = ap length e in omega arith
+
+    pub args_below : (given : List Arg) → given ≡ asked.args.items → All (IsNameBelow (vec_len p.values)) given
+    args_below given e = subst (All (IsNameBelow (vec_len p.values))) (sym e)
+        (all_below (vec_len p.values) asked.args.items (each_lower (length g.names) (vec_len p.values)
+        (let e = values_long in omega arith) asked.args.items the_text.below))
+
+    pub handles_few : vec_len p.handles < 2 ^ 32
+    handles_few = let few = st.numbers.handles_few in let lt = statements_few script table n x step in let len = p.handles.ok.0 in omega arith
+
+    pub copies_few : vec_len p.plan.kernels < 2 ^ 32
+    copies_few = let few = st.numbers.kernels_few in let lt = statements_few script table n x step in let len = p.plan.kernels.ok.0 in omega arith
+
+    pub guardable : (source : Kernel) → slice_get script.kernels.items asked.kernel ≡ Some source → MayBeGuarded source
+    guardable source at = subst MayBeGuarded (some_is (sym the_text.has ∙ at)) the_text.guardable
+
+    pub batch_fit : (1 ≤ batch) × (batch ≤ MOST_INDEXES)
+    batch_fit = the_text.batch_fit
+
+    count_is : count_of p.jobs ≡ s.book.count
+    count_is = st.jobs.count
+
+    -- ---- the named jobs
+
+    module _ (named : Handle) (names : List ℕ) (names_are : names ≡ asked.after.items)
+        (are : (j : ℕ) → jobs_of named j ≡ jobs_by p.handles.items p.values.items names j) where
+      pub named_is : jobs_of named ≡ jobs_named s asked.after.items
+      named_is = λ i j.
+          (are j
+          ∙ jobs_are p s (length p.containers.items) st.names names (λ k d lt. let b = after_below names names_are k d lt in let len = p.values.ok.0 in
+          omega arith) j
+          ∙ ap (λ ns. jobs_named s ns j) names_are) i
+
+      pub named_up : AreUpTo (count_of p.jobs) (jobs_of named)
+      named_up j h =
+          let up = named_among s st.known asked.after.items j (sym (ap (λ f. f j) named_is) ∙ h) in
+          let e = count_is in (up.0, omega arith)
+
+      -- ---- the uses
+
+      module _ (source : Kernel) (at : slice_get script.kernels.items asked.kernel ≡ Some source) (params : List Param)
+          (params_are : params ≡ source.params.items) (given : List Arg) (given_is : given ≡ asked.args.items)
+          (uses : List NamedUse) (are_uses : ForNames (IsUse p (jobs_of named)) params given uses) (length_use : NamedUse)
+          (is_length : IsLengthUse p (jobs_of named) list length_use) where
+        in_text : ForNames (IsUse p (jobs_of named)) the_text.source.params.items asked.args.items uses
+        in_text =
+            subst (λ qs. ForNames (IsUse p (jobs_of named)) qs asked.args.items uses)
+            (params_are ∙ ap (λ (k : Kernel). k.params.items) (some_is (sym at ∙ the_text.has)))
+            (subst (λ as_. ForNames (IsUse p (jobs_of named)) params as_ uses) given_is are_uses)
+
+        module _ (parallel : Bool) (parallel_is : parallel ≡ source.parallel) where
+          pub refusal_as : as_refused (deferred_refusal uses length_use parallel asked.auto) ≡ refusal g s x.act
+          refusal_as =
+              deferred_refusal_is p s (jobs_of named) uses (given_args s the_text.source.params.items asked.args.items)
+              (meaning.uses_meant p g begun n s found st (jobs_of named) the_text.source.params.items asked.args.items uses in_text)
+              length_use list (lengths.length_meant p g begun n s found st (jobs_of named) list length_use is_length) parallel
+              asked.auto asked.after.items named_is
+              ∙ (λ i. schedule_refusal s (same_parallel i) asked.auto (same_givens i) asked.after.items)
+            where
+              same_parallel : parallel ≡ is_parallel g asked.kernel
+              same_parallel = parallel_is ∙ ap kernel_parallel (sym at)
+
+              same_givens : given_args s the_text.source.params.items asked.args.items ++ length_value s list
+                  ∷ [] ≡ Rattle.frame_ast.specs.Schedules.givens s (Rattle.frame_ast.specs.Orders.params_of g asked.kernel) asked.args.items
+                  (Some (list, batch))
+              same_givens = sym (ap (λ k. given_args s (Rattle.frame_ast.specs.Orders.kernel_params k) asked.args.items ++ length_value s list
+                  ∷ []) the_text.has)
+
+          -- refused
+          pub refused_on : (cause : Cause) → Some cause ≡ deferred_refusal uses length_use parallel asked.auto → (q : Planner)
+              → (said : Planner) × IsPushed p said (record { line = line; name = cause.name; act = Say cause.refusal }) × HasHandle said q asked.handle nobody
+              → HasStepped script table begun n found p q x
+          refused_on cause e q h =
+              let r : Refused = record { cause = cause.refusal; name = cause.name } in
+              let is : refusal g s x.act ≡ Some r = sym refusal_as ∙ ap as_refused (sym e) in
+              let below = deferred_named (length g.names) uses length_use parallel asked.auto
+              (uses_named p (jobs_of named) (length g.names) the_text.source.params.items asked.args.items uses in_text the_text.below)
+              (subst (λ k. k < length g.names) (sym is_length.named) the_text.list_below) cause (sym e) in
+              said_nobody script table begun n found x step r p st is below h.0 q asked.handle refl refl refl (inr (λ c. refl)) h.1 h.2
+
+          -- accepted
+          module _ (open_ : None ≡ deferred_refusal uses length_use parallel asked.auto) where
+            none : refusal g s x.act ≡ None
+            none = sym refusal_as ∙ ap as_refused (sym open_)
+
+            pub may_note_all : MayNoteAll (noted_uses uses length_use) (state_of p.safety)
+            may_note_all = started.may_note_all script table begun n found line home asked list batch step the_text p st uses length_use
+                (jobs_of named) named_is in_text is_length none
+
+            pub list_named : Rattle.plan_schedules.specs.Deferring.IsListName p list
+            list_named = started.list_named script table begun n found line home asked list batch step the_text p st uses length_use
+                (jobs_of named) named_is in_text is_length none
+
+            pub conflicts_up : AreUpTo (count_of p.jobs) (conflicting_with p.safety (tags_of (with_length uses length_use)))
+            conflicts_up j h =
+                let needs = waiting.needs_are p g begun n s found st (jobs_of named) (with_length uses length_use) _
+                (started.meant_all script table begun n found line home asked list batch step the_text p st uses length_use
+                (jobs_of named) named_is in_text is_length none)
+                (started.alive_all script table begun n found line home asked list batch step the_text p st uses length_use
+                (jobs_of named) named_is in_text is_length none) in
+                let up = waiting.needs_up s.book s.uses st.known.uses p.safety (tags_of (with_length uses length_use)) _ needs j h in
+                let e = count_is in (up.0, omega arith)
+
+            module _ (deps : Jobs) (are_deps : AreDeps asked.auto (jobs_of named) p.jobs p.safety (tags_of (with_length uses length_use)) deps) where
+              waits : deps ≡ Rattle.plan_laws.specs.Accepting.deps_of g s (started.o script table begun n found line home asked list batch)
+              waits = started.waits_are script table begun n found line home asked list batch step the_text p st uses length_use
+                  (jobs_of named) named_is in_text is_length none deps are_deps
+
+              pub deps_up : AreUpTo (count_of p.jobs) deps
+              deps_up j h =
+                  let up = started.waited_up script table begun n found line home asked list batch step the_text p st uses length_use
+                  (jobs_of named) named_is in_text is_length none j (sym (ap (λ f. f j) waits) ∙ h) in
+                  let e = count_is in (up.0, omega arith)
+
+              pub accepted_on : (mid q : Planner) (run : Run) (args : List Arg) (waived : List ℕ) (us : List NamedUse) → args ≡ asked.args.items
+                  → waived ≡ asked.waive.items → us ≡ noted_uses uses length_use
+                  → IsGuardedRun script p mid asked.kernel args waived list batch run → IsScheduled mid q asked.handle run us deps
+                  → HasStepped script table begun n found p q x
+              accepted_on mid q run args waived us e w u r d =
+                  started.goes_on script table begun n found line home asked list batch step the_text p st uses length_use
+                  (jobs_of named) named_is in_text is_length none mid q run
+                  (subst (λ as_. IsGuardedRun script p mid asked.kernel as_ asked.waive.items list batch run) e
+                  (subst (λ ws. IsGuardedRun script p mid asked.kernel args ws list batch run) w r))
+                  deps waits
+                  (subst (λ us. IsScheduled mid q asked.handle run us deps) u d)
+
+            -- there are all jobs already
+            pub fails : (fault : PlanFault) → IsFull fault (count_of p.jobs) → PassesLimit fault (state_after script table n x)
+            fails NoMemory h = tt
+            fails TooManyJobs h =
+                let e = count_is in
+                let is = accepted_state g s x step.acts none in
+                let books : (state_after script table n x).book.count ≡ suc s.book.count =
+                ap (λ (u : ScriptState). u.book.count) (is ∙ accepted_is g s (started.o script table begun n found line home asked list batch)) in
+                omega arith
+            fails Words h = absurd h

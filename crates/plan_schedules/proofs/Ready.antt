@@ -1,0 +1,236 @@
+-- What the parts of a schedule need, before a schedule of an accepted script.
+use Rattle.std.proofs.Common.{◌≡◌, ◌≢◌, inr, ⊎_elim, ℕ, zero, suc, ◌+◌, ◌*◌, ◌<◌, ◌≤◌, ◌^◌, Bool, true, false, ◌&&◌, ◌||◌, List, [], ◌∷◌, ◌++◌, length, get_or, All, Option, Some, None, Result, Ok, Err, refl, sym, ap, subst, ◌∙◌, arith, append-nil}
+use Rattle.std.specs.Prelude.{IfErr, Box, vec_len, nat_eq, nat_lt, slice_get, if◌then◌else◌}
+use Rattle.std.specs.Int.{div_ceil}
+use Rattle.std.specs.declared.alloc.Global.{Global}
+use Rattle.std.proofs.lemmas.Grind.{div_ceil_times}
+use Rattle.std.proofs.Math.Nat.{lt_of_mul-lt-mul_right}
+use Rattle.std.proofs.lemmas.Bool.{or_cases, and_parts, eqb-true, ltb-true}
+use Rattle.job_base.specs.declared.limits.TheConstants.{MOST_JOBS, MOST_PIECES}
+use Rattle.batch_cut.specs.Cuts.{count_of as cut_count}
+use Rattle.frame_ast.specs.declared.kernel.Kernel.{Kernel}
+use Rattle.frame_ast.specs.declared.script.Arg.{Arg}
+use Rattle.frame_ast.specs.declared.script.Script.{Script}
+use Rattle.frame_ast.specs.declared.script.Statement.{Statement}
+use Rattle.frame_ast.specs.Checks.{refusal}
+use Rattle.frame_ast.specs.Conflicts.{Uses, automatic}
+use Rattle.frame_ast.specs.Jobs.{Jobs, both, nobody}
+use Rattle.frame_ast.specs.Laws.{AreUpTo, AreUses}
+use Rattle.frame_ast.specs.Orders.{Setting, setting, kernel_params, kernel_parallel}
+use Rattle.frame_ast.specs.Refusals.{refused, jobs_named}
+use Rattle.frame_ast.specs.declared.kernel.Param.{Param}
+use Rattle.frame_ast.specs.Schedules.{Given, given_args, givens, writes_to}
+use Rattle.frame_ast.specs.States.{ScriptState}
+use Rattle.frame_ast.proofs.Ancestry.{greatest_below}
+use Rattle.frame_ast.proofs.Known.{named_among}
+use Rattle.job_handle.specs.Books.{count_of}
+use Rattle.safety_handle.specs.Entries.{state_of, conflicting_in}
+use Rattle.safety_handle.specs.Uses.{Latest, StandForUses}
+use Rattle.auto_deps.specs.Needs.{conflicting_with, AreNeeds}
+use Rattle.frame_core.specs.declared.plan.JobPlan.{JobPlan}
+use Rattle.frame_core.specs.Names.{pieces_of, pieces_before}
+use Rattle.frame_core.proofs.Small.{not_both, some_is, get_below}
+use Rattle.plan_laws.specs.Accepting.{deps_of}
+use Rattle.plan_schedules.specs.declared.causes.Cause.{Cause}
+use Rattle.plan_state.specs.declared.state.Planner.{Planner}
+use Rattle.plan_schedules.specs.declared.uses.NamedUse.{NamedUse}
+use Rattle.frame_core.specs.declared.plan.Act.TheVariants.{Say}
+use Rattle.plan_state.specs.declared.state.PlanFault.{PlanFault}
+use Rattle.plan_state.specs.declared.state.PlanFault.TheVariants.{Jobs as TooManyJobs, Words as TooManyWords, NoMemory}
+use Rattle.plan_state.specs.Accesses.{jobs_by, IsPushed, HasHandle}
+use Rattle.std.specs.List.{list_any}
+use Rattle.job_base.specs.declared.Refusal.{Refusal}
+use Rattle.job_base.specs.declared.Refusal.TheVariants.{Disposed, StaleView, NotParallel, Alias, Pending, TempInJob}
+use Rattle.frame_ast.specs.declared.script.Arg.TheVariants.{Name, Number}
+use Rattle.frame_ast.specs.Schedules.{alias}
+use Rattle.plan_schedules.specs.Noting.{MayNoteAll}
+use Rattle.plan_schedules.specs.Causes as causes
+use Rattle.plan_schedules.specs.Causes.{has_cause, first_with, alias_after, or_next, greatest_blocker, pending_of, refusal_by, as_refused}
+use Rattle.plan_schedules.specs.Starting.{AreDeps, IsFull, IsPlainRun, IsScheduled}
+use Rattle.plan_schedules.specs.declared.accepting.Run.{Run}
+use Rattle.plan_state.specs.Steps.{state_at, state_after, IsStep, StandsAt, HasStepped, PassesLimit}
+use Rattle.plan_schedules.specs.Uses.{given_of, AreNamesBelow, ForNames, IsUse, tags_by, tags_of}
+use Rattle.plan_schedules.proofs.CauseNames.{AreNamed, uses_named, refusal_named}
+use Rattle.plan_schedules.proofs.Choosing.{AreAlive, refusal_is}
+use Rattle.plan_schedules.proofs.PlainStarted as started
+use Rattle.plan_schedules.proofs.Meaning.{AreMeant, uses_meant}
+use Rattle.plan_state.proofs.Naming.{jobs_are}
+use Rattle.plan_schedules.proofs.Needs.{needs_up, needs_are, deps_are}
+use Rattle.plan_schedules.proofs.Notes.{needs}
+use Rattle.plan_state.proofs.Outlining as outlining
+use Rattle.plan_state.proofs.Reaching.{statements_few, within}
+use Rattle.plan_state.proofs.Restating.{accepted_state, said_nobody}
+use Rattle.plan_schedules.proofs.Rooms as rooms
+use Rattle.plan_schedules.proofs.Texts as texts
+use Rattle.plan_schedules.proofs.Texts.{IsText, all_below, each_lower}
+use Rattle.frame_ast.specs.declared.script.NewJob.{NewJob}
+
+pub if_err : {T E : Type 0} (r : Result T E) {P Q : E → Type 0} → ((e : E) → P e → Q e) → IfErr r P → IfErr r Q
+if_err (Ok x) f h = tt
+if_err (Err e) f h = f e h
+
+pub no_cause : (o : Option Cause) → ((c : Cause) → o ≡ Some c → ⊥) → o ≡ None
+no_cause None h = refl
+no_cause (Some c) h = absurd (h c refl)
+
+module _ (script : Script) (p : Planner) (line : ℕ) (home : Box NewJob Global) (asked : NewJob) where
+  abbrev pub x : Statement
+  x = texts.x script (λ c. None) 0 line home asked
+
+  module _ (table : Rattle.frame_ast.specs.Orders.Table) (begun : ScriptState) (n : ℕ) (found : List ℕ) (step : IsStep script table n x)
+      (st : StandsAt p script table begun n found) where
+    abbrev g : Setting
+    g = setting script table
+
+    abbrev s : ScriptState
+    s = state_at script table n
+
+    pub text : IsText script table n line home asked step
+    text = texts.text script table n line home asked step
+
+    pub kernel_below : asked.kernel < vec_len script.kernels
+    kernel_below = let lt = get_below script.kernels.items asked.kernel text.source text.has in let len = script.kernels.ok.0 in omega arith
+
+    pub source_at : (k : Kernel) → slice_get script.kernels.items asked.kernel ≡ Some k → text.source ≡ k
+    source_at k h = some_is (sym text.has ∙ h)
+
+    pub names_below : (xs : List Arg) → xs ≡ asked.args.items → AreNamesBelow (vec_len p.values) xs
+    names_below xs e = subst (AreNamesBelow (vec_len p.values)) (sym e)
+        (all_below (vec_len p.values) asked.args.items (each_lower (length g.names) (vec_len p.values)
+        (let each = st.each in let len = p.values.ok.0 in omega arith) asked.args.items text.below))
+
+    pub handle_below : asked.handle < vec_len p.values
+    handle_below = within p g begun n s found st asked.handle text.handle_below
+
+    pub handles_low : vec_len p.handles < 2 ^ 32
+    handles_low = let few = st.numbers.handles_few in let len = p.handles.ok.0 in let low = statements_few script table n x step in omega arith
+
+    pub copies_low : vec_len p.plan.kernels < 2 ^ 32
+    copies_low = let few = st.numbers.kernels_few in let len = p.plan.kernels.ok.0 in let low = statements_few script table n x step in omega arith
+
+    pub kernels_each : vec_len p.kernels ≡ vec_len script.kernels
+    kernels_each = let e = st.kernels.each in let a = p.kernels.ok.0 in let b = script.kernels.ok.0 in omega arith
+
+    pub after_below : (xs : List ℕ) → xs ≡ asked.after.items → All (λ n. n < vec_len p.values) xs
+    after_below xs e = subst (All (λ n. n < vec_len p.values)) (sym e) (λ k d lt. within p g begun n s found st (get_or asked.after.items k d)
+        (text.after_below k d lt))
+
+    pub named_is : (jobs : Jobs) (xs : List ℕ) → xs ≡ asked.after.items → ((j : ℕ) → jobs j ≡ jobs_by p.handles.items p.values.items xs j)
+        → jobs ≡ jobs_named s asked.after.items
+    named_is jobs xs e h = λ i j. (h j
+        ∙ ap (λ xs. jobs_by p.handles.items p.values.items xs j) e
+        ∙ jobs_are p s (length p.containers.items) st.names asked.after.items
+        (λ k d lt. (let e = st.each in let low = text.after_below k d lt in omega arith)) j) i
+
+    pub named_up : (jobs : Jobs) → jobs ≡ jobs_named s asked.after.items → AreUpTo (count_of p.jobs) jobs
+    named_up jobs e = subst (AreUpTo (count_of p.jobs)) (sym e) (subst (λ k. AreUpTo k (jobs_named s asked.after.items)) (sym st.jobs.count)
+        (named_among s st.known asked.after.items))
+
+    pub before_low : p.jobs_before ≤ count_of p.jobs
+    before_low = rooms.jobs_after script table p begun n s found st
+
+    pub room : count_of p.jobs ≢ MOST_JOBS → vec_len p.plan.jobs < MOST_JOBS
+    room = rooms.job_room script table p begun n s found st
+
+    pub pieces_low : p.plan.pieces ≤ MOST_PIECES * MOST_JOBS
+    pieces_low = rooms.few_pieces script table p begun n s found st
+
+    -- ---- the code's slices are the statement's vectors
+
+    pub length_is : (k : Kernel) → slice_get script.kernels.items asked.kernel ≡ Some k → (qs : List Param) (xs : List Arg) → qs ≡ k.params.items
+        → xs ≡ asked.args.items → length xs ≡ length qs
+    length_is k h qs xs e f = ap length f ∙ text.each ∙ ap (λ (k : Kernel). length k.params.items) (source_at k h) ∙ sym (ap length e)
+
+    pub few_args : (xs : List Arg) → xs ≡ asked.args.items → length xs ≤ 16
+    few_args xs f = subst (λ xs. length xs ≤ 16) (sym f) text.few
+
+    pub are_given : (k : Kernel) → slice_get script.kernels.items asked.kernel ≡ Some k
+        → (named : Jobs) (qs : List Param) (xs : List Arg) (uses : List NamedUse) → qs ≡ k.params.items → xs ≡ asked.args.items
+        → ForNames (IsUse p named) qs xs uses → ForNames (IsUse p named) text.source.params.items asked.args.items uses
+    are_given k h named qs xs uses e f are =
+        subst (λ qs. ForNames (IsUse p named) qs asked.args.items uses) (e ∙ ap (λ (k : Kernel). k.params.items) (sym (source_at k h)))
+        (subst (λ xs. ForNames (IsUse p named) qs xs uses) f are)
+
+    -- ---- with its uses
+
+    module _ (uses : List NamedUse) (named : Jobs) (named_are : named ≡ jobs_named s asked.after.items)
+        (are : ForNames (IsUse p named) text.source.params.items asked.args.items uses) where
+      abbrev gs : List Given
+      gs = given_args s text.source.params.items asked.args.items
+
+      meant : AreMeant p s named uses gs
+      meant = uses_meant p g begun n s found st named text.source.params.items asked.args.items uses are
+
+      pub refusal_at : as_refused (refusal_by uses text.source.parallel asked.auto) ≡ refusal g s x.act
+      refusal_at =
+          refusal_is p s named uses gs meant text.source.parallel asked.auto asked.after.items named_are
+          ∙ ap (λ gs. Rattle.frame_ast.specs.Refusals.schedule_refusal s text.source.parallel asked.auto gs asked.after.items) (sym (append-nil gs))
+          ∙ ap (λ k. Rattle.frame_ast.specs.Refusals.schedule_refusal s (kernel_parallel k) asked.auto
+          (givens s (kernel_params k) asked.args.items None) asked.after.items) (sym text.has)
+
+      module _ (none : refusal g s x.act ≡ None) where
+        alive : AreAlive s gs
+        alive = started.alive script table begun n found line home asked step text p st uses named are none
+
+        pub noted_up : AreUpTo (count_of p.jobs) (conflicting_with p.safety (tags_of uses))
+        noted_up = subst (λ k. AreUpTo k (conflicting_with p.safety (tags_of uses))) (sym st.jobs.count)
+            (needs_up s.book s.uses st.known.uses p.safety (tags_of uses) (needs gs) (needs_are p g begun n s found st named uses gs meant alive))
+
+        pub deps_is : (deps : Jobs) → AreDeps asked.auto named p.jobs p.safety (tags_of uses) deps
+            → deps ≡ deps_of g s (started.o script table begun n found line home asked)
+        deps_is deps d =
+            deps_are p g begun n s found st named asked.auto uses gs meant alive deps d
+            ∙ ap (λ named. if asked.auto then both named (automatic s.book s.uses named (needs gs)) else named) named_are
+            ∙ ap (λ gs. let named = jobs_named s asked.after.items in if asked.auto then both named (automatic s.book s.uses named (needs gs)) else named)
+            (sym (started.gives_are script table begun n found line home asked step text p st uses named are none))
+
+        pub deps_up : (deps : Jobs) → AreDeps asked.auto named p.jobs p.safety (tags_of uses) deps → AreUpTo (count_of p.jobs) deps
+        deps_up deps d = subst (AreUpTo (count_of p.jobs)) (sym (deps_is deps d))
+            (subst (λ k. AreUpTo k (deps_of g s (started.o script table begun n found line home asked))) (sym st.jobs.count)
+            (started.waited_up script table begun n found line home asked step text p st uses named are none))
+
+        pub may_note : (us : List NamedUse) → us ≡ uses → MayNoteAll us (state_of p.safety)
+        may_note us e = subst (λ us. MayNoteAll us (state_of p.safety)) (sym e)
+            (started.may_note_all script table begun n found line home asked step text p st uses named are none)
+
+        -- where there are all jobs already, the script has one more
+        pub fails_so : (fault : PlanFault) → IsFull fault (count_of p.jobs) → PassesLimit fault (state_after script table n x)
+        fails_so NoMemory full = tt
+        fails_so TooManyJobs full =
+            let after_is : (state_after script table n x).book.count ≡ suc s.book.count =
+            ap (λ (u : ScriptState). u.book.count) (accepted_state g s x step.acts none) in
+            let c = st.jobs.count in
+            omega arith
+        fails_so TooManyWords full = absurd full
+
+        pub goes_on : (mid new : Planner) (run : Run) (deps : Jobs) (xs : List Arg) (ws : List ℕ) (us : List NamedUse) → xs ≡ asked.args.items
+            → ws ≡ asked.waive.items → us ≡ uses
+            → AreDeps asked.auto named p.jobs p.safety (tags_of uses) deps
+            → IsPlainRun script p mid asked.kernel xs asked.cut ws run → IsScheduled mid new asked.handle run us deps
+            → HasStepped script table begun n found p new x
+        goes_on mid new run deps xs ws us e f u d r is =
+            started.goes_on script table begun n found line home asked step text p st uses named are none mid new run
+            (subst (λ xs. IsPlainRun script p mid asked.kernel xs asked.cut asked.waive.items run) e
+            (subst (λ ws. IsPlainRun script p mid asked.kernel xs asked.cut ws run) f r))
+            deps (deps_is deps d)
+            (subst (λ us. IsScheduled mid new asked.handle run us deps) u is)
+
+      -- why it is refused, as the code asks
+      pub refused_by : (k : Kernel) → slice_get script.kernels.items asked.kernel ≡ Some k → (us : List NamedUse) → us ≡ uses → (o : Option Cause)
+          → o ≡ refusal_by us k.parallel asked.auto → as_refused o ≡ refusal g s x.act
+      refused_by k h us e o is =
+          ap as_refused is
+          ∙ (λ i. as_refused (refusal_by (e i) (sym (source_at k h) i).parallel asked.auto))
+          ∙ refusal_at
+
+      -- and how it goes on then
+      pub refused_on : (new said : Planner) (cause : Cause) (k : Kernel) → slice_get script.kernels.items asked.kernel ≡ Some k → (us : List NamedUse)
+          → us ≡ uses → Some cause ≡ refusal_by us k.parallel asked.auto
+          → IsPushed p said (record { line = line; name = cause.name; act = Say cause.refusal })
+          → HasHandle said new asked.handle nobody
+          → HasStepped script table begun n found p new x
+      refused_on new said cause k h us e is pushed has =
+          let below = refusal_named (length g.names) us k.parallel asked.auto (subst (AreNamed (length g.names)) (sym e)
+          (uses_named p named (length g.names) text.source.params.items asked.args.items uses are text.below)) cause (sym is) in
+          said_nobody script table begun n found x step (refused cause.refusal cause.name) p st (sym (refused_by k h us e (Some cause) is)) below
+          said new asked.handle refl refl refl (inr (λ c. refl)) pushed has

@@ -1,0 +1,15 @@
+use Rattle.std.proofs.Common.{inr, refl, arith}
+use Rattle.plan_state.proofs.Accessing.{read_some}
+use Rattle.plan_schedules.proofs.new_job.plan_copy_of.Goals as goal
+
+pub returns : goal.returns
+returns c = inr (record {
+  source = c.index-2.result.now;
+  copy = c.in_ok-copy.copy;
+  is_source = read_some c.args.script.now.kernels c.args.kernel c.index-2.result.now c.requires.kernel c.index-2.ensures;
+  same = c.in_ok-copy.ensures;
+  last = (let e = c.len-place.ensures in let ok = c.args.planner.now.plan.kernels.ok.0 in omega arith);
+  kernels = refl;
+  copies = c.in_ok-push.ensures.items;
+  rest = refl;
+})

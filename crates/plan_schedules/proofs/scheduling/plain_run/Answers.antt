@@ -1,0 +1,12 @@
+use Rattle.plan_state.proofs.Accessing.{read_some}
+use Rattle.plan_schedules.proofs.scheduling.plain_run.Goals as goal
+
+pub returns : goal.returns
+returns c = record {
+  source = c.index-of.result.now;
+  is_source = read_some c.args.script.now.kernels c.args.kernel c.index-of.result.now c.requires.kernel c.index-of.ensures;
+  copied = c.in_ok-place.ensures;
+  binds = c.in_ok-binds.ensures;
+  cut_by = c.cut_of.ensures;
+  parallel = c.is_split.ensures;
+}

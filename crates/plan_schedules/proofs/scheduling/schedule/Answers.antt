@@ -1,0 +1,279 @@
+-- What each part needs, and how the statement goes on, by the lemmas on schedules of an accepted script.
+use Rattle.std.proofs.Common.{◌≢◌, ◌*◌, ◌<◌, ◌≤◌, ◌^◌, ◌∙◌, ap, refl, sym, subst}
+use Rattle.std.specs.Prelude.{vec_len}
+use Rattle.job_base.specs.declared.limits.TheConstants.{MOST_JOBS, MOST_PIECES}
+use Rattle.safety_handle.specs.Entries.{state_of}
+use Rattle.plan_state.specs.declared.state.Planner.{Planner}
+use Rattle.plan_schedules.specs.Noting.{MayNoteAll}
+use Rattle.plan_schedules.proofs.CopyPlaces.{moved}
+use Rattle.job_handle.specs.Sets.{jobs_of}
+use Rattle.frame_ast.specs.Orders.{setting}
+use Rattle.plan_state.specs.Accesses.{AreThere}
+use Rattle.plan_state.proofs.Accessing.{read_some, are_there}
+use Rattle.plan_state.proofs.Binding.{on_ok}
+use Rattle.job_handle.specs.Books.{count_of}
+use Rattle.frame_ast.specs.Laws.{AreUpTo}
+use Rattle.auto_deps.specs.Needs.{conflicting_with}
+use Rattle.plan_schedules.specs.Causes.{as_refused}
+use Rattle.plan_schedules.specs.Starting.{AreDeps, IsFull}
+use Rattle.plan_state.specs.Steps.{state_at}
+use Rattle.plan_schedules.specs.Uses.{tags_of}
+use Rattle.plan_schedules.proofs.Ready as ready
+use Rattle.plan_schedules.proofs.Ready.{no_cause, if_err}
+use Rattle.plan_schedules.proofs.scheduling.schedule.Goals as goal
+
+pub index-requires : goal.index-requires
+index-requires c =
+    let r = c.requires.ready in
+    ready.kernel_below c.args.script.now c.args.planner.now c.args.line r.0 c.args.job.now r.1.table r.1.begun r.1.n r.1.found r.1.step r.1.stands
+
+pub index-requires-2 : goal.index-requires-2
+index-requires-2 c =
+    let r = c.requires.ready in
+    ready.kernel_below c.args.script.now c.args.planner.now c.args.line r.0 c.args.job.now r.1.table r.1.begun r.1.n r.1.found r.1.step r.1.stands
+
+pub jobs_of_all-named-requires-clause-names : goal.jobs_of_all-named-requires-clause-names
+jobs_of_all-named-requires-clause-names c =
+    let r = c.requires.ready in
+    ready.after_below c.args.script.now c.args.planner.now c.args.line r.0 c.args.job.now r.1.table r.1.begun r.1.n r.1.found r.1.step r.1.stands
+    c.deref.result.now c.deref.ensures.value
+
+pub uses-requires-clause-each : goal.uses-requires-clause-each
+uses-requires-clause-each c =
+    let r = c.requires.ready in
+    ready.length_is c.args.script.now c.args.planner.now c.args.line r.0 c.args.job.now r.1.table r.1.begun r.1.n r.1.found r.1.step r.1.stands
+    c.index.result.now
+    (read_some c.args.script.now.kernels c.args.job.now.kernel c.index.result.now
+    (ready.kernel_below c.args.script.now c.args.planner.now c.args.line r.0 c.args.job.now r.1.table r.1.begun r.1.n r.1.found r.1.step r.1.stands)
+    c.index.ensures) c.deref-2.result.now c.deref-3.result.now c.deref-2.ensures.value c.deref-3.ensures.value
+
+pub uses-requires-clause-names : goal.uses-requires-clause-names
+uses-requires-clause-names c =
+    let r = c.requires.ready in
+    ready.names_below c.args.script.now c.args.planner.now c.args.line r.0 c.args.job.now r.1.table r.1.begun r.1.n r.1.found r.1.step r.1.stands
+    c.deref-3.result.now c.deref-3.ensures.value
+
+pub uses-requires-clause-jobs : goal.uses-requires-clause-jobs
+uses-requires-clause-jobs c =
+    let r = c.requires.ready in
+    ready.named_up c.args.script.now c.args.planner.now c.args.line r.0 c.args.job.now r.1.table r.1.begun r.1.n r.1.found r.1.step r.1.stands
+    (jobs_of c.jobs_of_all-named.result) (ready.named_is c.args.script.now c.args.planner.now c.args.line r.0 c.args.job.now r.1.table r.1.begun r.1.n
+    r.1.found r.1.step r.1.stands (jobs_of c.jobs_of_all-named.result) c.deref.result.now c.deref.ensures.value c.jobs_of_all-named.ensures)
+
+pub refuse_schedule-requires-clause-name : goal.refuse_schedule-requires-clause-name
+refuse_schedule-requires-clause-name c =
+    let r = c.requires.ready in
+    ready.handle_below c.args.script.now c.args.planner.now c.args.line r.0 c.args.job.now r.1.table r.1.begun r.1.n r.1.found r.1.step r.1.stands
+
+pub refuse_schedule-requires-clause-few : goal.refuse_schedule-requires-clause-few
+refuse_schedule-requires-clause-few c =
+    let r = c.requires.ready in
+    ready.handles_low c.args.script.now c.args.planner.now c.args.line r.0 c.args.job.now r.1.table r.1.begun r.1.n r.1.found r.1.step r.1.stands
+
+pub deps-requires-clause-named : goal.deps-requires-clause-named
+deps-requires-clause-named c =
+    let r = c.requires.ready in
+    ready.named_up c.args.script.now c.args.planner.now c.args.line r.0 c.args.job.now r.1.table r.1.begun r.1.n r.1.found r.1.step r.1.stands
+    (jobs_of c.jobs_of_all-named.result) (ready.named_is c.args.script.now c.args.planner.now c.args.line r.0 c.args.job.now r.1.table r.1.begun r.1.n
+    r.1.found r.1.step r.1.stands (jobs_of c.jobs_of_all-named.result) c.deref.result.now c.deref.ensures.value c.jobs_of_all-named.ensures)
+
+pub plain_run-requires-clause-kernel : goal.plain_run-requires-clause-kernel
+plain_run-requires-clause-kernel c =
+    let r = c.requires.ready in
+    ready.kernel_below c.args.script.now c.args.planner.now c.args.line r.0 c.args.job.now r.1.table r.1.begun r.1.n r.1.found r.1.step r.1.stands
+
+pub plain_run-requires-clause-copies : goal.plain_run-requires-clause-copies
+plain_run-requires-clause-copies c =
+    let r = c.requires.ready in
+    ready.copies_low c.args.script.now c.args.planner.now c.args.line r.0 c.args.job.now r.1.table r.1.begun r.1.n r.1.found r.1.step r.1.stands
+
+pub add_job-requires-clause-handle : goal.add_job-requires-clause-handle
+add_job-requires-clause-handle c =
+    let r = c.requires.ready in
+    subst (λ (k : Planner). c.args.job.now.handle < vec_len k.values)
+    (sym (moved c.args.script.now c.args.planner.now c.plain_run.new.planner c.args.job.now.kernel c.in_ok-run.run'.kernel c.in_ok-run.ensures.copied))
+    (ready.handle_below c.args.script.now c.args.planner.now c.args.line r.0 c.args.job.now r.1.table r.1.begun r.1.n r.1.found r.1.step r.1.stands)
+
+pub add_job-requires-clause-there : goal.add_job-requires-clause-there
+add_job-requires-clause-there c =
+    let r = c.requires.ready in
+    subst (λ (k : Planner). AreThere (vec_len k.containers) (vec_len k.handles) k.values.items)
+    (sym (moved c.args.script.now c.args.planner.now c.plain_run.new.planner c.args.job.now.kernel c.in_ok-run.run'.kernel c.in_ok-run.ensures.copied))
+    (are_there c.args.planner.now (setting c.args.script.now r.1.table) r.1.begun r.1.n (state_at c.args.script.now r.1.table r.1.n) r.1.found r.1.stands)
+
+pub add_job-requires-clause-handles : goal.add_job-requires-clause-handles
+add_job-requires-clause-handles c =
+    let r = c.requires.ready in
+    subst (λ (k : Planner). vec_len k.handles < 2 ^ 32)
+    (sym (moved c.args.script.now c.args.planner.now c.plain_run.new.planner c.args.job.now.kernel c.in_ok-run.run'.kernel c.in_ok-run.ensures.copied))
+    (ready.handles_low c.args.script.now c.args.planner.now c.args.line r.0 c.args.job.now r.1.table r.1.begun r.1.n r.1.found r.1.step r.1.stands)
+
+pub plain_run-requires-clause-cut : goal.plain_run-requires-clause-cut
+plain_run-requires-clause-cut c =
+    let r = c.requires.ready in
+    (ready.text c.args.script.now c.args.planner.now c.args.line r.0 c.args.job.now r.1.table r.1.begun r.1.n r.1.found r.1.step r.1.stands).cut_fit
+
+pub add_job-requires-clause-before : goal.add_job-requires-clause-before
+add_job-requires-clause-before c =
+    let r = c.requires.ready in
+    subst (λ (k : Planner). k.jobs_before ≤ count_of k.jobs)
+    (sym (moved c.args.script.now c.args.planner.now c.plain_run.new.planner c.args.job.now.kernel c.in_ok-run.run'.kernel c.in_ok-run.ensures.copied))
+    (ready.before_low c.args.script.now c.args.planner.now c.args.line r.0 c.args.job.now r.1.table r.1.begun r.1.n r.1.found r.1.step r.1.stands)
+
+pub add_job-requires-clause-room : goal.add_job-requires-clause-room
+add_job-requires-clause-room c =
+    let r = c.requires.ready in
+    subst (λ (k : Planner). count_of k.jobs ≢ MOST_JOBS → vec_len k.plan.jobs < MOST_JOBS)
+    (sym (moved c.args.script.now c.args.planner.now c.plain_run.new.planner c.args.job.now.kernel c.in_ok-run.run'.kernel c.in_ok-run.ensures.copied))
+    (ready.room c.args.script.now c.args.planner.now c.args.line r.0 c.args.job.now r.1.table r.1.begun r.1.n r.1.found r.1.step r.1.stands)
+
+pub add_job-requires-clause-pieces : goal.add_job-requires-clause-pieces
+add_job-requires-clause-pieces c =
+    let r = c.requires.ready in
+    subst (λ (k : Planner). k.plan.pieces ≤ MOST_PIECES * MOST_JOBS)
+    (sym (moved c.args.script.now c.args.planner.now c.plain_run.new.planner c.args.job.now.kernel c.in_ok-run.run'.kernel c.in_ok-run.ensures.copied))
+    (ready.pieces_low c.args.script.now c.args.planner.now c.args.line r.0 c.args.job.now r.1.table r.1.begun r.1.n r.1.found r.1.step r.1.stands)
+
+pub deps-requires-clause-noted : goal.deps-requires-clause-noted
+deps-requires-clause-noted c =
+    let r = c.requires.ready in
+    let uses = c.in_ok-uses.uses.items in
+    let named = jobs_of c.jobs_of_all-named.result in
+    let named_are = ready.named_is c.args.script.now c.args.planner.now c.args.line r.0 c.args.job.now r.1.table r.1.begun r.1.n r.1.found r.1.step r.1.stands
+    named c.deref.result.now c.deref.ensures.value c.jobs_of_all-named.ensures in
+    let given = ready.are_given c.args.script.now c.args.planner.now c.args.line r.0 c.args.job.now r.1.table r.1.begun r.1.n r.1.found r.1.step r.1.stands
+    c.index.result.now (read_some c.args.script.now.kernels c.args.job.now.kernel c.index.result.now
+    (ready.kernel_below c.args.script.now c.args.planner.now c.args.line r.0 c.args.job.now r.1.table r.1.begun r.1.n r.1.found r.1.step r.1.stands)
+    c.index.ensures) named c.deref-2.result.now c.deref-3.result.now c.in_ok-uses.uses.items c.deref-2.ensures.value c.deref-3.ensures.value
+    c.in_ok-uses.ensures in
+    let none = sym (ready.refused_by c.args.script.now c.args.planner.now c.args.line r.0 c.args.job.now r.1.table r.1.begun r.1.n r.1.found r.1.step r.1.stands
+    uses named named_are given c.index-2.result.now (read_some c.args.script.now.kernels c.args.job.now.kernel c.index-2.result.now
+    (ready.kernel_below c.args.script.now c.args.planner.now c.args.line r.0 c.args.job.now r.1.table r.1.begun r.1.n r.1.found r.1.step r.1.stands)
+    c.index-2.ensures) c.deref-4.result.now c.deref-4.ensures.value c.refusal_of.result c.refusal_of.ensures)
+    ∙ ap as_refused (no_cause c.refusal_of.result c.in_default.not-Some) in
+    subst (λ us. AreUpTo (count_of c.args.planner.now.jobs) (conflicting_with c.args.planner.now.safety (tags_of us))) (sym c.deref-5.ensures.value)
+    (ready.noted_up c.args.script.now c.args.planner.now c.args.line r.0 c.args.job.now r.1.table r.1.begun r.1.n r.1.found r.1.step r.1.stands uses named
+    named_are given none)
+
+pub add_job-requires-clause-uses : goal.add_job-requires-clause-uses
+add_job-requires-clause-uses c =
+    let r = c.requires.ready in
+    let uses = c.in_ok-uses.uses.items in
+    let named = jobs_of c.jobs_of_all-named.result in
+    let named_are = ready.named_is c.args.script.now c.args.planner.now c.args.line r.0 c.args.job.now r.1.table r.1.begun r.1.n r.1.found r.1.step r.1.stands
+    named c.deref.result.now c.deref.ensures.value c.jobs_of_all-named.ensures in
+    let given = ready.are_given c.args.script.now c.args.planner.now c.args.line r.0 c.args.job.now r.1.table r.1.begun r.1.n r.1.found r.1.step r.1.stands
+    c.index.result.now (read_some c.args.script.now.kernels c.args.job.now.kernel c.index.result.now
+    (ready.kernel_below c.args.script.now c.args.planner.now c.args.line r.0 c.args.job.now r.1.table r.1.begun r.1.n r.1.found r.1.step r.1.stands)
+    c.index.ensures) named c.deref-2.result.now c.deref-3.result.now c.in_ok-uses.uses.items c.deref-2.ensures.value c.deref-3.ensures.value
+    c.in_ok-uses.ensures in
+    let none = sym (ready.refused_by c.args.script.now c.args.planner.now c.args.line r.0 c.args.job.now r.1.table r.1.begun r.1.n r.1.found r.1.step r.1.stands
+    uses named named_are given c.index-2.result.now (read_some c.args.script.now.kernels c.args.job.now.kernel c.index-2.result.now
+    (ready.kernel_below c.args.script.now c.args.planner.now c.args.line r.0 c.args.job.now r.1.table r.1.begun r.1.n r.1.found r.1.step r.1.stands)
+    c.index-2.ensures) c.deref-4.result.now c.deref-4.ensures.value c.refusal_of.result c.refusal_of.ensures)
+    ∙ ap as_refused (no_cause c.refusal_of.result c.in_default.not-Some) in
+    subst (λ (k : Planner). MayNoteAll c.deref-8.result.now (state_of k.safety))
+    (sym (moved c.args.script.now c.args.planner.now c.plain_run.new.planner c.args.job.now.kernel c.in_ok-run.run'.kernel c.in_ok-run.ensures.copied))
+    (ready.may_note c.args.script.now c.args.planner.now c.args.line r.0 c.args.job.now r.1.table r.1.begun r.1.n r.1.found r.1.step
+    r.1.stands uses named named_are given none c.deref-8.result.now c.deref-8.ensures.value)
+
+pub plain_run-requires-clause-each : goal.plain_run-requires-clause-each
+plain_run-requires-clause-each c =
+    let r = c.requires.ready in
+    (λ k h. ready.length_is c.args.script.now c.args.planner.now c.args.line r.0 c.args.job.now r.1.table r.1.begun r.1.n r.1.found r.1.step r.1.stands k h
+    k.params.items c.deref-6.result.now refl c.deref-6.ensures.value)
+
+pub plain_run-requires-clause-args : goal.plain_run-requires-clause-args
+plain_run-requires-clause-args c =
+    let r = c.requires.ready in
+    ready.few_args c.args.script.now c.args.planner.now c.args.line r.0 c.args.job.now r.1.table r.1.begun r.1.n r.1.found r.1.step r.1.stands
+    c.deref-6.result.now
+    c.deref-6.ensures.value
+
+pub plain_run-requires-clause-names : goal.plain_run-requires-clause-names
+plain_run-requires-clause-names c =
+    let r = c.requires.ready in
+    ready.names_below c.args.script.now c.args.planner.now c.args.line r.0 c.args.job.now r.1.table r.1.begun r.1.n r.1.found r.1.step r.1.stands
+    c.deref-6.result.now c.deref-6.ensures.value
+
+pub add_job-requires-clause-deps : goal.add_job-requires-clause-deps
+add_job-requires-clause-deps c =
+    let r = c.requires.ready in
+    let uses = c.in_ok-uses.uses.items in
+    let named = jobs_of c.jobs_of_all-named.result in
+    let named_are = ready.named_is c.args.script.now c.args.planner.now c.args.line r.0 c.args.job.now r.1.table r.1.begun r.1.n r.1.found r.1.step r.1.stands
+    named c.deref.result.now c.deref.ensures.value c.jobs_of_all-named.ensures in
+    let given = ready.are_given c.args.script.now c.args.planner.now c.args.line r.0 c.args.job.now r.1.table r.1.begun r.1.n r.1.found r.1.step r.1.stands
+    c.index.result.now (read_some c.args.script.now.kernels c.args.job.now.kernel c.index.result.now
+    (ready.kernel_below c.args.script.now c.args.planner.now c.args.line r.0 c.args.job.now r.1.table r.1.begun r.1.n r.1.found r.1.step r.1.stands)
+    c.index.ensures) named c.deref-2.result.now c.deref-3.result.now c.in_ok-uses.uses.items c.deref-2.ensures.value c.deref-3.ensures.value
+    c.in_ok-uses.ensures in
+    let none = sym (ready.refused_by c.args.script.now c.args.planner.now c.args.line r.0 c.args.job.now r.1.table r.1.begun r.1.n r.1.found r.1.step r.1.stands
+    uses named named_are given c.index-2.result.now (read_some c.args.script.now.kernels c.args.job.now.kernel c.index-2.result.now
+    (ready.kernel_below c.args.script.now c.args.planner.now c.args.line r.0 c.args.job.now r.1.table r.1.begun r.1.n r.1.found r.1.step r.1.stands)
+    c.index-2.ensures) c.deref-4.result.now c.deref-4.ensures.value c.refusal_of.result c.refusal_of.ensures)
+    ∙ ap as_refused (no_cause c.refusal_of.result c.in_default.not-Some) in
+    subst (λ (k : Planner). AreUpTo (count_of k.jobs) (jobs_of c.in_ok-deps.deps))
+    (sym (moved c.args.script.now c.args.planner.now c.plain_run.new.planner c.args.job.now.kernel c.in_ok-run.run'.kernel c.in_ok-run.ensures.copied))
+    (ready.deps_up c.args.script.now c.args.planner.now c.args.line r.0 c.args.job.now r.1.table r.1.begun r.1.n r.1.found r.1.step r.1.stands uses named
+    named_are
+    given none (jobs_of c.in_ok-deps.deps) (subst (λ us. AreDeps c.args.job.now.auto named c.args.planner.now.jobs c.args.planner.now.safety (tags_of us)
+    (jobs_of c.in_ok-deps.deps)) c.deref-5.ensures.value c.in_ok-deps.ensures))
+
+pub returns-in-Some-clause-goes_on : goal.returns-in-Some-clause-goes_on
+returns-in-Some-clause-goes_on c home table begun n found step st =
+    let uses = c.in_ok-uses.uses.items in
+    let named = jobs_of c.jobs_of_all-named.result in
+    let named_are = ready.named_is c.args.script.now c.args.planner.now c.args.line home c.args.job.now table begun n found step st named c.deref.result.now
+    c.deref.ensures.value c.jobs_of_all-named.ensures in
+    let given = ready.are_given c.args.script.now c.args.planner.now c.args.line home c.args.job.now table begun n found step st c.index.result.now
+    (read_some c.args.script.now.kernels c.args.job.now.kernel c.index.result.now
+    (ready.kernel_below c.args.script.now c.args.planner.now c.args.line home c.args.job.now table begun n found step st) c.index.ensures) named
+    c.deref-2.result.now c.deref-3.result.now c.in_ok-uses.uses.items c.deref-2.ensures.value c.deref-3.ensures.value c.in_ok-uses.ensures in
+    ready.refused_on c.args.script.now c.args.planner.now c.args.line home c.args.job.now table begun n found step st uses named named_are given
+    c.refuse_schedule.new.planner c.in_ok-refuse_schedule.ensures.0 c.in-Some.cause c.index-2.result.now
+    (read_some c.args.script.now.kernels c.args.job.now.kernel c.index-2.result.now
+    (ready.kernel_below c.args.script.now c.args.planner.now c.args.line home c.args.job.now table begun n found step st) c.index-2.ensures)
+    c.deref-4.result.now c.deref-4.ensures.value
+    (sym c.in-Some.is ∙ c.refusal_of.ensures) c.in_ok-refuse_schedule.ensures.1 c.in_ok-refuse_schedule.ensures.2
+
+pub returns-clause-goes_on : goal.returns-clause-goes_on
+returns-clause-goes_on c = on_ok c.add_job.result (λ is home table begun n found step st.
+    let uses = c.in_ok-uses.uses.items in
+    let named = jobs_of c.jobs_of_all-named.result in
+    let named_are = ready.named_is c.args.script.now c.args.planner.now c.args.line home c.args.job.now table begun n found step st named c.deref.result.now
+    c.deref.ensures.value c.jobs_of_all-named.ensures in
+    let given = ready.are_given c.args.script.now c.args.planner.now c.args.line home c.args.job.now table begun n found step st c.index.result.now
+    (read_some c.args.script.now.kernels c.args.job.now.kernel c.index.result.now
+    (ready.kernel_below c.args.script.now c.args.planner.now c.args.line home c.args.job.now table begun n found step st) c.index.ensures) named
+    c.deref-2.result.now c.deref-3.result.now c.in_ok-uses.uses.items c.deref-2.ensures.value c.deref-3.ensures.value c.in_ok-uses.ensures in
+    let none = sym (ready.refused_by c.args.script.now c.args.planner.now c.args.line home c.args.job.now table begun n found step st uses named named_are given
+    c.index-2.result.now (read_some c.args.script.now.kernels c.args.job.now.kernel c.index-2.result.now
+    (ready.kernel_below c.args.script.now c.args.planner.now c.args.line home c.args.job.now table begun n found step st) c.index-2.ensures)
+    c.deref-4.result.now c.deref-4.ensures.value c.refusal_of.result c.refusal_of.ensures)
+    ∙ ap as_refused (no_cause c.refusal_of.result c.in_default.not-Some) in
+    ready.goes_on c.args.script.now c.args.planner.now c.args.line home c.args.job.now table begun n found step st uses named named_are given none
+    c.plain_run.new.planner c.add_job.new.planner c.in_ok-run.run' (jobs_of c.in_ok-deps.deps) c.deref-6.result.now c.deref-7.result.now
+    c.deref-8.result.now c.deref-6.ensures.value c.deref-7.ensures.value c.deref-8.ensures.value
+    (subst (λ us. AreDeps c.args.job.now.auto named c.args.planner.now.jobs c.args.planner.now.safety (tags_of us) (jobs_of c.in_ok-deps.deps))
+    c.deref-5.ensures.value c.in_ok-deps.ensures) c.in_ok-run.ensures is) c.add_job.ensures.done
+
+pub returns-clause-fails : goal.returns-clause-fails
+returns-clause-fails c = if_err c.add_job.result (λ fault full home table begun n found step st.
+    let uses = c.in_ok-uses.uses.items in
+    let named = jobs_of c.jobs_of_all-named.result in
+    let named_are = ready.named_is c.args.script.now c.args.planner.now c.args.line home c.args.job.now table begun n found step st named c.deref.result.now
+    c.deref.ensures.value c.jobs_of_all-named.ensures in
+    let given = ready.are_given c.args.script.now c.args.planner.now c.args.line home c.args.job.now table begun n found step st c.index.result.now
+    (read_some c.args.script.now.kernels c.args.job.now.kernel c.index.result.now
+    (ready.kernel_below c.args.script.now c.args.planner.now c.args.line home c.args.job.now table begun n found step st) c.index.ensures) named
+    c.deref-2.result.now c.deref-3.result.now c.in_ok-uses.uses.items c.deref-2.ensures.value c.deref-3.ensures.value c.in_ok-uses.ensures in
+    let none = sym (ready.refused_by c.args.script.now c.args.planner.now c.args.line home c.args.job.now table begun n found step st uses named named_are given
+    c.index-2.result.now (read_some c.args.script.now.kernels c.args.job.now.kernel c.index-2.result.now
+    (ready.kernel_below c.args.script.now c.args.planner.now c.args.line home c.args.job.now table begun n found step st) c.index-2.ensures)
+    c.deref-4.result.now c.deref-4.ensures.value c.refusal_of.result c.refusal_of.ensures)
+    ∙ ap as_refused (no_cause c.refusal_of.result c.in_default.not-Some) in
+    ready.fails_so c.args.script.now c.args.planner.now c.args.line home c.args.job.now table begun n found step st uses named named_are given none fault
+    (subst (λ (k : Planner). IsFull fault (count_of k.jobs))
+    (moved c.args.script.now c.args.planner.now c.plain_run.new.planner c.args.job.now.kernel c.in_ok-run.run'.kernel c.in_ok-run.ensures.copied) full))
+    c.add_job.ensures.full

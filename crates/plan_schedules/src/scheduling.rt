@@ -1,0 +1,152 @@
+// `schedule`: a job that is refused, or that the segment at hand starts.
+ghost use Rattle.std.specs.Prelude.{Box, ◌≡◌, ◌<◌, ◌≤◌, ◌^◌, true, ◌&&◌, IfErr, IfOk, OnOk, Some, slice_get, vec_len, length};
+ghost use Rattle.frame_ast.specs.declared.kernel.Kernel.{Kernel};
+ghost use Rattle.job_base.specs.declared.limits.TheConstants.{MOST_PARAMS};
+ghost use Rattle.std.specs.declared.alloc.Global.{Global};
+ghost use Rattle.frame_ast.specs.declared.script.NewJob.{NewJob};
+ghost use Rattle.frame_ast.specs.Accepted.{cut_fits};
+ghost use Rattle.frame_ast.specs.Jobs.{nobody};
+ghost use Rattle.frame_core.specs.declared.plan.Act.TheVariants.{Say};
+ghost use Rattle.auto_deps.specs.Needs.{conflicting_with};
+ghost use Rattle.plan_state.specs.Accesses.{AreThere, HasHandle, IsPushed};
+ghost use Rattle.plan_state.specs.Growth.{is_none};
+ghost use Rattle.plan_schedules.specs.Starting.{AreDeps, IsPlainRun, scheduling};
+ghost use Rattle.frame_ast.specs.Laws.{AreUpTo};
+ghost use Rattle.job_handle.specs.Sets.{jobs_of};
+ghost use Rattle.job_handle.specs.Books.{count_of};
+ghost use Rattle.plan_state.specs.Steps.{IsBefore, GoesOnIn, FailsIn};
+ghost use Rattle.plan_schedules.specs.Uses.{AreNamesBelow, tags_of};
+
+use crate::accepting::{Run, add_job};
+use crate::causes::{Cause, refusal_of};
+use crate::job_binds::job_binds;
+use crate::new_job::{cut_of, plan_copy_of};
+use crate::uses::{NamedUse, uses};
+use auto_deps::automatic;
+use frame_ast::script::{Arg, NewJob, Script};
+use job_base::{Access, NoMemory};
+use job_handle::Handle;
+use plan_state::{PlanFault, Planner};
+use safety_handle::Tag;
+use std::alloc::Global;
+
+/// `schedule [auto] handle kernel(args) [N BATCH] [waive p ..] [after h ..]`
+pub fn schedule(
+    planner: &mut Planner,
+    alloc: Global,
+    script: &Script,
+    line: u32,
+    job: &NewJob,
+) -> Result<(), PlanFault>
+    // The statement has its job in a box, whichever that is.
+    requires ready { (home : Box NewJob Global) × IsBefore script.now planner.old (scheduling line home job.now) }
+
+    ensures goes_on { OnOk result ((home : Box NewJob Global)
+        → GoesOnIn script.now planner.old planner.new (scheduling line home job.now)) }
+    ensures fails { IfErr result (λ fault. (home : Box NewJob Global)
+        → FailsIn script.now fault planner.old (scheduling line home job.now)) }
+{
+    let params = &script.kernels[job.kernel as usize].params;
+    let parallel = script.kernels[job.kernel as usize].parallel;
+    let named = planner.jobs_of_all(&job.after);
+    let uses = uses(planner, alloc, params, &job.args, &named)?;
+    if let Some(cause) = refusal_of(&uses, parallel, job.auto) {
+        refuse_schedule(planner, line, job.handle, cause)?;
+        return Ok(());
+    }
+    let deps = deps(planner, alloc, job.auto, &named, &uses)?;
+    let run = plain_run(
+        planner, alloc, script, job.kernel, &job.args, job.cut, &job.waive,
+    )?;
+    add_job(planner, alloc, job.handle, run, &uses, &deps)
+}
+
+/// A refused schedule makes no job.
+pub(crate) fn refuse_schedule(
+    planner: &mut Planner,
+    line: u32,
+    handle: u32,
+    cause: Cause,
+) -> Result<(), NoMemory>
+    requires name { handle < vec_len planner.old.values }
+    requires there { AreThere (vec_len planner.old.containers) (vec_len planner.old.handles) planner.old.values.items }
+    requires few { vec_len planner.old.handles < 2 ^ 32 }
+    ensures { OnOk result ((said : Planner)
+        × IsPushed planner.old said (record { line = line; name = cause.name; act = Say cause.refusal })
+        × HasHandle said planner.new handle nobody) }
+{
+    planner.push_refusal(line, cause.name, cause.refusal)?;
+    planner.set_handle(handle, &Handle::empty())
+}
+
+/// What the job waits for: the named jobs, and with `auto` all others that it has to.
+pub(crate) fn deps(
+    planner: &Planner,
+    alloc: Global,
+    auto: bool,
+    named: &Handle,
+    uses: &[NamedUse],
+) -> Result<Handle, NoMemory>
+    requires named { AreUpTo (count_of planner.now.jobs) (jobs_of named.now) }
+    requires noted { AreUpTo (count_of planner.now.jobs) (conflicting_with planner.now.safety (tags_of uses.now)) }
+    ensures { IfOk result (λ deps.
+        AreDeps auto (jobs_of named.now) planner.now.jobs planner.now.safety (tags_of uses.now) (jobs_of deps)) }
+{
+    if !auto {
+        return Ok(*named);
+    }
+    let tags = tags(alloc, uses)?;
+    Ok(named.combine(&automatic(&tags, named, &planner.safety, &planner.jobs)))
+}
+
+/// What the job of a schedule without `defer` runs: its kernel, of which the plan has a copy then.
+fn plain_run(
+    planner: &mut Planner,
+    alloc: Global,
+    script: &Script,
+    kernel: u32,
+    args: &[Arg],
+    cut: Option<(u32, u32)>,
+    waive: &[u32],
+) -> Result<Run, NoMemory>
+    requires kernel { kernel < vec_len script.now.kernels }
+    requires kernels { vec_len planner.old.kernels ≡ vec_len script.now.kernels }
+    requires copies { vec_len planner.old.plan.kernels < 2 ^ 32 }
+    requires each { (k : Kernel) → slice_get script.now.kernels.items kernel ≡ Some k
+        → length args.now ≡ length k.params.items }
+    requires args { length args.now ≤ MOST_PARAMS }
+    requires names { AreNamesBelow (vec_len planner.old.values) args.now }
+    requires there { AreThere (vec_len planner.old.containers) (vec_len planner.old.handles) planner.old.values.items }
+    requires cut { cut_fits cut ≡ true }
+    ensures { IfOk result (λ run. IsPlainRun script.now planner.old planner.new kernel args.now cut waive.now run) }
+{
+    let of = &script.kernels[kernel as usize];
+    let binds = job_binds(planner, alloc, of, args, waive)?;
+    let place = plan_copy_of(planner, alloc, script, kernel)?;
+    Ok(Run {
+        kernel: place,
+        binds,
+        cut: cut_of(cut),
+        parallel: is_split(of.parallel, waive),
+    })
+}
+
+/// Whether the pieces of a job may run at once: where nothing is waived, each index owns what it writes.
+pub(crate) fn is_split(parallel: bool, waive: &[u32]) -> bool
+    ensures { result ≡ (parallel && is_none waive.now) }
+{
+    parallel && waive.is_empty()
+}
+
+/// How the safety book knows the containers, and how they are used.
+fn tags(alloc: Global, uses: &[NamedUse]) -> Result<Vec<(Tag, Access)>, NoMemory>
+    ensures { IfOk result (λ tags. tags.items ≡ tags_of uses.now) }
+{
+    let mut tags = Vec::new(alloc);
+    for i in 0..uses.len() {
+        if let Some(tag) = uses[i].tag {
+            tags.push((tag, uses[i].access))?;
+        }
+    }
+    Ok(tags)
+}

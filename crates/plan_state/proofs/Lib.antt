@@ -1,0 +1,7 @@
+pub mod Accessing
+pub mod Binding
+pub mod Naming
+pub mod Outlining
+pub mod Quiet
+pub mod Reaching
+pub mod Restating

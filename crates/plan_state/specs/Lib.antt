@@ -1,0 +1,6 @@
+-- promises
+pub mod Growth
+-- for the contracts of this crate and of those above it
+pub mod Stands
+pub mod Steps
+pub mod Accesses

@@ -1,0 +1,80 @@
+// The small changes that every statement is made of: an operation more in the draft, and what a name stands for.
+ghost use Rattle.std.specs.Prelude.{◌≡◌, ◌<◌, ◌^◌, ℕ, All, OnOk, vec_len};
+ghost use Rattle.frame_core.specs.declared.plan.Act.TheVariants.{Say};
+ghost use Rattle.job_handle.specs.Sets.{jobs_of};
+ghost use Rattle.plan_state.specs.Stands.{IsThere};
+ghost use Rattle.plan_state.specs.Accesses.{AreThere, HasHandle, IsPushed, IsRenamed, jobs_by, jobs_of_value};
+
+use crate::state::{Planner, Value};
+use frame_core::{Act, Op};
+use job_base::{NoMemory, Refusal};
+use job_handle::Handle;
+
+impl Planner {
+    /// The segment at hand does one operation more.
+    pub fn push(&mut self, line: u32, name: u32, act: Act) -> Result<(), NoMemory>
+        ensures { OnOk result (IsPushed self.old self.new (record { line = line; name = name; act = act })) }
+    {
+        self.plan.ops.push(Op { line, name, act })?;
+        Ok(())
+    }
+
+    /// The statement is refused, whatever the cells are: its line will be written.
+    pub fn push_refusal(&mut self, line: u32, name: u32, refusal: Refusal) -> Result<(), NoMemory>
+        ensures { OnOk result (IsPushed self.old self.new (record { line = line; name = name; act = Say refusal })) }
+    {
+        self.push(line, name, Act::Say { refusal })
+    }
+
+    /// A name stands for another value.
+    pub fn set_value(&mut self, name: u32, value: Value)
+        requires { name < vec_len self.old.values }
+        ensures { IsRenamed self.old self.new name value }
+    {
+        self.values[name as usize] = value;
+    }
+
+    /// A name of a handle stands for these jobs.
+    pub fn set_handle(&mut self, name: u32, jobs: &Handle) -> Result<(), NoMemory>
+        requires name { name < vec_len self.old.values }
+        requires there { AreThere (vec_len self.old.containers) (vec_len self.old.handles) self.old.values.items }
+        requires few { vec_len self.old.handles < 2 ^ 32 }
+        ensures { OnOk result (HasHandle self.old self.new name (jobs_of jobs.now)) }
+    {
+        match self.values[name as usize] {
+            Value::Jobs(place) => self.handles[place as usize] = *jobs,
+            _ => {
+                let place = self.handles.len() as u32;
+                self.handles.push(*jobs)?;
+                self.values[name as usize] = Value::Jobs(place);
+            }
+        }
+        Ok(())
+    }
+
+    /// The jobs of a value that stands for some.
+    pub fn jobs_of(&self, value: Value) -> Handle
+        requires there { IsThere (vec_len self.now.containers) (vec_len self.now.handles) value }
+        ensures { jobs_of result ≡ jobs_of_value self.now.handles.items value }
+    {
+        match value {
+            Value::Jobs(place) => self.handles[place as usize],
+            Value::Dead | Value::Whole(_) | Value::Slice { .. } | Value::View { .. } =>
+                Handle::empty(),
+        }
+    }
+
+    /// The jobs of some names of handles together.
+    pub fn jobs_of_all(&self, names: &[u32]) -> Handle
+        requires names { All (λ n. n < vec_len self.now.values) names.now }
+        requires there { AreThere (vec_len self.now.containers) (vec_len self.now.handles) self.now.values.items }
+        ensures { (j : ℕ) → jobs_of result j ≡ jobs_by self.now.handles.items self.now.values.items names.now j }
+    {
+        let mut all = Handle::empty();
+        for name in names {
+            let jobs = self.jobs_of(self.values[*name as usize]);
+            all = all.combine(&jobs);
+        }
+        all
+    }
+}

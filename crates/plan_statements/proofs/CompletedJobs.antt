@@ -1,0 +1,271 @@
+-- Jobs become completed: the ranges that were held for them come back, and what follows waits for those that are newly
+-- completed.
+use Rattle.std.proofs.Common.{◌≡◌, ℕ, zero, suc, ◌+◌, ◌-◌, ◌<◌, ◌≤◌, inl, ⊎_elim, Bool, true, false, eq-eqb, ne_eqb, ◌&&◌, ◌||◌, not, List, [], ◌∷◌, ◌++◌, length, refl, sym, ap, subst, ◌∙◌, arith, append-nil}
+use Rattle.std.specs.Prelude.{Vec, vec_len, nat_eq, if◌then◌else◌}
+use Rattle.std.specs.declared.alloc.Global.{Global}
+use Rattle.std.specs.List.{All}
+use Rattle.std.proofs.lemmas.Bool.{cases_eq, eqb-true, or_left}
+use Rattle.job_base.specs.declared.JobId.{JobId}
+use Rattle.frame_ast.specs.Conflicts.{has_pending}
+use Rattle.frame_ast.specs.Effects.{complete}
+use Rattle.frame_ast.specs.Jobs.{Jobs, Book, ancestors_in, with_completed}
+use Rattle.frame_ast.specs.Laws.{AreUpTo, IsBook, AreUses, IsKnown}
+use Rattle.frame_ast.specs.States.{ScriptState}
+use Rattle.frame_ast.proofs.Known.{completed_book}
+use Rattle.slot_store.specs.declared.store.SlotStore.{SlotStore}
+use Rattle.slot_store.specs.Stores.{place_of, peak_of, slots_in_use, settled}
+use Rattle.job_handle.specs.declared.book.JobBook.{JobBook}
+use Rattle.job_handle.specs.Books.{StandsFor, count_of}
+use Rattle.safety_handle.specs.Entries.{state_of}
+use Rattle.safety_handle.proofs.Latest.{completed_stands}
+use Rattle.frame_core.specs.Names.{has_job}
+use Rattle.frame_core.specs.Ordered.{IsAbove}
+use Rattle.frame_core.proofs.Small.{not_both, either_bool}
+use Rattle.plan_laws.specs.Planned.{AreJobsUpTo}
+use Rattle.plan_state.specs.declared.state.Planner.{Planner}
+use Rattle.plan_statements.specs.Completions.{newly_of, IsClosed, AreCompleted}
+use Rattle.plan_state.specs.Growth.{rising_jobs}
+use Rattle.plan_state.specs.Stands.{IsHeldFor, AreContainers}
+use Rattle.plan_statements.proofs.Endings.Ending.{ended}
+use Rattle.plan_statements.proofs.Endings.Settling.{AreBetween, are_ended, none_pending, all_done}
+
+-- ---- the jobs of a set in rising order
+
+pub has_append : (xs ys : List JobId) (j : ℕ) → has_job (xs ++ ys) j ≡ (has_job xs j || has_job ys j)
+has_append [] ys j = refl
+has_append (x ∷ xs) ys j = ap (λ b. nat_eq x.0 j || b) (has_append xs ys j) ∙ or_assoc (nat_eq x.0 j) (has_job xs j) (has_job ys j)
+  where
+    or_assoc : (a b c : Bool) → (a || (b || c)) ≡ ((a || b) || c)
+    or_assoc true b c = refl
+    or_assoc false b c = refl
+
+module _ (set : Jobs) where
+  last : (n : ℕ) → List JobId
+  last n = if set (suc n) then record { 0 = suc n } ∷ [] else []
+
+  one_has : (n j : ℕ) (b : Bool) → has_job (if b then record { 0 = suc n } ∷ [] else []) j ≡ (b && nat_eq (suc n) j)
+  one_has n j true = by (nat_eq (suc n) j)
+    where
+      by : (c : Bool) → (c || false) ≡ c
+      by true = refl
+      by false = refl
+  one_has n j false = refl
+
+  -- those after the first n aren't there
+  pub has_none : (n j : ℕ) → n < j → has_job (rising_jobs set n) j ≡ false
+  has_none zero j lt = refl
+  has_none (suc n) j lt =
+      has_append (rising_jobs set n) (if set (suc n) then record { 0 = suc n } ∷ [] else []) j
+      ∙ (let first = has_none n j (omega arith) in
+      let rest = one_has n j (set (suc n)) ∙ ap (λ b. set (suc n) && b) (ne_eqb (suc n) j (λ e. omega arith)) ∙ and_false (set (suc n)) in
+      λ i. first i || rest i)
+    where
+      and_false : (b : Bool) → (b && false) ≡ false
+      and_false true = refl
+      and_false false = refl
+
+  pub has_set : (n j : ℕ) → 0 < j → j ≤ n → has_job (rising_jobs set n) j ≡ set j
+  has_set zero j pos le = absurd (omega arith)
+  has_set (suc n) j pos le =
+      has_append (rising_jobs set n) (if set (suc n) then record { 0 = suc n } ∷ [] else []) j
+      ∙ ⊎_elim
+      (λ e. (let first = has_none n j (omega arith) in
+      let rest = one_has n j (set (suc n)) ∙ ap (λ b. set (suc n) && b) (eq-eqb (suc n) j (sym e)) ∙ and_true (set (suc n)) ∙ ap set (sym e) in
+      λ i. first i || rest i))
+      (λ ne. (let first = has_set n j pos (omega arith) in
+      let rest = one_has n j (set (suc n)) ∙ ap (λ b. set (suc n) && b) (ne_eqb (suc n) j (λ e. ne (sym e))) ∙ and_false (set (suc n)) in
+      λ i. first i || rest i) ∙ or_false (set j))
+      (cases_eq j (suc n))
+    where
+      and_true : (b : Bool) → (b && true) ≡ b
+      and_true true = refl
+      and_true false = refl
+
+      and_false : (b : Bool) → (b && false) ≡ false
+      and_false true = refl
+      and_false false = refl
+
+      or_false : (b : Bool) → (b || false) ≡ b
+      or_false true = refl
+      or_false false = refl
+
+  -- each is above those before it
+  abbrev AreBelow : ℕ → List JobId → Type 0
+  AreBelow n [] = Unit {0}
+  AreBelow n (id ∷ more) = (id.0 ≤ n) × AreBelow n more
+
+  below_more : (n m : ℕ) (ids : List JobId) → n ≤ m → AreBelow n ids → AreBelow m ids
+  below_more n m [] le b = tt
+  below_more n m (id ∷ more) le b = (let l = b.0 in omega arith, below_more n m more le b.1)
+
+  below_append : (n : ℕ) (xs ys : List JobId) → AreBelow n xs → AreBelow n ys → AreBelow n (xs ++ ys)
+  below_append n [] ys a b = b
+  below_append n (x ∷ xs) ys a b = (a.0, below_append n xs ys a.1 b)
+
+  above_append : (n m : ℕ) (xs ys : List JobId) → n ≤ m → IsAbove n xs → AreBelow m xs → IsAbove m ys → IsAbove n (xs ++ ys)
+  above_append n m [] [] le a b c = tt
+  above_append n m [] (y ∷ ys) le a b c = (let l = c.0 in omega arith, c.1)
+  above_append n m (x ∷ xs) ys le a b c = (a.0, above_append x.0 m xs ys b.0 a.1 b.1 c)
+
+  one_below : (n : ℕ) (b : Bool) → AreBelow (suc n) (if b then record { 0 = suc n } ∷ [] else [])
+  one_below n true = (omega arith, tt)
+  one_below n false = tt
+
+  one_above : (n : ℕ) (b : Bool) → IsAbove n (if b then record { 0 = suc n } ∷ [] else [])
+  one_above n true = (omega arith, tt)
+  one_above n false = tt
+
+  are_below : (n : ℕ) → AreBelow n (rising_jobs set n)
+  are_below zero = tt
+  are_below (suc n) = below_append (suc n) (rising_jobs set n) (if set (suc n) then record { 0 = suc n } ∷ [] else [])
+      (below_more n (suc n) (rising_jobs set n) (omega arith) (are_below n)) (one_below n (set (suc n)))
+
+  are_above : (n : ℕ) → IsAbove 0 (rising_jobs set n)
+  are_above zero = tt
+  are_above (suc n) = above_append 0 n (rising_jobs set n) (if set (suc n) then record { 0 = suc n } ∷ [] else []) (omega arith) (are_above n) (are_below n)
+      (one_above n (set (suc n)))
+
+  each_below : (n : ℕ) (ids : List JobId) → AreBelow n ids → All (λ (id : JobId). id.0 ≤ n) ids
+  each_below n [] b k d lt = absurd (omega arith)
+  each_below n (id ∷ more) b zero d lt = b.0
+  each_below n (id ∷ more) b (suc k) d lt = each_below n more b.1 k d (omega arith)
+
+  pub rising_up_to : (n : ℕ) → AreJobsUpTo n (rising_jobs set n)
+  rising_up_to n = (are_above n, each_below n (rising_jobs set n) (are_below n))
+
+-- ---- as the code finds them
+
+module _ (set : Jobs) (at : ℕ) where
+  next_is : rising_jobs set (at + 1) ≡ rising_jobs set (suc at)
+  next_is = (let e : at + 1 ≡ suc at = omega arith in ap (rising_jobs set) e)
+
+  pub one_more : (ids new : List JobId) → ids ≡ rising_jobs set at → set (suc at) ≡ true → new ≡ ids ++ record { 0 = at + 1 } ∷ []
+      → new ≡ rising_jobs set (at + 1)
+  one_more ids new was is more =
+      more
+      ∙ (let e : at + 1 ≡ suc at = omega arith in let id : ℕ → JobId = λ n. record { 0 = n } in λ i. was i ++ id (e i) ∷ [])
+      ∙ ap (λ b. rising_jobs set at ++ (if b then record { 0 = suc at } ∷ [] else [])) (sym is)
+      ∙ sym next_is
+
+  pub none_more : (ids : List JobId) → ids ≡ rising_jobs set at → set (suc at) ≡ false → ids ≡ rising_jobs set (at + 1)
+  none_more ids was is =
+      was ∙ sym (append-nil (rising_jobs set at)) ∙ ap (λ b. rising_jobs set at ++ (if b then record { 0 = suc at } ∷ [] else [])) (sym is) ∙ sym next_is
+
+-- Where a set has none of some numbers, these add nothing.
+pub none_to : (set : Jobs) (m n : ℕ) → m ≤ n → ((k : ℕ) → m < k → k ≤ n → set k ≡ false) → rising_jobs set n ≡ rising_jobs set m
+none_to set m zero le none = let z : 0 ≡ m = omega arith in ap (rising_jobs set) z
+none_to set m (suc n) le none = ⊎_elim
+    (λ same. ap (rising_jobs set) (sym same))
+    (λ less. sym (none_more set n (rising_jobs set n) refl (none (suc n) (omega arith) (omega arith))
+    ∙ (let e : n + 1 ≡ suc n = omega arith in ap (rising_jobs set) e))
+    ∙ none_to set m n (omega arith) (λ k low high. none k low (omega arith)))
+    (cases_eq m (suc n))
+
+module _ (b : Book) (before : ℕ) (all : Jobs) where
+  -- the jobs of a set that aren't completed, by their own numbers
+  abbrev pub open_of : Jobs
+  open_of j = all j && not (b.completed j)
+
+  moved : (k j : ℕ) → before + k ≡ j → newly_of b before all k ≡ open_of j
+  moved k j e = ap open_of e
+
+  -- none of a set between two numbers, and then one
+  pub next_to : (at j : ℕ) → before ≤ at → at < j → open_of j ≡ true → ((k : ℕ) → at < k → k < j → open_of k ≡ false)
+      → (ids new : List JobId) → ids ≡ rising_jobs (newly_of b before all) (at - before) → new ≡ ids ++ record { 0 = j - before } ∷ []
+      → new ≡ rising_jobs (newly_of b before all) (j - before)
+  next_to at j le lt is none ids new was more =
+      let set : Jobs = newly_of b before all in
+      let n : ℕ = j - before - 1 in
+      let up : n + 1 ≡ j - before = omega arith in
+      let here : before + suc n ≡ j = omega arith in
+      let skipped = none_to set (at - before) n (omega arith)
+      (λ k low high. moved k (before + k) refl ∙ none (before + k) (omega arith) (omega arith)) in
+      let id : ℕ → JobId = λ m. record { 0 = m } in
+      one_more set n ids new (was ∙ sym skipped) (moved (suc n) j here ∙ is) (more ∙ ap (λ m. ids ++ id m ∷ []) (sym up))
+      ∙ ap (rising_jobs set) up
+
+  -- none any more
+  pub none_left : (at count : ℕ) → before ≤ at → at ≤ count → ((k : ℕ) → at < k → k ≤ count → open_of k ≡ false)
+      → (ids : List JobId) → ids ≡ rising_jobs (newly_of b before all) (at - before) → ids ≡ rising_jobs (newly_of b before all) (count - before)
+  none_left at count le few none ids was =
+      was ∙ sym (none_to (newly_of b before all) (at - before) (count - before) (omega arith)
+      (λ k low high. moved k (before + k) refl ∙ none (before + k) (omega arith) (omega arith)))
+
+pub is_empty : (v : Vec JobId Global) → nat_eq (vec_len v) 0 ≡ true → v.items ≡ []
+is_empty v e = by v.items (let len = v.ok.0 in let none = eqb-true (vec_len v) 0 e in omega arith)
+  where
+    by : (xs : List JobId) → length xs ≡ 0 → xs ≡ []
+    by [] e = refl
+    by (x ∷ xs) e = absurd (omega arith)
+
+pub newly_set : (b : Book) (p : Planner) (handle all : Jobs) → ((k : ℕ) → all k ≡ ancestors_in b handle k) → (ids : List JobId)
+    → ids ≡ rising_jobs (newly_of b p.jobs_before all) (count_of p.jobs - p.jobs_before)
+    → ids ≡ rising_jobs (newly_of b p.jobs_before (ancestors_in b handle)) (count_of p.jobs - p.jobs_before)
+newly_set b p handle all same ids e = e ∙ (let path : all ≡ ancestors_in b handle = λ i k. same k i in
+    ap (λ f. rising_jobs (newly_of b p.jobs_before f) (count_of p.jobs - p.jobs_before)) path)
+
+pub closed_after : (old : Planner) (jobs : JobBook) (store : SlotStore) (new : Planner) (handle : Jobs) (newly : List JobId)
+    → ((b : Book) → StandsFor old.jobs b → newly ≡ rising_jobs (newly_of b old.jobs_before (ancestors_in b handle)) (count_of old.jobs - old.jobs_before))
+    → ((b : Book) → StandsFor old.jobs b → StandsFor jobs (with_completed b handle))
+    → ((b : Book) → StandsFor jobs b → (k : ℕ) → place_of store k ≡ settled b (place_of old.store k))
+    → slots_in_use store ≤ slots_in_use old.store
+    → peak_of store ≡ peak_of old.store
+    → IsClosed (record old { jobs = jobs; store = store }) new newly
+    → AreCompleted old new handle
+closed_after old jobs store new handle newly are book places used peak closed =
+    let same_jobs = ap (λ (k : Planner). k.jobs) closed.rest in
+    let same_store = ap (λ (k : Planner). k.store) closed.rest in
+    record {
+      newly = newly;
+      newly_are = are;
+      jobs = λ b stands. subst (λ j. StandsFor j (with_completed b handle)) (sym same_jobs) (book b stands);
+      places = λ b stands k. ap (λ z. place_of z k) same_store ∙ places b (subst (λ j. StandsFor j b) same_jobs stands) k;
+      used = (let u = used in let e = ap slots_in_use same_store in omega arith);
+      peak = ap peak_of same_store ∙ peak;
+      segment = inl (subst (λ z. IsClosed (record old { jobs = new.jobs; store = z }) new newly) (sym same_store)
+          (subst (λ j. IsClosed (record old { jobs = j; store = store }) new newly) (sym same_jobs) closed));
+    }
+
+-- ---- the containers
+
+module _ (p q : Planner) (s : ScriptState) (found : List ℕ) (handle : Jobs) (was : AreContainers p s found) (known : IsKnown s)
+    (up : AreUpTo s.book.count handle)
+    (containers : q.containers ≡ p.containers) (names : length q.values.items ≡ length p.values.items) (safety : q.safety ≡ p.safety)
+    (places : (k : ℕ) → place_of q.store k ≡ settled (with_completed s.book handle) (place_of p.store k)) where
+  abbrev book : Book
+  book = with_completed s.book handle
+
+  abbrev t : ScriptState
+  t = complete handle s
+
+  book_known : IsBook book
+  book_known = completed_book s.book known.book handle up
+
+  uses_known : (c : ℕ) → AreUses book (s.uses c)
+  uses_known c = let u = known.uses c in record { users = u.users; writers = u.writers }
+
+  less_pending : (c : ℕ) → has_pending book (s.uses c) ≡ true → has_pending s.book (s.uses c) ≡ true
+  less_pending c e = ⊎_elim (λ h. h)
+      (λ none. absurd (not_both e (all_done book (s.uses c).users (λ j u.
+      or_left (s.book.completed j) (ancestors_in s.book handle j) (none_pending s.book (s.uses c).users (known.uses c).users none j u)))))
+      (either_bool (has_pending s.book (s.uses c)))
+
+  still_held : (state : Rattle.slot_store.specs.declared.place.State.State) (c : ℕ) → IsHeldFor s.book state (s.uses c) → IsHeldFor book state (s.uses c)
+  still_held state c h = record { held = h.held; latest = h.latest; stands = completed_stands s.book h.latest (s.uses c) h.stands handle; users = h.users }
+
+  between : AreBetween p q s t (place_of p.store)
+  between = record {
+    used = λ k u. u;
+    rising = λ k. omega arith;
+    low = was.versions;
+    current = λ k tag e. ap (λ (b : Rattle.safety_handle.specs.declared.book.SafetyBook.SafetyBook). Rattle.safety_handle.specs.Checks.is_current
+        (state_of b k) tag) safety ∙ e;
+    stays = λ c it has a. (refl, ap (λ (b : Rattle.safety_handle.specs.declared.book.SafetyBook.SafetyBook). state_of b it.slot.0) safety);
+    ended = λ c it has a d. absurd (not_both a d);
+    held = λ c it has d live. (still_held (place_of p.store it.slot.0).state c ((was.each c it has).held d live), refl);
+  }
+
+  pub completed_stand : AreContainers q t found
+  completed_stand =
+      ended p q s found s.alive book s.frame s.values s.lines was containers names (λ c lt a. a) less_pending (λ l u h. completed_stands s.book l u h handle)
+      (are_ended p q s found s.alive book s.frame s.values s.lines was (λ c a. a) less_pending book_known uses_known (place_of p.store) between places)

@@ -1,0 +1,14 @@
+pub mod Ranges
+pub mod Endings
+pub mod Changes
+pub mod CompletedJobs
+pub mod CompletesGoOn
+pub mod Disposals
+pub mod DisposalsGoOn
+pub mod FramesGoOn
+pub mod HoldsGoOn
+pub mod NewNames
+pub mod Prints
+pub mod Reporting
+pub mod TestsGoOn
+pub mod WaitsGoOn

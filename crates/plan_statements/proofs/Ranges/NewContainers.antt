@@ -1,0 +1,284 @@
+-- A statement that makes a container goes on: its words were taken and it was entered, or it was refused.
+use Rattle.std.proofs.Common.{◌≡◌, ℕ, suc, ◌+◌, ◌<◌, ◌≤◌, ◌^◌, inl, true, false, not, ℤ, List, [], ◌∷◌, ◌++◌, length, map, Option, Some, None, Result, Ok, Err, refl, sym, ap, subst, ◌∙◌, arith, append-nil, length-append}
+use Rattle.std.specs.Prelude.{nat_le, slice_set, get_or, Vec, vec_len}
+use Rattle.std.specs.Result.{IfErr, IsErrAnd}
+use Rattle.std.specs.declared.alloc.Global.{Global}
+use Rattle.job_base.specs.declared.Refusal.TheVariants.{StoreFull}
+use Rattle.job_base.specs.declared.limits.TheConstants.{MOST_STATEMENTS, MOST_LIVE_WORDS}
+use Rattle.frame_ast.specs.declared.script.Life.{Life}
+use Rattle.frame_ast.specs.declared.script.Script.{Script}
+use Rattle.frame_ast.specs.declared.script.Statement.{Statement}
+use Rattle.frame_ast.specs.Checks.{refusal}
+use Rattle.frame_ast.specs.Contents.{Contents, Cells as Elements, Single, Items, Pairs, Entries, words_of}
+use Rattle.frame_ast.specs.Effects.{effect, make}
+use Rattle.frame_ast.specs.Lists.{some_if}
+use Rattle.frame_ast.specs.Laws.{lost_value, passed_with}
+use Rattle.frame_ast.specs.Forms.{form_of}
+use Rattle.frame_ast.specs.Orders.{Table, Setting, setting, made_by}
+use Rattle.frame_ast.specs.Ranges.{takes_words}
+use Rattle.frame_ast.specs.Refusals.{Refused, refused, store_full}
+use Rattle.frame_ast.specs.Scripts.{act, act_or_pass, decided}
+use Rattle.frame_ast.specs.States as states
+use Rattle.frame_ast.specs.States.{ScriptState, live_words}
+use Rattle.kernel_exec.specs.declared.binds.Bind.{Bind}
+use Rattle.slot_store.specs.declared.slot.Taken.{Taken}
+use Rattle.slot_store.specs.Stores.{peak_of, live_words_of, slots_in_use}
+use Rattle.safety_handle.specs.Entries.{state_of}
+use Rattle.frame_core.specs.declared.plan.Act.TheVariants.{Fill}
+use Rattle.frame_core.specs.declared.plan.Op.{Op}
+use Rattle.frame_core.specs.Names.{literal_of}
+use Rattle.frame_core.specs.Ordered.{IsLiteral}
+use Rattle.plan_laws.specs.Binds.{bind_of}
+use Rattle.plan_laws.specs.Making.{FillsAs, IsGivenBy}
+use Rattle.plan_laws.specs.Planned.{Outline}
+use Rattle.plan_laws.proofs.Filling.{zeros_fill, literals_fill}
+use Rattle.plan_state.specs.declared.state.PlanFault.{PlanFault}
+use Rattle.plan_state.specs.declared.state.PlanFault.TheVariants.{Jobs, Words, NoMemory}
+use Rattle.plan_state.specs.declared.state.Planner.{Planner}
+use Rattle.plan_state.specs.declared.state.Value.TheVariants.{Whole}
+use Rattle.plan_statements.specs.Making.{TakesWords, HasTaken, FailsToTake, HasLiteralOf, IsEntered, IsLost, and_if}
+use Rattle.plan_state.specs.Stands.{Stands}
+use Rattle.plan_state.specs.Steps.{state_at, state_after, IsStep, StandsAt, HasStepped, IsBefore, PassesLimit}
+use Rattle.plan_statements.proofs.Ranges.Entering.{IsMade, made_stands}
+use Rattle.plan_state.proofs.Quiet.{IsNoSchedule}
+use Rattle.plan_statements.proofs.Ranges.Ranging.{HasFound, HasOneMore, range_steps}
+use Rattle.plan_state.proofs.Reaching.{statements_few, within}
+use Rattle.plan_state.proofs.Restating.{said_dead}
+
+-- a fault that is handed on
+pub handed_on : {T E : Type 0} (r : Result T E) (e : E) (P : E → Type 0) → IsErrAnd r (λ y. y ≡ e) → P e → IfErr r P
+handed_on (Ok x) e P h p = tt
+handed_on (Err y) e P h p = subst P (sym h) p
+
+-- WHICH STATEMENTS MAKE ONE
+
+pub record Makes (g : Setting) (x : Statement) (name : ℕ) (life : Life) (c : Contents) : Type 0 where
+  pub refusal_is : (s : ScriptState) → refusal g s x.act ≡ store_full s (words_of c) name
+  pub effect_is : (s : ScriptState) → effect g x.line s x.act ≡ make x.line name life c s
+  pub made : made_by x.act ≡ Some name
+  pub lost : lost_value x.act ≡ states.Dead
+  pub passed : passed_with x.act ≡ 0
+  pub takes : takes_words g x.act ≡ Some (words_of c)
+  pub job : IsNoSchedule x.act
+  pub below : name < length g.names
+
+-- THE STORE IS FULL, OR IT ISN'T
+
+pub is_full : (s : ScriptState) (words name : ℕ) → MOST_LIVE_WORDS < live_words s + words → store_full s words name ≡ Some (refused StoreFull name)
+is_full s words name lt = ap (λ b. some_if (not b) (refused StoreFull name)) (let e : nat_le (live_words s + words) MOST_LIVE_WORDS ≡ false = grind arith in e)
+
+pub not_full : (s : ScriptState) (words name : ℕ) → live_words s + words ≤ MOST_LIVE_WORDS → store_full s words name ≡ None
+not_full s words name le = ap (λ b. some_if (not b) (refused StoreFull name)) (let e : nat_le (live_words s + words) MOST_LIVE_WORDS ≡ true = grind arith in e)
+
+-- LITERALS
+
+-- what is given fills the contents: zeros a new container, elements an array or a reference
+abbrev pub IsGiven : Option (List ℤ) → Contents → Type 0
+IsGiven None c = form_of c ≡ c
+IsGiven (Some ys) c = IsGivenBy ys c
+
+given_long : (ys : List ℤ) (c : Contents) → IsGivenBy ys c → length ys ≡ words_of c
+given_long ys (Elements xs) e = ap length e
+given_long ys (Single z) e = ap length e
+given_long ys (Items cap xs) e = absurd e
+given_long ys (Pairs cap ps) e = absurd e
+given_long ys (Entries room es) e = absurd e
+
+literal_there : (xs more : List (Vec ℤ Global)) (v : Vec ℤ Global) → get_or (map (λ v. v.items) ((xs ++ v ∷ []) ++ more)) (length xs) [] ≡ v.items
+literal_there [] more v = refl
+literal_there (x ∷ xs) more v = literal_there xs more v
+
+-- the planner that has the words and the literal
+pub taken_with : (p q r : Planner) (len : ℕ) (t : Taken) (xs : Option (List ℤ)) (literal : Option ℕ) → HasTaken p q len t → HasLiteralOf q r xs literal
+    → r ≡ record p { store = q.store; created = q.created; plan = record p.plan { literals = r.plan.literals } }
+taken_with p q r len t xs literal took has =
+    rest xs literal has ∙ ap (λ (z : Planner). record z { plan = record z.plan { literals = r.plan.literals } }) took.rest
+  where
+    rest : (xs : Option (List ℤ)) (literal : Option ℕ) → HasLiteralOf q r xs literal → r ≡ record q { plan = record q.plan { literals = r.plan.literals } }
+    rest None None e = e ∙ (λ i. record q { plan = record q.plan { literals = (sym e i).plan.literals } })
+    rest None (Some k) e = absurd e
+    rest (Some ys) None e = absurd e
+    rest (Some ys) (Some k) e = e.rest
+
+-- it knows as many names and containers
+pub as_many_names : (p q r : Planner) (len : ℕ) (t : Taken) (xs : Option (List ℤ)) (literal : Option ℕ) → HasTaken p q len t → HasLiteralOf q r xs literal
+    → (name : ℕ) → name < vec_len p.values → name < vec_len r.values
+as_many_names p q r len t xs literal took has name lt = subst (λ (z : Planner). name < vec_len z.values) (sym (taken_with p q r len t xs literal took has)) lt
+
+pub as_many_containers : (p q r : Planner) (len : ℕ) (t : Taken) (xs : Option (List ℤ)) (literal : Option ℕ) → HasTaken p q len t → HasLiteralOf q r xs literal
+    → vec_len p.containers < 2 ^ 32 → vec_len r.containers < 2 ^ 32
+as_many_containers p q r len t xs literal took has lt = subst (λ (z : Planner). vec_len z.containers < 2 ^ 32)
+    (sym (taken_with p q r len t xs literal took has)) lt
+
+pub as_many_literals : (p q : Planner) (len : ℕ) (t : Taken) → HasTaken p q len t → vec_len p.plan.literals < 2 ^ 32 → vec_len q.plan.literals < 2 ^ 32
+as_many_literals p q len t took lt = subst (λ (z : Planner). vec_len z.plan.literals < 2 ^ 32) (sym took.rest) lt
+
+-- WHAT READY SAYS
+
+module _ (script : Script) (x : Statement) (p : Planner) (b : IsBefore script p x) where
+  abbrev few : b.n < MOST_STATEMENTS
+  few = statements_few script b.table b.n x b.step
+
+  pub ready_name : (name : ℕ) → name < length (setting script b.table).names → name < vec_len p.values
+  ready_name name lt = within p (setting script b.table) b.begun b.n (state_at script b.table b.n) b.found b.stands name lt
+
+  pub ready_slots : slots_in_use p.store < 4294967295
+  ready_slots = let a = b.stands.numbers.slots_few in let m = b.stands.numbers.made_few in let c = few in omega arith
+
+  pub ready_containers : vec_len p.containers < 2 ^ 32
+  ready_containers = let l = p.containers.ok.0 in let a = b.stands.containers.made in let m = b.stands.numbers.made_few in let c = few in omega arith
+
+  pub ready_literals : vec_len p.plan.literals < 2 ^ 32
+  ready_literals = let l = p.plan.literals.ok.0 in let a = b.stands.numbers.literals_few in let c = few in omega arith
+
+-- THE STATEMENT IS ACCEPTED
+
+module _ (script : Script) (table : Table) (begun : ScriptState) (n : ℕ) (x : Statement) (found : List ℕ) (p : Planner)
+    (step : IsStep script table n x) (st : StandsAt p script table begun n found)
+    (name : ℕ) (life : Life) (c : Contents) (makes : Makes (setting script table) x name life c) where
+  abbrev g : Setting
+  g = setting script table
+
+  abbrev s : ScriptState
+  s = state_at script table n
+
+  accepted : live_words_of p.store + words_of c ≤ MOST_LIVE_WORDS → refusal g s x.act ≡ None
+  accepted le = makes.refusal_is s ∙ not_full s (words_of c) name (let e = st.numbers.live_words in omega arith)
+
+  acted : live_words_of p.store + words_of c ≤ MOST_LIVE_WORDS → act g s x ≡ make x.line name life c s
+  acted le =
+      ap (λ k. act_or_pass k g s x) step.acts
+      ∙ ap (λ o. decided o g s x) (accepted le)
+      ∙ makes.effect_is s
+
+  -- too many words in all
+  pub fails : (fault : PlanFault) (len : ℕ) → len ≡ words_of c → FailsToTake fault p len → PassesLimit fault (state_after script table n x)
+  fails NoMemory len e f = tt
+  fails Jobs len e f = absurd f
+  fails Words len e f =
+      let le = f.0 in
+      let lt = f.1 in
+      let k = st.numbers.created in
+      let is : (act g s x).created ≡ s.created + words_of c = ap (λ (t : ScriptState). t.created) (acted (omega arith)) in
+      omega arith
+
+  -- too many live words
+  pub lost_goes_on : (q : Planner) (len : ℕ) → len ≡ words_of c → MOST_LIVE_WORDS < live_words_of p.store + len → IsLost p q x.line name
+      → HasStepped script table begun n found p q x
+  lost_goes_on q len e lt l =
+      said_dead script table begun n found x step (refused StoreFull name) p st
+      (makes.refusal_is s ∙ is_full s (words_of c) name (let k = st.numbers.live_words in omega arith)) makes.below
+      l.said q name makes.made makes.lost makes.passed (inl refl) l.says l.renames
+
+  module _ (q r u : Planner) (t : Taken) (len : ℕ) (len_is : len ≡ words_of c) (took : HasTaken p q len t) (bind : Bind)
+      (bind_is : bind ≡ bind_of t.span.start c)
+      (xs : Option (List ℤ)) (given : IsGiven xs c) (literal : Option ℕ) (has : HasLiteralOf q r xs literal)
+      (entered : IsEntered r u x.line name life t bind literal) where
+    before : r ≡ record p { store = q.store; created = q.created; plan = record p.plan { literals = r.plan.literals } }
+    before = taken_with p q r len t xs literal took has
+
+    after : u ≡ record p {
+      store = q.store;
+      safety = u.safety;
+      containers = u.containers;
+      values = u.values;
+      temps = u.temps;
+      tempjobs = u.tempjobs;
+      created = q.created;
+      plan = record p.plan { literals = r.plan.literals; ops = u.plan.ops };
+    }
+    after = entered.rest ∙ ap (λ (z : Planner). record z {
+      safety = u.safety;
+      containers = u.containers;
+      values = u.values;
+      temps = u.temps;
+      tempjobs = u.tempjobs;
+      plan = record z.plan { ops = u.plan.ops };
+    }) before
+
+    more_literals : (xs : Option (List ℤ)) (literal : Option ℕ) → HasLiteralOf q r xs literal
+        → (more : List (Vec ℤ Global)) × (r.plan.literals.items ≡ p.plan.literals.items ++ more) × (length more ≤ 1)
+    more_literals None None e = ([], ap (λ (z : Planner). z.plan.literals.items) (e ∙ took.rest) ∙ sym (append-nil p.plan.literals.items), omega arith)
+    more_literals None (Some k) e = absurd e
+    more_literals (Some ys) None e = absurd e
+    more_literals (Some ys) (Some k) e = (e.literal ∷ [], e.literals ∙ ap (λ (z : Planner). z.plan.literals.items ++ e.literal ∷ []) took.rest, omega arith)
+
+    more : (more : List (Vec ℤ Global)) × (r.plan.literals.items ≡ p.plan.literals.items ++ more) × (length more ≤ 1)
+    more = more_literals xs literal has
+
+    few_words : live_words_of p.store + words_of c ≤ MOST_LIVE_WORDS
+    few_words = let a = took.few in omega arith
+
+    words : TakesWords p.store q.store (words_of c) t
+    words = subst (λ k. TakesWords p.store q.store k t) len_is took.taken
+
+    made_is : IsMade p x.line name life c literal t entered.it q.store u.safety u.containers u.values u.temps u.tempjobs q.created r.plan.literals u.plan.ops
+    made_is = record {
+      small = (let a = took.small in let e = took.created in omega arith);
+      created_is = took.created ∙ ap (λ k. p.created + k) len_is;
+      takes = words;
+      enrolled = entered.enrolled;
+      others = λ k ne. entered.others k ne ∙ ap (λ (z : Planner). state_of z.safety k) before;
+      bind = entered.bind_is ∙ bind_is;
+      slot_is = entered.slot_is;
+      version_is = entered.version_is;
+      life_is = entered.life_is;
+      frame_is = entered.frame_is ∙ ap (λ (z : Planner). z.frame) before;
+      name_is = entered.name_is;
+      line_is = entered.line_is;
+      containers_are = entered.containers ∙ ap (λ (z : Planner). z.containers.items ++ entered.it ∷ []) before;
+      values_are = entered.values ∙ ap (λ (z : Planner). slice_set z.values.items name (Whole (length z.containers.items))) before;
+      temps_are = entered.temps ∙ ap (λ (z : Planner). and_if (Rattle.frame_ast.specs.Refusals.is_temp life) z.temps.items (length z.containers.items)) before;
+      tempjobs_are = entered.tempjobs ∙ ap (λ (z : Planner). and_if (Rattle.frame_ast.specs.Effects.is_tempjob life) z.tempjobs.items
+          (length z.containers.items)) before;
+      literals_more = more.0;
+      literals_are = more.1;
+      literals_one = more.2;
+      ops_are = entered.ops ∙ ap (λ (z : Planner). z.plan.ops.items ++ record { line = x.line; name = name; act = Fill t.span literal } ∷ []) before;
+    }
+
+    -- what the whole plan has at the literal's place
+    literal_is : (y : Outline) (later : List (Vec ℤ Global)) → y.plan.literals.items ≡ r.plan.literals.items ++ later
+        → (xs : Option (List ℤ)) (literal : Option ℕ) → IsGiven xs c → HasLiteralOf q r xs literal
+        → IsLiteral y.plan t.span literal × FillsAs y.plan t.span literal c
+    literal_is y later e None None given h = (tt, zeros_fill y.plan t.span c words.len_is given)
+    literal_is y later e None (Some k) given h = absurd h
+    literal_is y later e (Some ys) None given h = absurd h
+    literal_is y later e (Some ys) (Some k) given h =
+        let all : y.plan.literals.items ≡ (q.plan.literals.items ++ h.literal ∷ []) ++ later = e ∙ ap (λ l. l ++ later) h.literals in
+        let at : literal_of y.plan k ≡ ys =
+        (let a = all in let b = h.number_is in λ i. get_or (map (λ (v : Vec ℤ Global). v.items) (a i)) (b i) [])
+        ∙ literal_there q.plan.literals.items later h.literal ∙ h.elements in
+        let n = h.number_is in
+        let l = ap length all in
+        let m = length-append (q.plan.literals.items ++ h.literal ∷ []) later in
+        let o = length-append q.plan.literals.items (h.literal ∷ []) in (
+          ((omega arith), ap length at ∙ given_long ys c given ∙ sym words.len_is),
+          literals_fill y.plan t.span k c words.len_is (subst (λ zs. IsGivenBy zs c) (sym at) given),
+        )
+
+    -- the operation that fills the words
+    abbrev filling : Op
+    filling = record { line = x.line; name = name; act = Fill t.span literal }
+
+    one_op : HasOneMore p u filling
+    one_op = record {
+      ops = made_is.ops_are;
+      segments = ap (λ (z : Planner). z.plan.segments) after;
+      waits = ap (λ (z : Planner). z.plan.waits) after;
+      jobs = ap (λ (z : Planner). z.plan.jobs) after;
+      kernels = ap (λ (z : Planner). z.plan.kernels) after;
+    }
+
+    found_is : HasFound p u (words_of c) t.span
+    found_is = record { fit = words.fit; len = words.len_is; peak = ap (λ (z : Planner). peak_of z.store) after ∙ words.peak }
+
+    pub goes_on : HasStepped script table begun n found p u x
+    goes_on =
+        range_steps script table begun n found x step p u st (words_of c) t.span filling found_is one_op refl
+        (accepted few_words) makes.takes makes.job (ap (λ (z : ScriptState). z.book.completed) (acted few_words))
+        (subst (λ z. Stands u g begun (suc n) z (found ++ t.span.start ∷ [])) (sym (acted few_words))
+        (subst (λ z. Stands z g begun (suc n) (make x.line name life c s) (found ++ t.span.start ∷ [])) (sym after)
+        (made_stands p g begun n s found x.line name life c literal t entered.it q.store u.safety u.containers u.values u.temps u.tempjobs q.created
+        r.plan.literals u.plan.ops st makes.below made_is
+        (λ y a. literal_is y a.literals.0 a.literals.1 xs literal given has))))

@@ -1,0 +1,9 @@
+use Rattle.std.proofs.Common.{◌-◌, length}
+use Rattle.plan_statements.proofs.Reporting.{AreReportedSoFar}
+use Rattle.plan_statements.proofs.frames.report_overdue.Given as goal
+
+abbrev pub invariant-loop-container : goal.invariant-loop-container
+invariant-loop-container l = AreReportedSoFar l.fn.planner l.planner l.line
+
+abbrev pub decreases-loop-container : goal.decreases-loop-container
+decreases-loop-container l = length l.planner.tempjobs.items - l.planner.overdue

@@ -1,0 +1,63 @@
+// `when`: whether it acts. The block of one that is refused is passed by.
+ghost use Rattle.std.specs.Prelude.{◌<◌, IfOk, vec_len};
+ghost use Rattle.frame_ast.specs.declared.script.Order.TheVariants.{When as WhenOf};
+ghost use Rattle.plan_state.specs.Accesses.{AreThere};
+ghost use Rattle.plan_state.specs.Steps.{IsReady};
+ghost use Rattle.plan_statements.specs.Tests.{IsDecided, IsLatestRunning, IsTestRefusal};
+
+use frame_ast::script::Sign;
+use job_base::{JobId, NoMemory, Refusal};
+use plan_state::Planner;
+
+/// Whether a `when` is refused. Then that is said, and its block will be passed by.
+pub fn refuse_test(
+    planner: &mut Planner,
+    line: u32,
+    name: u32,
+    sign: Sign,
+    value: i64,
+    count: u32,
+) -> Result<bool, NoMemory>
+    requires ready { IsReady planner.old (record { line = line; act = WhenOf name sign value count }) }
+    ensures decided { IfOk result (IsDecided planner.old planner.new
+        (record { line = line; act = WhenOf name sign value count })) }
+{
+    match test_refusal(planner, name) {
+        None => Ok(false),
+        Some(refusal) => {
+            planner.push_refusal(line, name, refusal)?;
+            planner.passing = count;
+            Ok(true)
+        }
+    }
+}
+
+/// Why the value of a name can't be tested now: its container is disposed, or a job isn't completed.
+fn test_refusal(planner: &Planner, name: u32) -> Option<Refusal>
+    requires name { name < vec_len planner.now.values }
+    requires there { AreThere (vec_len planner.now.containers) (vec_len planner.now.handles) planner.now.values.items }
+    ensures { IsTestRefusal planner.now name result }
+{
+    if planner.is_disposed(name) {
+        return Some(Refusal::Disposed);
+    }
+    match latest_running(planner) {
+        None => None,
+        Some(job) => Some(Refusal::Busy(job)),
+    }
+}
+
+/// The latest job that isn't completed.
+fn latest_running(planner: &Planner) -> Option<JobId>
+    ensures { IsLatestRunning planner.now.jobs result }
+{
+    let mut left = planner.jobs.count();
+    while left > 0 {
+        let job = JobId(left);
+        if !planner.jobs.is_completed(job) {
+            return Some(job);
+        }
+        left -= 1;
+    }
+    None
+}
