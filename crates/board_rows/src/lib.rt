@@ -20,3 +20,5 @@ mod runs;
 mod scripts;
 #[cfg(test)]
 mod sinks;
+#[cfg(test)]
+mod turns;

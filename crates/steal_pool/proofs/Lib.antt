@@ -3,7 +3,9 @@ mod Placed
 mod Ready
 mod Following
 mod Opening
-mod Turns
+mod Leased
+mod Standings
+mod Ending
 mod Joining
 mod Giving
 mod Claiming

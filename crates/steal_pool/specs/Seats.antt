@@ -1,8 +1,9 @@
 -- What the seats of a pool know between two of its steps.
-use Rattle.std.specs.Prelude.{◌≡◌, ℕ, ◌≤◌, true, false, Some, None, List}
+use Rattle.std.specs.Prelude.{◌≡◌, ℕ, ◌+◌, ◌≤◌, true, false, Some, None, List}
 use Rattle.job_base.specs.declared.JobId.{JobId}
 use Rattle.frame_core.specs.declared.plan.Plan.{Plan}
-use Rattle.frame_core.specs.Know.{Know, is_of, less_once}
+use Rattle.frame_core.specs.Know.{Know, begun, is_of, less_once}
+use Rattle.frame_core.specs.Names.{job_pieces}
 use Rattle.steal_pool.specs.declared.place.Place.{Place}
 use Rattle.steal_pool.specs.Followers.{times}
 
@@ -54,6 +55,17 @@ pub record IsAt (i : ℕ) (k : Know) : Type 0 where
   pub first : k.first ≡ true
   pub ended : k.ended ≡ i
   pub opened : k.opened ≡ false
+
+-- the first seat, after some segments, where it opened the next one
+pub record IsOpenAt (i : ℕ) (k : Know) : Type 0 where
+  pub idle : IsIdle k
+  pub first : k.first ≡ true
+  pub ended : k.ended ≡ i
+  pub opened : k.opened ≡ true
+
+-- the same, where it began that segment, and has the lease of it
+abbrev pub IsBegun : Plan → ℕ → Know → Type 0
+IsBegun plan i k = (before : Know) × IsOpenAt i before × (k ≡ begun plan before (job_pieces plan + i) true)
 
 -- a place whose seat is one of the board's, and idle
 pub record IsReady {S : Type 0} (home : S → List ℕ) (know : S → Know) (name : List ℕ) (place : Place S) : Type 0 where

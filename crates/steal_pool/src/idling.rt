@@ -52,6 +52,38 @@ pub fn wake_script(shared: &Shared, job: JobId) {
     }
 }
 
+/// Whom a worker tells that there is something to do. No clause speaks of this.
+pub trait Waking {
+    /// This worker turns to something else than looking for jobs.
+    fn leave_search(shared: &Shared, tools: &mut Tools);
+
+    /// A job is finished.
+    fn end_job(shared: &Shared, job: JobId);
+}
+
+/// Those who sleep: a worker that finds no piece sleeps, until it is woken.
+pub struct Sleepers;
+
+impl Waking for Sleepers {
+    fn leave_search(shared: &Shared, tools: &mut Tools) {
+        leave_search(shared, tools);
+    }
+
+    fn end_job(shared: &Shared, job: JobId) {
+        wake_script(shared, job);
+    }
+}
+
+/// Nobody: who finds no piece goes back to its caller. In a library that other languages link a call that could wake
+/// somebody can't be stated, not even where nobody sleeps.
+pub struct NoSleepers;
+
+impl Waking for NoSleepers {
+    fn leave_search(_shared: &Shared, _tools: &mut Tools) {}
+
+    fn end_job(_shared: &Shared, _job: JobId) {}
+}
+
 /// The script is through. The workers end as soon as they find nothing more.
 pub fn end_workers(shared: &Shared) {
     shared.over.store(true);

@@ -20,6 +20,10 @@
 //! **Each piece is given once.** The counts are words under a rule (`specs/Given`): a piece is given by a token, no two
 //! tokens have one piece, and who is refused a piece of a job learns that all of them are given ([`laws`]).
 //!
+//! **By turns.** Where the caller has threads of his own, as an engine has, they are the workers ([`Turns`]): a call
+//! runs one piece or one segment at most, and returns. None waits, sleeps, wakes or starts a thread, so a library that
+//! other languages link may have them. Between its turns the script's thread keeps how far it is, a [`Standing`].
+//!
 //! **That a run ends is not proved**, since threads may wait. It rests on this: whoever may open a job opens each piece
 //! before it offers the job (proved: only a seat with none left to open offers one); a deque has room for every job
 //! twice (proved), and its worker offers each job once where it opens it and once where it takes it up; what is offered
@@ -49,12 +53,18 @@ mod room;
 mod script;
 mod sections;
 mod shown_plan;
+mod standing;
 mod threads;
+mod turns;
 mod view;
 mod waiting;
 mod whole;
 
+pub use crew::Shared;
+pub use place::Place;
 pub use room::PoolRoom;
 pub use sections::join_reports;
 pub use shown_plan::{ShowsPlan, may_be_shared};
+pub use standing::Standing;
+pub use turns::{HelperTurn, ScriptTurn, Turns};
 pub use whole::{run, run_lines};

@@ -10,7 +10,7 @@ ghost use Rattle.steal_pool.specs.Seats.{IsIdle, IsOn, IsSteady, IsReleased, May
 use crate::claims::{Claimed, Claims};
 use crate::crew::{Crew, Shared};
 use crate::held::run_piece_leased;
-use crate::idling::{leave_search, wake_script};
+use crate::idling::Waking;
 use crate::place::Tools;
 use crate::queue::Queue;
 use frame_core::{Board, Plan};
@@ -106,7 +106,7 @@ pub struct Turn<S> {
 }
 
 // Ends a piece of a job that was run, and counts it.
-fn end_piece<B: Board>(
+fn end_piece<W: Waking, B: Board>(
     plan: &Plan,
     board: &B,
     seat: &mut B::Seat,
@@ -127,12 +127,12 @@ fn end_piece<B: Board>(
 {
     if let Some(job) = board.count(seat) {
         release_after(plan, board, seat, queue, shared.followers.of(job));
-        wake_script(shared, job);
+        W::end_job(shared, job);
     }
 }
 
 // Runs a piece of a job that is given to this worker, if it is open.
-fn run_given_piece<R, B: Board, G: Gate>(
+fn run_given_piece<W: Waking, R, B: Board, G: Gate>(
     crew: &Crew<R, B, G>,
     tools: &mut Tools,
     seat: B::Seat,
@@ -166,7 +166,7 @@ fn run_given_piece<R, B: Board, G: Gate>(
     let mut own = run_piece_leased(plan, board, own, piece, job, place, &mut tools.scratch);
     crew.gate.leave(tools.number, piece);
     board.end(&mut own);
-    end_piece(plan, board, &mut own, &mut tools.queue, crew.shared);
+    end_piece::<W, B>(plan, board, &mut own, &mut tools.queue, crew.shared);
     Turn {
         seat: own,
         ran: true,
@@ -193,7 +193,7 @@ fn at_hand(plan: &Plan, claims: &Claims, tools: &mut Tools) -> Option<Claimed>
 }
 
 // Takes up a job that is offered, and offers it again where it has more pieces than the one that is answered.
-fn take_up<B: Board>(
+fn take_up<W: Waking, B: Board>(
     plan: &Plan,
     shared: &Shared,
     tools: &mut Tools,
@@ -211,7 +211,7 @@ fn take_up<B: Board>(
                 tools.at_hand = Some(job);
                 tools.queue.offer::<B>(seat, job);
             }
-            leave_search(shared, tools);
+            W::leave_search(shared, tools);
             return Some(claimed);
         }
     }
@@ -219,7 +219,7 @@ fn take_up<B: Board>(
 }
 
 // The next piece of a job that is for this worker to run.
-fn next_piece<B: Board>(
+fn next_piece<W: Waking, B: Board>(
     plan: &Plan,
     shared: &Shared,
     tools: &mut Tools,
@@ -233,11 +233,12 @@ fn next_piece<B: Board>(
     if let Some(claimed) = at_hand(plan, &shared.claims, tools) {
         return Some(claimed);
     }
-    take_up::<B>(plan, shared, tools, seat)
+    take_up::<W, B>(plan, shared, tools, seat)
 }
 
-/// Runs a piece of a job, if one is found that is open: of the job at hand, or else of one that it takes up.
-pub fn help<R, B: Board, G: Gate>(
+/// Runs a piece of a job, if one is found that is open: of the job at hand, or else of one that it takes up. `W` is who
+/// is told of what others can do.
+pub fn help<W: Waking, R, B: Board, G: Gate>(
     crew: &Crew<R, B, G>,
     tools: &mut Tools,
     seat: B::Seat,
@@ -249,8 +250,8 @@ pub fn help<R, B: Board, G: Gate>(
     ensures idle { IsIdle (B.know result.seat) }
     ensures on { IsOn (B.know seat) (B.know result.seat) }
 {
-    match next_piece::<B>(crew.plan, crew.shared, tools, &seat) {
-        Some(claimed) => run_given_piece(crew, tools, seat, claimed),
+    match next_piece::<W, B>(crew.plan, crew.shared, tools, &seat) {
+        Some(claimed) => run_given_piece::<W, R, B, G>(crew, tools, seat, claimed),
         None => Turn { seat, ran: false },
     }
 }

@@ -1,5 +1,5 @@
 // What one worker has.
-ghost use Rattle.std.specs.Prelude.{◌≡◌, IfOk, Some};
+ghost use Rattle.std.specs.Prelude.{◌≡◌, IfOk, IsSome, Some};
 
 use crate::queue::Queue;
 use job_base::{JobId, NoMemory};
@@ -43,5 +43,17 @@ impl<S: Drop> Place<S> {
                 scratch,
             },
         })
+    }
+
+    /// Its seat.
+    pub fn into_seat(self) -> S
+        requires { IsSome self.seat }
+        ensures { self.seat ≡ Some result }
+    {
+        let Place { seat, tools: _ } = self;
+        match seat {
+            Some(held) => held,
+            None => unreachable!(),
+        }
     }
 }

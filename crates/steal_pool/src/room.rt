@@ -18,9 +18,9 @@ use std::alloc::Global;
 /// run takes no memory beside it.
 #[derive(Drop)]
 pub struct PoolRoom<T> {
-    pub(crate) first: Place<T>,
-    pub(crate) others: Vec<Place<T>>,
-    pub(crate) shared: Shared,
+    pub first: Place<T>,
+    pub others: Vec<Place<T>>,
+    pub shared: Shared,
 }
 
 impl<T: Drop> PoolRoom<T> {
@@ -68,10 +68,6 @@ impl<T: Drop> PoolRoom<T> {
             others: _,
             shared: _,
         } = self;
-        let Place { seat, tools: _ } = first;
-        match seat {
-            Some(held) => held,
-            None => unreachable!(),
-        }
+        first.into_seat()
     }
 }

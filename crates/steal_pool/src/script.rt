@@ -8,7 +8,7 @@ ghost use Rattle.plan_run.specs.Runs.{RunsBetween};
 ghost use Rattle.plan_run.specs.Says.{SaysTo};
 ghost use Rattle.plan_run.specs.ScriptOrder.{IsJobOf};
 ghost use Rattle.steal_pool.specs.Crews.{IsCrewOf};
-ghost use Rattle.steal_pool.specs.Seats.{IsIdle, IsOn, IsAt, MayOpenNone};
+ghost use Rattle.steal_pool.specs.Seats.{IsIdle, IsOn, IsAt, IsBegun, MayOpenNone};
 
 use crate::crew::Crew;
 use crate::held::{SegmentRun, run_segment_leased};
@@ -48,6 +48,46 @@ fn start_job<B: Board>(
     }
 }
 
+/// Runs the next segment on its lease, ends it and starts its job.
+pub fn run_begun<R, B: Board, S: Sink, G: Gate>(
+    crew: &Crew<R, B, G>,
+    tools: &mut Tools,
+    seat: B::Seat,
+    out: &mut Outgoing,
+    sink: &mut S,
+    failed: &mut bool,
+    refused: &mut u64,
+    i: u32,
+) -> SegmentRun<B::Seat>
+    requires crew { IsCrewOf crew.now.plan.now (B.plan crew.now.board.now) crew.now.shared.now }
+    requires home { B.home seat ≡ B.name crew.now.board.now }
+    requires begun { IsBegun crew.now.plan.now i (B.know seat) }
+    requires index { i < length crew.now.plan.now.segments.items }
+    requires few { refused.old + segment_refused crew.now.plan.now i < 2 ^ 64 }
+    ensures home { B.home result.seat ≡ B.home seat }
+    ensures at { IsAt (i + 1) (B.know result.seat) }
+    ensures text { SaysTo S.taken S.faults sink.old out.old failed.old sink.new out.new failed.new
+        (segment_lines crew.now.plan.now i) }
+    ensures later { S.faults sink.old ≤ S.faults sink.new }
+    ensures refused { refused.new ≡ refused.old + segment_refused crew.now.plan.now i }
+    ensures traps { i + 1 ≡ length crew.now.plan.now.segments.items
+        → IsReportOf (plan_traps crew.now.plan.now) result.traps }
+{
+    let plan = crew.plan;
+    let board = crew.board;
+    let segment = &plan.segments[i as usize];
+    let piece = PieceId(plan.job_pieces() + i);
+    crew.gate.enter(tools.number, piece);
+    let SegmentRun {
+        seat: mut own,
+        traps,
+    } = run_segment_leased(plan, board, seat, i, out, sink, failed, refused);
+    crew.gate.leave(tools.number, piece);
+    board.end(&mut own);
+    start_job(plan, board, &mut own, &mut tools.queue, segment.starts);
+    SegmentRun { seat: own, traps }
+}
+
 // Runs the next segment: waits for its jobs, opens it, runs it and starts its job.
 fn run_next_segment<R: Wait, B: Board, S: Sink, G: Gate>(
     crew: &Crew<R, B, G>,
@@ -80,16 +120,9 @@ fn run_next_segment<R: Wait, B: Board, S: Sink, G: Gate>(
     let mut own = wait_all(crew, tools, seat, &segment.waits, out, sink, failed);
     board.open_piece(&mut own, piece);
     let own = begin_opened(crew.rt, board, own, piece);
-    crew.gate.enter(tools.number, piece);
-    let SegmentRun {
-        seat: mut own,
-        traps,
-    } = run_segment_leased(plan, board, own, i, out, sink, failed, refused);
-    crew.gate.leave(tools.number, piece);
-    board.end(&mut own);
-    start_job(plan, board, &mut own, &mut tools.queue, segment.starts);
+    let run = run_begun(crew, tools, own, out, sink, failed, refused, i);
     leave_search(crew.shared, tools);
-    SegmentRun { seat: own, traps }
+    run
 }
 
 /// A seat, and how the run ended.

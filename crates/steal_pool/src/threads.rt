@@ -8,7 +8,7 @@ ghost use Rattle.steal_pool.specs.Crews.{IsCrewOf};
 ghost use Rattle.steal_pool.specs.Seats.{IsReady, IsFirst};
 
 use crate::crew::{Crew, Shared};
-use crate::idling::{end_workers, leave_search, pause};
+use crate::idling::{Sleepers, end_workers, leave_search, pause};
 use crate::pieces::{Turn, help};
 use crate::place::Place;
 use crate::script::{ScriptRun, run_script_thread};
@@ -49,7 +49,7 @@ where
     let backoff = Backoff::new();
     let mut own = seat;
     for _ in rt.forever() {
-        let Turn { seat: next, ran } = help(&crew, &mut place.tools, own);
+        let Turn { seat: next, ran } = help::<Sleepers, R, B, G>(&crew, &mut place.tools, own);
         own = next;
         if ran {
             backoff.reset();

@@ -10,7 +10,7 @@ ghost use Rattle.steal_pool.specs.Crews.{IsCrewOf};
 ghost use Rattle.steal_pool.specs.Seats.{IsIdle, IsOn};
 
 use crate::crew::Crew;
-use crate::idling::{leave_search, pause_for};
+use crate::idling::{Sleepers, leave_search, pause_for};
 use crate::pieces::{Turn, help};
 use crate::place::Tools;
 use crossbeam_utils::Backoff;
@@ -43,7 +43,7 @@ fn help_until<R: Wait, B: Board, G: Gate>(
             leave_search(crew.shared, tools);
             return own;
         }
-        let Turn { seat: next, ran } = help(crew, tools, own);
+        let Turn { seat: next, ran } = help::<Sleepers, R, B, G>(crew, tools, own);
         own = next;
         if ran {
             backoff.reset();

@@ -1,4 +1,4 @@
-use Rattle.steal_pool.proofs.Turns.{begins, part_owed, part_dues, part_rights, part_on}
+use Rattle.steal_pool.proofs.Leased.{begins, part_owed, part_dues, part_rights, part_on}
 use Rattle.steal_pool.proofs.pieces.run_given_piece.Goals as goal
 
 pub begin-requires-clause-first : goal.begin-requires-clause-first
