@@ -1,0 +1,10 @@
+pub mod Parts
+pub mod Leaf
+pub mod Compiled
+pub mod Alike
+pub mod Blocks
+pub mod Bodies
+pub mod Lengths
+pub mod Rows
+pub mod Places
+pub mod Executions
