@@ -12,8 +12,8 @@ use Rattle.frame_ast.specs.Lists.{first_some}
 use Rattle.frame_ast.specs.Orders.{Table, setting}
 use Rattle.frame_ast.specs.Scripts.{status_of, output_of}
 use Rattle.job_base.proofs.Parts.{appends_none}
-use Rattle.frame_plan.specs.declared.state.PlanFault.{PlanFault}
-use Rattle.frame_plan.specs.declared.state.PlanFault.TheVariants.{NoMemory}
+use Rattle.plan_state.specs.declared.state.PlanFault.{PlanFault}
+use Rattle.plan_state.specs.declared.state.PlanFault.TheVariants.{NoMemory}
 use Rattle.frame_plan.specs.Missing.{lacks_column, missing_from}
 use Rattle.frame_plan.specs.Sections.{limit_told, IsPlanOf}
 use Rattle.frame_core.specs.declared.plan.Plan.{Plan}

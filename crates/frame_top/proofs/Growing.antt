@@ -19,7 +19,7 @@ use Rattle.frame_ast.specs.Schedules.{Given, leave, leave_all, writes_to, is_lis
 use Rattle.frame_ast.specs.Scripts.{decided, act_or_pass, act, act_all, final, output_of}
 use Rattle.frame_ast.specs.States.{ScriptState, at_start, container_at, contents_at}
 use Rattle.frame_ast.specs.Texts.{traps_text}
-use Rattle.frame_plan.specs.Steps.{state_at}
+use Rattle.plan_state.specs.Steps.{state_at}
 
 -- WHAT STAYS
 

@@ -3,8 +3,8 @@ use Rattle.std.proofs.Common.{◌≡◌, ℕ, List, [], ◌++◌, Option, Some, 
 use Rattle.std.specs.Prelude.{codes, decimal}
 use Rattle.frame_ast.specs.Answers.{no_column_line, unequal_row_line, not_number_line}
 use Rattle.frame_ast.specs.Limits.{Limit, TooManyJobs, TooManyWords}
-use Rattle.frame_plan.specs.declared.state.PlanFault.{PlanFault}
-use Rattle.frame_plan.specs.declared.state.PlanFault.TheVariants.{Jobs, Words, NoMemory}
+use Rattle.plan_state.specs.declared.state.PlanFault.{PlanFault}
+use Rattle.plan_state.specs.declared.state.PlanFault.TheVariants.{Jobs, Words, NoMemory}
 use Rattle.frame_plan.specs.Sections.{limit_told}
 use Rattle.frame_top.specs.Answers.{Said}
 use Rattle.frame_top.specs.Refusals.{answer}

@@ -13,7 +13,7 @@ use Rattle.frame_core.proofs.Small.{not_both}
 use Rattle.frame_plan.specs.declared.sections.SectionBook.{SectionBook}
 use Rattle.frame_plan.specs.Names.{AreNamesOf}
 use Rattle.frame_plan.specs.Sections.{IsAt}
-use Rattle.frame_plan.specs.Steps.{state_at}
+use Rattle.plan_state.specs.Steps.{state_at}
 use Rattle.plan_run.specs.Says.{SaysTo, said_to}
 use Rattle.plan_run.proofs.Saying.{says_none, says_after, says_as}
 use Rattle.frame_top.specs.declared.sections.Progress.{Progress}

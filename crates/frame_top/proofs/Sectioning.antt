@@ -30,7 +30,7 @@ use Rattle.frame_plan.specs.declared.section.Test.{Test}
 use Rattle.frame_plan.specs.declared.sections.SectionBook.{SectionBook}
 use Rattle.frame_plan.specs.Names.{AreNamesOf}
 use Rattle.frame_plan.specs.Sections.{AreKernelsOf, IsSectionOf, IsTestOf, EndsBy, IsOutcome, AreLeft, IsNext, outcome_by, outcome_of}
-use Rattle.frame_plan.specs.Steps.{state_at}
+use Rattle.plan_state.specs.Steps.{state_at}
 use Rattle.frame_top.specs.declared.section.SectionRun.{SectionRun}
 use Rattle.frame_top.specs.declared.sections.Progress.{Progress}
 use Rattle.frame_top.specs.Cells.{AreCellsOf, HasRunPlan}

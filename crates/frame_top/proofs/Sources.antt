@@ -14,7 +14,7 @@ use Rattle.frame_script.specs.Loading.{IsRefused}
 use Rattle.tree_laws.specs.Same.{SameScript}
 use Rattle.tree_laws.proofs.Scripts.{same_scripts_run_alike}
 use Rattle.text_laws.proofs.Laws.{scripts_are_spelled_once}
-use Rattle.frame_plan.specs.Tables.{columns_of}
+use Rattle.plan_statements.specs.Tables.{columns_of}
 use Rattle.table_in.specs.declared.TableFault.{TableFault}
 use Rattle.table_in.specs.declared.TableFault.TheVariants as fault
 use Rattle.table_in.specs.Columns.{NamedColumn}

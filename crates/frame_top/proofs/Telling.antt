@@ -8,7 +8,7 @@ use Rattle.frame_ast.specs.declared.script.Script.{Script}
 use Rattle.frame_script.specs.Loading.{IsRefused}
 use Rattle.job_base.specs.Faults.{Rose}
 use Rattle.frame_ast.specs.Answers.{table_size_line, script_refused_line, statements_line}
-use Rattle.frame_plan.specs.Tables.{columns_of}
+use Rattle.plan_statements.specs.Tables.{columns_of}
 use Rattle.table_in.specs.declared.TableFault.{TableFault}
 use Rattle.table_in.specs.declared.TableFault.TheVariants as fault
 use Rattle.table_in.specs.Columns.{NamedColumn}

@@ -22,7 +22,7 @@ use Rattle.table_in.specs.declared.TableFault.TheVariants.{Empty, Unequal, NotNu
 use Rattle.table_in.specs.Columns.{NamedColumn, columns_in}
 use Rattle.table_in.specs.Rows.{rows_in, table_fault}
 use Rattle.frame_plan.specs.Missing.{lacks_column}
-use Rattle.frame_plan.specs.Tables.{columns_of}
+use Rattle.plan_statements.specs.Tables.{columns_of}
 use Rattle.command_words.specs.Words.{Text}
 use Rattle.frame_top.specs.declared.status.TheConstants.{SCRIPT_REFUSED, TABLE_REFUSED, PAST_LIMIT}
 

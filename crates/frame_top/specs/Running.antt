@@ -13,7 +13,7 @@ use Rattle.frame_plan.specs.declared.section.Section.{Section}
 use Rattle.frame_plan.specs.declared.sections.SectionBook.{SectionBook}
 use Rattle.frame_plan.specs.Names.{AreNamesOf}
 use Rattle.frame_plan.specs.Sections.{AreKernelsOf, IsAt, IsNext, IsOutcome, AreLeft}
-use Rattle.frame_plan.specs.Steps.{state_at}
+use Rattle.plan_state.specs.Steps.{state_at}
 use Rattle.frame_top.specs.declared.sections.Progress.{Progress}
 use Rattle.frame_top.specs.declared.status.TheConstants.{UNWRITTEN}
 

@@ -7,7 +7,7 @@ ghost use Rattle.frame_ast.specs.Answers.{table_size_line};
 ghost use Rattle.frame_ast.specs.Scripts.{output_of, status_of};
 ghost use Rattle.merge_laws.specs.Graph.{Cells};
 ghost use Rattle.frame_plan.specs.Sections.{IsAt};
-ghost use Rattle.frame_plan.specs.Tables.{columns_of};
+ghost use Rattle.plan_statements.specs.Tables.{columns_of};
 ghost use Rattle.command_words.specs.Words.{Text};
 ghost use Rattle.frame_top.specs.Answers.{AnswersTo, FrameCause, IsCut, has_when};
 ghost use Rattle.frame_top.specs.Inputs.{Accepts};

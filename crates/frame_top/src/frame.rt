@@ -1,10 +1,11 @@
 // What a script and its table answer.
-ghost use Rattle.std.specs.Prelude.{◌≡◌, ◌≤◌, ℕ, Bool, None, IfSome, false, true};
+ghost use Rattle.std.specs.Prelude.{◌≡◌, ◌≤◌, ◌⊎◌, ℕ, Bool, None, IfSome, false, true};
 ghost use Rattle.job_base.specs.declared.limits.TheConstants.{MOST_WORKERS};
 ghost use Rattle.frame_ast.specs.Accepted.{IsAccepted};
-ghost use Rattle.frame_plan.specs.Tables.{columns_of};
+ghost use Rattle.plan_statements.specs.Tables.{columns_of};
 ghost use Rattle.frame_top.specs.Answers.{AnswersTo, FrameCause, IsCut};
 ghost use Rattle.frame_top.specs.Refusals.{column_name, column_refusal, first_when};
+ghost use Rattle.frame_top.specs.declared.status.TheConstants.{TABLE_REFUSED, UNWRITTEN};
 
 use crate::inputs::Options;
 use crate::sections::run_sections;
@@ -22,7 +23,7 @@ use std::thread::Threads;
 use table_in::Table;
 
 /// The line of the first `when` of a script.
-fn first_when(script: &Script) -> Option<u32>
+pub fn first_when(script: &Script) -> Option<u32>
     ensures { result ≡ first_when script.now.statements.items }
 {
     for i in 0..script.statements.len() {
@@ -44,13 +45,14 @@ fn column_name(act: &Order) -> &[u8]
 }
 
 /// Refuses a table that lacks a column of the script, and answers nothing for any other.
-pub(crate) fn refuse_missing<S: Sink>(script: &Script, table: &Table, sink: &mut S) -> Option<u8>
+pub fn refuse_missing<S: Sink>(script: &Script, table: &Table, sink: &mut S) -> Option<u8>
     requires accepted { IsAccepted script.now }
     ensures missing { (depth : Bool) (workers : ℕ) → IfSome result (AnswersTo S.taken S.faults sink.old sink.new
         (FrameCause script.now (columns_of table.now) depth workers)
         (IsCut script.now (columns_of table.now) depth)) }
     ensures none { result ≡ None → column_refusal (columns_of table.now) script.now.statements.items ≡ None }
     ensures same { result ≡ None → sink.new ≡ sink.old }
+    ensures status { IfSome result (λ s. (s ≡ TABLE_REFUSED) ⊎ (s ≡ UNWRITTEN)) }
     ensures later { S.faults sink.old ≤ S.faults sink.new }
 {
     if let Some(place) = missing_column(script, table) {

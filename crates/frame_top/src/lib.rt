@@ -10,6 +10,8 @@
 //! statuses are the numbers that are written down (`laws`). What a script writes is its meaning, `output_of`, whatever
 //! the number of workers and the cuts of its jobs.
 //!
+//! The steps that read and refuse are public too, for programs that do something else with a script than run it.
+//!
 //! *Cost.* Beside the plan of a section with jobs its board, its deques and its scratch are made, each as large as the
 //! plan asks for, and its cells once more where a test follows. A section without jobs copies the cells that the last
 //! one left, once.
@@ -28,4 +30,7 @@ mod texts;
 mod top;
 
 pub use alone::run_source;
+pub use frame::{first_when, refuse_missing};
+pub use inputs::{Options, options_of, parse_table, read_source, read_table_file};
+pub use texts::{refuse_plan, refuse_script, refuse_source, refuse_table, say};
 pub use top::run_frame;

@@ -13,7 +13,7 @@ ghost use Rattle.frame_core.specs.Output.{plan_lines};
 ghost use Rattle.plan_run.specs.Runs.{IsReport};
 ghost use Rattle.frame_plan.specs.Names.{AreNamesOf};
 ghost use Rattle.frame_plan.specs.Sections.{IsAt};
-ghost use Rattle.frame_plan.specs.Tables.{columns_of};
+ghost use Rattle.plan_statements.specs.Tables.{columns_of};
 ghost use Rattle.frame_top.specs.Answers.{AnswersTo, has_when};
 ghost use Rattle.frame_top.specs.Cells.{AreCellsOf};
 ghost use Rattle.frame_top.specs.Refusals.{answer};

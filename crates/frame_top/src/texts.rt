@@ -114,6 +114,7 @@ pub fn refuse_plan<S: Sink>(fault: PlanFault, sink: &mut S) -> u8
     ensures said { (limit : Limit) → limit_told fault ≡ Some limit
         → SaidTo S.taken S.faults sink.old sink.new (answer PAST_LIMIT (limit_line limit)) result }
     ensures none { limit_told fault ≡ None → (result ≡ NO_MEMORY) × (sink.new ≡ sink.old) }
+    ensures status { (result ≡ PAST_LIMIT) ⊎ ((result ≡ NO_MEMORY) ⊎ (result ≡ UNWRITTEN)) }
     ensures later { S.faults sink.old ≤ S.faults sink.new }
 {
     match fault {

@@ -1,5 +1,5 @@
 use Rattle.std.proofs.Common.{refl, true}
-use Rattle.frame_plan.specs.Tables.{columns_of}
+use Rattle.plan_statements.specs.Tables.{columns_of}
 use Rattle.frame_top.proofs.Sectioning.{said_on}
 use Rattle.frame_top.proofs.alone.run_next_section.Goals as goal
 

@@ -1,5 +1,5 @@
 use Rattle.std.proofs.Common.{◌∙◌, refl, subst, arith}
-use Rattle.frame_plan.specs.Tables.{columns_of}
+use Rattle.plan_statements.specs.Tables.{columns_of}
 use Rattle.frame_top.specs.Answers.{Caused}
 use Rattle.frame_top.specs.Running.{RunsOn}
 use Rattle.frame_top.proofs.Looping.{InSections, at_first, one_more, at_last, at_none}

@@ -1,4 +1,4 @@
-use Rattle.frame_plan.specs.Tables.{columns_of}
+use Rattle.plan_statements.specs.Tables.{columns_of}
 use Rattle.frame_top.proofs.Looping.{InSections}
 use Rattle.frame_top.proofs.alone.run_sections.Given as goal
 

@@ -1,5 +1,5 @@
 use Rattle.std.proofs.Common.{refl, sym, subst, arith}
-use Rattle.frame_plan.specs.Tables.{columns_of}
+use Rattle.plan_statements.specs.Tables.{columns_of}
 use Rattle.frame_top.specs.Answers.{AnswersTo, FrameCause, IsCut}
 use Rattle.frame_top.proofs.Framing.{from_same}
 use Rattle.frame_top.proofs.frame.answer_frame.Goals as goal

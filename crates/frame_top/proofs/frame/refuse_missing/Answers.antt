@@ -1,5 +1,5 @@
 use Rattle.std.proofs.Common.{◌<◌, length, sym, arith}
-use Rattle.frame_plan.specs.Tables.{columns_of}
+use Rattle.plan_statements.specs.Tables.{columns_of}
 use Rattle.frame_top.proofs.Framing.{at_missing, index_there, column_answers, none_missing}
 use Rattle.frame_top.proofs.frame.refuse_missing.Goals as goal
 

@@ -1,0 +1,138 @@
+// The boxes of refused schedules, and the arrows from the jobs that block them.
+ghost use Rattle.std.specs.Prelude.{◌≡◌, ◌++◌, ◌<◌, ◌≤◌, IfOk, OnOk, length, map, slice_get, string_bytes};
+ghost use Rattle.job_base.specs.declared.limits.TheConstants.{MOST_STATEMENTS};
+ghost use Rattle.frame_view.specs.Arrows.{block_lines, line_of};
+ghost use Rattle.frame_view.specs.Boxes.{blocker_of, box_of, level_after, refused_box, refused_boxes, refused_lines_in, refused_lines_by};
+
+use crate::story::{Refused, Story};
+use frame_ast::script::{Order, Script, Statement};
+use job_base::{JobId, NoMemory, Refusal};
+use job_depth::Depth;
+use schedule_text::{name_of, refused_lines};
+use std::alloc::Global;
+use view_text::{Kind, Link, Node, Tie};
+
+// The job that blocks a schedule.
+fn blocker_of(refusal: Refusal) -> Option<JobId>
+    ensures { result ≡ blocker_of refusal }
+{
+    match refusal {
+        Refusal::Pending(job) => Some(job),
+        _ => None,
+    }
+}
+
+// The level of a refused schedule: after that of the job that blocks it, and else 1.
+fn level_of(depth: &Depth, refusal: Refusal) -> u32
+    ensures { result ≡ level_after depth.now.levels.items (blocker_of refusal) }
+{
+    match blocker_of(refusal) {
+        Some(id) => match id.0.checked_sub(1) {
+            Some(j) => depth
+                .levels
+                .get(j as usize)
+                .copied()
+                .unwrap_or(0)
+                .saturating_add(1),
+            None => 1,
+        },
+        None => 1,
+    }
+}
+
+// The lines of its box, where it is this statement.
+fn lines_in(
+    alloc: Global,
+    script: &Script,
+    statement: &Statement,
+    refused: Refused,
+) -> Result<Vec<String>, NoMemory>
+    ensures { IfOk result (λ lines. map (λ v. string_bytes v) lines.items
+        ≡ refused_lines_in script.now refused statement.now.line statement.now.act) }
+{
+    match &statement.act {
+        Order::Schedule(job) => refused_lines(
+            alloc,
+            script,
+            statement.line,
+            job,
+            refused.refusal,
+            refused.name,
+        ),
+        _ => Ok(Vec::new(alloc)),
+    }
+}
+
+// The lines of its box.
+fn lines_of(alloc: Global, script: &Script, refused: Refused) -> Result<Vec<String>, NoMemory>
+    ensures { IfOk result (λ lines. map (λ v. string_bytes v) lines.items
+        ≡ refused_lines_by script.now refused (slice_get script.now.statements.items refused.at)) }
+{
+    match script.statements.get(refused.at) {
+        Some(statement) => lines_in(alloc, script, statement, refused),
+        None => Ok(Vec::new(alloc)),
+    }
+}
+
+// The box of a refused schedule of that number.
+fn refused_node(
+    alloc: Global,
+    script: &Script,
+    depth: &Depth,
+    refused: Refused,
+    number: u32,
+) -> Result<Node, NoMemory>
+    ensures { IfOk result (λ node. box_of node ≡ refused_box script.now depth.now number refused) }
+{
+    let lines = lines_of(alloc, script, refused)?;
+    Ok(Node {
+        number,
+        kind: Kind::Refused,
+        level: level_of(depth, refused.refusal),
+        lines,
+    })
+}
+
+/// Adds the boxes of the refused schedules, in their order.
+pub(crate) fn add_refused(
+    alloc: Global,
+    script: &Script,
+    story: &Story,
+    depth: &Depth,
+    nodes: &mut Vec<Node>,
+) -> Result<(), NoMemory>
+    requires few { length story.now.refused.items ≤ MOST_STATEMENTS }
+    ensures { OnOk result (map box_of nodes.new.items ≡ map box_of nodes.old.items
+        ++ refused_boxes script.now depth.now 1 story.now.refused.items) }
+{
+    for i in 0..story.refused.len() {
+        let node = refused_node(alloc, script, depth, story.refused[i], i as u32 + 1)?;
+        nodes.push(node)?;
+    }
+    Ok(())
+}
+
+/// Adds an arrow from each job that blocks a schedule.
+pub(crate) fn add_blocks(
+    alloc: Global,
+    script: &Script,
+    story: &Story,
+    links: &mut Vec<Link>,
+) -> Result<(), NoMemory>
+    requires few { length story.now.refused.items ≤ MOST_STATEMENTS }
+    ensures { OnOk result (map line_of links.new.items ≡ map line_of links.old.items
+        ++ block_lines 1 story.now.refused.items) }
+{
+    for i in 0..story.refused.len() {
+        let refused = story.refused[i];
+        if let Some(id) = blocker_of(refused.refusal) {
+            links.push(Link {
+                from: id.0,
+                to: i as u32 + 1,
+                tie: Tie::Blocks,
+                label: String::from_str(alloc, name_of(script, refused.name))?,
+            })?;
+        }
+    }
+    Ok(())
+}

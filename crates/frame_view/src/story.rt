@@ -1,0 +1,83 @@
+// What became of a script's schedules.
+ghost use Rattle.std.specs.Prelude.{◌≡◌, ◌++◌, ◌<◌, IfOk, IfSome, IsSome, OnOk, Some, length, slice_get, true};
+ghost use Rattle.frame_view.specs.declared.marks.Mark.{Mark};
+ghost use Rattle.frame_view.specs.Marks.{fits};
+ghost use Rattle.frame_view.specs.Stories.{is_schedule, made_by, refused_by, IsStory};
+
+use crate::looks::is_schedule;
+use crate::marks::{Mark, marks_of, next_mark};
+use frame_ast::script::{Script, Statement};
+use frame_core::Plan;
+use job_base::{NoMemory, Refusal};
+use std::alloc::Global;
+
+/// A schedule that was refused.
+#[derive(Clone, Copy, Debug, PartialEq, Eq)]
+pub struct Refused {
+    /// Its place among the script's statements.
+    pub at: usize,
+    /// The value that the refusal names, as a place among the script's names.
+    pub name: u32,
+    pub refusal: Refusal,
+}
+
+/// The schedules of a script, by what became of them.
+#[derive(Drop)]
+pub struct Story {
+    /// The places of those that made jobs, that of job 1 first.
+    pub made: Vec<usize>,
+    pub refused: Vec<Refused>,
+}
+
+impl Story {
+    // Takes down what became of the schedule at a place.
+    fn tell(&mut self, at: usize, mark: Mark) -> Result<(), NoMemory>
+        ensures made { OnOk result (self.new.made.items ≡ self.old.made.items ++ made_by at mark) }
+        ensures refused { OnOk result (self.new.refused.items ≡ self.old.refused.items ++ refused_by at mark) }
+    {
+        match mark {
+            Mark::Starts => {
+                self.made.push(at)?;
+                Ok(())
+            }
+            Mark::Says { name, refusal, .. } => {
+                self.refused.push(Refused { at, name, refusal })?;
+                Ok(())
+            }
+        }
+    }
+}
+
+// The place of the next mark from a place on that a statement may have left, where it is a schedule.
+fn mark_for(marks: &[Mark], from: usize, statement: &Statement) -> Option<usize>
+    ensures schedule { IsSome result → is_schedule statement.now.act ≡ true }
+    ensures within { IfSome result (λ i. i < length marks.now) }
+    ensures fits { IfSome result (λ i. (m : Mark) → slice_get marks.now i ≡ Some m
+        → fits statement.now.line m ≡ true) }
+{
+    if is_schedule(&statement.act) {
+        next_mark(marks, from, statement.line)
+    } else {
+        None
+    }
+}
+
+/// Goes along the statements of a script without a `when`, and along its plan. A schedule leaves one mark in a plan,
+/// the start of its job or a refusal of its line; so each takes the next one that may be its own.
+pub fn follow(alloc: Global, script: &Script, plan: &Plan) -> Result<Story, NoMemory>
+    ensures { IfOk result (IsStory script.now plan.now) }
+{
+    let marks = marks_of(alloc, plan)?;
+    let mut story = Story {
+        made: Vec::new(alloc),
+        refused: Vec::new(alloc),
+    };
+    let mut next = 0;
+    for at in 0..script.statements.len() {
+        if let Some(i) = mark_for(&marks, next, &script.statements[at]) {
+            story.tell(at, marks[i])?;
+            next = i + 1;
+        }
+    }
+    Ok(story)
+}
