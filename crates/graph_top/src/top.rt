@@ -1,0 +1,128 @@
+// The top call.
+ghost use Rattle.std.specs.Prelude.{◌≤◌, List, is_some, map, string_bytes};
+ghost use Rattle.frame_ast.specs.Accepted.{IsAccepted};
+ghost use Rattle.command_words.specs.Words.{Text};
+ghost use Rattle.frame_top.specs.Asking.{IsAsked};
+ghost use Rattle.frame_top.specs.Inputs.{ReadsScript};
+ghost use Rattle.graph_words.specs.GraphWords.{flag_place, plain_words};
+ghost use Rattle.graph_top.specs.Drawn.{DrawsTo, IsFrameDrawing};
+
+use crate::frame::{Style, answer_frame};
+use command_words::{Command, WordsFault};
+use frame_ast::script::Script;
+use frame_script::{LoadFault, parse_script};
+use frame_top::status::{NO_MEMORY, PAST_LIMIT, UNREAD, USAGE};
+use frame_top::{
+    options_of, parse_table, read_source, read_table_file, refuse_source, refuse_table, say,
+};
+use graph_words::{GraphCommand, read_graph_words};
+use job_base::{FileFault, Files, Sink};
+use std::alloc::Global;
+
+// Answers for a script that was accepted: reads the table, and goes on with both.
+fn answer_script<F: Files, S: Sink, E: Sink>(
+    alloc: Global,
+    command: &Command,
+    dot: bool,
+    script: &Script,
+    files: &mut F,
+    sink: &mut S,
+    notes: &mut E,
+) -> u8
+    requires accepted { IsAccepted script.now }
+    requires read { (words : List Text) × IsAsked words command.now × ReadsScript words (F.bytes files.old) script.now }
+    ensures drawn { (words : List Text) → IsAsked words command.now → ReadsScript words (F.bytes files.old) script.now
+        → DrawsTo S.taken S.faults sink.old sink.new (IsFrameDrawing words (F.bytes files.old) dot) result }
+    ensures sink_later { S.faults sink.old ≤ S.faults sink.new }
+    ensures notes_later { E.faults notes.old ≤ E.faults notes.new }
+    ensures files_later { F.faults files.old ≤ F.faults files.new }
+{
+    let bytes = match read_table_file(alloc, command, files) {
+        Ok(bytes) => bytes,
+        Err(FileFault::Failed) => return say(UNREAD, b"cannot read table\n", notes),
+        Err(FileFault::TooLong) => return say(PAST_LIMIT, b"limit: table size\n", notes),
+        Err(FileFault::NoMemory) => return NO_MEMORY,
+    };
+    let style = Style {
+        workers: options_of(command).workers,
+        dot,
+    };
+    match parse_table(alloc, &bytes) {
+        Ok(table) => answer_frame(alloc, script, &table, style, sink, notes),
+        Err(fault) => refuse_table(fault, notes),
+    }
+}
+
+// Answers a command: reads the script, and goes on with it.
+fn answer_command<F: Files, S: Sink, E: Sink>(
+    alloc: Global,
+    command: &Command,
+    dot: bool,
+    files: &mut F,
+    sink: &mut S,
+    notes: &mut E,
+) -> u8
+    requires asked { (words : List Text) × IsAsked words command.now }
+    ensures drawn { (words : List Text) → IsAsked words command.now
+        → DrawsTo S.taken S.faults sink.old sink.new (IsFrameDrawing words (F.bytes files.old) dot) result }
+    ensures sink_later { S.faults sink.old ≤ S.faults sink.new }
+    ensures notes_later { E.faults notes.old ≤ E.faults notes.new }
+    ensures files_later { F.faults files.old ≤ F.faults files.new }
+{
+    let source = match read_source(alloc, command, files) {
+        Ok(source) => source,
+        Err(FileFault::Failed) => return say(UNREAD, b"cannot read script\n", notes),
+        Err(FileFault::TooLong) => return say(PAST_LIMIT, b"limit: script size\n", notes),
+        Err(FileFault::NoMemory) => return NO_MEMORY,
+    };
+    match parse_script(alloc, &source) {
+        Ok(script) => answer_script(alloc, command, dot, &script, files, sink, notes),
+        Err(LoadFault::Refused { line, kind }) => refuse_source(line, kind, notes),
+        Err(LoadFault::NoMemory) => NO_MEMORY,
+    }
+}
+
+/// Answers a command line of the program that draws: reads or makes the script that its words ask for, reads the table,
+/// plans the script, and writes the plan's picture to `sink`. The answer is the exit status of the program. The text
+/// of every status but 0 goes to `notes`.
+///
+/// | Status | Text |
+/// |---|---|
+/// | 0 | the picture, whatever statements were refused |
+/// | 2 | the usage line: the words are not of the command |
+/// | 3 | `script refused line L: KIND`; of a script with a `when` the line of the first one, and `limit` |
+/// | 4 | `table refused: WHAT` or `table refused row R: WHAT` |
+/// | 6 | `cannot read script` or `cannot read table` |
+/// | 7 | some first bytes of another text: a sink failed |
+/// | 8 | nothing: memory was not found |
+/// | 9 | `limit: WHAT` |
+pub fn graph_frame<F: Files, S: Sink, E: Sink>(
+    alloc: Global,
+    words: Vec<String>,
+    files: &mut F,
+    sink: &mut S,
+    notes: &mut E,
+) -> u8
+    // Where the status is 0, the whole text of a picture was written: that of the script and the table that the words
+    // ask for. Where a write of it failed, some first part of such a text was. Else nothing was written, and the status
+    // isn't 0.
+    ensures drawn { DrawsTo S.taken S.faults sink.old sink.new
+        (IsFrameDrawing (plain_words (map string_bytes words.items)) (F.bytes files.old)
+        (is_some (flag_place (map string_bytes words.items)))) result }
+    ensures sink_later { S.faults sink.old ≤ S.faults sink.new }
+    ensures notes_later { E.faults notes.old ≤ E.faults notes.new }
+    ensures files_later { F.faults files.old ≤ F.faults files.new }
+{
+    match read_graph_words(alloc, words) {
+        Ok(GraphCommand { command, dot }) => answer_command(
+            alloc, &command, dot, files, sink, notes,
+        ),
+        Err(WordsFault::Usage) => say(
+            USAGE,
+            b"usage: frame_graph [--workers N] [--dot] SCRIPT [TABLE] or frame_graph [--workers N] [--dot] --gen \
+             NUMBER --jobs K\n",
+            notes,
+        ),
+        Err(WordsFault::NoMemory) => NO_MEMORY,
+    }
+}
