@@ -14,8 +14,6 @@ mod place;
 mod progress;
 mod reading;
 mod spelling;
-#[cfg(test)]
-mod tests;
 
 pub use command::{Command, WordsFault};
 pub use reading::read_words;

@@ -3,8 +3,6 @@
 #![tactic(auto)]
 
 mod command;
-#[cfg(test)]
-mod tests;
 mod words;
 
 pub use command::GraphCommand;

@@ -13,7 +13,5 @@ pub mod laws;
 mod lines;
 mod mix;
 mod script;
-#[cfg(test)]
-mod tests;
 
 pub use script::gen_script;

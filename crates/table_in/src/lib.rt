@@ -36,6 +36,3 @@ pub enum TableFault {
     #[error("out of memory")]
     NoMemory,
 }
-
-#[cfg(test)]
-mod tests;

@@ -16,8 +16,6 @@ mod layout;
 mod picture;
 mod places;
 mod svg;
-#[cfg(test)]
-mod tests;
 
 pub use curve::Curve;
 pub use dot::dot_text;

@@ -1,6 +1,6 @@
 // Word lists and what they are read as.
-use crate::{GraphCommand, read_graph_words};
 use command_words::Command;
+use graph_words::{GraphCommand, read_graph_words};
 use std::alloc::{AllocError, Global};
 use std::test::Fail;
 

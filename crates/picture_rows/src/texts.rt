@@ -1,7 +1,7 @@
 // The texts of one picture, written by hand.
-use crate::*;
 use std::alloc::{AllocError, Global};
 use std::test::Fail;
+use view_text::{Kind, Link, Node, PAGE_HEAD, Picture, Tie, dot_text, svg_text};
 
 fn texts(alloc: Global, lines: &[&str]) -> Result<Vec<String>, AllocError> {
     let mut texts = Vec::new(alloc);

@@ -1,5 +1,6 @@
-use super::*;
+// Tables, each with what it gives.
 use std::test::Fail;
+use table_in::{Table, TableFault, read_table};
 
 /// Each text with a name, and the values of the first column of that name.
 const COLUMNS: [(&[u8], &[u8], Option<&[i64]>); 30] = [

@@ -1,6 +1,6 @@
 // The script of number 1 with one mix, line by line, and the size of the largest.
-use crate::*;
 use job_base::limits::{MOST_GENERATED_JOBS, MOST_SEED};
+use script_gen::gen_script;
 use std::test::Fail;
 
 // As the rules of the generator give them by hand: arrays 6 and 3, factor 7, batch 108.
