@@ -13,7 +13,5 @@
 #![tactic(auto)]
 
 mod choosing;
-#[cfg(test)]
-mod tests;
 
 pub use choosing::automatic;

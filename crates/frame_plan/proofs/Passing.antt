@@ -62,5 +62,5 @@ passed_by script table p x some begun n found here st =
 pub stands_within : (p : Planner) (g : Setting) (begun : ScriptState) (n : ℕ) (s : ScriptState) (found : List ℕ) → Stands p g begun n s found → IsWithin s
 stands_within p g begun n s found st =
     let count = st.jobs.count in
-    let few = p.jobs.room.0 in
+    let few = p.jobs.few in
     record { jobs = omega arith; words = st.numbers.created_few }

@@ -28,7 +28,7 @@ pub(crate) fn at_start(alloc: Global, script: &Script) -> Result<Planner, NoMemo
         tempjobs: Vec::new(alloc),
         overdue: 0,
         frame: 0,
-        jobs: JobBook::new(alloc)?,
+        jobs: JobBook::new(alloc),
         safety: SafetyBook::new(alloc)?,
         store: SlotStore::new(alloc)?,
         created: 0,

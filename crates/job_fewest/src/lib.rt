@@ -10,7 +10,5 @@
 #![tactic(auto)]
 
 mod reducing;
-#[cfg(test)]
-mod tests;
 
 pub use reducing::{Reduction, fewest};

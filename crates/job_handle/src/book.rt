@@ -1,16 +1,22 @@
 // The jobs of a script, each with all that it waits for.
-ghost use Rattle.std.specs.Prelude.{◌≡◌, ℕ, ◌+◌, ◌<◌, ◌≤◌, ◌↔◌, IfOk, IfSome, OnOk, OnErr, IsErr, is_ok, if◌then◌else◌, vec_len, vec_capacity, true};
+ghost use Rattle.std.specs.Prelude.{◌≡◌, ℕ, ◌+◌, ◌<◌, ◌≤◌, ◌↔◌, IfOk, IfSome, OnOk, OnErr, Err, is_ok, if◌then◌else◌, vec_len, true};
 ghost use Rattle.job_base.specs.declared.limits.TheConstants.{MOST_JOBS};
 ghost use Rattle.job_handle.specs.Sets.{HaveOwnJobs};
+ghost use Rattle.job_handle.specs.declared.book.BookFault.TheVariants.{Full};
 
 use crate::handle::Handle;
+use job_base::JobId;
 use job_base::limits::MOST_JOBS;
-use job_base::{JobId, NoMemory};
 use std::alloc::Global;
 
-/// The book has [`MOST_JOBS`] jobs.
+/// Why a book doesn't take another job.
 #[derive(Clone, Copy, Debug, PartialEq, Eq)]
-pub struct BookFull;
+pub enum BookFault {
+    /// It has [`MOST_JOBS`] jobs.
+    Full,
+    /// There is no memory for the row of another one.
+    NoMemory,
+}
 
 /// The jobs that were scheduled, with the dependency set of each, and those that the script thread has completed.
 ///
@@ -22,7 +28,7 @@ pub struct JobBook {
     rows: Vec<Handle>,
     completed: Handle,
     ghost own: { HaveOwnJobs (vec_len rows) rows.items },
-    ghost room: { (vec_len rows ≤ MOST_JOBS) × (MOST_JOBS ≤ vec_capacity rows) },
+    ghost few: { vec_len rows ≤ MOST_JOBS },
 }
 
 impl JobBook {
@@ -31,14 +37,14 @@ impl JobBook {
     ghost use Rattle.job_handle.specs.Sets.{jobs_of, outside, IsNext};
     ghost use Rattle.job_handle.specs.Books.{count_of, StandsFor};
 
-    /// No job. All memory of the book is taken here.
-    pub fn new(alloc: Global) -> Result<JobBook, NoMemory>
-        ensures { IfOk result (λ book. StandsFor book empty_book) }
+    /// No job. Memory is taken as jobs come.
+    pub fn new(alloc: Global) -> JobBook
+        ensures { StandsFor result empty_book }
     {
-        Ok(JobBook {
-            rows: Vec::with_capacity(alloc, MOST_JOBS as usize)?,
+        JobBook {
+            rows: Vec::new(alloc),
             completed: Handle::empty(),
-        })
+        }
     }
 
     /// How many jobs there are, at most [`MOST_JOBS`].
@@ -50,9 +56,9 @@ impl JobBook {
     }
 
     /// One more job, which waits for the jobs of `deps`. It has the next number.
-    pub fn add(&mut self, deps: &Handle) -> Result<JobId, BookFull>
+    pub fn add(&mut self, deps: &Handle) -> Result<JobId, BookFault>
         requires { AreUpTo (count_of self.old) (jobs_of deps.now) }
-        ensures full { IsErr result ↔ count_of self.old ≡ MOST_JOBS }
+        ensures full { (result ≡ Err Full) ↔ (count_of self.old ≡ MOST_JOBS) }
         ensures number { IfOk result (λ j. j.0 ≡ count_of self.old + 1) }
         ensures few { IfOk result (λ j. j.0 ≤ MOST_JOBS) }
         ensures count { count_of self.new ≡ (if is_ok result then count_of self.old + 1 else count_of self.old) }
@@ -61,14 +67,14 @@ impl JobBook {
         ensures same { OnErr result ((b : Book) → StandsFor self.old b → StandsFor self.new b) }
     {
         if self.rows.len() >= MOST_JOBS as usize {
-            return Err(BookFull);
+            return Err(BookFault::Full);
         }
         let j = JobId(self.count() + 1);
         let mut row = self.closure(deps);
         row.insert(j);
         match self.rows.push(row) {
             Ok(()) => Ok(j),
-            Err(_) => unreachable!(),
+            Err(_) => Err(BookFault::NoMemory),
         }
     }
 

@@ -9,8 +9,6 @@
 
 mod book;
 mod handle;
-#[cfg(test)]
-mod tests;
 
-pub use book::{BookFull, JobBook};
+pub use book::{BookFault, JobBook};
 pub use handle::Handle;

@@ -51,10 +51,10 @@ module _ (script : Script) (table : Table) (p : Planner) (begun : ScriptState) (
   few_pieces =
       let each = all_few p.plan.jobs.items (λ j job at. let f = planned.fitting.jobs_fit j job at in
       job_few job.parallel job.cut.n job.cut.step f.2.cut.step.0 f.2.cut.pieces) in
-      let e = st.numbers.pieces in let c = counted in let room = p.jobs.room.0 in omega arith
+      let e = st.numbers.pieces in let c = counted in let room = p.jobs.few in omega arith
 
   pub jobs_after : p.jobs_before ≤ count_of p.jobs
   jobs_after = let c = counted in omega arith
 
   pub job_room : count_of p.jobs ≢ 4096 → vec_len p.plan.jobs < 4096
-  job_room ne = let c = counted in let room = p.jobs.room.0 in let len = p.plan.jobs.ok.0 in omega arith
+  job_room ne = let c = counted in let room = p.jobs.few in let len = p.plan.jobs.ok.0 in omega arith

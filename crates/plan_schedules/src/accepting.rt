@@ -15,7 +15,7 @@ use crate::uses::NamedUse;
 use batch_cut::Cut;
 use frame_core::JobPlan;
 use job_base::PieceId;
-use job_handle::Handle;
+use job_handle::{BookFault, Handle};
 use kernel_exec::Bind;
 use plan_state::{PlanFault, Planner};
 use std::alloc::Global;
@@ -55,8 +55,10 @@ pub(crate) fn add_job(
     ensures full { IfErr result (λ fault. IsFull fault (count_of planner.old.jobs)) }
 {
     let later = later_jobs(planner, alloc, deps)?;
-    let Ok(job) = planner.jobs.add(deps) else {
-        return Err(PlanFault::Jobs);
+    let job = match planner.jobs.add(deps) {
+        Ok(job) => job,
+        Err(BookFault::Full) => return Err(PlanFault::Jobs),
+        Err(BookFault::NoMemory) => return Err(PlanFault::NoMemory),
     };
     note_all(planner, uses, job);
     let plan = JobPlan {

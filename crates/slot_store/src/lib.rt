@@ -26,8 +26,6 @@ mod search;
 mod slot;
 mod space;
 mod store;
-#[cfg(test)]
-mod tests;
 
 pub use slot::{Slot, StoreFault, Taken, Version};
 pub use store::SlotStore;

@@ -10,8 +10,8 @@ row_is : (count made : ℕ) (all row : Handle) → count ≡ made → jobs_of ro
     → jobs_of row ≡ both (jobs_of all) (only (made + 1))
 row_is count made all row same e = e ∙ ap (λ n. both (jobs_of all) (only (n + 1))) same
 
-pub returns-clause-book : goal.returns-clause-book
-returns-clause-book c =
+pub returns-in-Ok-clause-book : goal.returns-in-Ok-clause-book
+returns-in-Ok-clause-book c =
     let book = c.args.self.now in
     let deps = c.args.deps.now in
     subst₂ (λ (n : ℕ) (rows : List Handle). (b : Book) → StandsFor book b → AreRowsOf n rows book.completed (with_job b (jobs_of deps)))

@@ -1,6 +1,0 @@
-use Rattle.job_handle.specs.Books.{count_of}
-use Rattle.auto_deps.specs.Needs.{AreNoted}
-use Rattle.auto_deps.proofs.tests.schedule.Given as goal
-
-abbrev pub invariant-loop-tag : goal.invariant-loop-tag
-invariant-loop-tag g l = AreNoted (count_of l.jobs) l.book

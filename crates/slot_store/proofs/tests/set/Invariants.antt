@@ -1,7 +1,0 @@
-use Rattle.frame_ast.specs.Laws.{AreUpTo}
-use Rattle.job_handle.specs.Sets.{jobs_of}
-use Rattle.job_handle.specs.Books.{count_of}
-use Rattle.slot_store.proofs.tests.set.Given as goal
-
-abbrev pub invariant-loop-j : goal.invariant-loop-j
-invariant-loop-j l = AreUpTo (count_of l.book) (jobs_of l.all)
