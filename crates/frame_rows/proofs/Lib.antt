@@ -1,3 +1,2 @@
-mod Rooms
-mod Seats
-mod Starting
+pub mod Rooms
+pub mod Starting

@@ -1,10 +1,12 @@
-//! Whole frames, by the top call: what `run_frame` answers to worked scripts, hostile texts and texts at their limits,
-//! over files and sinks that fail, and where pieces come in each order. Then what is planned of each statement, and
-//! which scripts have no plan. Tests alone.
+//! Whole frames, by the top call: what `run_frame` answers to worked scripts at 1, 4 and 64 workers, to hostile texts
+//! and texts at their limits, to words, tables and files that it refuses, over files and sinks that fail, and where
+//! pieces come in each order. Then what is planned of each statement, and which scripts have no plan. Tests alone.
 #![tactic(auto)]
 
 #[cfg(test)]
 mod bounds;
+#[cfg(test)]
+mod calls;
 #[cfg(test)]
 mod faults;
 #[cfg(test)]
@@ -17,6 +19,8 @@ mod orders;
 mod pieces;
 #[cfg(test)]
 mod rows;
+#[cfg(test)]
+mod scripts;
 #[cfg(test)]
 mod statements;
 #[cfg(test)]

@@ -1,4 +1,4 @@
-use Rattle.board_rows.proofs.Rooms.{words_are_new}
+use Rattle.frame_rows.proofs.Rooms.{words_are_new}
 use Rattle.board_rows.proofs.turns.run_turns.Goals as goal
 
 pub run_turns_on-requires-clause-seats : goal.run_turns_on-requires-clause-seats

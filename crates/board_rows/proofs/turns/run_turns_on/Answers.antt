@@ -1,7 +1,7 @@
 use Rattle.std.proofs.Common.{sym, ◌∙◌, subst, ap, length}
 use Rattle.std.proofs.lemmas.List.{length-replicate}
 use Rattle.steal_pool.specs.Rooms.{IsRoomOf}
-use Rattle.board_rows.proofs.Rooms.{made_ready, closed_into}
+use Rattle.frame_rows.proofs.Rooms.{made_ready, closed_into}
 use Rattle.board_rows.proofs.turns.run_turns_on.Goals as goal
 
 pub run_room-end-requires-clause-room : goal.run_room-end-requires-clause-room

@@ -1,7 +1,7 @@
 use Rattle.std.proofs.Common.{◌+◌, ◌≤◌, arith}
 use Rattle.word_board.specs.Boards.{plan_of}
-use Rattle.frame_rows.proofs.Seats.{parts_may}
-use Rattle.frame_rows.proofs.boards.fn.begin_any.g.Goals as goal
+use Rattle.board_rows.proofs.Seats.{parts_may}
+use Rattle.board_rows.proofs.boards.fn.begin_any.g.Goals as goal
 
 pub begins_any-requires : goal.begins_any-requires
 begins_any-requires c = record {

@@ -6,9 +6,9 @@ ghost use Rattle.std.specs.Prelude.{◌<◌};
 ghost use Rattle.frame_core.specs.Know.{piece_count};
 ghost use Rattle.frame_core.specs.Ordered.{IsWellOrderedPlan};
 
-use crate::section::section_of;
-use crate::texts::TOTAL;
 use frame_core::Plan;
+use frame_rows::section_of;
+use frame_rows::texts::TOTAL;
 use job_base::{PieceId, Word};
 use std::alloc::Global;
 use std::fmt::Write;

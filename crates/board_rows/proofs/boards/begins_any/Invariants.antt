@@ -1,6 +1,6 @@
 use Rattle.std.proofs.Common.{◌≡◌}
 use Rattle.word_board.specs.Boards.{home_of, know_of}
-use Rattle.frame_rows.proofs.boards.begins_any.Given as goal
+use Rattle.board_rows.proofs.boards.begins_any.Given as goal
 
 -- nothing was begun
 abbrev pub invariant-loop-p : goal.invariant-loop-p

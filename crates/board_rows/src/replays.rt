@@ -4,10 +4,10 @@
 // job 1, 4 starts job 2, 5 comes before the completion, 6 prints after it, and 7 is the last one.
 ghost use Rattle.frame_core.specs.Ordered.{IsWellOrderedPlan};
 
-use crate::section::section_of;
-use crate::texts::TOTAL;
 use frame_core::{CoreFault, Event, Plan};
 use frame_replay::replay;
+use frame_rows::section_of;
+use frame_rows::texts::TOTAL;
 use job_base::{PieceId, Word};
 use std::alloc::Global;
 use std::test::Fail;

@@ -1,8 +1,8 @@
 // How deep worked scripts are.
 
-use crate::section::section_of;
-use crate::texts::{BUMPS, TOTAL};
 use frame_print::Outgoing;
+use frame_rows::section_of;
+use frame_rows::texts::{BUMPS, TOTAL};
 use job_base::MemSink;
 use job_base::limits::MOST_WORKERS;
 use job_depth::{depth, print_depth};

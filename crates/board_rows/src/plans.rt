@@ -1,8 +1,8 @@
 // What the plans of worked scripts say.
 ghost use Rattle.frame_core.specs.Ordered.{IsWellOrderedPlan};
 
-use crate::section::section_of;
 use frame_core::{Act, Op, Plan};
+use frame_rows::section_of;
 use std::alloc::Global;
 use std::fmt::Write;
 use std::test::Fail;

@@ -9,10 +9,9 @@ ghost use Rattle.frame_core.specs.Pieces.{piece_numbered};
 ghost use Rattle.word_board.specs.Boards.{home_of, know_of, name_of, plan_of};
 ghost use Rattle.frame_rows.specs.Between.{AreCellsOf};
 
-use crate::running::run_words;
-use crate::section::section_of;
-use crate::texts::TOTAL;
 use frame_core::{Board, Plan};
+use frame_rows::texts::TOTAL;
+use frame_rows::{run_words, section_of};
 use job_base::{FlatMem, Mem, MemSink, OpenGate, PieceId, Word};
 use plan_run::RunEnd;
 use std::alloc::Global;

@@ -7,10 +7,10 @@ ghost use Rattle.plan_statements.specs.Tables.{columns_of};
 ghost use Rattle.frame_rows.specs.Between.{IsBetween};
 
 use crate::boards::run_plan;
-use crate::section::script_of;
 use frame_ast::kernel::Kernel;
 use frame_ast::script::Script;
 use frame_plan::{Section, SectionBook, Test, names_of};
+use frame_rows::script_of;
 use job_base::{FlatMem, Mem, MemSink, Word};
 use std::alloc::Global;
 use std::fmt::Write;

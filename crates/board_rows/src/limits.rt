@@ -1,7 +1,7 @@
 // Scripts at the limits of what is planned.
 
-use crate::section::script_of;
 use frame_plan::{PlanFault, SectionBook, names_of};
+use frame_rows::script_of;
 use job_base::FlatMem;
 use std::alloc::Global;
 use std::test::Fail;

@@ -1,6 +1,6 @@
 use Rattle.std.proofs.Common.{ap, true, false}
-use Rattle.frame_rows.proofs.Seats.{is_free, two_seats}
-use Rattle.frame_rows.proofs.boards.begins_early.Goals as goal
+use Rattle.board_rows.proofs.Seats.{is_free, two_seats}
+use Rattle.board_rows.proofs.boards.begins_early.Goals as goal
 
 pub begin_any-one-requires-clause-homes : goal.begin_any-one-requires-clause-homes
 begin_any-one-requires-clause-homes g c =

@@ -4,7 +4,7 @@ use Rattle.std.specs.declared.alloc.Global.{Global}
 use Rattle.frame_ast.specs.declared.kernel.Kernel.{Kernel}
 use Rattle.frame_plan.specs.Sections.{AreKernelsOf}
 use Rattle.plan_statements.specs.Tables.{columns_of}
-use Rattle.frame_rows.proofs.outcomes.go_on.Goals as goal
+use Rattle.board_rows.proofs.outcomes.go_on.Goals as goal
 
 pub next-requires-clause-kernels : goal.next-requires-clause-kernels
 next-requires-clause-kernels g c some =
