@@ -8,3 +8,7 @@ pub mod Lengths
 pub mod Rows
 pub mod Places
 pub mod Executions
+pub mod Safety
+pub mod Sizes
+pub mod Laying
+pub mod Made
