@@ -1,0 +1,11 @@
+pub mod Ways
+pub mod Asking
+pub mod Turns
+pub mod Places
+pub mod Numbers
+pub mod Constants
+pub mod Beginning
+pub mod Adding
+pub mod Filling
+pub mod Staying
+pub mod Executing

@@ -1,0 +1,3 @@
+-- for this crate's own contracts
+pub mod Engines
+pub mod Ready
