@@ -1,15 +1,15 @@
-mod Alike
+pub mod Alike
 mod Asked
-mod Framing
+pub mod Framing
 mod Growing
 mod Lines
-mod Looping
+pub mod Looping
 mod OnCells
 mod Rooms
-mod Clauses
-mod Saying
+pub mod Clauses
+pub mod Saying
 mod Sectioning
-mod Settling
+pub mod Settling
 mod Sources
-mod Telling
+pub mod Telling
 mod Whens

@@ -18,10 +18,10 @@ use Rattle.frame_top.specs.Answers.{Cause, Usage, NoScript, BadScript, NoTable, 
 use Rattle.frame_top.specs.declared.status.TheConstants.{DONE, USAGE, UNREAD, UNWRITTEN, NO_MEMORY, SCRIPT_REFUSED}
 use Rattle.frame_top.proofs.Alike.{same_frame_refusal}
 
-none_some : {A : Type 0} (x : A) → None ≡ Some x → ⊥
+pub none_some : {A : Type 0} (x : A) → None ≡ Some x → ⊥
 none_some x e = cc
 
-some_once : {A : Type 0} (o : Option A) (x y : A) → o ≡ Some x → o ≡ Some y → x ≡ y
+pub some_once : {A : Type 0} (o : Option A) (x y : A) → o ≡ Some x → o ≡ Some y → x ≡ y
 some_once o x y p q = cc
 
 not_both : (d : Bool) → d ≡ true → d ≡ false → ⊥
@@ -29,14 +29,14 @@ not_both d p q = cc
 
 -- BYTES THAT ARE TOLD are those that were read
 
-source_met : (o : Option Text) (a b : Text) → o ≡ Some a → CanBe o b → b ≡ a
+pub source_met : (o : Option Text) (a b : Text) → o ≡ Some a → CanBe o b → b ≡ a
 source_met None a b e is = absurd cc
 source_met (Some c) a b e is = let same : c ≡ a = cc in is ∙ same
 
 table_bytes_met : (told : Told) (name a b : Text) → told name ≡ Some a → CanBe (told name) b → b ≡ a
 table_bytes_met told name a b e is = source_met (told name) a b e is
 
-table_met : (told : Told) (name : Option Text) (a b : Option Text) → IsTable told name a → CanBeTable told name b → b ≡ a
+pub table_met : (told : Told) (name : Option Text) (a b : Option Text) → IsTable told name a → CanBeTable told name b → b ≡ a
 table_met told None a b is can = can ∙ sym is
 table_met told (Some name) None b is can = absurd is
 table_met told (Some name) (Some x) None is can = absurd can
@@ -76,7 +76,7 @@ IsSettled risen a b = (b ≡ a) ⊎ (b.status ≡ UNREAD) × risen
 no_command : (words : List Text) → is_of_command words ≡ true → is_of_command words ≡ false → ⊥
 no_command words p q = cc
 
-unread_status : (b : Answer) (text : Text) → b ≡ answer UNREAD text → b.status ≡ UNREAD
+pub unread_status : (b : Answer) (text : Text) → b ≡ answer UNREAD text → b.status ≡ UNREAD
 unread_status b text is = ap (λ (a : Answer). a.status) is
 
 module _ (words : List Text) (told : Told) (risen : Type 0) (failed : Option Text) where
@@ -89,13 +89,13 @@ module _ (words : List Text) (told : Told) (risen : Type 0) (failed : Option Tex
   usage_settles b bad (OfFrame script table read r f) = absurd (no_command words read.script_is.read.of_command bad)
 
   -- a script that is accepted isn't refused, whichever bytes were read
-  accepts_same : (source : Text) (script : Script) → IsSource words told source → Accepts source script → (other : Text) (a : Answer)
+  pub accepts_same : (source : Text) (script : Script) → IsSource words told source → Accepts source script → (other : Text) (a : Answer)
       → ReadsSource words told other → Refuses other a → ⊥
   accepts_same source script given accepted other a read r =
       let same = source_met (source_told told words) source other given.source_is read.source_is in
       never_both source script a accepted (subst (λ s. Refuses s a) same r)
 
-  refuses_same : (source : Text) (a : Answer) → IsSource words told source → Refuses source a → (script : Script) → ReadsScript words told script → ⊥
+  pub refuses_same : (source : Text) (a : Answer) → IsSource words told source → Refuses source a → (script : Script) → ReadsScript words told script → ⊥
   refuses_same source a given r script read =
       let same = source_met (source_told told words) source read.source given.source_is read.read.source_is in
       never_both source script a (subst (λ s. Accepts s script) same read.accepted) r
@@ -111,12 +111,12 @@ module _ (words : List Text) (told : Told) (risen : Type 0) (failed : Option Tex
   script_settles source a b given r (OfFrame script table read r' f) = absurd (refuses_same source a given r script read.script_is)
 
   module _ (script : Script) (table : Option Text) (given : IsGiven words told script table) where
-    same_script : (other : Script) → ReadsScript words told other → SameScript script other
+    pub same_script : (other : Script) → ReadsScript words told other → SameScript script other
     same_script other read =
         let same = source_met (source_told told words) given.source read.source given.given.source_is read.read.source_is in
         scripts_are_spelled_once given.source script other given.accepted.spelled (subst (λ s. Accepts s other) same read.accepted).spelled
 
-    same_table : (other : Script) (t : Option Text) → Reads words told other t → t ≡ table
+    pub same_table : (other : Script) (t : Option Text) → Reads words told other t → t ≡ table
     same_table other t read = table_met told (table_name words) table t given.table_is read.table_is
 
     pub table_settles : (a b : Answer) → table_refusal table ≡ Some a → Cause words told risen failed b → IsSettled risen a b

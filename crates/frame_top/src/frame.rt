@@ -11,11 +11,12 @@ use crate::inputs::Options;
 use crate::sections::run_sections;
 use crate::status::{DONE, NO_MEMORY, UNWRITTEN};
 use crate::texts::{refuse_column, refuse_plan, refuse_script};
+use crate::watch::Watch;
 use frame_ast::kernel::FaultKind;
 use frame_ast::script::{Order, Script};
 use frame_plan::{SectionBook, missing_column, plan};
 use frame_print::Outgoing;
-use job_base::{Gate, NoMemory, Sink};
+use job_base::{NoMemory, Sink};
 use job_depth::{depth, print_depth};
 use std::alloc::Global;
 use std::sync::Wait;
@@ -98,14 +99,14 @@ fn report_depth<S: Sink>(
 }
 
 /// Runs a script.
-fn answer_run<R: Threads + Wait + Sync, S: Sink, G: Gate + Sync>(
+fn answer_run<R: Threads + Wait + Sync, S: Sink, W: Watch>(
     rt: &R,
     alloc: Global,
     script: &Script,
     table: &Table,
     workers: u32,
     sink: &mut S,
-    gate: &G,
+    watch: &mut W,
 ) -> u8
     requires accepted { IsAccepted script.now }
     requires columns { column_refusal (columns_of table.now) script.now.statements.items ≡ None }
@@ -116,20 +117,20 @@ fn answer_run<R: Threads + Wait + Sync, S: Sink, G: Gate + Sync>(
     ensures later { S.faults sink.old ≤ S.faults sink.new }
 {
     match SectionBook::new(alloc, script, table) {
-        Ok(book) => run_sections(rt, alloc, script, table, workers, book, sink, gate),
+        Ok(book) => run_sections(rt, alloc, script, table, workers, book, sink, watch),
         Err(fault) => refuse_plan(fault, sink),
     }
 }
 
 /// Answers for a script that was accepted and its table: looks for its columns, and then runs it, or reports its depth.
-pub fn answer_frame<R: Threads + Wait + Sync, S: Sink, G: Gate + Sync>(
+pub fn answer_frame<R: Threads + Wait + Sync, S: Sink, W: Watch>(
     rt: &R,
     alloc: Global,
     script: &Script,
     table: &Table,
     options: Options,
     sink: &mut S,
-    gate: &G,
+    watch: &mut W,
 ) -> u8
     requires accepted { IsAccepted script.now }
     requires workers { (1 ≤ options.workers) × (options.workers ≤ MOST_WORKERS) }
@@ -144,6 +145,6 @@ pub fn answer_frame<R: Threads + Wait + Sync, S: Sink, G: Gate + Sync>(
     if options.depth {
         report_depth(alloc, script, table, options.workers, sink)
     } else {
-        answer_run(rt, alloc, script, table, options.workers, sink, gate)
+        answer_run(rt, alloc, script, table, options.workers, sink, watch)
     }
 }

@@ -10,7 +10,11 @@
 //! statuses are the numbers that are written down (`laws`). What a script writes is its meaning, `output_of`, whatever
 //! the number of workers and the cuts of its jobs.
 //!
-//! The steps that read and refuse are public too, for programs that do something else with a script than run it.
+//! `run_watched` is the same with something that looks on (`Watch`): it is told of each section before and after it.
+//! It changes nothing of the answer, so each clause is that of `run_frame`.
+//!
+//! The steps that read and refuse are public too, for programs that do something else with a script than run it, and so
+//! are the steps from section to section, for those who run a section themselves.
 //!
 //! *Cost.* Beside the plan of a section with jobs its board, its deques and its scratch are made, each as large as the
 //! plan asks for, and its cells once more where a test follows. A section without jobs copies the cells that the last
@@ -28,9 +32,13 @@ mod sections;
 pub mod status;
 mod texts;
 mod top;
+mod watch;
 
 pub use alone::run_source;
 pub use frame::{first_when, refuse_missing};
 pub use inputs::{Options, options_of, parse_table, read_source, read_table_file};
+pub use section::SectionRun;
+pub use sections::{Progress, begin_frame, close, finish, next_section, take_run};
 pub use texts::{refuse_plan, refuse_script, refuse_source, refuse_table, say};
-pub use top::run_frame;
+pub use top::{answer_command, run_frame, run_watched};
+pub use watch::{GateAlone, Watch};

@@ -22,12 +22,13 @@ ghost use Rattle.frame_top.specs.declared.status.TheConstants.{NO_MEMORY, UNWRIT
 
 use crate::section::{SectionRun, run_section};
 use crate::status::{DONE, NO_MEMORY, STATEMENT_REFUSED, TRAPPED, UNWRITTEN};
+use crate::watch::Watch;
 use frame_ast::kernel::Kernel;
 use frame_ast::script::Script;
 use frame_plan::{Section, SectionBook, Test, names_of};
 use frame_print::{Outgoing, Report};
 use job_base::limits::MOST_TESTS;
-use job_base::{FlatMem, Gate, JobId, Mem, NoMemory, Sink, Trap, Word};
+use job_base::{FlatMem, JobId, Mem, NoMemory, Sink, Trap, Word};
 use plan_run::{flush_lines, say_traps};
 use std::alloc::Global;
 use std::mem;
@@ -90,7 +91,7 @@ fn first_list(alloc: Global, lists: Vec<Vec<i64>>) -> Vec<i64> {
 }
 
 /// What is known of a frame before its first section.
-pub(crate) fn begin_frame(alloc: Global, script: &Script) -> Result<Progress, NoMemory>
+pub fn begin_frame(alloc: Global, script: &Script) -> Result<Progress, NoMemory>
     ensures held { IfOk result (λ p. p.held ≡ None) }
     ensures waits { IfOk result (λ p. p.out ≡ []) }
     ensures failed { IfOk result (λ p. p.failed ≡ false) }
@@ -112,7 +113,7 @@ pub(crate) fn begin_frame(alloc: Global, script: &Script) -> Result<Progress, No
 }
 
 /// Makes the next section of a frame out of what the last one left.
-pub(crate) fn next_section(
+pub fn next_section(
     alloc: Global,
     script: &Script,
     table: &Table,
@@ -134,12 +135,7 @@ pub(crate) fn next_section(
 }
 
 /// Takes over what the run of a section came to, and says whether there is a section after it.
-pub(crate) fn take_run(
-    alloc: Global,
-    section: Section,
-    ran: SectionRun,
-    progress: &mut Progress,
-) -> bool
+pub fn take_run(alloc: Global, section: Section, ran: SectionRun, progress: &mut Progress) -> bool
     requires made { (script : ScriptTree) × (columns : Columns) × (sections : ℕ) × (from : ℕ) × (book : SectionBook)
         × IsAccepted script × (sections ≤ MOST_TESTS)
         × IsMade script columns sections from book section progress.old.report }
@@ -169,7 +165,7 @@ pub(crate) fn take_run(
 }
 
 // Runs the next section, and says whether there is one after it.
-fn run_next_section<R: Threads + Wait + Sync, S: Sink, G: Gate + Sync>(
+fn run_next_section<R: Threads + Wait + Sync, S: Sink, W: Watch>(
     rt: &R,
     alloc: Global,
     script: &Script,
@@ -178,7 +174,7 @@ fn run_next_section<R: Threads + Wait + Sync, S: Sink, G: Gate + Sync>(
     book: &mut SectionBook,
     progress: &mut Progress,
     sink: &mut S,
-    gate: &G,
+    watch: &mut W,
 ) -> Result<bool, NoMemory>
     requires accepted { IsAccepted script.now }
     requires workers { (1 ≤ workers) × (workers ≤ MOST_WORKERS) }
@@ -193,6 +189,7 @@ fn run_next_section<R: Threads + Wait + Sync, S: Sink, G: Gate + Sync>(
     ensures failed { OnErr result (progress.new.failed ≡ progress.old.failed) }
 {
     let section = next_section(alloc, script, table, book, progress)?;
+    watch.begin(alloc, script, progress.held, &section)?;
     let keeps = section.test.is_some();
     let spare = mem::replace(&mut progress.spare, Vec::new(alloc));
     let ran = run_section(
@@ -205,13 +202,14 @@ fn run_next_section<R: Threads + Wait + Sync, S: Sink, G: Gate + Sync>(
         spare,
         &mut progress.out,
         sink,
-        gate,
+        watch.gate(),
     )?;
+    watch.end(script, &section);
     Ok(take_run(alloc, section, ran, progress))
 }
 
 /// Writes what waits, and answers this status, unless a write failed.
-pub(crate) fn close<S: Sink>(progress: &mut Progress, status: u8, sink: &mut S) -> u8
+pub fn close<S: Sink>(progress: &mut Progress, status: u8, sink: &mut S) -> u8
     ensures closed { Closes S.taken S.faults sink.old progress.old sink.new progress.new [] status result }
     ensures later { S.faults sink.old ≤ S.faults sink.new }
 {
@@ -220,7 +218,7 @@ pub(crate) fn close<S: Sink>(progress: &mut Progress, status: u8, sink: &mut S) 
 }
 
 /// Writes what waits and the lines of the traps, and answers the status.
-pub(crate) fn finish<S: Sink>(progress: &mut Progress, sink: &mut S) -> u8
+pub fn finish<S: Sink>(progress: &mut Progress, sink: &mut S) -> u8
     ensures closed { (s : ScriptState) → IsReportAt s progress.old.report
         → Closes S.taken S.faults sink.old progress.old sink.new progress.new (traps_text s.traps)
         (status_by s.traps s.refused) result }
@@ -254,7 +252,7 @@ fn no_report() -> Report
 /// All that a section needs is made before its first piece is begun; of the first section, before the first byte is
 /// written. Lines wait in one buffer, from one section to the next; where memory for a section runs out, those that
 /// wait are still written. After a failed write the other sections are run all the same, and nothing more is written.
-pub fn run_sections<R: Threads + Wait + Sync, S: Sink, G: Gate + Sync>(
+pub fn run_sections<R: Threads + Wait + Sync, S: Sink, W: Watch>(
     rt: &R,
     alloc: Global,
     script: &Script,
@@ -262,7 +260,7 @@ pub fn run_sections<R: Threads + Wait + Sync, S: Sink, G: Gate + Sync>(
     workers: u32,
     first: SectionBook,
     sink: &mut S,
-    gate: &G,
+    watch: &mut W,
 ) -> u8
     requires accepted { IsAccepted script.now }
     requires workers { (1 ≤ workers) × (workers ≤ MOST_WORKERS) }
@@ -286,7 +284,7 @@ pub fn run_sections<R: Threads + Wait + Sync, S: Sink, G: Gate + Sync>(
             &mut book,
             &mut progress,
             sink,
-            gate,
+            watch,
         ) {
             Ok(true) => {}
             Ok(false) => return finish(&mut progress, sink),

@@ -18,6 +18,7 @@ use crate::frame::answer_frame;
 use crate::inputs::{options_of, parse_table, read_source, read_table_file};
 use crate::status::{NO_MEMORY, PAST_LIMIT, UNREAD, USAGE};
 use crate::texts::{refuse_source, refuse_table, say};
+use crate::watch::{GateAlone, Watch};
 use command_words::{Command, WordsFault, read_words};
 use frame_ast::script::Script;
 use frame_script::{LoadFault, parse_script};
@@ -27,14 +28,14 @@ use std::sync::Wait;
 use std::thread::Threads;
 
 // Answers for a script that was accepted: reads the table, and goes on with both.
-fn answer_script<R: Threads + Wait + Sync, F: Files, S: Sink, G: Gate + Sync>(
+fn answer_script<R: Threads + Wait + Sync, F: Files, S: Sink, W: Watch>(
     rt: &R,
     alloc: Global,
     command: &Command,
     script: &Script,
     files: &mut F,
     sink: &mut S,
-    gate: &G,
+    watch: &mut W,
 ) -> u8
     requires accepted { IsAccepted script.now }
     requires read { (words : List Text) × IsAsked words command.now × ReadsScript words (F.bytes files.old) script.now }
@@ -58,19 +59,19 @@ fn answer_script<R: Threads + Wait + Sync, F: Files, S: Sink, G: Gate + Sync>(
         Err(FileFault::NoMemory) => return NO_MEMORY,
     };
     match parse_table(alloc, &bytes) {
-        Ok(table) => answer_frame(rt, alloc, script, &table, options_of(command), sink, gate),
+        Ok(table) => answer_frame(rt, alloc, script, &table, options_of(command), sink, watch),
         Err(fault) => refuse_table(fault, sink),
     }
 }
 
-// Answers a command: reads the script, and goes on with it.
-fn answer_command<R: Threads + Wait + Sync, F: Files, S: Sink, G: Gate + Sync>(
+/// Answers a command that was read: reads the script, and goes on with it as [`run_watched`] does.
+pub fn answer_command<R: Threads + Wait + Sync, F: Files, S: Sink, W: Watch>(
     rt: &R,
     alloc: Global,
     command: &Command,
     files: &mut F,
     sink: &mut S,
-    gate: &G,
+    watch: &mut W,
 ) -> u8
     requires asked { (words : List Text) × IsAsked words command.now }
 
@@ -92,20 +93,20 @@ fn answer_command<R: Threads + Wait + Sync, F: Files, S: Sink, G: Gate + Sync>(
         Err(FileFault::NoMemory) => return NO_MEMORY,
     };
     match parse_script(alloc, &source) {
-        Ok(script) => answer_script(rt, alloc, command, &script, files, sink, gate),
+        Ok(script) => answer_script(rt, alloc, command, &script, files, sink, watch),
         Err(LoadFault::Refused { line, kind }) => refuse_source(line, kind, sink),
         Err(LoadFault::NoMemory) => NO_MEMORY,
     }
 }
 
-// The work of `run_frame`.
-fn answer_words<R: Threads + Wait + Sync, F: Files, S: Sink, G: Gate + Sync>(
+// The work of `run_watched`.
+fn answer_words<R: Threads + Wait + Sync, F: Files, S: Sink, W: Watch>(
     rt: &R,
     alloc: Global,
     words: &[String],
     files: &mut F,
     sink: &mut S,
-    gate: &G,
+    watch: &mut W,
 ) -> u8
     ensures answer { AnswersTo S.taken S.faults sink.old sink.new
         (CauseBy F.bytes F.faults F.last_failed (bytes_of words.now) files.old files.new)
@@ -120,7 +121,7 @@ fn answer_words<R: Threads + Wait + Sync, F: Files, S: Sink, G: Gate + Sync>(
     ensures sink_later { S.faults sink.old ≤ S.faults sink.new }
 {
     match read_words(alloc, words) {
-        Ok(command) => answer_command(rt, alloc, &command, files, sink, gate),
+        Ok(command) => answer_command(rt, alloc, &command, files, sink, watch),
         Err(WordsFault::Usage) => say(
             USAGE,
             b"usage: frame_run [--workers N] [--depth] SCRIPT [TABLE] or frame_run [--workers N] [--depth] --gen \
@@ -129,6 +130,70 @@ fn answer_words<R: Threads + Wait + Sync, F: Files, S: Sink, G: Gate + Sync>(
         ),
         Err(WordsFault::NoMemory) => NO_MEMORY,
     }
+}
+
+/// Does what [`run_frame`] does while something looks on: it is told of each section before its first piece is entered
+/// and after its last one was left, and gives the gate round the pieces. The answer is the same whoever looks on.
+pub fn run_watched<R: Threads + Wait + Sync, F: Files, S: Sink, W: Watch>(
+    rt: &R,
+    alloc: Global,
+    words: &[String],
+    files: &mut F,
+    sink: &mut S,
+    watch: &mut W,
+) -> u8
+    // THE HEADLINE. Where the words ask for a script and a table whose bytes are known, and these are accepted, the
+    // status and the bytes are those of the script's meaning, unless a read failed, the sink failed or memory ran
+    // out.
+    ensures headline { (script : ScriptTree) (table : Option Text)
+        → IsFrame (bytes_of words.now) (F.bytes files.old) script table
+        → asks_depth (bytes_of words.now) ≡ false
+        → Gives F.faults S.taken S.faults files.old files.new sink.old sink.new
+        (answer (status_of script (table_of table)) (output_of script (table_of table))) result }
+
+    // What is so where a status comes: it has its cause, and the text that goes with it was written whole.
+    ensures statuses { result ≤ PAST_LIMIT }
+    ensures caused { result ≢ UNWRITTEN → result ≢ NO_MEMORY → (text : Text)
+        × CauseBy F.bytes F.faults F.last_failed (bytes_of words.now) files.old files.new (answer result text)
+        × Appends (S.taken sink.old) (S.taken sink.new) text }
+    ensures usage { result ≡ USAGE → is_of_command (bytes_of words.now) ≡ false }
+    ensures unread { result ≡ UNREAD → HasUnread F.faults F.last_failed (bytes_of words.now) files.old files.new }
+    ensures unwritten { result ≡ UNWRITTEN → Rose (S.faults sink.old) (S.faults sink.new)
+        × TakesPart S.taken sink.old sink.new
+        (CauseBy F.bytes F.faults F.last_failed (bytes_of words.now) files.old files.new) }
+    ensures no_memory { result ≡ NO_MEMORY → Appends (S.taken sink.old) (S.taken sink.new) []
+        ⊎ TakesCut S.taken sink.old sink.new (CanBeCut (bytes_of words.now) (F.bytes files.old)) }
+    ensures no_memory_early { result ≡ NO_MEMORY → (is_of_command (bytes_of words.now) ≡ true)
+        × (F.faults files.new ≡ F.faults files.old) }
+
+    // When a status is due, with its text.
+    ensures usage_due { is_of_command (bytes_of words.now) ≡ false
+        → (result ≡ USAGE) × Appends (S.taken sink.old) (S.taken sink.new) usage_line
+        ⊎ (result ≡ UNWRITTEN) × Rose (S.faults sink.old) (S.faults sink.new) }
+    ensures script_due { (source : Text) (a : Answer) → IsSource (bytes_of words.now) (F.bytes files.old) source
+        → Refuses source a → Gives F.faults S.taken S.faults files.old files.new sink.old sink.new a result }
+    ensures table_due { (script : ScriptTree) (table : Option Text) (a : Answer)
+        → IsGiven (bytes_of words.now) (F.bytes files.old) script table → table_refusal table ≡ Some a
+        → Gives F.faults S.taken S.faults files.old files.new sink.old sink.new a result }
+    ensures frame_due { (script : ScriptTree) (table : Option Text) (a : Answer)
+        → IsGiven (bytes_of words.now) (F.bytes files.old) script table → table_refusal table ≡ None
+        → frame_refusal script (table_of table) (asks_depth (bytes_of words.now)) ≡ Some a
+        → Gives F.faults S.taken S.faults files.old files.new sink.old sink.new a result }
+    ensures depth_due { (script : ScriptTree) (table : Option Text)
+        → IsFrame (bytes_of words.now) (F.bytes files.old) script table
+        → asks_depth (bytes_of words.now) ≡ true
+        → GivesDepth F.faults S.taken S.faults files.old files.new sink.old sink.new
+        (bytes_of words.now) (F.bytes files.old) result }
+
+    // What stays.
+    ensures same { F.bytes files.new ≡ F.bytes files.old }
+    ensures files_later { F.faults files.old ≤ F.faults files.new }
+    ensures sink_later { S.faults sink.old ≤ S.faults sink.new }
+    ensures reads { ReadFails F.faults F.last_failed (bytes_of words.now) files.old files.new }
+    ensures taken_all { result ≢ UNWRITTEN → S.faults sink.new ≡ S.faults sink.old }
+    ensures read_all { result ≢ UNREAD → result ≢ UNWRITTEN → F.faults files.new ≡ F.faults files.old }
+{
+    answer_words(rt, alloc, words, files, sink, watch)
 }
 
 /// Answers a command line: reads or makes the script that its words ask for, reads the table, and runs the script with
@@ -209,5 +274,6 @@ pub fn run_frame<R: Threads + Wait + Sync, F: Files, S: Sink, G: Gate + Sync>(
     ensures taken_all { result ≢ UNWRITTEN → S.faults sink.new ≡ S.faults sink.old }
     ensures read_all { result ≢ UNREAD → result ≢ UNWRITTEN → F.faults files.new ≡ F.faults files.old }
 {
-    answer_words(rt, alloc, words, files, sink, gate)
+    let mut watch = GateAlone { gate };
+    run_watched(rt, alloc, words, files, sink, &mut watch)
 }

@@ -22,3 +22,13 @@ take_run-requires-clause-made g c =
 
 pub take_run-requires-clause-cells : goal.take_run-requires-clause-cells
 take_run-requires-clause-cells g c some = c.in_ok-ran.ensures.run.cells (c.is_some-keeps.ensures ∙ some)
+
+pub begin-requires-clause-well : goal.begin-requires-clause-well
+begin-requires-clause-well g c =
+    let h = c.requires.here in
+    (c.in_ok-section.ensures.made h.0 h.1 h.3).next.is_section.well_ordered
+
+pub end-requires-clause-well : goal.end-requires-clause-well
+end-requires-clause-well g c =
+    let h = c.requires.here in
+    (c.in_ok-section.ensures.made h.0 h.1 h.3).next.is_section.well_ordered

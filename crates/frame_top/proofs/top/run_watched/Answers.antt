@@ -1,6 +1,6 @@
 use Rattle.frame_top.proofs.Clauses.{status_fits, caused_by, usage_row, unread_row, unwritten_row, none_row, taken_row, settled, gives}
 use Rattle.frame_top.proofs.Settling.{run_settles, script_settles, table_settles, frame_settles, report_settles, IsReported, reported_gives, usage_gives}
-use Rattle.frame_top.proofs.top.run_frame.Goals as goal
+use Rattle.frame_top.proofs.top.run_watched.Goals as goal
 
 pub returns-clause-headline : goal.returns-clause-headline
 returns-clause-headline g c script table frame plain =
