@@ -1,5 +1,5 @@
 -- What statements left in a plan: the starts of jobs, and refusals.
-use Rattle.std.specs.Prelude.{ℕ, Bool, true, nat_eq, List, [], ◌∷◌, ◌++◌, Option, Some, None, option_to_list}
+use Rattle.std.specs.Prelude.{ℕ, ◌+◌, Bool, true, if◌then◌else◌, nat_eq, List, [], ◌∷◌, ◌++◌, Option, Some, None, option_to_list}
 use Rattle.job_base.specs.declared.JobId.{JobId}
 use Rattle.frame_core.specs.declared.plan.Act.{Act}
 use Rattle.frame_core.specs.declared.plan.Act.TheVariants.{Say}
@@ -12,6 +12,11 @@ use Rattle.frame_view.specs.declared.marks.Mark.TheVariants.{Starts, Says}
 abbrev pub fits : ℕ → Mark → Bool
 fits wanted Starts = true
 fits wanted (Says line name refusal) = nat_eq line wanted
+
+-- the place of the first mark that a schedule of a line may have left, among those from a place on
+abbrev pub next_fit : ℕ → ℕ → List Mark → Option ℕ
+next_fit line at [] = None
+next_fit line at (m ∷ more) = if fits line m then Some at else next_fit line (at + 1) more
 
 -- the refusal that an operation says
 abbrev pub mark_in : ℕ → ℕ → Act → Option Mark

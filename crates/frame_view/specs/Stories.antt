@@ -2,7 +2,7 @@
 --
 -- Decided here: what a story may say of a script and its plan. Which schedule made which job isn't decided here: a plan
 -- doesn't say it.
-use Rattle.std.specs.Prelude.{◌≡◌, ℕ, ◌<◌, ◌≤◌, Bool, true, false, List, [], ◌∷◌, Option, Some, None, length, slice_get}
+use Rattle.std.specs.Prelude.{◌≡◌, ℕ, ◌+◌, ◌<◌, ◌≤◌, Bool, true, false, List, [], ◌∷◌, ◌++◌, Option, Some, None, length, slice_get}
 use Rattle.frame_ast.specs.declared.script.Arg.{Arg}
 use Rattle.frame_ast.specs.declared.script.Order.{Order}
 use Rattle.frame_ast.specs.declared.script.Order.TheVariants.{Schedule}
@@ -13,7 +13,7 @@ use Rattle.frame_view.specs.declared.marks.Mark.{Mark}
 use Rattle.frame_view.specs.declared.marks.Mark.TheVariants.{Starts, Says}
 use Rattle.frame_view.specs.declared.story.Refused.{Refused}
 use Rattle.frame_view.specs.declared.story.Story.{Story}
-use Rattle.frame_view.specs.Marks.{marks_of}
+use Rattle.frame_view.specs.Marks.{fits, marks_of}
 
 abbrev pub is_schedule : Order → Bool
 is_schedule (Schedule job) = true
@@ -62,3 +62,38 @@ pub record IsStory (script : Script) (plan : Plan) (story : Story) : Type 0 wher
       → slice_get story.refused.items i ≡ Some r → r.at ≡ at → ⊥
   -- there are no more than statements
   pub few : length story.refused.items ≤ length script.statements.items
+
+-- WHICH MARKS STATEMENTS LEFT
+--
+-- A schedule leaves one mark: the start of its job, or its refusal. Another statement leaves refusals of its own line,
+-- on which no schedule stands. So there is no choice: what the statements left is what the story tells.
+
+-- no schedule of the script may have left this mark
+abbrev pub IsOther : Script → Mark → Type 0
+IsOther script m = (at : ℕ) (x : Statement) → slice_get script.statements.items at ≡ Some x → is_schedule x.act ≡ true
+    → fits x.line m ≡ false
+
+abbrev pub AreOthers : Script → List Mark → Type 0
+AreOthers script [] = Unit {0}
+AreOthers script (m ∷ more) = IsOther script m × AreOthers script more
+
+-- The statement at a place left the first of these marks, and `rest` says what the later statements left.
+abbrev pub LeavesOne : Bool → Script → ℕ → Statement → (List Mark → List ℕ → List Refused → Type 0)
+    → List Mark → List ℕ → List Refused → Type 0
+LeavesOne true script at x rest marks made refused = (m : Mark) × (ms : List Mark) × (js : List ℕ) × (rs : List Refused)
+    × (fits x.line m ≡ true) × (marks ≡ m ∷ ms) × (made ≡ made_by at m ++ js) × (refused ≡ refused_by at m ++ rs)
+    × rest ms js rs
+LeavesOne false script at x rest marks made refused = (said : List Mark) × (ms : List Mark) × AreOthers script said
+    × (marks ≡ said ++ ms) × rest ms made refused
+
+-- The statements from a place on left these marks: by them those schedules made jobs, and these were refused.
+abbrev pub Leaves : Script → ℕ → List Statement → List Mark → List ℕ → List Refused → Type 0
+Leaves script at [] marks made refused = (marks ≡ []) × (made ≡ []) × (refused ≡ [])
+Leaves script at (x ∷ more) marks made refused =
+    LeavesOne (is_schedule x.act) script at x (Leaves script (at + 1) more) marks made refused
+
+-- The story tells each mark of a schedule: however the statements left the plan's marks, it tells just that.
+abbrev pub TellsAll : Script → Plan → Story → Type 0
+TellsAll script plan story = (made : List ℕ) (refused : List Refused)
+    → Leaves script 0 script.statements.items (marks_of plan.segments.items) made refused
+    → (story.made.items ≡ made) × (story.refused.items ≡ refused)

@@ -1,7 +1,7 @@
 // What statements left in a plan: the starts of jobs, and refusals with their lines.
-ghost use Rattle.std.specs.Prelude.{◌≡◌, ◌++◌, ◌≤◌, ◌<◌, Option, Some, IfOk, IfSome, OnOk, length, slice_get, true};
+ghost use Rattle.std.specs.Prelude.{◌≡◌, ◌++◌, ◌≤◌, ◌<◌, Option, Some, IfOk, IfSome, OnOk, drop, length, slice_get, true};
 ghost use Rattle.frame_view.specs.declared.marks.Mark.{Mark};
-ghost use Rattle.frame_view.specs.Marks.{fits, mark_in, op_marks, start_marks, segment_marks, marks_of};
+ghost use Rattle.frame_view.specs.Marks.{fits, next_fit, mark_in, op_marks, start_marks, segment_marks, marks_of};
 
 use frame_core::{Act, Op, Plan, Segment};
 use job_base::{JobId, NoMemory, Refusal};
@@ -92,6 +92,7 @@ pub(crate) fn marks_of(alloc: Global, plan: &Plan) -> Result<Vec<Mark>, NoMemory
 
 /// The place of the next mark from a place on that a schedule of that line may have left.
 pub(crate) fn next_mark(marks: &[Mark], from: usize, line: u32) -> Option<usize>
+    ensures next { result ≡ next_fit line from (drop from marks.now) }
     ensures after { IfSome result (λ i. from ≤ i) }
     ensures within { IfSome result (λ i. i < length marks.now) }
     ensures fits { IfSome result (λ i. (m : Mark) → slice_get marks.now i ≡ Some m → fits line m ≡ true) }

@@ -1,8 +1,8 @@
 // What became of a script's schedules.
-ghost use Rattle.std.specs.Prelude.{◌≡◌, ◌++◌, ◌<◌, IfOk, IfSome, IsSome, OnOk, Some, length, slice_get, true};
+ghost use Rattle.std.specs.Prelude.{◌≡◌, ◌++◌, ◌<◌, IfOk, IfSome, IsSome, None, OnOk, Some, drop, if◌then◌else◌, length, slice_get, true};
 ghost use Rattle.frame_view.specs.declared.marks.Mark.{Mark};
-ghost use Rattle.frame_view.specs.Marks.{fits};
-ghost use Rattle.frame_view.specs.Stories.{is_schedule, made_by, refused_by, IsStory};
+ghost use Rattle.frame_view.specs.Marks.{fits, next_fit};
+ghost use Rattle.frame_view.specs.Stories.{is_schedule, made_by, refused_by, IsStory, TellsAll};
 
 use crate::looks::is_schedule;
 use crate::marks::{Mark, marks_of, next_mark};
@@ -51,6 +51,8 @@ impl Story {
 // The place of the next mark from a place on that a statement may have left, where it is a schedule.
 fn mark_for(marks: &[Mark], from: usize, statement: &Statement) -> Option<usize>
     ensures schedule { IsSome result → is_schedule statement.now.act ≡ true }
+    ensures next { result ≡ (if is_schedule statement.now.act
+        then next_fit statement.now.line from (drop from marks.now) else None) }
     ensures within { IfSome result (λ i. i < length marks.now) }
     ensures fits { IfSome result (λ i. (m : Mark) → slice_get marks.now i ≡ Some m
         → fits statement.now.line m ≡ true) }
@@ -65,7 +67,8 @@ fn mark_for(marks: &[Mark], from: usize, statement: &Statement) -> Option<usize>
 /// Goes along the statements of a script without a `when`, and along its plan. A schedule leaves one mark in a plan,
 /// the start of its job or a refusal of its line; so each takes the next one that may be its own.
 pub fn follow(alloc: Global, script: &Script, plan: &Plan) -> Result<Story, NoMemory>
-    ensures { IfOk result (IsStory script.now plan.now) }
+    ensures story { IfOk result (IsStory script.now plan.now) }
+    ensures all { IfOk result (TellsAll script.now plan.now) }
 {
     let marks = marks_of(alloc, plan)?;
     let mut story = Story {

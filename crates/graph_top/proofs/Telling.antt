@@ -39,3 +39,7 @@ pub is_of_both : {T E : Type 0} (v : T) (f : E) (a b : Bool) → (◌≡◌ {A =
 is_of_both v f a true h = refl
 is_of_both v f true false h = let e = h.1 refl in absurd cc
 is_of_both v f false false h = let e = h.1 refl in absurd cc
+
+pub is_all : {T E : Type 0} (v : T) (f : E) (b : Bool) → (◌≡◌ {A = Result T E} (Ok v) (Err f) ↔ (b ≡ false)) → b ≡ true
+is_all v f true h = refl
+is_all v f false h = let e = h.1 refl in absurd cc

@@ -1,2 +1,3 @@
 -- promises
 pub mod Drawn
+pub mod Due

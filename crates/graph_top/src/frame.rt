@@ -4,6 +4,7 @@ ghost use Rattle.job_base.specs.declared.limits.TheConstants.{MOST_WORKERS};
 ghost use Rattle.frame_ast.specs.Accepted.{IsAccepted};
 ghost use Rattle.plan_statements.specs.Tables.{columns_of};
 ghost use Rattle.graph_top.specs.Drawn.{DrawsTo, IsDrawing};
+ghost use Rattle.graph_top.specs.Due.{FrameEndsTo};
 
 use crate::drawing::picture_text;
 use frame_ast::kernel::FaultKind;
@@ -37,6 +38,8 @@ pub(crate) fn answer_frame<S: Sink, E: Sink>(
     requires workers { (1 ≤ style.workers) × (style.workers ≤ MOST_WORKERS) }
     ensures drawn { DrawsTo S.taken S.faults sink.old sink.new
         (IsDrawing script.now (columns_of table.now) style.workers style.dot) result }
+    ensures ends { FrameEndsTo S.faults E.taken E.faults sink.old sink.new notes.old notes.new script.now
+        (columns_of table.now) result }
     ensures later { S.faults sink.old ≤ S.faults sink.new }
     ensures notes_later { E.faults notes.old ≤ E.faults notes.new }
 {

@@ -1,11 +1,15 @@
 // The top call.
-ghost use Rattle.std.specs.Prelude.{◌≤◌, List, is_some, map, string_bytes};
+ghost use Rattle.std.specs.Prelude.{◌≡◌, ◌≤◌, List, Option, None, Some, false, is_some, map, string_bytes, true};
+ghost use Rattle.frame_ast.specs.declared.script.Script.{Script as ScriptTree};
 ghost use Rattle.frame_ast.specs.Accepted.{IsAccepted};
 ghost use Rattle.command_words.specs.Words.{Text};
 ghost use Rattle.frame_top.specs.Asking.{IsAsked};
-ghost use Rattle.frame_top.specs.Inputs.{ReadsScript};
-ghost use Rattle.graph_words.specs.GraphWords.{flag_place, plain_words};
+ghost use Rattle.frame_top.specs.Inputs.{IsGiven, IsSource, ReadsScript};
+ghost use Rattle.frame_top.specs.Refusals.{Answer, answer, Refuses, frame_refusal, table_of, table_refusal};
+ghost use Rattle.frame_top.specs.declared.status.TheConstants.{NO_MEMORY, USAGE};
+ghost use Rattle.graph_words.specs.GraphWords.{flag_place, is_of_graph, plain_words};
 ghost use Rattle.graph_top.specs.Drawn.{DrawsTo, IsFrameDrawing};
+ghost use Rattle.graph_top.specs.Due.{CommandEndsTo, GivesNote, GivesPicture, GraphEndsTo, IsDrawable, graph_usage_line};
 
 use crate::frame::{Style, answer_frame};
 use command_words::{Command, WordsFault};
@@ -33,6 +37,9 @@ fn answer_script<F: Files, S: Sink, E: Sink>(
     requires read { (words : List Text) × IsAsked words command.now × ReadsScript words (F.bytes files.old) script.now }
     ensures drawn { (words : List Text) → IsAsked words command.now → ReadsScript words (F.bytes files.old) script.now
         → DrawsTo S.taken S.faults sink.old sink.new (IsFrameDrawing words (F.bytes files.old) dot) result }
+    ensures ends { (words : List Text) → IsAsked words command.now → ReadsScript words (F.bytes files.old) script.now
+        → CommandEndsTo F.bytes F.faults F.last_failed S.faults E.taken E.faults files.old files.new sink.old sink.new
+        notes.old notes.new words result }
     ensures sink_later { S.faults sink.old ≤ S.faults sink.new }
     ensures notes_later { E.faults notes.old ≤ E.faults notes.new }
     ensures files_later { F.faults files.old ≤ F.faults files.new }
@@ -65,6 +72,9 @@ fn answer_command<F: Files, S: Sink, E: Sink>(
     requires asked { (words : List Text) × IsAsked words command.now }
     ensures drawn { (words : List Text) → IsAsked words command.now
         → DrawsTo S.taken S.faults sink.old sink.new (IsFrameDrawing words (F.bytes files.old) dot) result }
+    ensures ends { (words : List Text) → IsAsked words command.now
+        → CommandEndsTo F.bytes F.faults F.last_failed S.faults E.taken E.faults files.old files.new sink.old sink.new
+        notes.old notes.new words result }
     ensures sink_later { S.faults sink.old ≤ S.faults sink.new }
     ensures notes_later { E.faults notes.old ≤ E.faults notes.new }
     ensures files_later { F.faults files.old ≤ F.faults files.new }
@@ -79,6 +89,37 @@ fn answer_command<F: Files, S: Sink, E: Sink>(
         Ok(script) => answer_script(alloc, command, dot, &script, files, sink, notes),
         Err(LoadFault::Refused { line, kind }) => refuse_source(line, kind, notes),
         Err(LoadFault::NoMemory) => NO_MEMORY,
+    }
+}
+
+// The work of `graph_frame`.
+fn answer_words<F: Files, S: Sink, E: Sink>(
+    alloc: Global,
+    words: Vec<String>,
+    files: &mut F,
+    sink: &mut S,
+    notes: &mut E,
+) -> u8
+    ensures drawn { DrawsTo S.taken S.faults sink.old sink.new
+        (IsFrameDrawing (plain_words (map string_bytes words.items)) (F.bytes files.old)
+        (is_some (flag_place (map string_bytes words.items)))) result }
+    ensures ends { GraphEndsTo F.bytes F.faults F.last_failed S.faults E.taken E.faults files.old files.new sink.old
+        sink.new notes.old notes.new (map string_bytes words.items) result }
+    ensures sink_later { S.faults sink.old ≤ S.faults sink.new }
+    ensures notes_later { E.faults notes.old ≤ E.faults notes.new }
+    ensures files_later { F.faults files.old ≤ F.faults files.new }
+{
+    match read_graph_words(alloc, words) {
+        Ok(GraphCommand { command, dot }) => answer_command(
+            alloc, &command, dot, files, sink, notes,
+        ),
+        Err(WordsFault::Usage) => say(
+            USAGE,
+            b"usage: frame_graph [--workers N] [--dot] SCRIPT [TABLE] or frame_graph [--workers N] [--dot] --gen \
+             NUMBER --jobs K\n",
+            notes,
+        ),
+        Err(WordsFault::NoMemory) => NO_MEMORY,
     }
 }
 
@@ -109,20 +150,41 @@ pub fn graph_frame<F: Files, S: Sink, E: Sink>(
     ensures drawn { DrawsTo S.taken S.faults sink.old sink.new
         (IsFrameDrawing (plain_words (map string_bytes words.items)) (F.bytes files.old)
         (is_some (flag_place (map string_bytes words.items)))) result }
+
+    // THE HEADLINE. Where the words ask for a script and a table whose bytes are known, and these are accepted and
+    // without a `when`, their picture is given, unless a read failed, a sink failed or memory ran out.
+    ensures headline { (script : ScriptTree) (table : Option Text)
+        → IsDrawable (map string_bytes words.items) (F.bytes files.old) script table
+        → GivesPicture F.faults S.faults E.faults files.old files.new sink.old sink.new notes.old notes.new result }
+
+    // Memory isn't wanting for words that aren't of the command.
+    ensures no_memory { result ≡ NO_MEMORY → is_of_graph (map string_bytes words.items) ≡ true }
+
+    // When another status is due, with its text.
+    ensures usage_due { is_of_graph (map string_bytes words.items) ≡ false
+        → GivesNote F.faults S.faults E.taken E.faults files.old files.new sink.old sink.new notes.old notes.new
+        (answer USAGE graph_usage_line) result }
+    ensures script_due { (source : Text) (a : Answer) → is_of_graph (map string_bytes words.items) ≡ true
+        → IsSource (plain_words (map string_bytes words.items)) (F.bytes files.old) source → Refuses source a
+        → GivesNote F.faults S.faults E.taken E.faults files.old files.new sink.old sink.new notes.old notes.new
+        a result }
+    ensures table_due { (script : ScriptTree) (table : Option Text) (a : Answer)
+        → is_of_graph (map string_bytes words.items) ≡ true
+        → IsGiven (plain_words (map string_bytes words.items)) (F.bytes files.old) script table
+        → table_refusal table ≡ Some a
+        → GivesNote F.faults S.faults E.taken E.faults files.old files.new sink.old sink.new notes.old notes.new
+        a result }
+    ensures frame_due { (script : ScriptTree) (table : Option Text) (a : Answer)
+        → is_of_graph (map string_bytes words.items) ≡ true
+        → IsGiven (plain_words (map string_bytes words.items)) (F.bytes files.old) script table
+        → table_refusal table ≡ None → frame_refusal script (table_of table) true ≡ Some a
+        → GivesNote F.faults S.faults E.taken E.faults files.old files.new sink.old sink.new notes.old notes.new
+        a result }
+
+    // What stays.
     ensures sink_later { S.faults sink.old ≤ S.faults sink.new }
     ensures notes_later { E.faults notes.old ≤ E.faults notes.new }
     ensures files_later { F.faults files.old ≤ F.faults files.new }
 {
-    match read_graph_words(alloc, words) {
-        Ok(GraphCommand { command, dot }) => answer_command(
-            alloc, &command, dot, files, sink, notes,
-        ),
-        Err(WordsFault::Usage) => say(
-            USAGE,
-            b"usage: frame_graph [--workers N] [--dot] SCRIPT [TABLE] or frame_graph [--workers N] [--dot] --gen \
-             NUMBER --jobs K\n",
-            notes,
-        ),
-        Err(WordsFault::NoMemory) => NO_MEMORY,
-    }
+    answer_words(alloc, words, files, sink, notes)
 }
