@@ -1,0 +1,3 @@
+-- promises
+pub mod Traces
+pub mod Events

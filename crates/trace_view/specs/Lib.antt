@@ -1,0 +1,3 @@
+-- promises
+pub mod Timelines
+pub mod Shapes
