@@ -1,0 +1,5 @@
+mod Lines
+mod Beginning
+mod Making
+mod Turning
+mod Ending

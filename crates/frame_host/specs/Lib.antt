@@ -1,0 +1,3 @@
+-- promises
+pub mod Scripts
+pub mod Frames

@@ -1,0 +1,77 @@
+// The end of a section: its board is closed, and the frame takes over what it came to.
+ghost use Rattle.std.specs.Prelude.{◌≡◌};
+ghost use Rattle.frame_host.specs.Frames.{EndsAs, IsBetween, IsRun, IsToFinish, columns_in, tree_in};
+
+use crate::answer::{FrameAnswer, FrameEnd};
+use crate::frame::Frame;
+use frame_core::Board;
+use frame_stage::Stage;
+use frame_top::status::UNWRITTEN;
+use frame_top::{SectionRun, finish, take_run};
+use job_base::FlatMem;
+use plan_run::RunEnd;
+use std::alloc::Global;
+use steal_pool::Place;
+use word_board::WordSeat;
+
+// The answer of a frame whose last section was run.
+fn answer_of(frame: Frame) -> FrameEnd
+    requires last { IsToFinish frame }
+    ensures { EndsAs (tree_in frame) (columns_in frame) result }
+{
+    let mut frame = frame;
+    let report = frame.progress.report;
+    let status = finish(&mut frame.progress, &mut frame.text);
+    if status == UNWRITTEN {
+        return FrameEnd::NoMemory;
+    }
+    let Frame {
+        tree,
+        table,
+        text,
+        ..
+    } = frame;
+    FrameEnd::Over(FrameAnswer {
+        status,
+        text: text.bytes,
+        report,
+        tree,
+        table,
+    })
+}
+
+/// Closes the board of a section that was run, and takes over what it came to.
+pub(crate) fn take_section(
+    alloc: Global,
+    frame: Frame,
+    stage: Stage,
+    place: Place<WordSeat>,
+    left: FlatMem,
+    end: RunEnd,
+) -> FrameEnd
+    requires run { IsRun frame stage place left end }
+    ensures { EndsAs (tree_in frame) (columns_in frame) result }
+{
+    let Stage {
+        section,
+        board,
+        shared: _,
+    } = stage;
+    let mut left = left;
+    board.close(place.into_seat(), &mut left);
+    let ran = SectionRun {
+        report: end.report(),
+        failed: end.is_fault(),
+        left,
+    };
+    let mut frame = frame;
+    let more = take_run(alloc, section, ran, &mut frame.progress);
+    if end.is_fault() {
+        return FrameEnd::NoMemory;
+    }
+    if more {
+        FrameEnd::Next(frame)
+    } else {
+        answer_of(frame)
+    }
+}
