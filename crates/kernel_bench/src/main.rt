@@ -6,11 +6,14 @@
 
 ghost use Rattle.std.specs.Prelude.{◌≡◌, ◌<◌, ◌≤◌, ◌+◌, ◌^◌, length, IfSome};
 ghost use Rattle.frame_ast.specs.Checked.{IsChecked};
+ghost use Rattle.kernel_bytecode.specs.Codes.{IsCodeOf};
 
 use frame_ast::kernel::Kernel;
 use job_base::{FlatMem, Mem, Span, Word};
+use kernel_bytecode::{Code, compile};
 use kernel_code::lex;
-use kernel_exec::{Bind, Scratch};
+use kernel_exec::Bind;
+use kernel_machine::Scratch;
 use kernel_rows::{fits, kernel_at, run_indexes};
 use native_array::ArrayAt;
 use std::alloc::Global;
@@ -69,9 +72,17 @@ fn checksum(mem: &mut FlatMem, from: u32, cells: u32) -> i64
     sum
 }
 
+// A kernel with its code.
+#[derive(Drop)]
+struct Compiled {
+    kernel: Kernel,
+    code: Code,
+}
+
 // The kernel of a text.
-fn kernel_of(alloc: Global, text: &str) -> Option<Kernel>
-    ensures { IfSome result (λ kernel. IsChecked kernel) }
+fn kernel_of(alloc: Global, text: &str) -> Option<Compiled>
+    ensures checked { IfSome result (λ compiled. IsChecked compiled.kernel) }
+    ensures code { IfSome result (λ compiled. IsCodeOf compiled.kernel compiled.code) }
 {
     let source = text.as_bytes();
     if source.len() > 1000 {
@@ -81,15 +92,16 @@ fn kernel_of(alloc: Global, text: &str) -> Option<Kernel>
     if marks.is_empty() {
         return None;
     }
-    match kernel_at(alloc, source, &marks, 0) {
-        Ok((kernel, _)) => Some(kernel),
-        Err(_) => None,
-    }
+    let Ok((kernel, _)) = kernel_at(alloc, source, &marks, 0) else {
+        return None;
+    };
+    let code = compile(alloc, &kernel).ok()?;
+    Some(Compiled { kernel, code })
 }
 
 // Runs a kernel so often at these indexes, and says whether nothing trapped.
 fn run_all(
-    kernel: &Kernel,
+    compiled: &Compiled,
     binds: &[Bind],
     span: &Span,
     cells: u32,
@@ -97,16 +109,18 @@ fn run_all(
     scratch: &mut Scratch,
     mem: &mut FlatMem,
 ) -> bool
-    requires checked { IsChecked kernel.now }
+    requires checked { IsChecked compiled.now.kernel }
+    requires code { IsCodeOf compiled.now.kernel compiled.now.code }
     requires few { span.now.start + span.now.len < 2 ^ 32 }
     requires cells { length mem.old ≡ cells }
     ensures { length mem.new ≡ cells }
 {
+    let kernel = &compiled.kernel;
     if !kernel.parallel || !fits(kernel, binds, cells) {
         return false;
     }
     for _ in 0..rounds {
-        if run_indexes(kernel, binds, span, scratch, mem).count != 0 {
+        if run_indexes(kernel, &compiled.code, binds, span, scratch, mem).count != 0 {
             return false;
         }
     }
@@ -131,7 +145,7 @@ fn time<R: CpuClock + Eprint>(
 ) -> io::Result<Option<i64>>
     requires { ELEMENTS ≤ cells }
 {
-    let Some(kernel) = kernel_of(alloc, text) else {
+    let Some(compiled) = kernel_of(alloc, text) else {
         return Ok(None);
     };
     let Some(mut mem) = filled(alloc, cells) else {
@@ -145,7 +159,15 @@ fn time<R: CpuClock + Eprint>(
         len: ELEMENTS,
     };
     let start = rt.thread_cpu_time()?;
-    let ran = run_all(&kernel, binds, &span, cells, rounds, &mut scratch, &mut mem);
+    let ran = run_all(
+        &compiled,
+        binds,
+        &span,
+        cells,
+        rounds,
+        &mut scratch,
+        &mut mem,
+    );
     let end = rt.thread_cpu_time()?;
     if !ran {
         return Ok(None);

@@ -18,8 +18,7 @@
 //! instruction names is there, may be used so, and a stream is written only where an index of it was begun).
 //! `proofs/Places` has what a machine that keeps its place in the code goes by.
 //!
-//! The numbers that get a slot are the first ones that the text has. What isn't there yet: a machine that runs code
-//! over a memory.
+//! The numbers that get a slot are the first ones that the text has. `kernel_machine` runs code over a memory.
 #![tactic(auto)]
 
 mod code;

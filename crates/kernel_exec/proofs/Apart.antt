@@ -39,7 +39,7 @@ module _ (from to from' to' : ℕ) (away : (to ≤ from') ⊎ (to' ≤ from)) wh
       (subst (λ k. Own (width_if own) from' to' k) (sym (same_index at own own w u v)) v.owned)
 
 -- the length word of a view is no element
-not_length : (b : Bind) (from to w : ℕ) → Uses b from to w → IsLength b w → ⊥
+pub not_length : (b : Bind) (from to w : ℕ) → Uses b from to w → IsLength b w → ⊥
 not_length (Int z) from to w u l = absurd l
 not_length (Array at own) from to w u l = absurd l
 not_length (View at own) from to w u l = omega (arith, u.is, l)
@@ -49,7 +49,7 @@ not_length (Map at) from to w u l = absurd l
 not_length (Stream at own) from to w u l = absurd l
 
 -- what is written is used
-used : (r : Bool) (b : Bind) (from to w : ℕ) → WritesBy r b from to w → (r ≡ false) × Uses b from to w
+pub used : (r : Bool) (b : Bind) (from to w : ℕ) → WritesBy r b from to w → (r ≡ false) × Uses b from to w
 used true b from to w u = absurd u
 used false b from to w u = (refl, u)
 

@@ -1,12 +1,8 @@
-pub mod Asides
 pub mod AtBinds
 pub mod Reading
 pub mod Changing
 pub mod Stand
-pub mod Keeping
 pub mod Rights
-pub mod Loops
-pub mod Parts
 pub mod Ends
 pub mod Using
 pub mod Touching
@@ -16,5 +12,4 @@ pub mod Apart
 pub mod NextIndex
 pub mod Dividing
 pub mod Owning
-pub mod ZeroLocals
 pub mod Table

@@ -1,9 +1,8 @@
 -- What binds have to be for a kernel.
-use Rattle.std.specs.Prelude.{◌≡◌, ◌≢◌, ℕ, ◌+◌, ◌<◌, ◌^◌, Bool, IsTrue, ℤ, pos, List, length, map, get_or, Some, slice_get}
+use Rattle.std.specs.Prelude.{◌≡◌, ◌≢◌, ℕ, ◌+◌, ◌<◌, ◌^◌, Bool, IsTrue, ℤ, pos, List, length, get_or, Some, slice_get}
 use Rattle.frame_ast.specs.declared.kernel.Param.{Param}
 use Rattle.frame_ast.specs.declared.kernel.Kernel.{Kernel}
-use Rattle.frame_ast.specs.declared.kernel.Stmt.{Stmt}
-use Rattle.frame_ast.specs.Checked.{may_write, stmt_fits, all_fit, IsChecked}
+use Rattle.frame_ast.specs.Checked.{may_write, IsChecked}
 use Rattle.frame_ast.specs.Lists.{member}
 use Rattle.kernel_exec.specs.declared.binds.Bind.{Bind}
 use Rattle.kernel_exec.specs.declared.binds.Bind.TheVariants.{Stream}
@@ -45,18 +44,6 @@ IsBegun _ index i = Unit {0}
 abbrev pub AreBegun : List Bind → ℕ → List ℕ → List ℤ → Type 0
 AreBegun binds index open_ begun = (x : ℕ) → IsTrue (member x open_)
     → IsBegun (bind_at binds x) index (get_or begun x (pos 0))
-
--- a statement fits inside `begin` blocks of some streams, each of which has begun an index; and a block likewise
-pub record StatementFits (kernel : Kernel) (binds : List Bind) (index : ℕ) (begun : List ℤ) (s : Stmt) : Type 0 where
-  pub open_ : List ℕ
-  pub fits : IsTrue (stmt_fits kernel.parallel kernel.params.items kernel.locals s open_)
-  pub have : AreBegun binds index open_ begun
-
-pub record BlockFits (kernel : Kernel) (binds : List Bind) (index : ℕ) (begun : List ℤ)
-    (body : List Stmt) : Type 0 where
-  pub open_ : List ℕ
-  pub fits : IsTrue (all_fit (map (stmt_fits kernel.parallel kernel.params.items kernel.locals) body) open_)
-  pub have : AreBegun binds index open_ begun
 
 -- such an index stays one, or another takes its place
 abbrev pub KeepsBegun : List Bind → ℕ → List ℤ → List ℤ → Type 0

@@ -1,6 +1,7 @@
 pub mod Ways
 pub mod Asking
 pub mod Turns
+pub mod Counting
 pub mod Places
 pub mod Numbers
 pub mod Constants
@@ -9,3 +10,4 @@ pub mod Adding
 pub mod Filling
 pub mod Staying
 pub mod Executing
+pub mod Freeing

@@ -1,3 +1,4 @@
 -- for this crate's own contracts
 pub mod Engines
 pub mod Ready
+pub mod Sites

@@ -1,6 +1,7 @@
 // What a row is, and how it is tried.
 ghost use Rattle.std.specs.Prelude.{◌≡◌, ◌≤◌, length, is_some};
 ghost use Rattle.frame_ast.specs.Checked.{IsChecked};
+ghost use Rattle.kernel_bytecode.specs.Codes.{IsCodeOf};
 ghost use Rattle.kernel_exec.specs.Conditions.{BindsFit};
 ghost use Rattle.kernel_rows.specs.Standing.{AreBelow};
 
@@ -8,8 +9,10 @@ use crate::{fits, kernel_at, run};
 use frame_ast::kernel::Kernel;
 use job_base::limits::MOST_SCRIPT_BYTES;
 use job_base::{FlatMem, Mem, Trap, Word};
+use kernel_bytecode::{Code, compile};
 use kernel_code::{TokenKind, lex};
-use kernel_exec::{Bind, Scratch};
+use kernel_exec::Bind;
+use kernel_machine::Scratch;
 use native_array::{ArrayAt, RefAt};
 use native_list::ListAt;
 use native_map::MapAt;
@@ -79,6 +82,7 @@ fn tell(index: Option<u32>, ended: Result<(), Trap>, told: &mut String) -> Resul
 // Runs a kernel once, or at each index in order.
 fn run_all(
     kernel: &Kernel,
+    code: &Code,
     binds: &[Bind],
     indexes: u32,
     mem: &mut FlatMem,
@@ -86,6 +90,7 @@ fn run_all(
     told: &mut String,
 ) -> Result<(), Fail>
     requires checked { IsChecked kernel.now }
+    requires code { IsCodeOf kernel.now code.now }
     requires fit { BindsFit kernel.now binds.now }
     requires below { AreBelow binds.now (length mem.old) }
     ensures { length mem.new ≡ length mem.old }
@@ -93,7 +98,7 @@ fn run_all(
     let turns = if kernel.parallel { indexes } else { 1 };
     for i in 0..turns {
         let index = index_at(kernel.parallel, i);
-        let ended = run(kernel, binds, index, scratch, mem);
+        let ended = run(kernel, code, binds, index, scratch, mem);
         tell(index, ended, told)?;
     }
     Ok(())
@@ -129,7 +134,8 @@ pub fn run_text(
         let (kernel, next) = kernel_at(alloc, source, &marks, at)?;
         let taken = &binds[..kernel.params.len().min(binds.len())];
         if fits(&kernel, taken, CELLS) {
-            run_all(&kernel, taken, indexes, mem, &mut scratch, told)?;
+            let code = compile(alloc, &kernel)?;
+            run_all(&kernel, &code, taken, indexes, mem, &mut scratch, told)?;
         } else {
             told.push_str("no fit; ")?;
         }
