@@ -22,6 +22,7 @@ no_items = record {
 abbrev pub no_plan : Plan
 no_plan = record {
   kernels = no_items;
+  codes = no_items;
   names = no_items;
   literals = no_items;
   jobs = no_items;

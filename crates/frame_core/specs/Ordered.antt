@@ -7,6 +7,8 @@ use Rattle.frame_ast.specs.declared.kernel.Kernel.{Kernel}
 use Rattle.frame_ast.specs.Contents.{Contents}
 use Rattle.frame_ast.specs.Schedules.{widths_from}
 use Rattle.frame_ast.specs.Checked.{IsChecked}
+use Rattle.kernel_bytecode.specs.declared.code.Code.{Code}
+use Rattle.kernel_bytecode.specs.Codes.{IsCodeOf}
 use Rattle.kernel_exec.specs.declared.binds.Bind.{Bind}
 use Rattle.kernel_exec.specs.declared.binds.Bind.TheVariants.{Int, Array, View, List as WholeList, Ref, Map, Stream}
 use Rattle.kernel_exec.specs.Binds.{end_of, own_of, widths}
@@ -71,8 +73,15 @@ pub record JobFits (plan : Plan) (x : JobPlan) (kernel : Kernel) : Type 0 where
   pub is_parallel : x.parallel ≡ true → kernel.parallel ≡ true
   pub parts : x.parallel ≡ true → HaveOwnParts kernel x.binds.items
 
+-- each kernel has its code at the same place
+pub record AreCodesOf (kernels : List Kernel) (codes : List Code) : Type 0 where
+  pub each : length codes ≡ length kernels
+  pub coded : (n : ℕ) (k : Kernel) (code : Code) → slice_get kernels n ≡ Some k → slice_get codes n ≡ Some code
+      → IsCodeOf k code
+
 pub record AreJobsFitting (plan : Plan) : Type 0 where
   pub checked : (n : ℕ) (kernel : Kernel) → slice_get plan.kernels.items n ≡ Some kernel → IsChecked kernel
+  pub coded : AreCodesOf plan.kernels.items plan.codes.items
   pub has_kernel : (j : ℕ) (x : JobPlan) → job_at plan j ≡ Some x → x.kernel < length plan.kernels.items
   pub fits : (j : ℕ) (x : JobPlan) (kernel : Kernel) → job_at plan j ≡ Some x → kernel_of plan x ≡ Some kernel
       → JobFits plan x kernel

@@ -82,8 +82,8 @@ pub fn read_notes<M: Mem>(own: u32, mem: &mut M) -> Notes
     }
 }
 
-// Notes the traps of a piece in its own words.
-pub(crate) fn write_notes<M: Mem>(own: u32, notes: &Notes, mem: &mut M)
+/// Notes the traps of a piece in its own words, which begin at the word `own`. Without a trap it writes nothing.
+pub fn write_notes<M: Mem>(own: u32, notes: &Notes, mem: &mut M)
     requires fits { own + 2 < 2 ^ 32 }
     requires writable { (k : ℕ) → k < 3 → IsTrue (M.writable mem.old (own + k)) }
     ensures cells { (traps : List (ℕ × Trap)) → IsNoteOf traps notes.now

@@ -3,6 +3,7 @@
 use batch_cut::Cut;
 use frame_ast::kernel::Kernel;
 use job_base::{JobId, PieceId, Refusal, Span};
+use kernel_bytecode::Code;
 use kernel_exec::Bind;
 
 /// A planned frame. Its pieces are those of its jobs, numbered from 0, and after them its segments.
@@ -11,6 +12,8 @@ use kernel_exec::Bind;
 #[derive(Drop)]
 pub struct Plan {
     pub kernels: Vec<Kernel>,
+    /// The code of each kernel, at its place.
+    pub codes: Vec<Code>,
     pub names: Vec<String>,
     pub literals: Vec<Vec<i64>>,
     /// Job 1 first.

@@ -10,6 +10,7 @@ use Rattle.frame_ast.specs.Jobs.{Book}
 use Rattle.frame_ast.specs.Orders.{Table, Setting, setting}
 use Rattle.frame_ast.specs.Ranges.{Starts}
 use Rattle.frame_ast.specs.States.{ScriptState}
+use Rattle.kernel_bytecode.specs.declared.code.Code.{Code}
 use Rattle.merge_laws.specs.Graph.{Cells}
 use Rattle.slot_store.specs.Stores.{peak_of}
 use Rattle.frame_core.specs.Names.{has_job}
@@ -35,16 +36,18 @@ plain_test g s (When name sign value count) h = (refl, tt)
 plain_test g s a h = absurd h
 
 module _ (script : Script) (table : Table) (book : SectionBook) (n : ℕ) (carried : Cells) (len : ℕ) (b : IsBetween book script table n carried len)
-    (kernels : List Kernel) (q : Planner) (mem : List ℤ) (left : AreLeft mem carried len) (r : IsResumed kernels book.planner q mem) where
+    (kernels : List Kernel) (codes : List Code) (q : Planner) (mem : List ℤ) (left : AreLeft mem carried len)
+    (r : IsResumed kernels codes book.planner q mem) where
   resumed_is : q ≡ record b.old {
     jobs_before = q.jobs_before;
     plan = record book.planner.plan {
       kernels = q.plan.kernels;
+      codes = q.plan.codes;
       literals = q.plan.literals;
       ops = q.plan.ops;
     };
   }
-  resumed_is = q_is script table book n carried len b kernels q mem left r
+  resumed_is = q_is script table book n carried len b kernels codes q mem left r
 
   module _ (x : Statement) (here : slice_get script.statements.items n ≡ Some x) (held : Bool) (out : IsOutcome script table n (Some held)) (k : ℕ) where
     test_is : b.test ≡ x

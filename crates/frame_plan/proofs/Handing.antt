@@ -152,6 +152,7 @@ module _ (script : Script) (table : Table) (from : ℕ) (book : SectionBook) (re
   pub is_next : IsNext (record { planner = new; at = book.at }) script table from (record { plan = plan; jobs_before = book.planner.jobs_before; test = test })
   is_next = record {
     to = book.at;
+    place = refl;
     is_section = record {
       rising = (ready.rising, ready.inside);
       between = ready.between;
@@ -171,6 +172,7 @@ module _ (script : Script) (table : Table) (from : ℕ) (book : SectionBook) (re
       places = ap (λ (k : Planner). k.kernels) emptied.rest;
       guard_places = ap (λ (k : Planner). k.guards) emptied.rest;
       had = finished.kernels;
+      had_codes = finished.codes;
       stood = ready.stands.kernels;
       few = (let e = ap length finished.kernels in let l = ready.stands.numbers.kernels_few in omega arith);
     };

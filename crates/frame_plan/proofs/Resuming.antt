@@ -25,6 +25,7 @@ use Rattle.frame_ast.specs.Effects.{effect}
 use Rattle.frame_ast.specs.Scripts.{act}
 use Rattle.frame_ast.proofs.NameKinds.{first_none}
 use Rattle.job_handle.specs.Books.{count_of}
+use Rattle.kernel_bytecode.specs.declared.code.Code.{Code}
 use Rattle.kernel_exec.specs.Binds.{end_of}
 use Rattle.kernel_exec.specs.Layout.{Holds}
 use Rattle.merge_laws.specs.Graph.{Cells}
@@ -51,7 +52,7 @@ use Rattle.frame_plan.specs.Sections.{AreKernelsOf, IsBetween, IsOutcome, AreLef
 use Rattle.plan_state.specs.Stands.{IsContainer, IsOwned, AreKernels, Agrees, Stands, draft_of}
 use Rattle.plan_state.specs.Steps.{state_at, StandsAt}
 use Rattle.plan_state.proofs.Accessing.{there}
-use Rattle.frame_plan.proofs.Wholes.{plan_so_far, some_planned}
+use Rattle.frame_plan.proofs.Wholes.{coded_as, plan_so_far, some_planned}
 use Rattle.frame_plan.proofs.Handing.{not_test, no_test, limit_is}
 use Rattle.frame_plan.proofs.Limiting.{text_passes_none}
 use Rattle.frame_plan.proofs.Passing.{repassed}
@@ -276,13 +277,15 @@ module _ (script : Script) (table : Table) (book : SectionBook) (n : ℕ) (carri
   pub peak_is : peak_of book.planner.store ≡ peak_of b.old.store
   peak_is = ap (λ (k : Planner). peak_of k.store) b.emptied.rest
 
-  module _ (kernels : List Kernel) (q : Planner) (mem : List ℤ) (left : AreLeft mem carried len) (r : IsResumed kernels book.planner q mem) where
+  module _ (kernels : List Kernel) (codes : List Code) (q : Planner) (mem : List ℤ) (left : AreLeft mem carried len)
+      (r : IsResumed kernels codes book.planner q mem) where
     -- the planner of the section before, with another plan
     abbrev again : Planner
     again = record b.old {
       jobs_before = q.jobs_before;
       plan = record book.planner.plan {
         kernels = q.plan.kernels;
+        codes = q.plan.codes;
         literals = q.plan.literals;
         ops = q.plan.ops;
       };
@@ -292,13 +295,14 @@ module _ (script : Script) (table : Table) (book : SectionBook) (n : ℕ) (carri
       jobs_before = q.jobs_before;
       plan = record book.planner.plan {
         kernels = q.plan.kernels;
+        codes = q.plan.codes;
         literals = q.plan.literals;
         ops = q.plan.ops;
       };
     }
     q_is = r.rest ∙ ap (λ (k : Planner). record k {
       jobs_before = q.jobs_before;
-      plan = record book.planner.plan { kernels = q.plan.kernels; literals = q.plan.literals; ops = q.plan.ops };
+      plan = record book.planner.plan { kernels = q.plan.kernels; codes = q.plan.codes; literals = q.plan.literals; ops = q.plan.ops };
     }) b.emptied.rest
 
     same_cells : cell_list (cells_of mem) 0 (peak_of book.planner.store) ≡ cell_list carried 0 (peak_of b.old.store)
@@ -306,12 +310,13 @@ module _ (script : Script) (table : Table) (book : SectionBook) (n : ℕ) (carri
         cell_list-same (cells_of mem) carried 0 (peak_of book.planner.store) (λ k lo hi. left.1 k (let e = b.len_is in omega arith))
         ∙ ap (cell_list carried 0) peak_is
 
-    -- the copies are where they were
-    kernels_again : AreKernelsOf book script table kernels → AreKernels again (setting script table)
+    -- the copies are where they were, each with its code
+    kernels_again : AreKernelsOf book script table kernels codes → AreKernels again (setting script table)
     kernels_again ks =
         let places : b.old.kernels ≡ ks.old.kernels = ap (λ (k : Planner). k.kernels) (sym b.emptied.rest) ∙ ks.places in
         let guard_places : b.old.guards ≡ ks.old.guards = ap (λ (k : Planner). k.guards) (sym b.emptied.rest) ∙ ks.guard_places in
         let had : q.plan.kernels.items ≡ ks.old.plan.kernels.items = r.kernels_are ∙ ks.had in
+        let had_codes : q.plan.codes.items ≡ ks.old.plan.codes.items = r.codes_are ∙ ks.had_codes in
         record {
           each = ap (λ (v : Vec (Option ℕ) Global). length v.items) places ∙ ks.stood.each;
           each_guard = ap (λ (v : Vec (Option ℕ) Global). length v.items) guard_places ∙ ks.stood.each_guard;
@@ -331,13 +336,14 @@ module _ (script : Script) (table : Table) (book : SectionBook) (n : ℕ) (carri
                 footprint = c.footprint;
               };
           checked = λ place k h. ks.stood.checked place k (ap (λ xs. slice_get xs place) (sym had) ∙ h);
+          coded = coded_as q.plan.kernels.items ks.old.plan.kernels.items q.plan.codes.items ks.old.plan.codes.items had had_codes ks.stood.coded;
         }
 
-    stands_again : AreKernelsOf book script table kernels → StandsAt q script table (state_at script table n) n b.found
+    stands_again : AreKernelsOf book script table kernels codes → StandsAt q script table (state_at script table n) n b.found
     stands_again ks =
         subst (λ p. StandsAt p script table (state_at script table n) n b.found) (sym q_is)
         (stands_resumed script table b.old b.begun n b.found b.test b.stood b.accepted b.here b.acts carried b.held q.jobs_before
-        (record book.planner.plan { kernels = q.plan.kernels; literals = q.plan.literals; ops = q.plan.ops })
+        (record book.planner.plan { kernels = q.plan.kernels; codes = q.plan.codes; literals = q.plan.literals; ops = q.plan.ops })
         (r.before ∙ ap (λ (k : Planner). count_of k.jobs) b.emptied.rest ∙ b.stood.jobs.count)
         (ap (λ (d : Draft). d.segments) b.emptied.draft)
         (ap (λ (d : Draft). d.jobs) b.emptied.draft)
@@ -348,7 +354,7 @@ module _ (script : Script) (table : Table) (book : SectionBook) (n : ℕ) (carri
         (kernels_again ks)
         (let e = ap length r.kernels_are in let few = ks.few in let at = b.at in omega arith))
 
-    pub resumed_on : AreKernelsOf book script table kernels → (held : Bool) (x : Statement) → slice_get script.statements.items n ≡ Some x
+    pub resumed_on : AreKernelsOf book script table kernels codes → (held : Bool) (x : Statement) → slice_get script.statements.items n ≡ Some x
         → IsOutcome script table n (Some held) → StandsAt (record q { passing = passed_after held x.act }) script table (state_at script table n)
         (suc n) b.found
     resumed_on ks held x here out =
@@ -359,7 +365,7 @@ module _ (script : Script) (table : Table) (book : SectionBook) (n : ℕ) (carri
         (sym now ∙ next_state script table n x here)
         (repassed q (setting script table) (state_at script table n) n (state_at script table n) b.found (stands_again ks) (passed_after held x.act))
 
-    pub standing_on : AreKernelsOf book script table kernels → (held : Bool) (x : Statement) (k : ℕ) → slice_get script.statements.items book.at ≡ Some x
+    pub standing_on : AreKernelsOf book script table kernels codes → (held : Bool) (x : Statement) (k : ℕ) → slice_get script.statements.items book.at ≡ Some x
         → IsOutcome script table n (Some held) → k ≡ passed_after held x.act
         → StandsAt (record q { passing = k }) script table (state_at script table n) (book.at + 1) b.found
     standing_on ks held x k there_is out is =

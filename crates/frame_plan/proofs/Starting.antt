@@ -56,6 +56,7 @@ pub record IsNew (p : Planner) (script : Script) : Type 0 where
   pub kernels : p.kernels.items ≡ replicate (length script.kernels.items) None
   pub guards : p.guards.items ≡ replicate (length script.kernels.items) None
   pub plan_kernels : p.plan.kernels.items ≡ []
+  pub plan_codes : p.plan.codes.items ≡ []
   pub literals : p.plan.literals.items ≡ []
   pub segments : p.plan.segments.items ≡ []
   pub plan_jobs : p.plan.jobs.items ≡ []
@@ -143,6 +144,10 @@ module _ (script : Script) (table : Table) (p : Planner) (new : IsNew p script) 
       copies = λ k place e. absurd (no_copy p.kernels.items (length script.kernels.items) k place new.kernels e);
       guards = λ k place e. absurd (no_copy p.guards.items (length script.kernels.items) k place new.guards e);
       checked = λ place k e. absurd (none_in p.plan.kernels.items place k new.plan_kernels e);
+      coded = record {
+        each = none_long p.plan.codes.items new.plan_codes ∙ sym (none_long p.plan.kernels.items new.plan_kernels);
+        coded = λ place k code e f. absurd (none_in p.plan.kernels.items place k new.plan_kernels e);
+      };
     };
     planned = planned;
   }

@@ -8,17 +8,19 @@ use Rattle.std.proofs.lemmas.List.{append_assoc, length-append}
 use Rattle.std.proofs.Math.Nat.{mul-le-mul_right}
 use Rattle.job_base.specs.declared.limits.TheConstants.{MOST_JOBS, MOST_PIECES, MOST_STATEMENTS, MOST_CREATED_WORDS}
 use Rattle.batch_cut.specs.Cuts.{count_of}
+use Rattle.frame_ast.specs.declared.kernel.Kernel.{Kernel}
 use Rattle.frame_ast.specs.declared.script.Script.{Script}
 use Rattle.frame_ast.specs.Accepted.{IsAccepted}
 use Rattle.frame_ast.specs.Orders.{Table, setting}
 use Rattle.frame_ast.specs.States.{ScriptState}
+use Rattle.kernel_bytecode.specs.declared.code.Code.{Code}
 use Rattle.slot_store.specs.Stores.{peak_of}
 use Rattle.frame_core.specs.declared.plan.JobPlan.{JobPlan}
 use Rattle.frame_core.specs.declared.plan.Segment.{Segment}
 use Rattle.frame_core.specs.declared.plan.Plan.{Plan}
 use Rattle.frame_core.specs.Empty.{no_plan}
 use Rattle.frame_core.specs.Names.{has_job, pieces_of, pieces_before}
-use Rattle.frame_core.specs.Ordered.{IsCutIn, ops_count}
+use Rattle.frame_core.specs.Ordered.{AreCodesOf, IsCutIn, ops_count}
 use Rattle.plan_laws.specs.Finishing.{IsDone}
 use Rattle.plan_laws.specs.Planned.{AreJobsUpTo, IsPlanned}
 use Rattle.plan_laws.proofs.Becoming.{drafts_become_plans}
@@ -78,6 +80,11 @@ few_rising xs m rising below = by (length xs) refl
         let low = rank xs rising n last.0 (omega arith) last.1 in
         let high = below n last.0 last.1 in
         omega arith
+
+-- ---- kernels that went from one plan to another have their codes there
+
+pub coded_as : (ks had : List Kernel) (cs had_codes : List Code) → ks ≡ had → cs ≡ had_codes → AreCodesOf had had_codes → AreCodesOf ks cs
+coded_as ks had cs had_codes k c are = subst (λ l. AreCodesOf l cs) (sym k) (subst (AreCodesOf had) (sym c) are)
 
 -- a plan that has all of the plan so far
 abbrev pub plan_so_far : Script → Planner → Plan
@@ -149,7 +156,8 @@ module _ (script : Script) (table : Table) (p : Planner) (begun : ScriptState) (
   ops_two (x ∷ more) last final e = let rest = ops_two more last final e in omega arith
 
   pub is_done : (plan : Plan) (last final : Segment) → map (λ v. string_bytes v) plan.names.items ≡ map (λ v. string_bytes v) script.names.items
-      → plan.kernels.items ≡ p.plan.kernels.items → plan.literals.items ≡ p.plan.literals.items → plan.jobs.items ≡ p.plan.jobs.items
+      → plan.kernels.items ≡ p.plan.kernels.items → plan.codes.items ≡ p.plan.codes.items
+      → plan.literals.items ≡ p.plan.literals.items → plan.jobs.items ≡ p.plan.jobs.items
       → plan.cells ≡ peak_of p.store
       → plan.words ≡ plan.cells + 3 * p.plan.pieces
       → plan.segments.items ≡ (p.plan.segments.items ++ last ∷ []) ++ final ∷ []
@@ -161,7 +169,7 @@ module _ (script : Script) (table : Table) (p : Planner) (begun : ScriptState) (
       → final.ops.items ≡ []
       → final.starts ≡ None
       → IsDone (outline_of plan found begun) (state_at script table n)
-  is_done plan last final names kernels literals jobs cells words segments waits ops starts known all final_ops final_starts =
+  is_done plan last final names kernels codes literals jobs cells words segments waits ops starts known all final_ops final_starts =
       let split : plan.segments.items ≡ p.plan.segments.items ++ last ∷ final ∷ [] = segments ∙ append_assoc p.plan.segments.items (last ∷ []) (final ∷ []) in
       let pieces_is : pieces_before plan.jobs.items (length plan.jobs.items) ≡ p.plan.pieces = ap (λ l. pieces_before l (length l)) jobs
       ∙ sym st.numbers.pieces in
@@ -198,3 +206,4 @@ module _ (script : Script) (table : Table) (p : Planner) (begun : ScriptState) (
         ops = omega arith;
       })
       (λ place k e. st.kernels.checked place k (sym (ap (λ l. slice_get l place) kernels) ∙ e))
+      (coded_as plan.kernels.items p.plan.kernels.items plan.codes.items p.plan.codes.items kernels codes st.kernels.coded)

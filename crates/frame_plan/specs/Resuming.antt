@@ -3,6 +3,7 @@ use Rattle.std.specs.Prelude.{◌≡◌, ◌≤◌, ℤ, List, [], ◌∷◌, le
 use Rattle.job_base.specs.Cells.{cells_of, cell_list}
 use Rattle.frame_ast.specs.declared.kernel.Kernel.{Kernel}
 use Rattle.job_handle.specs.Books.{count_of}
+use Rattle.kernel_bytecode.specs.declared.code.Code.{Code}
 use Rattle.slot_store.specs.Stores.{peak_of}
 use Rattle.plan_laws.specs.Sections.{carried_op}
 use Rattle.plan_state.specs.declared.state.Planner.{Planner}
@@ -14,13 +15,19 @@ pub record IsToResume (p : Planner) (mem : List ℤ) : Type 0 where
   pub words : peak_of p.store ≤ length mem
 
 -- The section's first operation fills in the words so far. The jobs so far are those of earlier sections, and the plan
--- begins with kernels that it was given. All else is as it was.
-pub record IsResumed (kernels : List Kernel) (old new : Planner) (mem : List ℤ) : Type 0 where
+-- begins with kernels and codes that it was given. All else is as it was.
+pub record IsResumed (kernels : List Kernel) (codes : List Code) (old new : Planner) (mem : List ℤ) : Type 0 where
   pub ops : new.plan.ops.items ≡ carried_op (peak_of old.store) 0 ∷ []
   pub literals : map (λ v. v.items) new.plan.literals.items ≡ cell_list (cells_of mem) 0 (peak_of old.store) ∷ []
   pub kernels_are : new.plan.kernels.items ≡ kernels
+  pub codes_are : new.plan.codes.items ≡ codes
   pub before : new.jobs_before ≡ count_of old.jobs
   pub rest : new ≡ record old {
     jobs_before = new.jobs_before;
-    plan = record old.plan { kernels = new.plan.kernels; literals = new.plan.literals; ops = new.plan.ops };
+    plan = record old.plan {
+      kernels = new.plan.kernels;
+      codes = new.plan.codes;
+      literals = new.plan.literals;
+      ops = new.plan.ops;
+    };
   }

@@ -149,6 +149,7 @@ AreWithin last found s = (c : ℕ) → is_live s c ≡ true → end_of (bind_of_
 pub record IsFinished (script : Script) (p : Planner) (plan : Plan) : Type 0 where
   pub cells : plan.cells ≡ peak_of p.store
   pub kernels : plan.kernels.items ≡ p.plan.kernels.items
+  pub codes : plan.codes.items ≡ p.plan.codes.items
   pub jobs : plan.jobs.items ≡ p.plan.jobs.items
   -- it gives what was given, and its last segments come after those so far
   pub spans : given_from plan.segments.items ≡ given_so_far p
@@ -172,4 +173,5 @@ pub record IsEmptied (old new : Planner) : Type 0 where
   pub draft : draft_of new ≡ empty_draft
   pub literals : new.plan.literals.items ≡ []
   pub kernels : new.plan.kernels.items ≡ []
+  pub codes : new.plan.codes.items ≡ []
   pub pieces : new.plan.pieces ≡ 0

@@ -18,6 +18,7 @@ use Rattle.frame_ast.specs.Orders.{Table, Setting, setting, compares}
 use Rattle.frame_ast.specs.Ranges.{Starts}
 use Rattle.frame_ast.specs.Scripts.{final}
 use Rattle.frame_ast.specs.States.{ScriptState, contents_at}
+use Rattle.kernel_bytecode.specs.declared.code.Code.{Code}
 use Rattle.kernel_exec.specs.declared.binds.Bind.TheVariants.{Ref}
 use Rattle.kernel_exec.specs.Layout.{Holds}
 use Rattle.merge_laws.specs.Graph.{Cells}
@@ -117,6 +118,10 @@ AreLeft mem cells len = (len ≤ length mem) × ((w : ℕ) → w < len → cells
 
 -- WHERE A BOOK STANDS
 
+-- how many statements it has gone through
+abbrev pub place_of : SectionBook → ℕ
+place_of book = book.at
+
 -- The section from a place on is planned, and wasn't handed out.
 pub record IsPlannedFrom (book : SectionBook) (script : Script) (table : Table) (from : ℕ) : Type 0 where
   pub accepted : IsAccepted script
@@ -132,12 +137,15 @@ pub record IsPlannedFrom (book : SectionBook) (script : Script) (table : Table) 
   -- where it ends at a test, this is a later one
   pub later : IsSome (slice_get script.statements.items book.at) → from < book.at
 
--- These are the kernels of the plan that was handed out last: the planner that had them knew the same places of copies.
-pub record AreKernelsOf (book : SectionBook) (script : Script) (table : Table) (kernels : List Kernel) : Type 0 where
+-- These are the kernels of the plan that was handed out last, and their codes: the planner that had them knew the same
+-- places of copies.
+pub record AreKernelsOf (book : SectionBook) (script : Script) (table : Table) (kernels : List Kernel)
+    (codes : List Code) : Type 0 where
   pub old : Planner
   pub places : book.planner.kernels ≡ old.kernels
   pub guard_places : book.planner.guards ≡ old.guards
   pub had : kernels ≡ old.plan.kernels.items
+  pub had_codes : codes ≡ old.plan.codes.items
   pub stood : AreKernels old (setting script table)
   pub few : length kernels ≤ book.at
 
@@ -170,13 +178,14 @@ IsAt book script table (suc n) carried len = IsBetween book script table (suc n)
 pub record IsNext (book : SectionBook) (script : Script) (table : Table) (from : ℕ) (section : Section)
     : Type 0 where
   pub to : ℕ
+  pub place : place_of book ≡ to
   pub is_section : IsSectionOf script table from to section
   -- where it ends at a test, this is of a word of the plan
   pub inside : (test : Test) → section.test ≡ Some test → test.at.start < section.plan.cells
   -- it is a later one, and the book is there
   pub later : IsSome section.test → from < to
-  -- the plan of the next section can take these kernels over
-  pub kernels : AreKernelsOf book script table section.plan.kernels.items
+  -- the plan of the next section can take these kernels and codes over
+  pub kernels : AreKernelsOf book script table section.plan.kernels.items section.plan.codes.items
   pub at : IsSome section.test → IsAt book script table to (cells_after section.plan) section.plan.cells
 
 -- A SCRIPT WITHOUT A `when`

@@ -35,6 +35,7 @@ pub(crate) fn finish(
     let cells = planner.store.peak();
     let Draft {
         kernels,
+        codes,
         literals,
         mut segments,
         jobs,
@@ -54,6 +55,7 @@ pub(crate) fn finish(
     })?;
     Ok(Plan {
         kernels,
+        codes,
         names,
         literals,
         jobs,

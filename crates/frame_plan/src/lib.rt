@@ -10,9 +10,11 @@
 //! says is shown in `plan_laws`.
 //!
 //! *Cost.* A script is gone through once, and once more for its limits where it has a `when`. The names of a script are
-//! copied once, and go from the plan of one section to the next, as the copies of kernels do.
+//! copied once, and go from the plan of one section to the next (`Copies`), as the copies of kernels and their code do:
+//! a kernel is compiled once, however many sections schedule it.
 #![tactic(auto)]
 
+mod copies;
 mod finishing;
 mod limits;
 mod missing;
@@ -22,8 +24,9 @@ mod section;
 mod sections;
 mod whole;
 
+pub use copies::Copies;
 pub use missing::missing_column;
 pub use plan_state::PlanFault;
 pub use section::{Section, Test};
-pub use sections::{SectionBook, names_of};
+pub use sections::SectionBook;
 pub use whole::plan;

@@ -6,21 +6,24 @@ ghost use Rattle.frame_plan.specs.Resuming.{IsResumed, IsToResume};
 use frame_ast::kernel::Kernel;
 use frame_core::Act;
 use job_base::{FlatMem, NoMemory, Span};
+use kernel_bytecode::Code;
 use plan_state::Planner;
 
-/// A section begins: its first operation gives the words so far what the last section left. `kernels` are those of
-/// the plan before, so the copies that it had are there.
+/// A section begins: its first operation gives the words so far what the last section left. `kernels` and `codes` are
+/// those of the plan before, so the copies that it had are there, each with its code.
 pub(crate) fn begin(
     planner: &mut Planner,
     cells: FlatMem,
     kernels: Vec<Kernel>,
+    codes: Vec<Code>,
 ) -> Result<(), NoMemory>
     requires left { IsToResume planner.old cells }
-    ensures resumed { OnOk result (IsResumed kernels.items planner.old planner.new cells) }
+    ensures resumed { OnOk result (IsResumed kernels.items codes.items planner.old planner.new cells) }
 {
     let len = planner.store.peak();
     planner.jobs_before = planner.jobs.count();
     planner.plan.kernels = kernels;
+    planner.plan.codes = codes;
     planner.plan.literals.push(first_cells(cells, len))?;
     planner.push(
         0,

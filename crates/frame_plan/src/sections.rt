@@ -6,9 +6,10 @@ ghost use Rattle.frame_ast.specs.Orders.{Table as Columns, setting};
 ghost use Rattle.merge_laws.specs.Graph.{Cells};
 ghost use Rattle.frame_plan.specs.Names.{AreNamesOf};
 ghost use Rattle.frame_plan.specs.References.{IsReferenceOf, IsTestFor};
-ghost use Rattle.frame_plan.specs.Sections.{limit_told, passed_after, AreKernelsOf, IsPlannedFrom, IsBetween, IsAt, IsOutcome, AreLeft, IsNext};
+ghost use Rattle.frame_plan.specs.Sections.{limit_told, passed_after, AreKernelsOf, IsPlannedFrom, IsBetween, IsAt, IsOutcome, AreLeft, IsNext, place_of};
 ghost use Rattle.plan_statements.specs.Tables.{columns_of};
 
+use crate::copies::Copies;
 use crate::finishing::finish;
 use crate::limits::{check_text, has_test};
 use crate::planner::{at_start, run};
@@ -17,22 +18,12 @@ use crate::section::{Section, Test};
 use frame_ast::kernel::Kernel;
 use frame_ast::script::{Order, Script};
 use job_base::{FlatMem, NoMemory};
+use kernel_bytecode::Code;
 use kernel_exec::Bind;
 use native_array::RefAt;
 use plan_state::{PlanFault, Planner, Value};
 use std::alloc::Global;
 use table_in::Table;
-
-/// Copies of a script's names, for the plan of its first section.
-pub fn names_of(alloc: Global, script: &Script) -> Result<Vec<String>, NoMemory>
-    ensures { IfOk result (λ names. AreNamesOf script.now names.items) }
-{
-    let mut names = Vec::new(alloc);
-    for name in &script.names {
-        names.push(name.clone()?)?;
-    }
-    Ok(names)
-}
 
 /// The planner of a script, between two sections.
 #[derive(Drop)]
@@ -63,10 +54,17 @@ impl SectionBook {
         Ok(SectionBook { planner, at })
     }
 
+    /// How many statements were gone through: where the section ends that was handed out last, or is planned first.
+    pub fn place(&self) -> u32
+        ensures { result ≡ place_of self.now }
+    {
+        self.at
+    }
+
     /// The next section. `held` says whether the test holds at which the last one ended, and `cells` begin with the
     /// words that it left; the first section has none before it. Its plan takes all that it is given over, and copies
-    /// none of it: the `cells`, as its first literal, the `names` of the script, which `names_of` copies for the first
-    /// section, and the `kernels`; a later section is given names and kernels of the plan before. After an error the
+    /// none of it: the `cells`, as its first literal, and the `copies`, which are those of `Copies::at_start` for the
+    /// first section, and for a later one the names, the kernels and their code of the plan before. After an error the
     /// book is of no use.
     pub fn next(
         &mut self,
@@ -75,25 +73,30 @@ impl SectionBook {
         table: &Table,
         held: Option<bool>,
         cells: FlatMem,
-        names: Vec<String>,
-        kernels: Vec<Kernel>,
+        copies: Copies,
     ) -> Result<Section, NoMemory>
         requires at { (from : ℕ) × (carried : Cells) × (len : ℕ)
             × IsAt self.old script.now (columns_of table.now) from carried len
             × IsOutcome script.now (columns_of table.now) from held
             × AreLeft cells carried len }
-        requires names { AreNamesOf script.now names.items }
-        requires kernels { IsSome held → AreKernelsOf self.old script.now (columns_of table.now) kernels.items }
+        requires names { AreNamesOf script.now copies.names.items }
+        requires kernels { IsSome held
+            → AreKernelsOf self.old script.now (columns_of table.now) copies.kernels.items copies.codes.items }
         ensures section { (from : ℕ) (carried : Cells) (len : ℕ)
             → IsAt self.old script.now (columns_of table.now) from carried len
             → IsOutcome script.now (columns_of table.now) from held
             → AreLeft cells carried len
             → IfOk result (IsNext self.new script.now (columns_of table.now) from) }
     {
+        let Copies {
+            names,
+            kernels,
+            codes,
+        } = copies;
         match held {
             None => self.hand_out(alloc, script, names),
             Some(held) => {
-                self.resume(alloc, script, table, held, cells, kernels)?;
+                self.resume(alloc, script, table, held, cells, kernels, codes)?;
                 self.hand_out(alloc, script, names)
             }
         }
@@ -153,19 +156,20 @@ impl SectionBook {
         held: bool,
         cells: FlatMem,
         kernels: Vec<Kernel>,
+        codes: Vec<Code>,
     ) -> Result<(), NoMemory>
         requires at { (from : ℕ) × (carried : Cells) × (len : ℕ)
             × IsBetween self.old script.now (columns_of table.now) from carried len
             × IsOutcome script.now (columns_of table.now) from (Some held)
             × AreLeft cells carried len }
-        requires kernels { AreKernelsOf self.old script.now (columns_of table.now) kernels.items }
+        requires kernels { AreKernelsOf self.old script.now (columns_of table.now) kernels.items codes.items }
         ensures planned { OnOk result ((from : ℕ) (carried : Cells) (len : ℕ)
             → IsBetween self.old script.now (columns_of table.now) from carried len
             → IsOutcome script.now (columns_of table.now) from (Some held)
             → AreLeft cells carried len
             → IsPlannedFrom self.new script.now (columns_of table.now) from) }
     {
-        begin(&mut self.planner, cells, kernels)?;
+        begin(&mut self.planner, cells, kernels, codes)?;
         let statement = &script.statements[self.at as usize];
         self.planner.passing = passed_after(&statement.act, held);
         match run(&mut self.planner, alloc, script, table, self.at + 1) {

@@ -7,8 +7,9 @@ ghost use Rattle.frame_ast.specs.Orders.{setting};
 ghost use Rattle.frame_plan.specs.Sections.{limit_told, IsPlanOf};
 ghost use Rattle.plan_statements.specs.Tables.{columns_of};
 
+use crate::copies::names_of;
 use crate::section::Section;
-use crate::sections::{SectionBook, names_of};
+use crate::sections::SectionBook;
 use frame_ast::script::Script;
 use frame_core::Plan;
 use plan_state::PlanFault;

@@ -18,7 +18,7 @@ use Rattle.frame_core.specs.declared.plan.Plan.{Plan}
 use Rattle.frame_core.specs.Names.{is_job, has_job, number_in, waits_in, starts_in, segment_at, job_at, pieces_of, pieces_before, starts_from, numbers_from}
 use Rattle.frame_core.specs.Pieces.{order_from, script_order, starter_of}
 use Rattle.frame_core.specs.Graphs.{graph_of, before_piece, piece_at, cells_at, cells_after}
-use Rattle.frame_core.specs.Ordered.{OpFits, IsSized, JobFits, AreJobsFitting, AreInOrder, OpsStand, WordsStand}
+use Rattle.frame_core.specs.Ordered.{OpFits, IsSized, JobFits, AreCodesOf, AreJobsFitting, AreInOrder, OpsStand, WordsStand}
 use Rattle.frame_core.specs.Output.{plan_traps}
 use Rattle.frame_core.proofs.Small.{some_is, none_some, get_below, get_either, get_behind}
 use Rattle.frame_core.proofs.Planned.{cells_fit}
@@ -40,7 +40,8 @@ use Rattle.plan_laws.proofs.Walking.{Walked, walk, ops_at, binds_at, StartedStan
 
 module _ (x : Outline) (s : ScriptState) (d : Draft) (last final : Segment) (known : IsKnown s) (was : IsPlanned x s d) (from : IsPlanFrom x d last final)
     (sized : IsSized x.plan)
-    (checked : (n : ℕ) (k : Kernel) → slice_get x.plan.kernels.items n ≡ Some k → IsChecked k) where
+    (checked : (n : ℕ) (k : Kernel) → slice_get x.plan.kernels.items n ≡ Some k → IsChecked k)
+    (coded : AreCodesOf x.plan.kernels.items x.plan.codes.items) where
   abbrev plan : Plan
   plan = x.plan
 
@@ -90,6 +91,7 @@ module _ (x : Outline) (s : ScriptState) (d : Draft) (last final : Segment) (kno
   jobs_fit : AreJobsFitting plan
   jobs_fit = record {
     checked = checked;
+    coded = coded;
     has_kernel = λ j y h. let r = was.fitting.jobs_fit j y (on_draft j y h) in get_below plan.kernels.items y.kernel r.0 r.1;
     fits = λ j y k h hk. let r = was.fitting.jobs_fit j y (on_draft j y h) in subst (JobFits plan y) (some_is (sym r.1 ∙ hk)) r.2;
   }

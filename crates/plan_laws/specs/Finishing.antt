@@ -7,7 +7,7 @@ use Rattle.frame_ast.specs.States.{ScriptState}
 use Rattle.frame_core.specs.declared.plan.Segment.{Segment}
 use Rattle.frame_core.specs.Names.{has_job, job_pieces}
 use Rattle.frame_core.specs.Graphs.{graph_of, cells_after}
-use Rattle.frame_core.specs.Ordered.{IsSized, ConflictsLead, IsWellOrderedPlan}
+use Rattle.frame_core.specs.Ordered.{IsSized, AreCodesOf, ConflictsLead, IsWellOrderedPlan}
 use Rattle.frame_core.specs.Output.{plan_lines, plan_refused, plan_traps}
 use Rattle.plan_laws.specs.Drafts.{Draft}
 use Rattle.plan_laws.specs.Leaving.{AllHeld}
@@ -50,4 +50,5 @@ DraftsBecomePlans = (x : Outline) (s : ScriptState) (d : Draft) (last final : Se
     → IsPlanFrom x d last final
     → IsSized x.plan
     → ((n : ℕ) (k : Kernel) → slice_get x.plan.kernels.items n ≡ Some k → IsChecked k)
+    → AreCodesOf x.plan.kernels.items x.plan.codes.items
     → IsDone x s

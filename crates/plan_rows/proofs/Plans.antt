@@ -65,9 +65,11 @@ abbrev pub segment : Place → List ℕ → List Op → Option ℕ → Segment
 segment at waits ops None = record { waits = ids at waits; ops = vec at ops; starts = None }
 segment at waits ops (Some j) = record { waits = ids at waits; ops = vec at ops; starts = Some (record { 0 = j }) }
 
+-- A plan without the code of its kernels, of which cells say nothing.
 abbrev pub plan : Place → List Text → List String → List (List ℤ) → List JobPlan → List Segment → ℕ → ℕ → Plan
 plan at kernels names literals jobs segments cells words = record {
   kernels = vec at (map (kernel at) kernels);
+  codes = vec at [];
   names = vec at (map (λ n. text at (codes n)) names);
   literals = vec at (map (vec at) literals);
   jobs = vec at jobs;

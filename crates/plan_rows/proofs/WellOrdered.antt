@@ -6,6 +6,8 @@ use Rattle.frame_ast.specs.declared.kernel.Kernel.{Kernel}
 use Rattle.frame_ast.specs.declared.kernel.Param.{Param}
 use Rattle.frame_ast.specs.Checked.{IsChecked, may_write}
 use Rattle.frame_ast.specs.Contents.{Contents}
+use Rattle.kernel_bytecode.specs.declared.code.Code.{Code}
+use Rattle.kernel_bytecode.specs.Codes.{IsCodeOf}
 use Rattle.kernel_exec.specs.declared.binds.Bind.{Bind}
 use Rattle.kernel_exec.specs.Binds.{IsWordOf, kind_of, end_of, own_of}
 use Rattle.kernel_exec.specs.Footprint.{IsLength}
@@ -19,7 +21,7 @@ use Rattle.frame_ast.specs.Arguments.{argument}
 use Rattle.frame_core.specs.declared.piece.Piece.TheVariants.{OfScript, OfJob}
 use Rattle.frame_core.specs.Graphs.{before_piece}
 use Rattle.frame_core.proofs.Parts.{parts_are_apart}
-use Rattle.ast_rows.proofs.Trees.{Place}
+use Rattle.ast_rows.proofs.Trees.{Place, vec}
 use Rattle.ast_rows.proofs.Kernel.{kernel}
 use Rattle.ast_rows.proofs.Kernels.{scale}
 use Rattle.ast_rows.proofs.CheckedKernels.{checked_scale}
@@ -33,9 +35,10 @@ use Rattle.frame_core.specs.Ordered.{OpsStand, WordsStand, IsWellOrderedPlan, Is
 use Rattle.frame_core.proofs.Small.{some_is, none_some, not_both}
 use Rattle.plan_rows.proofs.Plans.{past_the_end, array, plan}
 
-module _ (at : Place) where
+-- with any code of its kernel beside it
+module _ (at : Place) (code : Code) (is_code : IsCodeOf (kernel at scale) code) where
   abbrev p : Plan
-  p = past_the_end at
+  p = record (past_the_end at) { codes = vec at (code ∷ []) }
 
   sized : IsSized p
   sized = record { jobs = omega arith; words_are = refl; words = omega arith; pieces = omega arith; ops = omega arith }
@@ -97,6 +100,7 @@ module _ (at : Place) where
   jobs : AreJobsFitting p
   jobs = record {
     checked = checked;
+    coded = record { each = refl; coded = coded };
     has_kernel = has_kernel;
     fits = each;
   }
@@ -104,6 +108,10 @@ module _ (at : Place) where
       checked : (n : ℕ) (it : Kernel) → slice_get p.kernels.items n ≡ Some it → IsChecked it
       checked zero it h = subst IsChecked (some_is h) (checked_scale.checked at)
       checked (suc n) it h = absurd (none_some h)
+
+      coded : (n : ℕ) (it : Kernel) (c : Code) → slice_get p.kernels.items n ≡ Some it → slice_get p.codes.items n ≡ Some c → IsCodeOf it c
+      coded zero it c h g = subst (λ (of : Kernel). IsCodeOf of c) (some_is h) (subst (IsCodeOf k) (some_is g) is_code)
+      coded (suc n) it c h g = absurd (none_some h)
 
       has_kernel : (j : ℕ) (y : JobPlan) → job_at p j ≡ Some y → y.kernel < length p.kernels.items
       has_kernel zero y h = subst (λ (z : JobPlan). z.kernel < 1) (some_is h) (omega arith)

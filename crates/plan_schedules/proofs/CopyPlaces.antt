@@ -7,20 +7,25 @@ use Rattle.frame_ast.specs.declared.kernel.Kernel.{Kernel}
 use Rattle.frame_ast.specs.declared.script.Script.{Script}
 use Rattle.frame_ast.specs.Checked.{IsChecked}
 use Rattle.frame_ast.specs.Orders.{Setting}
+use Rattle.kernel_bytecode.specs.declared.code.Code.{Code}
+use Rattle.frame_core.specs.Ordered.{AreCodesOf}
 use Rattle.frame_core.proofs.Small.{some_is, none_some, get_below, get_before, get_behind, get_either}
 use Rattle.tree_laws.specs.Same.{SameKernel}
 use Rattle.tree_laws.proofs.Checks.{same_kernels_are_checked}
+use Rattle.plan_state.specs.declared.state.Draft.{Draft}
 use Rattle.plan_state.specs.declared.state.Planner.{Planner}
 use Rattle.plan_state.specs.Stands.{AreKernels, IsCopy}
 use Rattle.plan_schedules.specs.Starting.{IsCopied, IsCopiedAnew}
 use Rattle.plan_state.proofs.Naming.{set_either, set_long}
+use Rattle.plan_schedules.proofs.Coding.{coded_added}
 
 -- nothing but the copies and their places changes
 pub moved : (script : Script) (p middle : Planner) (kernel place : ℕ) → IsCopied script p middle kernel place
-    → middle ≡ record p { kernels = middle.kernels; plan = record p.plan { kernels = middle.plan.kernels } }
+    → middle ≡ record p { kernels = middle.kernels; plan = record p.plan { kernels = middle.plan.kernels; codes = middle.plan.codes } }
 moved script p middle kernel place copied = ⊎_elim
-    (λ l. l.1 ∙ ap (λ (m : Planner). record p { kernels = m.kernels; plan = record p.plan { kernels = m.plan.kernels } }) (sym l.1))
-    (λ r. r.rest)
+    (λ l. l.1
+    ∙ ap (λ (m : Planner). record p { kernels = m.kernels; plan = record p.plan { kernels = m.plan.kernels; codes = m.plan.codes } }) (sym l.1))
+    (λ r. r.rest ∙ ap (λ (d : Draft). record p { kernels = middle.kernels; plan = d }) r.added.rest)
     copied
 
 module _ (script : Script) (g : Setting) (is_g : g.kernels ≡ script.kernels.items) (p middle : Planner) (kernel place : ℕ) (ks : AreKernels p g)
@@ -31,7 +36,7 @@ module _ (script : Script) (g : Setting) (is_g : g.kernels ≡ script.kernels.it
   grown k it h = ⊎_elim
       (λ l. ap (λ (m : Planner). slice_get m.plan.kernels.items k) l.1 ∙ h)
       (λ r.
-      ap (λ xs. slice_get xs k) r.copies
+      ap (λ xs. slice_get xs k) r.added.kernels
       ∙ get_before p.plan.kernels.items (r.copy ∷ []) k (get_below p.plan.kernels.items k it h) ∙ h)
       copied
 
@@ -52,8 +57,8 @@ module _ (script : Script) (g : Setting) (is_g : g.kernels ≡ script.kernels.it
       (λ r. record {
         copy = r.copy;
         here =
-            ap (λ xs. slice_get xs place) r.copies
-            ∙ (let e : place ≡ length p.plan.kernels.items + 0 = (let l = r.last in omega arith) in
+            ap (λ xs. slice_get xs place) r.added.kernels
+            ∙ (let e : place ≡ length p.plan.kernels.items + 0 = (let l = r.added.last in omega arith) in
             ap (slice_get (p.plan.kernels.items ++ r.copy ∷ [])) e)
             ∙ get_behind p.plan.kernels.items (r.copy ∷ []) 0;
         same = subst (λ (k : Kernel). SameKernel k r.copy) (some_is (sym r.is_source ∙ has_source)) r.same;
@@ -64,7 +69,7 @@ module _ (script : Script) (g : Setting) (is_g : g.kernels ≡ script.kernels.it
   copies_few = ⊎_elim
       (λ l. let e : length middle.plan.kernels.items ≡ length p.plan.kernels.items = ap (λ (m : Planner). length m.plan.kernels.items) l.1 in omega arith)
       (λ r.
-      let e : length middle.plan.kernels.items ≡ length p.plan.kernels.items + 1 = ap length r.copies
+      let e : length middle.plan.kernels.items ≡ length p.plan.kernels.items + 1 = ap length r.added.kernels
       ∙ length-append p.plan.kernels.items (r.copy ∷ []) in
       omega arith)
       copied
@@ -76,13 +81,15 @@ module _ (script : Script) (g : Setting) (is_g : g.kernels ≡ script.kernels.it
       (λ l. (r.0, r.1 ∙ ap (λ (m : Planner). m.plan.kernels.items ++ r.0) l.1))
       (λ a. (
         a.copy ∷ r.0,
-        r.1 ∙ ap (λ xs. xs ++ r.0) a.copies ∙ append_assoc p.plan.kernels.items (a.copy ∷ []) r.0,
+        r.1 ∙ ap (λ xs. xs ++ r.0) a.added.kernels ∙ append_assoc p.plan.kernels.items (a.copy ∷ []) r.0,
       ))
       copied
 
   -- of a planner that has them
-  pub kernels_stand : (q : Planner) → q.kernels ≡ middle.kernels → q.plan.kernels ≡ middle.plan.kernels → q.guards ≡ p.guards → AreKernels q g
-  kernels_stand q kernels copies guards = record {
+  pub kernels_stand : (q : Planner) → q.kernels ≡ middle.kernels → q.plan.kernels ≡ middle.plan.kernels → q.plan.codes ≡ middle.plan.codes
+      → q.guards ≡ p.guards
+      → AreKernels q g
+  kernels_stand q kernels copies codes guards = record {
     each = ap (λ (v : Vec (Option ℕ) Global). length v.items) kernels ∙ long ∙ ks.each;
     each_guard = ap (λ (v : Vec (Option ℕ) Global). length v.items) guards ∙ ks.each_guard;
     copies = λ k at h. copy_at k at (ap (λ (v : Vec (Option ℕ) Global). slice_get v.items k) (sym kernels) ∙ h);
@@ -99,6 +106,8 @@ module _ (script : Script) (g : Setting) (is_g : g.kernels ≡ script.kernels.it
           footprint = c.footprint;
         };
     checked = λ at k h. all_checked at k (ap (λ (v : Vec Kernel Global). slice_get v.items at) (sym copies) ∙ h);
+    coded = subst (λ (v : Vec Kernel Global). AreCodesOf v.items q.plan.codes.items) (sym copies)
+        (subst (λ (v : Vec Code Global). AreCodesOf middle.plan.kernels.items v.items) (sym codes) all_coded);
   }
     where
       there : (at : ℕ) (it : Kernel) → slice_get middle.plan.kernels.items at ≡ Some it → slice_get q.plan.kernels.items at ≡ Some it
@@ -137,13 +146,19 @@ module _ (script : Script) (g : Setting) (is_g : g.kernels ≡ script.kernels.it
           (set_either p.kernels.items kernel (Some place) k (Some at) (ap (λ xs. slice_get xs k) (sym r.kernels) ∙ h)))
           copied
 
+      all_coded : AreCodesOf middle.plan.kernels.items middle.plan.codes.items
+      all_coded = ⊎_elim
+          (λ l. subst (λ (m : Planner). AreCodesOf m.plan.kernels.items m.plan.codes.items) (sym l.1) ks.coded)
+          (λ r. coded_added p.plan middle.plan r.copy place r.added ks.coded)
+          copied
+
       all_checked : (at : ℕ) (k : Kernel) → slice_get middle.plan.kernels.items at ≡ Some k → IsChecked k
       all_checked at k h = ⊎_elim
           (λ l. ks.checked at k (ap (λ (m : Planner). slice_get m.plan.kernels.items at) (sym l.1) ∙ h))
           (λ r. ⊎_elim
           (λ e. ks.checked at k e.1)
           (λ e. last r e.0 e.2)
-          (get_either p.plan.kernels.items (r.copy ∷ []) at k (ap (λ xs. slice_get xs at) (sym r.copies) ∙ h)))
+          (get_either p.plan.kernels.items (r.copy ∷ []) at k (ap (λ xs. slice_get xs at) (sym r.added.kernels) ∙ h)))
           copied
         where
           last : (r : IsCopiedAnew script p middle kernel place) (i : ℕ) → slice_get (r.copy ∷ []) i ≡ Some k → IsChecked k

@@ -27,6 +27,7 @@ use Rattle.frame_ast.specs.States.{ScriptState}
 use Rattle.frame_ast.proofs.Breaking.{view_numbers_are_few}
 use Rattle.job_handle.specs.declared.handle.Handle.{Handle}
 use Rattle.job_handle.specs.Books.{count_of, StandsFor}
+use Rattle.kernel_bytecode.specs.declared.code.Code.{Code}
 use Rattle.kernel_exec.specs.declared.binds.Bind.{Bind}
 use Rattle.safety_handle.specs.Entries.{SlotState, state_of}
 use Rattle.safety_handle.specs.Uses.{Latest, StandForUses}
@@ -49,7 +50,7 @@ use Rattle.plan_schedules.specs.declared.uses.NamedUse.{NamedUse}
 use Rattle.plan_state.specs.Growth.{StartAs, IsCopyFor, IsJobOf, length_binds, numbers_of, is_none}
 use Rattle.plan_schedules.specs.Noting.{MayNoteAll, noted_all}
 use Rattle.plan_state.specs.Stands.{AreKernels, AreNames, Agrees, Stands, draft_of}
-use Rattle.plan_schedules.specs.Starting.{IsCutBy, IsScheduled, numbers_by}
+use Rattle.plan_schedules.specs.Starting.{IsCutBy, IsScheduled}
 use Rattle.plan_state.specs.Steps.{state_at, state_after, IsStep, StandsAt, HasStepped}
 use Rattle.plan_schedules.proofs.Choosing.{AreAlive}
 use Rattle.plan_schedules.proofs.Meaning.{AreMeant}
@@ -64,13 +65,13 @@ use Rattle.plan_schedules.proofs.Grown.{none_waived}
 use Rattle.plan_schedules.proofs.Slots.{noted_live, noted_version, noted_folded, may_note}
 
 -- The kernel of a job is in its place, the kernels so far keep theirs, and at most one is new.
-pub record HasPlace (p : Planner) (g : Setting) (kernels guards : Vec (Option ℕ) Global) (copies : Vec Kernel Global) (place : ℕ) (kernel : Kernel)
-    : Type 0 where
+pub record HasPlace (p : Planner) (g : Setting) (kernels guards : Vec (Option ℕ) Global) (copies : Vec Kernel Global) (codes : Vec Code Global) (place : ℕ)
+    (kernel : Kernel) : Type 0 where
   pub here : slice_get copies.items place ≡ Some kernel
   pub few : length copies.items ≤ suc (length p.plan.kernels.items)
   -- what a whole plan has after them, it has after those so far
   pub later : (all : List Kernel) → (rest : List Kernel) × (all ≡ copies.items ++ rest) → (rest : List Kernel) × (all ≡ p.plan.kernels.items ++ rest)
-  pub stand : (q : Planner) → q.kernels ≡ kernels → q.guards ≡ guards → q.plan.kernels ≡ copies → AreKernels q g
+  pub stand : (q : Planner) → q.kernels ≡ kernels → q.guards ≡ guards → q.plan.kernels ≡ copies → q.plan.codes ≡ codes → AreKernels q g
 
 module _ (script : Script) (table : Table) (begun : ScriptState) (n : ℕ) (found : List ℕ) (line : ℕ) (home : Box NewJob Global) (asked : NewJob) where
   abbrev g : Setting
@@ -175,9 +176,10 @@ module _ (script : Script) (table : Table) (begun : ScriptState) (n : ℕ) (foun
 
       -- ---- the planner afterwards
 
-      module _ (kernels guards : Vec (Option ℕ) Global) (copies : Vec Kernel Global) (kernel : Kernel) (run : Run)
-          (place : HasPlace p g kernels guards copies run.kernel kernel) (q : Planner) (deps : Jobs) (deps_is : deps ≡ waited)
-          (d : IsScheduled (record p { kernels = kernels; guards = guards; plan = record p.plan { kernels = copies } }) q asked.handle run us deps) where
+      module _ (kernels guards : Vec (Option ℕ) Global) (copies : Vec Kernel Global) (codes : Vec Code Global) (kernel : Kernel) (run : Run)
+          (place : HasPlace p g kernels guards copies codes run.kernel kernel) (q : Planner) (deps : Jobs) (deps_is : deps ≡ waited)
+          (d : IsScheduled (record p { kernels = kernels; guards = guards; plan = record p.plan { kernels = copies; codes = codes } }) q asked.handle run
+          us deps) where
         ended_of : d.ended ≡ record p {
           jobs = d.after.jobs;
           safety = d.after.safety;
@@ -185,6 +187,7 @@ module _ (script : Script) (table : Table) (begun : ScriptState) (n : ℕ) (foun
           guards = guards;
           plan = record p.plan {
             kernels = copies;
+            codes = codes;
             segments = d.ended.plan.segments;
             jobs = d.ended.plan.jobs;
             waits = d.ended.plan.waits;
@@ -205,7 +208,7 @@ module _ (script : Script) (table : Table) (begun : ScriptState) (n : ℕ) (foun
             }) d.rest
 
         abbrev pub as_q : Planner
-        as_q = newly.q p g begun n s found st q.values q.handles d.after.jobs d.after.safety kernels guards copies
+        as_q = newly.q p g begun n s found st q.values q.handles d.after.jobs d.after.safety kernels guards copies codes
             d.ended.plan.segments d.ended.plan.jobs d.ended.plan.waits d.ended.plan.ops d.ended.plan.pieces
             t.values t.contents t.view t.uses waited t.traps
 
@@ -384,7 +387,7 @@ module _ (script : Script) (table : Table) (begun : ScriptState) (n : ℕ) (foun
         -- ---- it stands
 
         module _ (is : IsRunOf p run kernel) (plans : (y : Outline) → Agrees as_q g begun found y → IsPlanned y t (draft_of as_q)) where
-          with_job_is : newly.IsWithJob p g begun n s found st q.values q.handles d.after.jobs d.after.safety kernels guards copies
+          with_job_is : newly.IsWithJob p g begun n s found st q.values q.handles d.after.jobs d.after.safety kernels guards copies codes
               d.ended.plan.segments d.ended.plan.jobs d.ended.plan.waits d.ended.plan.ops d.ended.plan.pieces
               t.values t.contents t.view t.uses waited t.traps d.started.segment d.job
           with_job_is = record {
@@ -402,7 +405,7 @@ module _ (script : Script) (table : Table) (begun : ScriptState) (n : ℕ) (foun
             unused = unused;
             held = dead_stands;
             book = subst (λ (j : Jobs). StandsFor d.after.jobs (with_job s.book j)) deps_is (d.jobs s.book st.jobs);
-            kernels_are = place.stand as_q refl refl refl;
+            kernels_are = place.stand as_q refl refl refl refl;
             copies_few = place.few;
             segments_are = segments_are;
             ops_were = closes.ops_were;
@@ -452,6 +455,6 @@ module _ (script : Script) (table : Table) (begun : ScriptState) (n : ℕ) (foun
           goes_on = growing.stepped script table begun n found line home asked p q step none st d.started.segment d.job waited has_started
               (subst (λ u. Stands q g begun (suc n) u found) (sym (after_is ∙ t_is))
               (subst (λ k. Stands k g begun (suc n) as_t found) (sym q_is)
-              (newly.with_job_stands p g begun n s found st q.values q.handles d.after.jobs d.after.safety kernels guards copies
+              (newly.with_job_stands p g begun n s found st q.values q.handles d.after.jobs d.after.safety kernels guards copies codes
               d.ended.plan.segments d.ended.plan.jobs d.ended.plan.waits d.ended.plan.ops d.ended.plan.pieces
               t.values t.contents t.view t.uses waited t.traps d.started.segment d.job with_job_is)))

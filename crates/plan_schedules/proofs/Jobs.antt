@@ -16,6 +16,7 @@ use Rattle.frame_ast.specs.States.{ScriptState, JobTrap, is_live}
 use Rattle.job_handle.specs.declared.book.JobBook.{JobBook}
 use Rattle.job_handle.specs.declared.handle.Handle.{Handle}
 use Rattle.job_handle.specs.Books.{StandsFor}
+use Rattle.kernel_bytecode.specs.declared.code.Code.{Code}
 use Rattle.safety_handle.specs.declared.book.SafetyBook.{SafetyBook}
 use Rattle.safety_handle.specs.Entries.{state_of}
 use Rattle.safety_handle.specs.Uses.{Latest, StandForUses}
@@ -43,7 +44,7 @@ ops_more (x ∷ xs) y = let e = ops_more xs y in omega arith
 
 module _ (p : Planner) (g : Setting) (begun : ScriptState) (n : ℕ) (s : ScriptState) (found : List ℕ) (st : Stands p g begun n s found)
     (values : Vec Value Global) (handles : Vec Handle Global) (jobs : JobBook) (safety : SafetyBook) (kernels guards : Vec (Option ℕ) Global)
-    (copies : Vec Kernel Global)
+    (copies : Vec Kernel Global) (codes : Vec Code Global)
     (segments : Vec Segment Global) (plan_jobs : Vec JobPlan Global) (waits : Vec JobId Global) (ops : Vec Op Global) (pieces : ℕ)
     (names : ℕ → states.Value) (contents : ℕ → Contents) (view : ℕ → ℕ) (uses : ℕ → Uses) (deps : Jobs) (traps : List JobTrap) where
   abbrev pub q : Planner
@@ -54,7 +55,7 @@ module _ (p : Planner) (g : Setting) (begun : ScriptState) (n : ℕ) (s : Script
     safety = safety;
     kernels = kernels;
     guards = guards;
-    plan = record p.plan { kernels = copies; segments = segments; jobs = plan_jobs; waits = waits; ops = ops; pieces = pieces };
+    plan = record p.plan { kernels = copies; codes = codes; segments = segments; jobs = plan_jobs; waits = waits; ops = ops; pieces = pieces };
   }
 
   abbrev pub t : ScriptState

@@ -2,6 +2,7 @@ pub mod Deferred
 pub mod Arguments
 pub mod CauseNames
 pub mod Choosing
+pub mod Coding
 pub mod CopyPlaces
 pub mod Copying
 pub mod Forms

@@ -1,6 +1,6 @@
 -- An accepted schedule without `defer`: its job runs a copy of its kernel, and the planner goes on with it.
-use Rattle.std.proofs.Common.{◌≡◌, ℕ, ◌+◌, ◌<◌, ◌≤◌, Bool, true, false, ◌&&◌, List, [], ◌∷◌, ◌++◌, length, None, Some, refl, sym, ap, subst, ◌∙◌, arith, append-nil}
-use Rattle.std.specs.Prelude.{Box, slice_get, if◌then◌else◌}
+use Rattle.std.proofs.Common.{◌≡◌, ℕ, ◌<◌, false, ◌&&◌, List, [], ◌++◌, length, None, Some, refl, sym, ap, subst, ◌∙◌, arith, append-nil}
+use Rattle.std.specs.Prelude.{Box, slice_get}
 use Rattle.std.specs.declared.alloc.Global.{Global}
 use Rattle.std.proofs.lemmas.Bool.{and_parts}
 use Rattle.batch_cut.specs.Cuts.{step_of}
@@ -119,17 +119,18 @@ module _ (script : Script) (table : Table) (begun : ScriptState) (n : ℕ) (foun
       copy : places.HasCopy script g refl p mid asked.kernel run.kernel st.kernels r.copied text.source text.has text.checked
       copy = places.has_copy script g refl p mid asked.kernel run.kernel st.kernels r.copied text.source text.has text.checked
 
-      place : HasPlace p g mid.kernels p.guards mid.plan.kernels run.kernel copy.copy
+      place : HasPlace p g mid.kernels p.guards mid.plan.kernels mid.plan.codes run.kernel copy.copy
       place = record {
         here = copy.here;
         few = places.copies_few script g refl p mid asked.kernel run.kernel st.kernels r.copied text.source text.has text.checked;
         later = places.kernels_later script g refl p mid asked.kernel run.kernel st.kernels r.copied text.source text.has text.checked;
-        stand = λ q kernels guards copies.
-            places.kernels_stand script g refl p mid asked.kernel run.kernel st.kernels r.copied text.source text.has text.checked q kernels copies guards;
+        stand = λ q kernels guards copies codes.
+            places.kernels_stand script g refl p mid asked.kernel run.kernel st.kernels r.copied text.source text.has text.checked q kernels copies codes
+            guards;
       }
 
-      done : IsScheduled (record p { kernels = mid.kernels; guards = p.guards; plan = record p.plan { kernels = mid.plan.kernels } }) new asked.handle run
-          uses deps
+      done : IsScheduled (record p { kernels = mid.kernels; guards = p.guards; plan = record p.plan { kernels = mid.plan.kernels; codes = mid.plan.codes } })
+          new asked.handle run uses deps
       done = subst (λ m. IsScheduled m new asked.handle run uses deps)
           (places.moved script p mid asked.kernel run.kernel r.copied) d
 
@@ -179,18 +180,18 @@ module _ (script : Script) (table : Table) (begun : ScriptState) (n : ℕ) (foun
 
       abbrev q : Planner
       q = started.as_q script table begun n found line home (undeferred asked) step p st none named uses gs noted mid.kernels p.guards mid.plan.kernels
-          copy.copy run place new deps deps_are done
+          mid.plan.codes copy.copy run place new deps deps_are done
 
       back : (y : Outline) → Agrees q g begun found y → Agrees p g begun found y
       back = started.agrees script table begun n found line home (undeferred asked) step p st none named uses gs noted mid.kernels p.guards mid.plan.kernels
-          copy.copy run place new deps deps_are done
+          mid.plan.codes copy.copy run place new deps deps_are done
 
       planned_job : (y : Outline) → Agrees q g begun found y → IsPlannedJob y (draft_of p) o (plain_kernel y.starts s o copy.copy) (deps_of h s o) done.job
       planned_job y a =
           subst (λ ds. IsPlannedJob y (draft_of p) o (plain_kernel y.starts s o copy.copy) ds done.job)
           (copying.new_deps g s home asked text.source copy.copy text.has below copy.same)
           (started.job_as script table begun n found line home (undeferred asked) step p st none named uses gs noted mid.kernels p.guards mid.plan.kernels
-          copy.copy run place new deps deps_are done y a asked.cut r.cut_by (argument_binds y.starts s o copy.copy) (indexes_of s o copy.copy)
+          mid.plan.codes copy.copy run place new deps deps_are done y a asked.cut r.cut_by (argument_binds y.starts s o copy.copy) (indexes_of s o copy.copy)
           (same_kernels_are_checked text.source copy.copy copy.same text.checked)
           (copy_binds y (back y a))
           (r.cut_by.indexes ∙ indexes_are s text.source.parallel asked.cut text.one ∙ ap (λ b. executes b (job_length s asked.cut None)) copy.same.parallel)
@@ -207,10 +208,10 @@ module _ (script : Script) (table : Table) (begun : ScriptState) (n : ℕ) (foun
           st.known (st.planned y (back y a)) accepted_now has_new (planned_job y a)
           (plain_kernels_stand_in y h s o copy.copy (draft_of p) done.job a.small (st.planned y (back y a)) accepted_now refl has_new (planned_job y a))
           (started.starts_next script table begun n found line home (undeferred asked) step p st none named uses gs noted mid.kernels p.guards mid.plan.kernels
-          copy.copy run place new deps deps_are done)
+          mid.plan.codes copy.copy run place new deps deps_are done)
           (started.closes script table begun n found line home (undeferred asked) step p st none named uses gs noted mid.kernels p.guards mid.plan.kernels
-          copy.copy run place new deps deps_are done))
+          mid.plan.codes copy.copy run place new deps deps_are done))
 
       pub goes_on : HasStepped script table begun n found p new x
       goes_on = started.goes_on script table begun n found line home (undeferred asked) step p st none named uses gs noted mid.kernels p.guards
-          mid.plan.kernels copy.copy run place new deps deps_are done is_run plans
+          mid.plan.kernels mid.plan.codes copy.copy run place new deps deps_are done is_run plans

@@ -1,35 +1,26 @@
 -- What the parts of a schedule need, before a schedule of an accepted script.
-use Rattle.std.proofs.Common.{◌≡◌, ◌≢◌, inr, ⊎_elim, ℕ, zero, suc, ◌+◌, ◌*◌, ◌<◌, ◌≤◌, ◌^◌, Bool, true, false, ◌&&◌, ◌||◌, List, [], ◌∷◌, ◌++◌, length, get_or, All, Option, Some, None, Result, Ok, Err, refl, sym, ap, subst, ◌∙◌, arith, append-nil}
-use Rattle.std.specs.Prelude.{IfErr, Box, vec_len, nat_eq, nat_lt, slice_get, if◌then◌else◌}
-use Rattle.std.specs.Int.{div_ceil}
+use Rattle.std.proofs.Common.{◌≡◌, ◌≢◌, inr, ℕ, suc, ◌*◌, ◌<◌, ◌≤◌, ◌^◌, List, length, get_or, All, Option, Some, None, Result, Ok, Err, refl, sym, ap, subst, ◌∙◌, arith, append-nil}
+use Rattle.std.specs.Prelude.{IfErr, Box, vec_len, slice_get, if◌then◌else◌}
 use Rattle.std.specs.declared.alloc.Global.{Global}
-use Rattle.std.proofs.lemmas.Grind.{div_ceil_times}
-use Rattle.std.proofs.Math.Nat.{lt_of_mul-lt-mul_right}
-use Rattle.std.proofs.lemmas.Bool.{or_cases, and_parts, eqb-true, ltb-true}
 use Rattle.job_base.specs.declared.limits.TheConstants.{MOST_JOBS, MOST_PIECES}
-use Rattle.batch_cut.specs.Cuts.{count_of as cut_count}
 use Rattle.frame_ast.specs.declared.kernel.Kernel.{Kernel}
 use Rattle.frame_ast.specs.declared.script.Arg.{Arg}
 use Rattle.frame_ast.specs.declared.script.Script.{Script}
 use Rattle.frame_ast.specs.declared.script.Statement.{Statement}
 use Rattle.frame_ast.specs.Checks.{refusal}
-use Rattle.frame_ast.specs.Conflicts.{Uses, automatic}
+use Rattle.frame_ast.specs.Conflicts.{automatic}
 use Rattle.frame_ast.specs.Jobs.{Jobs, both, nobody}
-use Rattle.frame_ast.specs.Laws.{AreUpTo, AreUses}
+use Rattle.frame_ast.specs.Laws.{AreUpTo}
 use Rattle.frame_ast.specs.Orders.{Setting, setting, kernel_params, kernel_parallel}
 use Rattle.frame_ast.specs.Refusals.{refused, jobs_named}
 use Rattle.frame_ast.specs.declared.kernel.Param.{Param}
-use Rattle.frame_ast.specs.Schedules.{Given, given_args, givens, writes_to}
+use Rattle.frame_ast.specs.Schedules.{Given, given_args, givens}
 use Rattle.frame_ast.specs.States.{ScriptState}
-use Rattle.frame_ast.proofs.Ancestry.{greatest_below}
 use Rattle.frame_ast.proofs.Known.{named_among}
 use Rattle.job_handle.specs.Books.{count_of}
-use Rattle.safety_handle.specs.Entries.{state_of, conflicting_in}
-use Rattle.safety_handle.specs.Uses.{Latest, StandForUses}
-use Rattle.auto_deps.specs.Needs.{conflicting_with, AreNeeds}
-use Rattle.frame_core.specs.declared.plan.JobPlan.{JobPlan}
-use Rattle.frame_core.specs.Names.{pieces_of, pieces_before}
-use Rattle.frame_core.proofs.Small.{not_both, some_is, get_below}
+use Rattle.safety_handle.specs.Entries.{state_of}
+use Rattle.auto_deps.specs.Needs.{conflicting_with}
+use Rattle.frame_core.proofs.Small.{some_is, get_below}
 use Rattle.plan_laws.specs.Accepting.{deps_of}
 use Rattle.plan_schedules.specs.declared.causes.Cause.{Cause}
 use Rattle.plan_state.specs.declared.state.Planner.{Planner}
@@ -38,18 +29,12 @@ use Rattle.frame_core.specs.declared.plan.Act.TheVariants.{Say}
 use Rattle.plan_state.specs.declared.state.PlanFault.{PlanFault}
 use Rattle.plan_state.specs.declared.state.PlanFault.TheVariants.{Jobs as TooManyJobs, Words as TooManyWords, NoMemory}
 use Rattle.plan_state.specs.Accesses.{jobs_by, IsPushed, HasHandle}
-use Rattle.std.specs.List.{list_any}
-use Rattle.job_base.specs.declared.Refusal.{Refusal}
-use Rattle.job_base.specs.declared.Refusal.TheVariants.{Disposed, StaleView, NotParallel, Alias, Pending, TempInJob}
-use Rattle.frame_ast.specs.declared.script.Arg.TheVariants.{Name, Number}
-use Rattle.frame_ast.specs.Schedules.{alias}
 use Rattle.plan_schedules.specs.Noting.{MayNoteAll}
-use Rattle.plan_schedules.specs.Causes as causes
-use Rattle.plan_schedules.specs.Causes.{has_cause, first_with, alias_after, or_next, greatest_blocker, pending_of, refusal_by, as_refused}
+use Rattle.plan_schedules.specs.Causes.{refusal_by, as_refused}
 use Rattle.plan_schedules.specs.Starting.{AreDeps, IsFull, IsPlainRun, IsScheduled}
 use Rattle.plan_schedules.specs.declared.accepting.Run.{Run}
 use Rattle.plan_state.specs.Steps.{state_at, state_after, IsStep, StandsAt, HasStepped, PassesLimit}
-use Rattle.plan_schedules.specs.Uses.{given_of, AreNamesBelow, ForNames, IsUse, tags_by, tags_of}
+use Rattle.plan_schedules.specs.Uses.{AreNamesBelow, ForNames, IsUse, tags_of}
 use Rattle.plan_schedules.proofs.CauseNames.{AreNamed, uses_named, refusal_named}
 use Rattle.plan_schedules.proofs.Choosing.{AreAlive, refusal_is}
 use Rattle.plan_schedules.proofs.PlainStarted as started
@@ -57,7 +42,6 @@ use Rattle.plan_schedules.proofs.Meaning.{AreMeant, uses_meant}
 use Rattle.plan_state.proofs.Naming.{jobs_are}
 use Rattle.plan_schedules.proofs.Needs.{needs_up, needs_are, deps_are}
 use Rattle.plan_schedules.proofs.Notes.{needs}
-use Rattle.plan_state.proofs.Outlining as outlining
 use Rattle.plan_state.proofs.Reaching.{statements_few, within}
 use Rattle.plan_state.proofs.Restating.{accepted_state, said_nobody}
 use Rattle.plan_schedules.proofs.Rooms as rooms

@@ -1,5 +1,5 @@
 -- A schedule whose length is that of a list, in the code's terms: the use of the list, why it is refused, and its job.
-use Rattle.std.specs.Prelude.{Box, ℕ, ◌+◌, ◌≡◌, ◌≤◌, ◌⊎◌, Bool, true, false, ◌&&◌, ◌||◌, nat_eq, if◌then◌else◌, List, [], ◌∷◌, ◌++◌, length, Option, None, Some, slice_get, slice_set}
+use Rattle.std.specs.Prelude.{Box, ℕ, ◌≡◌, ◌≤◌, ◌⊎◌, Bool, true, false, ◌&&◌, ◌||◌, nat_eq, if◌then◌else◌, List, [], ◌∷◌, ◌++◌, Option, None, Some, slice_get, slice_set}
 use Rattle.std.specs.List.{list_any}
 use Rattle.std.specs.declared.alloc.Global.{Global}
 use Rattle.job_base.specs.declared.Access.TheVariants.{Read}
@@ -30,7 +30,7 @@ use Rattle.plan_state.specs.Accesses.{tag_for}
 use Rattle.plan_schedules.specs.Causes.{has_cause, first_with, alias_of, pending_of, or_next}
 use Rattle.plan_state.specs.Growth.{is_none}
 use Rattle.plan_schedules.specs.JobBinds.{bind_of_value, job_binds}
-use Rattle.plan_schedules.specs.Starting.{in_box, IsCutBy}
+use Rattle.plan_schedules.specs.Starting.{in_box, IsAdded, IsCutBy}
 use Rattle.plan_schedules.specs.Uses.{IsBlockedBy, number_of_value, is_temp_in, given_of}
 
 -- THE SCHEDULE
@@ -125,10 +125,9 @@ pub record IsGuardedAnew (script : Script) (old new : Planner) (kernel place : �
   pub copy : Kernel
   pub is_source : slice_get script.kernels.items kernel ≡ Some source
   pub guards : IsGuardOf source copy
-  pub last : place ≡ length old.plan.kernels.items
+  pub added : IsAdded old.plan new.plan copy place
   pub places : new.guards.items ≡ slice_set old.guards.items kernel (Some place)
-  pub copies : new.plan.kernels.items ≡ old.plan.kernels.items ++ copy ∷ []
-  pub rest : new ≡ record old { guards = new.guards; plan = record old.plan { kernels = new.plan.kernels } }
+  pub rest : new ≡ record old { guards = new.guards; plan = new.plan }
 
 -- It had the place already, or has it now.
 abbrev pub IsGuardedAt : Script → Planner → Planner → ℕ → ℕ → Type 0

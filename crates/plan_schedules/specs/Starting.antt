@@ -10,10 +10,13 @@ use Rattle.frame_ast.specs.declared.script.Arg.{Arg}
 use Rattle.frame_ast.specs.declared.script.NewJob.{NewJob}
 use Rattle.frame_ast.specs.declared.script.Order.TheVariants.{Schedule}
 use Rattle.frame_ast.specs.declared.script.Statement.{Statement}
+use Rattle.frame_ast.specs.Checked.{IsChecked}
 use Rattle.job_base.specs.declared.Access.{Access}
 use Rattle.auto_deps.specs.Needs.{ForNeeds, IsAutomatic}
 use Rattle.frame_ast.specs.Laws.{AreUpTo}
 use Rattle.job_handle.specs.declared.book.JobBook.{JobBook}
+use Rattle.kernel_bytecode.specs.declared.code.Code.{Code}
+use Rattle.kernel_bytecode.specs.Codes.{IsCodeOf}
 use Rattle.safety_handle.specs.declared.book.SafetyBook.{SafetyBook}
 use Rattle.safety_handle.specs.declared.tag.Tag.{Tag}
 use Rattle.plan_state.specs.declared.state.PlanFault.{PlanFault}
@@ -29,6 +32,7 @@ use Rattle.plan_laws.specs.Planned.{AreJobsUpTo}
 use Rattle.tree_laws.specs.Same.{SameKernel}
 use Rattle.job_base.specs.declared.JobId.{JobId}
 use Rattle.plan_schedules.specs.declared.accepting.Run.{Run}
+use Rattle.plan_state.specs.declared.state.Draft.{Draft}
 use Rattle.plan_state.specs.declared.state.Planner.{Planner}
 use Rattle.plan_schedules.specs.declared.uses.NamedUse.{NamedUse}
 use Rattle.plan_state.specs.Accesses.{HasHandle}
@@ -67,16 +71,30 @@ pub record AreLater (before count : ℕ) (jobs : Jobs) (ids : List JobId) : Type
   pub within : AreJobsUpTo (count - before) ids
   pub are : (j : ℕ) → has_job ids j ≡ later before jobs j
 
+-- a kernel of a script is checked
+abbrev pub IsKernelChecked : Script → ℕ → Type 0
+IsKernelChecked script kernel = (source : Kernel)
+    → slice_get script.kernels.items kernel ≡ Some source
+    → IsChecked source
+
+-- The plan has a kernel more, and its code, at one new place. All else is as it was.
+pub record IsAdded (old new : Draft) (kernel : Kernel) (place : ℕ) : Type 0 where
+  pub code : Code
+  pub is_code : IsCodeOf kernel code
+  pub last : place ≡ length old.kernels.items
+  pub kernels : new.kernels.items ≡ old.kernels.items ++ kernel ∷ []
+  pub codes : new.codes.items ≡ old.codes.items ++ code ∷ []
+  pub rest : new ≡ record old { kernels = new.kernels; codes = new.codes }
+
 -- A kernel of the script is copied to a new place among the plan's, and all else is as it was.
 pub record IsCopiedAnew (script : Script) (old new : Planner) (kernel place : ℕ) : Type 0 where
   pub source : Kernel
   pub copy : Kernel
   pub is_source : slice_get script.kernels.items kernel ≡ Some source
   pub same : SameKernel source copy
-  pub last : place ≡ length old.plan.kernels.items
+  pub added : IsAdded old.plan new.plan copy place
   pub kernels : new.kernels.items ≡ slice_set old.kernels.items kernel (Some place)
-  pub copies : new.plan.kernels.items ≡ old.plan.kernels.items ++ copy ∷ []
-  pub rest : new ≡ record old { kernels = new.kernels; plan = record old.plan { kernels = new.plan.kernels } }
+  pub rest : new ≡ record old { kernels = new.kernels; plan = new.plan }
 
 -- It had the place already, or has it now.
 abbrev pub IsCopied : Script → Planner → Planner → ℕ → ℕ → Type 0

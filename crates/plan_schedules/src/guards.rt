@@ -4,6 +4,7 @@ ghost use Rattle.frame_ast.specs.Accepted.{guard_fits};
 ghost use Rattle.frame_ast.specs.Checked.{IsChecked};
 ghost use Rattle.plan_schedules.specs.Deferring.{IsGuardOf, IsGuardedAt, IsKernelGuardable, MayBeGuarded};
 
+use crate::copies::add_kernel;
 use frame_ast::kernel::Kernel;
 use frame_ast::script::Script;
 use job_base::NoMemory;
@@ -29,8 +30,7 @@ pub(crate) fn guarded_copy_of(
         return Ok(place);
     }
     let copy = make_guarded(alloc, &script.kernels[kernel as usize])?;
-    let place = planner.plan.kernels.len() as u32;
-    planner.plan.kernels.push(copy)?;
+    let place = add_kernel(&mut planner.plan, alloc, copy)?;
     planner.guards[kernel as usize] = Some(place);
     Ok(place)
 }

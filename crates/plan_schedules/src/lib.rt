@@ -9,11 +9,12 @@
 //! after it (`specs/Steps` of plan_state). Why the job does what its schedule says is shown in `plan_laws`.
 //!
 //! *Cost.* A job costs a set of 4,096 bits, and for each argument a look at the safety book and one at each argument
-//! before it. The kernels that jobs run are copied once.
+//! before it. The kernels that jobs run are copied and compiled once (`copies`).
 #![tactic(auto)]
 
 mod accepting;
 mod causes;
+mod copies;
 mod deferred_uses;
 mod deferring;
 mod guards;

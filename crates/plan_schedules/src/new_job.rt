@@ -5,15 +5,12 @@ ghost use Rattle.frame_ast.specs.Accepted.{cut_fits};
 ghost use Rattle.frame_ast.specs.Laws.{AreUpTo};
 ghost use Rattle.job_handle.specs.Books.{count_of};
 ghost use Rattle.job_handle.specs.Sets.{jobs_of};
-ghost use Rattle.plan_schedules.specs.Starting.{AreLater, IsCutBy, IsCopied, IsStarted};
+ghost use Rattle.plan_schedules.specs.Starting.{AreLater, IsCutBy, IsStarted};
 
 use batch_cut::Cut;
-use frame_ast::kernel::Kernel;
-use frame_ast::script::Script;
 use frame_core::{JobPlan, Segment};
 use job_base::{JobId, NoMemory};
 use job_handle::Handle;
-use kernel_trees::copy_kernel;
 use plan_state::Planner;
 use std::alloc::Global;
 use std::mem;
@@ -51,28 +48,6 @@ pub(crate) fn later_jobs(
         at = job.0;
     }
     Ok(later)
-}
-
-/// The place of a kernel's copy among the plan's kernels. The plan gets a copy when it is asked for the first time.
-pub(crate) fn plan_copy_of(
-    planner: &mut Planner,
-    alloc: Global,
-    script: &Script,
-    kernel: u32,
-) -> Result<u32, NoMemory>
-    requires kernel { kernel < vec_len script.now.kernels }
-    requires each { vec_len planner.old.kernels ≡ vec_len script.now.kernels }
-    requires few { vec_len planner.old.plan.kernels < 2 ^ 32 }
-    ensures { IfOk result (λ place. IsCopied script.now planner.old planner.new kernel place) }
-{
-    if let Some(place) = planner.kernels[kernel as usize] {
-        return Ok(place);
-    }
-    let copy = copy_kernel(alloc, &script.kernels[kernel as usize])?;
-    let place = planner.plan.kernels.len() as u32;
-    planner.plan.kernels.push(copy)?;
-    planner.kernels[kernel as usize] = Some(place);
-    Ok(place)
 }
 
 /// The segment at hand is closed and starts this job.

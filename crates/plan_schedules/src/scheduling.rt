@@ -10,7 +10,7 @@ ghost use Rattle.frame_core.specs.declared.plan.Act.TheVariants.{Say};
 ghost use Rattle.auto_deps.specs.Needs.{conflicting_with};
 ghost use Rattle.plan_state.specs.Accesses.{AreThere, HasHandle, IsPushed};
 ghost use Rattle.plan_state.specs.Growth.{is_none};
-ghost use Rattle.plan_schedules.specs.Starting.{AreDeps, IsPlainRun, scheduling};
+ghost use Rattle.plan_schedules.specs.Starting.{AreDeps, IsKernelChecked, IsPlainRun, scheduling};
 ghost use Rattle.frame_ast.specs.Laws.{AreUpTo};
 ghost use Rattle.job_handle.specs.Sets.{jobs_of};
 ghost use Rattle.job_handle.specs.Books.{count_of};
@@ -19,8 +19,9 @@ ghost use Rattle.plan_schedules.specs.Uses.{AreNamesBelow, tags_of};
 
 use crate::accepting::{Run, add_job};
 use crate::causes::{Cause, refusal_of};
+use crate::copies::plan_copy_of;
 use crate::job_binds::job_binds;
-use crate::new_job::{cut_of, plan_copy_of};
+use crate::new_job::cut_of;
 use crate::uses::{NamedUse, uses};
 use auto_deps::automatic;
 use frame_ast::script::{Arg, NewJob, Script};
@@ -112,6 +113,7 @@ fn plain_run(
     requires kernel { kernel < vec_len script.now.kernels }
     requires kernels { vec_len planner.old.kernels ≡ vec_len script.now.kernels }
     requires copies { vec_len planner.old.plan.kernels < 2 ^ 32 }
+    requires checked { IsKernelChecked script.now kernel }
     requires each { (k : Kernel) → slice_get script.now.kernels.items kernel ≡ Some k
         → length args.now ≡ length k.params.items }
     requires args { length args.now ≤ MOST_PARAMS }

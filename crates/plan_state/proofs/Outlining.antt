@@ -15,6 +15,7 @@ module _ (p : Planner) (script : Script) (table : Table) (begun : ScriptState) (
   outline = record {
     plan = record {
       kernels = p.plan.kernels;
+      codes = p.plan.codes;
       names = script.names;
       literals = p.plan.literals;
       jobs = p.plan.jobs;

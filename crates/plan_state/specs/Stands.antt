@@ -31,7 +31,7 @@ use Rattle.safety_handle.specs.Entries.{state_of}
 use Rattle.safety_handle.specs.Checks.{is_current}
 use Rattle.frame_core.specs.declared.plan.JobPlan.{JobPlan}
 use Rattle.frame_core.specs.Names.{pieces_before}
-use Rattle.frame_core.specs.Ordered.{ops_count}
+use Rattle.frame_core.specs.Ordered.{AreCodesOf, ops_count}
 use Rattle.plan_laws.specs.Binds.{bind_of}
 use Rattle.plan_laws.specs.Drafts.{Draft}
 use Rattle.plan_laws.specs.Planned.{Outline, IsPlanned}
@@ -147,7 +147,7 @@ pub record AreFrames (s : ScriptState) : Type 0 where
   pub order : (c d : ℕ) → c ≤ d → d < s.made → (s.making c).frame ≤ (s.making d).frame
   pub past : (c : ℕ) → c < s.made → (s.making c).frame ≤ s.frame
 
--- KERNELS. The plan has copies of those that its jobs have used.
+-- KERNELS. The plan has copies of those that its jobs have used, and the code of each copy.
 
 -- the copy of a kernel, at a place among the plan's
 pub record IsCopy (p : Planner) (g : Setting) (k place : ℕ) : Type 0 where
@@ -174,6 +174,7 @@ pub record AreKernels (p : Planner) (g : Setting) : Type 0 where
   pub copies : (k place : ℕ) → slice_get p.kernels.items k ≡ Some (Some place) → IsCopy p g k place
   pub guards : (k place : ℕ) → slice_get p.guards.items k ≡ Some (Some place) → IsGuardedCopy p g k place
   pub checked : (place : ℕ) (k : Kernel) → slice_get p.plan.kernels.items place ≡ Some k → IsChecked k
+  pub coded : AreCodesOf p.plan.kernels.items p.plan.codes.items
 
 -- NUMBERS: those that are kept, and what keeps them small. So many statements were gone through.
 

@@ -7,6 +7,7 @@ use frame_ast::script::Life;
 use frame_core::{JobPlan, Op, Segment};
 use job_base::{JobId, NoMemory};
 use job_handle::{Handle, JobBook};
+use kernel_bytecode::Code;
 use kernel_exec::Bind;
 use safety_handle::SafetyBook;
 use slot_store::{Slot, SlotStore, Version};
@@ -66,6 +67,8 @@ pub struct Container {
 pub struct Draft {
     /// Copies of the script's kernels that jobs have used so far.
     pub kernels: Vec<Kernel>,
+    /// The code of each copy, at its place.
+    pub codes: Vec<Code>,
     /// What containers were filled with so far, in the order of their use.
     pub literals: Vec<Vec<i64>>,
     pub segments: Vec<Segment>,
@@ -82,6 +85,7 @@ impl Draft {
     /// No plan yet.
     pub fn none(alloc: Global) -> Draft
         ensures kernels { result.kernels.items ≡ [] }
+        ensures codes { result.codes.items ≡ [] }
         ensures literals { result.literals.items ≡ [] }
         ensures segments { result.segments.items ≡ [] }
         ensures jobs { result.jobs.items ≡ [] }
@@ -91,6 +95,7 @@ impl Draft {
     {
         Draft {
             kernels: Vec::new(alloc),
+            codes: Vec::new(alloc),
             literals: Vec::new(alloc),
             segments: Vec::new(alloc),
             jobs: Vec::new(alloc),

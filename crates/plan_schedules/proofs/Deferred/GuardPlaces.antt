@@ -7,19 +7,24 @@ use Rattle.frame_ast.specs.declared.kernel.Kernel.{Kernel}
 use Rattle.frame_ast.specs.declared.script.Script.{Script}
 use Rattle.frame_ast.specs.Checked.{IsChecked}
 use Rattle.frame_ast.specs.Orders.{Setting}
+use Rattle.kernel_bytecode.specs.declared.code.Code.{Code}
+use Rattle.frame_core.specs.Ordered.{AreCodesOf}
 use Rattle.frame_core.proofs.Small.{some_is, none_some, get_below, get_before, get_behind, get_either}
+use Rattle.plan_state.specs.declared.state.Draft.{Draft}
 use Rattle.plan_state.specs.declared.state.Planner.{Planner}
 use Rattle.plan_schedules.specs.Deferring.{IsGuardOf, IsGuardedAnew, IsGuardedAt}
 use Rattle.plan_state.specs.Stands.{AreKernels, IsGuardedCopy}
 use Rattle.plan_state.proofs.Naming.{set_either, set_long}
+use Rattle.plan_schedules.proofs.Coding.{coded_added}
 
 -- nothing but the copies and their places changes
 pub moved : (script : Script) (p middle : Planner) (kernel place : ℕ) → IsGuardedAt script p middle kernel place
-    → middle ≡ record p { guards = middle.guards; plan = record p.plan { kernels = middle.plan.kernels } }
+    → middle ≡ record p { guards = middle.guards; plan = record p.plan { kernels = middle.plan.kernels; codes = middle.plan.codes } }
 moved script p middle kernel place guarded = ⊎_elim
     (λ (l : (slice_get p.guards.items kernel ≡ Some (Some place)) × (middle ≡ p)). l.1
-    ∙ ap (λ (m : Planner). record p { guards = m.guards; plan = record p.plan { kernels = m.plan.kernels } }) (sym l.1))
-    (λ (r : IsGuardedAnew script p middle kernel place). r.rest)
+    ∙ ap (λ (m : Planner). record p { guards = m.guards; plan = record p.plan { kernels = m.plan.kernels; codes = m.plan.codes } }) (sym l.1))
+    (λ (r : IsGuardedAnew script p middle kernel place).
+    r.rest ∙ ap (λ (d : Draft). record p { guards = middle.guards; plan = d }) r.added.rest)
     guarded
 
 module _ (script : Script) (g : Setting) (is_g : g.kernels ≡ script.kernels.items) (p middle : Planner) (kernel place : ℕ) (ks : AreKernels p g)
@@ -30,7 +35,7 @@ module _ (script : Script) (g : Setting) (is_g : g.kernels ≡ script.kernels.it
   grown k it h = ⊎_elim
       (λ (l : (slice_get p.guards.items kernel ≡ Some (Some place)) × (middle ≡ p)). ap (λ (m : Planner). slice_get m.plan.kernels.items k) l.1 ∙ h)
       (λ (r : IsGuardedAnew script p middle kernel place).
-      ap (λ xs. slice_get xs k) r.copies
+      ap (λ xs. slice_get xs k) r.added.kernels
       ∙ get_before p.plan.kernels.items (r.copy ∷ []) k (get_below p.plan.kernels.items k it h) ∙ h)
       guarded
 
@@ -59,8 +64,8 @@ module _ (script : Script) (g : Setting) (is_g : g.kernels ≡ script.kernels.it
       (λ (r : IsGuardedAnew script p middle kernel place). record {
         copy = r.copy;
         here =
-            ap (λ xs. slice_get xs place) r.copies
-            ∙ (let e : place ≡ length p.plan.kernels.items + 0 = (let l = r.last in omega arith) in
+            ap (λ xs. slice_get xs place) r.added.kernels
+            ∙ (let e : place ≡ length p.plan.kernels.items + 0 = (let l = r.added.last in omega arith) in
             ap (slice_get (p.plan.kernels.items ++ r.copy ∷ [])) e)
             ∙ get_behind p.plan.kernels.items (r.copy ∷ []) 0;
         guards = subst (λ (k : Kernel). IsGuardOf k r.copy) (some_is (sym r.is_source ∙ has_source)) r.guards;
@@ -71,7 +76,7 @@ module _ (script : Script) (g : Setting) (is_g : g.kernels ≡ script.kernels.it
   copies_few = ⊎_elim
       (λ (l : (slice_get p.guards.items kernel ≡ Some (Some place)) × (middle ≡ p)).
       let e = ap (λ (m : Planner). length m.plan.kernels.items) l.1 in omega arith)
-      (λ (r : IsGuardedAnew script p middle kernel place). let e = ap length r.copies ∙ length-append p.plan.kernels.items (r.copy ∷ []) in omega arith)
+      (λ (r : IsGuardedAnew script p middle kernel place). let e = ap length r.added.kernels ∙ length-append p.plan.kernels.items (r.copy ∷ []) in omega arith)
       guarded
 
   -- what a whole plan has after them, it has after those so far
@@ -82,14 +87,16 @@ module _ (script : Script) (g : Setting) (is_g : g.kernels ≡ script.kernels.it
       (r.0, r.1 ∙ ap (λ (m : Planner). m.plan.kernels.items ++ r.0) l.1))
       (λ (a : IsGuardedAnew script p middle kernel place). (
         a.copy ∷ r.0,
-        r.1 ∙ ap (λ xs. xs ++ r.0) a.copies
+        r.1 ∙ ap (λ xs. xs ++ r.0) a.added.kernels
             ∙ append_assoc p.plan.kernels.items (a.copy ∷ []) r.0,
       ))
       guarded
 
   -- of a planner that has them
-  pub kernels_stand : (q : Planner) → q.guards ≡ middle.guards → q.plan.kernels ≡ middle.plan.kernels → q.kernels ≡ p.kernels → AreKernels q g
-  kernels_stand q guards copies kernels = record {
+  pub kernels_stand : (q : Planner) → q.guards ≡ middle.guards → q.plan.kernels ≡ middle.plan.kernels → q.plan.codes ≡ middle.plan.codes
+      → q.kernels ≡ p.kernels
+      → AreKernels q g
+  kernels_stand q guards copies codes kernels = record {
     each = ap (λ (v : Vec (Option ℕ) Global). length v.items) kernels ∙ ks.each;
     each_guard = ap (λ (v : Vec (Option ℕ) Global). length v.items) guards ∙ long ∙ ks.each_guard;
     copies = λ k at h.
@@ -97,6 +104,8 @@ module _ (script : Script) (g : Setting) (is_g : g.kernels ≡ script.kernels.it
         record { old = c.old; new = c.new; is_old = c.is_old; is_new = there at c.new (grown at c.new c.is_new); same = c.same };
     guards = λ k at h. guard_at k at (ap (λ (v : Vec (Option ℕ) Global). slice_get v.items k) (sym guards) ∙ h);
     checked = λ at k h. all_checked at k (ap (λ (v : Vec Kernel Global). slice_get v.items at) (sym copies) ∙ h);
+    coded = subst (λ (v : Vec Kernel Global). AreCodesOf v.items q.plan.codes.items) (sym copies)
+        (subst (λ (v : Vec Code Global). AreCodesOf middle.plan.kernels.items v.items) (sym codes) all_coded);
   }
     where
       there : (at : ℕ) (it : Kernel) → slice_get middle.plan.kernels.items at ≡ Some it → slice_get q.plan.kernels.items at ≡ Some it
@@ -142,6 +151,13 @@ module _ (script : Script) (g : Setting) (is_g : g.kernels ≡ script.kernels.it
           (set_either p.guards.items kernel (Some place) k (Some at) (ap (λ xs. slice_get xs k) (sym r.places) ∙ h)))
           guarded
 
+      all_coded : AreCodesOf middle.plan.kernels.items middle.plan.codes.items
+      all_coded = ⊎_elim
+          (λ (l : (slice_get p.guards.items kernel ≡ Some (Some place)) × (middle ≡ p)).
+          subst (λ (m : Planner). AreCodesOf m.plan.kernels.items m.plan.codes.items) (sym l.1) ks.coded)
+          (λ (r : IsGuardedAnew script p middle kernel place). coded_added p.plan middle.plan r.copy place r.added ks.coded)
+          guarded
+
       all_checked : (at : ℕ) (k : Kernel) → slice_get middle.plan.kernels.items at ≡ Some k → IsChecked k
       all_checked at k h = ⊎_elim
           (λ (l : (slice_get p.guards.items kernel ≡ Some (Some place)) × (middle ≡ p)). ks.checked at k
@@ -149,7 +165,7 @@ module _ (script : Script) (g : Setting) (is_g : g.kernels ≡ script.kernels.it
           (λ (r : IsGuardedAnew script p middle kernel place). ⊎_elim
           (λ e. ks.checked at k e.1)
           (λ e. last r e.0 e.2)
-          (get_either p.plan.kernels.items (r.copy ∷ []) at k (ap (λ xs. slice_get xs at) (sym r.copies) ∙ h)))
+          (get_either p.plan.kernels.items (r.copy ∷ []) at k (ap (λ xs. slice_get xs at) (sym r.added.kernels) ∙ h)))
           guarded
         where
           last : (r : IsGuardedAnew script p middle kernel place) (i : ℕ) → slice_get (r.copy ∷ []) i ≡ Some k → IsChecked k

@@ -1,39 +1,27 @@
 -- The list after `defer`: its words, and the word that holds its length.
-use Rattle.std.proofs.Common.{◌≡◌, ◌⊎◌, ⊎_elim, ℕ, ◌+◌, ◌<◌, ◌≤◌, Bool, true, List, [], ◌∷◌, length, get_or, Option, Some, None, refl, sym, ap, subst, ◌∙◌, arith}
+use Rattle.std.proofs.Common.{◌≡◌, ℕ, ◌<◌, ◌≤◌, List, length, get_or, Option, Some, None, refl, sym, ap, subst, ◌∙◌, arith}
 use Rattle.std.specs.Prelude.{slice_get}
 use Rattle.job_base.specs.declared.limits.TheConstants.{MOST_INDEXES}
-use Rattle.frame_ast.specs.declared.kernel.Param.{Param}
-use Rattle.frame_ast.specs.declared.kernel.ParamKind.{ParamKind}
-use Rattle.frame_ast.specs.declared.kernel.ParamKind.TheVariants.{Int as IntKind, Array as ArrayKind, List as ListKind, Ref as RefKind, Map as MapKind, Stream as StreamKind}
 use Rattle.frame_ast.specs.declared.name_kind.NameKind.TheVariants as kind
-use Rattle.frame_ast.specs.declared.script.Arg.{Arg}
-use Rattle.frame_ast.specs.declared.script.Arg.TheVariants.{Name, Number}
-use Rattle.frame_ast.specs.Accepted.{is_deferred}
 use Rattle.frame_ast.specs.Contents.{Contents, Cells as Elements, Single, Items, Pairs, Entries}
-use Rattle.frame_ast.specs.Fitting.{IsWhole, FitsKind, ArgFits, ArgsFit}
+use Rattle.frame_ast.specs.Fitting.{IsWhole}
 use Rattle.frame_ast.specs.Kinds.{kind_of}
 use Rattle.frame_ast.specs.Orders.{Setting}
-use Rattle.frame_ast.specs.Schedules.{width_at, widths_from}
 use Rattle.frame_ast.specs.States as states
 use Rattle.frame_ast.specs.States.{ScriptState, container_at, container_of, contents_at}
 use Rattle.job_handle.specs.declared.handle.Handle.{Handle}
 use Rattle.kernel_exec.specs.declared.binds.Bind.TheVariants.{List as WholeList}
 use Rattle.native_list.specs.declared.ListAt.{ListAt}
-use Rattle.plan_laws.specs.Binds.{bind_of, bind_for, bind_as, array_for, start_at, bind_by, binds_by}
-use Rattle.plan_laws.specs.Planned.{Outline}
-use Rattle.plan_laws.specs.Printing.{FitsContents, IsUsable}
+use Rattle.plan_laws.specs.Binds.{bind_of}
 use Rattle.defer_laws.specs.Deferring.{capacity_of}
 use Rattle.plan_state.specs.declared.state.Value.{Value}
 use Rattle.plan_state.specs.declared.state.Value.TheVariants.{Dead, Whole, Slice, View, Jobs as Handles}
 use Rattle.plan_state.specs.declared.state.Planner.{Planner}
 use Rattle.plan_state.specs.Accesses.{bind_from, bind_by as bind_of_container}
 use Rattle.plan_schedules.specs.Deferring.{IsListBind, IsListName, IsListAt}
-use Rattle.plan_schedules.specs.JobBinds.{as_array, as_kind, bind_of_value, job_bind, job_binds}
-use Rattle.plan_state.specs.Stands.{jobs_at, value_for, IsThere, Agrees, Stands}
-use Rattle.plan_schedules.specs.Uses.{IsNameBelow}
-use Rattle.plan_state.proofs.Binding.{binds_at}
+use Rattle.plan_schedules.specs.JobBinds.{bind_of_value}
+use Rattle.plan_state.specs.Stands.{jobs_at, value_for, IsThere, Stands}
 use Rattle.plan_schedules.proofs.Meaning.{some_at}
-use Rattle.plan_schedules.proofs.Texts.{EachBelow}
 
 module _ (p : Planner) (g : Setting) (begun : ScriptState) (n : ℕ) (s : ScriptState) (found : List ℕ) (st : Stands p g begun n s found) where
   -- the words of a whole list

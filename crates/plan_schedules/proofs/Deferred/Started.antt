@@ -1,5 +1,5 @@
 -- An accepted schedule with `defer`: its job runs the guarded kernel, and the planner goes on with it.
-use Rattle.std.proofs.Common.{◌≡◌, ℕ, ◌+◌, ◌<◌, ◌≤◌, Bool, true, false, ◌&&◌, List, [], ◌∷◌, ◌++◌, length, Some, None, refl, sym, ap, subst, ◌∙◌, arith}
+use Rattle.std.proofs.Common.{◌≡◌, ℕ, ◌<◌, ◌≤◌, false, List, [], ◌∷◌, ◌++◌, length, Some, None, refl, sym, ap, subst, ◌∙◌, arith}
 use Rattle.std.specs.Prelude.{Box, if◌then◌else◌}
 use Rattle.std.specs.declared.alloc.Global.{Global}
 use Rattle.std.proofs.lemmas.Bool.{and_parts}
@@ -180,17 +180,17 @@ module _ (script : Script) (table : Table) (begun : ScriptState) (n : ℕ) (foun
       copy : places.HasGuard script g refl p mid asked.kernel run.kernel st.kernels r.guarded r.source r.is_source
       copy = places.has_guard script g refl p mid asked.kernel run.kernel st.kernels r.guarded r.source r.is_source
 
-      place : HasPlace p g p.kernels mid.guards mid.plan.kernels run.kernel copy.copy
+      place : HasPlace p g p.kernels mid.guards mid.plan.kernels mid.plan.codes run.kernel copy.copy
       place = record {
         here = copy.here;
         few = places.copies_few script g refl p mid asked.kernel run.kernel st.kernels r.guarded r.source r.is_source;
         later = places.kernels_later script g refl p mid asked.kernel run.kernel st.kernels r.guarded r.source r.is_source;
-        stand = λ q kernels guards copies.
-            places.kernels_stand script g refl p mid asked.kernel run.kernel st.kernels r.guarded r.source r.is_source q guards copies kernels;
+        stand = λ q kernels guards copies codes.
+            places.kernels_stand script g refl p mid asked.kernel run.kernel st.kernels r.guarded r.source r.is_source q guards copies codes kernels;
       }
 
-      done : IsScheduled (record p { kernels = p.kernels; guards = mid.guards; plan = record p.plan { kernels = mid.plan.kernels } }) new asked.handle run
-          all_noted deps
+      done : IsScheduled (record p { kernels = p.kernels; guards = mid.guards; plan = record p.plan { kernels = mid.plan.kernels; codes = mid.plan.codes } })
+          new asked.handle run all_noted deps
       done = subst (λ m. IsScheduled m new asked.handle run all_noted deps)
           (places.moved script p mid asked.kernel run.kernel r.guarded) d
 
@@ -227,17 +227,17 @@ module _ (script : Script) (table : Table) (begun : ScriptState) (n : ℕ) (foun
       }
 
       abbrev q : Planner
-      q = started.as_q script table begun n found line home here step p st none named all_noted ng noted p.kernels mid.guards mid.plan.kernels copy.copy run
-          place new deps deps_are done
+      q = started.as_q script table begun n found line home here step p st none named all_noted ng noted p.kernels mid.guards mid.plan.kernels
+          mid.plan.codes copy.copy run place new deps deps_are done
 
       back : (y : Outline) → Agrees q g begun found y → Agrees p g begun found y
-      back = started.agrees script table begun n found line home here step p st none named all_noted ng noted p.kernels mid.guards mid.plan.kernels copy.copy
-          run place new deps deps_are done
+      back = started.agrees script table begun n found line home here step p st none named all_noted ng noted p.kernels mid.guards mid.plan.kernels
+          mid.plan.codes copy.copy run place new deps deps_are done
 
       planned_job : (y : Outline) → Agrees q g begun found y → IsPlannedJob y (draft_of p) o (guarded_kernel y.starts s o list r.source copy.copy) waited
           done.job
       planned_job y a = started.job_as script table begun n found line home here step p st none named all_noted ng noted p.kernels mid.guards
-          mid.plan.kernels copy.copy run place new deps deps_are done y a (Some (r.at.cap, batch)) r.cut_by
+          mid.plan.kernels mid.plan.codes copy.copy run place new deps deps_are done y a (Some (r.at.cap, batch)) r.cut_by
           (argument_binds y.starts s o r.source ++ length_bind y.starts s list ∷ []) (capacity_of (contents_at s list)) copy.guards.checked
           (binds_are y (back y a)) indexes_are
           (λ h. absurd (not_both copy.guards.guarded.parallel h))
@@ -259,10 +259,10 @@ module _ (script : Script) (table : Table) (begun : ScriptState) (n : ℕ) (foun
           (guarded_kernels_stand_in y g s o (list, batch) r.source copy.copy (draft_of p) done.job a.small (st.planned y (back y a)) accepted_as refl
           r.is_source guards (planned_job y a))
           (started.starts_next script table begun n found line home here step p st none named all_noted ng noted p.kernels mid.guards mid.plan.kernels
-          copy.copy run place new deps deps_are done)
+          mid.plan.codes copy.copy run place new deps deps_are done)
           (started.closes script table begun n found line home here step p st none named all_noted ng noted p.kernels mid.guards mid.plan.kernels
-          copy.copy run place new deps deps_are done)
+          mid.plan.codes copy.copy run place new deps deps_are done)
 
       pub goes_on : HasStepped script table begun n found p new x
       goes_on = started.goes_on script table begun n found line home here step p st none named all_noted ng noted p.kernels mid.guards mid.plan.kernels
-          copy.copy run place new deps deps_are done is_run plans
+          mid.plan.codes copy.copy run place new deps deps_are done is_run plans

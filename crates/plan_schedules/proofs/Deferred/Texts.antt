@@ -1,23 +1,18 @@
 -- What the text of an accepted schedule with `defer` gives: its kernel has a guarded copy, its list and its names fit.
-use Rattle.std.proofs.Common.{◌≡◌, ℕ, zero, suc, ◌<◌, ◌≤◌, Bool, true, false, ◌&&◌, List, [], ◌∷◌, length, get_or, Option, Some, None, refl, ap, arith}
+use Rattle.std.proofs.Common.{◌≡◌, ℕ, ◌<◌, ◌≤◌, Bool, true, false, ◌&&◌, [], ◌∷◌, length, get_or, Option, Some, None, refl, arith}
 use Rattle.std.specs.Prelude.{Box, slice_get, is_some, nat_le}
-use Rattle.std.specs.List.{list_all}
 use Rattle.std.specs.declared.alloc.Global.{Global}
 use Rattle.std.proofs.lemmas.Bool.{and_parts, leb-true}
 use Rattle.job_base.specs.declared.limits.TheConstants.{MOST_PARAMS, MOST_INDEXES}
 use Rattle.frame_ast.specs.declared.kernel.Kernel.{Kernel}
-use Rattle.frame_ast.specs.declared.kernel.Param.{Param}
-use Rattle.frame_ast.specs.declared.script.Arg.{Arg}
-use Rattle.frame_ast.specs.declared.script.Arg.TheVariants.{Name, Number}
 use Rattle.frame_ast.specs.declared.script.Order.TheVariants.{Schedule as Scheduled}
 use Rattle.frame_ast.specs.declared.script.Script.{Script}
 use Rattle.frame_ast.specs.declared.script.Statement.{Statement}
 use Rattle.frame_ast.specs.declared.name_kind.NameKind.TheVariants as kind
-use Rattle.frame_ast.specs.Accepted.{Names, uses, makes, all_used, up_to, arg_fits, args_fit, one_of, is_deferred, batch_fits, guard_fits, defer_fits, schedule_fits, kinds_for}
+use Rattle.frame_ast.specs.Accepted.{Names, uses, makes, all_used, up_to, args_fit, one_of, batch_fits, guard_fits, defer_fits, schedule_fits}
 use Rattle.frame_ast.specs.Orders.{Table, setting}
 use Rattle.plan_schedules.specs.Deferring.{MayBeGuarded, by_list}
 use Rattle.plan_state.specs.Steps.{IsStep}
-use Rattle.plan_schedules.specs.Uses.{IsNameBelow}
 use Rattle.plan_state.proofs.Reaching.{fits_at, used_below, made_below}
 use Rattle.plan_schedules.proofs.Texts.{EachBelow, args_below, all_below_names}
 use Rattle.frame_ast.specs.declared.script.NewJob.{NewJob}

@@ -129,6 +129,7 @@ module _ (p : Planner) (g : Setting) (begun : ScriptState) (n : ℕ) (s : Script
           copies = λ k place h. copy_kept k place (st.kernels.copies k place h);
           guards = λ k place h. guard_kept k place (st.kernels.guards k place h);
           checked = st.kernels.checked;
+          coded = st.kernels.coded;
         };
         planned = λ x a. planned x (record {
           begins = a.begins;

@@ -387,6 +387,7 @@ module _ (p : Planner) (g : Setting) (begun : ScriptState) (n : ℕ) (s : Script
     copies = λ j place h. copy_kept j place (st.kernels.copies j place h);
     guards = λ j place h. guard_kept j place (st.kernels.guards j place h);
     checked = st.kernels.checked;
+    coded = st.kernels.coded;
   }
 
   numbers_stand : AreNumbers q begun (suc n) w

@@ -50,6 +50,7 @@ returns-clause-plan c script accepted names =
     record {
       cells = c.peak-cells.ensures;
       kernels = ap (λ (w : Draft). w.kernels.items) v;
+      codes = ap (λ (w : Draft). w.codes.items) v;
       jobs = ap (λ (w : Draft). w.jobs.items) v;
       spans = given_finished p.plan.segments.items _ last final p.plan.ops.items segments (ap (λ (w : Draft). w.ops.items) v) c.new.ensures.items;
       waits = waits_finished p.plan.segments.items _ last final p.plan.waits.items segments (ap (λ (w : Draft). w.waits.items) v)
@@ -60,6 +61,7 @@ returns-clause-plan c script accepted names =
           is_done script table p begun n found st accepted inside _ last final
           names
           (ap (λ (w : Draft). w.kernels.items) v)
+          (ap (λ (w : Draft). w.codes.items) v)
           (ap (λ (w : Draft). w.literals.items) v)
           (ap (λ (w : Draft). w.jobs.items) v)
           c.peak-cells.ensures

@@ -29,6 +29,7 @@ returns c table =
       kernels = c.in_ok-no_copies.ensures ∙ ap (λ n. replicate n None) kernels;
       guards = c.in_ok-no_copies-2.ensures ∙ ap (λ n. replicate n None) guards;
       plan_kernels = c.none.ensures.kernels;
+      plan_codes = c.none.ensures.codes;
       literals = c.none.ensures.literals;
       segments = c.none.ensures.segments;
       plan_jobs = c.none.ensures.jobs;

@@ -1,4 +1,4 @@
-use Rattle.std.proofs.Common.{◌≡◌, ◌≢◌, ◌*◌, ◌<◌, ◌≤◌, ◌^◌, refl, sym, ap, subst, ◌∙◌}
+use Rattle.std.proofs.Common.{◌≢◌, ◌*◌, ◌<◌, ◌≤◌, ◌^◌, refl, sym, ap, subst, ◌∙◌}
 use Rattle.std.specs.Prelude.{vec_len}
 use Rattle.job_base.specs.declared.limits.TheConstants.{MOST_JOBS, MOST_PIECES}
 use Rattle.frame_ast.specs.declared.kernel.Kernel.{Kernel}

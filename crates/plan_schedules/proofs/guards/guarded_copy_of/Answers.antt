@@ -1,4 +1,4 @@
-use Rattle.std.proofs.Common.{inr, refl, arith}
+use Rattle.std.proofs.Common.{inr, refl}
 use Rattle.plan_state.proofs.Accessing.{read_some}
 use Rattle.plan_schedules.proofs.guards.guarded_copy_of.Goals as goal
 
@@ -8,8 +8,7 @@ returns c = inr (record {
   copy = c.in_ok-copy.copy;
   is_source = read_some c.args.script.now.kernels c.args.kernel c.index-2.result.now c.requires.kernel c.index-2.ensures;
   guards = c.in_ok-copy.ensures;
-  last = (let e = c.len-place.ensures in let ok = c.args.planner.now.plan.kernels.ok.0 in omega arith);
+  added = c.in_ok-place.ensures;
   places = refl;
-  copies = c.in_ok-push.ensures.items;
   rest = refl;
 })

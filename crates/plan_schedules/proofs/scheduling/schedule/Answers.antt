@@ -87,6 +87,9 @@ plain_run-requires-clause-copies c =
     let r = c.requires.ready in
     ready.copies_low c.args.script.now c.args.planner.now c.args.line r.0 c.args.job.now r.1.table r.1.begun r.1.n r.1.found r.1.step r.1.stands
 
+pub plain_run-requires-clause-checked : goal.plain_run-requires-clause-checked
+plain_run-requires-clause-checked c = c.requires.ready.1.step.accepted.kernels c.args.job.now.kernel
+
 pub add_job-requires-clause-handle : goal.add_job-requires-clause-handle
 add_job-requires-clause-handle c =
     let r = c.requires.ready in

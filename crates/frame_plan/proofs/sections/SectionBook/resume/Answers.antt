@@ -31,8 +31,9 @@ run-requires-clause-stands c =
     (let len = c.args.script.now.statements.ok.0 in omega arith) c.index-statement.ensures in (
       state_at c.args.script.now t r.0,
       r.3.found,
-      standing_on c.args.script.now t c.args.self.now r.0 r.1 r.2 r.3 c.args.kernels.items c.begin.new.planner c.args.cells r.5 c.in_ok-begin.ensures.resumed
-          c.requires.kernels c.args.held c.index-statement.result.now c.passed_after-self.result here r.4 c.passed_after-self.ensures,
+      standing_on c.args.script.now t c.args.self.now r.0 r.1 r.2 r.3 c.args.kernels.items c.args.codes.items c.begin.new.planner c.args.cells r.5
+          c.in_ok-begin.ensures.resumed c.requires.kernels c.args.held c.index-statement.result.now c.passed_after-self.result here r.4
+          c.passed_after-self.ensures,
     )
 
 pub memory_fault-requires : goal.memory_fault-requires
@@ -48,8 +49,8 @@ returns-in-Ok c = record {
       let at = b.at in
       let here = read_some c.args.script.now.statements c.args.self.now.at c.index-statement.result.now
       (let len = c.args.script.now.statements.ok.0 in omega arith) c.index-statement.ensures in
-      let stands = standing_on c.args.script.now t c.args.self.now from carried len b c.args.kernels.items c.begin.new.planner c.args.cells left
-      c.in_ok-begin.ensures.resumed c.requires.kernels c.args.held c.index-statement.result.now c.passed_after-self.result here out
+      let stands = standing_on c.args.script.now t c.args.self.now from carried len b c.args.kernels.items c.args.codes.items c.begin.new.planner c.args.cells
+      left c.in_ok-begin.ensures.resumed c.requires.kernels c.args.held c.index-statement.result.now c.passed_after-self.result here out
       c.passed_after-self.ensures in
       let ran = c.in-Ok.ensures.ran (state_at c.args.script.now t from) b.found stands in
       let rising = ran.rising in
@@ -60,7 +61,7 @@ returns-in-Ok c = record {
         stands = ran.gone.stands;
         grown = λ starts same.
             ran.gone.grown from starts (omega arith) refl same
-            (growing_on c.args.script.now t c.args.self.now from carried len b c.args.kernels.items c.begin.new.planner c.args.cells left
+            (growing_on c.args.script.now t c.args.self.now from carried len b c.args.kernels.items c.args.codes.items c.begin.new.planner c.args.cells left
             c.in_ok-begin.ensures.resumed c.args.held c.index-statement.result.now c.passed_after-self.result here out
             starts (fewer starts b.found ran.gone.more same));
         rising = omega arith;

@@ -6,10 +6,9 @@ ghost use Rattle.frame_core.specs.Effects.{touches, piece_cells};
 ghost use Rattle.frame_core.specs.Rights.{MayReadIn, MayWriteIn};
 ghost use Rattle.frame_core.specs.Ordered.{IsWellOrderedPlan};
 
-use crate::notes::write_notes;
-use crate::plan::Plan;
+use frame_core::{Plan, write_notes};
 use job_base::Mem;
-use kernel_exec::{Scratch, execute_indexes};
+use kernel_machine::{Scratch, execute_indexes};
 
 /// Runs piece i of the job at place j, both from 0: its indexes in order, whether the earlier ones trapped or not. How
 /// many trapped, and the first of them, stand in the piece's own words afterwards.
@@ -24,7 +23,8 @@ pub fn run_piece<M: Mem>(plan: &Plan, j: u32, i: u32, scratch: &mut Scratch, mem
 {
     let job = &plan.jobs[j as usize];
     let kernel = &plan.kernels[job.kernel as usize];
+    let code = &plan.codes[job.kernel as usize];
     let span = job.indexes(i);
-    let notes = execute_indexes(kernel, &job.binds, &span, scratch, mem);
+    let notes = execute_indexes(kernel, code, &job.binds, &span, scratch, mem);
     write_notes(plan.cells + 3 * (job.first.0 + i), &notes, mem);
 }
