@@ -1,6 +1,6 @@
 // Scripts at the limits of what is planned.
 
-use frame_plan::{PlanFault, SectionBook, names_of};
+use frame_plan::{Copies, PlanFault, SectionBook};
 use frame_rows::script_of;
 use job_base::FlatMem;
 use std::alloc::Global;
@@ -16,8 +16,8 @@ fn fault_of(alloc: Global, lines: &str) -> Result<Option<PlanFault>, Fail> {
         Ok(book) => book,
         Err(fault) => return Ok(Some(fault)),
     };
-    let names = names_of(alloc, &script)?;
-    book.next(alloc, &script, &table, None, cells, names, Vec::new(alloc))?;
+    let copies = Copies::at_start(alloc, &script)?;
+    book.next(alloc, &script, &table, None, cells, copies)?;
     Ok(None)
 }
 

@@ -7,9 +7,8 @@ ghost use Rattle.plan_statements.specs.Tables.{columns_of};
 ghost use Rattle.frame_rows.specs.Between.{IsBetween};
 
 use crate::boards::run_plan;
-use frame_ast::kernel::Kernel;
 use frame_ast::script::Script;
-use frame_plan::{Section, SectionBook, Test, names_of};
+use frame_plan::{Copies, Section, SectionBook, Test};
 use frame_rows::script_of;
 use job_base::{FlatMem, Mem, MemSink, Word};
 use std::alloc::Global;
@@ -91,18 +90,17 @@ fn go_on<R: Threads + Wait + Sync>(
     book: &mut SectionBook,
     held: &mut Option<bool>,
     cells: &mut FlatMem,
-    kernels: &mut Vec<Kernel>,
+    copies: &mut Copies,
     told: &mut String,
     sink: &mut MemSink,
 ) -> Result<bool, Fail>
-    requires here { IsBetween script.now (columns_of table.now) book.old held.old cells.old kernels.old.items }
+    requires here { IsBetween script.now (columns_of table.now) book.old held.old cells.old copies.old }
     ensures next { IfOk result (λ more. more ≡ true
-        → IsBetween script.now (columns_of table.now) book.new held.new cells.new kernels.new.items) }
+        → IsBetween script.now (columns_of table.now) book.new held.new cells.new copies.new) }
 {
-    let names = names_of(alloc, script)?;
     let left = mem::replace(cells, FlatMem::of(Vec::new(alloc)));
-    let copies = mem::replace(kernels, Vec::new(alloc));
-    let section = book.next(alloc, script, table, *held, left, names, copies)?;
+    let taken = mem::replace(copies, Copies::none(alloc));
+    let section = book.next(alloc, script, table, *held, left, taken)?;
     write!(told, "{} jobs before", section.jobs_before)?;
     *cells = run_plan(rt, alloc, &section.plan, 2, sink)?;
     let Section { plan, test, .. } = section;
@@ -111,7 +109,11 @@ fn go_on<R: Threads + Wait + Sync>(
     };
     let answer = holds(&test, cells, plan.words)?;
     *held = Some(answer);
-    *kernels = plan.kernels;
+    *copies = Copies {
+        names: plan.names,
+        kernels: plan.kernels,
+        codes: plan.codes,
+    };
     write!(
         told,
         ", {:?} {} of word {}: {answer}; ",
@@ -134,7 +136,7 @@ fn outcomes_with<R: Threads + Wait + Sync>(
     let mut book = SectionBook::new(alloc, script, table)?;
     let mut held = None;
     let mut cells = FlatMem::new(alloc, 0)?;
-    let mut kernels = Vec::new(alloc);
+    let mut copies = Copies::at_start(alloc, script)?;
     for _ in 0..8 {
         if !go_on(
             rt,
@@ -144,7 +146,7 @@ fn outcomes_with<R: Threads + Wait + Sync>(
             &mut book,
             &mut held,
             &mut cells,
-            &mut kernels,
+            &mut copies,
             &mut told,
             sink,
         )? {

@@ -12,6 +12,7 @@ ghost use Rattle.frame_rows.specs.Between.{AreCellsOf};
 ghost use Rattle.frame_rows.specs.NewSeats.{AreNewSeats};
 
 use frame_core::{Board, Plan};
+use frame_plan::Section;
 use frame_print::Outgoing;
 use frame_rows::texts::TOTAL;
 use frame_rows::{section_in, section_of};
@@ -261,11 +262,18 @@ fn by_turns(rt: HostRuntime) -> Result<(), Fail> {
     Ok(())
 }
 
+// The first section of a whole text, without a table.
+fn section_by(alloc: Global, text: &str) -> Result<Section, Fail>
+    ensures { IfOk result (λ section. IsWellOrderedPlan section.plan) }
+{
+    section_in(alloc, text, &Table::none(alloc))
+}
+
 // Pieces of two jobs by four threads, of which the script's own waits for the second.
 #[test]
 fn many_pieces(rt: HostRuntime) -> Result<(), Fail> {
     let alloc = rt.alloc();
-    let section = section_in(alloc, MANY, &Table::none(alloc))?;
+    let section = section_by(alloc, MANY)?;
     for _ in 0..20 {
         let mut sink = MemSink::new(alloc, 10_000, 10_000, Vec::new(alloc))?;
         run_turns(&rt, alloc, &section.plan, 4, &mut sink)?;

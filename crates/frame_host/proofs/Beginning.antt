@@ -68,7 +68,7 @@ begun frame accepted none written was = record {
 pub begins : (frame : Frame) (script : Script) → tree_in frame ≡ script → IsAccepted script
     → ((carried : Cells) (len : ℕ) → IsAt frame.book script (table_in frame) 0 carried len)
     → frame.progress.held ≡ None → frame.progress.out ≡ [] → frame.progress.failed ≡ false
-    → ((s : ScriptState) → s.traps ≡ [] → s.refused ≡ 0 → IsReportAt s frame.progress.report) → AreNamesOf script frame.progress.names.items
+    → ((s : ScriptState) → s.traps ≡ [] → s.refused ≡ 0 → IsReportAt s frame.progress.report) → AreNamesOf script frame.progress.copies.names.items
     → frame.text.bytes.items ≡ [] → IsBetween frame
 begins frame script is accepted at held out failed report names none =
     begun frame (subst IsAccepted (sym is) accepted) none failed

@@ -21,7 +21,7 @@ use crate::writing::{copy_of, run_on, write_back};
 use frame_core::{CoreFault, Event, Piece, Plan, Touch, touches};
 use job_base::limits::MOST_WORKERS;
 use job_base::{NoMemory, PieceId, Word};
-use kernel_exec::Scratch;
+use kernel_machine::Scratch;
 use std::alloc::Global;
 
 fn no_leases(alloc: Global) -> Result<Vec<Option<CoreLease>>, NoMemory>

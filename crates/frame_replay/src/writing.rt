@@ -10,9 +10,10 @@ ghost use Rattle.frame_core.specs.Rights.{MayReadIn, MayWriteIn};
 ghost use Rattle.frame_core.specs.Know.{piece_count};
 ghost use Rattle.frame_core.specs.Ordered.{IsWellOrderedPlan};
 
-use frame_core::{Piece, Plan, Touch, apply_op, run_piece};
+use frame_core::{Piece, Plan, Touch, apply_op};
 use job_base::{FlatMem, Mem, NoMemory, PieceId, Word};
-use kernel_exec::Scratch;
+use kernel_machine::Scratch;
+use piece_run::run_piece;
 use std::alloc::Global;
 
 pub(crate) fn copy_of(alloc: Global, cells: &[i64]) -> Result<FlatMem, NoMemory>

@@ -3,7 +3,7 @@ ghost use Rattle.std.specs.Prelude.{IfOk};
 ghost use Rattle.frame_ast.specs.Accepted.{IsAccepted};
 ghost use Rattle.frame_core.specs.Ordered.{IsWellOrderedPlan};
 
-use frame_plan::{Section, SectionBook, names_of};
+use frame_plan::{Copies, Section, SectionBook};
 use frame_script::{Script, parse_script};
 use job_base::FlatMem;
 use job_base::limits::MOST_SCRIPT_BYTES;
@@ -59,8 +59,8 @@ pub fn section_in(alloc: Global, text: &str, table: &Table) -> Result<Section, F
     let script = script_in(alloc, text)?;
     let cells = FlatMem::new(alloc, 0)?;
     let mut book = SectionBook::new(alloc, &script, table)?;
-    let names = names_of(alloc, &script)?;
-    Ok(book.next(alloc, &script, table, None, cells, names, Vec::new(alloc))?)
+    let copies = Copies::at_start(alloc, &script)?;
+    Ok(book.next(alloc, &script, table, None, cells, copies)?)
 }
 
 /// That of the script that has the worked kernels and then these lines.

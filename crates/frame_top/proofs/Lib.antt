@@ -13,3 +13,4 @@ pub mod Settling
 mod Sources
 pub mod Telling
 mod Whens
+pub mod Shared

@@ -52,7 +52,7 @@ module _ {S : Type 0} (taken : S → Option (List ℕ)) (faults : S → ℕ) whe
 
 module _ {S : Type 0} (taken : S → Option (List ℕ)) (faults : S → ℕ) (script : Script) (table : Table) where
   pub at_first : (book : SectionBook) (p : Progress) (sink : S) → ((carried : Cells) (len : ℕ) → IsAt book script table 0 carried len)
-      → p.held ≡ None → p.out ≡ [] → p.failed ≡ false → IsReportAt (state_at script table 0) p.report → AreNamesOf script p.names.items
+      → p.held ≡ None → p.out ≡ [] → p.failed ≡ false → IsReportAt (state_at script table 0) p.report → AreNamesOf script p.copies.names.items
       → InSections taken faults script table 0 book p sink sink
   at_first book p sink at held out failed report names =
       let none = report.traps.number in

@@ -1,13 +1,11 @@
 -- One section more.
 use Rattle.std.proofs.Common.{◌≡◌, refl, sym, ap, ◌∙◌, subst, ℕ, zero, suc, ◌+◌, ◌*◌, ◌<◌, ◌≤◌, ◌^◌, Bool, true, false, ℤ, List, [], ◌∷◌, ◌++◌, length, map, Option, None, Some, IsSome, Result, Ok, Err, length-append, arith}
-use Rattle.std.specs.Prelude.{slice_get, IfOk, Vec, String}
-use Rattle.std.specs.declared.alloc.Global.{Global}
+use Rattle.std.specs.Prelude.{slice_get, IfOk}
 use Rattle.std.proofs.lemmas.Bool.{leb-true}
 use Rattle.std.proofs.lemmas.List.{length-map}
 use Rattle.job_base.specs.declared.limits.TheConstants.{MOST_INDEXES, MOST_STATEMENTS, MOST_TESTS}
 use Rattle.job_base.specs.Cells.{cells_of}
 use Rattle.job_base.specs.declared.NoMemory.{NoMemory}
-use Rattle.frame_ast.specs.declared.kernel.Kernel.{Kernel}
 use Rattle.frame_ast.specs.declared.script.Order.{Order}
 use Rattle.frame_ast.specs.declared.script.Order.TheVariants.{Array, Column, List as NewList, Reference, Map, Stream, Slice, View, Copy, Set, Add, Put, Remove, Clear, SetCapacity, Schedule, Combine, Complete, CompleteAuto, Dispose, DisposeAuto, Print, Flush, Frame, When}
 use Rattle.frame_ast.specs.declared.script.Script.{Script}
@@ -25,6 +23,7 @@ use Rattle.plan_run.specs.Runs.{IsReport}
 use Rattle.plan_run.specs.Says.{SaysTo}
 use Rattle.steal_pool.specs.Sections.{shifted, ReportsAreWithin}
 use Rattle.plan_laws.specs.Planned.{renumbered}
+use Rattle.frame_plan.specs.declared.copies.Copies.{Copies}
 use Rattle.frame_plan.specs.declared.section.Section.{Section}
 use Rattle.frame_plan.specs.declared.section.Test.{Test}
 use Rattle.frame_plan.specs.declared.sections.SectionBook.{SectionBook}
@@ -214,9 +213,9 @@ pub runs_on : (script : Script) (table : Table) (sections from : ℕ) (book : Se
     → (p : Progress) (left : List ℤ) → AreCellsOf section.plan left → p.cells ≡ left
     → p.held ≡ Some (compares test.sign (cells_of left test.at.start) test.bound)
     → IsReportAt (state_at script table next.to) p.report → IsFew (suc sections) p.report
-    → p.names ≡ section.plan.names → p.kernels ≡ section.plan.kernels
+    → p.copies ≡ record { names = section.plan.names; kernels = section.plan.kernels; codes = section.plan.codes }
     → HasRun script table (suc sections) next.to book p
-runs_on script table sections from book section next test e tests p left cells same held report few names kernels =
+runs_on script table sections from book section next test e tests p left cells same held report few copies =
     let some : IsSome section.test = subst IsSome (sym e) refl in
     let is = next.is_section in
     let sized = is.well_ordered.sized in
@@ -235,8 +234,8 @@ runs_on script table sections from book section next test e tests p left cells s
       outcome = outcome_at script table from next.to p.held later (held ∙ ap (λ z. Some (compares test.sign z test.bound)) (cells.each test.at.start low)
           ∙ ap Some at_test.outcome);
       left = subst (λ m. AreLeft m (cells_after section.plan) section.plan.cells) (sym same) (omega arith, λ w l. cells.each w (omega arith));
-      kernels = λ _. subst (λ (v : Vec Kernel Global). AreKernelsOf book script table v.items) (sym kernels) next.kernels;
-      names = subst (λ (v : Vec (String Global) Global). AreNamesOf script v.items) (sym names) is.names;
+      kernels = λ _. subst (λ (c : Copies). AreKernelsOf book script table c.kernels.items c.codes.items) (sym copies) next.kernels;
+      names = subst (λ (c : Copies). AreNamesOf script c.names.items) (sym copies) is.names;
       report = report;
       few = few;
       tests = omega arith;
@@ -279,15 +278,15 @@ module _ (script : Script) (table : Table) (sections from : ℕ) (book : Section
   }
 
   pub section_more : (q : Progress) (test : Test) → q.report ≡ joined → section.test ≡ Some test → AreCellsOf section.plan r.left
-      → q.cells ≡ r.left → q.names ≡ section.plan.names → q.kernels ≡ section.plan.kernels
+      → q.cells ≡ r.left → q.copies ≡ record { names = section.plan.names; kernels = section.plan.kernels; codes = section.plan.codes }
       → q.held ≡ Some (compares test.sign (cells_of r.left test.at.start) test.bound)
       → GoesOn script table sections from (plan_lines section.plan) book q true
-  section_more q test report some left cells names kernels held = record {
+  section_more q test report some left cells copies held = record {
     to = next.to;
     lines_are = is.lines;
     report = subst (IsReportAt (state_at script table next.to)) (sym report) report_at;
     next = λ e. runs_on script table sections from book section next test some made.tests q r.left left cells held
-        (subst (IsReportAt (state_at script table next.to)) (sym report) report_at) (subst (IsFew (suc sections)) (sym report) few) names kernels;
+        (subst (IsReportAt (state_at script table next.to)) (sym report) report_at) (subst (IsFew (suc sections)) (sym report) few) copies;
     last = λ e. absurd cc;
   }
 

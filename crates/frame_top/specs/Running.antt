@@ -40,8 +40,8 @@ pub record HasRun (script : Script) (table : Table) (sections from : ℕ) (book 
   pub at : IsAt book script table from carried len
   pub outcome : IsOutcome script table from p.held
   pub left : AreLeft p.cells carried len
-  pub names : AreNamesOf script p.names.items
-  pub kernels : IsSome p.held → AreKernelsOf book script table p.kernels.items
+  pub names : AreNamesOf script p.copies.names.items
+  pub kernels : IsSome p.held → AreKernelsOf book script table p.copies.kernels.items p.copies.codes.items
   pub report : IsReportAt (state_at script table from) p.report
   pub few : IsFew sections p.report
   -- each section ended at another `when`

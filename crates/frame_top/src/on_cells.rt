@@ -7,7 +7,7 @@ use crate::section::SectionRun;
 use frame_core::Plan;
 use frame_print::Outgoing;
 use job_base::{NoMemory, Sink};
-use kernel_exec::Scratch;
+use kernel_machine::Scratch;
 use plan_run::{fresh_cells, run_alone};
 use std::alloc::Global;
 

@@ -23,9 +23,8 @@ ghost use Rattle.frame_top.specs.declared.status.TheConstants.{NO_MEMORY, UNWRIT
 use crate::section::{SectionRun, run_section};
 use crate::status::{DONE, NO_MEMORY, STATEMENT_REFUSED, TRAPPED, UNWRITTEN};
 use crate::watch::Watch;
-use frame_ast::kernel::Kernel;
 use frame_ast::script::Script;
-use frame_plan::{Section, SectionBook, Test, names_of};
+use frame_plan::{Copies, Section, SectionBook, Test};
 use frame_print::{Outgoing, Report};
 use job_base::limits::MOST_TESTS;
 use job_base::{FlatMem, JobId, Mem, NoMemory, Sink, Trap, Word};
@@ -45,9 +44,8 @@ pub struct Progress {
     pub held: Option<bool>,
     /// The cells that it left, with which the next one begins.
     pub cells: FlatMem,
-    /// The names and kernels of its plan, which the next plan takes over.
-    pub names: Vec<String>,
-    pub kernels: Vec<Kernel>,
+    /// What its plan has copies of, which the next plan takes over.
+    pub copies: Copies,
     /// A list of its plan that is needed no more. The next section leaves its cells in it.
     pub spare: Vec<i64>,
     /// Of all sections so far.
@@ -96,15 +94,14 @@ pub fn begin_frame(alloc: Global, script: &Script) -> Result<Progress, NoMemory>
     ensures waits { IfOk result (λ p. p.out ≡ []) }
     ensures failed { IfOk result (λ p. p.failed ≡ false) }
     ensures report { IfOk result (λ p. (s : ScriptState) → s.traps ≡ [] → s.refused ≡ 0 → IsReportAt s p.report) }
-    ensures names { IfOk result (λ p. AreNamesOf script.now p.names.items) }
+    ensures names { IfOk result (λ p. AreNamesOf script.now p.copies.names.items) }
 {
-    let names = names_of(alloc, script)?;
+    let copies = Copies::at_start(alloc, script)?;
     let out = Outgoing::new(alloc)?;
     Ok(Progress {
         held: None,
         cells: FlatMem::of(Vec::new(alloc)),
-        names,
-        kernels: Vec::new(alloc),
+        copies,
         spare: Vec::new(alloc),
         report: no_report(),
         out,
@@ -129,9 +126,8 @@ pub fn next_section(
     ensures failed { progress.new.failed ≡ progress.old.failed }
 {
     let cells = mem::replace(&mut progress.cells, FlatMem::of(Vec::new(alloc)));
-    let names = mem::replace(&mut progress.names, Vec::new(alloc));
-    let kernels = mem::replace(&mut progress.kernels, Vec::new(alloc));
-    book.next(alloc, script, table, progress.held, cells, names, kernels)
+    let copies = mem::replace(&mut progress.copies, Copies::none(alloc));
+    book.next(alloc, script, table, progress.held, cells, copies)
 }
 
 /// Takes over what the run of a section came to, and says whether there is a section after it.
@@ -152,8 +148,11 @@ pub fn take_run(alloc: Global, section: Section, ran: SectionRun, progress: &mut
     progress.report = join_reports(&progress.report, section.jobs_before, &ran.report);
     progress.cells = ran.left;
     let Section { plan, test, .. } = section;
-    progress.names = plan.names;
-    progress.kernels = plan.kernels;
+    progress.copies = Copies {
+        names: plan.names,
+        kernels: plan.kernels,
+        codes: plan.codes,
+    };
     progress.spare = first_list(alloc, plan.literals);
     match test {
         None => false,

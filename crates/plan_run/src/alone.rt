@@ -12,10 +12,11 @@ ghost use Rattle.plan_run.specs.ScriptOrder.{AllowsAll, AreFresh, IsJobOf, befor
 
 use crate::segment::run_alike;
 use crate::tally::{no_traps, with_refused};
-use frame_core::{Plan, run_piece};
+use frame_core::Plan;
 use frame_print::{Outgoing, Report};
 use job_base::{JobId, Mem, Sink};
-use kernel_exec::Scratch;
+use kernel_machine::Scratch;
+use piece_run::run_piece;
 
 // Runs the pieces of the job that a segment starts.
 fn run_parts<M: Mem>(plan: &Plan, k: u32, job: JobId, scratch: &mut Scratch, mem: &mut M)

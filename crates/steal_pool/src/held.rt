@@ -12,10 +12,11 @@ ghost use Rattle.frame_core.specs.Ordered.{IsWellOrderedPlan};
 ghost use Rattle.plan_run.specs.Lines.{segment_cells};
 ghost use Rattle.plan_run.specs.Says.{SaysTo};
 
-use frame_core::{Board, Holding, Lease, Plan, run_piece};
+use frame_core::{Board, Holding, Lease, Plan};
 use frame_print::{Outgoing, Report};
 use job_base::{PieceId, Sink};
-use kernel_exec::Scratch;
+use kernel_machine::Scratch;
+use piece_run::run_piece;
 use plan_run::run_segment;
 use std::marker::Brand;
 

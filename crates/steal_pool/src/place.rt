@@ -3,7 +3,7 @@ ghost use Rattle.std.specs.Prelude.{◌≡◌, IfOk, IsSome, Some};
 
 use crate::queue::Queue;
 use job_base::{JobId, NoMemory};
-use kernel_exec::Scratch;
+use kernel_machine::Scratch;
 use std::alloc::Global;
 
 /// What a worker works with.

@@ -1,7 +1,6 @@
 use Rattle.std.proofs.Common.{sym, subst}
-use Rattle.std.specs.Prelude.{Vec}
-use Rattle.std.specs.declared.alloc.Global.{Global}
-use Rattle.frame_ast.specs.declared.kernel.Kernel.{Kernel}
+use Rattle.frame_plan.specs.declared.copies.Copies.{Copies}
+use Rattle.frame_plan.specs.Names.{AreNamesOf}
 use Rattle.frame_plan.specs.Sections.{AreKernelsOf, AreLeft}
 use Rattle.plan_statements.specs.Tables.{columns_of}
 use Rattle.frame_top.proofs.Sectioning.{made_of}
@@ -13,7 +12,11 @@ returns-clause-made c sections from was =
     (c.next.ensures.section from was.carried was.len was.at was.outcome
     (subst (λ m. AreLeft m was.carried was.len) (sym c.replace-cells.ensures.value) was.left))
 
+pub next-requires-clause-names : goal.next-requires-clause-names
+next-requires-clause-names c =
+    subst (λ (v : Copies). AreNamesOf c.args.script.now v.names.items) (sym c.replace-copies.ensures.value) c.requires.here.2.names
+
 pub next-requires-clause-kernels : goal.next-requires-clause-kernels
 next-requires-clause-kernels c some =
-    subst (λ (v : Vec Kernel Global). AreKernelsOf c.args.book.now c.args.script.now (columns_of c.args.table.now) v.items)
-    (sym c.replace-kernels.ensures.value) (c.requires.here.2.kernels some)
+    subst (λ (v : Copies). AreKernelsOf c.args.book.now c.args.script.now (columns_of c.args.table.now) v.kernels.items v.codes.items)
+    (sym c.replace-copies.ensures.value) (c.requires.here.2.kernels some)

@@ -11,7 +11,7 @@ pub returns-clause-goes : goal.returns-clause-goes
 returns-clause-goes c script columns sections from book made =
     section_more script columns sections from book _ c.args.section c.args.ran _ c.reports_are_within.ensures made c.requires.report
     c.join_reports-progress.ensures.traps c.join_reports-progress.ensures.refused _ c.in-Some.test refl c.in-Some.is
-    (c.requires.cells (subst IsSome (sym c.in-Some.is) refl)) c.holds.ensures.cells refl refl (ap Some c.holds.ensures.held)
+    (c.requires.cells (subst IsSome (sym c.in-Some.is) refl)) c.holds.ensures.cells refl (ap Some c.holds.ensures.held)
 
 pub join_reports-progress-requires-clause-job : goal.join_reports-progress-requires-clause-job
 join_reports-progress-requires-clause-job c some =
