@@ -14,9 +14,10 @@ use Rattle.view_text.specs.declared.picture.Link.{Link}
 use Rattle.view_text.specs.declared.picture.Tie.{Tie}
 use Rattle.view_text.specs.declared.picture.Tie.TheVariants as tie
 use Rattle.frame_view.specs.declared.story.Refused.{Refused}
-use Rattle.frame_view.specs.Boxes.{blocker_of}
+use Rattle.frame_view.specs.Boxes.{blocker_in, shown}
 
--- An arrow, from a job to another one or to a refused schedule, by their numbers.
+-- An arrow, from a job to another one or to a refused schedule, by their numbers: those of jobs are their numbers in
+-- the script.
 pub record Line : Type 0 where
   pub from : ℕ
   pub to : ℕ
@@ -39,19 +40,19 @@ tie_of cause.Depends true = tie.DependsOnChain
 tie_of cause.Completed false = tie.Completed
 tie_of cause.Completed true = tie.CompletedOnChain
 
--- the arrow of a wait of the job of that number
-abbrev pub arrow_line : Depth → ℕ → Arrow → Line
-arrow_line depth later a = record {
-  from = a.from.0;
-  to = later;
+-- the arrow of a wait of the job of that number among the plan's jobs, before which the script has so many
+abbrev pub arrow_line : Depth → ℕ → ℕ → Arrow → Line
+arrow_line depth before later a = record {
+  from = shown before a.from.0;
+  to = shown before later;
   tie = tie_of a.cause (is_step 0 depth.chain.items a.from.0 later);
 }
 
 -- those of some jobs, the first of which has this number
-abbrev pub arrow_lines : Depth → ℕ → List (Vec Arrow Global) → List Line
-arrow_lines depth number [] = []
-arrow_lines depth number (arrows ∷ more) =
-    map (arrow_line depth number) arrows.items ++ arrow_lines depth (number + 1) more
+abbrev pub arrow_lines : Depth → ℕ → ℕ → List (Vec Arrow Global) → List Line
+arrow_lines depth before number [] = []
+arrow_lines depth before number (arrows ∷ more) =
+    map (arrow_line depth before number) arrows.items ++ arrow_lines depth before (number + 1) more
 
 -- JOBS THAT BLOCK A SCHEDULE
 
@@ -60,6 +61,7 @@ block_line number None = []
 block_line number (Some id) = record { from = id.0; to = number; tie = tie.Blocks } ∷ []
 
 -- those of some refused schedules, the first of which has this number
-abbrev pub block_lines : ℕ → List Refused → List Line
-block_lines number [] = []
-block_lines number (r ∷ more) = block_line number (blocker_of r.refusal) ++ block_lines (number + 1) more
+abbrev pub block_lines : ℕ → ℕ → List Refused → List Line
+block_lines before number [] = []
+block_lines before number (r ∷ more) = block_line number (blocker_in before r.refusal)
+    ++ block_lines before (number + 1) more

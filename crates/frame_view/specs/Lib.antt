@@ -1,4 +1,5 @@
 -- promises
+pub mod Parts
 pub mod Stories
 pub mod Boxes
 pub mod Arrows

@@ -1,8 +1,8 @@
 -- What became of the schedules of a script.
 --
--- Decided here: what a story may say of a script and its plan. Which schedule made which job isn't decided here: a plan
--- doesn't say it.
-use Rattle.std.specs.Prelude.{◌≡◌, ℕ, ◌+◌, ◌<◌, ◌≤◌, Bool, true, false, List, [], ◌∷◌, ◌++◌, Option, Some, None, length, slice_get}
+-- Decided here: what a story may say of a part of a script and its plan. Which schedule made which job isn't decided
+-- here: a plan doesn't say it.
+use Rattle.std.specs.Prelude.{◌≡◌, ℕ, zero, suc, ◌+◌, ◌<◌, ◌≤◌, Bool, true, false, List, [], ◌∷◌, ◌++◌, Option, Some, None, length, slice_get}
 use Rattle.frame_ast.specs.declared.script.Arg.{Arg}
 use Rattle.frame_ast.specs.declared.script.Order.{Order}
 use Rattle.frame_ast.specs.declared.script.Order.TheVariants.{Schedule}
@@ -13,7 +13,9 @@ use Rattle.frame_view.specs.declared.marks.Mark.{Mark}
 use Rattle.frame_view.specs.declared.marks.Mark.TheVariants.{Starts, Says}
 use Rattle.frame_view.specs.declared.story.Refused.{Refused}
 use Rattle.frame_view.specs.declared.story.Story.{Story}
+use Rattle.frame_view.specs.declared.part.Part.{Part}
 use Rattle.frame_view.specs.Marks.{fits, marks_of}
+use Rattle.frame_view.specs.Parts.{passed_with, statements_in, whole}
 
 abbrev pub is_schedule : Order → Bool
 is_schedule (Schedule job) = true
@@ -50,7 +52,12 @@ abbrev pub refused_by : ℕ → Mark → List Refused
 refused_by at Starts = []
 refused_by at (Says line name refusal) = record { at = at; name = name; refusal = refusal } ∷ []
 
-pub record IsStory (script : Script) (plan : Plan) (story : Story) : Type 0 where
+-- A story of a part of a script and its plan.
+pub record IsStoryIn (script : Script) (part : Part) (plan : Plan) (story : Story) : Type 0 where
+  -- all of them stand in the part that the plan is of
+  pub made_in : (j at : ℕ) → slice_get story.made.items j ≡ Some at → (part.from ≤ at) × (at < part.to)
+  pub refused_in : (i : ℕ) (r : Refused) → slice_get story.refused.items i ≡ Some r
+      → (part.from ≤ r.at) × (r.at < part.to)
   -- each that made a job is a schedule of the script, and they stand in rising order
   pub made : (j at : ℕ) → slice_get story.made.items j ≡ Some at → (line : ℕ) × IsScheduleAt script at line
   pub rising : (i j a b : ℕ) → i < j → slice_get story.made.items i ≡ Some a → slice_get story.made.items j ≡ Some b
@@ -66,7 +73,8 @@ pub record IsStory (script : Script) (plan : Plan) (story : Story) : Type 0 wher
 -- WHICH MARKS STATEMENTS LEFT
 --
 -- A schedule leaves one mark: the start of its job, or its refusal. Another statement leaves refusals of its own line,
--- on which no schedule stands. So there is no choice: what the statements left is what the story tells.
+-- on which no schedule stands; and a `when` inside the part is refused, so its block is passed by. What is passed by
+-- leaves nothing. So there is no choice: what the statements left is what the story tells.
 
 -- no schedule of the script may have left this mark
 abbrev pub IsOther : Script → Mark → Type 0
@@ -86,14 +94,30 @@ LeavesOne true script at x rest marks made refused = (m : Mark) × (ms : List Ma
 LeavesOne false script at x rest marks made refused = (said : List Mark) × (ms : List Mark) × AreOthers script said
     × (marks ≡ said ++ ms) × rest ms made refused
 
--- The statements from a place on left these marks: by them those schedules made jobs, and these were refused.
-abbrev pub Leaves : Script → ℕ → List Statement → List Mark → List ℕ → List Refused → Type 0
-Leaves script at [] marks made refused = (marks ≡ []) × (made ≡ []) × (refused ≡ [])
-Leaves script at (x ∷ more) marks made refused =
-    LeavesOne (is_schedule x.act) script at x (Leaves script (at + 1) more) marks made refused
+-- the same, where so many statements are to be passed by before it; `rest` is told how many after it
+abbrev pub LeavesFrom : ℕ → Script → ℕ → Statement → (ℕ → List Mark → List ℕ → List Refused → Type 0)
+    → List Mark → List ℕ → List Refused → Type 0
+LeavesFrom zero script at x rest marks made refused =
+    LeavesOne (is_schedule x.act) script at x (rest (passed_with x.act)) marks made refused
+LeavesFrom (suc more) script at x rest marks made refused = rest more marks made refused
 
--- The story tells each mark of a schedule: however the statements left the plan's marks, it tells just that.
-abbrev pub TellsAll : Script → Plan → Story → Type 0
-TellsAll script plan story = (made : List ℕ) (refused : List Refused)
-    → Leaves script 0 script.statements.items (marks_of plan.segments.items) made refused
+-- The statements from a place on, of which so many first ones are passed by, left these marks: by them those schedules
+-- made jobs, and these were refused.
+abbrev pub Leaves : Script → ℕ → List Statement → ℕ → List Mark → List ℕ → List Refused → Type 0
+Leaves script at [] passing marks made refused = (marks ≡ []) × (made ≡ []) × (refused ≡ [])
+Leaves script at (x ∷ more) passing marks made refused =
+    LeavesFrom passing script at x (λ n. Leaves script (at + 1) more n) marks made refused
+
+-- The story tells each mark of a schedule: however the statements of a part left the plan's marks, it tells just that.
+abbrev pub TellsAllIn : Script → Part → Plan → Story → Type 0
+TellsAllIn script part plan story = (made : List ℕ) (refused : List Refused)
+    → Leaves script part.from (statements_in script part) part.passed (marks_of plan.segments.items) made refused
     → (story.made.items ≡ made) × (story.refused.items ≡ refused)
+
+-- THE WHOLE OF A SCRIPT, where it has no `when`
+
+abbrev pub IsStory : Script → Plan → Story → Type 0
+IsStory script plan story = IsStoryIn script (whole script) plan story
+
+abbrev pub TellsAll : Script → Plan → Story → Type 0
+TellsAll script plan story = TellsAllIn script (whole script) plan story

@@ -61,20 +61,21 @@ fn lines_of(
     }
 }
 
-// The box of the job at a place among the plan's jobs.
+// The box of the job at a place among the plan's jobs, before which the script has so many.
 fn job_node(
     alloc: Global,
     script: &Script,
     story: &Story,
     depth: &Depth,
+    before: u32,
     j: usize,
     job: &JobPlan,
 ) -> Result<Node, NoMemory>
     requires few { j < MOST_JOBS }
     requires cut { IsCutIn job.now }
-    ensures { IfOk result (λ node. box_of node ≡ job_box script.now story.now depth.now j job.now) }
+    ensures { IfOk result (λ node. box_of node ≡ job_box script.now story.now depth.now before j job.now) }
 {
-    let number = j as u32 + 1;
+    let number = before.saturating_add(j as u32 + 1);
     let size = Size {
         indexes: job.cut.n,
         pieces: job.pieces(),
@@ -82,27 +83,28 @@ fn job_node(
     let lines = lines_of(alloc, script, story.made.get(j).copied(), number, size)?;
     Ok(Node {
         number,
-        kind: kind_of(&depth.chain, JobId(number)),
+        kind: kind_of(&depth.chain, JobId(j as u32 + 1)),
         level: depth.levels.get(j).copied().unwrap_or(0),
         lines,
     })
 }
 
-/// The boxes of a plan's jobs, in their order.
+/// The boxes of a plan's jobs, in their order. `before` is how many jobs earlier sections have.
 pub(crate) fn job_nodes(
     alloc: Global,
     script: &Script,
     plan: &Plan,
     story: &Story,
     depth: &Depth,
+    before: u32,
 ) -> Result<Vec<Node>, NoMemory>
     requires well { IsWellOrderedPlan plan.now }
     ensures { IfOk result (λ nodes. map box_of nodes.items
-        ≡ job_boxes script.now story.now depth.now 0 plan.now.jobs.items) }
+        ≡ job_boxes script.now story.now depth.now before 0 plan.now.jobs.items) }
 {
     let mut nodes = Vec::new(alloc);
     for j in 0..plan.jobs.len() {
-        let node = job_node(alloc, script, story, depth, j, &plan.jobs[j])?;
+        let node = job_node(alloc, script, story, depth, before, j, &plan.jobs[j])?;
         nodes.push(node)?;
     }
     Ok(nodes)

@@ -3,11 +3,12 @@ ghost use Rattle.std.specs.Prelude.{◌≡◌, ◌≤◌, IfOk, length, map};
 ghost use Rattle.job_base.specs.declared.limits.TheConstants.{MOST_STATEMENTS, MOST_WORKERS};
 ghost use Rattle.frame_core.specs.Ordered.{IsWellOrderedPlan};
 ghost use Rattle.frame_view.specs.Boxes.{box_of, greatest_level};
-ghost use Rattle.frame_view.specs.Pictures.{IsPictureOf};
+ghost use Rattle.frame_view.specs.Pictures.{IsPictureAt, IsPictureOf};
 
 use crate::boxes::job_nodes;
 use crate::head::head_text;
 use crate::links::links_of;
+use crate::place::Place;
 use crate::refused::{add_blocks, add_refused};
 use crate::story::Story;
 use frame_ast::script::Script;
@@ -30,7 +31,36 @@ fn greatest_level(nodes: &[Node]) -> u32
 }
 
 /// The picture of a script's plan, with the levels and the chain that its depth report has for so many workers. `story`
-/// is what [`follow`](crate::follow) found of both.
+/// is what [`follow_part`](crate::follow_part) found of both, and `place` where the plan stands in the script.
+pub fn draw_at(
+    alloc: Global,
+    script: &Script,
+    plan: &Plan,
+    story: &Story,
+    place: Place,
+    workers: u32,
+) -> Result<Picture, NoMemory>
+    requires well { IsWellOrderedPlan plan.now }
+    requires few { length story.now.refused.items ≤ MOST_STATEMENTS }
+    requires workers { (1 ≤ workers) × (workers ≤ MOST_WORKERS) }
+    ensures { IfOk result (IsPictureAt script.now plan.now story.now place workers) }
+{
+    let depth = depth(alloc, plan, workers)?;
+    let found = arrows(alloc, plan)?;
+    let mut nodes = job_nodes(alloc, script, plan, story, &depth, place.before)?;
+    add_refused(alloc, script, story, &depth, place.before, &mut nodes)?;
+    let mut links = links_of(alloc, script, plan, story, &depth, place.before, &found)?;
+    add_blocks(alloc, script, story, place.before, &mut links)?;
+    Ok(Picture {
+        number: place.number,
+        head: head_text(alloc, plan, story, &depth)?,
+        levels: greatest_level(&nodes),
+        nodes,
+        links,
+    })
+}
+
+/// The same of a script without a `when`, which is one section.
 pub fn draw(
     alloc: Global,
     script: &Script,
@@ -43,17 +73,9 @@ pub fn draw(
     requires workers { (1 ≤ workers) × (workers ≤ MOST_WORKERS) }
     ensures { IfOk result (IsPictureOf script.now plan.now story.now workers) }
 {
-    let depth = depth(alloc, plan, workers)?;
-    let found = arrows(alloc, plan)?;
-    let mut nodes = job_nodes(alloc, script, plan, story, &depth)?;
-    add_refused(alloc, script, story, &depth, &mut nodes)?;
-    let mut links = links_of(alloc, script, plan, story, &depth, &found)?;
-    add_blocks(alloc, script, story, &mut links)?;
-    Ok(Picture {
+    let place = Place {
         number: 1,
-        head: head_text(alloc, plan, story, &depth)?,
-        levels: greatest_level(&nodes),
-        nodes,
-        links,
-    })
+        before: 0,
+    };
+    draw_at(alloc, script, plan, story, place, workers)
 }

@@ -40,19 +40,20 @@ fn link_of(
     script: &Script,
     plan: &Plan,
     depth: &Depth,
+    before: u32,
     args: &[Arg],
     later: JobId,
     arrow: Arrow,
 ) -> Result<Link, NoMemory>
-    ensures { IfOk result (λ link. line_of link ≡ arrow_line depth.now later.0 arrow) }
+    ensures { IfOk result (λ link. line_of link ≡ arrow_line depth.now before later.0 arrow) }
 {
     let label = match arrow.cause {
         Cause::Depends => label_of(alloc, script, plan, arrow.from, later, args)?,
         Cause::Completed => String::new(alloc),
     };
     Ok(Link {
-        from: arrow.from.0,
-        to: later.0,
+        from: before.saturating_add(arrow.from.0),
+        to: before.saturating_add(later.0),
         tie: tie_of(arrow.cause, is_step(&depth.chain, arrow.from, later)),
         label,
     })
@@ -64,39 +65,41 @@ fn add_arrows(
     script: &Script,
     plan: &Plan,
     depth: &Depth,
+    before: u32,
     args: &[Arg],
     later: JobId,
     arrows: &[Arrow],
     links: &mut Vec<Link>,
 ) -> Result<(), NoMemory>
     ensures { OnOk result (map line_of links.new.items ≡ map line_of links.old.items
-        ++ map (arrow_line depth.now later.0) arrows.now) }
+        ++ map (arrow_line depth.now before later.0) arrows.now) }
 {
     for arrow in arrows {
-        let link = link_of(alloc, script, plan, depth, args, later, *arrow)?;
+        let link = link_of(alloc, script, plan, depth, before, args, later, *arrow)?;
         links.push(link)?;
     }
     Ok(())
 }
 
-/// The arrows of all jobs, job 1 first.
+/// The arrows of all jobs, the first one first. `before` is how many jobs earlier sections have.
 pub(crate) fn links_of(
     alloc: Global,
     script: &Script,
     plan: &Plan,
     story: &Story,
     depth: &Depth,
+    before: u32,
     found: &[Vec<Arrow>],
 ) -> Result<Vec<Link>, NoMemory>
     requires few { length found.now ≤ MOST_JOBS }
-    ensures { IfOk result (λ links. map line_of links.items ≡ arrow_lines depth.now 1 found.now) }
+    ensures { IfOk result (λ links. map line_of links.items ≡ arrow_lines depth.now before 1 found.now) }
 {
     let mut links = Vec::new(alloc);
     for j in 0..found.len() {
         let later = JobId(j as u32 + 1);
         let args = args_of(script, story, j);
         add_arrows(
-            alloc, script, plan, depth, args, later, &found[j], &mut links,
+            alloc, script, plan, depth, before, args, later, &found[j], &mut links,
         )?;
     }
     Ok(links)

@@ -1,11 +1,12 @@
 // What became of a script's schedules.
-ghost use Rattle.std.specs.Prelude.{◌≡◌, ◌++◌, ◌<◌, IfOk, IfSome, IsSome, None, OnOk, Some, drop, if◌then◌else◌, length, slice_get, true};
+ghost use Rattle.std.specs.Prelude.{◌≡◌, ◌++◌, ◌<◌, ◌≤◌, IfOk, IfSome, IsSome, None, OnOk, Some, drop, if◌then◌else◌, length, slice_get, true};
 ghost use Rattle.frame_view.specs.declared.marks.Mark.{Mark};
 ghost use Rattle.frame_view.specs.Marks.{fits, next_fit};
-ghost use Rattle.frame_view.specs.Stories.{is_schedule, made_by, refused_by, IsStory, TellsAll};
+ghost use Rattle.frame_view.specs.Stories.{is_schedule, made_by, refused_by, IsStory, IsStoryIn, TellsAll, TellsAllIn};
 
 use crate::looks::is_schedule;
 use crate::marks::{Mark, marks_of, next_mark};
+use crate::part::{Part, passing_after};
 use frame_ast::script::{Script, Statement};
 use frame_core::Plan;
 use job_base::{NoMemory, Refusal};
@@ -48,27 +49,35 @@ impl Story {
     }
 }
 
-// The place of the next mark from a place on that a statement may have left, where it is a schedule.
-fn mark_for(marks: &[Mark], from: usize, statement: &Statement) -> Option<usize>
+// The place of the next mark from a place on that a statement may have left, where it is a schedule and isn't passed
+// by.
+fn mark_for(marks: &[Mark], from: usize, statement: &Statement, passing: u32) -> Option<usize>
     ensures schedule { IsSome result → is_schedule statement.now.act ≡ true }
-    ensures next { result ≡ (if is_schedule statement.now.act
+    ensures here { IsSome result → passing ≡ 0 }
+    ensures next { passing ≡ 0 → result ≡ (if is_schedule statement.now.act
         then next_fit statement.now.line from (drop from marks.now) else None) }
     ensures within { IfSome result (λ i. i < length marks.now) }
     ensures fits { IfSome result (λ i. (m : Mark) → slice_get marks.now i ≡ Some m
         → fits statement.now.line m ≡ true) }
 {
-    if is_schedule(&statement.act) {
+    if passing == 0 && is_schedule(&statement.act) {
         next_mark(marks, from, statement.line)
     } else {
         None
     }
 }
 
-/// Goes along the statements of a script without a `when`, and along its plan. A schedule leaves one mark in a plan,
-/// the start of its job or a refusal of its line; so each takes the next one that may be its own.
-pub fn follow(alloc: Global, script: &Script, plan: &Plan) -> Result<Story, NoMemory>
-    ensures story { IfOk result (IsStory script.now plan.now) }
-    ensures all { IfOk result (TellsAll script.now plan.now) }
+/// Goes along some statements of a script and along the plan of them. A schedule leaves one mark in a plan, the start
+/// of its job or a refusal of its line; so each takes the next one that may be its own. The block of a `when` among
+/// them is passed by, as it is where the `when` is refused.
+pub fn follow_part(
+    alloc: Global,
+    script: &Script,
+    part: Part,
+    plan: &Plan,
+) -> Result<Story, NoMemory>
+    ensures story { IfOk result (IsStoryIn script.now part plan.now) }
+    ensures all { part.to ≤ length script.now.statements.items → IfOk result (TellsAllIn script.now part plan.now) }
 {
     let marks = marks_of(alloc, plan)?;
     let mut story = Story {
@@ -76,11 +85,23 @@ pub fn follow(alloc: Global, script: &Script, plan: &Plan) -> Result<Story, NoMe
         refused: Vec::new(alloc),
     };
     let mut next = 0;
-    for at in 0..script.statements.len() {
-        if let Some(i) = mark_for(&marks, next, &script.statements[at]) {
+    let mut passing = part.passed;
+    let to = part.to.min(script.statements.len());
+    for at in part.from..to {
+        let statement = &script.statements[at];
+        if let Some(i) = mark_for(&marks, next, statement, passing) {
             story.tell(at, marks[i])?;
             next = i + 1;
         }
+        passing = passing_after(passing, &statement.act);
     }
     Ok(story)
+}
+
+/// The same of a script without a `when`, whose plan is of all its statements.
+pub fn follow(alloc: Global, script: &Script, plan: &Plan) -> Result<Story, NoMemory>
+    ensures story { IfOk result (IsStory script.now plan.now) }
+    ensures all { IfOk result (TellsAll script.now plan.now) }
+{
+    follow_part(alloc, script, Part::whole(script), plan)
 }
