@@ -10,6 +10,5 @@ pub mod Footprints
 pub mod Pieces
 pub mod Apart
 pub mod NextIndex
-pub mod Dividing
 pub mod Owning
 pub mod Table

@@ -8,5 +8,4 @@ pub mod Runs
 pub mod Laws
 pub mod Notes
 -- for this crate's own contracts
-pub mod Asides
-pub mod Machines
+pub mod Calls

@@ -1,3 +1,4 @@
+pub mod Quotients
 pub mod Ways
 pub mod Asking
 pub mod Turns
@@ -9,5 +10,6 @@ pub mod Beginning
 pub mod Adding
 pub mod Filling
 pub mod Staying
+pub mod Keeping
 pub mod Executing
 pub mod Freeing

@@ -1,4 +1,6 @@
 -- for this crate's own contracts
+pub mod Machines
 pub mod Engines
+pub mod Blocks
 pub mod Ready
 pub mod Sites
