@@ -27,12 +27,14 @@ use Rattle.plan_state.specs.declared.state.PlanFault.{PlanFault}
 use Rattle.plan_state.specs.declared.state.PlanFault.TheVariants.{NoMemory}
 use Rattle.plan_state.specs.declared.state.Planner.{Planner}
 use Rattle.plan_state.specs.Growth.{first_jobs, unless_none}
+use Rattle.frame_plan.specs.Bindings.{IsBindAt, bind_named}
 use Rattle.frame_plan.specs.Layouts.{starts_by, IsLaidOut}
 use Rattle.frame_plan.specs.Names.{AreNamesOf}
 use Rattle.frame_plan.specs.References.{IsOfTest, IsTestFor}
 use Rattle.frame_plan.specs.Runs.{IsActingTest, IsStop, IsWithin, PassesOnce, IsFinished, IsEmptied, outline_of}
 use Rattle.frame_plan.specs.Sections.{limit_told, IsTestOf, EndsBy, IsPlannedFrom, IsBetween, IsAt, IsNext, IsPlanOf}
 use Rattle.plan_state.specs.Steps.{state_at, IsStep}
+use Rattle.frame_plan.proofs.NamedWords.{bound}
 use Rattle.frame_plan.proofs.Laying.{scheduled_later}
 use Rattle.frame_plan.proofs.Limiting.{text_passes_none, script_run_passes, run_none}
 use Rattle.frame_plan.proofs.References.{reference_held, reference_inside, first_is_none}
@@ -167,6 +169,10 @@ module _ (script : Script) (table : Table) (from : ℕ) (book : SectionBook) (re
     };
     inside = λ t e. inside (slice_get script.statements.items book.at) refl ready.stops t
         (subst (IsTestFor book.planner (slice_get script.statements.items book.at)) e tests);
+    binds = λ name low.
+        subst (IsBindAt s (cells_after plan) plan.cells name) (ap (λ (k : Planner). bind_named k name) (sym emptied.rest))
+        (bound script table book.planner (state_at script table from) book.at ready.found ready.stands name low (cells_after plan) plan.cells done.contents
+        (finished.within table (state_at script table from) book.at ready.found ready.inside ready.stands));
     kernels = record {
       old = book.planner;
       places = ap (λ (k : Planner). k.kernels) emptied.rest;

@@ -4,6 +4,7 @@ pub mod FirstCells
 pub mod Handing
 pub mod Laying
 pub mod Limiting
+pub mod NamedWords
 pub mod Passing
 pub mod References
 pub mod Resuming

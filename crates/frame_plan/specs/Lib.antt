@@ -1,4 +1,5 @@
 -- promises
+pub mod Bindings
 pub mod Layouts
 pub mod Missing
 pub mod Names

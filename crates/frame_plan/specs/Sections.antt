@@ -36,6 +36,7 @@ use Rattle.plan_state.specs.declared.state.PlanFault.{PlanFault}
 use Rattle.plan_state.specs.declared.state.PlanFault.TheVariants.{Jobs, Words, NoMemory}
 use Rattle.plan_state.specs.declared.state.Planner.{Planner}
 use Rattle.plan_state.specs.Growth.{StartAs}
+use Rattle.frame_plan.specs.Bindings.{IsBindAt, bind_in}
 use Rattle.frame_plan.specs.Layouts.{IsLaidOut, HasRanges, HasGrown}
 use Rattle.frame_plan.specs.Names.{AreNamesOf}
 use Rattle.frame_plan.specs.Runs.{IsActingTest, IsStop, NoneActs, IsEmptied}
@@ -182,6 +183,10 @@ pub record IsNext (book : SectionBook) (script : Script) (table : Table) (from :
   pub is_section : IsSectionOf script table from to section
   -- where it ends at a test, this is of a word of the plan
   pub inside : (test : Test) → section.test ≡ Some test → test.at.start < section.plan.cells
+  -- the book knows where the contents of each name lie that stands for a container then
+  pub binds : (name : ℕ)
+      → name < length script.names.items
+      → IsBindAt (state_at script table to) (cells_after section.plan) section.plan.cells name (bind_in book name)
   -- it is a later one, and the book is there
   pub later : IsSome section.test → from < to
   -- the plan of the next section can take these kernels and codes over
