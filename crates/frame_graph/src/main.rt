@@ -1,5 +1,5 @@
-//! The program that draws: writes the picture of a planned frame to standard output, and the text of a refusal to
-//! standard error.
+//! The program that draws: writes the picture of a planned frame, or of a run, to standard output, and the text of a
+//! refusal to standard error.
 //!
 //! What it reads and writes is the system's, by the adapters of `system_edge`, and no contract says it.
 #![tactic(auto)]
@@ -17,5 +17,5 @@ fn main(rt: HostRuntime) -> ExitCode {
     let mut files = DiskFiles::new(&rt);
     let mut sink = WriterSink::new(io::writer(&rt));
     let mut notes = WriterSink::new(rt.stderr());
-    ExitCode::from(graph_frame(rt.alloc(), words, &mut files, &mut sink, &mut notes))
+    ExitCode::from(graph_frame(&rt, rt.alloc(), words, &mut files, &mut sink, &mut notes))
 }

@@ -212,6 +212,20 @@ got [] k x d e = absurd cc
 got (y ∷ ys) zero x d e = let same : y ≡ x = cc in same
 got (y ∷ ys) (suc k) x d e = got ys k x d e
 
+pub column_said : {S : Type 0} (taken : S → Option (List ℕ)) (faults : S → ℕ) (table : Table) (k : ℕ) (xs : List Statement) (it : Statement)
+    (name : List ℕ) (old new : S) (result : ℕ)
+    → missing_from table 0 xs ≡ Some k → it ≡ get_or xs k it → name ≡ column_name it.act
+    → SaidTo taken faults old new (answer TABLE_REFUSED (no_column_line name)) result
+    → (a : Answer) × (column_refusal table xs ≡ Some a) × SaidTo taken faults old new a result
+column_said taken faults table k xs it name old new result e at named said =
+    let m = at_missing table k xs e in
+    let same : it ≡ m.0 = at ∙ got xs k m.0 it m.1 in (
+      _,
+      m.2,
+      subst (λ n. SaidTo taken faults old new (answer TABLE_REFUSED (no_column_line n)) result)
+          (named ∙ ap (λ (x : Statement). column_name x.act) same) said,
+    )
+
 pub column_answers : {S : Type 0} (taken : S → Option (List ℕ)) (faults : S → ℕ) (script : Script) (table : Table) (depth : Bool) (workers k : ℕ)
     (it : Statement) (name : List ℕ) (old new : S) (result : ℕ)
     → missing_from table 0 script.statements.items ≡ Some k → it ≡ get_or script.statements.items k it → name ≡ column_name it.act

@@ -9,6 +9,7 @@ mod Rooms
 pub mod Clauses
 pub mod Saying
 mod Sectioning
+pub mod Seeing
 pub mod Settling
 mod Sources
 pub mod Telling

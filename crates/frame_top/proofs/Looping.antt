@@ -85,14 +85,17 @@ module _ {S : Type 0} (taken : S → Option (List ℕ)) (faults : S → ℕ) (sc
         (says_after (said_to taken faults old [] false) (said_to taken faults mid p.out p.failed) (said_to taken faults new q.out q.failed)
         (state_at script table was.from).lines next.lines was.said next.said)
 
-    pub one_more : RunsOn taken faults script table sections was.from mid p new book q true → faults mid ≤ faults new
-        → InSections taken faults script table (suc sections) book q old new
-    one_more next later = let was_later = was.later in record {
-      from = next.goes.to;
-      ran = next.goes.next refl;
-      said = all_said true next;
-      later = omega (arith, was_later, later);
-    }
+    pub one_more : (next : RunsOn taken faults script table sections was.from mid p new book q true) → faults mid ≤ faults new
+        → (here : InSections taken faults script table (suc sections) book q old new) × (here.from ≡ next.goes.to)
+    one_more next later = let was_later = was.later in (
+      record {
+        from = next.goes.to;
+        ran = next.goes.next refl;
+        said = all_said true next;
+        later = omega (arith, was_later, later);
+      },
+      refl,
+    )
 
     -- the last section was run, and the traps were told
     pub at_last : (next : RunsOn taken faults script table sections was.from mid p new book q false) (end : S) (e : Progress) (result : ℕ)

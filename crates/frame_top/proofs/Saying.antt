@@ -2,7 +2,7 @@
 use Rattle.std.proofs.Common.{◌≡◌, ◌⊎◌, ⊎_elim, ℕ, List, [], ◌∷◌, ◌++◌, length, take, Option, Bool, true, false, refl, sym, ap, subst, ◌∙◌, append-nil}
 use Rattle.std.specs.Io.KnownBytes.{Appends}
 use Rattle.job_base.proofs.Parts.{stop_first}
-use Rattle.plan_run.specs.Says.{Says, SaysTo}
+use Rattle.plan_run.specs.Says.{SaysTo}
 use Rattle.command_words.specs.Words.{Text}
 use Rattle.frame_top.specs.Answers.{Answers, Caused, Early, Midway, Said, SaidTo, Whole, Part}
 use Rattle.frame_top.specs.Refusals.{Answer, answer}

@@ -271,6 +271,7 @@ module _ (script : Script) (table : Table) (sections from : ℕ) (book : Section
   pub section_last : (q : Progress) → q.report ≡ joined → section.test ≡ None → GoesOn script table sections from (plan_lines section.plan) book q false
   section_last q report none = record {
     to = next.to;
+    place = next.place;
     lines_are = is.lines;
     report = subst (IsReportAt (state_at script table next.to)) (sym report) report_at;
     next = λ e. absurd cc;
@@ -283,6 +284,7 @@ module _ (script : Script) (table : Table) (sections from : ℕ) (book : Section
       → GoesOn script table sections from (plan_lines section.plan) book q true
   section_more q test report some left cells copies held = record {
     to = next.to;
+    place = next.place;
     lines_are = is.lines;
     report = subst (IsReportAt (state_at script table next.to)) (sym report) report_at;
     next = λ e. runs_on script table sections from book section next test some made.tests q r.left left cells held

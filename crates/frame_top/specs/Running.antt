@@ -12,7 +12,7 @@ use Rattle.plan_run.specs.Says.{SaysTo}
 use Rattle.frame_plan.specs.declared.section.Section.{Section}
 use Rattle.frame_plan.specs.declared.sections.SectionBook.{SectionBook}
 use Rattle.frame_plan.specs.Names.{AreNamesOf}
-use Rattle.frame_plan.specs.Sections.{AreKernelsOf, IsAt, IsNext, IsOutcome, AreLeft}
+use Rattle.frame_plan.specs.Sections.{AreKernelsOf, IsAt, IsNext, IsOutcome, AreLeft, place_of}
 use Rattle.plan_state.specs.Steps.{state_at}
 use Rattle.frame_top.specs.declared.sections.Progress.{Progress}
 use Rattle.frame_top.specs.declared.status.TheConstants.{UNWRITTEN}
@@ -60,6 +60,8 @@ pub record IsMade (script : Script) (table : Table) (sections from : ℕ) (book 
 pub record GoesOn (script : Script) (table : Table) (sections from : ℕ) (lines : List ℕ) (book : SectionBook)
     (q : Progress) (more : Bool) : Type 0 where
   pub to : ℕ
+  -- the book is there
+  pub place : place_of book ≡ to
   pub lines_are : (state_at script table to).lines ≡ (state_at script table from).lines ++ lines
   pub report : IsReportAt (state_at script table to) q.report
   -- there is a next section, or this was the last one

@@ -1,10 +1,11 @@
 // What a script and its table answer.
-ghost use Rattle.std.specs.Prelude.{◌≡◌, ◌≤◌, ◌⊎◌, ℕ, Bool, None, IfSome, false, true};
+ghost use Rattle.std.specs.Prelude.{◌≡◌, ◌≤◌, ◌⊎◌, ℕ, Bool, [], None, Some, IfSome, false, true};
 ghost use Rattle.job_base.specs.declared.limits.TheConstants.{MOST_WORKERS};
 ghost use Rattle.frame_ast.specs.Accepted.{IsAccepted};
 ghost use Rattle.plan_statements.specs.Tables.{columns_of};
-ghost use Rattle.frame_top.specs.Answers.{AnswersTo, FrameCause, IsCut};
-ghost use Rattle.frame_top.specs.Refusals.{column_name, column_refusal, first_when};
+ghost use Rattle.frame_top.specs.Answers.{AnswersTo, FrameCause, IsCut, SaidTo};
+ghost use Rattle.frame_top.specs.Refusals.{Answer, column_name, column_refusal, first_when};
+ghost use Rattle.frame_top.specs.Seen.{HasSeen, has_run};
 ghost use Rattle.frame_top.specs.declared.status.TheConstants.{TABLE_REFUSED, UNWRITTEN};
 
 use crate::inputs::Options;
@@ -51,6 +52,9 @@ pub fn refuse_missing<S: Sink>(script: &Script, table: &Table, sink: &mut S) -> 
     ensures missing { (depth : Bool) (workers : ℕ) → IfSome result (AnswersTo S.taken S.faults sink.old sink.new
         (FrameCause script.now (columns_of table.now) depth workers)
         (IsCut script.now (columns_of table.now) depth)) }
+    ensures said { IfSome result (λ s. (a : Answer)
+        × (column_refusal (columns_of table.now) script.now.statements.items ≡ Some a)
+        × SaidTo S.taken S.faults sink.old sink.new a s) }
     ensures none { result ≡ None → column_refusal (columns_of table.now) script.now.statements.items ≡ None }
     ensures same { result ≡ None → sink.new ≡ sink.old }
     ensures status { IfSome result (λ s. (s ≡ TABLE_REFUSED) ⊎ (s ≡ UNWRITTEN)) }
@@ -114,6 +118,8 @@ fn answer_run<R: Threads + Wait + Sync, S: Sink, W: Watch>(
     ensures answer { AnswersTo S.taken S.faults sink.old sink.new
         (FrameCause script.now (columns_of table.now) false workers)
         (IsCut script.now (columns_of table.now) false) result }
+    ensures seen { W.Saw script.now watch.old watch.old [] → has_run result ≡ true
+        → HasSeen (W.Saw script.now watch.old watch.new) script.now (columns_of table.now) }
     ensures later { S.faults sink.old ≤ S.faults sink.new }
 {
     match SectionBook::new(alloc, script, table) {
@@ -137,6 +143,8 @@ pub fn answer_frame<R: Threads + Wait + Sync, S: Sink, W: Watch>(
     ensures answer { AnswersTo S.taken S.faults sink.old sink.new
         (FrameCause script.now (columns_of table.now) options.depth options.workers)
         (IsCut script.now (columns_of table.now) options.depth) result }
+    ensures seen { options.depth ≡ false → W.Saw script.now watch.old watch.old [] → has_run result ≡ true
+        → HasSeen (W.Saw script.now watch.old watch.new) script.now (columns_of table.now) }
     ensures later { S.faults sink.old ≤ S.faults sink.new }
 {
     if let Some(status) = refuse_missing(script, table, sink) {

@@ -11,7 +11,8 @@
 //! the number of workers and the cuts of its jobs.
 //!
 //! `run_watched` is the same with something that looks on (`Watch`): it is told of each section before and after it.
-//! It changes nothing of the answer, so each clause is that of `run_frame`.
+//! It changes nothing of the answer, so each clause is that of `run_frame`; and where the script ran, what it was told
+//! is exactly the script's sections, each once, in their order (`specs/Seen`).
 //!
 //! The steps that read and refuse are public too, for programs that do something else with a script than run it, and so
 //! are the steps from section to section, for those who run a section themselves.
@@ -22,6 +23,7 @@
 #![tactic(auto)]
 
 mod alone;
+mod extent;
 mod frame;
 mod inputs;
 pub mod laws;
@@ -35,10 +37,11 @@ mod top;
 mod watch;
 
 pub use alone::run_source;
+pub use extent::Extent;
 pub use frame::{first_when, refuse_missing};
 pub use inputs::{Options, options_of, parse_table, read_source, read_table_file};
 pub use section::SectionRun;
-pub use sections::{Progress, begin_frame, close, finish, next_section, take_run};
+pub use sections::{Progress, begin_frame, close, finish, next_section, run_sections, take_run};
 pub use texts::{refuse_plan, refuse_script, refuse_source, refuse_table, say};
 pub use top::{answer_command, run_frame, run_watched};
 pub use watch::{GateAlone, Watch};

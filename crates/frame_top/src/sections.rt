@@ -1,5 +1,5 @@
 // The run of a script, section after section.
-ghost use Rattle.std.specs.Prelude.{◌≡◌, ◌<◌, ◌≤◌, ℕ, [], length, OnErr, IfOk, IsSome, None, true, false};
+ghost use Rattle.std.specs.Prelude.{◌≡◌, ◌<◌, ◌≤◌, ℕ, List, [], length, OnErr, IfOk, IsSome, None, is_some, true, false};
 ghost use Rattle.job_base.specs.declared.limits.TheConstants.{MOST_TESTS, MOST_WORKERS};
 ghost use Rattle.job_base.specs.Cells.{cells_of};
 ghost use Rattle.frame_ast.specs.declared.script.Script.{Script as ScriptTree};
@@ -18,8 +18,10 @@ ghost use Rattle.frame_top.specs.Answers.{AnswersTo, has_when};
 ghost use Rattle.frame_top.specs.Cells.{AreCellsOf};
 ghost use Rattle.frame_top.specs.Refusals.{answer};
 ghost use Rattle.frame_top.specs.Running.{Closes, GoesOn, HasRun, IsMade, IsReportAt, RunsOn};
+ghost use Rattle.frame_top.specs.Seen.{HasSeen, SectionAt, SeesOne, has_run};
 ghost use Rattle.frame_top.specs.declared.status.TheConstants.{NO_MEMORY, UNWRITTEN};
 
+use crate::extent::Extent;
 use crate::section::{SectionRun, run_section};
 use crate::status::{DONE, NO_MEMORY, STATEMENT_REFUSED, TRAPPED, UNWRITTEN};
 use crate::watch::Watch;
@@ -109,6 +111,18 @@ pub fn begin_frame(alloc: Global, script: &Script) -> Result<Progress, NoMemory>
     })
 }
 
+// The place at which the next section begins: the first statement, or the test at which the last section ended.
+fn next_place(book: &SectionBook, progress: &Progress) -> u32
+    ensures { (script : ScriptTree) (columns : Columns) (sections from : ℕ)
+        → HasRun script columns sections from book.now progress.now → result ≡ from }
+{
+    if progress.held.is_some() {
+        book.place()
+    } else {
+        0
+    }
+}
+
 /// Makes the next section of a frame out of what the last one left.
 pub fn next_section(
     alloc: Global,
@@ -122,6 +136,7 @@ pub fn next_section(
     ensures made { (sections from : ℕ) → HasRun script.now (columns_of table.now) sections from book.old progress.old
         → IfOk result (λ section. IsMade script.now (columns_of table.now) sections from book.new section
         progress.new.report) }
+    ensures held { progress.new.held ≡ progress.old.held }
     ensures waits { progress.new.out ≡ progress.old.out }
     ensures failed { progress.new.failed ≡ progress.old.failed }
 {
@@ -140,6 +155,7 @@ pub fn take_run(alloc: Global, section: Section, ran: SectionRun, progress: &mut
     ensures goes { (script : ScriptTree) (columns : Columns) (sections from : ℕ) (book : SectionBook)
         → IsMade script columns sections from book section progress.old.report
         → GoesOn script columns sections from (plan_lines section.plan) book progress.new result }
+    ensures more { result ≡ is_some section.test }
     ensures waits { progress.new.out ≡ progress.old.out }
     ensures failed { progress.new.failed ≡ ran.failed }
 {
@@ -182,13 +198,23 @@ fn run_next_section<R: Threads + Wait + Sync, S: Sink, W: Watch>(
     ensures next { (sections from : ℕ) → HasRun script.now (columns_of table.now) sections from book.old progress.old
         → IfOk result (RunsOn S.taken S.faults script.now (columns_of table.now) sections from sink.old progress.old
         sink.new book.new progress.new) }
+    ensures seen { (sections from : ℕ) → HasRun script.now (columns_of table.now) sections from book.old progress.old
+        → (first : W) (earlier : List SectionAt) → W.Saw script.now first watch.old earlier
+        → IfOk result (SeesOne (W.Saw script.now first watch.new) script.now (columns_of table.now) from book.new
+        earlier) }
     ensures later { S.faults sink.old ≤ S.faults sink.new }
     ensures sink { OnErr result (sink.new ≡ sink.old) }
     ensures waits { OnErr result (progress.new.out ≡ progress.old.out) }
     ensures failed { OnErr result (progress.new.failed ≡ progress.old.failed) }
 {
+    let from = next_place(book, progress) as usize;
     let section = next_section(alloc, script, table, book, progress)?;
-    watch.begin(alloc, script, progress.held, &section)?;
+    let extent = Extent {
+        from,
+        to: book.place() as usize,
+        held: progress.held,
+    };
+    watch.begin(alloc, script, extent, &section)?;
     let keeps = section.test.is_some();
     let spare = mem::replace(&mut progress.spare, Vec::new(alloc));
     let ran = run_section(
@@ -203,7 +229,7 @@ fn run_next_section<R: Threads + Wait + Sync, S: Sink, W: Watch>(
         sink,
         watch.gate(),
     )?;
-    watch.end(script, &section);
+    watch.end(script, extent, &section);
     Ok(take_run(alloc, section, ran, progress))
 }
 
@@ -267,6 +293,9 @@ pub fn run_sections<R: Threads + Wait + Sync, S: Sink, W: Watch>(
     ensures answer { AnswersTo S.taken S.faults sink.old sink.new
         (λ a. a ≡ answer (status_of script.now (columns_of table.now)) (output_of script.now (columns_of table.now)))
         (λ text. (has_when script.now ≡ true) × (text ≡ output_of script.now (columns_of table.now))) result }
+    // Whoever looks on saw exactly the sections of the script, where it ran.
+    ensures seen { W.Saw script.now watch.old watch.old [] → has_run result ≡ true
+        → HasSeen (W.Saw script.now watch.old watch.new) script.now (columns_of table.now) }
     ensures later { S.faults sink.old ≤ S.faults sink.new }
 {
     let Ok(mut progress) = begin_frame(alloc, script) else {

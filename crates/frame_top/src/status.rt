@@ -1,4 +1,6 @@
 //! The exit statuses of the program.
+ghost use Rattle.std.specs.Prelude.{◌≡◌};
+ghost use Rattle.frame_top.specs.Seen.{has_run};
 
 /// Every statement was accepted and no job trapped, or the depth report was written.
 pub const DONE: u8 = 0;
@@ -29,3 +31,10 @@ pub const NO_MEMORY: u8 = 8;
 
 /// A limit of the language is passed.
 pub const PAST_LIMIT: u8 = 9;
+
+/// Whether a script ran, by the status: every other one tells why none did.
+pub fn has_run(status: u8) -> bool
+    ensures { result ≡ has_run status }
+{
+    status == DONE || (status == STATEMENT_REFUSED || status == TRAPPED)
+}

@@ -11,6 +11,7 @@ ghost use Rattle.frame_top.specs.Answers.{AnswersTo, CanBeCut, CauseBy, Gives, G
 ghost use Rattle.frame_top.specs.Asking.{IsAsked};
 ghost use Rattle.frame_top.specs.Inputs.{HasUnread, IsGiven, IsSource, ReadFails, ReadsScript};
 ghost use Rattle.frame_top.specs.Refusals.{Answer, answer, Refuses, frame_refusal, table_of, table_refusal};
+ghost use Rattle.frame_top.specs.Seen.{HasSeenAsked, has_run};
 ghost use Rattle.frame_top.specs.Words.{asks_depth, bytes_of};
 ghost use Rattle.frame_top.specs.declared.status.TheConstants.{NO_MEMORY, PAST_LIMIT, UNREAD, UNWRITTEN, USAGE};
 
@@ -44,6 +45,9 @@ fn answer_script<R: Threads + Wait + Sync, F: Files, S: Sink, W: Watch>(
         → AnswersTo S.taken S.faults sink.old sink.new
         (CauseBy F.bytes F.faults F.last_failed words files.old files.new) (CanBeCut words (F.bytes files.old)) result }
 
+    ensures seen { (words : List Text) → IsAsked words command.now → ReadsScript words (F.bytes files.old) script.now
+        → asks_depth words ≡ false → W.Saw script.now watch.old watch.old [] → has_run result ≡ true
+        → HasSeenAsked (λ tree. W.Saw tree watch.old watch.new) words (F.bytes files.old) }
     ensures reads { (words : List Text) → IsAsked words command.now
         → ReadFails F.faults F.last_failed words files.old files.new }
     ensures memory { result ≡ NO_MEMORY → F.faults files.new ≡ F.faults files.old }
@@ -78,6 +82,10 @@ pub fn answer_command<R: Threads + Wait + Sync, F: Files, S: Sink, W: Watch>(
     ensures answer { (words : List Text) → IsAsked words command.now → AnswersTo S.taken S.faults sink.old sink.new
         (CauseBy F.bytes F.faults F.last_failed words files.old files.new) (CanBeCut words (F.bytes files.old)) result }
 
+    // Whoever looks on saw exactly the sections of the script, where it ran.
+    ensures seen { (words : List Text) → IsAsked words command.now → asks_depth words ≡ false
+        → ((tree : ScriptTree) → W.Saw tree watch.old watch.old []) → has_run result ≡ true
+        → HasSeenAsked (λ tree. W.Saw tree watch.old watch.new) words (F.bytes files.old) }
     ensures reads { (words : List Text) → IsAsked words command.now
         → ReadFails F.faults F.last_failed words files.old files.new }
     ensures memory { result ≡ NO_MEMORY → F.faults files.new ≡ F.faults files.old }
@@ -112,6 +120,9 @@ fn answer_words<R: Threads + Wait + Sync, F: Files, S: Sink, W: Watch>(
         (CauseBy F.bytes F.faults F.last_failed (bytes_of words.now) files.old files.new)
         (CanBeCut (bytes_of words.now) (F.bytes files.old)) result }
 
+    ensures seen { asks_depth (bytes_of words.now) ≡ false → ((tree : ScriptTree) → W.Saw tree watch.old watch.old [])
+        → has_run result ≡ true
+        → HasSeenAsked (λ tree. W.Saw tree watch.old watch.new) (bytes_of words.now) (F.bytes files.old) }
     ensures reads { ReadFails F.faults F.last_failed (bytes_of words.now) files.old files.new }
     ensures memory { result ≡ NO_MEMORY → (is_of_command (bytes_of words.now) ≡ true)
         × (F.faults files.new ≡ F.faults files.old) }
@@ -133,7 +144,8 @@ fn answer_words<R: Threads + Wait + Sync, F: Files, S: Sink, W: Watch>(
 }
 
 /// Does what [`run_frame`] does while something looks on: it is told of each section before its first piece is entered
-/// and after its last one was left, and gives the gate round the pieces. The answer is the same whoever looks on.
+/// and after its last one was left, of no other, and gives the gate round the pieces. The answer is the same whoever
+/// looks on.
 pub fn run_watched<R: Threads + Wait + Sync, F: Files, S: Sink, W: Watch>(
     rt: &R,
     alloc: Global,
@@ -150,6 +162,11 @@ pub fn run_watched<R: Threads + Wait + Sync, F: Files, S: Sink, W: Watch>(
         → asks_depth (bytes_of words.now) ≡ false
         → Gives F.faults S.taken S.faults files.old files.new sink.old sink.new
         (answer (status_of script (table_of table)) (output_of script (table_of table))) result }
+
+    // Whoever looks on saw exactly the sections of the script, each once, in their order, where it ran.
+    ensures seen { asks_depth (bytes_of words.now) ≡ false → ((tree : ScriptTree) → W.Saw tree watch.old watch.old [])
+        → has_run result ≡ true
+        → HasSeenAsked (λ tree. W.Saw tree watch.old watch.new) (bytes_of words.now) (F.bytes files.old) }
 
     // What is so where a status comes: it has its cause, and the text that goes with it was written whole.
     ensures statuses { result ≤ PAST_LIMIT }

@@ -31,23 +31,6 @@ use Rattle.graph_top.specs.Due.{Reason, NoScript, BadScript, NoTable, BadTable, 
 differ : (b : Bool) → b ≡ true → b ≡ false → ⊥
 differ b p q = cc
 
--- what a depth report is refused for, a picture is
-pub of_answers : (script : Script) (table : Table) (workers : ℕ) (old new : Option Text) (before now : ℕ) (more : Type 0) (result : ℕ)
-    → Answers (FrameCause script table true workers) (IsCut script table true) old new before now result
-    → FrameEnds script table old new before now (Rose before now ⊎ more) result
-of_answers script table workers old new before now more result (Caused a (Refused r) said) = FrameRefused a r said
-of_answers script table workers old new before now more result (Caused a (Ran none plain is) said) = absurd (differ true refl plain)
-of_answers script table workers old new before now more result (Caused a (Reported none deep text report is) (Whole same app count)) =
-    FrameShown none (inl (same ∙ ap (λ (x : Answer). x.status) is))
-of_answers script table workers old new before now more result (Caused a (Reported none deep text report is) (Part same n app rose)) =
-    FrameShown none (inr (same, inl rose))
-of_answers script table workers old new before now more result (Early is app same) = FrameWanting is
-of_answers script table workers old new before now more result (Midway is text cut n app same) = FrameWanting is
-
-pub accepted_is : (script : Script) (table : Table) → column_refusal table script.statements.items ≡ None → first_when script.statements.items ≡ None
-    → limit_of (setting script table) script.statements.items ≡ None → frame_refusal script table true ≡ None
-accepted_is script table columns tests limits = no_refusal script table true columns (no_first script.statements.items tests) limits
-
 -- A COMMAND
 
 -- what was read before doesn't matter
@@ -113,20 +96,20 @@ module _ (words : List Text) (told : Told) (risen : Type 0) (failed : Option Tex
 
       -- what was read is refused as what is given
       refused_as : (other : Script) (t : Option Text) → Reads words told other t
-          → frame_refusal other (table_of t) true ≡ frame_refusal script (table_of table) true
+          → frame_refusal other (table_of t) false ≡ frame_refusal script (table_of table) false
       refused_as other t read =
-          ap (λ u. frame_refusal other (table_of u) true) (same_table words told risen failed script table given other t read)
-          ∙ sym (same_frame_refusal script other (table_of table) true
+          ap (λ u. frame_refusal other (table_of u) false) (same_table words told risen failed script table given other t read)
+          ∙ sym (same_frame_refusal script other (table_of table) false
           (same_script words told risen failed script table given other read.script_is))
 
-      frame_gives_by : (a : Answer) (other : Script) (t : Option Text) → frame_refusal other (table_of t) true ≡ Some a
+      frame_gives_by : (a : Answer) (other : Script) (t : Option Text) → frame_refusal other (table_of t) false ≡ Some a
           → FrameEnds other (table_of t) old new before now (Rose before now ⊎ untaken) result
           → (result ≡ a.status) × Appends old new a.text ⊎ Hindered risen (Rose before now ⊎ untaken) result
-      frame_gives_by a other t r (FrameRefused b r' said) = said_gives a b said (some_once (frame_refusal other (table_of t) true) b a r' r)
+      frame_gives_by a other t r (FrameRefused b r' said) = said_gives a b said (some_once (frame_refusal other (table_of t) false) b a r' r)
       frame_gives_by a other t r (FrameShown none shown) = absurd (none_some a (sym none ∙ r))
       frame_gives_by a other t r (FrameWanting is) = inr (NotFound is)
 
-      pub frame_gives : (a : Answer) → table_refusal table ≡ None → frame_refusal script (table_of table) true ≡ Some a
+      pub frame_gives : (a : Answer) → table_refusal table ≡ None → frame_refusal script (table_of table) false ≡ Some a
           → CommandEnds words told risen failed old new before now (Rose before now ⊎ untaken) result
           → (result ≡ a.status) × Appends old new a.text ⊎ Hindered risen (Rose before now ⊎ untaken) result
       frame_gives a stands r (ByReason b why said) = unread_gives a b said (unread b stands why)
@@ -138,14 +121,14 @@ module _ (words : List Text) (told : Told) (risen : Type 0) (failed : Option Tex
       unread_shows b (Whole is app same) u = inr (NotRead (is ∙ u.0) u.1)
       unread_shows b (Part is n app rose) u = inr (NotTaken is (inl rose))
 
-      shown_by : (other : Script) (t : Option Text) → frame_refusal other (table_of t) true ≡ None
+      shown_by : (other : Script) (t : Option Text) → frame_refusal other (table_of t) false ≡ None
           → FrameEnds other (table_of t) old new before now (Rose before now ⊎ untaken) result
           → (result ≡ DONE) ⊎ Hindered risen (Rose before now ⊎ untaken) result
       shown_by other t none (FrameRefused b r said) = absurd (none_some b (sym none ∙ r))
       shown_by other t none (FrameShown none' shown) = ⊎_elim (λ e. inl e) (λ w. inr (NotTaken w.0 w.1)) shown
       shown_by other t none (FrameWanting is) = inr (NotFound is)
 
-      pub shows : table_refusal table ≡ None → frame_refusal script (table_of table) true ≡ None
+      pub shows : table_refusal table ≡ None → frame_refusal script (table_of table) false ≡ None
           → CommandEnds words told risen failed old new before now (Rose before now ⊎ untaken) result
           → (result ≡ DONE) ⊎ Hindered risen (Rose before now ⊎ untaken) result
       shows stands none (ByReason b why said) = unread_shows b said (unread b stands why)

@@ -1,3 +1,4 @@
 mod Telling
 mod Whens
 mod Due
+mod Sections

@@ -1,7 +1,7 @@
 -- When a picture is due, and when a refusal.
 --
 -- Decided here: for what a frame isn't drawn, and what is said then. In which order the work is done is said in
--- `frame_top` (`Refusals`): it is that of the depth report, which doesn't run a script either.
+-- `frame_top` (`Refusals`): it is that of a run.
 use Rattle.std.specs.Prelude.{◌≡◌, ◌⊎◌, ◌++◌, ℕ, true, false, List, codes, Option, None, Some}
 use Rattle.std.specs.Io.KnownBytes.{Appends}
 use Rattle.job_base.specs.Faults.{Rose}
@@ -28,7 +28,7 @@ pub record IsDrawable (words : List Text) (told : Told) (script : Script) (table
   pub of_graph : is_of_graph words ≡ true
   pub given : IsGiven (plain_words words) told script table
   pub table_stands : table_refusal table ≡ None
-  pub accepted : frame_refusal script (table_of table) true ≡ None
+  pub accepted : frame_refusal script (table_of table) false ≡ None
 
 -- The text of a refusal is given, unless a read failed, a sink failed or memory was wanting.
 abbrev pub GivesNote : {F S E : Type 0} → (F → ℕ) → (S → ℕ) → (E → Option Text) → (E → ℕ) → F → F → S → S → E → E
@@ -61,9 +61,9 @@ IsShown untaken result = (result ≡ DONE) ⊎ (result ≡ UNWRITTEN) × untaken
 -- How a script and its table end: they are refused, or shown, or memory was wanting.
 pub data FrameEnds (script : Script) (table : Table) (old new : Option Text) (before now : ℕ) (untaken : Type 0)
     (result : ℕ) : Type 0 where
-  FrameRefused : (a : Answer) → frame_refusal script table true ≡ Some a → Said old new before now a result
+  FrameRefused : (a : Answer) → frame_refusal script table false ≡ Some a → Said old new before now a result
       → FrameEnds script table old new before now untaken result
-  FrameShown : frame_refusal script table true ≡ None → IsShown untaken result
+  FrameShown : frame_refusal script table false ≡ None → IsShown untaken result
       → FrameEnds script table old new before now untaken result
   FrameWanting : result ≡ NO_MEMORY → FrameEnds script table old new before now untaken result
 

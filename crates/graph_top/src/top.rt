@@ -22,9 +22,12 @@ use frame_top::{
 use graph_words::{GraphCommand, read_graph_words};
 use job_base::{FileFault, Files, Sink};
 use std::alloc::Global;
+use std::sync::Wait;
+use std::thread::Threads;
 
 // Answers for a script that was accepted: reads the table, and goes on with both.
-fn answer_script<F: Files, S: Sink, E: Sink>(
+fn answer_script<R: Threads + Wait + Sync, F: Files, S: Sink, E: Sink>(
+    rt: &R,
     alloc: Global,
     command: &Command,
     dot: bool,
@@ -55,13 +58,14 @@ fn answer_script<F: Files, S: Sink, E: Sink>(
         dot,
     };
     match parse_table(alloc, &bytes) {
-        Ok(table) => answer_frame(alloc, script, &table, style, sink, notes),
+        Ok(table) => answer_frame(rt, alloc, script, &table, style, sink, notes),
         Err(fault) => refuse_table(fault, notes),
     }
 }
 
 // Answers a command: reads the script, and goes on with it.
-fn answer_command<F: Files, S: Sink, E: Sink>(
+fn answer_command<R: Threads + Wait + Sync, F: Files, S: Sink, E: Sink>(
+    rt: &R,
     alloc: Global,
     command: &Command,
     dot: bool,
@@ -86,14 +90,15 @@ fn answer_command<F: Files, S: Sink, E: Sink>(
         Err(FileFault::NoMemory) => return NO_MEMORY,
     };
     match parse_script(alloc, &source) {
-        Ok(script) => answer_script(alloc, command, dot, &script, files, sink, notes),
+        Ok(script) => answer_script(rt, alloc, command, dot, &script, files, sink, notes),
         Err(LoadFault::Refused { line, kind }) => refuse_source(line, kind, notes),
         Err(LoadFault::NoMemory) => NO_MEMORY,
     }
 }
 
 // The work of `graph_frame`.
-fn answer_words<F: Files, S: Sink, E: Sink>(
+fn answer_words<R: Threads + Wait + Sync, F: Files, S: Sink, E: Sink>(
+    rt: &R,
     alloc: Global,
     words: Vec<String>,
     files: &mut F,
@@ -111,7 +116,7 @@ fn answer_words<F: Files, S: Sink, E: Sink>(
 {
     match read_graph_words(alloc, words) {
         Ok(GraphCommand { command, dot }) => answer_command(
-            alloc, &command, dot, files, sink, notes,
+            rt, alloc, &command, dot, files, sink, notes,
         ),
         Err(WordsFault::Usage) => say(
             USAGE,
@@ -124,20 +129,22 @@ fn answer_words<F: Files, S: Sink, E: Sink>(
 }
 
 /// Answers a command line of the program that draws: reads or makes the script that its words ask for, reads the table,
-/// plans the script, and writes the plan's picture to `sink`. The answer is the exit status of the program. The text
+/// plans the script, and writes the plan's picture to `sink`; a script with a `when` is run, by so many workers as the
+/// words ask for, and the pictures of its sections are written. The answer is the exit status of the program. The text
 /// of every status but 0 goes to `notes`.
 ///
 /// | Status | Text |
 /// |---|---|
-/// | 0 | the picture, whatever statements were refused |
+/// | 0 | the picture, whatever statements were refused and jobs trapped |
 /// | 2 | the usage line: the words are not of the command |
-/// | 3 | `script refused line L: KIND`; of a script with a `when` the line of the first one, and `limit` |
+/// | 3 | `script refused line L: KIND` |
 /// | 4 | `table refused: WHAT` or `table refused row R: WHAT` |
 /// | 6 | `cannot read script` or `cannot read table` |
 /// | 7 | some first bytes of another text: a sink failed |
 /// | 8 | nothing: memory was not found |
 /// | 9 | `limit: WHAT` |
-pub fn graph_frame<F: Files, S: Sink, E: Sink>(
+pub fn graph_frame<R: Threads + Wait + Sync, F: Files, S: Sink, E: Sink>(
+    rt: &R,
     alloc: Global,
     words: Vec<String>,
     files: &mut F,
@@ -151,8 +158,8 @@ pub fn graph_frame<F: Files, S: Sink, E: Sink>(
         (IsFrameDrawing (plain_words (map string_bytes words.items)) (F.bytes files.old)
         (is_some (flag_place (map string_bytes words.items)))) result }
 
-    // THE HEADLINE. Where the words ask for a script and a table whose bytes are known, and these are accepted and
-    // without a `when`, their picture is given, unless a read failed, a sink failed or memory ran out.
+    // THE HEADLINE. Where the words ask for a script and a table whose bytes are known, and these are accepted, their
+    // picture is given, unless a read failed, a sink failed or memory ran out.
     ensures headline { (script : ScriptTree) (table : Option Text)
         → IsDrawable (map string_bytes words.items) (F.bytes files.old) script table
         → GivesPicture F.faults S.faults E.faults files.old files.new sink.old sink.new notes.old notes.new result }
@@ -177,7 +184,7 @@ pub fn graph_frame<F: Files, S: Sink, E: Sink>(
     ensures frame_due { (script : ScriptTree) (table : Option Text) (a : Answer)
         → is_of_graph (map string_bytes words.items) ≡ true
         → IsGiven (plain_words (map string_bytes words.items)) (F.bytes files.old) script table
-        → table_refusal table ≡ None → frame_refusal script (table_of table) true ≡ Some a
+        → table_refusal table ≡ None → frame_refusal script (table_of table) false ≡ Some a
         → GivesNote F.faults S.faults E.taken E.faults files.old files.new sink.old sink.new notes.old notes.new
         a result }
 
@@ -186,5 +193,5 @@ pub fn graph_frame<F: Files, S: Sink, E: Sink>(
     ensures notes_later { E.faults notes.old ≤ E.faults notes.new }
     ensures files_later { F.faults files.old ≤ F.faults files.new }
 {
-    answer_words(alloc, words, files, sink, notes)
+    answer_words(rt, alloc, words, files, sink, notes)
 }

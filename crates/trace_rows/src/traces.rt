@@ -76,6 +76,38 @@ const TESTED_TRACE: &str = "[\n\
      \"args\":{\"section\":2}}\n\
      ]\n";
 
+const BLOCK: &str = "parallel scale(x: ro array, y: wo array) { y[index] = x[index] * 3; }\n\
+     array x 2 = 1 2\n\
+     array y 2\n\
+     reference r = 1\n\
+     when r < 2 {\n\
+     schedule h scale(x, y) 2 1\n\
+     complete h\n\
+     print y\n\
+     }\n";
+
+const BLOCK_TRACE: &str = "[\n\
+     {\"name\":\"thread_name\",\"ph\":\"M\",\"pid\":1,\"tid\":0,\"args\":{\"name\":\"script\"}},\n\
+     {\"name\":\"section\",\"cat\":\"script\",\"ph\":\"X\",\"pid\":1,\"tid\":0,\"ts\":0.000,\"dur\":1.000,\
+     \"args\":{\"section\":1}},\n\
+     {\"name\":\"plan\",\"cat\":\"plan\",\"ph\":\"X\",\"pid\":1,\"tid\":0,\"ts\":2.000,\"dur\":1.000,\
+     \"args\":{\"section\":2}},\n\
+     {\"name\":\"line 6\",\"cat\":\"script\",\"ph\":\"X\",\"pid\":1,\"tid\":0,\"ts\":4.000,\"dur\":1.000,\
+     \"args\":{\"section\":2,\"segment\":1}},\n\
+     {\"name\":\"script\",\"cat\":\"script\",\"ph\":\"X\",\"pid\":1,\"tid\":0,\"ts\":6.000,\"dur\":1.000,\
+     \"args\":{\"section\":2,\"segment\":2}},\n\
+     {\"name\":\"wait\",\"cat\":\"wait\",\"ph\":\"X\",\"pid\":1,\"tid\":0,\"ts\":7.000,\"dur\":5.000,\
+     \"args\":{\"jobs\":1}},\n\
+     {\"name\":\"line 8\",\"cat\":\"script\",\"ph\":\"X\",\"pid\":1,\"tid\":0,\"ts\":12.000,\"dur\":1.000,\
+     \"args\":{\"section\":2,\"segment\":3}},\n\
+     {\"name\":\"script\",\"cat\":\"script\",\"ph\":\"X\",\"pid\":1,\"tid\":0,\"ts\":14.000,\"dur\":1.000,\
+     \"args\":{\"section\":2,\"segment\":4}},\n\
+     {\"name\":\"scale\",\"cat\":\"job\",\"ph\":\"X\",\"pid\":1,\"tid\":0,\"ts\":8.000,\"dur\":1.000,\
+     \"args\":{\"job\":1,\"line\":6,\"piece\":1,\"pieces\":2,\"first\":0,\"count\":1}},\n\
+     {\"name\":\"scale\",\"cat\":\"job\",\"ph\":\"X\",\"pid\":1,\"tid\":0,\"ts\":10.000,\"dur\":1.000,\
+     \"args\":{\"job\":1,\"line\":6,\"piece\":2,\"pieces\":2,\"first\":1,\"count\":1}}\n\
+     ]\n";
+
 const USAGE: &str =
     "usage: frame_trace [--workers N] SCRIPT [TABLE] or frame_trace [--workers N] --gen NUMBER --jobs K\n";
 
@@ -109,9 +141,10 @@ fn answer<R: Threads + Wait + Sync + AllocGlobal>(
 }
 
 // Words and a script, with the status, the lines and the trace that they give.
-const CASES: [(&[&str], &str, u8, &str, &str); 6] = [
+const CASES: [(&[&str], &str, u8, &str, &str); 7] = [
     (&["--workers=1", "s"], ROW, 0, "t = 30\n", ROW_TRACE),
     (&["s", "--workers", "1"], TESTED, 0, "r = 1\n", TESTED_TRACE),
+    (&["--workers=1", "s"], BLOCK, 0, "y = [3, 6]\n", BLOCK_TRACE),
     (&["--depth", "s"], ROW, 2, USAGE, ""),
     (&[], ROW, 2, USAGE, ""),
     (&["t"], ROW, 6, "cannot read script\n", ""),

@@ -5,11 +5,10 @@
 //! the run has ended (`trace_text`). The lines of the script go to one sink, and the trace to another one.
 //!
 //! *Promise.* The status and the lines are those of `run_frame`: whoever looks on changes nothing of them. Where the
-//! script ran, the whole text of a trace was written; where that failed the status is another one (`specs/Traced`).
+//! script ran, the whole text of a trace was written, and the trace is of exactly the sections of the script's run,
+//! each once, in their order; where that failed the status is another one (`specs/Traced`).
 //!
-//! *Not said.* That a section of the trace is one of the script, in the contract of `trace_frame`: a run makes no
-//! promise of what it tells to whom looks on. What is shown of a section that was told is a promise of `trace_view`.
-//! And no contract speaks of times.
+//! *Not said.* Times and workers, of which no contract speaks; and the numbers of sections and arrows.
 //!
 //! *Cost.* At a piece two readings of the clock and three stores. Some 130 bytes for a piece are written after the run.
 #![tactic(auto)]
@@ -21,4 +20,3 @@ mod watch;
 mod writing;
 
 pub use top::trace_frame;
-pub use watch::TraceWatch;

@@ -8,7 +8,7 @@ ghost use Rattle.frame_top.specs.Inputs.{IsGiven, IsSource};
 ghost use Rattle.frame_top.specs.Refusals.{Answer, answer, Refuses, frame_refusal, table_of, table_refusal};
 ghost use Rattle.frame_top.specs.Words.{asks_depth, bytes_of, workers_in};
 ghost use Rattle.frame_top.specs.declared.status.TheConstants.{NO_MEMORY, USAGE};
-ghost use Rattle.trace_top.specs.Traced.{EndsTo, GivesTraced, IsTracedTo, is_of_trace, trace_usage_line};
+ghost use Rattle.trace_top.specs.Traced.{AreTracesOf, EndsTo, GivesTraced, IsTracedTo, is_of_trace, trace_usage_line};
 
 use crate::run::trace_command;
 use crate::usage::say_usage;
@@ -73,8 +73,9 @@ pub fn trace_frame<R: Threads + Wait + Sync, C: Clock + Sync, F: Files, L: Sink,
         (answer (status_of script (table_of table)) (output_of script (table_of table))) result }
 
     // Where the status is that of a run, the whole text of a trace was written; where a write failed, some first part
-    // of one may have been; else nothing was.
-    ensures trace { IsTracedTo S.taken S.faults sink.old sink.new (workers_in (bytes_of words.now)) result }
+    // of one may have been; else nothing was. The trace is of exactly the sections of the script's run.
+    ensures trace { IsTracedTo (AreTracesOf (bytes_of words.now) (F.bytes files.old)) S.taken S.faults sink.old sink.new
+        (workers_in (bytes_of words.now)) result }
 
     // Memory isn't wanting for words that aren't of the command that runs.
     ensures no_memory { result ≡ NO_MEMORY → is_of_command (bytes_of words.now) ≡ true }

@@ -1,11 +1,14 @@
 // What notes a run, section by section.
+ghost use Rattle.std.specs.Prelude.{◌≡◌, ◌≤◌, ◌++◌, List, [], ◌∷◌, length, IfOk, OnOk, Some, false, option_copied};
 ghost use Rattle.frame_core.specs.Ordered.{IsWellOrderedPlan};
+ghost use Rattle.frame_top.specs.Seen.{SectionAt, section_at};
+ghost use Rattle.trace_top.specs.Traced.{AreTraces, HasTraced, IsTraceOf};
 
 use frame_ast::script::Script;
 use frame_plan::Section;
 use frame_record::Recorder;
-use frame_top::{Watch, first_when};
-use frame_view::{Story, follow};
+use frame_top::{Extent, Watch};
+use frame_view::{Part, follow_part};
 use job_base::NoMemory;
 use std::alloc::Global;
 use std::rt::Clock;
@@ -14,7 +17,7 @@ use trace_view::{Notes, Place, section_trace};
 
 /// Notes when the pieces of a run were entered and left, and keeps what is shown of its sections.
 #[derive(Drop)]
-pub struct TraceWatch<'a, C> {
+pub(crate) struct TraceWatch<'a, C> {
     recorder: Recorder<'a, C>,
     alloc: Global,
     sections: Vec<SectionTrace>,
@@ -31,17 +34,6 @@ pub struct TraceWatch<'a, C> {
     lost: bool,
 }
 
-// What became of the schedules of a section, where it is the whole script.
-fn story_of(alloc: Global, script: &Script, section: &Section) -> Result<Story, NoMemory> {
-    if first_when(script).is_none() {
-        return follow(alloc, script, &section.plan);
-    }
-    Ok(Story {
-        made: Vec::new(alloc),
-        refused: Vec::new(alloc),
-    })
-}
-
 // How many arrows there are after these.
 fn arrows_after(before: u32, section: &SectionTrace) -> u32 {
     match u32::try_from(section.arrows.len()) {
@@ -52,7 +44,10 @@ fn arrows_after(before: u32, section: &SectionTrace) -> u32 {
 
 impl<'a, C: Clock> TraceWatch<'a, C> {
     /// Of a run of which no section was begun.
-    pub fn new(alloc: Global, clock: &'a C) -> TraceWatch<'a, C> {
+    pub(crate) fn new(alloc: Global, clock: &'a C) -> TraceWatch<'a, C>
+        ensures sections { result.sections.items ≡ [] }
+        ensures found { result.lost ≡ false }
+    {
         TraceWatch {
             recorder: Recorder::new(alloc, clock),
             alloc,
@@ -68,7 +63,10 @@ impl<'a, C: Clock> TraceWatch<'a, C> {
     }
 
     /// What is shown of the sections that were run, and nothing where memory for some of them wasn't found.
-    pub fn sections(&self) -> Option<&[SectionTrace]> {
+    pub(crate) fn sections(&self) -> Option<&[SectionTrace]>
+        ensures { (traces : List SectionTrace) → option_copied result ≡ Some traces
+            → (self.now.lost ≡ false) × (traces ≡ self.now.sections.items) }
+    {
         if self.lost {
             None
         } else {
@@ -86,11 +84,19 @@ impl<'a, C: Clock> TraceWatch<'a, C> {
     }
 
     // What is shown of the section at hand.
-    fn trace(&self, script: &Script, section: &Section) -> Result<SectionTrace, NoMemory>
+    fn trace(
+        &self,
+        script: &Script,
+        extent: Extent,
+        section: &Section,
+    ) -> Result<SectionTrace, NoMemory>
         requires well { IsWellOrderedPlan section.now.plan }
+        requires within { extent.to ≤ length script.now.statements.items }
+        ensures traced { IfOk result (IsTraceOf script.now (section_at extent section.now)) }
     {
         let found = self.recorder.noted(self.alloc)?;
-        let story = story_of(self.alloc, script, section)?;
+        let part = Part::of(script, extent.from, extent.to, extent.held);
+        let story = follow_part(self.alloc, script, part, &section.plan)?;
         let notes = Notes {
             found: &found,
             start: self.start,
@@ -106,10 +112,15 @@ impl<'a, C: Clock> TraceWatch<'a, C> {
     }
 
     // Keeps what is shown of the section at hand.
-    fn keep(&mut self, script: &Script, section: &Section) -> Result<(), NoMemory>
+    fn keep(&mut self, script: &Script, extent: Extent, section: &Section) -> Result<(), NoMemory>
         requires well { IsWellOrderedPlan section.now.plan }
+        requires within { extent.to ≤ length script.now.statements.items }
+        ensures kept { OnOk result ((earlier : List SectionAt)
+            → AreTraces script.now earlier self.old.sections.items
+            → AreTraces script.now (earlier ++ section_at extent section.now ∷ []) self.new.sections.items) }
+        ensures lost { self.new.lost ≡ self.old.lost }
     {
-        let trace = self.trace(script, section)?;
+        let trace = self.trace(script, extent, section)?;
         self.arrows = arrows_after(self.arrows, &trace);
         self.sections.push(trace)?;
         Ok(())
@@ -119,11 +130,15 @@ impl<'a, C: Clock> TraceWatch<'a, C> {
 impl<'a, C: Clock + Sync> Watch for TraceWatch<'a, C> {
     type Gate = Recorder<'a, C>;
 
+    ghost Saw = { λ script first now sections. HasTraced script now.lost now.sections.items sections };
+
+    ghost Begun = { λ script first now earlier s. HasTraced script now.lost now.sections.items earlier };
+
     fn begin(
         &mut self,
         alloc: Global,
         _script: &Script,
-        _held: Option<bool>,
+        _extent: Extent,
         section: &Section,
     ) -> Result<(), NoMemory> {
         let jobs = section.plan.job_pieces();
@@ -141,9 +156,9 @@ impl<'a, C: Clock + Sync> Watch for TraceWatch<'a, C> {
         &self.recorder
     }
 
-    fn end(&mut self, script: &Script, section: &Section) {
+    fn end(&mut self, script: &Script, extent: Extent, section: &Section) {
         self.ran = self.recorder.now();
-        if self.keep(script, section).is_err() {
+        if self.keep(script, extent, section).is_err() {
             self.lost = true;
         }
         self.ended = self.recorder.now();

@@ -1,9 +1,9 @@
 // The text of a trace.
-ghost use Rattle.std.specs.Prelude.{◌≡◌, ◌≤◌};
-ghost use Rattle.trace_top.specs.Traced.{WritesTo, TracesTo, has_run};
+ghost use Rattle.std.specs.Prelude.{◌≡◌, ◌≤◌, Some, option_copied};
+ghost use Rattle.trace_top.specs.Traced.{TracesTo, WritesTo};
 
 use frame_print::print_text;
-use frame_top::status::{DONE, NO_MEMORY, STATEMENT_REFUSED, TRAPPED, UNWRITTEN};
+use frame_top::status::{NO_MEMORY, UNWRITTEN, has_run};
 use job_base::Sink;
 use std::alloc::Global;
 use trace_text::{SectionTrace, trace_text};
@@ -16,7 +16,8 @@ fn write_trace<S: Sink>(
     status: u8,
     sink: &mut S,
 ) -> u8
-    ensures written { WritesTo S.taken S.faults sink.old sink.new workers status result }
+    ensures written { WritesTo (λ traces. traces ≡ sections.now) S.taken S.faults sink.old sink.new workers status
+        result }
     ensures later { S.faults sink.old ≤ S.faults sink.new }
 {
     let Ok(text) = trace_text(alloc, workers, sections) else {
@@ -36,20 +37,14 @@ fn write_known<S: Sink>(
     status: u8,
     sink: &mut S,
 ) -> u8
-    ensures written { WritesTo S.taken S.faults sink.old sink.new workers status result }
+    ensures written { WritesTo (λ traces. option_copied sections.entry ≡ Some traces) S.taken S.faults sink.old
+        sink.new workers status result }
     ensures later { S.faults sink.old ≤ S.faults sink.new }
 {
     match sections {
         Some(sections) => write_trace(alloc, workers, sections, status, sink),
         None => NO_MEMORY,
     }
-}
-
-// Whether the script ran, by the status.
-fn has_run(status: u8) -> bool
-    ensures { result ≡ has_run status }
-{
-    status == DONE || (status == STATEMENT_REFUSED || status == TRAPPED)
 }
 
 /// Ends a run with this status: where the script ran, its trace is written.
@@ -60,7 +55,8 @@ pub(crate) fn end_run<S: Sink>(
     status: u8,
     sink: &mut S,
 ) -> u8
-    ensures traced { TracesTo S.taken S.faults sink.old sink.new workers status result }
+    ensures traced { TracesTo (λ traces. option_copied sections.entry ≡ Some traces) S.taken S.faults sink.old
+        sink.new workers status result }
     ensures later { S.faults sink.old ≤ S.faults sink.new }
 {
     if has_run(status) {

@@ -2,7 +2,9 @@
 
 use graph_top::graph_frame;
 use job_base::{MemFiles, MemSink};
+use std::sync::Wait;
 use std::test::Fail;
+use std::thread::Threads;
 
 const ROW: &str = "parallel scale(x: ro array, y: wo array) { y[index] = x[index] * 3; }\n\
      job total(y: ro array, t: wo ref) { var s = 0; for k in 0..len(y) { s = s + y[k]; } t = s; }\n\
@@ -95,12 +97,55 @@ const AUTO_GRAPH: &str = "digraph section1 {\n  \
      j1 -> j3 [label=\"a\" penwidth=2.5]\n\
      }\n";
 
+const TESTED: &str = "parallel scale(x: ro array, y: wo array) { y[index] = x[index] * 3; }\n\
+     job total(y: ro array, t: wo ref) { var s = 0; for k in 0..len(y) { s = s + y[k]; } t = s; }\n\
+     array x 4 = 1 2 3 4\n\
+     array y 4\n\
+     reference t\n\
+     schedule h1 scale(x, y) 4 2\n\
+     schedule h2 total(y, t) after h1\n\
+     complete h2\n\
+     when t > 20 {\n    \
+     schedule h3 scale(y, x) 4 2\n    \
+     schedule h4 total(x, t)\n    \
+     complete h3\n\
+     }\n\
+     when t < 20 {\n    \
+     schedule h5 scale(x, y) 4 2\n    \
+     complete h5\n\
+     }\n\
+     print x\n";
+
+// A graph for each section: the first block is run, and in it a schedule is refused; the second one is passed by.
+const TESTED_GRAPH: &str = "digraph section1 {\n  \
+     label=\"jobs 2, pieces 3, refused 0; rounds 2, widest 2, workers 4: 2 rounds, at least 2\" labelloc=t\n  \
+     node [shape=box fontname=monospace fontsize=11]\n  \
+     edge [fontname=monospace fontsize=10]\n  \
+     j1 [label=\"job 1 h1\\lscale(x, y)\\lline 6, indexes 4, pieces 2\\lro x\\lwo y\\l\" penwidth=2.5]\n  \
+     j2 [label=\"job 2 h2\\ltotal(y, t)\\lline 7\\lro y\\lwo t\\l\" penwidth=2.5]\n  \
+     j1 -> j2 [label=\"y\" penwidth=2.5]\n\
+     }\n\
+     digraph section2 {\n  \
+     label=\"jobs 1, pieces 2, refused 1; rounds 1, widest 2, workers 4: 1 rounds, at least 1\" labelloc=t\n  \
+     node [shape=box fontname=monospace fontsize=11]\n  \
+     edge [fontname=monospace fontsize=10]\n  \
+     j3 [label=\"job 3 h3\\lscale(y, x)\\lline 10, indexes 4, pieces 2\\lro y\\lwo x\\l\" penwidth=2.5]\n  \
+     r1 [label=\"refused h4\\ltotal(x, t)\\lline 11\\lpending job 3 on x\\l\" color=red fontcolor=red \
+     style=dashed]\n  \
+     j3 -> r1 [label=\"x\" style=dashed color=red fontcolor=red arrowhead=tee]\n\
+     }\n\
+     digraph section3 {\n  \
+     label=\"jobs 0, pieces 0, refused 0; rounds 0, widest 0, workers 4: 0 rounds, at least 0\" labelloc=t\n  \
+     node [shape=box fontname=monospace fontsize=11]\n  \
+     edge [fontname=monospace fontsize=10]\n\
+     }\n";
+
 const USAGE: &str =
     "usage: frame_graph [--workers N] [--dot] SCRIPT [TABLE] or frame_graph [--workers N] [--dot] --gen NUMBER \
      --jobs K\n";
 
 // What the words give on a file `s`: the status, the picture and the notes.
-fn answer<R: AllocGlobal>(
+fn answer<R: Threads + Wait + Sync + AllocGlobal>(
     rt: &R,
     words: &[&str],
     script: &str,
@@ -121,12 +166,17 @@ fn answer<R: AllocGlobal>(
     let mut sink = sink.ok().ok_or("memory")?;
     let notes = MemSink::new(alloc, 4_096, 4_096, Vec::new(alloc));
     let mut notes = notes.ok().ok_or("memory")?;
-    let status = graph_frame(alloc, all, &mut files, &mut sink, &mut notes);
+    let status = graph_frame(rt, alloc, all, &mut files, &mut sink, &mut notes);
     Ok((status, sink, notes))
 }
 
 // A row of the table below: the script, and its graph.
-const GRAPHS: [(&str, &str); 3] = [(ROW, ROW_GRAPH), (RACE, RACE_GRAPH), (AUTO, AUTO_GRAPH)];
+const GRAPHS: [(&str, &str); 4] = [
+    (ROW, ROW_GRAPH),
+    (RACE, RACE_GRAPH),
+    (AUTO, AUTO_GRAPH),
+    (TESTED, TESTED_GRAPH),
+];
 
 #[test]
 fn graphs(rt: HostRuntime) -> Result<(), Fail> {
@@ -140,15 +190,9 @@ fn graphs(rt: HostRuntime) -> Result<(), Fail> {
 }
 
 // Words and a script, with the status and the notes that they give.
-const REFUSED: [(&str, &str, u8, &str); 4] = [
+const REFUSED: [(&str, &str, u8, &str); 3] = [
     ("--depth", "", 2, USAGE),
     ("t", "", 6, "cannot read script\n"),
-    (
-        "s",
-        "reference r\nwhen r < 1 {\nflush\n}\n",
-        3,
-        "script refused line 2: limit\n",
-    ),
     ("s", "print x\n", 3, "script refused line 1: unknown name\n"),
 ];
 

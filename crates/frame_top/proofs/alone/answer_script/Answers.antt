@@ -1,4 +1,3 @@
-use Rattle.std.proofs.Common.{refl}
 use Rattle.frame_top.specs.Answers.{Caused}
 use Rattle.frame_top.specs.Sources.{WithBadTable}
 use Rattle.frame_top.proofs.Sources.{of_frame, of_table}

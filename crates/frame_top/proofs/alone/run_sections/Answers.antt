@@ -1,4 +1,4 @@
-use Rattle.std.proofs.Common.{◌∙◌, refl, subst, arith}
+use Rattle.std.proofs.Common.{refl, subst, arith}
 use Rattle.plan_statements.specs.Tables.{columns_of}
 use Rattle.frame_top.specs.Answers.{Caused}
 use Rattle.frame_top.specs.Running.{RunsOn}
@@ -45,7 +45,7 @@ loop-section-preserved g c =
     (one_more g.S.Sink.taken g.S.Sink.faults _ _ c.loop-section._section _ _ _ _ _ _ _ was
     (subst (λ b. RunsOn g.S.Sink.taken g.S.Sink.faults c.args.script.now (columns_of c.args.table.now) c.loop-section._section was.from c.loop-section.sink
     c.loop-section.progress c.run_next_section.new.sink c.run_next_section.new.book c.run_next_section.new.progress b) c.in-Ok-true.field-0-test next)
-    c.in-Ok-true.ensures.later)
+    c.in-Ok-true.ensures.later).0
 
 pub unreachable-requires : goal.unreachable-requires
 unreachable-requires g c =

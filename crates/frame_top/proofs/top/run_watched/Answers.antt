@@ -46,3 +46,6 @@ returns-clause-depth_due g c script table frame deep =
 
 pub returns-clause-taken_all : goal.returns-clause-taken_all
 returns-clause-taken_all g c e = taken_row _ _ _ _ _ _ _ _ _ _ c.answer_words.ensures.answer e
+
+pub returns-clause-seen : goal.returns-clause-seen
+returns-clause-seen g c plain saw ran = c.answer_words.ensures.seen plain saw ran

@@ -1,65 +1,31 @@
-use Rattle.std.proofs.Common.{inl, inr, true, refl, sym, subst}
-use Rattle.graph_top.specs.Drawn.{Whole, Part, IsDrawn, IsDrawing}
+use Rattle.std.proofs.Common.{refl, sym, subst}
 use Rattle.plan_statements.specs.Tables.{columns_of}
+use Rattle.graph_top.specs.Due.{FrameEndsTo}
 use Rattle.graph_top.proofs.Whens.{none_first}
-use Rattle.frame_top.proofs.Framing.{from_same, when_refuses, no_plan}
-use Rattle.graph_top.specs.Due.{FrameShown}
-use Rattle.graph_top.proofs.Due.{of_answers, accepted_is}
+use Rattle.graph_top.proofs.Sections.{missing_ends, some_first}
 use Rattle.graph_top.proofs.frame.answer_frame.Goals as goal
 
-pub plan-requires-clause-whole : goal.plan-requires-clause-whole
-plan-requires-clause-whole g c = none_first c.args.script.now.statements.items (sym c.in_default-first_when.ensures)
-
-pub returns-in-Ok-print_text-clause-drawn : goal.returns-in-Ok-print_text-clause-drawn
-returns-in-Ok-print_text-clause-drawn g c =
-    let style = c.args.style in
-    let drawing : IsDrawing c.args.script.now (columns_of c.args.table.now) style.workers style.dot c.as_bytes.result.now = record {
-      plan = c.in-Ok.plan;
-      is_plan = c.in-Ok.ensures.plan;
-      drawn = subst (λ b. IsDrawn c.args.script.now c.in-Ok.plan style.workers style.dot b) (sym c.as_bytes.ensures.value)
-          c.in-Ok-picture_text.ensures;
-    } in
-    Whole refl c.as_bytes.result.now drawing c.in-Ok-print_text.ensures.text c.in-Ok-print_text.ensures.count
-
-pub returns-clause-drawn : goal.returns-clause-drawn
-returns-clause-drawn g c =
-    let style = c.args.style in
-    let drawing : IsDrawing c.args.script.now (columns_of c.args.table.now) style.workers style.dot c.as_bytes.result.now = record {
-      plan = c.in-Ok.plan;
-      is_plan = c.in-Ok.ensures.plan;
-      drawn = subst (λ b. IsDrawn c.args.script.now c.in-Ok.plan style.workers style.dot b) (sym c.as_bytes.ensures.value)
-          c.in-Ok-picture_text.ensures;
-    } in
-    let some = c.in-Err-print_text.ensures.text in
-    Part refl c.as_bytes.result.now drawing some.0 some.1 c.in-Err-print_text.ensures.cause
-
 pub returns-in-Some-clause-ends : goal.returns-in-Some-clause-ends
-returns-in-Some-clause-ends g c = of_answers _ _ c.args.style.workers _ _ _ _ _ _ (c.in-Some.ensures.missing true c.args.style.workers)
+returns-in-Some-clause-ends g c = missing_ends _ _ _ _ _ _ _ _ c.in-Some.ensures.said
+
+pub draw_plan-requires-clause-columns : goal.draw_plan-requires-clause-columns
+draw_plan-requires-clause-columns g c = c.in_default.ensures.none refl
+
+pub draw_plan-requires-clause-whole : goal.draw_plan-requires-clause-whole
+draw_plan-requires-clause-whole g c = none_first c.args.script.now.statements.items (sym c.in-None.ensures)
+
+pub draw_run-requires-clause-columns : goal.draw_run-requires-clause-columns
+draw_run-requires-clause-columns g c lives within = c.in_default.ensures.none refl
+
+pub draw_run-requires-clause-tested : goal.draw_run-requires-clause-tested
+draw_run-requires-clause-tested g c lives within = some_first c.args.script.now.statements.items _ (sym c.in-Some-first_when.ensures)
+
+pub returns-in-None-clause-ends : goal.returns-in-None-clause-ends
+returns-in-None-clause-ends g c =
+    subst (λ n. FrameEndsTo g.S.Sink.faults g.E.Sink.taken g.E.Sink.faults c.args.sink.now c.draw_plan.new.sink n c.draw_plan.new.notes c.args.script.now
+    (columns_of c.args.table.now) c.draw_plan.result) (c.in_default.ensures.same refl) c.draw_plan.ensures.ends
 
 pub returns-in-Some-first_when-clause-ends : goal.returns-in-Some-first_when-clause-ends
 returns-in-Some-first_when-clause-ends g c =
-    of_answers _ _ c.args.style.workers _ _ _ _ _ _
-    (from_same g.E.Sink.taken g.E.Sink.faults _ _ _ _ _ _ (c.in_default.ensures.same refl)
-    (when_refuses g.E.Sink.taken g.E.Sink.faults _ _ _ _ _ _ _ (c.in_default.ensures.none refl) (sym c.in-Some-first_when.ensures)
-    c.refuse_script.ensures.said))
-
-pub returns-in-Err-clause-ends : goal.returns-in-Err-clause-ends
-returns-in-Err-clause-ends g c =
-    of_answers _ _ c.args.style.workers _ _ _ _ _ _
-    (from_same g.E.Sink.taken g.E.Sink.faults _ _ _ _ _ _ (c.in_default.ensures.same refl)
-    (no_plan g.E.Sink.taken g.E.Sink.faults _ _ _ _ _ _ _ (c.in_default.ensures.none refl) (sym c.in_default-first_when.ensures)
-    c.in-Err.ensures.limit c.refuse_plan.ensures.said c.refuse_plan.ensures.none))
-
-pub returns-in-Ok-print_text-clause-ends : goal.returns-in-Ok-print_text-clause-ends
-returns-in-Ok-print_text-clause-ends g c =
-    FrameShown
-    (accepted_is c.args.script.now (columns_of c.args.table.now) (c.in_default.ensures.none refl)
-    (sym c.in_default-first_when.ensures) c.in-Ok.ensures.within)
-    (inl refl)
-
-pub returns-clause-ends : goal.returns-clause-ends
-returns-clause-ends g c =
-    FrameShown
-    (accepted_is c.args.script.now (columns_of c.args.table.now) (c.in_default.ensures.none refl)
-    (sym c.in_default-first_when.ensures) c.in-Ok.ensures.within)
-    (inr (refl, inr c.in-Err-print_text.ensures.cause))
+    subst (λ n. FrameEndsTo g.S.Sink.faults g.E.Sink.taken g.E.Sink.faults c.args.sink.now c.draw_run.new.sink n c.draw_run.new.notes c.args.script.now
+    (columns_of c.args.table.now) c.draw_run.result) (c.in_default.ensures.same refl) c.draw_run.ensures.ends
