@@ -1,12 +1,13 @@
-/* Runs frame scripts inside a C or C++ program, on the thread that calls.
+/* Runs frame scripts inside a C or C++ program: whole, on the thread that calls (frame_jobs_run), or frame by frame with
+ * the program's own arrays and threads (frame_open and the calls after it).
  *
  * Link libframe_jobs.a and the three functions over malloc, realloc and free in liblibc_c.a of the kit. docs/EMBEDDING.md
  * has a whole program and its link line.
  *
- * Threads: the call starts none and waits for none. It keeps nothing from one call to the next and touches nothing but
- * what it is given, so several threads may call it at once, each with an output buffer and a length of its own. Call it
- * neither from a signal handler nor in the child of a fork of a program with threads, since it takes memory from malloc.
- * It sets no signal handler and raises no exception.
+ * Threads: no call starts one, waits, sleeps or takes a lock. A call keeps nothing but what its handles have and touches
+ * nothing but what it is given, so several threads may call at once, each with handles, buffers and lengths of its own.
+ * Call none from a signal handler, nor in the child of a fork of a program with threads, since they take memory from
+ * malloc. None sets a signal handler or raises an exception.
  */
 #ifndef FRAME_JOBS_H
 #define FRAME_JOBS_H
@@ -53,6 +54,125 @@ enum frame_jobs_status {
  */
 uint8_t frame_jobs_run(const uint8_t *script, size_t script_len, bool has_table, const uint8_t *table, size_t table_len,
                        uint8_t *out, size_t out_size, size_t *out_len);
+
+/* FRAMES: a script is read once and run again and again, with other arrays, by the program's own threads.
+ *
+ *     frame_open(text, length, &script, &line);               once
+ *     frame_column(&columns, name, name_len, values, count);  for each array of the frame
+ *     frame_begin(&script, &columns, &frame);
+ *     do {
+ *         frame_next(&frame, helpers);
+ *         frame_helper(&frame, &helper);                      for each thread that helps, which calls
+ *                                                             frame_help(&helper) until that answers FRAME_OVER,
+ *                                                             and then frame_close(&helper)
+ *         while (frame_turn(&frame) == FRAME_AGAIN) {}        meanwhile, on the frame's own thread
+ *         status = frame_end(&frame);                         again while that answers FRAME_BUSY
+ *     } while (status == FRAME_NEXT);
+ *     frame_read(&frame, name, name_len, values, room, &count);
+ *     frame_close(&frame);
+ *     frame_close(&script);                                   once
+ *
+ * A handle is the program's to keep and to move, but not to look into. It is empty where `at` is NULL, as it is at first.
+ * What it has is given up by frame_close alone, or by a call that says so. A copy of a handle is no second one: use one
+ * of them only. A handle may go from thread to thread, by a lock, a start or a join of a thread, or a sequentially
+ * consistent atomic, and is given to one call at a time. Different handles, those of one frame and its helpers too, may
+ * be given to calls on different threads at once.
+ *
+ * A call that isn't one for what its handle has answers FRAME_NOT_NOW, and changes nothing: a call at a wrong time is
+ * never undefined. Blocks (text, names, values, buffers) stay the caller's, and each call is done with them when it
+ * returns; what is said of them at frame_jobs_run holds of each call. No handle overlaps another one or a block.
+ */
+typedef struct frame_handle {
+    void *at;
+} frame_handle;
+
+/* What the calls on handles answer beside the statuses above. */
+enum frame_status {
+    /* The call isn't one for what its handles have. Nothing was changed. */
+    FRAME_NOT_NOW = 10,
+    /* frame_turn, frame_help: something was run, and there may be more. */
+    FRAME_AGAIN = 11,
+    /* frame_help: nothing was found to run now. There may be later. */
+    FRAME_IDLE = 12,
+    /* frame_turn: all segments are run. frame_help: the section is run; close the helper. */
+    FRAME_OVER = 13,
+    /* frame_end: the script tests what it has computed, and goes on: frame_next is the next call. */
+    FRAME_NEXT = 14,
+    /* frame_end: segments aren't run yet, or helpers aren't closed yet. The frame is as it was. */
+    FRAME_BUSY = 15,
+    /* frame_helper: no place is left. frame_read: no such name, or nothing that can be read as numbers. */
+    FRAME_NONE = 16
+};
+
+/* Reads a script into an empty handle. 0, or 3 where the bytes are no script, with the line of the first faulty token in
+ * *line; 8; or 9 where they are more than a script may have. The handle is empty after all but 0. */
+uint8_t frame_open(const uint8_t *script, size_t script_len, frame_handle *handle, uint32_t *line);
+
+/* Gives the empty handle `other` the script of `script`: a second owner, so that another thread can begin frames of it at
+ * the same time. 0 or 8. The script is freed when the last of its handles and frames is closed. */
+uint8_t frame_share(frame_handle *script, frame_handle *other);
+
+/* Copies an array of numbers into a handle for arrays, or into an empty one, under the name that a `column` statement of
+ * the script asks for. Each array has a length of its own; of two of one name the first counts. 0; or 8, and then the
+ * handle is empty. */
+uint8_t frame_column(frame_handle *columns, const uint8_t *name, size_t name_len, const int64_t *values, size_t count);
+
+/* Begins a frame of a script in the empty handle `frame`, with the arrays of `columns`, which may be empty, and is so
+ * afterwards: the frame owns them, or they are given up where there is none. The script stays as it is. 0; 4 where a
+ * column is missing; 9 where a limit of the language is passed; or 8. */
+uint8_t frame_begin(frame_handle *script, frame_handle *columns, frame_handle *frame);
+
+/* Makes the next section of a frame, the first one too, and all memory that its run needs, with a place for each of so
+ * many helpers; for no more than it has pieces of jobs. 0; or 8, and then the frame is given up and its handle empty. */
+uint8_t frame_next(frame_handle *frame, uint32_t helpers);
+
+/* Gives the empty handle `helper` a place in the section of `frame`, for another thread. 0, 16 where no place is left, or
+ * 8. Called by the thread that owns the frame, before or while the section is run. */
+uint8_t frame_helper(frame_handle *frame, frame_handle *helper);
+
+/* Runs at most one segment of the script, or one piece of a job while the script waits for a job, and returns at once.
+ * 11 or 13. Called by the thread that owns the frame, which is the script's; it gets through with no helper too. */
+uint8_t frame_turn(frame_handle *frame);
+
+/* Runs at most one piece of a job of the helper's section, and returns at once. 11, 12 or 13. */
+uint8_t frame_help(frame_handle *helper);
+
+/* Ends a section that is run, once its helpers are closed. 0, 1 or 5: it was the last one, and this is the status of the
+ * script; the handle has what it came to, for frame_read, frame_text and frame_report. 14: another one follows. 15: not
+ * yet. 8: the frame is given up, and its handle empty. */
+uint8_t frame_end(frame_handle *frame);
+
+/* Copies to `out` what the container of this name holds at the script's end: the elements of an array or a list, or the
+ * value of a reference. *out_len is how many there are. 0; or 7 where there are more than `room`, and then `out` has the
+ * first ones. 16, and nothing is written, where the script has no such name, or it is one of a map, of a stream, of
+ * jobs, of a part of a container, or of a container that was refused, lost or disposed. */
+uint8_t frame_read(frame_handle *frame, const uint8_t *name, size_t name_len, int64_t *out, size_t room,
+                   size_t *out_len);
+
+/* Copies to `out` what the script prints, with the lines of its refusals and traps. 0; or 7 where that is longer than
+ * `room`, and then `out` has the first bytes. *out_len is the length of the whole text. */
+uint8_t frame_text(frame_handle *frame, uint8_t *out, size_t room, size_t *out_len);
+
+/* What a frame came to, as numbers. */
+typedef struct frame_report_of {
+    /* How many statements were refused. */
+    uint64_t refused;
+    /* How many runs of kernels trapped. */
+    uint64_t traps;
+    /* The first trap, where there is one: its job, counted from 1 in the order of the script; its index; and which trap:
+     * 1 overflow, 2 division by zero, 3 range, 4 another index's place, 5 full, 6 missing key, 7 present key, 8 written
+     * twice, 9 too many steps. */
+    uint32_t job;
+    uint32_t index;
+    uint32_t trap;
+} frame_report_of;
+
+/* Copies the report of a frame at its end. 0. */
+uint8_t frame_report(frame_handle *frame, frame_report_of *report);
+
+/* Gives up what a handle has, whatever it is, and frees it. The handle is empty afterwards. A frame may be given up at any
+ * time; while helpers of its section are left, their threads may go on, and the last one that is closed frees it. */
+void frame_close(frame_handle *handle);
 
 #ifdef __cplusplus
 }

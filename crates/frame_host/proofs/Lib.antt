@@ -1,5 +1,6 @@
-mod Lines
 mod Beginning
+mod Ending
+mod Lines
 mod Making
 mod Turning
-mod Ending
+pub mod Numbering

@@ -2,12 +2,16 @@
 --
 -- A frame stands between two sections, or in one. Decided here is what was said until then, and that what comes next
 -- can be run. Who takes which turn, and when, is decided by the caller alone, and none of it says who did.
-use Rattle.std.specs.Prelude.{◌≡◌, ℕ, Bool, false, ℤ, List, [], ◌++◌, length, All, Option, Some, IfSome}
+use Rattle.std.specs.Prelude.{◌≡◌, ◌<◌, ℕ, Bool, false, ℤ, List, [], ◌++◌, length, All, Option, Some, IfSome}
+use Rattle.job_base.specs.Cells.{cells_of}
 use Rattle.frame_ast.specs.declared.script.Script.{Script}
 use Rattle.frame_ast.specs.Accepted.{IsAccepted}
 use Rattle.frame_ast.specs.Orders.{Table}
 use Rattle.frame_ast.specs.Scripts.{output_of, status_of}
+use Rattle.frame_ast.specs.States.{ScriptState}
 use Rattle.frame_core.specs.Output.{plan_lines}
+use Rattle.frame_plan.specs.Bindings.{IsBindAt, bind_in}
+use Rattle.frame_plan.specs.declared.sections.SectionBook.{SectionBook}
 use Rattle.plan_run.specs.Runs.{IsReport, RunsBetween, is_fault, report_of}
 use Rattle.plan_run.specs.Says.{SaysTo}
 use Rattle.plan_run.specs.declared.run_end.RunEnd.{RunEnd}
@@ -123,21 +127,32 @@ pub record IsRun (frame : Frame) (stage : Stage) (place : Place WordSeat) (left 
   pub said : WasSaid frame.text frame.progress.out (is_fault end)
       ((state_at (tree_in frame) (table_in frame) from).lines ++ plan_lines stage.section.plan)
 
--- AT THE END: the last section was run.
-pub record IsToFinish (frame : Frame) : Type 0 where
+-- AT THE END
+
+-- The book knows where the contents of each name lie among these cells that stands for a container in this state.
+abbrev pub AreReadable : Script → ScriptState → SectionBook → List ℤ → Type 0
+AreReadable script s book cells = (name : ℕ)
+    → name < length script.names.items
+    → IsBindAt s (cells_of cells) (length cells) name (bind_in book name)
+
+-- The last section was run, and left these cells.
+pub record IsToFinish (frame : Frame) (cells : List ℤ) : Type 0 where
   pub to : ℕ
   pub last : to ≡ length (tree_in frame).statements.items
   pub report : IsReportAt (state_at (tree_in frame) (table_in frame) to) frame.progress.report
   pub said : WasSaid frame.text frame.progress.out false (state_at (tree_in frame) (table_in frame) to).lines
   pub written : frame.progress.failed ≡ false
+  pub reads : AreReadable (tree_in frame) (state_at (tree_in frame) (table_in frame) to) frame.book cells
 
--- THE ANSWER is that of the script's meaning with its columns: the status, the text, and as numbers the refused
--- statements and the traps.
+-- THE ANSWER is that of the script's meaning with its columns: the status, the text, as numbers the refused statements
+-- and the traps, and what the containers hold.
 pub record IsAnswer (answer : FrameAnswer) : Type 0 where
   pub status : answer.status ≡ status_of (answered_tree answer) (answered_table answer)
   pub text : answer.text.items ≡ output_of (answered_tree answer) (answered_table answer)
   pub report : IsReportAt (state_at (answered_tree answer) (answered_table answer)
       (length (answered_tree answer).statements.items)) answer.report
+  pub reads : AreReadable (answered_tree answer) (state_at (answered_tree answer) (answered_table answer)
+      (length (answered_tree answer).statements.items)) answer.book answer.cells.items
 
 -- After a section of this script comes another one of it, or its answer; or memory wasn't found.
 abbrev pub EndsAs : Script → List NamedColumn → FrameEnd → Type 0

@@ -1,3 +1,4 @@
 -- promises
 pub mod Scripts
 pub mod Frames
+pub mod Reading

@@ -2,6 +2,7 @@
 
 use crate::frame::Frame;
 use frame_ast::script::Script;
+use frame_plan::SectionBook;
 use frame_print::Report;
 use std::alloc::Global;
 use std::sync::Arc;
@@ -19,6 +20,9 @@ pub struct FrameAnswer {
     // of which it is the answer
     pub(crate) tree: Arc<Script, Global>,
     pub(crate) table: Table,
+    // where its containers lie, and the cells that its last section left
+    pub(crate) book: SectionBook,
+    pub(crate) cells: Vec<i64>,
 }
 
 /// What comes after a section.

@@ -23,6 +23,7 @@
 mod answer;
 mod frame;
 mod opening;
+mod reading;
 mod script;
 mod section;
 mod taking;

@@ -1,5 +1,5 @@
 // The end of a section: its board is closed, and the frame takes over what it came to.
-ghost use Rattle.std.specs.Prelude.{◌≡◌};
+ghost use Rattle.std.specs.Prelude.{◌≡◌, false, true};
 ghost use Rattle.frame_host.specs.Frames.{EndsAs, IsBetween, IsRun, IsToFinish, columns_in, tree_in};
 
 use crate::answer::{FrameAnswer, FrameEnd};
@@ -14,9 +14,9 @@ use std::alloc::Global;
 use steal_pool::Place;
 use word_board::WordSeat;
 
-// The answer of a frame whose last section was run.
-fn answer_of(frame: Frame) -> FrameEnd
-    requires last { IsToFinish frame }
+// The answer of a frame whose last section was run, and left these cells.
+fn answer_of(frame: Frame, cells: FlatMem) -> FrameEnd
+    requires last { IsToFinish frame cells }
     ensures { EndsAs (tree_in frame) (columns_in frame) result }
 {
     let mut frame = frame;
@@ -29,6 +29,7 @@ fn answer_of(frame: Frame) -> FrameEnd
         tree,
         table,
         text,
+        book,
         ..
     } = frame;
     FrameEnd::Over(FrameAnswer {
@@ -37,7 +38,18 @@ fn answer_of(frame: Frame) -> FrameEnd
         report,
         tree,
         table,
+        book,
+        cells: cells.into_cells(),
     })
+}
+
+// The cells for the next section, where there is one, and those that stay with the answer.
+fn share_out(alloc: Global, goes_on: bool, left: FlatMem) -> (FlatMem, FlatMem)
+    ensures handed { goes_on ≡ true → result.0 ≡ left }
+    ensures kept { goes_on ≡ false → result.1 ≡ left }
+{
+    let none = FlatMem::of(Vec::new(alloc));
+    if goes_on { (left, none) } else { (none, left) }
 }
 
 /// Closes the board of a section that was run, and takes over what it came to.
@@ -59,10 +71,11 @@ pub(crate) fn take_section(
     } = stage;
     let mut left = left;
     board.close(place.into_seat(), &mut left);
+    let (handed, kept) = share_out(alloc, section.test.is_some(), left);
     let ran = SectionRun {
         report: end.report(),
         failed: end.is_fault(),
-        left,
+        left: handed,
     };
     let mut frame = frame;
     let more = take_run(alloc, section, ran, &mut frame.progress);
@@ -72,6 +85,6 @@ pub(crate) fn take_section(
     if more {
         FrameEnd::Next(frame)
     } else {
-        answer_of(frame)
+        answer_of(frame, kept)
     }
 }

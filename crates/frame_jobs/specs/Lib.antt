@@ -1,2 +1,4 @@
 -- promises
 pub mod Calls
+pub mod Holding
+pub mod Hosting

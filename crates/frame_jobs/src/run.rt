@@ -8,7 +8,7 @@ ghost use Rattle.frame_top.specs.Sources.{IsAcceptedFrame};
 ghost use Rattle.frame_top.specs.declared.status.TheConstants.{NO_MEMORY, UNWRITTEN};
 ghost use Rattle.frame_jobs.specs.Calls.{Comes, Fills, given};
 
-use crate::kept::KeptText;
+use frame_host::KeptText;
 use frame_top::run_source;
 use frame_top::status::{NO_MEMORY, UNWRITTEN};
 use std::alloc::Global;
