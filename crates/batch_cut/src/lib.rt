@@ -3,8 +3,6 @@
 
 mod cutting;
 mod pieces;
-#[cfg(test)]
-mod tests;
 
 pub use cutting::cut;
 pub use pieces::Cut;

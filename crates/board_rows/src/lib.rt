@@ -2,7 +2,7 @@
 //! 1, 4 and 64 workers: on the board without locks, which the program uses, and on the one with a lock, which has to
 //! give the same. Two workers that run at once, and sinks that fail, on each board. And worked scripts that are planned
 //! and then looked at, replayed and measured: what plans say, legal and illegal events, a board before a run and after
-//! runs, footprints, depths and limits. Tests alone.
+//! runs, footprints, guards, depths and limits. Tests alone.
 //!
 //! **Which rows.** Those of `worked_rows` whose scripts are accepted and have one plan. A script with a block that is
 //! decided has a plan for each section, and what is printed of all of them is told by the top call.
@@ -20,6 +20,8 @@ mod boards;
 mod depths;
 #[cfg(test)]
 mod footprints;
+#[cfg(test)]
+mod guards;
 #[cfg(test)]
 mod limits;
 #[cfg(test)]

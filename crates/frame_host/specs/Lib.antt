@@ -1,4 +1,5 @@
 -- promises
 pub mod Scripts
+pub mod Reports
 pub mod Frames
 pub mod Reading

@@ -1,1 +1,2 @@
+-- promises
 pub mod GraphWords

@@ -10,7 +10,5 @@
 #![tactic(auto)]
 
 mod guarding;
-#[cfg(test)]
-mod tests;
 
 pub use guarding::{GuardFault, guard};

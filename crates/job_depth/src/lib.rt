@@ -19,8 +19,6 @@ mod measure;
 mod printing;
 mod report;
 mod rounds;
-#[cfg(test)]
-mod tests;
 
 pub use measure::depth;
 pub use printing::print_depth;

@@ -1,2 +1,3 @@
+-- promises
 pub mod Sets
 pub mod Books

@@ -1,3 +1,5 @@
+-- promises
+pub mod Visits
 -- for this crate's own contracts
 pub mod Machines
 pub mod Engines

@@ -45,7 +45,7 @@ pub fn list(start: u32, cap: u32) -> Bind {
 }
 
 pub fn map(start: u32, cap: u32) -> Bind {
-    Bind::Map(MapAt { start, cap })
+    Bind::Map(MapAt::new(start, cap))
 }
 
 pub fn view(start: u32, cap: u32, own: u32) -> Bind {

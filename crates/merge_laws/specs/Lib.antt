@@ -1,3 +1,4 @@
+-- promises
 pub mod Numbers
 pub mod Graph
 pub mod Core
@@ -17,6 +18,7 @@ pub mod Pieces
 pub mod Ledger
 pub mod Planning
 pub mod PlanLaws
+-- worked cases
 pub mod Diamond
 pub mod Examples
 pub mod Reuse

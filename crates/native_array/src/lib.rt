@@ -11,8 +11,6 @@
 pub mod array;
 pub mod laws;
 pub mod reference;
-#[cfg(test)]
-mod tests;
 
 pub use array::ArrayAt;
 pub use reference::RefAt;

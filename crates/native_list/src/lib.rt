@@ -13,8 +13,6 @@
 mod changing;
 pub mod laws;
 mod reading;
-#[cfg(test)]
-mod tests;
 
 /// A list of at most `cap` elements, whose words begin at `start`: the length, and then the cells.
 ///

@@ -1,5 +1,6 @@
 pub mod Ints
 pub mod Probing
+pub mod Masks
 pub mod Tables
 pub mod Sizes
 pub mod Rising

@@ -1,9 +1,10 @@
 -- How many places a table has.
-use Rattle.std.proofs.Common.{◌≡◌, ◌≢◌, ℕ, zero, suc, ℤ, List, ◌+◌, ◌-◌, ◌*◌, ◌/◌, ◌^◌, ◌<◌, ◌≤◌, cond, leb, max, sym, ap, subst, ◌∙◌, arith, inl, inr}
+use Rattle.std.proofs.Common.{◌≡◌, ◌≢◌, ℕ, zero, suc, ℤ, List, ◌+◌, ◌-◌, ◌*◌, ◌/◌, ◌%◌, ◌^◌, ◌<◌, ◌≤◌, cond, leb, max, refl, sym, ap, subst, ◌∙◌, arith, inl, inr}
 use Rattle.std.proofs.lemmas.Bool.{cases_eq, cases_lt, leb-true, le-leb, lt-leb, cond_both}
 use Rattle.std.proofs.lemmas.Nat.{pow_below}
 use Rattle.frame_ast.specs.Contents.{Pairs, doubled, words_of}
 use Rattle.native_map.specs.declared.MapAt.{MapAt}
+use Rattle.native_map.specs.Places.{mask_of}
 use Rattle.native_map.specs.Table.{places, end_of}
 
 twice : (a : ℕ) → 2 * 2 ^ a ≡ 2 ^ suc a
@@ -88,3 +89,18 @@ map_room at fits = places_room at.cap (omega arith)
 pub words_of-is : (cap : ℕ) (ps : List (ℤ × ℤ)) → 3 * places cap + 1 ≡ words_of (Pairs cap ps)
 unfolding places
 words_of-is cap ps = omega arith
+
+-- ---- the number is a power of two
+
+doubled_power : (turns a n : ℕ) → (k : ℕ) × (doubled turns (2 ^ a) n ≡ 2 ^ k)
+doubled_power zero a n = (a, refl)
+doubled_power (suc turns) a n = cond_both (leb n (2 ^ a)) (2 ^ a) (doubled turns (2 * 2 ^ a) n) (λ x. (k : ℕ) × (x ≡ 2 ^ k)) (λ _. (a, refl))
+    (λ _. subst (λ x. (k : ℕ) × (doubled turns x n ≡ 2 ^ k)) (sym (twice a)) (doubled_power turns (suc a) n))
+
+pub places_power : (cap : ℕ) → (k : ℕ) × (places cap ≡ 2 ^ k)
+unfolding places
+places_power cap = doubled_power 64 1 (2 * cap)
+
+-- where it is below 2^32, a bind keeps all of it
+pub places_kept : (cap m : ℕ) → m ≡ mask_of cap → places cap < 2 ^ 32 → m + 1 ≡ places cap
+places_kept cap m e fits = omega (arith, e, places_two cap)

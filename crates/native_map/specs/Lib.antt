@@ -1,3 +1,5 @@
+-- promises
+pub mod Places
 pub mod Table
 pub mod Words
 pub mod Layout

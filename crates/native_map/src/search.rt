@@ -7,7 +7,7 @@ ghost use Rattle.native_map.specs.Layout.{IsWordForm};
 ghost use Rattle.native_map.specs.Effects.{get_effect, has_effect};
 
 use crate::MapAt;
-use crate::place::{home, next_place, places};
+use crate::place::{home, next_place};
 use job_base::{Mem, Trap};
 
 /// Where the search for a key ended.
@@ -31,7 +31,7 @@ impl MapAt {
         ensures readable { M.readable mem.new ≡ M.readable mem.old }
         ensures writable { M.writable mem.new ≡ M.writable mem.old }
     {
-        let t = places(self.cap);
+        let t = self.places();
         let mut p = home(t, k);
         for _ in 0..t {
             if !self.holds(mem, p) {

@@ -1,3 +1,4 @@
+-- promises
 pub mod Layout
 pub mod Words
 pub mod Effects

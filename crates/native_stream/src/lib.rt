@@ -14,8 +14,6 @@
 pub mod laws;
 mod place;
 mod reading;
-#[cfg(test)]
-mod tests;
 mod writing;
 
 pub use place::words_of;

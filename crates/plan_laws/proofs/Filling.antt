@@ -6,6 +6,7 @@ use Rattle.job_base.proofs.Windows.{write_cells-inside, cell_list-write_cells}
 use Rattle.frame_ast.specs.Contents.{Contents, Cells as Elements, Single, Items, Pairs, Entries, words_of}
 use Rattle.frame_ast.specs.Forms.{form_of}
 use Rattle.native_list.proofs.OwnWords.{zero_words_are_empty}
+use Rattle.native_map.specs.Table.{map_at}
 use Rattle.native_map.proofs.Effects.{zeros_law}
 use Rattle.native_stream.proofs.Standing.{zero_words}
 use Rattle.kernel_exec.specs.declared.binds.Bind.TheVariants.{Stream}
@@ -44,7 +45,7 @@ fills cells start (Items cap xs) =
     zero_words_are_empty (record { start = start; cap = cap }) (zeroed cells start (cap + 1))
     (λ w lo hi. zero_at cells start (cap + 1) w lo (let e = end_is start (Items cap []) in omega arith))
 fills cells start (Pairs cap ps) =
-    zeros_law (record { start = start; cap = cap }) (zeroed cells start (words_of (Pairs cap ps)))
+    zeros_law (map_at start cap) (zeroed cells start (words_of (Pairs cap ps)))
     (λ w lo hi. zero_at cells start (words_of (Pairs cap ps)) w lo (let e = end_is start (Pairs cap []) in omega arith))
 fills cells start (Entries room es) =
     let l = long (length es) None in

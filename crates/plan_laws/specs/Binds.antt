@@ -8,6 +8,7 @@ use Rattle.frame_ast.specs.declared.script.Arg.TheVariants.{Name, Number}
 use Rattle.frame_ast.specs.Contents.{Contents, Cells, Single, Items, Pairs, Entries}
 use Rattle.frame_ast.specs.Ranges.{Starts}
 use Rattle.frame_ast.specs.States.{ScriptState, Value, container_at, contents_at}
+use Rattle.native_map.specs.Table.{map_at}
 use Rattle.kernel_exec.specs.declared.binds.Bind.{Bind}
 use Rattle.kernel_exec.specs.declared.binds.Bind.TheVariants.{Int, Array, View, List as WholeList, Ref, Map, Stream}
 
@@ -16,7 +17,7 @@ abbrev pub bind_of : ℕ → Contents → Bind
 bind_of start (Cells xs) = Array (record { start = start; len = length xs }) 0
 bind_of start (Single z) = Ref (record { start = start })
 bind_of start (Items cap xs) = WholeList (record { start = start; cap = cap })
-bind_of start (Pairs cap ps) = Map (record { start = start; cap = cap })
+bind_of start (Pairs cap ps) = Map (map_at start cap)
 bind_of start (Entries room es) = Stream (record { start = start; count = length es; room = room }) false
 
 -- its elements as an array, with the width of the own-index rule

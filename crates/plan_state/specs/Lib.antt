@@ -3,4 +3,5 @@ pub mod Growth
 -- for the contracts of this crate and of those above it
 pub mod Stands
 pub mod Steps
+pub mod Answers
 pub mod Accesses

@@ -106,7 +106,7 @@ fn map(
 ) -> Result<(), NoMemory>
     requires { cap < 10 }
 {
-    let at = MapAt { start: 0, cap };
+    let at = MapAt::new(0, cap);
     let mut mem = zeros(alloc, native_map::words_of(cap) as u32)?;
     for (key, value) in pairs {
         assert_eq!(rt; at.put(&mut mem, *key, *value), Ok(()), "{want}");

@@ -1,5 +1,7 @@
+-- promises
 pub mod Spaces
-pub mod Blocks
 pub mod Places
-pub mod Kept
 pub mod Stores
+-- for this crate's own contracts
+pub mod Blocks
+pub mod Kept

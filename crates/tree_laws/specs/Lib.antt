@@ -1,2 +1,3 @@
+-- promises
 pub mod Same
 pub mod Laws

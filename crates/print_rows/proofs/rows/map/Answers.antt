@@ -1,7 +1,10 @@
-use Rattle.std.proofs.Common.{[], sym, refl, subst, arith}
+use Rattle.std.proofs.Common.{[], sym, refl, subst, arith, length, nat_lt}
+use Rattle.job_base.specs.Cells.{cells_of}
 use Rattle.job_base.specs.Forms.{AreAllowed}
 use Rattle.frame_ast.specs.Contents.{Pairs}
-use Rattle.native_map.specs.Table.{end_of}
+use Rattle.native_map.specs.declared.MapAt.{MapAt}
+use Rattle.native_map.specs.Table.{end_of, map_at}
+use Rattle.native_map.specs.Layout.{StandsFor}
 use Rattle.print_rows.proofs.Held.{within, kept}
 use Rattle.print_rows.proofs.rows.map.Goals as goal
 
@@ -13,13 +16,17 @@ put-requires-clause-writable g c = c.loop-key.invariant.allowed
 
 pub loop-key-init : goal.loop-key-init
 loop-key-init g c = record {
-  allowed = within c.in_ok-mem.mem _ 0 (end_of (record { start = 0; cap = c.args.cap })) refl
-      (omega (arith, c.in_ok-mem.ensures.length, c.words_of.ensures.places));
-  stands = (Pairs c.args.cap [], c.words_of.ensures.empty (record { start = 0; cap = c.args.cap }) _ (λ w lo hi. c.in_ok-mem.ensures.zero w));
+  allowed = subst (λ (at : MapAt). AreAllowed at.start (end_of at) (λ w. nat_lt w (length c.in_ok-mem.mem))) (sym c.new-at.ensures)
+      (within c.in_ok-mem.mem _ 0 (end_of (map_at 0 c.args.cap)) refl (omega (arith, c.in_ok-mem.ensures.length, c.words_of.ensures.places)));
+  stands = (
+    Pairs c.args.cap [],
+    subst (λ at. StandsFor at (cells_of c.in_ok-mem.mem) (Pairs c.args.cap [])) (sym c.new-at.ensures)
+        (c.words_of.ensures.empty (map_at 0 c.args.cap) _ (λ w lo hi. c.in_ok-mem.ensures.zero w)),
+  );
 }
 
 pub loop-key-preserved : goal.loop-key-preserved
 loop-key-preserved g c = record {
-  allowed = subst (AreAllowed 0 (end_of (record { start = 0; cap = c.args.cap }))) (sym c.put.ensures.readable) c.loop-key.invariant.allowed;
+  allowed = subst (AreAllowed c.new-at.result.start (end_of c.new-at.result)) (sym c.put.ensures.readable) c.loop-key.invariant.allowed;
   stands = kept _ _ _ _ _ _ _ _ c.put.ensures.form c.put.ensures.words c.loop-key.invariant.stands;
 }

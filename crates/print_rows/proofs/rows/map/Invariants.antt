@@ -8,6 +8,6 @@ use Rattle.print_rows.proofs.rows.map.Given as goal
 
 abbrev pub invariant-loop-key : goal.invariant-loop-key
 invariant-loop-key g l = record {
-  allowed : AreAllowed 0 (end_of (record { start = 0; cap = l.cap })) (λ w. nat_lt w (length l.mem));
-  stands : (contents : Contents) × StandsFor (record { start = 0; cap = l.cap }) (cells_of l.mem) contents;
+  allowed : AreAllowed l.at.start (end_of l.at) (λ w. nat_lt w (length l.mem));
+  stands : (contents : Contents) × StandsFor l.at (cells_of l.mem) contents;
 }

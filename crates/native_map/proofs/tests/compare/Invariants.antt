@@ -1,8 +1,0 @@
-use Rattle.std.proofs.Common.{◌≡◌}
-use Rattle.native_map.proofs.tests.compare.Given as goal
-
-abbrev pub invariant-loop-call : goal.invariant-loop-call
-invariant-loop-call g l = record {
-  readable : g.M.Mem.readable l.mem ≡ g.M.Mem.readable l.initial.mem;
-  writable : g.M.Mem.writable l.mem ≡ g.M.Mem.writable l.initial.mem;
-}
