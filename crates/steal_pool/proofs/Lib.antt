@@ -10,3 +10,4 @@ mod Joining
 mod Giving
 mod Claiming
 mod PartRights
+mod Visiting

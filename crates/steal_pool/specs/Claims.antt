@@ -17,16 +17,16 @@ use Rattle.steal_pool.specs.declared.claims.Spent.TheVariants.{NoJob, AllGiven}
 use Rattle.steal_pool.specs.declared.view.View.{View}
 use Rattle.steal_pool.specs.declared.view.View.TheVariants.{Saw, Given}
 use Rattle.plan_run.specs.ScriptOrder.{IsJobOf}
-use Rattle.steal_pool.specs.Given.{AreGiven}
+use Rattle.steal_pool.specs.Given.{AreGiven, IsGivenTo}
 
 -- There is a count for each job.
 abbrev pub AreClaimsOf : Plan → Claims → Type 0
 AreClaimsOf plan claims = claims.table.shared.key ≡ length plan.jobs.items
 
--- The token is given that place of the job.
-pub record HasPlace (claims : Claims) (job place : ℕ) (token : Seat ℕ View) : Type 0 where
+-- The token is given so many places of the job, from the first one on.
+pub record HasPlaces (claims : Claims) (job first count : ℕ) (token : Seat ℕ View) : Type 0 where
   pub home : token.table_id ≡ claims.table.shared.table_id
-  pub given : token.me.0 ≡ Given job place
+  pub given : token.me.0 ≡ Given job first count
 
 -- The token saw so many places of the job given, or more.
 pub record SawAll (claims : Claims) (job count : ℕ) (token : Seat ℕ View) : Type 0 where
@@ -35,16 +35,18 @@ pub record SawAll (claims : Claims) (job count : ℕ) (token : Seat ℕ View) : 
   pub saw : token.me.0 ≡ Saw job seen
   pub all : count ≤ seen
 
--- The piece is that of its job and place, and its place there is given to who has it.
+-- The pieces, one at least, are those of their job and places, and just these places are given to who has them.
 pub record IsOwn (plan : Plan) (claims : Claims) (claimed : Claimed) : Type 0 where
-  pub there : IsPieceOf plan (OfJob claimed.job claimed.place)
-  pub number : claimed.piece.0 ≡ number_of plan (OfJob claimed.job claimed.place)
-  pub token : HasPlace claims claimed.job claimed.place claimed.token
-  pub more : IsTrue claimed.more ↔ IsPieceOf plan (OfJob claimed.job (claimed.place + 1))
+  pub some : 0 < claimed.count
+  pub there : (k : ℕ) → k < claimed.count → IsPieceOf plan (OfJob claimed.job (claimed.place + k))
+  pub number : (k : ℕ) → k < claimed.count
+      → claimed.piece.0 + k ≡ number_of plan (OfJob claimed.job (claimed.place + k))
+  pub token : HasPlaces claims claimed.job claimed.place claimed.count claimed.token
+  pub more : IsTrue claimed.more ↔ IsPieceOf plan (OfJob claimed.job (claimed.place + claimed.count))
 
--- The piece is one of a job, and given to who has it.
+-- The pieces are some of a job, and given to who has them.
 pub record IsGiven (plan : Plan) (claims : Claims) (claimed : Claimed) : Type 0 where
-  pub piece : claimed.piece.0 < job_pieces plan
+  pub pieces : claimed.piece.0 + claimed.count ≤ job_pieces plan
   pub own : IsOwn plan claims claimed
 
 -- There is no such job, or the token saw all its pieces given.
@@ -60,10 +62,10 @@ abbrev pub PiecesAreGivenOnce : Type 0
 PiecesAreGivenOnce = (plan : Plan) → IsWellOrderedPlan plan → (jobs : ℕ) (s : State ℕ View) → AreGiven jobs s
     → (a b j i k l : ℕ) → IsPieceOf plan (OfJob j i) → IsPieceOf plan (OfJob k l)
     → number_of plan (OfJob j i) ≡ number_of plan (OfJob k l)
-    → get_elem? s.views a ≡ some (Given j i) → get_elem? s.views b ≡ some (Given k l) → a ≡ b
+    → IsGivenTo s.views a j i → IsGivenTo s.views b k l → a ≡ b
 
 -- What a token saw given is given to a token each.
 abbrev pub SeenPiecesAreGiven : Type 0
 SeenPiecesAreGiven = (jobs : ℕ) (s : State ℕ View) → AreGiven jobs s → (a j n : ℕ)
     → get_elem? s.views a ≡ some (Saw j n)
-    → (i : ℕ) → i < n → (b : ℕ) × (get_elem? s.views b ≡ some (Given j i))
+    → (i : ℕ) → i < n → (b : ℕ) × IsGivenTo s.views b j i

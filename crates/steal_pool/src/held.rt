@@ -9,6 +9,7 @@ ghost use Rattle.frame_core.specs.Graphs.{before_piece};
 ghost use Rattle.frame_core.specs.Output.{plan_traps, segment_lines, segment_refused};
 ghost use Rattle.frame_core.specs.Know.{IsStill, reads, writes};
 ghost use Rattle.frame_core.specs.Ordered.{IsWellOrderedPlan};
+ghost use Rattle.piece_run.specs.Visits.{IsVisitOf};
 ghost use Rattle.plan_run.specs.Lines.{segment_cells};
 ghost use Rattle.plan_run.specs.Says.{SaysTo};
 
@@ -16,7 +17,7 @@ use frame_core::{Board, Holding, Lease, Plan};
 use frame_print::{Outgoing, Report};
 use job_base::{PieceId, Sink};
 use kernel_machine::Scratch;
-use piece_run::run_piece;
+use piece_run::{JobVisit, run_visited};
 use plan_run::run_segment;
 use std::marker::Brand;
 
@@ -25,14 +26,15 @@ fn run_piece_as<B: Board, K: Holding>(
     board: &B,
     seat: B::Seat,
     p: PieceId,
-    j: u32,
+    visit: &mut JobVisit<'_>,
     i: u32,
     scratch: &mut Scratch,
 ) -> B::Seat
     requires plan { plan.now ≡ B.plan board.now }
     requires well { IsWellOrderedPlan plan.now }
-    requires piece { IsPieceOf plan.now (OfJob j i) }
-    requires number { p.0 ≡ number_of plan.now (OfJob j i) }
+    requires visit { IsVisitOf plan.now visit.old scratch.old }
+    requires piece { IsPieceOf plan.now (OfJob visit.old.place i) }
+    requires number { p.0 ≡ number_of plan.now (OfJob visit.old.place i) }
     requires is { K.piece ≡ p.0 }
     requires name { B.name board.now ≡ K.name }
     requires home { B.home seat ≡ K.name }
@@ -43,33 +45,38 @@ fn run_piece_as<B: Board, K: Holding>(
     ensures home { B.home result ≡ B.home seat }
     ensures still { IsStill (B.know seat) (B.know result) }
     ensures cells { (B.know result).cells ≡ piece_cells plan.now (piece_numbered plan.now p.0) (B.know seat).cells }
+    ensures place { visit.new.place ≡ visit.old.place }
+    ensures visit { IsVisitOf plan.now visit.new scratch.new }
 {
     let mut lease: Lease<B, K> = Lease::over(board, seat);
-    run_piece(plan, j, i, scratch, &mut lease);
+    run_visited(plan, visit, i, scratch, &mut lease);
     lease.into_seat()
 }
 
-/// Runs piece i of the job at place j, which has number p, on the seat's lease of it.
+/// Runs piece i of the job that is visited, which has number p, on the seat's lease of it.
 pub fn run_piece_leased<B: Board>(
     plan: &Plan,
     board: &B,
     seat: B::Seat,
     p: PieceId,
-    j: u32,
+    visit: &mut JobVisit<'_>,
     i: u32,
     scratch: &mut Scratch,
 ) -> B::Seat
     requires plan { plan.now ≡ B.plan board.now }
     requires well { IsWellOrderedPlan plan.now }
-    requires piece { IsPieceOf plan.now (OfJob j i) }
-    requires number { p.0 ≡ number_of plan.now (OfJob j i) }
+    requires visit { IsVisitOf plan.now visit.old scratch.old }
+    requires piece { IsPieceOf plan.now (OfJob visit.old.place i) }
+    requires number { p.0 ≡ number_of plan.now (OfJob visit.old.place i) }
     requires home { B.home seat ≡ B.name board.now }
     requires lease { (B.know seat).lease ≡ Some p.0 }
     ensures home { B.home result ≡ B.home seat }
     ensures still { IsStill (B.know seat) (B.know result) }
     ensures cells { (B.know result).cells ≡ piece_cells plan.now (piece_numbered plan.now p.0) (B.know seat).cells }
+    ensures place { visit.new.place ≡ visit.old.place }
+    ensures visit { IsVisitOf plan.now visit.new scratch.new }
 {
-    run_piece_as::<B, Brand>(plan, board, seat, p, j, i, scratch)
+    run_piece_as::<B, Brand>(plan, board, seat, p, visit, i, scratch)
 }
 
 /// A seat, and the traps that were counted.

@@ -52,8 +52,15 @@ pub fn wake_script(shared: &Shared, job: JobId) {
     }
 }
 
-/// Whom a worker tells that there is something to do. No clause speaks of this.
+// How many small pieces of a job a worker takes at once. Few more would gain little, and be held back from others.
+const MOST_AT_ONCE: u32 = 16;
+
+/// Whom a worker tells that there is something to do, and how much it takes at once. No clause speaks of whom it tells.
 pub trait Waking {
+    /// How many small pieces of a job this worker takes at once, at most.
+    fn most_pieces() -> u32
+        ensures some { 0 < result };
+
     /// This worker turns to something else than looking for jobs.
     fn leave_search(shared: &Shared, tools: &mut Tools);
 
@@ -65,6 +72,10 @@ pub trait Waking {
 pub struct Sleepers;
 
 impl Waking for Sleepers {
+    fn most_pieces() -> u32 {
+        MOST_AT_ONCE
+    }
+
     fn leave_search(shared: &Shared, tools: &mut Tools) {
         leave_search(shared, tools);
     }
@@ -79,6 +90,11 @@ impl Waking for Sleepers {
 pub struct NoSleepers;
 
 impl Waking for NoSleepers {
+    /// One, since its caller waits for the turn.
+    fn most_pieces() -> u32 {
+        1
+    }
+
     fn leave_search(_shared: &Shared, _tools: &mut Tools) {}
 
     fn end_job(_shared: &Shared, _job: JobId) {}

@@ -2,22 +2,23 @@
 //!
 //! The script thread runs the segments one after another ([`plan_run`]). While it waits for jobs it helps: like every
 //! worker it takes an open job from its own deque, the newest first, or steals the oldest one of another's, and offers
-//! it again where it has more pieces than the one that it runs then. It goes on with this job, piece by piece, until
-//! all are given out. Who runs which piece and when says nothing of what is printed: the board gives each piece the
+//! it again where it has more pieces than those that it runs then. It goes on with this job, claim by claim, until all
+//! pieces are given out. A claim is of one piece, and of up to sixteen where pieces are small and enough are left for
+//! the other workers. Who runs which piece and when says nothing of what is printed: the board gives each piece the
 //! cells of the run in script order. So what [`run`] promises is proved of the first seat alone.
 //!
-//! **Cost.** A piece costs a load and an exchange of its job's count beside the steps of its board, and one exchange
-//! more for each worker that was quicker. A job costs one push and one pop or steal for each worker that comes to it,
-//! and a step for each job that depends on it. Nothing is allocated, locked or scanned for a piece or a job. A deque
-//! has 24 bytes for each of two pushes a job, so a plan of 4,096 jobs takes 0.2 MB a worker. A worker without a piece
-//! looks at each deque some ten times, backing off, and then sleeps ([`idle_workers`]), until a job is offered that
-//! nobody looks for; to see whether such a wake-up is needed costs one load a job. A plan without pieces of jobs, or
-//! with one place, starts no thread.
+//! **Cost.** A claim costs a load and an exchange of its job's count, one exchange more for each worker that was
+//! quicker, and a visit of the job ([`piece_run`]); a piece costs the steps of its board and its indexes. A job costs
+//! one push and one pop or steal for each worker that comes to it, and a step for each job that depends on it. Nothing
+//! is allocated, locked or scanned for a piece or a job. A deque has 24 bytes for each of two pushes a job, so a plan
+//! of 4,096 jobs takes 0.2 MB a worker. A worker without a piece looks at each deque some ten times, backing off, and
+//! then sleeps ([`idle_workers`]), until a job is offered that nobody looks for; to see whether such a wake-up is
+//! needed costs one load a job. A plan without pieces of jobs, or with one place, starts no thread.
 //!
 //! **What is said is seen.** Before the script thread waits for a job that isn't finished, the lines that wait in the
 //! run's buffer are written.
 //!
-//! **Each piece is given once.** The counts are words under a rule (`specs/Given`): a piece is given by a token, no two
+//! **Each piece is given once.** The counts are words under a rule (`specs/Given`): pieces are given by tokens, no two
 //! tokens have one piece, and who is refused a piece of a job learns that all of them are given ([`laws`]).
 //!
 //! **By turns.** Where the caller has threads of his own, as an engine has, they are the workers ([`Turns`]): a call

@@ -1,7 +1,11 @@
 // Pieces of jobs: opening them, running one, and what follows when a job is finished.
 ghost use Rattle.std.specs.Prelude.{◌≡◌, ◌+◌, ◌<◌, ◌≤◌, ℕ, suc, Some, None, IfSome, length, All};
+ghost use Rattle.frame_core.specs.declared.piece.Piece.TheVariants.{OfJob};
+ghost use Rattle.frame_core.specs.Names.{job_pieces};
 ghost use Rattle.frame_core.specs.Ordered.{IsWellOrderedPlan};
+ghost use Rattle.frame_core.specs.Pieces.{IsPieceOf, number_of};
 ghost use Rattle.steal_pool.specs.Claims.{AreClaimsOf, IsGiven};
+ghost use Rattle.piece_run.specs.Visits.{IsVisitOf};
 ghost use Rattle.plan_run.specs.ScriptOrder.{IsJobOf};
 ghost use Rattle.steal_pool.specs.Followers.{AreFollowers};
 ghost use Rattle.steal_pool.specs.Crews.{IsCrewOf};
@@ -15,6 +19,7 @@ use crate::place::Tools;
 use crate::queue::Queue;
 use frame_core::{Board, Plan};
 use job_base::{Gate, JobId, PieceId};
+use piece_run::{JobVisit, visit_job};
 
 // Opens the pieces of a job.
 fn open_pieces<B: Board>(plan: &Plan, board: &B, seat: &mut B::Seat, job: JobId)
@@ -99,7 +104,7 @@ fn release_after<B: Board>(
     }
 }
 
-/// A seat, and whether it ran a piece.
+/// A seat, and whether it ran a piece at least.
 pub struct Turn<S> {
     pub seat: S,
     pub ran: bool,
@@ -131,8 +136,51 @@ fn end_piece<W: Waking, B: Board>(
     }
 }
 
-// Runs a piece of a job that is given to this worker, if it is open.
+// Runs piece i of the job that is visited, which has number p and is given to this worker, if it is open.
 fn run_given_piece<W: Waking, R, B: Board, G: Gate>(
+    crew: &Crew<R, B, G>,
+    tools: &mut Tools,
+    seat: B::Seat,
+    visit: &mut JobVisit<'_>,
+    p: PieceId,
+    i: u32,
+) -> Turn<B::Seat>
+    requires crew { IsCrewOf crew.now.plan.now (B.plan crew.now.board.now) crew.now.shared.now }
+    requires home { B.home seat ≡ B.name crew.now.board.now }
+    requires idle { IsIdle (B.know seat) }
+    requires visit { IsVisitOf crew.now.plan.now visit.old tools.old.scratch }
+    requires piece { IsPieceOf crew.now.plan.now (OfJob visit.old.place i) }
+    requires number { p.0 ≡ number_of crew.now.plan.now (OfJob visit.old.place i) }
+    requires of_job { p.0 < job_pieces crew.now.plan.now }
+    ensures home { B.home result.seat ≡ B.home seat }
+    ensures idle { IsIdle (B.know result.seat) }
+    ensures on { IsOn (B.know seat) (B.know result.seat) }
+    ensures place { visit.new.place ≡ visit.old.place }
+    ensures visit { IsVisitOf crew.now.plan.now visit.new tools.new.scratch }
+{
+    let plan = crew.plan;
+    let board = crew.board;
+    let mut own = seat;
+    if !board.begin(&mut own, p) {
+        return Turn {
+            seat: own,
+            ran: false,
+        };
+    }
+    crew.gate.enter(tools.number, p);
+    let mut own = run_piece_leased(plan, board, own, p, visit, i, &mut tools.scratch);
+    crew.gate.leave(tools.number, p);
+    board.end(&mut own);
+    end_piece::<W, B>(plan, board, &mut own, &mut tools.queue, crew.shared);
+    Turn {
+        seat: own,
+        ran: true,
+    }
+}
+
+// Runs the pieces of a job that are given to this worker, each once, those that are open. What they have in common is
+// found once.
+fn run_given_pieces<W: Waking, R, B: Board, G: Gate>(
     crew: &Crew<R, B, G>,
     tools: &mut Tools,
     seat: B::Seat,
@@ -146,44 +194,48 @@ fn run_given_piece<W: Waking, R, B: Board, G: Gate>(
     ensures idle { IsIdle (B.know result.seat) }
     ensures on { IsOn (B.know seat) (B.know result.seat) }
 {
-    let plan = crew.plan;
-    let board = crew.board;
     let Claimed {
         piece,
         job,
         place,
+        count,
         more: _,
         token: _,
     } = claimed;
+    let mut visit = visit_job(crew.plan, job, &mut tools.scratch);
     let mut own = seat;
-    if !board.begin(&mut own, piece) {
-        return Turn {
-            seat: own,
-            ran: false,
-        };
+    let mut any = false;
+    for k in 0..count {
+        let number = PieceId(piece.0 + k);
+        let Turn { seat: next, ran } = run_given_piece::<W, R, B, G>(
+            crew,
+            tools,
+            own,
+            &mut visit,
+            number,
+            place + k,
+        );
+        own = next;
+        any = any || ran;
     }
-    crew.gate.enter(tools.number, piece);
-    let mut own = run_piece_leased(plan, board, own, piece, job, place, &mut tools.scratch);
-    crew.gate.leave(tools.number, piece);
-    board.end(&mut own);
-    end_piece::<W, B>(plan, board, &mut own, &mut tools.queue, crew.shared);
     Turn {
         seat: own,
-        ran: true,
+        ran: any,
     }
 }
 
 // How many offers of jobs without a piece left are let go on the way, before a turn ends without a piece.
 const SPENT_OFFERS: u32 = 64;
 
-// The next piece of the job at hand.
-fn at_hand(plan: &Plan, claims: &Claims, tools: &mut Tools) -> Option<Claimed>
+// The next pieces of the job at hand.
+fn at_hand(plan: &Plan, claims: &Claims, most: u32, tools: &mut Tools) -> Option<Claimed>
     requires well { IsWellOrderedPlan plan.now }
     requires claims { AreClaimsOf plan.now claims.now }
+    requires most { 0 < most }
     ensures given { IfSome result (IsGiven plan.now claims.now) }
 {
     let job = tools.at_hand?;
-    match claims.next(plan, job) {
+    match claims.next(plan, job, most) {
         Ok(claimed) => Some(claimed),
         Err(_) => {
             tools.at_hand = None;
@@ -192,7 +244,7 @@ fn at_hand(plan: &Plan, claims: &Claims, tools: &mut Tools) -> Option<Claimed>
     }
 }
 
-// Takes up a job that is offered, and offers it again where it has more pieces than the one that is answered.
+// Takes up a job that is offered, and offers it again where it has more pieces than those that are answered.
 fn take_up<W: Waking, B: Board>(
     plan: &Plan,
     shared: &Shared,
@@ -206,7 +258,7 @@ fn take_up<W: Waking, B: Board>(
 {
     for _ in 0..SPENT_OFFERS {
         let job = tools.queue.find(tools.number, &shared.thieves)?;
-        if let Ok(claimed) = shared.claims.next(plan, job) {
+        if let Ok(claimed) = shared.claims.next(plan, job, W::most_pieces()) {
             if claimed.more {
                 tools.at_hand = Some(job);
                 tools.queue.offer::<B>(seat, job);
@@ -218,8 +270,8 @@ fn take_up<W: Waking, B: Board>(
     None
 }
 
-// The next piece of a job that is for this worker to run.
-fn next_piece<W: Waking, B: Board>(
+// The next pieces of a job that are for this worker to run.
+fn next_pieces<W: Waking, B: Board>(
     plan: &Plan,
     shared: &Shared,
     tools: &mut Tools,
@@ -230,14 +282,14 @@ fn next_piece<W: Waking, B: Board>(
     requires claims { AreClaimsOf plan.now shared.now.claims }
     ensures given { IfSome result (IsGiven plan.now shared.now.claims) }
 {
-    if let Some(claimed) = at_hand(plan, &shared.claims, tools) {
+    if let Some(claimed) = at_hand(plan, &shared.claims, W::most_pieces(), tools) {
         return Some(claimed);
     }
     take_up::<W, B>(plan, shared, tools, seat)
 }
 
-/// Runs a piece of a job, if one is found that is open: of the job at hand, or else of one that it takes up. `W` is who
-/// is told of what others can do.
+/// Runs pieces of a job, if some are found that are open: of the job at hand, or else of one that it takes up. `W` is
+/// who is told of what others can do, and says how many pieces are taken at once.
 pub fn help<W: Waking, R, B: Board, G: Gate>(
     crew: &Crew<R, B, G>,
     tools: &mut Tools,
@@ -250,8 +302,8 @@ pub fn help<W: Waking, R, B: Board, G: Gate>(
     ensures idle { IsIdle (B.know result.seat) }
     ensures on { IsOn (B.know seat) (B.know result.seat) }
 {
-    match next_piece::<W, B>(crew.plan, crew.shared, tools, &seat) {
-        Some(claimed) => run_given_piece::<W, R, B, G>(crew, tools, seat, claimed),
+    match next_pieces::<W, B>(crew.plan, crew.shared, tools, &seat) {
+        Some(claimed) => run_given_pieces::<W, R, B, G>(crew, tools, seat, claimed),
         None => Turn { seat, ran: false },
     }
 }

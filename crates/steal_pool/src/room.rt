@@ -32,7 +32,7 @@ impl<T: Drop> PoolRoom<T> {
         ensures { IfOk result (HasSeats plan.now seats.items) }
     {
         let followers = Followers::of_plan(alloc, plan)?;
-        let claims = Claims::of_plan(alloc, plan)?;
+        let claims = Claims::of_plan(alloc, plan, seats.len() as u32)?;
         let capacity = 2 * plan.jobs.len();
         let mut rest = seats;
         let first = Place::new(alloc, 0, rest.remove(0), capacity)?;

@@ -8,8 +8,8 @@ use atomic_table::{Play, TableRule};
 pub enum View {
     /// Of a job: so many of its pieces were given out.
     Saw(u64, u64),
-    /// Of a job: its piece at this place, from 0, is given to this token.
-    Given(u64, u64),
+    /// Of a job: its pieces from this place on, from 0, and so many, are given to this token.
+    Given(u64, u64, u64),
 }
 
 /// The rule of the counts.
@@ -28,7 +28,7 @@ impl Play<u8, View> for Looking {
     ghost then = { Looks };
 }
 
-/// A count goes up by one, where it is what was expected.
+/// A count goes up, where it is what was expected.
 pub struct Claiming;
 
 impl Play<u8, View> for Claiming {

@@ -1,8 +1,8 @@
-use Rattle.std.proofs.Common.{◌≡◌, length, arith, rules, refl}
+use Rattle.std.proofs.Common.{◌≡◌, ◌+◌, length, arith, rules, refl}
 use Rattle.frame_core.specs.Names.{pieces_of}
 use Rattle.plan_run.specs.ScriptOrder.{IsJobOf}
 use Rattle.steal_pool.proofs.Opening.{cut_is, end_within}
-use Rattle.steal_pool.proofs.Claiming.{of_job, piece, own, spent}
+use Rattle.steal_pool.proofs.Claiming.{of_job, own, spent}
 use Rattle.steal_pool.proofs.claims.Claims.next.Goals as goal
 
 pub pieces-requires : goal.pieces-requires
@@ -34,7 +34,8 @@ overflow_add-result c =
     let fits = end_within plan w id is x at n 0 count in
     let few = w.sized.pieces in
     let low = c.in-Ok.ensures.low in
-    omega (arith, low, fits, few)
+    let some = c.in-Ok.ensures.some in
+    omega (arith, low, some, fits, few)
 
 pub returns-in-Ok-clause-own : goal.returns-in-Ok-clause-own
 returns-in-Ok-clause-own c =
@@ -49,10 +50,11 @@ returns-in-Ok-clause-own c =
     let at = c.index-entry.ensures in
     let n = c.from-count.result in
     let count : n ≡ pieces_of x = search (rules, c.from-count.ensures, c.pieces.ensures) in
-    own plan w id is x at n count c.in-Ok.place c.in-Ok.ensures.low c.args.self.now _ refl refl refl refl c.in-Ok.ensures.given
+    own plan w id is x at n count c.in-Ok.places.first c.in-Ok.places.count c.in-Ok.ensures.some c.in-Ok.ensures.low c.args.self.now _ refl refl refl refl
+    refl c.in-Ok.ensures.given
 
 pub returns-in-Ok-clause-of_job : goal.returns-in-Ok-clause-of_job
-returns-in-Ok-clause-of_job c =
+returns-in-Ok-clause-of_job c k lt =
     let plan = c.args.plan.now in
     let w = c.requires.well in
     let id = c.args.job in
@@ -64,10 +66,11 @@ returns-in-Ok-clause-of_job c =
     let at = c.index-entry.ensures in
     let n = c.from-count.result in
     let count : n ≡ pieces_of x = search (rules, c.from-count.ensures, c.pieces.ensures) in
-    of_job plan w id is x at n count c.in-Ok.place c.in-Ok.ensures.low
+    let low = c.in-Ok.ensures.low in
+    of_job plan w id is x at n count _ (c.in-Ok.places.first + k) (omega arith) (omega (arith, low, lt))
 
-pub returns-in-Ok-clause-piece : goal.returns-in-Ok-clause-piece
-returns-in-Ok-clause-piece c =
+pub returns-in-Ok-clause-pieces : goal.returns-in-Ok-clause-pieces
+returns-in-Ok-clause-pieces c =
     let plan = c.args.plan.now in
     let w = c.requires.well in
     let id = c.args.job in
@@ -79,7 +82,9 @@ returns-in-Ok-clause-piece c =
     let at = c.index-entry.ensures in
     let n = c.from-count.result in
     let count : n ≡ pieces_of x = search (rules, c.from-count.ensures, c.pieces.ensures) in
-    piece plan w id is x at n count c.in-Ok.place c.in-Ok.ensures.low
+    let fits = end_within plan w id is x at n 0 count in
+    let low = c.in-Ok.ensures.low in
+    omega (arith, low, fits)
 
 pub returns-in-Err-clause-spent : goal.returns-in-Err-clause-spent
 returns-in-Err-clause-spent c =

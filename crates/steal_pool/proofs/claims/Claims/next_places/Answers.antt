@@ -1,7 +1,7 @@
-use Rattle.std.proofs.Common.{◌∙◌, [], cond, eq-eqb, ne_eqb, ap, arith}
+use Rattle.std.proofs.Common.{◌≡◌, ◌+◌, ◌-◌, ◌∙◌, [], cond, eq-eqb, ne_eqb, ap, arith}
 use Rattle.steal_pool.specs.declared.view.View.TheVariants.{Saw, Given}
 use Rattle.steal_pool.proofs.Giving.{allows_look, allows_claim}
-use Rattle.steal_pool.proofs.claims.Claims.next_place.Goals as goal
+use Rattle.steal_pool.proofs.claims.Claims.next_places.Goals as goal
 
 pub load_new_seat-place-requires : goal.load_new_seat-place-requires
 load_new_seat-place-requires c =
@@ -19,22 +19,32 @@ compare_exchange-found-requires c =
     let low = c.requires.job in
     let shared = c.args.self.now.table.shared in
     let token = c.loop-place.token in
-    let I = c.loop-place.invariant in
-    (I.home, omega (arith, size, low), allows_claim shared.key shared.table_id.slots token.id c.args.job c.loop-place.place token.me I.saw low)
+    let I = c.loop-place.invariant in (
+      I.home,
+      omega (arith, size, low),
+      allows_claim shared.key shared.table_id.slots token.id c.args.job c.loop-place.place c.share_of-taken.result token.me I.saw low,
+    )
 
 pub returns-then-found-place : goal.returns-then-found-place
 returns-then-found-place c =
     let E = c.compare_exchange-found.ensures in
     let job = c.args.job in
     let found = c.compare_exchange-found.result in
+    let place = c.loop-place.place in
+    let taken = c.share_of-taken.result in
     let same = c.if-found-place.true in
+    let all : place + taken - place ≡ taken = omega arith in
+    let within = c.share_of-taken.ensures.within in
+    let more = c.loop-place-test.true in
     record {
       given = record {
         home = E.0 ∙ c.loop-place.invariant.home;
         given = E.2.0
-            ∙ (ap (λ b. cond b (Given job found) (Saw job found)) (eq-eqb found c.loop-place.place same) ∙ ap (Given job) same);
+            ∙ (ap (λ b. cond b (Given job found (place + taken - found)) (Saw job found)) (eq-eqb found place same)
+            ∙ (ap (λ y. Given job y (place + taken - y)) same ∙ ap (Given job place) all));
       };
-      low = c.loop-place-test.true;
+      some = c.share_of-taken.ensures.some;
+      low = omega (arith, within, more);
       none = tt;
     }
 
@@ -52,7 +62,9 @@ loop-place-preserved c =
     let found = c.compare_exchange-found.result in
     record {
       home = E.0 ∙ c.loop-place.invariant.home;
-      saw = E.2.0 ∙ ap (λ b. cond b (Given job found) (Saw job found)) (ne_eqb found c.loop-place.place c.if-found-place.false);
+      saw = E.2.0
+          ∙ ap (λ b. cond b (Given job found (c.loop-place.place + c.share_of-taken.result - found)) (Saw job found))
+          (ne_eqb found c.loop-place.place c.if-found-place.false);
     }
 
 pub returns : goal.returns
@@ -60,6 +72,7 @@ returns c =
     let none = c.loop-place-test.false in
     record {
       given = tt;
+      some = tt;
       low = tt;
       none = record {
         home = c.loop-place.invariant.home;

@@ -1,6 +1,6 @@
 use Rattle.std.proofs.Common.{◌-◌, ◌≡◌}
 use Rattle.steal_pool.specs.declared.view.View.TheVariants.{Saw}
-use Rattle.steal_pool.proofs.claims.Claims.next_place.Given as goal
+use Rattle.steal_pool.proofs.claims.Claims.next_places.Given as goal
 
 abbrev pub invariant-loop-place : goal.invariant-loop-place
 invariant-loop-place l = record {
