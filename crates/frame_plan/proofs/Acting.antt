@@ -13,7 +13,11 @@ use Rattle.frame_ast.specs.Orders.{Table, setting}
 use Rattle.frame_ast.specs.States.{ScriptState}
 use Rattle.frame_core.proofs.Small.{some_is, not_both}
 use Rattle.plan_state.specs.declared.state.PlanFault.{PlanFault}
+use Rattle.plan_state.specs.declared.answer.Answer.{Answer}
+use Rattle.plan_state.specs.declared.state.Draft.{Draft}
 use Rattle.plan_state.specs.declared.state.Planner.{Planner}
+use Rattle.plan_state.specs.declared.state.World.{World}
+use Rattle.plan_state.specs.Answers.{Answers, HasTaken, IsReadyFor}
 use Rattle.plan_state.specs.Growth.{Grows}
 use Rattle.frame_plan.specs.Runs.{IsActingTest, NoneActs, IsAtStatement, IsFurther, HasPassed, StopsAt, GoesPast, FailsAtPlace}
 use Rattle.plan_state.specs.Stands.{Stands}
@@ -28,7 +32,7 @@ written x a = record { line = x.line; act = a }
 is_written : (x : Statement) (a : Order) → x.act ≡ a → x ≡ written x a
 is_written x a e = λ i. record { line = x.line; act = e i }
 
-module _ (script : Script) (table : Table) (p : Planner) (x : Statement) (at : IsAtStatement script table p x) (acts : p.passing ≡ 0) (a : Order)
+module _ (script : Script) (table : Table) (p : Planner) (x : Statement) (at : IsAtStatement script table p x) (acts : p.world.passing ≡ 0) (a : Order)
     (is : x.act ≡ a) where
   here : (n : ℕ) → slice_get script.statements.items n ≡ Some x → slice_get script.statements.items n ≡ Some (written x a)
   here n e = e ∙ ap Some (is_written x a is)
@@ -63,6 +67,15 @@ module _ (script : Script) (table : Table) (p : Planner) (x : Statement) (at : I
     pub passed_with : GoesOnWith table p q (written x a) → HasPassed script table p q x
     passed_with h begun n found e st = next begun n found e (h script begun n found (step begun n found e st) st)
 
+  -- some planner with its world is ready
+  pub sees : IsReadyFor p.world a
+  sees = (x.line, p, ready)
+
+  -- it goes on where its draft takes the answer
+  pub taken : (w : World) (draft : Draft) (answer : Answer) → Answers p.world w a answer → HasTaken p.draft draft x.line answer
+      → HasPassed script table p (record p { world = w; draft = draft }) x
+  taken w draft answer answers took = passed (record p { world = w; draft = draft }) (answers x.line p draft took)
+
   module _ (fault : PlanFault) where
     limit : (n : ℕ) → slice_get script.statements.items n ≡ Some x → PassesLimit fault (state_after script table n (written x a))
         → PassesLimit fault (state_at script table (suc n))
@@ -82,7 +95,7 @@ if_err (Ok x) f h = tt
 if_err (Err e) f h = f e h
 
 -- a `when` that isn't refused
-pub test_stops : (script : Script) (table : Table) (p : Planner) (x : Statement) (at : IsAtStatement script table p x) (acts : p.passing ≡ 0) (name : ℕ)
+pub test_stops : (script : Script) (table : Table) (p : Planner) (x : Statement) (at : IsAtStatement script table p x) (acts : p.world.passing ≡ 0) (name : ℕ)
     (sign : Sign) (value : ℤ) (count : ℕ) (is : x.act ≡ When name sign value count)
     → AtStatement p (written x (When name sign value count)) (λ script table begun n found. refusal (setting script table) (state_at script table n)
     (When name sign value count) ≡ None)
@@ -92,7 +105,7 @@ test_stops script table p x at acts name sign value count is h begun n found her
     (sym st.numbers.passing ∙ acts, h script table begun n found (step script table p x at acts (When name sign value count) is begun n found here_is st) st)
 
 -- a statement that is passed by, and what is no `when`
-pub passes_by : (script : Script) (table : Table) (p : Planner) (x : Statement) → 0 < p.passing → GoesPast script table p x
+pub passes_by : (script : Script) (table : Table) (p : Planner) (x : Statement) → 0 < p.world.passing → GoesPast script table p x
 passes_by script table p x some begun n found here st acts = by x.act acts
   where
     by : (a : Order) → IsActingTest (setting script table) (state_at script table n) a → ⊥
@@ -108,7 +121,7 @@ other_past script table p x other begun n found here st acts = by x.act other ac
 
 -- a `when` that is refused
 pub test_past : (script : Script) (table : Table) (p : Planner) (x : Statement)
-    → (at : IsAtStatement script table p x) (acts : p.passing ≡ 0)
+    → (at : IsAtStatement script table p x) (acts : p.world.passing ≡ 0)
     → (name : ℕ) (sign : Sign) (value : ℤ) (count : ℕ) (is : x.act ≡ When name sign value count)
     → IsRefused p (written x (When name sign value count))
     → GoesPast script table p x

@@ -40,11 +40,11 @@ module _ (script : Script) (table : Table) (book : SectionBook) (n : ℕ) (carri
     (r : IsResumed kernels codes book.planner q mem) where
   resumed_is : q ≡ record b.old {
     jobs_before = q.jobs_before;
-    plan = record book.planner.plan {
-      kernels = q.plan.kernels;
-      codes = q.plan.codes;
-      literals = q.plan.literals;
-      ops = q.plan.ops;
+    draft = record book.planner.draft {
+      kernels = q.draft.kernels;
+      codes = q.draft.codes;
+      literals = q.draft.literals;
+      ops = q.draft.ops;
     };
   }
   resumed_is = q_is script table book n carried len b kernels codes q mem left r
@@ -70,7 +70,7 @@ module _ (script : Script) (table : Table) (book : SectionBook) (n : ℕ) (carri
     no_later j pos = by (nat_lt 0 j) ((state_at script table n).book.completed ((state_at script table n).book.count + j)) refl
       where
         by : (a c : Bool) → (state_at script table n).book.completed ((state_at script table n).book.count + j) ≡ c → (a && c) ≡ false
-        by true true e = let few = (b.stood.known.book.completed ((state_at script table n).book.count + j) e).1 in absurd (omega arith)
+        by true true e = let few = (b.stood.knows.known.book.completed ((state_at script table n).book.count + j) e).1 in absurd (omega arith)
         by true false e = refl
         by false c e = refl
 
@@ -98,16 +98,16 @@ module _ (script : Script) (table : Table) (book : SectionBook) (n : ℕ) (carri
       carried_is zero pos = absurd (omega arith)
       carried_is (suc m) pos = refl
 
-      peak_now : peak_of q.store ≡ peak_of b.old.store
-      peak_now = ap (λ (k : Planner). peak_of k.store) resumed_is
+      peak_now : peak_of q.world.store ≡ peak_of b.old.world.store
+      peak_now = ap (λ (k : Planner). peak_of k.world.store) resumed_is
 
-      pub grown_again : HasGrown script table starts (record q { passing = k }) n (suc n)
+      pub grown_again : HasGrown script table starts (record q { world = record q.world { passing = k } }) n (suc n)
       grown_again = record {
-        ranges = ranges_more script table starts b.old (record q { passing = k }) n x here was
+        ranges = ranges_more script table starts b.old (record q { world = record q.world { passing = k } }) n x here was
             (plain_takes (setting script table) starts (state_at script table n) x.act (state_at script table n).passing plain.0)
-            (peak_now ∙ (let e : peak_of b.old.store ≡ max (peak_of b.old.store) 0 = omega arith in e)
-            ∙ ap (λ l. max (peak_of b.old.store) (greatest_end l)) (sym no_span));
-        spans = (let segments = ap (λ (p : Planner). p.plan.segments.items) resumed_is ∙ ap (λ (d : Draft). d.segments) b.emptied.draft in
+            (peak_now ∙ (let e : peak_of b.old.world.store ≡ max (peak_of b.old.world.store) 0 = omega arith in e)
+            ∙ ap (λ l. max (peak_of b.old.world.store) (greatest_end l)) (sym no_span));
+        spans = (let segments = ap (λ (p : Planner). p.draft.segments.items) resumed_is ∙ ap (λ (d : Draft). d.segments) b.emptied.draft in
             λ i. given_from (segments i) ++ given_in (r.ops i))
             ∙ (let e = peak_is script table book n carried len b ∙ was.peak in λ i. record { start = 0; len = e i } ∷ [])
             ∙ carried_is n (first_later script table b.accepted n (subst (IsStop (setting script table) (state_at script table n)) (sym b.here) b.acts)
@@ -122,26 +122,26 @@ module _ (script : Script) (table : Table) (book : SectionBook) (n : ℕ) (carri
             let s = state_at script table m in
             let y_plain = subst (λ (z : Statement). IsPlain g z.act) y_is plain in
             record {
-              job = plain_schedules g starts before s (deps_after g s y) q.plan.kernels.items
-                  (slice_get q.plan.jobs.items (s.book.count - before)) y.act s.passing y_plain.1;
-              after = plain_awaits g before s q.plan.segments.items y.act s.passing y_plain.1;
+              job = plain_schedules g starts before s (deps_after g s y) q.draft.kernels.items
+                  (slice_get q.draft.jobs.items (s.book.count - before)) y.act s.passing y_plain.1;
+              after = plain_awaits g before s q.draft.segments.items y.act s.passing y_plain.1;
             };
         waited = λ j pos.
-            (let segments = ap (λ (p : Planner). p.plan.segments.items) resumed_is ∙ ap (λ (d : Draft). d.segments) b.emptied.draft in
-            let waits = ap (λ (p : Planner). p.plan.waits.items) resumed_is ∙ ap (λ (d : Draft). d.waits) b.emptied.draft in
+            (let segments = ap (λ (p : Planner). p.draft.segments.items) resumed_is ∙ ap (λ (d : Draft). d.segments) b.emptied.draft in
+            let waits = ap (λ (p : Planner). p.draft.waits.items) resumed_is ∙ ap (λ (d : Draft). d.waits) b.emptied.draft in
             λ i. has_job (waits_in (segments i) ++ waits i) j)
             ∙ sym (no_later j pos)
             ∙ ap (λ (e : Book). later (state_at script table n).book.count e.completed j) (sym book_is);
         waits =
-            (let segments = ap (λ (p : Planner). p.plan.segments.items) resumed_is ∙ ap (λ (d : Draft). d.segments) b.emptied.draft in
-            let waits = ap (λ (p : Planner). p.plan.waits.items) resumed_is ∙ ap (λ (d : Draft). d.waits) b.emptied.draft in
+            (let segments = ap (λ (p : Planner). p.draft.segments.items) resumed_is ∙ ap (λ (d : Draft). d.segments) b.emptied.draft in
+            let waits = ap (λ (p : Planner). p.draft.waits.items) resumed_is ∙ ap (λ (d : Draft). d.waits) b.emptied.draft in
             λ i. waits_of (segments i) ++ unless_none (waits i))
             ∙ sym none_completed;
       }
 
   pub growing_on : (held : Bool) (x : Statement) (k : ℕ) → slice_get script.statements.items book.at ≡ Some x → IsOutcome script table n (Some held)
-      → (starts : Starts) → StartAs starts b.found → HasGrown script table starts (record q { passing = k }) n (book.at + 1)
+      → (starts : Starts) → StartAs starts b.found → HasGrown script table starts (record q { world = record q.world { passing = k } }) n (book.at + 1)
   growing_on held x k there_is out starts same =
       let here : slice_get script.statements.items n ≡ Some x = ap (slice_get script.statements.items) (sym b.at) ∙ there_is in
       let next : suc n ≡ book.at + 1 = (let a = b.at in omega arith) in
-      subst (HasGrown script table starts (record q { passing = k }) n) next (grown_again x here held out k starts same)
+      subst (HasGrown script table starts (record q { world = record q.world { passing = k } }) n) next (grown_again x here held out k starts same)

@@ -73,7 +73,7 @@ module _ (script : Script) (table : Table) (from : ℕ) (book : SectionBook) (re
       let starts : Starts = starts_by ready.found in
       let h = ready.grown starts (λ k lt. refl) in
       let planned = some_planned script table book.planner (state_at script table from) book.at ready.found ready.stands ready.accepted ready.inside in
-      let p = book.planner.plan in
+      let draft = book.planner.draft in
       record {
         starts = starts;
         ranges = h.ranges.fits;
@@ -81,8 +81,8 @@ module _ (script : Script) (table : Table) (from : ℕ) (book : SectionBook) (re
         cells = finished.cells ∙ h.ranges.peak;
         count = (let e = ap length finished.jobs in let c = planned.ordered.count in omega arith);
         jobs = scheduled_later script table starts from book.at
-            p.kernels.items [] plan.kernels.items p.jobs.items [] plan.jobs.items p.segments.items finished.segments_later plan.segments.items
-            (finished.kernels ∙ sym (append-nil p.kernels.items)) (finished.jobs ∙ sym (append-nil p.jobs.items)) finished.segments h.jobs;
+            draft.kernels.items [] plan.kernels.items draft.jobs.items [] plan.jobs.items draft.segments.items finished.segments_later plan.segments.items
+            (finished.kernels ∙ sym (append-nil draft.kernels.items)) (finished.jobs ∙ sym (append-nil draft.jobs.items)) finished.segments h.jobs;
         waits = finished.waits
             ∙ (let a = h.waits in let b = ap length (sym finished.jobs) in λ i. a i ++ unless_none (first_jobs (b i)));
         contents = done.contents;
@@ -144,7 +144,7 @@ module _ (script : Script) (table : Table) (from : ℕ) (book : SectionBook) (re
     ranges = λ starts same. (ready.grown starts same).ranges;
     emptied = emptied;
     held = done.contents;
-    len_is = finished.cells ∙ ap (λ (k : Planner). peak_of k.store) (sym emptied.rest);
+    len_is = finished.cells ∙ ap (λ (k : Planner). peak_of k.world.store) (sym emptied.rest);
   }
 
   is_at : (n : ℕ) → from < n → IsBetween after script table n (cells_after plan) plan.cells → IsAt after script table n (cells_after plan) plan.cells

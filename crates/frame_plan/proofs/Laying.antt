@@ -90,7 +90,7 @@ module _ (script : Script) (table : Table) (starts : Starts) where
   pub ranges_more : (p q : Planner) (n : ℕ) (x : Statement) → slice_get script.statements.items n ≡ Some x
       → HasRanges script table starts p n
       → Takes g starts (at_place n) (at_place n).passing x.act
-      → peak_of q.store ≡ max (peak_of p.store) (greatest_end (span_by g starts (at_place n) (at_place n).passing x.act))
+      → peak_of q.world.store ≡ max (peak_of p.world.store) (greatest_end (span_by g starts (at_place n) (at_place n).passing x.act))
       → HasRanges script table starts q (suc n)
   ranges_more p q n x here r takes peak = record {
     fits = fits_more g starts script.statements.items n x at_start here r.fits takes;
@@ -197,13 +197,13 @@ module _ (script : Script) (table : Table) (starts : Starts) where
             ∙ ap (λ l. carried_spans script table starts from ++ l) (sym (spans_more from n le));
         jobs = λ m y low high there. ⊎_elim
             (λ (e : m ≡ n). (let same : x ≡ y = some_is (sym here ∙ ap (slice_get script.statements.items) (sym e) ∙ there) in
-            subst (λ k. HasItsJob g starts before (at_place k) y q.plan.kernels.items q.plan.jobs.items q.plan.segments.items) (sym e)
-            (subst (λ z. HasItsJob g starts before (at_place n) z q.plan.kernels.items q.plan.jobs.items q.plan.segments.items) same
+            subst (λ k. HasItsJob g starts before (at_place k) y q.draft.kernels.items q.draft.jobs.items q.draft.segments.items) (sym e)
+            (subst (λ z. HasItsJob g starts before (at_place n) z q.draft.kernels.items q.draft.jobs.items q.draft.segments.items) same
             (record { job = grows.schedules; after = grows.awaited h.waited }))))
             (λ ne. scheduled_later from n
-            p.plan.kernels.items grows.kernels_later q.plan.kernels.items
-            p.plan.jobs.items grows.jobs_later q.plan.jobs.items
-            p.plan.segments.items grows.segments_later q.plan.segments.items
+            p.draft.kernels.items grows.kernels_later q.draft.kernels.items
+            p.draft.jobs.items grows.jobs_later q.draft.jobs.items
+            p.draft.segments.items grows.segments_later q.draft.segments.items
             grows.kernels_are grows.jobs_are grows.segments_are h.jobs m y low (omega arith) there)
             (cases_eq m n);
         waited = subst (λ s. HasWaited before s q) (next_state script table n x here) (grows.waited h.waited);

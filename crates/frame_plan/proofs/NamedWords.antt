@@ -35,19 +35,19 @@ module _ (script : Script) (table : Table) (p : Planner) (begun : ScriptState) (
   s = state_at script table n
 
   -- none, where the name stands for no whole container
-  none : (v : Value) → slice_get p.values.items name ≡ Some v → is_whole (state_at script table n) (value_for p.handles.items v) ≡ false
-      → value_for p.handles.items v ≡ (state_at script table n).values name → bind_valued p (Some v) ≡ None
+  none : (v : Value) → slice_get p.world.values.items name ≡ Some v → is_whole (state_at script table n) (value_for p.world.handles.items v) ≡ false
+      → value_for p.world.handles.items v ≡ (state_at script table n).values name → bind_valued p (Some v) ≡ None
       → IsBindAt (state_at script table n) cells last name (bind_named p name)
   none v e not same bind = subst (IsBindAt (state_at script table n) cells last name) (sym (ap (bind_valued p) e ∙ bind))
       (ap (is_whole (state_at script table n)) (sym same) ∙ not)
 
   -- those of a container, while it is alive
-  made : (c : ℕ) (it : Container) → slice_get p.containers.items c ≡ Some it → states.Whole c ≡ (state_at script table n).values name
+  made : (c : ℕ) (it : Container) → slice_get p.world.containers.items c ≡ Some it → states.Whole c ≡ (state_at script table n).values name
       → c < (state_at script table n).made → (b : Bool) → (state_at script table n).alive c ≡ b
       → IsBindAt (state_at script table n) cells last name (if b then Some it.bind else None)
   made c it has v below false off = ap (is_whole (state_at script table n)) (sym v) ∙ off
   made c it has v below true on =
-      let con = st.containers.each c it has in (
+      let con = st.knows.containers.each c it has in (
         ap (is_whole (state_at script table n)) (sym v) ∙ on,
         (
           get_or found ((state_at script table n).range c) 0,
@@ -61,20 +61,20 @@ module _ (script : Script) (table : Table) (p : Planner) (begun : ScriptState) (
 
   pub bound : IsBindAt (state_at script table n) cells last name (bind_named p name)
   bound =
-      let v = there p.values.items name (let e = st.each in let l = length-map script.names.items (λ v. string_bytes v) in omega (arith, low)) in
-      by v.0 v.1 (st.names.are name v.0 v.1) (st.names.there name v.0 v.1)
+      let v = there p.world.values.items name (let e = st.knows.each in let l = length-map script.names.items (λ v. string_bytes v) in omega (arith, low)) in
+      by v.0 v.1 (st.knows.names.are name v.0 v.1) (st.knows.names.there name v.0 v.1)
     where
-      by : (v : Value) → slice_get p.values.items name ≡ Some v → value_for p.handles.items v ≡ (state_at script table n).values name
-          → IsThere (length p.containers.items) (length p.handles.items) v
+      by : (v : Value) → slice_get p.world.values.items name ≡ Some v → value_for p.world.handles.items v ≡ (state_at script table n).values name
+          → IsThere (length p.world.containers.items) (length p.world.handles.items) v
           → IsBindAt (state_at script table n) cells last name (bind_named p name)
       by Dead e f h = none Dead e refl f refl
       by (Whole c) e f h =
-          let it = there p.containers.items c h in
-          let con = st.containers.each c it.0 it.1 in
-          let below : c < (state_at script table n).made = (let m = st.containers.made in omega (arith, h)) in
+          let it = there p.world.containers.items c h in
+          let con = st.knows.containers.each c it.0 it.1 in
+          let below : c < (state_at script table n).made = (let m = st.knows.containers.made in omega (arith, h)) in
           subst (IsBindAt (state_at script table n) cells last name)
           (sym (ap (bind_valued p) e ∙ ap (bind_made p) it.1 ∙ ap (λ b. if b then Some it.0.bind else None) con.alive))
           (made c it.0 it.1 f below ((state_at script table n).alive c) refl)
       by (Slice c from len) e f h = none (Slice c from len) e refl f refl
       by (View c number) e f h = none (View c number) e refl f refl
-      by (Jobs k) e f h = none (Jobs k) e (no_container (state_at script table n) (slice_get p.handles.items k)) f refl
+      by (Jobs k) e f h = none (Jobs k) e (no_container (state_at script table n) (slice_get p.world.handles.items k)) f refl

@@ -17,15 +17,15 @@ use Rattle.plan_state.proofs.Reaching.{next_state}
 use Rattle.plan_state.proofs.Restating.{restated, calm}
 
 pub repassed : (p : Planner) (g : Setting) (begun : ScriptState) (n : ℕ) (s : ScriptState) (found : List ℕ) → Stands p g begun n s found
-    → (k : ℕ) → Stands (record p { passing = k }) g begun (suc n) (record s { passing = k }) found
+    → (k : ℕ) → Stands (record p { world = record p.world { passing = k } }) g begun (suc n) (record s { passing = k }) found
 repassed p g begun n s found st k =
-    let q : Planner = record p { passing = k } in
+    let q : Planner = record p { world = record p.world { passing = k } } in
     let t : ScriptState = record s { passing = k } in
-    let known : IsKnown t = (let o = st.known in record { book = o.book; handles = o.handles; uses = o.uses }) in
+    let known : IsKnown t = (let o = st.knows.known in record { book = o.book; handles = o.handles; uses = o.uses }) in
     restated p q g begun n s t found st
     (calm p q g begun n s t found st refl refl refl refl refl refl refl (omega arith) (omega arith))
     known
-    (same_names p.values.items p.handles.items (length p.containers.items) s t refl st.names)
+    (same_names p.world.values.items p.world.handles.items (length p.world.containers.items) s t refl st.knows.names)
     (λ x a. others_are_planned x s t (draft_of p) (record {
       made = refl;
       contents = refl;
@@ -39,28 +39,28 @@ repassed p g begun n s found st k =
     }) (st.planned x a))
 
 -- a statement that is passed by
-pub passed_by : (script : Script) (table : Table) (p : Planner) (x : Statement) → 0 < p.passing
-    → HasPassed script table p (record p { passing = p.passing - 1 }) x
+pub passed_by : (script : Script) (table : Table) (p : Planner) (x : Statement) → 0 < p.world.passing
+    → HasPassed script table p (record p { world = record p.world { passing = p.world.passing - 1 } }) x
 passed_by script table p x some begun n found here st =
     let g = setting script table in
     let s = state_at script table n in
-    let e : s.passing ≡ suc (p.passing - 1) = (let same = st.numbers.passing in omega arith) in
-    let now : act g s x ≡ record s { passing = p.passing - 1 } = ap (λ k. act_or_pass k g s x) e in
-    let next : record s { passing = p.passing - 1 } ≡ state_at script table (suc n) = sym now ∙ next_state script table n x here in
-    let q : Planner = record p { passing = p.passing - 1 } in
+    let e : s.passing ≡ suc (p.world.passing - 1) = (let same = st.numbers.passing in omega arith) in
+    let now : act g s x ≡ record s { passing = p.world.passing - 1 } = ap (λ k. act_or_pass k g s x) e in
+    let next : record s { passing = p.world.passing - 1 } ≡ state_at script table (suc n) = sym now ∙ next_state script table n x here in
+    let q : Planner = record p { world = record p.world { passing = p.world.passing - 1 } } in
     record {
       more = [];
       stands = subst (Stands q g begun (suc n) (state_at script table (suc n))) (sym (append-nil found))
-          (subst (λ t. Stands q g begun (suc n) t found) next (repassed p g begun n s found st (p.passing - 1)));
+          (subst (λ t. Stands q g begun (suc n) t found) next (repassed p g begun n s found st (p.world.passing - 1)));
       grows = λ starts same. passed_grows g s x starts begun.book.count p q
           (quiet_still g s x begun.book.count p q (record { spans = refl; peak = refl; jobs = refl; kernels = refl; segments = refl; waits = refl })
           (ap (λ (u : ScriptState). u.book.completed) now))
-          (p.passing - 1) e;
+          (p.world.passing - 1) e;
     }
 
 -- a state that a planner stands for is within the limits
 pub stands_within : (p : Planner) (g : Setting) (begun : ScriptState) (n : ℕ) (s : ScriptState) (found : List ℕ) → Stands p g begun n s found → IsWithin s
 stands_within p g begun n s found st =
-    let count = st.jobs.count in
-    let few = p.jobs.few in
+    let count = st.knows.jobs.count in
+    let few = p.world.jobs.few in
     record { jobs = omega arith; words = st.numbers.created_few }

@@ -79,17 +79,17 @@ module _ (script : Script) (table : Table) (p : Planner) (begun : ScriptState) (
 
   pub reference : (at : RefAt) × IsReferenceOf p name at
   reference =
-      let v = there p.values.items name (let lt = name_below in let e = st.each in omega arith) in
-      by v.0 v.1 (st.names.are name v.0 v.1) (st.names.there name v.0 v.1)
+      let v = there p.world.values.items name (let lt = name_below in let e = st.knows.each in omega arith) in
+      by v.0 v.1 (st.knows.names.are name v.0 v.1) (st.knows.names.there name v.0 v.1)
     where
-      by : (v : Value) → slice_get p.values.items name ≡ Some v → value_for p.handles.items v ≡ (state_at script table n).values name
-          → IsThere (length p.containers.items) (length p.handles.items) v → (at : RefAt) × IsReferenceOf p name at
+      by : (v : Value) → slice_get p.world.values.items name ≡ Some v → value_for p.world.handles.items v ≡ (state_at script table n).values name
+          → IsThere (length p.world.containers.items) (length p.world.handles.items) v → (at : RefAt) × IsReferenceOf p name at
       by Dead e f h = absurd (not_both alive (ap (is_alive (state_at script table n)) (sym f)))
       by (Whole c) e f h =
-          let it = there p.containers.items c h in
+          let it = there p.world.containers.items c h in
           let k = subst (IsOfKind (state_at script table n) RefName) (sym f) of_kind in
           let z = single ((state_at script table n).contents c) k.0 in
-          let con = st.containers.each c it.0 it.1 in (
+          let con = st.knows.containers.each c it.0 it.1 in (
             record { start = get_or found ((state_at script table n).range c) 0 },
             record {
               container = c;
@@ -101,16 +101,17 @@ module _ (script : Script) (table : Table) (p : Planner) (begun : ScriptState) (
           )
       by (Slice c from len) e f h = let k = subst (IsOfKind (state_at script table n) RefName) (sym f) of_kind in let bad = k.0 in absurd cc
       by (View c number) e f h = let k = subst (IsOfKind (state_at script table n) RefName) (sym f) of_kind in let bad = k.0 in absurd cc
-      by (Jobs k) e f h = absurd (dead_handle (state_at script table n) (slice_get p.handles.items k) (ap (is_alive (state_at script table n)) f ∙ alive))
+      by (Jobs k) e f h = absurd (dead_handle (state_at script table n) (slice_get p.world.handles.items k) (ap (is_alive (state_at script table n)) f ∙ alive))
 
   pub reference_held : (cells : Memory) (at : RefAt) → AllHeld (λ k. get_or found k 0) (state_at script table n) cells → IsReferenceOf p name at
       → Holds cells (Ref at) (contents_at (state_at script table n) name)
   reference_held cells at held r =
-      let v : states.Whole r.container ≡ (state_at script table n).values name = st.names.are name (Whole r.container) r.value in
-      let below : r.container < (state_at script table n).made = (let lt = get_below p.containers.items r.container r.it r.has in let e = st.containers.made in
+      let v : states.Whole r.container ≡ (state_at script table n).values name = st.knows.names.are name (Whole r.container) r.value in
+      let below : r.container < (state_at script table n).made = (let lt = get_below p.world.containers.items r.container r.it r.has
+      in let e = st.knows.containers.made in
       omega arith) in
       let on : (state_at script table n).alive r.container ≡ true = ap (is_alive (state_at script table n)) v ∙ alive in
-      let con = st.containers.each r.container r.it r.has in
+      let con = st.knows.containers.each r.container r.it r.has in
       let same : bind_of (get_or found ((state_at script table n).range r.container) 0) ((state_at script table n).contents r.container) ≡ Ref at = sym con.bind
       ∙ r.bind in
       subst (λ w. Holds cells (Ref at) ((state_at script table n).contents (container_of w))) v
@@ -119,11 +120,12 @@ module _ (script : Script) (table : Table) (p : Planner) (begun : ScriptState) (
   -- and the word lies within what holds all that is live
   pub reference_inside : (last : ℕ) (at : RefAt) → AreWithin last found (state_at script table n) → IsReferenceOf p name at → at.start < last
   reference_inside last at within r =
-      let v : states.Whole r.container ≡ (state_at script table n).values name = st.names.are name (Whole r.container) r.value in
-      let below : r.container < (state_at script table n).made = (let lt = get_below p.containers.items r.container r.it r.has in let e = st.containers.made in
+      let v : states.Whole r.container ≡ (state_at script table n).values name = st.knows.names.are name (Whole r.container) r.value in
+      let below : r.container < (state_at script table n).made = (let lt = get_below p.world.containers.items r.container r.it r.has
+      in let e = st.knows.containers.made in
       omega arith) in
       let on : (state_at script table n).alive r.container ≡ true = ap (is_alive (state_at script table n)) v ∙ alive in
-      let con = st.containers.each r.container r.it r.has in
+      let con = st.knows.containers.each r.container r.it r.has in
       let same : bind_of (get_or found ((state_at script table n).range r.container) 0) ((state_at script table n).contents r.container) ≡ Ref at = sym con.bind
       ∙ r.bind in
       let le = subst (λ b. end_of b ≤ last) same (within r.container (alive_is_live (state_at script table n) r.container below on)) in

@@ -105,9 +105,9 @@ module _ (script : Script) (table : Table) (old : Planner) (begun : ScriptState)
     (carried : Cells) (held : AllHeld (λ k. get_or found k 0) (state_at script table n) carried)
     (before : ℕ) (w : SoFar)
     (before_is : before ≡ (state_at script table n).book.count)
-    (segments : w.segments.items ≡ []) (jobs : w.jobs.items ≡ []) (waits : w.waits.items ≡ []) (ops : w.ops.items ≡ carried_op (peak_of old.store) 0 ∷ [])
-    (literals : map (λ v. v.items) w.literals.items ≡ cell_list carried 0 (peak_of old.store) ∷ []) (pieces : w.pieces ≡ 0)
-    (kernels : AreKernels (record old { jobs_before = before; plan = w }) (setting script table)) (kernels_few : length w.kernels.items ≤ n) where
+    (segments : w.segments.items ≡ []) (jobs : w.jobs.items ≡ []) (waits : w.waits.items ≡ []) (ops : w.ops.items ≡ carried_op (peak_of old.world.store) 0 ∷ [])
+    (literals : map (λ v. v.items) w.literals.items ≡ cell_list carried 0 (peak_of old.world.store) ∷ []) (pieces : w.pieces ≡ 0)
+    (kernels : AreKernels (record old { jobs_before = before; draft = w }) (setting script table)) (kernels_few : length w.kernels.items ≤ n) where
   abbrev g : Setting
   g = setting script table
 
@@ -115,12 +115,12 @@ module _ (script : Script) (table : Table) (old : Planner) (begun : ScriptState)
   s = state_at script table n
 
   abbrev q : Planner
-  q = record old { jobs_before = before; plan = w }
+  q = record old { jobs_before = before; draft = w }
 
   abbrev len : ℕ
-  len = peak_of old.store
+  len = peak_of old.world.store
 
-  container_kept : (c : ℕ) (it : Container) → IsContainer old s found c it → IsContainer q s found c it
+  container_kept : (c : ℕ) (it : Container) → IsContainer old.world s found c it → IsContainer q.world s found c it
   container_kept c it k = record {
     bind = k.bind;
     range = k.range;
@@ -138,7 +138,7 @@ module _ (script : Script) (table : Table) (old : Planner) (begun : ScriptState)
     held = k.held;
   }
 
-  owned_kept : (slot : ℕ) → IsOwned old s slot → IsOwned q s slot
+  owned_kept : (slot : ℕ) → IsOwned old.world s slot → IsOwned q.world s slot
   owned_kept slot o = record { container = o.container; it = o.it; has = o.has; slot_is = o.slot_is; live = o.live }
 
   inside : n ≤ length script.statements.items
@@ -152,9 +152,9 @@ module _ (script : Script) (table : Table) (old : Planner) (begun : ScriptState)
 
   range_known : (c : ℕ) → c < s.made → s.range c < length found
   range_known c lt =
-      let it = there old.containers.items c (let e = st.containers.made in omega arith) in
-      let r = (st.containers.each c it.0 it.1).range in
-      let e = st.takes in
+      let it = there old.world.containers.items c (let e = st.knows.containers.made in omega arith) in
+      let r = (st.knows.containers.each c it.0 it.1).range in
+      let e = st.knows.takes in
       omega arith
 
   module _ (y : Outline) (a : Agrees q g s found y) where
@@ -172,7 +172,7 @@ module _ (script : Script) (table : Table) (old : Planner) (begun : ScriptState)
 
     apart : (c e v : ℕ) → is_live s c ≡ true → is_live s e ≡ true → has_word y.starts s c v ≡ true → has_word y.starts s e v ≡ true → c ≡ e
     apart c e v lc le hc he =
-        words_apart (plan_so_far script old) (λ k. get_or found k 0) begun.book.count (length old.plan.jobs.items) s planned_before.ordered.ledger c e v lc le
+        words_apart (plan_so_far script old) (λ k. get_or found k 0) begun.book.count (length old.draft.jobs.items) s planned_before.ordered.ledger c e v lc le
         (sym (word_is c v (live_below s c lc)) ∙ hc) (sym (word_is e v (live_below s e le)) ∙ he)
 
     literal_is : get_or (map (λ v. v.items) y.plan.literals.items) 0 [] ≡ cell_list carried 0 len
@@ -187,7 +187,7 @@ module _ (script : Script) (table : Table) (old : Planner) (begun : ScriptState)
 
     begins : IsPlanned x' s (draft_of q)
     begins =
-        sections_begin x' carried len 0 (draft_of q) a.small st.known (all_completed g s x.act acts)
+        sections_begin x' carried len 0 (draft_of q) a.small st.knows.known (all_completed g s x.act acts)
         (record {
           held = λ c below alive. subst (λ b. Holds carried b (s.contents c)) (sym (bind_is c below)) (held c below alive);
           below = λ c live. subst (λ b. end_of b ≤ len) (sym (bind_is c (live_below s c live))) (planned_before.standing.within c live);
@@ -206,10 +206,26 @@ module _ (script : Script) (table : Table) (old : Planner) (begun : ScriptState)
         let x_is : x' ≡ y = λ i. record { plan = y.plan; starts = y.starts; begun = b i } in
         subst (λ o. IsPlanned o s (draft_of q)) x_is begins
 
-  pub stands_resumed : StandsAt (record old { jobs_before = before; plan = w }) script table (state_at script table n) n found
+  pub stands_resumed : StandsAt (record old { jobs_before = before; draft = w }) script table (state_at script table n) n found
   stands_resumed =
       let m = st.numbers in record {
-        known = st.known;
+        knows = record {
+          known = st.knows.known;
+          names = st.knows.names;
+          each = st.knows.each;
+          containers = record {
+            made = st.knows.containers.made;
+            each = λ c it h. container_kept c it (st.knows.containers.each c it h);
+            slots = λ slot u. owned_kept slot (st.knows.containers.slots slot u);
+            once = st.knows.containers.once;
+            versions = st.knows.containers.versions;
+          };
+          takes = st.knows.takes;
+          temps = st.knows.temps;
+          tempjobs = st.knows.tempjobs;
+          frames = st.knows.frames;
+          jobs = st.knows.jobs;
+        };
         numbers = record {
           frame = m.frame;
           passing = m.passing;
@@ -228,20 +244,6 @@ module _ (script : Script) (table : Table) (old : Planner) (begun : ScriptState)
           kernels_few = kernels_few;
           handles_few = m.handles_few;
         };
-        names = st.names;
-        each = st.each;
-        containers = record {
-          made = st.containers.made;
-          each = λ c it h. container_kept c it (st.containers.each c it h);
-          slots = λ slot u. owned_kept slot (st.containers.slots slot u);
-          once = st.containers.once;
-          versions = st.containers.versions;
-        };
-        takes = st.takes;
-        temps = st.temps;
-        tempjobs = st.tempjobs;
-        frames = st.frames;
-        jobs = st.jobs;
         kernels = kernels;
         planned = planned;
       }
@@ -274,8 +276,8 @@ module _ (script : Script) (table : Table) (book : SectionBook) (n : ℕ) (carri
   pub place_small : n < MOST_STATEMENTS
   place_small = let lt = below in let le = few in omega arith
 
-  pub peak_is : peak_of book.planner.store ≡ peak_of b.old.store
-  peak_is = ap (λ (k : Planner). peak_of k.store) b.emptied.rest
+  pub peak_is : peak_of book.planner.world.store ≡ peak_of b.old.world.store
+  peak_is = ap (λ (k : Planner). peak_of k.world.store) b.emptied.rest
 
   module _ (kernels : List Kernel) (codes : List Code) (q : Planner) (mem : List ℤ) (left : AreLeft mem carried len)
       (r : IsResumed kernels codes book.planner q mem) where
@@ -283,31 +285,31 @@ module _ (script : Script) (table : Table) (book : SectionBook) (n : ℕ) (carri
     abbrev again : Planner
     again = record b.old {
       jobs_before = q.jobs_before;
-      plan = record book.planner.plan {
-        kernels = q.plan.kernels;
-        codes = q.plan.codes;
-        literals = q.plan.literals;
-        ops = q.plan.ops;
+      draft = record book.planner.draft {
+        kernels = q.draft.kernels;
+        codes = q.draft.codes;
+        literals = q.draft.literals;
+        ops = q.draft.ops;
       };
     }
 
     pub q_is : q ≡ record b.old {
       jobs_before = q.jobs_before;
-      plan = record book.planner.plan {
-        kernels = q.plan.kernels;
-        codes = q.plan.codes;
-        literals = q.plan.literals;
-        ops = q.plan.ops;
+      draft = record book.planner.draft {
+        kernels = q.draft.kernels;
+        codes = q.draft.codes;
+        literals = q.draft.literals;
+        ops = q.draft.ops;
       };
     }
     q_is = r.rest ∙ ap (λ (k : Planner). record k {
       jobs_before = q.jobs_before;
-      plan = record book.planner.plan { kernels = q.plan.kernels; codes = q.plan.codes; literals = q.plan.literals; ops = q.plan.ops };
+      draft = record book.planner.draft { kernels = q.draft.kernels; codes = q.draft.codes; literals = q.draft.literals; ops = q.draft.ops };
     }) b.emptied.rest
 
-    same_cells : cell_list (cells_of mem) 0 (peak_of book.planner.store) ≡ cell_list carried 0 (peak_of b.old.store)
+    same_cells : cell_list (cells_of mem) 0 (peak_of book.planner.world.store) ≡ cell_list carried 0 (peak_of b.old.world.store)
     same_cells =
-        cell_list-same (cells_of mem) carried 0 (peak_of book.planner.store) (λ k lo hi. left.1 k (let e = b.len_is in omega arith))
+        cell_list-same (cells_of mem) carried 0 (peak_of book.planner.world.store) (λ k lo hi. left.1 k (let e = b.len_is in omega arith))
         ∙ ap (cell_list carried 0) peak_is
 
     -- the copies are where they were, each with its code
@@ -315,8 +317,8 @@ module _ (script : Script) (table : Table) (book : SectionBook) (n : ℕ) (carri
     kernels_again ks =
         let places : b.old.kernels ≡ ks.old.kernels = ap (λ (k : Planner). k.kernels) (sym b.emptied.rest) ∙ ks.places in
         let guard_places : b.old.guards ≡ ks.old.guards = ap (λ (k : Planner). k.guards) (sym b.emptied.rest) ∙ ks.guard_places in
-        let had : q.plan.kernels.items ≡ ks.old.plan.kernels.items = r.kernels_are ∙ ks.had in
-        let had_codes : q.plan.codes.items ≡ ks.old.plan.codes.items = r.codes_are ∙ ks.had_codes in
+        let had : q.draft.kernels.items ≡ ks.old.draft.kernels.items = r.kernels_are ∙ ks.had in
+        let had_codes : q.draft.codes.items ≡ ks.old.draft.codes.items = r.codes_are ∙ ks.had_codes in
         record {
           each = ap (λ (v : Vec (Option ℕ) Global). length v.items) places ∙ ks.stood.each;
           each_guard = ap (λ (v : Vec (Option ℕ) Global). length v.items) guard_places ∙ ks.stood.each_guard;
@@ -336,15 +338,15 @@ module _ (script : Script) (table : Table) (book : SectionBook) (n : ℕ) (carri
                 footprint = c.footprint;
               };
           checked = λ place k h. ks.stood.checked place k (ap (λ xs. slice_get xs place) (sym had) ∙ h);
-          coded = coded_as q.plan.kernels.items ks.old.plan.kernels.items q.plan.codes.items ks.old.plan.codes.items had had_codes ks.stood.coded;
+          coded = coded_as q.draft.kernels.items ks.old.draft.kernels.items q.draft.codes.items ks.old.draft.codes.items had had_codes ks.stood.coded;
         }
 
     stands_again : AreKernelsOf book script table kernels codes → StandsAt q script table (state_at script table n) n b.found
     stands_again ks =
         subst (λ p. StandsAt p script table (state_at script table n) n b.found) (sym q_is)
         (stands_resumed script table b.old b.begun n b.found b.test b.stood b.accepted b.here b.acts carried b.held q.jobs_before
-        (record book.planner.plan { kernels = q.plan.kernels; codes = q.plan.codes; literals = q.plan.literals; ops = q.plan.ops })
-        (r.before ∙ ap (λ (k : Planner). count_of k.jobs) b.emptied.rest ∙ b.stood.jobs.count)
+        (record book.planner.draft { kernels = q.draft.kernels; codes = q.draft.codes; literals = q.draft.literals; ops = q.draft.ops })
+        (r.before ∙ ap (λ (k : Planner). count_of k.world.jobs) b.emptied.rest ∙ b.stood.knows.jobs.count)
         (ap (λ (d : Draft). d.segments) b.emptied.draft)
         (ap (λ (d : Draft). d.jobs) b.emptied.draft)
         (ap (λ (d : Draft). d.waits) b.emptied.draft)
@@ -355,24 +357,27 @@ module _ (script : Script) (table : Table) (book : SectionBook) (n : ℕ) (carri
         (let e = ap length r.kernels_are in let few = ks.few in let at = b.at in omega arith))
 
     pub resumed_on : AreKernelsOf book script table kernels codes → (held : Bool) (x : Statement) → slice_get script.statements.items n ≡ Some x
-        → IsOutcome script table n (Some held) → StandsAt (record q { passing = passed_after held x.act }) script table (state_at script table n)
+        → IsOutcome script table n (Some held) → StandsAt (record q { world = record q.world { passing = passed_after held x.act } }) script table
+        (state_at script table n)
         (suc n) b.found
     resumed_on ks held x here out =
         let same : b.test ≡ x = some_is (sym b.here ∙ here) in
         let acts = subst (λ (y : Statement). IsActingTest (setting script table) (state_at script table n) y.act) same b.acts in
         let now = test_acts (setting script table) (state_at script table n) x held x.act refl acts (outcome_is script table n x held out here) in
-        subst (λ t. Stands (record q { passing = passed_after held x.act }) (setting script table) (state_at script table n) (suc n) t b.found)
+        subst (λ t. Stands (record q { world = record q.world { passing = passed_after held x.act } }) (setting script table) (state_at script table n)
+        (suc n) t b.found)
         (sym now ∙ next_state script table n x here)
         (repassed q (setting script table) (state_at script table n) n (state_at script table n) b.found (stands_again ks) (passed_after held x.act))
 
     pub standing_on : AreKernelsOf book script table kernels codes → (held : Bool) (x : Statement) (k : ℕ) → slice_get script.statements.items book.at ≡ Some x
         → IsOutcome script table n (Some held) → k ≡ passed_after held x.act
-        → StandsAt (record q { passing = k }) script table (state_at script table n) (book.at + 1) b.found
+        → StandsAt (record q { world = record q.world { passing = k } }) script table (state_at script table n) (book.at + 1) b.found
     standing_on ks held x k there_is out is =
         let here : slice_get script.statements.items n ≡ Some x = ap (slice_get script.statements.items) (sym b.at) ∙ there_is in
         let next : suc n ≡ book.at + 1 = (let a = b.at in omega arith) in
-        subst (λ m. StandsAt (record q { passing = k }) script table (state_at script table n) m b.found) next
-        (subst (λ j. StandsAt (record q { passing = j }) script table (state_at script table n) (suc n) b.found) (sym is) (resumed_on ks held x here out))
+        subst (λ m. StandsAt (record q { world = record q.world { passing = k } }) script table (state_at script table n) m b.found) next
+        (subst (λ j. StandsAt (record q { world = record q.world { passing = j } }) script table (state_at script table n) (suc n) b.found) (sym is)
+        (resumed_on ks held x here out))
 
   pub no_limit : (fault : PlanFault) → PassesOnce fault script table → fault ≡ NoMemory
   no_limit fault p =

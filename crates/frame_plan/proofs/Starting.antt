@@ -38,31 +38,31 @@ all_alike (suc n) zero x y e = sym (some_is e)
 all_alike (suc n) (suc k) x y e = all_alike n k x y e
 
 pub record IsNew (p : Planner) (script : Script) : Type 0 where
-  pub values : p.values.items ≡ replicate (length script.names.items) Dead
-  pub handles : p.handles.items ≡ []
-  pub containers : p.containers.items ≡ []
-  pub temps : p.temps.items ≡ []
-  pub tempjobs : p.tempjobs.items ≡ []
-  pub overdue : p.overdue ≡ 0
-  pub frame : p.frame ≡ 0
-  pub jobs : StandsFor p.jobs empty_book
-  pub places : (slot : ℕ) → place_of p.store slot ≡ unused
-  pub live : live_words_of p.store ≡ 0
-  pub used : slots_in_use p.store ≡ 0
-  pub peak : peak_of p.store ≡ 0
-  pub created : p.created ≡ 0
-  pub passing : p.passing ≡ 0
+  pub values : p.world.values.items ≡ replicate (length script.names.items) Dead
+  pub handles : p.world.handles.items ≡ []
+  pub containers : p.world.containers.items ≡ []
+  pub temps : p.world.temps.items ≡ []
+  pub tempjobs : p.world.tempjobs.items ≡ []
+  pub overdue : p.world.overdue ≡ 0
+  pub frame : p.world.frame ≡ 0
+  pub jobs : StandsFor p.world.jobs empty_book
+  pub places : (slot : ℕ) → place_of p.world.store slot ≡ unused
+  pub live : live_words_of p.world.store ≡ 0
+  pub used : slots_in_use p.world.store ≡ 0
+  pub peak : peak_of p.world.store ≡ 0
+  pub created : p.world.created ≡ 0
+  pub passing : p.world.passing ≡ 0
   pub before : p.jobs_before ≡ 0
   pub kernels : p.kernels.items ≡ replicate (length script.kernels.items) None
   pub guards : p.guards.items ≡ replicate (length script.kernels.items) None
-  pub plan_kernels : p.plan.kernels.items ≡ []
-  pub plan_codes : p.plan.codes.items ≡ []
-  pub literals : p.plan.literals.items ≡ []
-  pub segments : p.plan.segments.items ≡ []
-  pub plan_jobs : p.plan.jobs.items ≡ []
-  pub waits : p.plan.waits.items ≡ []
-  pub ops : p.plan.ops.items ≡ []
-  pub pieces : p.plan.pieces ≡ 0
+  pub plan_kernels : p.draft.kernels.items ≡ []
+  pub plan_codes : p.draft.codes.items ≡ []
+  pub literals : p.draft.literals.items ≡ []
+  pub segments : p.draft.segments.items ≡ []
+  pub plan_jobs : p.draft.jobs.items ≡ []
+  pub waits : p.draft.waits.items ≡ []
+  pub ops : p.draft.ops.items ≡ []
+  pub pieces : p.draft.pieces ≡ 0
 
 -- no copy of a kernel
 pub no_copy : (xs : List (Option ℕ)) (n k place : ℕ) → xs ≡ replicate n None → slice_get xs k ≡ Some (Some place) → ⊥
@@ -75,7 +75,7 @@ module _ (script : Script) (table : Table) (p : Planner) (new : IsNew p script) 
   g : Setting
   g = setting script table
 
-  is_dead : (n : ℕ) (v : Value) → slice_get p.values.items n ≡ Some v → v ≡ Dead
+  is_dead : (n : ℕ) (v : Value) → slice_get p.world.values.items n ≡ Some v → v ≡ Dead
   is_dead n v e = all_alike (length script.names.items) n Dead v (sym (ap (λ l. slice_get l n) new.values) ∙ e)
 
   draft_is : empty_draft ≡ draft_of p
@@ -94,59 +94,61 @@ module _ (script : Script) (table : Table) (p : Planner) (new : IsNew p script) 
 
   pub stands_new : StandsAt p script table at_start 0 []
   stands_new = record {
-    known = jobs_are_known (setting script table) [];
+    knows = record {
+      known = jobs_are_known (setting script table) [];
+      names = record {
+        are = λ n v e. ap (value_for p.world.handles.items) (is_dead n v e);
+        there = λ n v e. subst (IsThere (length p.world.containers.items) (length p.world.handles.items)) (sym (is_dead n v e)) tt;
+        apart = λ n m k e f. absurd (not_dead k (is_dead n (Jobs k) e));
+      };
+      each = ap length new.values ∙ length-replicate (length script.names.items) Dead ∙ sym (long (λ v. string_bytes v) script.names.items);
+      containers = record {
+        made = none_long p.world.containers.items new.containers;
+        each = λ c it e. absurd (none_in p.world.containers.items c it new.containers e);
+        slots = λ slot e. absurd (not_both (sym (ap (λ (place : Place). in_use place.state) (new.places slot)) ∙ e) refl);
+        once = λ c d it other e f lc ld s. absurd (none_in p.world.containers.items c it new.containers e);
+        versions = λ slot. (let e = ap (λ (place : Place). place.version) (new.places slot) in omega arith);
+      };
+      takes = refl;
+      temps = record { all = λ c lt t a. absurd (omega arith); each = λ k c e. absurd (none_in p.world.temps.items k c new.temps e) };
+      tempjobs = record {
+        all = λ c lt t. absurd (omega arith);
+        each = λ k c e. absurd (none_in p.world.tempjobs.items k c new.tempjobs e);
+        rising = λ k l c d lt e f. absurd (none_in p.world.tempjobs.items k c new.tempjobs e);
+        within = (let e = new.overdue in omega arith);
+        past = λ k c lt e. absurd (none_in p.world.tempjobs.items k c new.tempjobs e);
+        ahead = λ k c le e. absurd (none_in p.world.tempjobs.items k c new.tempjobs e);
+      };
+      frames = record { order = λ c d le lt. absurd (omega arith); past = λ c lt. absurd (omega arith) };
+      jobs = new.jobs;
+    };
     numbers = record {
       frame = new.frame;
       passing = new.passing;
       created = new.created;
       before = new.before;
-      pieces = new.pieces ∙ sym (no_pieces p.plan.jobs.items new.plan_jobs);
+      pieces = new.pieces ∙ sym (no_pieces p.draft.jobs.items new.plan_jobs);
       live_words = new.live;
       frames_few = omega arith;
       made_few = omega arith;
       created_few = omega arith;
       peak_low = (let e = new.peak in omega arith);
       slots_few = (let e = new.used in omega arith);
-      ops_few = (let e = ap Rattle.frame_core.specs.Ordered.ops_count new.segments in let f = none_long p.plan.ops.items new.ops in omega arith);
-      segments_few = (let e = none_long p.plan.segments.items new.segments in omega arith);
-      literals_few = (let e = none_long p.plan.literals.items new.literals in omega arith);
-      kernels_few = (let e = none_long p.plan.kernels.items new.plan_kernels in omega arith);
-      handles_few = (let e = none_long p.handles.items new.handles in omega arith);
+      ops_few = (let e = ap Rattle.frame_core.specs.Ordered.ops_count new.segments in let f = none_long p.draft.ops.items new.ops in omega arith);
+      segments_few = (let e = none_long p.draft.segments.items new.segments in omega arith);
+      literals_few = (let e = none_long p.draft.literals.items new.literals in omega arith);
+      kernels_few = (let e = none_long p.draft.kernels.items new.plan_kernels in omega arith);
+      handles_few = (let e = none_long p.world.handles.items new.handles in omega arith);
     };
-    names = record {
-      are = λ n v e. ap (value_for p.handles.items) (is_dead n v e);
-      there = λ n v e. subst (IsThere (length p.containers.items) (length p.handles.items)) (sym (is_dead n v e)) tt;
-      apart = λ n m k e f. absurd (not_dead k (is_dead n (Jobs k) e));
-    };
-    each = ap length new.values ∙ length-replicate (length script.names.items) Dead ∙ sym (long (λ v. string_bytes v) script.names.items);
-    containers = record {
-      made = none_long p.containers.items new.containers;
-      each = λ c it e. absurd (none_in p.containers.items c it new.containers e);
-      slots = λ slot e. absurd (not_both (sym (ap (λ (place : Place). in_use place.state) (new.places slot)) ∙ e) refl);
-      once = λ c d it other e f lc ld s. absurd (none_in p.containers.items c it new.containers e);
-      versions = λ slot. (let e = ap (λ (place : Place). place.version) (new.places slot) in omega arith);
-    };
-    takes = refl;
-    temps = record { all = λ c lt t a. absurd (omega arith); each = λ k c e. absurd (none_in p.temps.items k c new.temps e) };
-    tempjobs = record {
-      all = λ c lt t. absurd (omega arith);
-      each = λ k c e. absurd (none_in p.tempjobs.items k c new.tempjobs e);
-      rising = λ k l c d lt e f. absurd (none_in p.tempjobs.items k c new.tempjobs e);
-      within = (let e = new.overdue in omega arith);
-      past = λ k c lt e. absurd (none_in p.tempjobs.items k c new.tempjobs e);
-      ahead = λ k c le e. absurd (none_in p.tempjobs.items k c new.tempjobs e);
-    };
-    frames = record { order = λ c d le lt. absurd (omega arith); past = λ c lt. absurd (omega arith) };
-    jobs = new.jobs;
     kernels = record {
       each = ap length new.kernels ∙ length-replicate (length script.kernels.items) None;
       each_guard = ap length new.guards ∙ length-replicate (length script.kernels.items) None;
       copies = λ k place e. absurd (no_copy p.kernels.items (length script.kernels.items) k place new.kernels e);
       guards = λ k place e. absurd (no_copy p.guards.items (length script.kernels.items) k place new.guards e);
-      checked = λ place k e. absurd (none_in p.plan.kernels.items place k new.plan_kernels e);
+      checked = λ place k e. absurd (none_in p.draft.kernels.items place k new.plan_kernels e);
       coded = record {
-        each = none_long p.plan.codes.items new.plan_codes ∙ sym (none_long p.plan.kernels.items new.plan_kernels);
-        coded = λ place k code e f. absurd (none_in p.plan.kernels.items place k new.plan_kernels e);
+        each = none_long p.draft.codes.items new.plan_codes ∙ sym (none_long p.draft.kernels.items new.plan_kernels);
+        coded = λ place k code e f. absurd (none_in p.draft.kernels.items place k new.plan_kernels e);
       };
     };
     planned = planned;

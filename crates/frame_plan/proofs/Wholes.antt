@@ -90,28 +90,28 @@ coded_as ks had cs had_codes k c are = subst (λ l. AreCodesOf l cs) (sym k) (su
 abbrev pub plan_so_far : Script → Planner → Plan
 plan_so_far script p = record no_plan {
   names = script.names;
-  kernels = p.plan.kernels;
-  literals = p.plan.literals;
-  jobs = p.plan.jobs;
-  cells = peak_of p.store;
+  kernels = p.draft.kernels;
+  literals = p.draft.literals;
+  jobs = p.draft.jobs;
+  cells = peak_of p.world.store;
 }
 
 module _ (script : Script) (table : Table) (p : Planner) (begun : ScriptState) (n : ℕ) (found : List ℕ) (st : StandsAt p script table begun n found)
     (accepted : IsAccepted script) (inside : n ≤ length script.statements.items) where
-  peak_small : peak_of p.store < 2 ^ 32
+  peak_small : peak_of p.world.store < 2 ^ 32
   peak_small = let low = st.numbers.peak_low in let few = st.numbers.created_few in omega arith
 
   -- a plan that has all of the plan so far
   pub agrees : (plan : Plan) → map (λ v. string_bytes v) plan.names.items ≡ map (λ v. string_bytes v) script.names.items
-      → plan.kernels.items ≡ p.plan.kernels.items → plan.literals.items ≡ p.plan.literals.items → plan.jobs.items ≡ p.plan.jobs.items
-      → plan.cells ≡ peak_of p.store
+      → plan.kernels.items ≡ p.draft.kernels.items → plan.literals.items ≡ p.draft.literals.items → plan.jobs.items ≡ p.draft.jobs.items
+      → plan.cells ≡ peak_of p.world.store
       → Agrees p (setting script table) begun found (outline_of plan found begun)
   agrees plan names kernels literals jobs cells = record {
     begins = refl;
     names = names;
-    kernels = ([], kernels ∙ sym (append-nil p.plan.kernels.items));
-    literals = ([], literals ∙ sym (append-nil p.plan.literals.items));
-    jobs = ([], jobs ∙ sym (append-nil p.plan.jobs.items));
+    kernels = ([], kernels ∙ sym (append-nil p.draft.kernels.items));
+    literals = ([], literals ∙ sym (append-nil p.draft.literals.items));
+    jobs = ([], jobs ∙ sym (append-nil p.draft.jobs.items));
     starts = λ k lt. refl;
     cells = omega arith;
     small = (let few = peak_small in omega arith);
@@ -121,32 +121,32 @@ module _ (script : Script) (table : Table) (p : Planner) (begun : ScriptState) (
   some_planned = st.planned _ (agrees (plan_so_far script p) refl refl refl refl refl)
 
   -- what is live lies below the peak
-  pub live_low : AreWithin (peak_of p.store) found (state_at script table n)
+  pub live_low : AreWithin (peak_of p.world.store) found (state_at script table n)
   live_low = some_planned.standing.within
 
-  pub jobs_few : length p.plan.jobs.items ≤ MOST_JOBS
+  pub jobs_few : length p.draft.jobs.items ≤ MOST_JOBS
   jobs_few =
       let count = some_planned.ordered.count in
       let few = (stands_within p (setting script table) begun n (state_at script table n) found st).jobs in
       omega arith
 
-  pub pieces_small : p.plan.pieces ≤ 262144
+  pub pieces_small : p.draft.pieces ≤ 262144
   pieces_small =
-      let few = jobs_pieces p.plan.jobs.items (λ j job e. (some_planned.fitting.jobs_fit j job e).2.cut) in
+      let few = jobs_pieces p.draft.jobs.items (λ j job e. (some_planned.fitting.jobs_fit j job e).2.cut) in
       let jobs = jobs_few in
       let is = st.numbers.pieces in
       omega arith
 
-  pub cells_small : peak_of p.store ≤ MOST_CREATED_WORDS
+  pub cells_small : peak_of p.world.store ≤ MOST_CREATED_WORDS
   cells_small = let low = st.numbers.peak_low in let few = st.numbers.created_few in omega arith
 
   statements_few : length script.statements.items ≤ MOST_STATEMENTS
   statements_few = leb-true (length script.statements.items) MOST_STATEMENTS accepted.statement_count
 
-  overdue_few : p.overdue ≤ MOST_STATEMENTS
+  overdue_few : p.world.overdue ≤ MOST_STATEMENTS
   overdue_few =
-      let few = few_rising p.tempjobs.items (state_at script table n).made st.tempjobs.rising (λ k c e. (st.tempjobs.each k c e).0) in
-      let within = st.tempjobs.within in
+      let few = few_rising p.world.tempjobs.items (state_at script table n).made st.knows.tempjobs.rising (λ k c e. (st.knows.tempjobs.each k c e).0) in
+      let within = st.knows.tempjobs.within in
       let made = st.numbers.made_few in
       let most = statements_few in
       omega arith
@@ -156,27 +156,27 @@ module _ (script : Script) (table : Table) (p : Planner) (begun : ScriptState) (
   ops_two (x ∷ more) last final e = let rest = ops_two more last final e in omega arith
 
   pub is_done : (plan : Plan) (last final : Segment) → map (λ v. string_bytes v) plan.names.items ≡ map (λ v. string_bytes v) script.names.items
-      → plan.kernels.items ≡ p.plan.kernels.items → plan.codes.items ≡ p.plan.codes.items
-      → plan.literals.items ≡ p.plan.literals.items → plan.jobs.items ≡ p.plan.jobs.items
-      → plan.cells ≡ peak_of p.store
-      → plan.words ≡ plan.cells + 3 * p.plan.pieces
-      → plan.segments.items ≡ (p.plan.segments.items ++ last ∷ []) ++ final ∷ []
-      → last.waits.items ≡ p.plan.waits.items
-      → last.ops.items ≡ p.plan.ops.items
+      → plan.kernels.items ≡ p.draft.kernels.items → plan.codes.items ≡ p.draft.codes.items
+      → plan.literals.items ≡ p.draft.literals.items → plan.jobs.items ≡ p.draft.jobs.items
+      → plan.cells ≡ peak_of p.world.store
+      → plan.words ≡ plan.cells + 3 * p.draft.pieces
+      → plan.segments.items ≡ (p.draft.segments.items ++ last ∷ []) ++ final ∷ []
+      → last.waits.items ≡ p.draft.waits.items
+      → last.ops.items ≡ p.draft.ops.items
       → last.starts ≡ None
-      → AreJobsUpTo (length p.plan.jobs.items) final.waits.items
-      → ((j : ℕ) → 0 < j → j ≤ length p.plan.jobs.items → has_job final.waits.items j ≡ true)
+      → AreJobsUpTo (length p.draft.jobs.items) final.waits.items
+      → ((j : ℕ) → 0 < j → j ≤ length p.draft.jobs.items → has_job final.waits.items j ≡ true)
       → final.ops.items ≡ []
       → final.starts ≡ None
       → IsDone (outline_of plan found begun) (state_at script table n)
   is_done plan last final names kernels codes literals jobs cells words segments waits ops starts known all final_ops final_starts =
-      let split : plan.segments.items ≡ p.plan.segments.items ++ last ∷ final ∷ [] = segments ∙ append_assoc p.plan.segments.items (last ∷ []) (final ∷ []) in
-      let pieces_is : pieces_before plan.jobs.items (length plan.jobs.items) ≡ p.plan.pieces = ap (λ l. pieces_before l (length l)) jobs
+      let split : plan.segments.items ≡ p.draft.segments.items ++ last ∷ final ∷ [] = segments ∙ append_assoc p.draft.segments.items (last ∷ []) (final ∷ []) in
+      let pieces_is : pieces_before plan.jobs.items (length plan.jobs.items) ≡ p.draft.pieces = ap (λ l. pieces_before l (length l)) jobs
       ∙ sym st.numbers.pieces in
-      let long : length plan.segments.items ≡ length p.plan.segments.items + 2 = ap length split ∙ length-append p.plan.segments.items (last ∷ final ∷ []) in
-      let count : ops_count plan.segments.items ≡ ops_count p.plan.segments.items + length last.ops.items = ap ops_count split
-      ∙ ops_two p.plan.segments.items last final final_ops in
-      let ops_long : length last.ops.items ≡ length p.plan.ops.items = ap length ops in
+      let long : length plan.segments.items ≡ length p.draft.segments.items + 2 = ap length split ∙ length-append p.draft.segments.items (last ∷ final ∷ []) in
+      let count : ops_count plan.segments.items ≡ ops_count p.draft.segments.items + length last.ops.items = ap ops_count split
+      ∙ ops_two p.draft.segments.items last final final_ops in
+      let ops_long : length last.ops.items ≡ length p.draft.ops.items = ap length ops in
       let few = jobs_few in
       let small = pieces_small in
       let low = cells_small in
@@ -184,8 +184,8 @@ module _ (script : Script) (table : Table) (p : Planner) (begun : ScriptState) (
       let late = overdue_few in
       let so_many = st.numbers.ops_few in
       let so_few = st.numbers.segments_few in
-      let as_many : length plan.jobs.items ≡ length p.plan.jobs.items = ap length jobs in
-      drafts_become_plans (outline_of plan found begun) (state_at script table n) (draft_of p) last final st.known
+      let as_many : length plan.jobs.items ≡ length p.draft.jobs.items = ap length jobs in
+      drafts_become_plans (outline_of plan found begun) (state_at script table n) (draft_of p) last final st.knows.known
       (st.planned (outline_of plan found begun) (agrees plan names kernels literals jobs cells))
       (record {
         jobs = jobs;
@@ -206,4 +206,4 @@ module _ (script : Script) (table : Table) (p : Planner) (begun : ScriptState) (
         ops = omega arith;
       })
       (λ place k e. st.kernels.checked place k (sym (ap (λ l. slice_get l place) kernels) ∙ e))
-      (coded_as plan.kernels.items p.plan.kernels.items plan.codes.items p.plan.codes.items kernels codes st.kernels.coded)
+      (coded_as plan.kernels.items p.draft.kernels.items plan.codes.items p.draft.codes.items kernels codes st.kernels.coded)

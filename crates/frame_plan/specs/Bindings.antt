@@ -45,14 +45,14 @@ IsBindAt s cells last name (Some bind) =
 -- the words of a container, while its slot is live with its version
 abbrev pub bind_made : Planner → Option Container → Option Bind
 bind_made p None = None
-bind_made p (Some it) = if is_current (state_of p.safety it.slot.0) (tag_of it None) then Some it.bind else None
+bind_made p (Some it) = if is_current (state_of p.world.safety it.slot.0) (tag_of it None) then Some it.bind else None
 
 abbrev pub bind_valued : Planner → Option Value → Option Bind
-bind_valued p (Some (Whole c)) = bind_made p (slice_get p.containers.items c)
+bind_valued p (Some (Whole c)) = bind_made p (slice_get p.world.containers.items c)
 bind_valued p _ = None
 
 abbrev pub bind_named : Planner → ℕ → Option Bind
-bind_named p name = bind_valued p (slice_get p.values.items name)
+bind_named p name = bind_valued p (slice_get p.world.values.items name)
 
 abbrev pub bind_in : SectionBook → ℕ → Option Bind
 bind_in book name = bind_named book.planner name

@@ -111,12 +111,12 @@ pub record IsLaidOut (script : Script) (table : Table) (from to : ℕ) (plan : P
 -- The ranges are first fits, and its store has the greatest end of them.
 pub record HasRanges (script : Script) (table : Table) (starts : Starts) (p : Planner) (at : ℕ) : Type 0 where
   pub fits : AreFirstFits (setting script table) starts (take at script.statements.items) at_start
-  pub peak : peak_of p.store ≡ greatest_end_at script table starts at
+  pub peak : peak_of p.world.store ≡ greatest_end_at script table starts at
 
 -- Beside that, its plan so far is laid out from where the section began.
 pub record HasGrown (script : Script) (table : Table) (starts : Starts) (p : Planner) (from at : ℕ) : Type 0 where
   pub ranges : HasRanges script table starts p at
   pub spans : given_so_far p ≡ carried_spans script table starts from ++ spans_between script table starts from at
-  pub jobs : AreScheduled script table starts from at p.plan.kernels.items p.plan.jobs.items p.plan.segments.items
+  pub jobs : AreScheduled script table starts from at p.draft.kernels.items p.draft.jobs.items p.draft.segments.items
   pub waited : HasWaited (state_at script table from).book.count (state_at script table at) p
   pub waits : waits_by p ≡ completed_between script table from at

@@ -14,8 +14,8 @@ use Rattle.plan_state.specs.declared.state.Planner.{Planner}
 pub record IsReferenceOf (p : Planner) (name : ℕ) (at : RefAt) : Type 0 where
   pub container : ℕ
   pub it : Container
-  pub value : slice_get p.values.items name ≡ Some (Whole container)
-  pub has : slice_get p.containers.items container ≡ Some it
+  pub value : slice_get p.world.values.items name ≡ Some (Whole container)
+  pub has : slice_get p.world.containers.items container ≡ Some it
   pub bind : it.bind ≡ Ref at
 
 -- a test has the sign and the number of its `when`, and its reference

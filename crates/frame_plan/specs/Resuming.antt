@@ -10,24 +10,24 @@ use Rattle.plan_state.specs.declared.state.Planner.{Planner}
 
 -- It has no plan, and the memory has all words of the containers.
 pub record IsToResume (p : Planner) (mem : List ℤ) : Type 0 where
-  pub literals : p.plan.literals.items ≡ []
-  pub ops : p.plan.ops.items ≡ []
-  pub words : peak_of p.store ≤ length mem
+  pub literals : p.draft.literals.items ≡ []
+  pub ops : p.draft.ops.items ≡ []
+  pub words : peak_of p.world.store ≤ length mem
 
 -- The section's first operation fills in the words so far. The jobs so far are those of earlier sections, and the plan
 -- begins with kernels and codes that it was given. All else is as it was.
 pub record IsResumed (kernels : List Kernel) (codes : List Code) (old new : Planner) (mem : List ℤ) : Type 0 where
-  pub ops : new.plan.ops.items ≡ carried_op (peak_of old.store) 0 ∷ []
-  pub literals : map (λ v. v.items) new.plan.literals.items ≡ cell_list (cells_of mem) 0 (peak_of old.store) ∷ []
-  pub kernels_are : new.plan.kernels.items ≡ kernels
-  pub codes_are : new.plan.codes.items ≡ codes
-  pub before : new.jobs_before ≡ count_of old.jobs
+  pub ops : new.draft.ops.items ≡ carried_op (peak_of old.world.store) 0 ∷ []
+  pub literals : map (λ v. v.items) new.draft.literals.items ≡ cell_list (cells_of mem) 0 (peak_of old.world.store) ∷ []
+  pub kernels_are : new.draft.kernels.items ≡ kernels
+  pub codes_are : new.draft.codes.items ≡ codes
+  pub before : new.jobs_before ≡ count_of old.world.jobs
   pub rest : new ≡ record old {
     jobs_before = new.jobs_before;
-    plan = record old.plan {
-      kernels = new.plan.kernels;
-      codes = new.plan.codes;
-      literals = new.plan.literals;
-      ops = new.plan.ops;
+    draft = record old.draft {
+      kernels = new.draft.kernels;
+      codes = new.draft.codes;
+      literals = new.draft.literals;
+      ops = new.draft.ops;
     };
   }

@@ -147,16 +147,16 @@ AreWithin last found s = (c : ℕ) → is_live s c ≡ true → end_of (bind_of_
 
 -- The plan is that of a section which began in a state, up to the statement at which the planner stands.
 pub record IsFinished (script : Script) (p : Planner) (plan : Plan) : Type 0 where
-  pub cells : plan.cells ≡ peak_of p.store
-  pub kernels : plan.kernels.items ≡ p.plan.kernels.items
-  pub codes : plan.codes.items ≡ p.plan.codes.items
-  pub jobs : plan.jobs.items ≡ p.plan.jobs.items
+  pub cells : plan.cells ≡ peak_of p.world.store
+  pub kernels : plan.kernels.items ≡ p.draft.kernels.items
+  pub codes : plan.codes.items ≡ p.draft.codes.items
+  pub jobs : plan.jobs.items ≡ p.draft.jobs.items
   -- it gives what was given, and its last segments come after those so far
   pub spans : given_from plan.segments.items ≡ given_so_far p
   pub segments_later : List Segment
-  pub segments : plan.segments.items ≡ p.plan.segments.items ++ segments_later
+  pub segments : plan.segments.items ≡ p.draft.segments.items ++ segments_later
   -- it waits for what was waited for, and then for all of its jobs
-  pub waits : waits_of plan.segments.items ≡ waits_by p ++ unless_none (first_jobs (length p.plan.jobs.items))
+  pub waits : waits_of plan.segments.items ≡ waits_by p ++ unless_none (first_jobs (length p.draft.jobs.items))
   pub done : (table : Table) (begun : ScriptState) (n : ℕ) (found : List ℕ)
       → n ≤ length script.statements.items
       → StandsAt p script table begun n found
@@ -169,9 +169,9 @@ pub record IsFinished (script : Script) (p : Planner) (plan : Plan) : Type 0 whe
 
 -- The planner has no plan, and is otherwise as it was.
 pub record IsEmptied (old new : Planner) : Type 0 where
-  pub rest : new ≡ record old { plan = new.plan }
+  pub rest : new ≡ record old { draft = new.draft }
   pub draft : draft_of new ≡ empty_draft
-  pub literals : new.plan.literals.items ≡ []
-  pub kernels : new.plan.kernels.items ≡ []
-  pub codes : new.plan.codes.items ≡ []
-  pub pieces : new.plan.pieces ≡ 0
+  pub literals : new.draft.literals.items ≡ []
+  pub kernels : new.draft.kernels.items ≡ []
+  pub codes : new.draft.codes.items ≡ []
+  pub pieces : new.draft.pieces ≡ 0

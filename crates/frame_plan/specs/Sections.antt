@@ -145,8 +145,8 @@ pub record AreKernelsOf (book : SectionBook) (script : Script) (table : Table) (
   pub old : Planner
   pub places : book.planner.kernels ≡ old.kernels
   pub guard_places : book.planner.guards ≡ old.guards
-  pub had : kernels ≡ old.plan.kernels.items
-  pub had_codes : codes ≡ old.plan.codes.items
+  pub had : kernels ≡ old.draft.kernels.items
+  pub had_codes : codes ≡ old.draft.codes.items
   pub stood : AreKernels old (setting script table)
   pub few : length kernels ≤ book.at
 
@@ -167,7 +167,7 @@ pub record IsBetween (book : SectionBook) (script : Script) (table : Table) (n :
   pub ranges : (starts : Starts) → StartAs starts found → HasRanges script table starts old n
   pub emptied : IsEmptied old book.planner
   pub held : AllHeld (λ k. get_or found k 0) (state_at script table n) carried
-  pub len_is : len ≡ peak_of book.planner.store
+  pub len_is : len ≡ peak_of book.planner.world.store
 
 -- The book is at a place among the statements: before the first section, or at the test at which the last one ended,
 -- which left these cells in so many words.

@@ -17,7 +17,7 @@ impl SectionBook {
     pub fn bind(&self, name: usize) -> Option<Bind>
         ensures { result ≡ bind_in self.now name }
     {
-        match self.planner.values.get(name)? {
+        match self.planner.world.values.get(name)? {
             Value::Whole(number) => bind_of(&self.planner, *number),
             Value::Dead | Value::Slice { .. } | Value::View { .. } | Value::Jobs(_) => None,
         }
@@ -26,9 +26,9 @@ impl SectionBook {
 
 // The words of a container, by its number, while it isn't disposed.
 fn bind_of(planner: &Planner, number: u32) -> Option<Bind>
-    ensures { result ≡ bind_made planner.now (slice_get planner.now.containers.items number) }
+    ensures { result ≡ bind_made planner.now (slice_get planner.now.world.containers.items number) }
 {
-    let container = planner.containers.get(number as usize)?;
+    let container = planner.world.containers.get(number as usize)?;
     if is_alive(planner, container) {
         Some(container.bind)
     } else {
@@ -38,7 +38,7 @@ fn bind_of(planner: &Planner, number: u32) -> Option<Bind>
 
 // Whether a container isn't disposed.
 fn is_alive(planner: &Planner, container: &Container) -> bool
-    ensures { result ≡ is_current (state_of planner.now.safety container.now.slot.0) (tag_of container.now None) }
+    ensures { result ≡ is_current (state_of planner.now.world.safety container.now.slot.0) (tag_of container.now None) }
 {
     let tag = Tag {
         slot: container.slot,
@@ -46,8 +46,9 @@ fn is_alive(planner: &Planner, container: &Container) -> bool
         view: None,
     };
     match planner
+        .world
         .safety
-        .check_read(&tag, &Handle::empty(), &planner.jobs)
+        .check_read(&tag, &Handle::empty(), &planner.world.jobs)
     {
         Err(Blocked::Disposed) => false,
         Ok(()) | Err(Blocked::StaleView | Blocked::Pending(_)) => true,

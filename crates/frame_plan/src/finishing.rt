@@ -31,8 +31,8 @@ pub(crate) fn finish(
     ensures names { IfOk result (λ plan. plan.names.items ≡ names.items) }
     ensures emptied { OnOk result (IsEmptied planner.old planner.new) }
 {
-    let all = all_jobs(alloc, planner.plan.jobs.len() as u32)?;
-    let cells = planner.store.peak();
+    let all = all_jobs(alloc, planner.draft.jobs.len() as u32)?;
+    let cells = planner.world.store.peak();
     let Draft {
         kernels,
         codes,
@@ -42,7 +42,7 @@ pub(crate) fn finish(
         waits,
         ops,
         pieces,
-    } = mem::replace(&mut planner.plan, Draft::none(alloc));
+    } = mem::replace(&mut planner.draft, Draft::none(alloc));
     segments.push(Segment {
         waits,
         ops,

@@ -10,7 +10,7 @@ ghost use Rattle.plan_statements.specs.Tables.{columns_of};
 use frame_ast::script::{Order, Script, Statement};
 use job_base::NoMemory;
 use job_handle::JobBook;
-use plan_state::{Draft, PlanFault, Planner, Value};
+use plan_state::{Draft, PlanFault, Planner, Value, World};
 use safety_handle::SafetyBook;
 use slot_store::SlotStore;
 use std::alloc::Global;
@@ -21,22 +21,24 @@ pub(crate) fn at_start(alloc: Global, script: &Script) -> Result<Planner, NoMemo
     ensures { IfOk result (λ p. (table : Columns) → HasBegun script.now table p) }
 {
     Ok(Planner {
-        values: dead_values(alloc, script.names.len())?,
-        handles: Vec::new(alloc),
-        containers: Vec::new(alloc),
-        temps: Vec::new(alloc),
-        tempjobs: Vec::new(alloc),
-        overdue: 0,
-        frame: 0,
-        jobs: JobBook::new(alloc),
-        safety: SafetyBook::new(alloc)?,
-        store: SlotStore::new(alloc)?,
-        created: 0,
-        passing: 0,
+        world: World {
+            values: dead_values(alloc, script.names.len())?,
+            handles: Vec::new(alloc),
+            containers: Vec::new(alloc),
+            temps: Vec::new(alloc),
+            tempjobs: Vec::new(alloc),
+            overdue: 0,
+            frame: 0,
+            jobs: JobBook::new(alloc),
+            safety: SafetyBook::new(alloc)?,
+            store: SlotStore::new(alloc)?,
+            created: 0,
+            passing: 0,
+        },
+        draft: Draft::none(alloc),
         jobs_before: 0,
         kernels: no_copies(alloc, script.kernels.len())?,
         guards: no_copies(alloc, script.kernels.len())?,
-        plan: Draft::none(alloc),
     })
 }
 
@@ -87,8 +89,8 @@ fn pass(
     ensures fails { IfErr result (λ fault.
         FailsAtPlace script.now (columns_of table.now) fault planner.old statement.now) }
 {
-    if planner.passing > 0 {
-        planner.passing -= 1;
+    if planner.world.passing > 0 {
+        planner.world.passing -= 1;
         return Ok(true);
     }
     if let Order::When {
@@ -120,7 +122,7 @@ fn act(
     statement: &Statement,
 ) -> Result<(), PlanFault>
     requires at { IsAtStatement script.now (columns_of table.now) planner.old statement.now }
-    requires acts { planner.old.passing ≡ 0 }
+    requires acts { planner.old.world.passing ≡ 0 }
     requires other { is_when statement.now.act ≡ false }
     ensures passed { OnOk result (HasPassed script.now (columns_of table.now) planner.old planner.new statement.now) }
     ensures fails { IfErr result (λ fault.
@@ -153,22 +155,42 @@ fn act(
             of,
             start,
             len,
-        } => Ok(plan_statements::slice(planner, line, *name, *of, *start, *len)?),
-        Order::View { name, of } => Ok(plan_statements::view(planner, line, *name, *of)?),
-        Order::Copy { name, of } => Ok(plan_statements::copy(planner, line, *name, *of)),
-        Order::Set { name, at, value } => Ok(plan_statements::set(
-            planner, line, *name, *at, *value,
-        )?),
+        } => {
+            let answer = plan_statements::slice(&mut planner.world, *name, *of, *start, *len);
+            Ok(planner.draft.take(line, answer)?)
+        }
+        Order::View { name, of } => {
+            let answer = plan_statements::view(&mut planner.world, *name, *of);
+            Ok(planner.draft.take(line, answer)?)
+        }
+        Order::Copy { name, of } => {
+            let answer = plan_statements::copy(&mut planner.world, *name, *of);
+            Ok(planner.draft.take(line, answer)?)
+        }
+        Order::Set { name, at, value } => {
+            let answer = plan_statements::set(&planner.world, *name, *at, *value);
+            Ok(planner.draft.take(line, answer)?)
+        }
         Order::Add {
             name,
             first,
             second,
-        } => Ok(plan_statements::add(planner, line, *name, *first, *second)?),
-        Order::Put { name, key, value } => Ok(plan_statements::put(
-            planner, line, *name, *key, *value,
-        )?),
-        Order::Remove { name, at } => Ok(plan_statements::remove(planner, line, *name, *at)?),
-        Order::Clear { name } => Ok(plan_statements::clear(planner, line, *name)?),
+        } => {
+            let answer = plan_statements::add(&mut planner.world, *name, *first, *second);
+            Ok(planner.draft.take(line, answer)?)
+        }
+        Order::Put { name, key, value } => {
+            let answer = plan_statements::put(&planner.world, *name, *key, *value);
+            Ok(planner.draft.take(line, answer)?)
+        }
+        Order::Remove { name, at } => {
+            let answer = plan_statements::remove(&mut planner.world, *name, *at);
+            Ok(planner.draft.take(line, answer)?)
+        }
+        Order::Clear { name } => {
+            let answer = plan_statements::clear(&mut planner.world, *name);
+            Ok(planner.draft.take(line, answer)?)
+        }
         Order::SetCapacity { name, cap } => plan_statements::set_capacity(
             planner, line, *name, *cap,
         ),
@@ -178,7 +200,10 @@ fn act(
                 planner, alloc, script, line, job, defer,
             ),
         },
-        Order::Combine { name, of } => Ok(plan_statements::combine(planner, line, *name, of)?),
+        Order::Combine { name, of } => {
+            let answer = plan_statements::combine(&mut planner.world, *name, of)?;
+            Ok(planner.draft.take(line, answer)?)
+        }
         Order::Complete { name } => Ok(plan_statements::complete(planner, alloc, *name)?),
         Order::CompleteAuto { name } => Ok(plan_statements::complete_auto(
             planner, alloc, line, *name,
@@ -188,16 +213,32 @@ fn act(
             after,
             handle,
         } => match *handle {
-            None => Ok(plan_statements::dispose(planner, line, *name)?),
-            Some(handle) => Ok(plan_statements::dispose_after(
-                planner, line, *name, after, handle,
-            )?),
+            None => {
+                let answer = plan_statements::dispose(&mut planner.world, *name);
+                Ok(planner.draft.take(line, answer)?)
+            }
+            Some(handle) => {
+                let answer = plan_statements::dispose_after(
+                    &mut planner.world,
+                    *name,
+                    after,
+                    handle,
+                )?;
+                Ok(planner.draft.take(line, answer)?)
+            }
         },
-        Order::DisposeAuto { name, handle } => Ok(plan_statements::dispose_auto(
-            planner, line, *name, *handle,
-        )?),
-        Order::Print { name } => Ok(plan_statements::print(planner, line, *name)?),
-        Order::Flush => Ok(plan_statements::flush(planner, line)),
+        Order::DisposeAuto { name, handle } => {
+            let answer = plan_statements::dispose_auto(&mut planner.world, *name, *handle)?;
+            Ok(planner.draft.take(line, answer)?)
+        }
+        Order::Print { name } => {
+            let answer = plan_statements::print(&planner.world, *name);
+            Ok(planner.draft.take(line, answer)?)
+        }
+        Order::Flush => {
+            let answer = plan_statements::flush(&planner.world);
+            Ok(planner.draft.take(line, answer)?)
+        }
         Order::Frame => Ok(plan_statements::frame(planner, line)?),
         Order::When { .. } => unreachable!(),
     }

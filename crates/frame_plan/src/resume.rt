@@ -20,11 +20,11 @@ pub(crate) fn begin(
     requires left { IsToResume planner.old cells }
     ensures resumed { OnOk result (IsResumed kernels.items codes.items planner.old planner.new cells) }
 {
-    let len = planner.store.peak();
-    planner.jobs_before = planner.jobs.count();
-    planner.plan.kernels = kernels;
-    planner.plan.codes = codes;
-    planner.plan.literals.push(first_cells(cells, len))?;
+    let len = planner.world.store.peak();
+    planner.jobs_before = planner.world.jobs.count();
+    planner.draft.kernels = kernels;
+    planner.draft.codes = codes;
+    planner.draft.literals.push(first_cells(cells, len))?;
     planner.push(
         0,
         0,

@@ -171,7 +171,7 @@ impl SectionBook {
     {
         begin(&mut self.planner, cells, kernels, codes)?;
         let statement = &script.statements[self.at as usize];
-        self.planner.passing = passed_after(&statement.act, held);
+        self.planner.world.passing = passed_after(&statement.act, held);
         match run(&mut self.planner, alloc, script, table, self.at + 1) {
             Ok(at) => {
                 self.at = at;
@@ -232,8 +232,8 @@ fn reference_of(planner: &Planner, name: u32) -> RefAt
     requires { (at : RefAt) × IsReferenceOf planner.now name at }
     ensures { IsReferenceOf planner.now name result }
 {
-    match planner.values[name as usize] {
-        Value::Whole(number) => match planner.containers[number as usize].bind {
+    match planner.world.values[name as usize] {
+        Value::Whole(number) => match planner.world.containers[number as usize].bind {
             Bind::Ref(at) => at,
             _ => unreachable!(),
         },

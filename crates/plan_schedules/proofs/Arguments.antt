@@ -115,17 +115,17 @@ module _ (s : ScriptState) (d : Bool) where
 
 module _ (p : Planner) (g : Setting) (begun : ScriptState) (n : ℕ) (s : ScriptState) (found : List ℕ) (st : Stands p g begun n s found) (x : Outline)
     (a : Agrees p g begun found x) (defer : Option (ℕ × ℕ)) where
-  arg_is : (q : Param) (width : ℕ) (arg : Arg) → IsNameBelow (length p.values.items) arg → ArgFits s defer q arg
+  arg_is : (q : Param) (width : ℕ) (arg : Arg) → IsNameBelow (length p.world.values.items) arg → ArgFits s defer q arg
       → job_bind p q.kind width arg ≡ bind_by x.starts s q width arg
   arg_is q width (Number z) below fit = refl
   arg_is q width (Name m) below fit =
-      let v = some_at p.values.items m below in
+      let v = some_at p.world.values.items m below in
       let usable : IsUsable s m = record { below = fit.made; fits = fits_contents s (is_deferred defer m) q.kind (s.values m) fit.value } in
       ap (λ o. as_kind q.kind width (bind_of_value p o)) v.1
       ∙ ap (as_kind q.kind width) (binds_at p g begun n s found st x a m v.0 v.1 usable)
       ∙ kind_is s (is_deferred defer m) q.kind width (start_at x.starts s m) (s.values m) fit.value
 
-  pub args_are : (parallel : Bool) (waive : List ℕ) (y : ℕ) (qs : List Param) (args : List Arg) → EachBelow (length p.values.items) args
+  pub args_are : (parallel : Bool) (waive : List ℕ) (y : ℕ) (qs : List Param) (args : List Arg) → EachBelow (length p.world.values.items) args
       → ArgsFit s defer qs args
       → job_binds p parallel waive y qs args ≡ binds_by x.starts s qs (widths_from parallel waive y qs) args
   args_are parallel waive y [] args below fit = refl

@@ -21,28 +21,28 @@ use Rattle.plan_schedules.proofs.Coding.{coded_added}
 
 -- nothing but the copies and their places changes
 pub moved : (script : Script) (p middle : Planner) (kernel place : ℕ) → IsCopied script p middle kernel place
-    → middle ≡ record p { kernels = middle.kernels; plan = record p.plan { kernels = middle.plan.kernels; codes = middle.plan.codes } }
+    → middle ≡ record p { kernels = middle.kernels; draft = record p.draft { kernels = middle.draft.kernels; codes = middle.draft.codes } }
 moved script p middle kernel place copied = ⊎_elim
     (λ l. l.1
-    ∙ ap (λ (m : Planner). record p { kernels = m.kernels; plan = record p.plan { kernels = m.plan.kernels; codes = m.plan.codes } }) (sym l.1))
-    (λ r. r.rest ∙ ap (λ (d : Draft). record p { kernels = middle.kernels; plan = d }) r.added.rest)
+    ∙ ap (λ (m : Planner). record p { kernels = m.kernels; draft = record p.draft { kernels = m.draft.kernels; codes = m.draft.codes } }) (sym l.1))
+    (λ r. r.rest ∙ ap (λ (d : Draft). record p { kernels = middle.kernels; draft = d }) r.added.rest)
     copied
 
 module _ (script : Script) (g : Setting) (is_g : g.kernels ≡ script.kernels.items) (p middle : Planner) (kernel place : ℕ) (ks : AreKernels p g)
     (copied : IsCopied script p middle kernel place)
     (source : Kernel) (has_source : slice_get script.kernels.items kernel ≡ Some source) (checked : IsChecked source) where
   -- the copies so far keep their places
-  grown : (k : ℕ) (it : Kernel) → slice_get p.plan.kernels.items k ≡ Some it → slice_get middle.plan.kernels.items k ≡ Some it
+  grown : (k : ℕ) (it : Kernel) → slice_get p.draft.kernels.items k ≡ Some it → slice_get middle.draft.kernels.items k ≡ Some it
   grown k it h = ⊎_elim
-      (λ l. ap (λ (m : Planner). slice_get m.plan.kernels.items k) l.1 ∙ h)
+      (λ l. ap (λ (m : Planner). slice_get m.draft.kernels.items k) l.1 ∙ h)
       (λ r.
       ap (λ xs. slice_get xs k) r.added.kernels
-      ∙ get_before p.plan.kernels.items (r.copy ∷ []) k (get_below p.plan.kernels.items k it h) ∙ h)
+      ∙ get_before p.draft.kernels.items (r.copy ∷ []) k (get_below p.draft.kernels.items k it h) ∙ h)
       copied
 
   pub record HasCopy : Type 0 where
     pub copy : Kernel
-    pub here : slice_get middle.plan.kernels.items place ≡ Some copy
+    pub here : slice_get middle.draft.kernels.items place ≡ Some copy
     pub same : SameKernel source copy
 
   pub has_copy : HasCopy
@@ -58,35 +58,35 @@ module _ (script : Script) (g : Setting) (is_g : g.kernels ≡ script.kernels.it
         copy = r.copy;
         here =
             ap (λ xs. slice_get xs place) r.added.kernels
-            ∙ (let e : place ≡ length p.plan.kernels.items + 0 = (let l = r.added.last in omega arith) in
-            ap (slice_get (p.plan.kernels.items ++ r.copy ∷ [])) e)
-            ∙ get_behind p.plan.kernels.items (r.copy ∷ []) 0;
+            ∙ (let e : place ≡ length p.draft.kernels.items + 0 = (let l = r.added.last in omega arith) in
+            ap (slice_get (p.draft.kernels.items ++ r.copy ∷ [])) e)
+            ∙ get_behind p.draft.kernels.items (r.copy ∷ []) 0;
         same = subst (λ (k : Kernel). SameKernel k r.copy) (some_is (sym r.is_source ∙ has_source)) r.same;
       })
       copied
 
-  pub copies_few : length middle.plan.kernels.items ≤ suc (length p.plan.kernels.items)
+  pub copies_few : length middle.draft.kernels.items ≤ suc (length p.draft.kernels.items)
   copies_few = ⊎_elim
-      (λ l. let e : length middle.plan.kernels.items ≡ length p.plan.kernels.items = ap (λ (m : Planner). length m.plan.kernels.items) l.1 in omega arith)
+      (λ l. let e : length middle.draft.kernels.items ≡ length p.draft.kernels.items = ap (λ (m : Planner). length m.draft.kernels.items) l.1 in omega arith)
       (λ r.
-      let e : length middle.plan.kernels.items ≡ length p.plan.kernels.items + 1 = ap length r.added.kernels
-      ∙ length-append p.plan.kernels.items (r.copy ∷ []) in
+      let e : length middle.draft.kernels.items ≡ length p.draft.kernels.items + 1 = ap length r.added.kernels
+      ∙ length-append p.draft.kernels.items (r.copy ∷ []) in
       omega arith)
       copied
 
   -- what a whole plan has after them, it has after those so far
-  pub kernels_later : (all : List Kernel) → (rest : List Kernel) × (all ≡ middle.plan.kernels.items ++ rest)
-      → (rest : List Kernel) × (all ≡ p.plan.kernels.items ++ rest)
+  pub kernels_later : (all : List Kernel) → (rest : List Kernel) × (all ≡ middle.draft.kernels.items ++ rest)
+      → (rest : List Kernel) × (all ≡ p.draft.kernels.items ++ rest)
   kernels_later all r = ⊎_elim
-      (λ l. (r.0, r.1 ∙ ap (λ (m : Planner). m.plan.kernels.items ++ r.0) l.1))
+      (λ l. (r.0, r.1 ∙ ap (λ (m : Planner). m.draft.kernels.items ++ r.0) l.1))
       (λ a. (
         a.copy ∷ r.0,
-        r.1 ∙ ap (λ xs. xs ++ r.0) a.added.kernels ∙ append_assoc p.plan.kernels.items (a.copy ∷ []) r.0,
+        r.1 ∙ ap (λ xs. xs ++ r.0) a.added.kernels ∙ append_assoc p.draft.kernels.items (a.copy ∷ []) r.0,
       ))
       copied
 
   -- of a planner that has them
-  pub kernels_stand : (q : Planner) → q.kernels ≡ middle.kernels → q.plan.kernels ≡ middle.plan.kernels → q.plan.codes ≡ middle.plan.codes
+  pub kernels_stand : (q : Planner) → q.kernels ≡ middle.kernels → q.draft.kernels ≡ middle.draft.kernels → q.draft.codes ≡ middle.draft.codes
       → q.guards ≡ p.guards
       → AreKernels q g
   kernels_stand q kernels copies codes guards = record {
@@ -106,11 +106,11 @@ module _ (script : Script) (g : Setting) (is_g : g.kernels ≡ script.kernels.it
           footprint = c.footprint;
         };
     checked = λ at k h. all_checked at k (ap (λ (v : Vec Kernel Global). slice_get v.items at) (sym copies) ∙ h);
-    coded = subst (λ (v : Vec Kernel Global). AreCodesOf v.items q.plan.codes.items) (sym copies)
-        (subst (λ (v : Vec Code Global). AreCodesOf middle.plan.kernels.items v.items) (sym codes) all_coded);
+    coded = subst (λ (v : Vec Kernel Global). AreCodesOf v.items q.draft.codes.items) (sym copies)
+        (subst (λ (v : Vec Code Global). AreCodesOf middle.draft.kernels.items v.items) (sym codes) all_coded);
   }
     where
-      there : (at : ℕ) (it : Kernel) → slice_get middle.plan.kernels.items at ≡ Some it → slice_get q.plan.kernels.items at ≡ Some it
+      there : (at : ℕ) (it : Kernel) → slice_get middle.draft.kernels.items at ≡ Some it → slice_get q.draft.kernels.items at ≡ Some it
       there at it h = ap (λ (v : Vec Kernel Global). slice_get v.items at) copies ∙ h
 
       long : length middle.kernels.items ≡ length p.kernels.items
@@ -146,19 +146,19 @@ module _ (script : Script) (g : Setting) (is_g : g.kernels ≡ script.kernels.it
           (set_either p.kernels.items kernel (Some place) k (Some at) (ap (λ xs. slice_get xs k) (sym r.kernels) ∙ h)))
           copied
 
-      all_coded : AreCodesOf middle.plan.kernels.items middle.plan.codes.items
+      all_coded : AreCodesOf middle.draft.kernels.items middle.draft.codes.items
       all_coded = ⊎_elim
-          (λ l. subst (λ (m : Planner). AreCodesOf m.plan.kernels.items m.plan.codes.items) (sym l.1) ks.coded)
-          (λ r. coded_added p.plan middle.plan r.copy place r.added ks.coded)
+          (λ l. subst (λ (m : Planner). AreCodesOf m.draft.kernels.items m.draft.codes.items) (sym l.1) ks.coded)
+          (λ r. coded_added p.draft middle.draft r.copy place r.added ks.coded)
           copied
 
-      all_checked : (at : ℕ) (k : Kernel) → slice_get middle.plan.kernels.items at ≡ Some k → IsChecked k
+      all_checked : (at : ℕ) (k : Kernel) → slice_get middle.draft.kernels.items at ≡ Some k → IsChecked k
       all_checked at k h = ⊎_elim
-          (λ l. ks.checked at k (ap (λ (m : Planner). slice_get m.plan.kernels.items at) (sym l.1) ∙ h))
+          (λ l. ks.checked at k (ap (λ (m : Planner). slice_get m.draft.kernels.items at) (sym l.1) ∙ h))
           (λ r. ⊎_elim
           (λ e. ks.checked at k e.1)
           (λ e. last r e.0 e.2)
-          (get_either p.plan.kernels.items (r.copy ∷ []) at k (ap (λ xs. slice_get xs at) (sym r.added.kernels) ∙ h)))
+          (get_either p.draft.kernels.items (r.copy ∷ []) at k (ap (λ xs. slice_get xs at) (sym r.added.kernels) ∙ h)))
           copied
         where
           last : (r : IsCopiedAnew script p middle kernel place) (i : ℕ) → slice_get (r.copy ∷ []) i ≡ Some k → IsChecked k

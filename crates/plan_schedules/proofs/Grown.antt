@@ -80,85 +80,86 @@ module _ (script : Script) (table : Table) (begun : ScriptState) (n : ℕ) (foun
   module _ (p new : Planner) where
     -- The planner closed the segment at hand, and started a job that the schedule is to have.
     pub record HasStarted (segment : Segment) (job : JobPlan) (waited : Jobs) : Type 0 where
-      pub store : new.store ≡ p.store
-      pub segments : new.plan.segments.items ≡ p.plan.segments.items ++ segment ∷ []
-      pub waits_were : segment.waits.items ≡ p.plan.waits.items
-      pub ops_were : segment.ops.items ≡ p.plan.ops.items
-      pub starts : segment.starts ≡ Some (record { 0 = suc (length p.plan.jobs.items) })
-      pub waits : new.plan.waits.items ≡ []
-      pub ops : new.plan.ops.items ≡ []
-      pub jobs : new.plan.jobs.items ≡ p.plan.jobs.items ++ job ∷ []
-      pub kernels : (later : List Kernel) × (new.plan.kernels.items ≡ p.plan.kernels.items ++ later)
+      pub store : new.world.store ≡ p.world.store
+      pub segments : new.draft.segments.items ≡ p.draft.segments.items ++ segment ∷ []
+      pub waits_were : segment.waits.items ≡ p.draft.waits.items
+      pub ops_were : segment.ops.items ≡ p.draft.ops.items
+      pub starts : segment.starts ≡ Some (record { 0 = suc (length p.draft.jobs.items) })
+      pub waits : new.draft.waits.items ≡ []
+      pub ops : new.draft.ops.items ≡ []
+      pub jobs : new.draft.jobs.items ≡ p.draft.jobs.items ++ job ∷ []
+      pub kernels : (later : List Kernel) × (new.draft.kernels.items ≡ p.draft.kernels.items ++ later)
       pub book : (act g s x).book ≡ with_job s.book waited
       pub job_is : (starts : Starts)
           → StartAs starts found
-          → IsJobOf g starts begun.book.count s waited asked.kernel asked.args.items asked.cut asked.defer asked.waive.items new.plan.kernels.items job
+          → IsJobOf g starts begun.book.count s waited asked.kernel asked.args.items asked.cut asked.defer asked.waive.items new.draft.kernels.items job
 
     module _ (step : IsStep script table n x) (none : refusal g s x.act ≡ None) (st : StandsAt p script table begun n found) (segment : Segment) (job : JobPlan)
         (waited : Jobs) (is : HasStarted segment job waited) where
       spans_stay : given_so_far new ≡ given_so_far p
       spans_stay =
-          given_closed p.plan.segments.items new.plan.segments.items segment p.plan.ops.items new.plan.ops.items is.segments is.ops_were is.ops
+          given_closed p.draft.segments.items new.draft.segments.items segment p.draft.ops.items new.draft.ops.items is.segments is.ops_were is.ops
 
       -- its job has the next place
-      place : s.book.count - begun.book.count ≡ length p.plan.jobs.items + 0
+      place : s.book.count - begun.book.count ≡ length p.draft.jobs.items + 0
       place = let e = outlining.jobs_are p script table begun n s found st in omega arith
 
-      at_place : slice_get new.plan.jobs.items (s.book.count - begun.book.count) ≡ Some job
-      at_place = (λ i. slice_get (is.jobs i) (place i)) ∙ get_behind p.plan.jobs.items (job ∷ []) 0
+      at_place : slice_get new.draft.jobs.items (s.book.count - begun.book.count) ≡ Some job
+      at_place = (λ i. slice_get (is.jobs i) (place i)) ∙ get_behind p.draft.jobs.items (job ∷ []) 0
 
       set_is : deps_after g s x ≡ waited
-      set_is = ap (λ (b : Book). b.deps (suc s.book.count)) is.book ∙ new_set s.book st.known.book waited
+      set_is = ap (λ (b : Book). b.deps (suc s.book.count)) is.book ∙ new_set s.book st.knows.known.book waited
 
       job_there : (starts : Starts) → StartAs starts found
-          → HasJobOf g starts begun.book.count s (deps_after g s x) asked.kernel asked.args.items asked.cut asked.defer asked.waive.items new.plan.kernels.items
-          (slice_get new.plan.jobs.items (s.book.count - begun.book.count))
+          → HasJobOf g starts begun.book.count s (deps_after g s x) asked.kernel asked.args.items asked.cut asked.defer asked.waive.items
+          new.draft.kernels.items
+          (slice_get new.draft.jobs.items (s.book.count - begun.book.count))
       job_there starts h =
           subst (λ o. HasJobOf g starts begun.book.count s (deps_after g s x) asked.kernel asked.args.items asked.cut asked.defer asked.waive.items
-          new.plan.kernels.items o) (sym at_place)
-          (subst (λ set. IsJobOf g starts begun.book.count s set asked.kernel asked.args.items asked.cut asked.defer asked.waive.items new.plan.kernels.items
+          new.draft.kernels.items o) (sym at_place)
+          (subst (λ set. IsJobOf g starts begun.book.count s set asked.kernel asked.args.items asked.cut asked.defer asked.waive.items new.draft.kernels.items
           job) (sym set_is) (is.job_is starts h))
 
       schedules : (starts : Starts) → StartAs starts found
-          → Schedules g starts begun.book.count s (deps_after g s x) s.passing x.act new.plan.kernels.items
-          (slice_get new.plan.jobs.items (s.book.count - begun.book.count))
+          → Schedules g starts begun.book.count s (deps_after g s x) s.passing x.act new.draft.kernels.items
+          (slice_get new.draft.jobs.items (s.book.count - begun.book.count))
       schedules starts h =
-          subst (λ passing. Schedules g starts begun.book.count s (deps_after g s x) passing x.act new.plan.kernels.items
-          (slice_get new.plan.jobs.items (s.book.count - begun.book.count))) (sym step.acts)
-          (subst (λ o. SchedulesUnless g starts begun.book.count s (deps_after g s x) x.act o new.plan.kernels.items
-          (slice_get new.plan.jobs.items (s.book.count - begun.book.count))) (sym none) (job_there starts h))
+          subst (λ passing. Schedules g starts begun.book.count s (deps_after g s x) passing x.act new.draft.kernels.items
+          (slice_get new.draft.jobs.items (s.book.count - begun.book.count))) (sym step.acts)
+          (subst (λ o. SchedulesUnless g starts begun.book.count s (deps_after g s x) x.act o new.draft.kernels.items
+          (slice_get new.draft.jobs.items (s.book.count - begun.book.count))) (sym none) (job_there starts h))
 
       -- no more is waited for, and no more is completed
       has_waited : HasWaited begun.book.count s p → HasWaited begun.book.count (act g s x) new
       has_waited h j above =
           ap (λ ids. has_job ids j)
-          (waits_closed p.plan.segments.items new.plan.segments.items segment p.plan.waits.items new.plan.waits.items [] is.segments is.waits_were is.waits
-          ∙ append-nil (waits_in p.plan.segments.items ++ p.plan.waits.items))
+          (waits_closed p.draft.segments.items new.draft.segments.items segment p.draft.waits.items new.draft.waits.items [] is.segments is.waits_were is.waits
+          ∙ append-nil (waits_in p.draft.segments.items ++ p.draft.waits.items))
           ∙ h j above
           ∙ ap (λ (b : Book). later begun.book.count b.completed j) (sym is.book)
 
       waits_kept : waits_by new ≡ waits_by p ++ unless_none (newly_completed begun.book.count s (act g s x))
       waits_kept =
-          each_closed p.plan.segments.items new.plan.segments.items segment p.plan.waits.items new.plan.waits.items [] is.segments is.waits_were is.waits
+          each_closed p.draft.segments.items new.draft.segments.items segment p.draft.waits.items new.draft.waits.items [] is.segments is.waits_were is.waits
           ∙ append-nil (waits_by p)
           ∙ waits_stay begun.book.count s (act g s x) (waits_by p) (ap (λ (b : Book). b.completed) is.book)
 
       started_after : HasWaited begun.book.count s p
-          → IsStartedAfter new.plan.segments.items (suc (s.book.count - begun.book.count)) begun.book.count s.book.completed
+          → IsStartedAfter new.draft.segments.items (suc (s.book.count - begun.book.count)) begun.book.count s.book.completed
       started_after h = record {
-        earlier = p.plan.segments.items;
+        earlier = p.draft.segments.items;
         segment = segment;
         rest = [];
         are = is.segments;
-        starts = is.starts ∙ (let k : length p.plan.jobs.items ≡ s.book.count - begun.book.count = (let e = place in omega arith) in
+        starts = is.starts ∙ (let k : length p.draft.jobs.items ≡ s.book.count - begun.book.count = (let e = place in omega arith) in
             ap (λ m. Some (record { 0 = suc m })) k);
-        waits = λ j above. ap (λ ids. has_job (waits_in p.plan.segments.items ++ ids) j) is.waits_were ∙ h j above;
+        waits = λ j above. ap (λ ids. has_job (waits_in p.draft.segments.items ++ ids) j) is.waits_were ∙ h j above;
       }
 
-      awaited : HasWaited begun.book.count s p → Awaits g begun.book.count s s.passing x.act new.plan.segments.items
+      awaited : HasWaited begun.book.count s p → Awaits g begun.book.count s s.passing x.act new.draft.segments.items
       awaited h =
-          subst (λ passing. Awaits g begun.book.count s passing x.act new.plan.segments.items) (sym step.acts)
-          (subst (λ o. AwaitsUnless begun.book.count s x.act o new.plan.segments.items) (sym none) (started_after h))
+          subst (λ passing. Awaits g begun.book.count s passing x.act new.draft.segments.items) (sym step.acts)
+          (subst (λ o. AwaitsUnless begun.book.count s x.act o new.draft.segments.items) (sym none) (started_after h))
 
       pub grows : (starts : Starts) → StartAs starts found → Grows g s x starts begun.book.count p new
       grows starts h =
@@ -166,7 +167,7 @@ module _ (script : Script) (table : Table) (begun : ScriptState) (n : ℕ) (foun
           record {
             first_fit = plain_takes g starts s x.act s.passing refl;
             spans = spans_stay ∙ sym (append-nil (given_so_far p)) ∙ ap (λ spans. given_so_far p ++ spans) (sym no_span);
-            peak = ap peak_of is.store ∙ sym (or_none (peak_of p.store)) ∙ ap (λ spans. max (peak_of p.store) (greatest_end spans)) (sym no_span);
+            peak = ap peak_of is.store ∙ sym (or_none (peak_of p.world.store)) ∙ ap (λ spans. max (peak_of p.world.store) (greatest_end spans)) (sym no_span);
             segments_later = segment ∷ [];
             segments_are = is.segments;
             jobs_later = job ∷ [];

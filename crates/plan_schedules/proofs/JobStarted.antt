@@ -45,6 +45,7 @@ use Rattle.plan_laws.proofs.Uses.{unblocked, deps_up}
 use Rattle.plan_schedules.specs.declared.accepting.Run.{Run}
 use Rattle.plan_state.specs.declared.state.Container.{Container}
 use Rattle.plan_state.specs.declared.state.Planner.{Planner}
+use Rattle.plan_state.specs.declared.state.World.{World}
 use Rattle.plan_state.specs.declared.state.Value.{Value}
 use Rattle.plan_schedules.specs.declared.uses.NamedUse.{NamedUse}
 use Rattle.plan_state.specs.Growth.{StartAs, IsCopyFor, IsJobOf, length_binds, numbers_of, is_none}
@@ -68,10 +69,10 @@ use Rattle.plan_schedules.proofs.Slots.{noted_live, noted_version, noted_folded,
 pub record HasPlace (p : Planner) (g : Setting) (kernels guards : Vec (Option ℕ) Global) (copies : Vec Kernel Global) (codes : Vec Code Global) (place : ℕ)
     (kernel : Kernel) : Type 0 where
   pub here : slice_get copies.items place ≡ Some kernel
-  pub few : length copies.items ≤ suc (length p.plan.kernels.items)
+  pub few : length copies.items ≤ suc (length p.draft.kernels.items)
   -- what a whole plan has after them, it has after those so far
-  pub later : (all : List Kernel) → (rest : List Kernel) × (all ≡ copies.items ++ rest) → (rest : List Kernel) × (all ≡ p.plan.kernels.items ++ rest)
-  pub stand : (q : Planner) → q.kernels ≡ kernels → q.guards ≡ guards → q.plan.kernels ≡ copies → q.plan.codes ≡ codes → AreKernels q g
+  pub later : (all : List Kernel) → (rest : List Kernel) × (all ≡ copies.items ++ rest) → (rest : List Kernel) × (all ≡ p.draft.kernels.items ++ rest)
+  pub stand : (q : Planner) → q.kernels ≡ kernels → q.guards ≡ guards → q.draft.kernels ≡ copies → q.draft.codes ≡ codes → AreKernels q g
 
 module _ (script : Script) (table : Table) (begun : ScriptState) (n : ℕ) (found : List ℕ) (line : ℕ) (home : Box NewJob Global) (asked : NewJob) where
   abbrev g : Setting
@@ -132,7 +133,7 @@ module _ (script : Script) (table : Table) (begun : ScriptState) (n : ℕ) (foun
         omega arith
 
     pub waited_up : AreUpTo s.book.count waited
-    waited_up = deps_up s st.known asked.auto (is_parallel g asked.kernel) gives asked.after.items
+    waited_up = deps_up s st.knows.known asked.auto (is_parallel g asked.kernel) gives asked.after.items
 
     -- the state after the statement
     abbrev as_t : ScriptState
@@ -154,10 +155,10 @@ module _ (script : Script) (table : Table) (begun : ScriptState) (n : ℕ) (foun
     after_is = accepted_state g s x step.acts none ∙ is_schedule.effect_is
 
     module _ (named : Jobs) (us : List NamedUse) (gs : List Given) (noted : IsNoted p named us gs) where
-      pub may_note_all : MayNoteAll us (state_of p.safety)
-      may_note_all = may_note p s found named st.containers us gs noted.meant noted.alive noted.apart (state_of p.safety)
-          (λ c it has is_alive. let k = st.containers.each c it has in (
-            (and_parts (state_of p.safety it.slot.0).live (nat_eq (state_of p.safety it.slot.0).version it.version.0) (k.alive ∙ is_alive)).0,
+      pub may_note_all : MayNoteAll us (state_of p.world.safety)
+      may_note_all = may_note p s found named st.knows.containers us gs noted.meant noted.alive noted.apart (state_of p.world.safety)
+          (λ c it has is_alive. let k = st.knows.containers.each c it has in (
+            (and_parts (state_of p.world.safety it.slot.0).live (nat_eq (state_of p.world.safety it.slot.0).version it.version.0) (k.alive ∙ is_alive)).0,
             λ w. subst (λ v. v < MOST_STATEMENTS) (sym (k.view is_alive)) (views_few c),
           ))
 
@@ -172,68 +173,71 @@ module _ (script : Script) (table : Table) (begun : ScriptState) (n : ℕ) (foun
           (or_cases (nat_eq c h.need.container) (uses_it (needs hs) c) e)
 
       open_now : (j : ℕ) → 0 < j → j ≤ s.book.count → blocking s.book s.uses waited (needs gs) j ≡ false
-      open_now j above le = noted.open_ j (unblocked s st.known asked.auto (is_parallel g asked.kernel) gives asked.after.items none j above le)
+      open_now j above le = noted.open_ j (unblocked s st.knows.known asked.auto (is_parallel g asked.kernel) gives asked.after.items none j above le)
 
       -- ---- the planner afterwards
 
       module _ (kernels guards : Vec (Option ℕ) Global) (copies : Vec Kernel Global) (codes : Vec Code Global) (kernel : Kernel) (run : Run)
           (place : HasPlace p g kernels guards copies codes run.kernel kernel) (q : Planner) (deps : Jobs) (deps_is : deps ≡ waited)
-          (d : IsScheduled (record p { kernels = kernels; guards = guards; plan = record p.plan { kernels = copies; codes = codes } }) q asked.handle run
+          (d : IsScheduled (record p { kernels = kernels; guards = guards; draft = record p.draft { kernels = copies; codes = codes } }) q asked.handle run
           us deps) where
         ended_of : d.ended ≡ record p {
-          jobs = d.after.jobs;
-          safety = d.after.safety;
+          world = record p.world {
+            jobs = d.after.world.jobs;
+            safety = d.after.world.safety;
+          };
           kernels = kernels;
           guards = guards;
-          plan = record p.plan {
+          draft = record p.draft {
             kernels = copies;
             codes = codes;
-            segments = d.ended.plan.segments;
-            jobs = d.ended.plan.jobs;
-            waits = d.ended.plan.waits;
-            ops = d.ended.plan.ops;
-            pieces = d.ended.plan.pieces;
+            segments = d.ended.draft.segments;
+            jobs = d.ended.draft.jobs;
+            waits = d.ended.draft.waits;
+            ops = d.ended.draft.ops;
+            pieces = d.ended.draft.pieces;
           };
         }
         ended_of =
             d.started.rest
             ∙ ap (λ (k : Planner). record k {
-              plan = record k.plan {
-                segments = d.ended.plan.segments;
-                jobs = d.ended.plan.jobs;
-                waits = d.ended.plan.waits;
-                ops = d.ended.plan.ops;
-                pieces = d.ended.plan.pieces;
+              draft = record k.draft {
+                segments = d.ended.draft.segments;
+                jobs = d.ended.draft.jobs;
+                waits = d.ended.draft.waits;
+                ops = d.ended.draft.ops;
+                pieces = d.ended.draft.pieces;
               };
             }) d.rest
 
         abbrev pub as_q : Planner
-        as_q = newly.q p g begun n s found st q.values q.handles d.after.jobs d.after.safety kernels guards copies codes
-            d.ended.plan.segments d.ended.plan.jobs d.ended.plan.waits d.ended.plan.ops d.ended.plan.pieces
+        as_q = newly.q p g begun n s found st q.world.values q.world.handles d.after.world.jobs d.after.world.safety kernels guards copies codes
+            d.ended.draft.segments d.ended.draft.jobs d.ended.draft.waits d.ended.draft.ops d.ended.draft.pieces
             t.values t.contents t.view t.uses waited t.traps
 
         q_is : q ≡ as_q
-        q_is = d.named.rest ∙ ap (λ (k : Planner). record k { values = q.values; handles = q.handles }) ended_of
+        q_is = d.at_last ∙ ap (λ (k : World). record d.ended { world = k }) d.named.rest
+            ∙ ap (λ (k : Planner). record k { world = record k.world { values = q.world.values; handles = q.world.handles } }) ended_of
 
         known : IsKnown as_t
         known = subst IsKnown (after_is ∙ t_is) (known_after script table n x step)
 
-        count_is : count_of p.jobs ≡ s.book.count
-        count_is = st.jobs.count
+        count_is : count_of p.world.jobs ≡ s.book.count
+        count_is = st.knows.jobs.count
 
         -- names
 
-        values_were : d.ended.values ≡ p.values
-        values_were = ap (λ (k : Planner). k.values) ended_of
+        values_were : d.ended.world.values ≡ p.world.values
+        values_were = ap (λ (k : Planner). k.world.values) ended_of
 
-        handles_were : d.ended.handles ≡ p.handles
-        handles_were = ap (λ (k : Planner). k.handles) ended_of
+        handles_were : d.ended.world.handles ≡ p.world.handles
+        handles_were = ap (λ (k : Planner). k.world.handles) ended_of
 
-        was : AreNames d.ended.values.items d.ended.handles.items (length p.containers.items) s
-        was = subst (λ (v : Vec Value Global). AreNames v.items d.ended.handles.items (length p.containers.items) s) (sym values_were)
-            (subst (λ (v : Vec Handle Global). AreNames p.values.items v.items (length p.containers.items) s) (sym handles_were) st.names)
+        was : AreNames d.ended.world.values.items d.ended.world.handles.items (length p.world.containers.items) s
+        was = subst (λ (v : Vec Value Global). AreNames v.items d.ended.world.handles.items (length p.world.containers.items) s) (sym values_were)
+            (subst (λ (v : Vec Handle Global). AreNames p.world.values.items v.items (length p.world.containers.items) s) (sym handles_were) st.knows.names)
 
-        names_now : IsNamed s as_t asked.handle (states.Handle (only (count_of p.jobs + 1)))
+        names_now : IsNamed s as_t asked.handle (states.Handle (only (count_of p.world.jobs + 1)))
         names_now = record {
           here = ap (λ f. f asked.handle) (ap (λ (u : ScriptState). u.values) (accepted_is g s o))
               ∙ at_here s.values asked.handle (states.Handle (only (s.book.count + 1))) ∙ ap (λ k. states.Handle (only (k + 1))) (sym count_is);
@@ -246,16 +250,17 @@ module _ (script : Script) (table : Table) (begun : ScriptState) (n : ℕ) (foun
         abbrev job_number : ℕ
         job_number = suc s.book.count
 
-        number_is : count_of p.jobs + 1 ≡ job_number
+        number_is : count_of p.world.jobs + 1 ≡ job_number
         number_is = let e = count_is in omega arith
 
-        safety_is : (k : ℕ) → state_of d.after.safety k ≡ noted_all job_number us (state_of p.safety) k
-        safety_is k = d.safety k ∙ ap (λ j. noted_all j us (state_of p.safety) k) number_is
+        safety_is : (k : ℕ) → state_of d.after.world.safety k ≡ noted_all job_number us (state_of p.world.safety) k
+        safety_is k = d.safety k ∙ ap (λ j. noted_all j us (state_of p.world.safety) k) number_is
 
-        slot_is : (c : ℕ) (it : Container) → slice_get p.containers.items c ≡ Some it → s.alive c ≡ true
-            → state_of d.after.safety it.slot.0 ≡ folded job_number c gs (state_of p.safety it.slot.0)
-        slot_is c it has is_alive = safety_is it.slot.0 ∙ noted_folded p s found named st.containers job_number us gs noted.meant noted.alive c it has is_alive
-            (state_of p.safety)
+        slot_is : (c : ℕ) (it : Container) → slice_get p.world.containers.items c ≡ Some it → s.alive c ≡ true
+            → state_of d.after.world.safety it.slot.0 ≡ folded job_number c gs (state_of p.world.safety it.slot.0)
+        slot_is c it has is_alive = safety_is it.slot.0 ∙ noted_folded p s found named st.knows.containers job_number us gs noted.meant noted.alive c it has
+            is_alive
+            (state_of p.world.safety)
 
         uses_are : with_uses s.uses job_number (needs gs) ≡ t.uses
         uses_are =
@@ -263,20 +268,21 @@ module _ (script : Script) (table : Table) (begun : ScriptState) (n : ℕ) (foun
             ∙ (let e : job_number ≡ s.book.count + 1 = omega arith in ap (λ j. with_uses s.uses j (needs gives)) e)
             ∙ sym (ap (λ (u : ScriptState). u.uses) (accepted_is g s o))
 
-        stand : (c : ℕ) (it : Container) → slice_get p.containers.items c ≡ Some it → s.alive c ≡ true
-            → StandForUses (with_job s.book waited) (state_of d.after.safety it.slot.0).latest (t.uses c)
+        stand : (c : ℕ) (it : Container) → slice_get p.world.containers.items c ≡ Some it → s.alive c ≡ true
+            → StandForUses (with_job s.book waited) (state_of d.after.world.safety it.slot.0).latest (t.uses c)
         stand c it has is_alive =
-            subst (λ (us : ℕ → Uses). StandForUses (with_job s.book waited) (state_of d.after.safety it.slot.0).latest (us c)) uses_are
+            subst (λ (us : ℕ → Uses). StandForUses (with_job s.book waited) (state_of d.after.world.safety it.slot.0).latest (us c)) uses_are
             (subst (λ (z : SlotState). StandForUses (with_job s.book waited) z.latest (with_uses s.uses job_number (needs gs) c))
             (sym (slot_is c it has is_alive))
-            (folded_stands s.book st.known.book s.uses st.known.uses waited waited_up gs noted.apart open_now c (state_of p.safety it.slot.0)
-            ((st.containers.each c it has).uses is_alive)))
+            (folded_stands s.book st.knows.known.book s.uses st.knows.known.uses waited waited_up gs noted.apart open_now c (state_of p.world.safety it.slot.0)
+            ((st.knows.containers.each c it has).uses is_alive)))
 
-        views : (c : ℕ) (it : Container) → slice_get p.containers.items c ≡ Some it → s.alive c ≡ true → (state_of d.after.safety it.slot.0).view ≡ t.view c
+        views : (c : ℕ) (it : Container) → slice_get p.world.containers.items c ≡ Some it → s.alive c ≡ true
+            → (state_of d.after.world.safety it.slot.0).view ≡ t.view c
         views c it has is_alive =
             ap (λ (z : SlotState). z.view) (slot_is c it has is_alive)
-            ∙ folded_view job_number c gs (state_of p.safety it.slot.0) (left g s o)
-            ((st.containers.each c it has).view is_alive ∙ ap (λ f. f c) (sym (left_view g s o)))
+            ∙ folded_view job_number c gs (state_of p.world.safety it.slot.0) (left g s o)
+            ((st.knows.containers.each c it has).view is_alive ∙ ap (λ f. f c) (sym (left_view g s o)))
             ∙ ap (λ (u : ScriptState). u.view c) (noted.broken (left g s o))
 
         unused_now : (c : ℕ) → s.alive c ≡ false → uses_it (needs gs) c ≡ false
@@ -294,7 +300,7 @@ module _ (script : Script) (table : Table) (begun : ScriptState) (n : ℕ) (foun
             subst (λ (us : ℕ → Uses). StandForUses (with_job s.book waited) latest (us c)) uses_are
             (subst (λ (z : SlotState). StandForUses (with_job s.book waited) z.latest (with_uses s.uses job_number (needs gs) c))
             (folded_unused job_number c gs state (unused_now c dead))
-            (folded_stands s.book st.known.book s.uses st.known.uses waited waited_up gs noted.apart open_now c state h))
+            (folded_stands s.book st.knows.known.book s.uses st.knows.known.uses waited waited_up gs noted.apart open_now c state h))
 
         unused : (c : ℕ) → s.alive c ≡ false → (j : ℕ) → (t.uses c).users j ≡ (s.uses c).users j
         unused c dead j =
@@ -309,24 +315,24 @@ module _ (script : Script) (table : Table) (begun : ScriptState) (n : ℕ) (foun
 
         -- ---- the plan
 
-        jobs_are : d.ended.plan.jobs.items ≡ p.plan.jobs.items ++ d.job ∷ []
-        jobs_are = d.started.jobs ∙ ap (λ (k : Planner). k.plan.jobs.items ++ d.job ∷ []) d.rest
+        jobs_are : d.ended.draft.jobs.items ≡ p.draft.jobs.items ++ d.job ∷ []
+        jobs_are = d.started.jobs ∙ ap (λ (k : Planner). k.draft.jobs.items ++ d.job ∷ []) d.rest
 
-        segments_are : d.ended.plan.segments.items ≡ p.plan.segments.items ++ d.started.segment ∷ []
-        segments_are = d.started.segments ∙ ap (λ (k : Planner). k.plan.segments.items ++ d.started.segment ∷ []) d.rest
+        segments_are : d.ended.draft.segments.items ≡ p.draft.segments.items ++ d.started.segment ∷ []
+        segments_are = d.started.segments ∙ ap (λ (k : Planner). k.draft.segments.items ++ d.started.segment ∷ []) d.rest
 
         pub closes : Closes (draft_of p) (draft_of as_q) d.started.segment (d.job ∷ []) []
         closes = record {
-          waits_were = d.started.waits_were ∙ ap (λ (k : Planner). k.plan.waits.items) d.rest;
-          ops_were = d.started.ops_were ∙ ap (λ (k : Planner). k.plan.ops.items) d.rest;
+          waits_were = d.started.waits_were ∙ ap (λ (k : Planner). k.draft.waits.items) d.rest;
+          ops_were = d.started.ops_were ∙ ap (λ (k : Planner). k.draft.ops.items) d.rest;
           segments = segments_are;
           jobs = jobs_are;
           waits = d.started.waits;
           ops = d.started.ops;
         }
 
-        pub starts_next : d.started.segment.starts ≡ Some (record { 0 = suc (length p.plan.jobs.items) })
-        starts_next = d.started.starts ∙ ap (λ (k : Planner). Some (record { 0 = suc (length k.plan.jobs.items) })) d.rest
+        pub starts_next : d.started.segment.starts ≡ Some (record { 0 = suc (length p.draft.jobs.items) })
+        starts_next = d.started.starts ∙ ap (λ (k : Planner). Some (record { 0 = suc (length k.draft.jobs.items) })) d.rest
 
         pub agrees : (y : Outline) → Agrees as_q g begun found y → Agrees p g begun found y
         agrees y a = record {
@@ -334,7 +340,7 @@ module _ (script : Script) (table : Table) (begun : ScriptState) (n : ℕ) (foun
           names = a.names;
           kernels = place.later y.plan.kernels.items a.kernels;
           literals = a.literals;
-          jobs = (d.job ∷ a.jobs.0, a.jobs.1 ∙ ap (λ js. js ++ a.jobs.0) jobs_are ∙ append_assoc p.plan.jobs.items (d.job ∷ []) a.jobs.0);
+          jobs = (d.job ∷ a.jobs.0, a.jobs.1 ∙ ap (λ js. js ++ a.jobs.0) jobs_are ∙ append_assoc p.draft.jobs.items (d.job ∷ []) a.jobs.0);
           starts = a.starts;
           cells = a.cells;
           small = a.small;
@@ -363,7 +369,7 @@ module _ (script : Script) (table : Table) (begun : ScriptState) (n : ℕ) (foun
                   ∙ get_before copies.items a.kernels.0 run.kernel (get_below copies.items run.kernel kernel place.here)
                   ∙ place.here;
               checked = checked;
-              first = d.first ∙ ap (λ (k : Planner). k.plan.pieces) d.rest ∙ st.numbers.pieces;
+              first = d.first ∙ ap (λ (k : Planner). k.draft.pieces) d.rest ∙ st.numbers.pieces;
               binds = ap (λ (j : JobPlan). j.binds.items) d.runs ∙ binds;
               indexes = ap (λ (c : Cut). c.n) cut_is ∙ indexes;
               cut = record {
@@ -375,10 +381,10 @@ module _ (script : Script) (table : Table) (begun : ScriptState) (n : ℕ) (foun
               parallel = λ h. parallel (sym (ap (λ (j : JobPlan). j.parallel) d.runs) ∙ h);
               known_deps = (
                 d.later_are.within.0,
-                up_to_all d.job.deps.items (count_of p.jobs - p.jobs_before) (length y.plan.jobs.items)
+                up_to_all d.job.deps.items (count_of p.world.jobs - p.jobs_before) (length y.plan.jobs.items)
                     (let c = (st.planned y (agrees y a)).ordered.count in let e = count_is in let f = begun_jobs in let h = ap length a.jobs.1 in
-                    let i = ap length jobs_are in let j = length-append d.ended.plan.jobs.items a.jobs.0 in
-                    let k = length-append p.plan.jobs.items (d.job ∷ []) in omega arith)
+                    let i = ap length jobs_are in let j = length-append d.ended.draft.jobs.items a.jobs.0 in
+                    let k = length-append p.draft.jobs.items (d.job ∷ []) in omega arith)
                     d.later_are.within.1,
               );
               deps_are = λ j. d.later_are.are j ∙ (λ i. later (sym begun_jobs i) (deps_is i) j);
@@ -387,41 +393,45 @@ module _ (script : Script) (table : Table) (begun : ScriptState) (n : ℕ) (foun
         -- ---- it stands
 
         module _ (is : IsRunOf p run kernel) (plans : (y : Outline) → Agrees as_q g begun found y → IsPlanned y t (draft_of as_q)) where
-          with_job_is : newly.IsWithJob p g begun n s found st q.values q.handles d.after.jobs d.after.safety kernels guards copies codes
-              d.ended.plan.segments d.ended.plan.jobs d.ended.plan.waits d.ended.plan.ops d.ended.plan.pieces
+          with_job_is : newly.IsWithJob p g begun n s found st q.world.values q.world.handles d.after.world.jobs d.after.world.safety kernels guards copies
+              codes
+              d.ended.draft.segments d.ended.draft.jobs d.ended.draft.waits d.ended.draft.ops d.ended.draft.pieces
               t.values t.contents t.view t.uses waited t.traps d.started.segment d.job
           with_job_is = record {
             known = known;
-            named = handle_names d.ended q (length p.containers.items) s as_t asked.handle (only (count_of p.jobs + 1)) was d.named names_now;
-            values_long = ap length d.named.values ∙ set_long d.ended.values.items asked.handle _ ∙ ap (λ (v : Vec Value Global). length v.items) values_were;
+            named = handle_names d.ended.world q.world (length p.world.containers.items) s as_t asked.handle
+                (only (count_of p.world.jobs + 1)) was d.named names_now;
+            values_long = ap length d.named.values ∙ set_long d.ended.world.values.items asked.handle _
+                ∙ ap (λ (v : Vec Value Global). length v.items) values_were;
             handles_few =
-                (let h = (handles_more d.ended q (length p.containers.items) s as_t asked.handle (only (count_of p.jobs + 1)) was d.named names_now).1 in
+                (let h = (handles_more d.ended.world q.world (length p.world.containers.items) s as_t asked.handle
+                (only (count_of p.world.jobs + 1)) was d.named names_now).1 in
                 let e = ap (λ (v : Vec Handle Global). length v.items) handles_were in omega arith);
             form = λ c start lt. bind_by_form start (t.contents c) (s.contents c) (accepted_as.forms c lt);
-            lives = λ k. ap (λ (z : SlotState). z.live) (safety_is k) ∙ noted_live job_number us (state_of p.safety) k;
-            versions = λ k. ap (λ (z : SlotState). z.version) (safety_is k) ∙ noted_version job_number us (state_of p.safety) k;
+            lives = λ k. ap (λ (z : SlotState). z.live) (safety_is k) ∙ noted_live job_number us (state_of p.world.safety) k;
+            versions = λ k. ap (λ (z : SlotState). z.version) (safety_is k) ∙ noted_version job_number us (state_of p.world.safety) k;
             stand = stand;
             views = views;
             unused = unused;
             held = dead_stands;
-            book = subst (λ (j : Jobs). StandsFor d.after.jobs (with_job s.book j)) deps_is (d.jobs s.book st.jobs);
+            book = subst (λ (j : Jobs). StandsFor d.after.world.jobs (with_job s.book j)) deps_is (d.jobs s.book st.knows.jobs);
             kernels_are = place.stand as_q refl refl refl refl;
             copies_few = place.few;
             segments_are = segments_are;
             ops_were = closes.ops_were;
             ops_are = d.started.ops;
             jobs_are = jobs_are;
-            pieces_are = d.started.pieces ∙ ap (λ (k : Planner). k.plan.pieces + pieces_of d.job) d.rest;
+            pieces_are = d.started.pieces ∙ ap (λ (k : Planner). k.draft.pieces + pieces_of d.job) d.rest;
             planned = λ y a. subst (λ u. IsPlanned y u (draft_of as_q)) t_is (plans y a);
           }
 
           -- ---- its job is that of the schedule
 
-          kernels_now : q.plan.kernels.items ≡ copies.items
-          kernels_now = ap (λ (k : Planner). k.plan.kernels.items) q_is
+          kernels_now : q.draft.kernels.items ≡ copies.items
+          kernels_now = ap (λ (k : Planner). k.draft.kernels.items) q_is
 
           job_of : (starts : Starts) → StartAs starts found
-              → IsJobOf g starts begun.book.count s waited asked.kernel asked.args.items asked.cut asked.defer asked.waive.items q.plan.kernels.items d.job
+              → IsJobOf g starts begun.book.count s waited asked.kernel asked.args.items asked.cut asked.defer asked.waive.items q.draft.kernels.items d.job
           job_of starts as_found = record {
             source = is.source;
             is_source = is.is_source;
@@ -438,15 +448,15 @@ module _ (script : Script) (table : Table) (begun : ScriptState) (n : ℕ) (foun
 
           has_started : growing.HasStarted script table begun n found line home asked p q d.started.segment d.job waited
           has_started = record {
-            store = ap (λ (k : Planner). k.store) q_is;
-            segments = ap (λ (k : Planner). k.plan.segments.items) q_is ∙ segments_are;
+            store = ap (λ (k : Planner). k.world.store) q_is;
+            segments = ap (λ (k : Planner). k.draft.segments.items) q_is ∙ segments_are;
             waits_were = closes.waits_were;
             ops_were = closes.ops_were;
             starts = starts_next;
-            waits = ap (λ (k : Planner). k.plan.waits.items) q_is ∙ d.started.waits;
-            ops = ap (λ (k : Planner). k.plan.ops.items) q_is ∙ d.started.ops;
-            jobs = ap (λ (k : Planner). k.plan.jobs.items) q_is ∙ jobs_are;
-            kernels = place.later q.plan.kernels.items ([], kernels_now ∙ sym (append-nil copies.items));
+            waits = ap (λ (k : Planner). k.draft.waits.items) q_is ∙ d.started.waits;
+            ops = ap (λ (k : Planner). k.draft.ops.items) q_is ∙ d.started.ops;
+            jobs = ap (λ (k : Planner). k.draft.jobs.items) q_is ∙ jobs_are;
+            kernels = place.later q.draft.kernels.items ([], kernels_now ∙ sym (append-nil copies.items));
             book = ap (λ (u : ScriptState). u.book) (after_is ∙ t_is);
             job_is = job_of;
           }
@@ -455,6 +465,6 @@ module _ (script : Script) (table : Table) (begun : ScriptState) (n : ℕ) (foun
           goes_on = growing.stepped script table begun n found line home asked p q step none st d.started.segment d.job waited has_started
               (subst (λ u. Stands q g begun (suc n) u found) (sym (after_is ∙ t_is))
               (subst (λ k. Stands k g begun (suc n) as_t found) (sym q_is)
-              (newly.with_job_stands p g begun n s found st q.values q.handles d.after.jobs d.after.safety kernels guards copies codes
-              d.ended.plan.segments d.ended.plan.jobs d.ended.plan.waits d.ended.plan.ops d.ended.plan.pieces
+              (newly.with_job_stands p g begun n s found st q.world.values q.world.handles d.after.world.jobs d.after.world.safety kernels guards copies codes
+              d.ended.draft.segments d.ended.draft.jobs d.ended.draft.waits d.ended.draft.ops d.ended.draft.pieces
               t.values t.contents t.view t.uses waited t.traps d.started.segment d.job with_job_is)))

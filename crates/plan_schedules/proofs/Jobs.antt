@@ -49,13 +49,15 @@ module _ (p : Planner) (g : Setting) (begun : ScriptState) (n : ℕ) (s : Script
     (names : ℕ → states.Value) (contents : ℕ → Contents) (view : ℕ → ℕ) (uses : ℕ → Uses) (deps : Jobs) (traps : List JobTrap) where
   abbrev pub q : Planner
   q = record p {
-    values = values;
-    handles = handles;
-    jobs = jobs;
-    safety = safety;
+    world = record p.world {
+      values = values;
+      handles = handles;
+      jobs = jobs;
+      safety = safety;
+    };
     kernels = kernels;
     guards = guards;
-    plan = record p.plan { kernels = copies; codes = codes; segments = segments; jobs = plan_jobs; waits = waits; ops = ops; pieces = pieces };
+    draft = record p.draft { kernels = copies; codes = codes; segments = segments; jobs = plan_jobs; waits = waits; ops = ops; pieces = pieces };
   }
 
   abbrev pub t : ScriptState
@@ -64,25 +66,25 @@ module _ (p : Planner) (g : Setting) (begun : ScriptState) (n : ℕ) (s : Script
   -- what changed, and how
   pub record IsWithJob (segment : Segment) (job : JobPlan) : Type 0 where
     pub known : IsKnown t
-    pub named : AreNames values.items handles.items (length p.containers.items) t
-    pub values_long : length values.items ≡ length p.values.items
-    pub handles_few : length handles.items ≤ suc (length p.handles.items)
+    pub named : AreNames values.items handles.items (length p.world.containers.items) t
+    pub values_long : length values.items ≡ length p.world.values.items
+    pub handles_few : length handles.items ≤ suc (length p.world.handles.items)
     pub form : (c start : ℕ) → c < s.made → bind_of start (contents c) ≡ bind_of start (s.contents c)
-    pub lives : (k : ℕ) → (state_of safety k).live ≡ (state_of p.safety k).live
-    pub versions : (k : ℕ) → (state_of safety k).version ≡ (state_of p.safety k).version
-    pub stand : (c : ℕ) (it : Container) → slice_get p.containers.items c ≡ Some it → s.alive c ≡ true
+    pub lives : (k : ℕ) → (state_of safety k).live ≡ (state_of p.world.safety k).live
+    pub versions : (k : ℕ) → (state_of safety k).version ≡ (state_of p.world.safety k).version
+    pub stand : (c : ℕ) (it : Container) → slice_get p.world.containers.items c ≡ Some it → s.alive c ≡ true
         → StandForUses (with_job s.book deps) (state_of safety it.slot.0).latest (uses c)
-    pub views : (c : ℕ) (it : Container) → slice_get p.containers.items c ≡ Some it → s.alive c ≡ true → (state_of safety it.slot.0).view ≡ view c
+    pub views : (c : ℕ) (it : Container) → slice_get p.world.containers.items c ≡ Some it → s.alive c ≡ true → (state_of safety it.slot.0).view ≡ view c
     pub unused : (c : ℕ) → s.alive c ≡ false → (j : ℕ) → (uses c).users j ≡ (s.uses c).users j
     pub held : (c : ℕ) (l : Latest) → s.alive c ≡ false → StandForUses s.book l (s.uses c) → StandForUses (with_job s.book deps) l (uses c)
     pub book : StandsFor jobs (with_job s.book deps)
     pub kernels_are : AreKernels q g
-    pub copies_few : length copies.items ≤ suc (length p.plan.kernels.items)
-    pub segments_are : segments.items ≡ p.plan.segments.items ++ segment ∷ []
-    pub ops_were : segment.ops.items ≡ p.plan.ops.items
+    pub copies_few : length copies.items ≤ suc (length p.draft.kernels.items)
+    pub segments_are : segments.items ≡ p.draft.segments.items ++ segment ∷ []
+    pub ops_were : segment.ops.items ≡ p.draft.ops.items
     pub ops_are : ops.items ≡ []
-    pub jobs_are : plan_jobs.items ≡ p.plan.jobs.items ++ job ∷ []
-    pub pieces_are : pieces ≡ p.plan.pieces + pieces_of job
+    pub jobs_are : plan_jobs.items ≡ p.draft.jobs.items ++ job ∷ []
+    pub pieces_are : pieces ≡ p.draft.pieces + pieces_of job
     pub planned : (x : Outline) → Agrees q g begun found x → IsPlanned x t (draft_of q)
 
   module _ (segment : Segment) (job : JobPlan) (is : IsWithJob segment job) where
@@ -96,7 +98,7 @@ module _ (p : Planner) (g : Setting) (begun : ScriptState) (n : ℕ) (s : Script
         (none ((s.uses c).users (suc count)) refl)
       where
         none : (b : Bool) → (s.uses c).users (suc s.book.count) ≡ b → b ≡ false
-        none true e = let up = ((st.known.uses c).users (suc s.book.count) e).1 in absurd (omega arith)
+        none true e = let up = ((st.knows.known.uses c).users (suc s.book.count) e).1 in absurd (omega arith)
         none false e = refl
 
     live_same : (c : ℕ) → is_live t c ≡ is_live s c
@@ -113,10 +115,11 @@ module _ (p : Planner) (g : Setting) (begun : ScriptState) (n : ℕ) (s : Script
     words : (c : ℕ) → c < s.made → words_of (contents c) ≡ words_of (s.contents c)
     words c below = words_kept (contents c) (s.contents c) (λ start. is.form c start below)
 
-    below_made : (c : ℕ) (it : Container) → slice_get p.containers.items c ≡ Some it → c < s.made
-    below_made c it h = let lt = get_below p.containers.items c it h in let e = st.containers.made in omega arith
+    below_made : (c : ℕ) (it : Container) → slice_get p.world.containers.items c ≡ Some it → c < s.made
+    below_made c it h = let lt = get_below p.world.containers.items c it h in let e = st.knows.containers.made in omega arith
 
-    container_kept : (c : ℕ) (it : Container) → slice_get p.containers.items c ≡ Some it → IsContainer p s found c it → IsContainer q t found c it
+    container_kept : (c : ℕ) (it : Container) → slice_get p.world.containers.items c ≡ Some it → IsContainer p.world s found c it
+        → IsContainer q.world t found c it
     container_kept c it h k =
         let span : ℕ → Span = λ w. record { start = get_or found (s.range c) 0; len = w } in
         let live = is.lives it.slot.0 in
@@ -143,7 +146,7 @@ module _ (p : Planner) (g : Setting) (begun : ScriptState) (n : ℕ) (s : Script
           });
         }
 
-    owned_kept : (slot : ℕ) → IsOwned p s slot → IsOwned q t slot
+    owned_kept : (slot : ℕ) → IsOwned p.world s slot → IsOwned q.world t slot
     owned_kept slot o = record { container = o.container; it = o.it; has = o.has; slot_is = o.slot_is; live = live_same o.container ∙ o.live }
 
     live_kept : (m : ℕ) → m ≤ s.made → states.live_below t m ≡ states.live_below s m
@@ -154,19 +157,42 @@ module _ (p : Planner) (g : Setting) (begun : ScriptState) (n : ℕ) (s : Script
     pieces_is =
         is.pieces_are
         ∙ ap (λ k. k + pieces_of job) st.numbers.pieces
-        ∙ sym (pieces_more p.plan.jobs.items job)
+        ∙ sym (pieces_more p.draft.jobs.items job)
         ∙ sym (ap (λ js. pieces_before js (length js)) is.jobs_are)
 
     pub with_job_stands : Stands q g begun (suc n) t found
     with_job_stands =
         let m = st.numbers in
-        let ops_long : ops_count segments.items ≡ ops_count p.plan.segments.items + length p.plan.ops.items =
-        ap ops_count is.segments_are ∙ ops_more p.plan.segments.items segment ∙ ap (λ os. ops_count p.plan.segments.items + length os) is.ops_were in
+        let ops_long : ops_count segments.items ≡ ops_count p.draft.segments.items + length p.draft.ops.items =
+        ap ops_count is.segments_are ∙ ops_more p.draft.segments.items segment ∙ ap (λ os. ops_count p.draft.segments.items + length os) is.ops_were in
         let no_ops : length ops.items ≡ 0 = ap length is.ops_are in
-        let more_segments : length segments.items ≡ length p.plan.segments.items + 1 = ap length is.segments_are
-        ∙ length-append p.plan.segments.items (segment ∷ []) in
+        let more_segments : length segments.items ≡ length p.draft.segments.items + 1 = ap length is.segments_are
+        ∙ length-append p.draft.segments.items (segment ∷ []) in
         record {
-          known = is.known;
+          knows = record {
+            known = is.known;
+            names = is.named;
+            each = is.values_long ∙ st.knows.each;
+            containers = record {
+              made = st.knows.containers.made;
+              each = λ c it h. container_kept c it h (st.knows.containers.each c it h);
+              slots = λ slot u. owned_kept slot (st.knows.containers.slots slot u);
+              once = λ c d it other hc hd lc ld e. st.knows.containers.once c d it other hc hd (was_live c lc) (was_live d ld) e;
+              versions = st.knows.containers.versions;
+            };
+            takes = st.knows.takes;
+            temps = record { all = st.knows.temps.all; each = st.knows.temps.each };
+            tempjobs = (let o = st.knows.tempjobs in record {
+              all = o.all;
+              each = o.each;
+              rising = o.rising;
+              within = o.within;
+              past = o.past;
+              ahead = o.ahead;
+            });
+            frames = record { order = st.knows.frames.order; past = st.knows.frames.past };
+            jobs = is.book;
+          };
           numbers = record {
             frame = m.frame;
             passing = m.passing;
@@ -185,20 +211,6 @@ module _ (p : Planner) (g : Setting) (begun : ScriptState) (n : ℕ) (s : Script
             kernels_few = (let le = m.kernels_few in let few = is.copies_few in omega arith);
             handles_few = (let le = m.handles_few in let few = is.handles_few in omega arith);
           };
-          names = is.named;
-          each = is.values_long ∙ st.each;
-          containers = record {
-            made = st.containers.made;
-            each = λ c it h. container_kept c it h (st.containers.each c it h);
-            slots = λ slot u. owned_kept slot (st.containers.slots slot u);
-            once = λ c d it other hc hd lc ld e. st.containers.once c d it other hc hd (was_live c lc) (was_live d ld) e;
-            versions = st.containers.versions;
-          };
-          takes = st.takes;
-          temps = record { all = st.temps.all; each = st.temps.each };
-          tempjobs = (let o = st.tempjobs in record { all = o.all; each = o.each; rising = o.rising; within = o.within; past = o.past; ahead = o.ahead });
-          frames = record { order = st.frames.order; past = st.frames.past };
-          jobs = is.book;
           kernels = is.kernels_are;
           planned = λ x a. is.planned x a;
         }

@@ -39,7 +39,7 @@ pub record IsMeant (p : Planner) (s : ScriptState) (after : Jobs) (u : NamedUse)
   pub temp : is_alive s (s.values g.need.name) ≡ true → u.is_temp ≡ is_temp (s.life g.need.container)
   -- how the safety book knows a container that is alive
   pub known_by : is_alive s (s.values g.need.name) ≡ true → (it : Container)
-      × (slice_get p.containers.items g.need.container ≡ Some it)
+      × (slice_get p.world.containers.items g.need.container ≡ Some it)
       × ((tag : Tag) × (u.tag ≡ Some tag) × (tag.slot ≡ it.slot))
       × (s.alive g.need.container ≡ true)
 
@@ -64,15 +64,15 @@ module _ (p : Planner) (g : Setting) (begun : ScriptState) (m : ℕ) (s : Script
 
   -- ---- what the safety book answers is why
 
-  module _ (c : ℕ) (it : Container) (has : slice_get p.containers.items c ≡ Some it) (view : Option ℕ) (writes : Bool) where
+  module _ (c : ℕ) (it : Container) (has : slice_get p.world.containers.items c ≡ Some it) (view : Option ℕ) (writes : Bool) where
     abbrev reason : Bool → Bool → Option Blocked
     reason alive old =
         if not alive then Some NotLive else (if old then Some Broken else pending_on (job_numbered (blocker s.book (s.uses c) after writes)))
 
-    kept : IsContainer p s found c it
-    kept = st.containers.each c it has
+    kept : IsContainer p.world s found c it
+    kept = st.knows.containers.each c it has
 
-    answered : (r : Result (Unit {0}) Blocked) → IsAnswer (state_of p.safety it.slot.0) (tag_of it view) p.jobs after writes r
+    answered : (r : Result (Unit {0}) Blocked) → IsAnswer (state_of p.world.safety it.slot.0) (tag_of it view) p.world.jobs after writes r
         → result_err r ≡ reason (s.alive c) (checks.is_stale view (s.view c))
     answered r a = by (s.alive c) refl
       where
@@ -81,64 +81,65 @@ module _ (p : Planner) (g : Setting) (begun : ScriptState) (m : ℕ) (s : Script
             ap result_err (a.disposed.1 (kept.alive ∙ dead))
             ∙ ap (λ b. reason b (checks.is_stale view (s.view c))) (sym dead)
         by true alive =
-            a.pending s.book (s.uses c) st.jobs (st.known.uses c) (kept.uses alive)
-            ∙ ap (λ b. reason b (checks.is_stale view (state_of p.safety it.slot.0).view)) (kept.alive)
+            a.pending s.book (s.uses c) st.knows.jobs (st.knows.known.uses c) (kept.uses alive)
+            ∙ ap (λ b. reason b (checks.is_stale view (state_of p.world.safety it.slot.0).view)) (kept.alive)
             ∙ ap (λ v. reason (s.alive c) (checks.is_stale view v)) (kept.view alive)
 
     blocked_for : (o : Option Container) → o ≡ Some it → (b : Option Blocked) → IsBlockedBy p after (tag_by view o) writes b
         → b ≡ reason (s.alive c) (checks.is_stale view (s.view c))
     blocked_for None e b h = absurd (none_some e)
     blocked_for (Some other) e b h =
-        h.2 ∙ answered h.0 (subst (λ (x : Container). IsAnswer (state_of p.safety x.slot.0) (tag_of x view) p.jobs after writes h.0) (some_is e) h.1)
+        h.2 ∙ answered h.0 (subst (λ (x : Container). IsAnswer (state_of p.world.safety x.slot.0) (tag_of x view) p.world.jobs after writes h.0)
+        (some_is e) h.1)
 
   -- ---- by what the name stands for
 
   pub record MeansValue (v : Value) : Type 0 where
-    pub container : number_of_value v ≡ container_of (value_for p.handles.items v)
-    pub temp : is_alive s (value_for p.handles.items v) ≡ true → is_temp_in p.containers.items v ≡ is_temp (s.life (number_of_value v))
-    pub blocked : (writes : Bool) (b : Option Blocked) → IsBlockedBy p after (tag_for p.containers.items v) writes b
-        → b ≡ refused_value (value_for p.handles.items v) writes
-    pub known_by : is_alive s (value_for p.handles.items v) ≡ true → (it : Container)
-        × (slice_get p.containers.items (number_of_value v) ≡ Some it)
-        × ((tag : Tag) × (tag_for p.containers.items v ≡ Some tag) × (tag.slot ≡ it.slot))
+    pub container : number_of_value v ≡ container_of (value_for p.world.handles.items v)
+    pub temp : is_alive s (value_for p.world.handles.items v) ≡ true → is_temp_in p.world.containers.items v ≡ is_temp (s.life (number_of_value v))
+    pub blocked : (writes : Bool) (b : Option Blocked) → IsBlockedBy p after (tag_for p.world.containers.items v) writes b
+        → b ≡ refused_value (value_for p.world.handles.items v) writes
+    pub known_by : is_alive s (value_for p.world.handles.items v) ≡ true → (it : Container)
+        × (slice_get p.world.containers.items (number_of_value v) ≡ Some it)
+        × ((tag : Tag) × (tag_for p.world.containers.items v ≡ Some tag) × (tag.slot ≡ it.slot))
         × (s.alive (number_of_value v) ≡ true)
 
-  life_is : (c : ℕ) (it : Container) → slice_get p.containers.items c ≡ Some it → is_temp_by (slice_get p.containers.items c) ≡ is_temp (s.life c)
-  life_is c it has = ap is_temp_by has ∙ ap is_temp (st.containers.each c it has).life
+  life_is : (c : ℕ) (it : Container) → slice_get p.world.containers.items c ≡ Some it → is_temp_by (slice_get p.world.containers.items c) ≡ is_temp (s.life c)
+  life_is c it has = ap is_temp_by has ∙ ap is_temp (st.knows.containers.each c it has).life
 
-  pub tag_is : (c : ℕ) (it : Container) (view : Option ℕ) → slice_get p.containers.items c ≡ Some it
-      → (tag : Tag) × (tag_in p.containers.items c view ≡ Some tag) × (tag.slot ≡ it.slot)
+  pub tag_is : (c : ℕ) (it : Container) (view : Option ℕ) → slice_get p.world.containers.items c ≡ Some it
+      → (tag : Tag) × (tag_in p.world.containers.items c view ≡ Some tag) × (tag.slot ≡ it.slot)
   tag_is c it view has = (tag_of it view, ap (tag_by view) has, refl)
 
-  pub means : (v : Value) → IsThere (length p.containers.items) (length p.handles.items) v → MeansValue v
+  pub means : (v : Value) → IsThere (length p.world.containers.items) (length p.world.handles.items) v → MeansValue v
   means Dead there = record { container = refl; temp = λ h. absurd (not_both h refl); blocked = λ writes b h. h; known_by = λ h. absurd (not_both h refl) }
   means (Whole c) there =
-      let it = some_at p.containers.items c there in
+      let it = some_at p.world.containers.items c there in
       record {
         container = refl;
         temp = λ h. life_is c it.0 it.1;
-        blocked = λ writes b h. blocked_for c it.0 it.1 None writes (slice_get p.containers.items c) it.1 b h;
+        blocked = λ writes b h. blocked_for c it.0 it.1 None writes (slice_get p.world.containers.items c) it.1 b h;
         known_by = λ h. (it.0, it.1, tag_is c it.0 None it.1, h);
       }
   means (Slice c start len) there =
-      let it = some_at p.containers.items c there.0 in
+      let it = some_at p.world.containers.items c there.0 in
       record {
         container = refl;
         temp = λ h. life_is c it.0 it.1;
-        blocked = λ writes b h. blocked_for c it.0 it.1 None writes (slice_get p.containers.items c) it.1 b h;
+        blocked = λ writes b h. blocked_for c it.0 it.1 None writes (slice_get p.world.containers.items c) it.1 b h;
         known_by = λ h. (it.0, it.1, tag_is c it.0 None it.1, h);
       }
   means (View c number) there =
-      let it = some_at p.containers.items c there in
+      let it = some_at p.world.containers.items c there in
       record {
         container = refl;
         temp = λ h. life_is c it.0 it.1;
-        blocked = λ writes b h. blocked_for c it.0 it.1 (Some number) writes (slice_get p.containers.items c) it.1 b h;
+        blocked = λ writes b h. blocked_for c it.0 it.1 (Some number) writes (slice_get p.world.containers.items c) it.1 b h;
         known_by = λ h. (it.0, it.1, tag_is c it.0 (Some number) it.1, h);
       }
   means (Handles k) there =
-      let h = some_at p.handles.items k there in
-      let e : value_for p.handles.items (Handles k) ≡ states.Handle (jobs_of h.0) = ap jobs_at h.1 in
+      let h = some_at p.world.handles.items k there in
+      let e : value_for p.world.handles.items (Handles k) ≡ states.Handle (jobs_of h.0) = ap jobs_at h.1 in
       record {
         container = ap container_of (sym e);
         temp = λ a. absurd (not_both a (ap (is_alive s) e));
@@ -149,8 +150,8 @@ module _ (p : Planner) (g : Setting) (begun : ScriptState) (m : ℕ) (s : Script
   use_meant : (q : Param) (n : ℕ) (u : NamedUse) → IsUse p after q n u → IsMeant p s after u
       (record { need = need_of s n (writes_to q.access); kind = q.kind; is_length = false })
   use_meant q n u is =
-      let v = st.names.are n is.value is.has in
-      let m = means is.value (st.names.there n is.value is.has) in
+      let v = st.knows.names.are n is.value is.has in
+      let m = means is.value (st.knows.names.there n is.value is.has) in
       let at : number_of_value is.value ≡ container_at s n = m.container ∙ ap container_of v in
       record {
         given = λ i. record {
@@ -167,7 +168,7 @@ module _ (p : Planner) (g : Setting) (begun : ScriptState) (m : ℕ) (s : Script
         known_by = λ alive.
             let k = m.known_by (ap (is_alive s) v ∙ alive) in (
               k.0,
-              ap (slice_get p.containers.items) (sym at) ∙ k.1,
+              ap (slice_get p.world.containers.items) (sym at) ∙ k.1,
               (k.2.0, is.tag ∙ k.2.1, k.2.2),
               ap s.alive (sym at) ∙ k.3,
             );

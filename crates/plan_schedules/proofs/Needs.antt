@@ -48,25 +48,26 @@ module _ (b : Book) (uses : ℕ → Uses) (are : (c : ℕ) → AreUses b (uses c
       (or_cases (conflicting_in (state_of book x.0.slot.0).latest (writes_to x.1) j) (conflicting_with book xs j) e)
 
 module _ (p : Planner) (g : Setting) (begun : ScriptState) (n : ℕ) (s : ScriptState) (found : List ℕ) (st : Stands p g begun n s found) (after : Jobs) where
-  pub needs_are : (us : List NamedUse) (gs : List Given) → AreMeant p s after us gs → AreAlive s gs → AreNeeds s.book s.uses p.safety (tags_of us) (needs gs)
+  pub needs_are : (us : List NamedUse) (gs : List Given) → AreMeant p s after us gs → AreAlive s gs
+      → AreNeeds s.book s.uses p.world.safety (tags_of us) (needs gs)
   needs_are [] [] m a = tt
   needs_are [] (h ∷ gs) m a = absurd m
   needs_are (u ∷ us) [] m a = absurd m
   needs_are (u ∷ us) (h ∷ gs) m a =
       let k = m.0.known_by a.0 in
-      let c = st.containers.each h.need.container k.0 k.1 in
+      let c = st.knows.containers.each h.need.container k.0 k.1 in
       let slot = k.2.2 in
-      let need : IsNeed s.book s.uses p.safety (k.2.0, u.access) h.need = record {
+      let need : IsNeed s.book s.uses p.world.safety (k.2.0, u.access) h.need = record {
         writes = sym (λ i. (m.0.given i).need.writes);
-        latest = subst (λ n. StandForUses s.book (state_of p.safety n).latest (s.uses h.need.container)) (sym (λ i. (slot i).0)) (c.uses k.3);
+        latest = subst (λ n. StandForUses s.book (state_of p.world.safety n).latest (s.uses h.need.container)) (sym (λ i. (slot i).0)) (c.uses k.3);
       } in
-      subst (λ o. AreNeeds s.book s.uses p.safety (tags_by o u.access (tags_of us)) (h.need ∷ needs gs)) (sym k.2.1) (need, needs_are us gs m.1 a.1)
+      subst (λ o. AreNeeds s.book s.uses p.world.safety (tags_by o u.access (tags_of us)) (h.need ∷ needs gs)) (sym k.2.1) (need, needs_are us gs m.1 a.1)
 
   -- the dependency set is that of the script
   pub deps_are : (auto : Bool) (us : List NamedUse) (gs : List Given) → AreMeant p s after us gs → AreAlive s gs → (deps : Jobs)
-      → AreDeps auto after p.jobs p.safety (tags_of us) deps
+      → AreDeps auto after p.world.jobs p.world.safety (tags_of us) deps
       → deps ≡ (if auto then both after (automatic s.book s.uses after (needs gs)) else after)
   deps_are false us gs m a deps d = d
   deps_are true us gs m a deps d =
-      let same = d.3 s.book s.uses (needs gs) st.jobs st.known.uses (needs_are us gs m a) in
+      let same = d.3 s.book s.uses (needs gs) st.knows.jobs st.knows.known.uses (needs_are us gs m a) in
       d.1 ∙ (λ i j. after j || same j i)

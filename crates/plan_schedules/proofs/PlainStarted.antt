@@ -105,7 +105,7 @@ module _ (script : Script) (table : Table) (begun : ScriptState) (n : ℕ) (foun
       broken = λ u. ap (λ gs. all_broken gs u) (sym gives_are);
     }
 
-    pub may_note_all : MayNoteAll uses (state_of p.safety)
+    pub may_note_all : MayNoteAll uses (state_of p.world.safety)
     may_note_all = started.may_note_all script table begun n found line home (undeferred asked) step p st none named uses gs noted
 
     pub waited_up : AreUpTo s.book.count waited
@@ -119,7 +119,7 @@ module _ (script : Script) (table : Table) (begun : ScriptState) (n : ℕ) (foun
       copy : places.HasCopy script g refl p mid asked.kernel run.kernel st.kernels r.copied text.source text.has text.checked
       copy = places.has_copy script g refl p mid asked.kernel run.kernel st.kernels r.copied text.source text.has text.checked
 
-      place : HasPlace p g mid.kernels p.guards mid.plan.kernels mid.plan.codes run.kernel copy.copy
+      place : HasPlace p g mid.kernels p.guards mid.draft.kernels mid.draft.codes run.kernel copy.copy
       place = record {
         here = copy.here;
         few = places.copies_few script g refl p mid asked.kernel run.kernel st.kernels r.copied text.source text.has text.checked;
@@ -129,7 +129,11 @@ module _ (script : Script) (table : Table) (begun : ScriptState) (n : ℕ) (foun
             guards;
       }
 
-      done : IsScheduled (record p { kernels = mid.kernels; guards = p.guards; plan = record p.plan { kernels = mid.plan.kernels; codes = mid.plan.codes } })
+      done : IsScheduled (record p {
+        kernels = mid.kernels;
+        guards = p.guards;
+        draft = record p.draft { kernels = mid.draft.kernels; codes = mid.draft.codes };
+      })
           new asked.handle run uses deps
       done = subst (λ m. IsScheduled m new asked.handle run uses deps)
           (places.moved script p mid asked.kernel run.kernel r.copied) d
@@ -147,8 +151,8 @@ module _ (script : Script) (table : Table) (begun : ScriptState) (n : ℕ) (foun
       has_new : slice_get h.kernels asked.kernel ≡ Some copy.copy
       has_new = copying.has_new g s home asked text.source copy.copy text.has below copy.same
 
-      names_below : EachBelow (length p.values.items) asked.args.items
-      names_below = each_lower (length g.names) (length p.values.items) (let e = st.each in omega arith) asked.args.items text.below
+      names_below : EachBelow (length p.world.values.items) asked.args.items
+      names_below = each_lower (length g.names) (length p.world.values.items) (let e = st.knows.each in omega arith) asked.args.items text.below
 
       args_fit : ArgsFit s None ps asked.args.items
       args_fit = subst (λ k. ArgsFit s None (kernel_params k) asked.args.items) text.has accepted_as.args_fit
@@ -179,19 +183,19 @@ module _ (script : Script) (table : Table) (begun : ScriptState) (n : ℕ) (foun
       }
 
       abbrev q : Planner
-      q = started.as_q script table begun n found line home (undeferred asked) step p st none named uses gs noted mid.kernels p.guards mid.plan.kernels
-          mid.plan.codes copy.copy run place new deps deps_are done
+      q = started.as_q script table begun n found line home (undeferred asked) step p st none named uses gs noted mid.kernels p.guards mid.draft.kernels
+          mid.draft.codes copy.copy run place new deps deps_are done
 
       back : (y : Outline) → Agrees q g begun found y → Agrees p g begun found y
-      back = started.agrees script table begun n found line home (undeferred asked) step p st none named uses gs noted mid.kernels p.guards mid.plan.kernels
-          mid.plan.codes copy.copy run place new deps deps_are done
+      back = started.agrees script table begun n found line home (undeferred asked) step p st none named uses gs noted mid.kernels p.guards mid.draft.kernels
+          mid.draft.codes copy.copy run place new deps deps_are done
 
       planned_job : (y : Outline) → Agrees q g begun found y → IsPlannedJob y (draft_of p) o (plain_kernel y.starts s o copy.copy) (deps_of h s o) done.job
       planned_job y a =
           subst (λ ds. IsPlannedJob y (draft_of p) o (plain_kernel y.starts s o copy.copy) ds done.job)
           (copying.new_deps g s home asked text.source copy.copy text.has below copy.same)
-          (started.job_as script table begun n found line home (undeferred asked) step p st none named uses gs noted mid.kernels p.guards mid.plan.kernels
-          mid.plan.codes copy.copy run place new deps deps_are done y a asked.cut r.cut_by (argument_binds y.starts s o copy.copy) (indexes_of s o copy.copy)
+          (started.job_as script table begun n found line home (undeferred asked) step p st none named uses gs noted mid.kernels p.guards mid.draft.kernels
+          mid.draft.codes copy.copy run place new deps deps_are done y a asked.cut r.cut_by (argument_binds y.starts s o copy.copy) (indexes_of s o copy.copy)
           (same_kernels_are_checked text.source copy.copy copy.same text.checked)
           (copy_binds y (back y a))
           (r.cut_by.indexes ∙ indexes_are s text.source.parallel asked.cut text.one ∙ ap (λ b. executes b (job_length s asked.cut None)) copy.same.parallel)
@@ -205,13 +209,13 @@ module _ (script : Script) (table : Table) (begun : ScriptState) (n : ℕ) (foun
       plans : (y : Outline) → Agrees q g begun found y → IsPlanned y t (draft_of q)
       plans y a = subst (λ u. IsPlanned y u (draft_of q)) (sym (copying.new_accepted g s home asked text.source copy.copy text.has below copy.same))
           (schedules_are_planned y h s o copy.copy (plain_kernel y.starts s o copy.copy) (draft_of p) (draft_of q) done.started.segment done.job a.small
-          st.known (st.planned y (back y a)) accepted_now has_new (planned_job y a)
+          st.knows.known (st.planned y (back y a)) accepted_now has_new (planned_job y a)
           (plain_kernels_stand_in y h s o copy.copy (draft_of p) done.job a.small (st.planned y (back y a)) accepted_now refl has_new (planned_job y a))
-          (started.starts_next script table begun n found line home (undeferred asked) step p st none named uses gs noted mid.kernels p.guards mid.plan.kernels
-          mid.plan.codes copy.copy run place new deps deps_are done)
-          (started.closes script table begun n found line home (undeferred asked) step p st none named uses gs noted mid.kernels p.guards mid.plan.kernels
-          mid.plan.codes copy.copy run place new deps deps_are done))
+          (started.starts_next script table begun n found line home (undeferred asked) step p st none named uses gs noted mid.kernels p.guards mid.draft.kernels
+          mid.draft.codes copy.copy run place new deps deps_are done)
+          (started.closes script table begun n found line home (undeferred asked) step p st none named uses gs noted mid.kernels p.guards mid.draft.kernels
+          mid.draft.codes copy.copy run place new deps deps_are done))
 
       pub goes_on : HasStepped script table begun n found p new x
       goes_on = started.goes_on script table begun n found line home (undeferred asked) step p st none named uses gs noted mid.kernels p.guards
-          mid.plan.kernels mid.plan.codes copy.copy run place new deps deps_are done is_run plans
+          mid.draft.kernels mid.draft.codes copy.copy run place new deps deps_are done is_run plans

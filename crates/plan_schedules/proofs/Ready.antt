@@ -78,45 +78,45 @@ module _ (script : Script) (p : Planner) (line : ℕ) (home : Box NewJob Global)
     pub source_at : (k : Kernel) → slice_get script.kernels.items asked.kernel ≡ Some k → text.source ≡ k
     source_at k h = some_is (sym text.has ∙ h)
 
-    pub names_below : (xs : List Arg) → xs ≡ asked.args.items → AreNamesBelow (vec_len p.values) xs
-    names_below xs e = subst (AreNamesBelow (vec_len p.values)) (sym e)
-        (all_below (vec_len p.values) asked.args.items (each_lower (length g.names) (vec_len p.values)
-        (let each = st.each in let len = p.values.ok.0 in omega arith) asked.args.items text.below))
+    pub names_below : (xs : List Arg) → xs ≡ asked.args.items → AreNamesBelow (vec_len p.world.values) xs
+    names_below xs e = subst (AreNamesBelow (vec_len p.world.values)) (sym e)
+        (all_below (vec_len p.world.values) asked.args.items (each_lower (length g.names) (vec_len p.world.values)
+        (let each = st.knows.each in let len = p.world.values.ok.0 in omega arith) asked.args.items text.below))
 
-    pub handle_below : asked.handle < vec_len p.values
+    pub handle_below : asked.handle < vec_len p.world.values
     handle_below = within p g begun n s found st asked.handle text.handle_below
 
-    pub handles_low : vec_len p.handles < 2 ^ 32
-    handles_low = let few = st.numbers.handles_few in let len = p.handles.ok.0 in let low = statements_few script table n x step in omega arith
+    pub handles_low : vec_len p.world.handles < 2 ^ 32
+    handles_low = let few = st.numbers.handles_few in let len = p.world.handles.ok.0 in let low = statements_few script table n x step in omega arith
 
-    pub copies_low : vec_len p.plan.kernels < 2 ^ 32
-    copies_low = let few = st.numbers.kernels_few in let len = p.plan.kernels.ok.0 in let low = statements_few script table n x step in omega arith
+    pub copies_low : vec_len p.draft.kernels < 2 ^ 32
+    copies_low = let few = st.numbers.kernels_few in let len = p.draft.kernels.ok.0 in let low = statements_few script table n x step in omega arith
 
     pub kernels_each : vec_len p.kernels ≡ vec_len script.kernels
     kernels_each = let e = st.kernels.each in let a = p.kernels.ok.0 in let b = script.kernels.ok.0 in omega arith
 
-    pub after_below : (xs : List ℕ) → xs ≡ asked.after.items → All (λ n. n < vec_len p.values) xs
-    after_below xs e = subst (All (λ n. n < vec_len p.values)) (sym e) (λ k d lt. within p g begun n s found st (get_or asked.after.items k d)
+    pub after_below : (xs : List ℕ) → xs ≡ asked.after.items → All (λ n. n < vec_len p.world.values) xs
+    after_below xs e = subst (All (λ n. n < vec_len p.world.values)) (sym e) (λ k d lt. within p g begun n s found st (get_or asked.after.items k d)
         (text.after_below k d lt))
 
-    pub named_is : (jobs : Jobs) (xs : List ℕ) → xs ≡ asked.after.items → ((j : ℕ) → jobs j ≡ jobs_by p.handles.items p.values.items xs j)
+    pub named_is : (jobs : Jobs) (xs : List ℕ) → xs ≡ asked.after.items → ((j : ℕ) → jobs j ≡ jobs_by p.world.handles.items p.world.values.items xs j)
         → jobs ≡ jobs_named s asked.after.items
     named_is jobs xs e h = λ i j. (h j
-        ∙ ap (λ xs. jobs_by p.handles.items p.values.items xs j) e
-        ∙ jobs_are p s (length p.containers.items) st.names asked.after.items
-        (λ k d lt. (let e = st.each in let low = text.after_below k d lt in omega arith)) j) i
+        ∙ ap (λ xs. jobs_by p.world.handles.items p.world.values.items xs j) e
+        ∙ jobs_are p s (length p.world.containers.items) st.knows.names asked.after.items
+        (λ k d lt. (let e = st.knows.each in let low = text.after_below k d lt in omega arith)) j) i
 
-    pub named_up : (jobs : Jobs) → jobs ≡ jobs_named s asked.after.items → AreUpTo (count_of p.jobs) jobs
-    named_up jobs e = subst (AreUpTo (count_of p.jobs)) (sym e) (subst (λ k. AreUpTo k (jobs_named s asked.after.items)) (sym st.jobs.count)
-        (named_among s st.known asked.after.items))
+    pub named_up : (jobs : Jobs) → jobs ≡ jobs_named s asked.after.items → AreUpTo (count_of p.world.jobs) jobs
+    named_up jobs e = subst (AreUpTo (count_of p.world.jobs)) (sym e) (subst (λ k. AreUpTo k (jobs_named s asked.after.items)) (sym st.knows.jobs.count)
+        (named_among s st.knows.known asked.after.items))
 
-    pub before_low : p.jobs_before ≤ count_of p.jobs
+    pub before_low : p.jobs_before ≤ count_of p.world.jobs
     before_low = rooms.jobs_after script table p begun n s found st
 
-    pub room : count_of p.jobs ≢ MOST_JOBS → vec_len p.plan.jobs < MOST_JOBS
+    pub room : count_of p.world.jobs ≢ MOST_JOBS → vec_len p.draft.jobs < MOST_JOBS
     room = rooms.job_room script table p begun n s found st
 
-    pub pieces_low : p.plan.pieces ≤ MOST_PIECES * MOST_JOBS
+    pub pieces_low : p.draft.pieces ≤ MOST_PIECES * MOST_JOBS
     pieces_low = rooms.few_pieces script table p begun n s found st
 
     -- ---- the code's slices are the statement's vectors
@@ -156,11 +156,11 @@ module _ (script : Script) (p : Planner) (line : ℕ) (home : Box NewJob Global)
         alive : AreAlive s gs
         alive = started.alive script table begun n found line home asked step text p st uses named are none
 
-        pub noted_up : AreUpTo (count_of p.jobs) (conflicting_with p.safety (tags_of uses))
-        noted_up = subst (λ k. AreUpTo k (conflicting_with p.safety (tags_of uses))) (sym st.jobs.count)
-            (needs_up s.book s.uses st.known.uses p.safety (tags_of uses) (needs gs) (needs_are p g begun n s found st named uses gs meant alive))
+        pub noted_up : AreUpTo (count_of p.world.jobs) (conflicting_with p.world.safety (tags_of uses))
+        noted_up = subst (λ k. AreUpTo k (conflicting_with p.world.safety (tags_of uses))) (sym st.knows.jobs.count)
+            (needs_up s.book s.uses st.knows.known.uses p.world.safety (tags_of uses) (needs gs) (needs_are p g begun n s found st named uses gs meant alive))
 
-        pub deps_is : (deps : Jobs) → AreDeps asked.auto named p.jobs p.safety (tags_of uses) deps
+        pub deps_is : (deps : Jobs) → AreDeps asked.auto named p.world.jobs p.world.safety (tags_of uses) deps
             → deps ≡ deps_of g s (started.o script table begun n found line home asked)
         deps_is deps d =
             deps_are p g begun n s found st named asked.auto uses gs meant alive deps d
@@ -168,28 +168,28 @@ module _ (script : Script) (p : Planner) (line : ℕ) (home : Box NewJob Global)
             ∙ ap (λ gs. let named = jobs_named s asked.after.items in if asked.auto then both named (automatic s.book s.uses named (needs gs)) else named)
             (sym (started.gives_are script table begun n found line home asked step text p st uses named are none))
 
-        pub deps_up : (deps : Jobs) → AreDeps asked.auto named p.jobs p.safety (tags_of uses) deps → AreUpTo (count_of p.jobs) deps
-        deps_up deps d = subst (AreUpTo (count_of p.jobs)) (sym (deps_is deps d))
-            (subst (λ k. AreUpTo k (deps_of g s (started.o script table begun n found line home asked))) (sym st.jobs.count)
+        pub deps_up : (deps : Jobs) → AreDeps asked.auto named p.world.jobs p.world.safety (tags_of uses) deps → AreUpTo (count_of p.world.jobs) deps
+        deps_up deps d = subst (AreUpTo (count_of p.world.jobs)) (sym (deps_is deps d))
+            (subst (λ k. AreUpTo k (deps_of g s (started.o script table begun n found line home asked))) (sym st.knows.jobs.count)
             (started.waited_up script table begun n found line home asked step text p st uses named are none))
 
-        pub may_note : (us : List NamedUse) → us ≡ uses → MayNoteAll us (state_of p.safety)
-        may_note us e = subst (λ us. MayNoteAll us (state_of p.safety)) (sym e)
+        pub may_note : (us : List NamedUse) → us ≡ uses → MayNoteAll us (state_of p.world.safety)
+        may_note us e = subst (λ us. MayNoteAll us (state_of p.world.safety)) (sym e)
             (started.may_note_all script table begun n found line home asked step text p st uses named are none)
 
         -- where there are all jobs already, the script has one more
-        pub fails_so : (fault : PlanFault) → IsFull fault (count_of p.jobs) → PassesLimit fault (state_after script table n x)
+        pub fails_so : (fault : PlanFault) → IsFull fault (count_of p.world.jobs) → PassesLimit fault (state_after script table n x)
         fails_so NoMemory full = tt
         fails_so TooManyJobs full =
             let after_is : (state_after script table n x).book.count ≡ suc s.book.count =
             ap (λ (u : ScriptState). u.book.count) (accepted_state g s x step.acts none) in
-            let c = st.jobs.count in
+            let c = st.knows.jobs.count in
             omega arith
         fails_so TooManyWords full = absurd full
 
         pub goes_on : (mid new : Planner) (run : Run) (deps : Jobs) (xs : List Arg) (ws : List ℕ) (us : List NamedUse) → xs ≡ asked.args.items
             → ws ≡ asked.waive.items → us ≡ uses
-            → AreDeps asked.auto named p.jobs p.safety (tags_of uses) deps
+            → AreDeps asked.auto named p.world.jobs p.world.safety (tags_of uses) deps
             → IsPlainRun script p mid asked.kernel xs asked.cut ws run → IsScheduled mid new asked.handle run us deps
             → HasStepped script table begun n found p new x
         goes_on mid new run deps xs ws us e f u d r is =
@@ -211,10 +211,11 @@ module _ (script : Script) (p : Planner) (line : ℕ) (home : Box NewJob Global)
       pub refused_on : (new said : Planner) (cause : Cause) (k : Kernel) → slice_get script.kernels.items asked.kernel ≡ Some k → (us : List NamedUse)
           → us ≡ uses → Some cause ≡ refusal_by us k.parallel asked.auto
           → IsPushed p said (record { line = line; name = cause.name; act = Say cause.refusal })
-          → HasHandle said new asked.handle nobody
+          → HasHandle said.world new.world asked.handle nobody → new ≡ record said { world = new.world }
           → HasStepped script table begun n found p new x
-      refused_on new said cause k h us e is pushed has =
+      refused_on new said cause k h us e is pushed has only =
           let below = refusal_named (length g.names) us k.parallel asked.auto (subst (AreNamed (length g.names)) (sym e)
           (uses_named p named (length g.names) text.source.params.items asked.args.items uses are text.below)) cause (sym is) in
-          said_nobody script table begun n found x step (refused cause.refusal cause.name) p st (sym (refused_by k h us e (Some cause) is)) below
-          said new asked.handle refl refl refl (inr (λ c. refl)) pushed has
+          subst (λ z. HasStepped script table begun n found p z x) (sym only)
+          (said_nobody script table begun n found x step (refused cause.refusal cause.name) p st (sym (refused_by k h us e (Some cause) is)) below
+          said new.world asked.handle refl refl refl (inr (λ c. refl)) pushed has)

@@ -40,13 +40,13 @@ noted_version job (u ∷ us) states k = noted_version job us (noted job u states
     by (Some tag) = elim (nat_eq k tag.slot.0) as (λ b. (if b then noted_state job u (states k) else states k).version ≡ (states k).version)
         [ true ↦ refl | false ↦ refl ]
 
-module _ (p : Planner) (s : ScriptState) (found : List ℕ) (after : Jobs) (are : AreContainers p s found) where
+module _ (p : Planner) (s : ScriptState) (found : List ℕ) (after : Jobs) (are : AreContainers p.world s found) where
   abbrev Has : ℕ → Container → Type 0
-  Has c it = slice_get p.containers.items c ≡ Some it
+  Has c it = slice_get p.world.containers.items c ≡ Some it
 
   lives : (c : ℕ) (it : Container) → Has c it → s.alive c ≡ true → is_live s c ≡ true
   lives c it has alive =
-      let below = get_below p.containers.items c it has in
+      let below = get_below p.world.containers.items c it has in
       let made = are.made in
       let lt : c < s.made = omega arith in
       let first = lt-ltb c s.made lt in
@@ -59,7 +59,7 @@ module _ (p : Planner) (s : ScriptState) (found : List ℕ) (after : Jobs) (are 
       by : (b : Bool) → nat_eq c d ≡ b → nat_eq it.slot.0 other.slot.0 ≡ nat_eq c d
       by true e =
           let at : c ≡ d = eqb-true c d e in
-          let one : it ≡ other = some_is (sym has_c ∙ ap (slice_get p.containers.items) at ∙ has_d) in
+          let one : it ≡ other = some_is (sym has_c ∙ ap (slice_get p.world.containers.items) at ∙ has_d) in
           eq-eqb it.slot.0 other.slot.0 (λ i. (one i).slot.0) ∙ sym e
       by false e =
           let ne : it.slot.0 ≢ other.slot.0 = λ same.

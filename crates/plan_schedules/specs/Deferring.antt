@@ -48,13 +48,13 @@ deferring line home asked cut defer = record { line = line; act = Schedule (in_b
 -- The list after `defer` is used like one that is given to an `ro` parameter.
 pub record IsLengthUse (p : Planner) (after : JobSet) (name : ℕ) (u : NamedUse) : Type 0 where
   pub value : Value
-  pub has : slice_get p.values.items name ≡ Some value
+  pub has : slice_get p.world.values.items name ≡ Some value
   pub named : u.name ≡ name
   pub container : u.container ≡ number_of_value value
   pub kind : u.kind ≡ ListKind
   pub access : u.access ≡ Read
-  pub temp : u.is_temp ≡ is_temp_in p.containers.items value
-  pub tag : u.tag ≡ tag_for p.containers.items value
+  pub temp : u.is_temp ≡ is_temp_in p.world.containers.items value
+  pub tag : u.tag ≡ tag_for p.world.containers.items value
   pub blocked : IsBlockedBy p after u.tag false u.blocked
 
 -- It is the length among the values of the schedule.
@@ -125,9 +125,9 @@ pub record IsGuardedAnew (script : Script) (old new : Planner) (kernel place : �
   pub copy : Kernel
   pub is_source : slice_get script.kernels.items kernel ≡ Some source
   pub guards : IsGuardOf source copy
-  pub added : IsAdded old.plan new.plan copy place
+  pub added : IsAdded old.draft new.draft copy place
   pub places : new.guards.items ≡ slice_set old.guards.items kernel (Some place)
-  pub rest : new ≡ record old { guards = new.guards; plan = new.plan }
+  pub rest : new ≡ record old { guards = new.guards; draft = new.draft }
 
 -- It had the place already, or has it now.
 abbrev pub IsGuardedAt : Script → Planner → Planner → ℕ → ℕ → Type 0
@@ -143,11 +143,11 @@ IsListBind _ = ⊥
 
 -- The name stands for a whole list, which has at most as many elements as a job has indexes.
 abbrev pub IsListName : Planner → ℕ → Type 0
-IsListName p name = IsListBind (bind_of_value p (slice_get p.values.items name))
+IsListName p name = IsListBind (bind_of_value p (slice_get p.world.values.items name))
 
 -- the words of the list of a name
 abbrev pub IsListAt : Planner → ℕ → ListAt → Type 0
-IsListAt p name at = bind_of_value p (slice_get p.values.items name) ≡ WholeList at
+IsListAt p name at = bind_of_value p (slice_get p.world.values.items name) ≡ WholeList at
 
 -- ITS JOB
 

@@ -41,10 +41,10 @@ as_kind StreamKind width b = as_stream width b
 
 abbrev pub bind_of_value : Planner → Option Value → Bind
 bind_of_value p None = no_words
-bind_of_value p (Some v) = bind_by p.containers.items v
+bind_of_value p (Some v) = bind_by p.world.containers.items v
 
 abbrev pub job_bind : Planner → ParamKind → ℕ → Arg → Bind
-job_bind p kind width (Name n) = as_kind kind width (bind_of_value p (slice_get p.values.items n))
+job_bind p kind width (Name n) = as_kind kind width (bind_of_value p (slice_get p.world.values.items n))
 job_bind p kind width (Number z) = Int z
 
 -- the binds of a job, from the parameter at a place on

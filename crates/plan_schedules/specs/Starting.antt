@@ -92,9 +92,9 @@ pub record IsCopiedAnew (script : Script) (old new : Planner) (kernel place : �
   pub copy : Kernel
   pub is_source : slice_get script.kernels.items kernel ≡ Some source
   pub same : SameKernel source copy
-  pub added : IsAdded old.plan new.plan copy place
+  pub added : IsAdded old.draft new.draft copy place
   pub kernels : new.kernels.items ≡ slice_set old.kernels.items kernel (Some place)
-  pub rest : new ≡ record old { kernels = new.kernels; plan = new.plan }
+  pub rest : new ≡ record old { kernels = new.kernels; draft = new.draft }
 
 -- It had the place already, or has it now.
 abbrev pub IsCopied : Script → Planner → Planner → ℕ → ℕ → Type 0
@@ -105,21 +105,21 @@ IsCopied script old new kernel place =
 -- The segment at hand is closed and starts one job more. All else is as it was.
 pub record IsStarted (old new : Planner) (job : JobPlan) : Type 0 where
   pub segment : Segment
-  pub waits_were : segment.waits.items ≡ old.plan.waits.items
-  pub ops_were : segment.ops.items ≡ old.plan.ops.items
-  pub starts : segment.starts ≡ Some (record { 0 = suc (length old.plan.jobs.items) })
-  pub segments : new.plan.segments.items ≡ old.plan.segments.items ++ segment ∷ []
-  pub jobs : new.plan.jobs.items ≡ old.plan.jobs.items ++ job ∷ []
-  pub waits : new.plan.waits.items ≡ []
-  pub ops : new.plan.ops.items ≡ []
-  pub pieces : new.plan.pieces ≡ old.plan.pieces + pieces_of job
+  pub waits_were : segment.waits.items ≡ old.draft.waits.items
+  pub ops_were : segment.ops.items ≡ old.draft.ops.items
+  pub starts : segment.starts ≡ Some (record { 0 = suc (length old.draft.jobs.items) })
+  pub segments : new.draft.segments.items ≡ old.draft.segments.items ++ segment ∷ []
+  pub jobs : new.draft.jobs.items ≡ old.draft.jobs.items ++ job ∷ []
+  pub waits : new.draft.waits.items ≡ []
+  pub ops : new.draft.ops.items ≡ []
+  pub pieces : new.draft.pieces ≡ old.draft.pieces + pieces_of job
   pub rest : new ≡ record old {
-    plan = record old.plan {
-      segments = new.plan.segments;
-      jobs = new.plan.jobs;
-      waits = new.plan.waits;
-      ops = new.plan.ops;
-      pieces = new.plan.pieces;
+    draft = record old.draft {
+      segments = new.draft.segments;
+      jobs = new.draft.jobs;
+      waits = new.draft.waits;
+      ops = new.draft.ops;
+      pieces = new.draft.pieces;
     };
   }
 
@@ -138,9 +138,10 @@ pub record IsScheduled (old new : Planner) (handle : ℕ) (run : Run) (uses : Li
     : Type 0 where
   -- the planner after the job was noted
   pub after : Planner
-  pub jobs : (b : Book) → StandsFor old.jobs b → StandsFor after.jobs (with_job b deps)
-  pub safety : (k : ℕ) → state_of after.safety k ≡ noted_all (count_of old.jobs + 1) uses (state_of old.safety) k
-  pub rest : after ≡ record old { jobs = after.jobs; safety = after.safety }
+  pub jobs : (b : Book) → StandsFor old.world.jobs b → StandsFor after.world.jobs (with_job b deps)
+  pub safety : (k : ℕ) → state_of after.world.safety k ≡ noted_all (count_of old.world.jobs + 1) uses
+      (state_of old.world.safety) k
+  pub rest : after ≡ record old { world = record old.world { jobs = after.world.jobs; safety = after.world.safety } }
   -- what is planned
   pub job : JobPlan
   pub runs : job ≡ record {
@@ -151,12 +152,13 @@ pub record IsScheduled (old new : Planner) (handle : ℕ) (run : Run) (uses : Li
     deps = job.deps;
     first = job.first;
   }
-  pub later_are : AreLater old.jobs_before (count_of old.jobs) deps job.deps.items
-  pub first : job.first.0 ≡ after.plan.pieces
+  pub later_are : AreLater old.jobs_before (count_of old.world.jobs) deps job.deps.items
+  pub first : job.first.0 ≡ after.draft.pieces
   -- after it was started, and at last its name
   pub ended : Planner
   pub started : IsStarted after ended job
-  pub named : HasHandle ended new handle (only (count_of old.jobs + 1))
+  pub named : HasHandle ended.world new.world handle (only (count_of old.world.jobs + 1))
+  pub at_last : new ≡ record ended { world = new.world }
 
 -- The dependency set: the named jobs, and with `auto` the automatic set of the uses.
 abbrev pub AreDeps : Bool → Jobs → JobBook → SafetyBook → List (Tag × Access) → Jobs → Type 0

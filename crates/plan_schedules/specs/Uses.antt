@@ -47,19 +47,19 @@ is_temp_in containers (Jobs k) = false
 abbrev pub IsBlockedBy : Planner → JobSet → Option Tag → Bool → Option Blocked → Type 0
 IsBlockedBy p after None writes blocked = blocked ≡ Some NotLive
 IsBlockedBy p after (Some tag) writes blocked = (r : Result (Unit {0}) Blocked)
-    × IsAnswer (state_of p.safety tag.slot.0) tag p.jobs after writes r
+    × IsAnswer (state_of p.world.safety tag.slot.0) tag p.world.jobs after writes r
     × (blocked ≡ result_err r)
 
 -- A use of the container of a name, as a parameter makes it, by a job that waits for some jobs.
 pub record IsUse (p : Planner) (after : JobSet) (param : Param) (name : ℕ) (u : NamedUse) : Type 0 where
   pub value : Value
-  pub has : slice_get p.values.items name ≡ Some value
+  pub has : slice_get p.world.values.items name ≡ Some value
   pub named : u.name ≡ name
   pub container : u.container ≡ number_of_value value
   pub kind : u.kind ≡ param.kind
   pub access : u.access ≡ param.access
-  pub temp : u.is_temp ≡ is_temp_in p.containers.items value
-  pub tag : u.tag ≡ tag_for p.containers.items value
+  pub temp : u.is_temp ≡ is_temp_in p.world.containers.items value
+  pub tag : u.tag ≡ tag_for p.world.containers.items value
   pub blocked : IsBlockedBy p after u.tag (writes_to u.access) u.blocked
 
 -- something of each name among the arguments, with its parameter, in their order

@@ -40,22 +40,23 @@ pub(crate) fn add_job(
     uses: &[NamedUse],
     deps: &Handle,
 ) -> Result<(), PlanFault>
-    requires handle { handle < vec_len planner.old.values }
-    requires there { AreThere (vec_len planner.old.containers) (vec_len planner.old.handles) planner.old.values.items }
-    requires handles { vec_len planner.old.handles < 2 ^ 32 }
+    requires handle { handle < vec_len planner.old.world.values }
+    requires there { AreThere (vec_len planner.old.world.containers) (vec_len planner.old.world.handles)
+        planner.old.world.values.items }
+    requires handles { vec_len planner.old.world.handles < 2 ^ 32 }
     requires step { (1 ≤ run.cut.step) × (run.cut.step ≤ MOST_INDEXES) }
     requires indexes { run.cut.n ≤ MOST_PIECES * run.cut.step }
-    requires uses { MayNoteAll uses.now (state_of planner.old.safety) }
-    requires deps { AreUpTo (count_of planner.old.jobs) (jobs_of deps.now) }
-    requires before { planner.old.jobs_before ≤ count_of planner.old.jobs }
-    requires room { count_of planner.old.jobs ≢ MOST_JOBS → vec_len planner.old.plan.jobs < MOST_JOBS }
-    requires pieces { planner.old.plan.pieces ≤ MOST_PIECES * MOST_JOBS }
+    requires uses { MayNoteAll uses.now (state_of planner.old.world.safety) }
+    requires deps { AreUpTo (count_of planner.old.world.jobs) (jobs_of deps.now) }
+    requires before { planner.old.jobs_before ≤ count_of planner.old.world.jobs }
+    requires room { count_of planner.old.world.jobs ≢ MOST_JOBS → vec_len planner.old.draft.jobs < MOST_JOBS }
+    requires pieces { planner.old.draft.pieces ≤ MOST_PIECES * MOST_JOBS }
 
     ensures done { OnOk result (IsScheduled planner.old planner.new handle run uses.now (jobs_of deps.now)) }
-    ensures full { IfErr result (λ fault. IsFull fault (count_of planner.old.jobs)) }
+    ensures full { IfErr result (λ fault. IsFull fault (count_of planner.old.world.jobs)) }
 {
     let later = later_jobs(planner, alloc, deps)?;
-    let job = match planner.jobs.add(deps) {
+    let job = match planner.world.jobs.add(deps) {
         Ok(job) => job,
         Err(BookFault::Full) => return Err(PlanFault::Jobs),
         Err(BookFault::NoMemory) => return Err(PlanFault::NoMemory),
@@ -67,9 +68,9 @@ pub(crate) fn add_job(
         cut: run.cut,
         parallel: run.parallel,
         deps: later,
-        first: PieceId(planner.plan.pieces),
+        first: PieceId(planner.draft.pieces),
     };
     start(planner, alloc, plan)?;
-    planner.set_handle(handle, &Handle::of(job))?;
+    planner.world.set_handle(handle, &Handle::of(job))?;
     Ok(())
 }

@@ -20,7 +20,7 @@ pub(crate) fn plan_copy_of(
 ) -> Result<u32, NoMemory>
     requires kernel { kernel < vec_len script.now.kernels }
     requires each { vec_len planner.old.kernels ≡ vec_len script.now.kernels }
-    requires few { vec_len planner.old.plan.kernels < 2 ^ 32 }
+    requires few { vec_len planner.old.draft.kernels < 2 ^ 32 }
     requires checked { IsKernelChecked script.now kernel }
     ensures { IfOk result (λ place. IsCopied script.now planner.old planner.new kernel place) }
 {
@@ -28,7 +28,7 @@ pub(crate) fn plan_copy_of(
         return Ok(place);
     }
     let copy = copy_kernel(alloc, &script.kernels[kernel as usize])?;
-    let place = add_kernel(&mut planner.plan, alloc, copy)?;
+    let place = add_kernel(&mut planner.draft, alloc, copy)?;
     planner.kernels[kernel as usize] = Some(place);
     Ok(place)
 }

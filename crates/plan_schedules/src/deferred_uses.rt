@@ -22,13 +22,14 @@ use std::alloc::Global;
 
 /// The use of the list after `defer` by a job that waits for `named`.
 pub(crate) fn length_use(planner: &Planner, name: u32, named: &Handle) -> NamedUse
-    requires name { name < vec_len planner.now.values }
-    requires there { AreThere (vec_len planner.now.containers) (vec_len planner.now.handles) planner.now.values.items }
-    requires jobs { AreUpTo (count_of planner.now.jobs) (jobs_of named.now) }
+    requires name { name < vec_len planner.now.world.values }
+    requires there { AreThere (vec_len planner.now.world.containers) (vec_len planner.now.world.handles)
+        planner.now.world.values.items }
+    requires jobs { AreUpTo (count_of planner.now.world.jobs) (jobs_of named.now) }
     ensures { IsLengthUse planner.now (jobs_of named.now) name result }
 {
-    let value = planner.values[name as usize];
-    let tag = planner.tag(value);
+    let value = planner.world.values[name as usize];
+    let tag = planner.world.tag(value);
     NamedUse {
         name,
         container: number_of(value),
@@ -42,12 +43,13 @@ pub(crate) fn length_use(planner: &Planner, name: u32, named: &Handle) -> NamedU
 
 /// The words of a list.
 pub(crate) fn list_at(planner: &Planner, name: u32) -> ListAt
-    requires name { name < vec_len planner.now.values }
-    requires there { AreThere (vec_len planner.now.containers) (vec_len planner.now.handles) planner.now.values.items }
+    requires name { name < vec_len planner.now.world.values }
+    requires there { AreThere (vec_len planner.now.world.containers) (vec_len planner.now.world.handles)
+        planner.now.world.values.items }
     requires list { IsListName planner.now name }
     ensures { IsListAt planner.now name result }
 {
-    match planner.bind(planner.values[name as usize]) {
+    match planner.world.bind(planner.world.values[name as usize]) {
         Bind::List(at) => at,
         // The name stands for a list: `list`.
         _ => unreachable!(),

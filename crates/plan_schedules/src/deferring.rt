@@ -71,7 +71,7 @@ fn schedule_by_list(
 {
     let params = &script.kernels[job.kernel as usize].params;
     let parallel = script.kernels[job.kernel as usize].parallel;
-    let named = planner.jobs_of_all(&job.after);
+    let named = planner.world.jobs_of_all(&job.after);
     let uses = uses(planner, alloc, params, &job.args, &named)?;
     let length = length_use(planner, list, &named);
     let all = with_length(alloc, &uses, &length)?;
@@ -104,8 +104,9 @@ fn deferred_binds(
 ) -> Result<Vec<Bind>, NoMemory>
     requires each { length args.now ≡ vec_len kernel.now.params }
     requires few { length args.now ≤ MOST_PARAMS }
-    requires names { AreNamesBelow (vec_len planner.now.values) args.now }
-    requires there { AreThere (vec_len planner.now.containers) (vec_len planner.now.handles) planner.now.values.items }
+    requires names { AreNamesBelow (vec_len planner.now.world.values) args.now }
+    requires there { AreThere (vec_len planner.now.world.containers) (vec_len planner.now.world.handles)
+        planner.now.world.values.items }
     ensures { IfOk result (λ binds. binds.items
         ≡ job_binds planner.now kernel.now.parallel waive.now 0 kernel.now.params.items args.now
         ++ deferred.word_at at.start ∷ []) }
@@ -128,13 +129,14 @@ fn guarded_run(
     requires kernel { kernel < vec_len script.now.kernels }
     requires guards { vec_len planner.old.guards ≡ vec_len script.now.kernels }
     requires guardable { IsKernelGuardable script.now kernel }
-    requires copies { vec_len planner.old.plan.kernels < 2 ^ 32 }
+    requires copies { vec_len planner.old.draft.kernels < 2 ^ 32 }
     requires each { (k : Kernel) → slice_get script.now.kernels.items kernel ≡ Some k
         → length args.now ≡ length k.params.items }
     requires args { length args.now ≤ MOST_PARAMS }
-    requires names { AreNamesBelow (vec_len planner.old.values) args.now }
-    requires there { AreThere (vec_len planner.old.containers) (vec_len planner.old.handles) planner.old.values.items }
-    requires list { defer.0 < vec_len planner.old.values }
+    requires names { AreNamesBelow (vec_len planner.old.world.values) args.now }
+    requires there { AreThere (vec_len planner.old.world.containers) (vec_len planner.old.world.handles)
+        planner.old.world.values.items }
+    requires list { defer.0 < vec_len planner.old.world.values }
     requires is_list { IsListName planner.old defer.0 }
     requires batch { (1 ≤ defer.1) × (defer.1 ≤ MOST_INDEXES) }
     ensures { IfOk result (λ run.

@@ -22,7 +22,7 @@ pub(crate) fn guarded_copy_of(
 ) -> Result<u32, NoMemory>
     requires kernel { kernel < vec_len script.now.kernels }
     requires each { vec_len planner.old.guards ≡ vec_len script.now.kernels }
-    requires few { vec_len planner.old.plan.kernels < 2 ^ 32 }
+    requires few { vec_len planner.old.draft.kernels < 2 ^ 32 }
     requires guardable { IsKernelGuardable script.now kernel }
     ensures { IfOk result (λ place. IsGuardedAt script.now planner.old planner.new kernel place) }
 {
@@ -30,7 +30,7 @@ pub(crate) fn guarded_copy_of(
         return Ok(place);
     }
     let copy = make_guarded(alloc, &script.kernels[kernel as usize])?;
-    let place = add_kernel(&mut planner.plan, alloc, copy)?;
+    let place = add_kernel(&mut planner.draft, alloc, copy)?;
     planner.guards[kernel as usize] = Some(place);
     Ok(place)
 }

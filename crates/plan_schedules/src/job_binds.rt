@@ -24,8 +24,9 @@ pub(crate) fn job_binds(
 ) -> Result<Vec<Bind>, NoMemory>
     requires each { length args.now ≡ vec_len kernel.now.params }
     requires few { length args.now ≤ MOST_PARAMS }
-    requires names { AreNamesBelow (vec_len planner.now.values) args.now }
-    requires there { AreThere (vec_len planner.now.containers) (vec_len planner.now.handles) planner.now.values.items }
+    requires names { AreNamesBelow (vec_len planner.now.world.values) args.now }
+    requires there { AreThere (vec_len planner.now.world.containers) (vec_len planner.now.world.handles)
+        planner.now.world.values.items }
     ensures { IfOk result (λ binds. binds.items
         ≡ job_binds planner.now kernel.now.parallel waive.now 0 kernel.now.params.items args.now) }
 {
@@ -40,13 +41,18 @@ pub(crate) fn job_binds(
 
 /// What a job is given for an argument of a parameter of that kind.
 fn job_bind(planner: &Planner, kind: ParamKind, width: u32, arg: Arg) -> Bind
-    requires name { IsNameBelow (vec_len planner.now.values) arg }
-    requires there { AreThere (vec_len planner.now.containers) (vec_len planner.now.handles) planner.now.values.items }
+    requires name { IsNameBelow (vec_len planner.now.world.values) arg }
+    requires there { AreThere (vec_len planner.now.world.containers) (vec_len planner.now.world.handles)
+        planner.now.world.values.items }
     ensures { result ≡ job_bind planner.now kind width arg }
 {
     match arg {
         Arg::Number(number) => Bind::Int(number),
-        Arg::Name(name) => as_kind(kind, width, planner.bind(planner.values[name as usize])),
+        Arg::Name(name) => as_kind(
+            kind,
+            width,
+            planner.world.bind(planner.world.values[name as usize]),
+        ),
     }
 }
 

@@ -35,15 +35,15 @@ pub(crate) fn later_jobs(
     alloc: Global,
     jobs: &Handle,
 ) -> Result<Vec<JobId>, NoMemory>
-    requires before { planner.now.jobs_before ≤ count_of planner.now.jobs }
-    requires jobs { AreUpTo (count_of planner.now.jobs) (jobs_of jobs.now) }
+    requires before { planner.now.jobs_before ≤ count_of planner.now.world.jobs }
+    requires jobs { AreUpTo (count_of planner.now.world.jobs) (jobs_of jobs.now) }
     ensures { IfOk result (λ later.
-        AreLater planner.now.jobs_before (count_of planner.now.jobs) (jobs_of jobs.now) later.items) }
+        AreLater planner.now.jobs_before (count_of planner.now.world.jobs) (jobs_of jobs.now) later.items) }
 {
     let none = Handle::empty();
     let mut later = Vec::new(alloc);
     let mut at = planner.jobs_before;
-    while let Some(job) = jobs.next_outside(&none, at, planner.jobs.count()) {
+    while let Some(job) = jobs.next_outside(&none, at, planner.world.jobs.count()) {
         later.push(JobId(job.0 - planner.jobs_before))?;
         at = job.0;
     }
@@ -54,16 +54,16 @@ pub(crate) fn later_jobs(
 pub(crate) fn start(planner: &mut Planner, alloc: Global, job: JobPlan) -> Result<(), NoMemory>
     requires step { (1 ≤ job.cut.step) × (job.cut.step ≤ MOST_INDEXES) }
     requires indexes { job.cut.n ≤ MOST_PIECES * job.cut.step }
-    requires few { vec_len planner.old.plan.jobs < MOST_JOBS }
-    requires pieces { planner.old.plan.pieces ≤ MOST_PIECES * MOST_JOBS }
+    requires few { vec_len planner.old.draft.jobs < MOST_JOBS }
+    requires pieces { planner.old.draft.pieces ≤ MOST_PIECES * MOST_JOBS }
     ensures { OnOk result (IsStarted planner.old planner.new job) }
 {
     let pieces = if job.parallel { job.cut.count() } else { 1 };
-    let starts = Some(JobId(planner.plan.jobs.len() as u32 + 1));
-    planner.plan.jobs.push(job)?;
-    let waits = mem::replace(&mut planner.plan.waits, Vec::new(alloc));
-    let ops = mem::replace(&mut planner.plan.ops, Vec::new(alloc));
-    planner.plan.segments.push(Segment { waits, ops, starts })?;
-    planner.plan.pieces += pieces;
+    let starts = Some(JobId(planner.draft.jobs.len() as u32 + 1));
+    planner.draft.jobs.push(job)?;
+    let waits = mem::replace(&mut planner.draft.waits, Vec::new(alloc));
+    let ops = mem::replace(&mut planner.draft.ops, Vec::new(alloc));
+    planner.draft.segments.push(Segment { waits, ops, starts })?;
+    planner.draft.pieces += pieces;
     Ok(())
 }

@@ -13,13 +13,14 @@ use safety_handle::SafetyBook;
 /// A new job has these uses. The views of the lists that it may write are broken.
 pub(crate) fn note_all(planner: &mut Planner, uses: &[NamedUse], job: JobId)
     requires job { (0 < job.0) × (job.0 ≤ MOST_JOBS) }
-    requires may { MayNoteAll uses.now (state_of planner.old.safety) }
-    ensures noted { (k : ℕ) → state_of planner.new.safety k
-        ≡ noted_all job.0 uses.now (state_of planner.old.safety) k }
-    ensures rest { planner.new ≡ record planner.old { safety = planner.new.safety } }
+    requires may { MayNoteAll uses.now (state_of planner.old.world.safety) }
+    ensures noted { (k : ℕ) → state_of planner.new.world.safety k
+        ≡ noted_all job.0 uses.now (state_of planner.old.world.safety) k }
+    ensures rest { planner.new
+        ≡ record planner.old { world = record planner.old.world { safety = planner.new.world.safety } } }
 {
     for i in 0..uses.len() {
-        note(&mut planner.safety, &uses[i], job);
+        note(&mut planner.world.safety, &uses[i], job);
     }
 }
 

@@ -49,7 +49,7 @@ pub fn schedule(
 {
     let params = &script.kernels[job.kernel as usize].params;
     let parallel = script.kernels[job.kernel as usize].parallel;
-    let named = planner.jobs_of_all(&job.after);
+    let named = planner.world.jobs_of_all(&job.after);
     let uses = uses(planner, alloc, params, &job.args, &named)?;
     if let Some(cause) = refusal_of(&uses, parallel, job.auto) {
         refuse_schedule(planner, line, job.handle, cause)?;
@@ -69,15 +69,17 @@ pub(crate) fn refuse_schedule(
     handle: u32,
     cause: Cause,
 ) -> Result<(), NoMemory>
-    requires name { handle < vec_len planner.old.values }
-    requires there { AreThere (vec_len planner.old.containers) (vec_len planner.old.handles) planner.old.values.items }
-    requires few { vec_len planner.old.handles < 2 ^ 32 }
+    requires name { handle < vec_len planner.old.world.values }
+    requires there { AreThere (vec_len planner.old.world.containers) (vec_len planner.old.world.handles)
+        planner.old.world.values.items }
+    requires few { vec_len planner.old.world.handles < 2 ^ 32 }
     ensures { OnOk result ((said : Planner)
         × IsPushed planner.old said (record { line = line; name = cause.name; act = Say cause.refusal })
-        × HasHandle said planner.new handle nobody) }
+        × HasHandle said.world planner.new.world handle nobody
+        × (planner.new ≡ record said { world = planner.new.world })) }
 {
     planner.push_refusal(line, cause.name, cause.refusal)?;
-    planner.set_handle(handle, &Handle::empty())
+    planner.world.set_handle(handle, &Handle::empty())
 }
 
 /// What the job waits for: the named jobs, and with `auto` all others that it has to.
@@ -88,16 +90,18 @@ pub(crate) fn deps(
     named: &Handle,
     uses: &[NamedUse],
 ) -> Result<Handle, NoMemory>
-    requires named { AreUpTo (count_of planner.now.jobs) (jobs_of named.now) }
-    requires noted { AreUpTo (count_of planner.now.jobs) (conflicting_with planner.now.safety (tags_of uses.now)) }
+    requires named { AreUpTo (count_of planner.now.world.jobs) (jobs_of named.now) }
+    requires noted { AreUpTo (count_of planner.now.world.jobs) (conflicting_with planner.now.world.safety
+        (tags_of uses.now)) }
     ensures { IfOk result (λ deps.
-        AreDeps auto (jobs_of named.now) planner.now.jobs planner.now.safety (tags_of uses.now) (jobs_of deps)) }
+        AreDeps auto (jobs_of named.now) planner.now.world.jobs planner.now.world.safety (tags_of uses.now)
+        (jobs_of deps)) }
 {
     if !auto {
         return Ok(*named);
     }
     let tags = tags(alloc, uses)?;
-    Ok(named.combine(&automatic(&tags, named, &planner.safety, &planner.jobs)))
+    Ok(named.combine(&automatic(&tags, named, &planner.world.safety, &planner.world.jobs)))
 }
 
 /// What the job of a schedule without `defer` runs: its kernel, of which the plan has a copy then.
@@ -112,13 +116,14 @@ fn plain_run(
 ) -> Result<Run, NoMemory>
     requires kernel { kernel < vec_len script.now.kernels }
     requires kernels { vec_len planner.old.kernels ≡ vec_len script.now.kernels }
-    requires copies { vec_len planner.old.plan.kernels < 2 ^ 32 }
+    requires copies { vec_len planner.old.draft.kernels < 2 ^ 32 }
     requires checked { IsKernelChecked script.now kernel }
     requires each { (k : Kernel) → slice_get script.now.kernels.items kernel ≡ Some k
         → length args.now ≡ length k.params.items }
     requires args { length args.now ≤ MOST_PARAMS }
-    requires names { AreNamesBelow (vec_len planner.old.values) args.now }
-    requires there { AreThere (vec_len planner.old.containers) (vec_len planner.old.handles) planner.old.values.items }
+    requires names { AreNamesBelow (vec_len planner.old.world.values) args.now }
+    requires there { AreThere (vec_len planner.old.world.containers) (vec_len planner.old.world.handles)
+        planner.old.world.values.items }
     requires cut { cut_fits cut ≡ true }
     ensures { IfOk result (λ run. IsPlainRun script.now planner.old planner.new kernel args.now cut waive.now run) }
 {

@@ -40,9 +40,10 @@ pub(crate) fn uses(
     named: &Handle,
 ) -> Result<Vec<NamedUse>, NoMemory>
     requires each { length args.now ≡ length params.now }
-    requires names { AreNamesBelow (vec_len planner.now.values) args.now }
-    requires there { AreThere (vec_len planner.now.containers) (vec_len planner.now.handles) planner.now.values.items }
-    requires jobs { AreUpTo (count_of planner.now.jobs) (jobs_of named.now) }
+    requires names { AreNamesBelow (vec_len planner.now.world.values) args.now }
+    requires there { AreThere (vec_len planner.now.world.containers) (vec_len planner.now.world.handles)
+        planner.now.world.values.items }
+    requires jobs { AreUpTo (count_of planner.now.world.jobs) (jobs_of named.now) }
     ensures { IfOk result (λ uses. ForNames (IsUse planner.now (jobs_of named.now)) params.now args.now uses.items) }
 {
     let mut uses = Vec::new(alloc);
@@ -57,13 +58,14 @@ pub(crate) fn uses(
 
 /// The use that a parameter makes of the container of a name.
 fn use_of(planner: &Planner, param: &Param, name: u32, named: &Handle) -> NamedUse
-    requires name { name < vec_len planner.now.values }
-    requires there { AreThere (vec_len planner.now.containers) (vec_len planner.now.handles) planner.now.values.items }
-    requires jobs { AreUpTo (count_of planner.now.jobs) (jobs_of named.now) }
+    requires name { name < vec_len planner.now.world.values }
+    requires there { AreThere (vec_len planner.now.world.containers) (vec_len planner.now.world.handles)
+        planner.now.world.values.items }
+    requires jobs { AreUpTo (count_of planner.now.world.jobs) (jobs_of named.now) }
     ensures { IsUse planner.now (jobs_of named.now) param.now name result }
 {
-    let value = planner.values[name as usize];
-    let tag = planner.tag(value);
+    let value = planner.world.values[name as usize];
+    let tag = planner.world.tag(value);
     NamedUse {
         name,
         container: number_of(value),
@@ -77,8 +79,8 @@ fn use_of(planner: &Planner, param: &Param, name: u32, named: &Handle) -> NamedU
 
 /// Whether a value stands for a container that lives for one frame.
 pub(crate) fn is_temp(planner: &Planner, value: Value) -> bool
-    requires there { IsThere (vec_len planner.now.containers) (vec_len planner.now.handles) value }
-    ensures { result ≡ is_temp_in planner.now.containers.items value }
+    requires there { IsThere (vec_len planner.now.world.containers) (vec_len planner.now.world.handles) value }
+    ensures { result ≡ is_temp_in planner.now.world.containers.items value }
 {
     let number = match value {
         Value::Dead | Value::Jobs(_) => return false,
@@ -86,7 +88,7 @@ pub(crate) fn is_temp(planner: &Planner, value: Value) -> bool
         Value::Slice { of, .. } => of,
         Value::View { of, .. } => of,
     };
-    match planner.containers[number as usize].life {
+    match planner.world.containers[number as usize].life {
         Life::Temp => true,
         Life::TempJob | Life::Persistent => false,
     }
@@ -99,16 +101,22 @@ pub(crate) fn blocked_for(
     writes: bool,
     named: &Handle,
 ) -> Option<Blocked>
-    requires { AreUpTo (count_of planner.now.jobs) (jobs_of named.now) }
+    requires { AreUpTo (count_of planner.now.world.jobs) (jobs_of named.now) }
     ensures { IsBlockedBy planner.now (jobs_of named.now) tag writes result }
 {
     let Some(tag) = tag else {
         return Some(Blocked::Disposed);
     };
     let answer = if writes {
-        planner.safety.check_write(&tag, named, &planner.jobs)
+        planner
+            .world
+            .safety
+            .check_write(&tag, named, &planner.world.jobs)
     } else {
-        planner.safety.check_read(&tag, named, &planner.jobs)
+        planner
+            .world
+            .safety
+            .check_read(&tag, named, &planner.world.jobs)
     };
     match answer {
         Ok(()) => None,

@@ -29,7 +29,8 @@ use Rattle.plan_state.specs.declared.state.Value.{Value}
 use Rattle.plan_state.specs.declared.state.Value.TheVariants.{Dead, Whole, Slice, View, Jobs as Handles}
 use Rattle.plan_state.specs.declared.state.Container.{Container}
 use Rattle.plan_state.specs.declared.state.Planner.{Planner}
-use Rattle.plan_state.specs.Stands.{jobs_at, value_for, tag_of, IsThere, IsContainer, Stands}
+use Rattle.plan_state.specs.declared.state.World.{World}
+use Rattle.plan_state.specs.Stands.{jobs_at, value_for, tag_of, IsThere, IsContainer, Knows, Stands}
 use Rattle.plan_state.specs.Accesses.{tag_by, tag_in, tag_for, refused_as, cause_of, is_gone, AreThere}
 
 pub none_up_to : (n : ℕ) (jobs : Jobs) → jobs ≡ nobody → AreUpTo n jobs
@@ -52,10 +53,10 @@ there (x ∷ xs) (suc k) lt = there xs k (omega arith)
 
 -- what names stand for is there, as the code counts
 pub are_there : (p : Planner) (g : Setting) (begun : ScriptState) (n : ℕ) (s : ScriptState) (found : List ℕ) → Stands p g begun n s found
-    → AreThere (vec_len p.containers) (vec_len p.handles) p.values.items
+    → AreThere (vec_len p.world.containers) (vec_len p.world.handles) p.world.values.items
 are_there p g begun n s found st k v h =
-    subst (λ made. IsThere made (vec_len p.handles) v) (sym p.containers.ok.0)
-    (subst (λ handles. IsThere (length p.containers.items) handles v) (sym p.handles.ok.0) (st.names.there k v h))
+    subst (λ made. IsThere made (vec_len p.world.handles) v) (sym p.world.containers.ok.0)
+    (subst (λ handles. IsThere (length p.world.containers.items) handles v) (sym p.world.handles.ok.0) (st.knows.names.there k v h))
 
 module _ (s : ScriptState) (name : ℕ) (writes : Bool) where
   abbrev decide : Bool → Bool → Option Refused → Option Refused
@@ -142,15 +143,15 @@ module _ (s : ScriptState) (name : ℕ) (writes : Bool) where
       by true false zero e = absurd (none_some e)
       by true false (suc m) e = ap breaks_views (sym (cause e))
 
-  module _ (p : Planner) (g : Setting) (begun : ScriptState) (n : ℕ) (found : List ℕ) (st : Stands p g begun n s found) (c : ℕ) (it : Container)
-      (has : slice_get p.containers.items c ≡ Some it) (view : Option ℕ)
+  module _ (w : World) (g : Setting) (found : List ℕ) (st : Knows w g s found) (c : ℕ) (it : Container)
+      (has : slice_get w.containers.items c ≡ Some it) (view : Option ℕ)
       (alive_is : is_alive s (s.values name) ≡ s.alive c) (stale_is : is_stale s (s.values name) ≡ checks.is_stale view (s.view c))
       (at : container_at s name ≡ c)
-      (r : Result (Unit {0}) Blocked) (a : IsAnswer (state_of p.safety it.slot.0) (tag_of it view) p.jobs nobody writes r) where
+      (r : Result (Unit {0}) Blocked) (a : IsAnswer (state_of w.safety it.slot.0) (tag_of it view) w.jobs nobody writes r) where
     answered : refused_as (cause_of (result_err r)) name ≡ access s name (need_of s name writes) []
     answered = by (s.alive c) refl
       where
-        kept : IsContainer p s found c it
+        kept : IsContainer w s found c it
         kept = st.containers.each c it has
 
         shape : (o : Bool) → refused_as (cause_of (if o then Some Broken else checks.pending_on (job_numbered (blocker s.book (s.uses c) nobody writes)))) name
@@ -180,63 +181,63 @@ module _ (s : ScriptState) (name : ℕ) (writes : Bool) where
             let p0 : Option Blocked = checks.pending_on (job_numbered (blocker s.book (s.uses c) nobody writes)) in
             ap (λ o. refused_as (cause_of o) name) told
             ∙ ap (λ b. refused_as (cause_of (if not b then Some NotLive else (if checks.is_stale view
-            (state_of p.safety it.slot.0).view then Some Broken else p0))) name) current
+            (state_of w.safety it.slot.0).view then Some Broken else p0))) name) current
             ∙ ap (λ v. refused_as (cause_of (if checks.is_stale view v then Some Broken else p0)) name) (kept.view alive)
             ∙ ends (checks.is_stale view (s.view c)) alive (sym stale_is)
 
 -- by what the name stands for
-module _ (p : Planner) (g : Setting) (begun : ScriptState) (n : ℕ) (s : ScriptState) (found : List ℕ) (st : Stands p g begun n s found) (name : ℕ)
+module _ (w : World) (g : Setting) (s : ScriptState) (found : List ℕ) (st : Knows w g s found) (name : ℕ)
     (writes : Bool) where
-  some_tag : (c : ℕ) (view : Option ℕ) (tag : Tag) → tag_in p.containers.items c view ≡ Some tag
-      → (it : Container) × (slice_get p.containers.items c ≡ Some it) × (tag ≡ tag_of it view)
-  some_tag c view tag e = by (slice_get p.containers.items c) refl e
+  some_tag : (c : ℕ) (view : Option ℕ) (tag : Tag) → tag_in w.containers.items c view ≡ Some tag
+      → (it : Container) × (slice_get w.containers.items c ≡ Some it) × (tag ≡ tag_of it view)
+  some_tag c view tag e = by (slice_get w.containers.items c) refl e
     where
-      by : (o : Option Container) → slice_get p.containers.items c ≡ o → tag_by view o ≡ Some tag
-          → (it : Container) × (slice_get p.containers.items c ≡ Some it) × (tag ≡ tag_of it view)
+      by : (o : Option Container) → slice_get w.containers.items c ≡ o → tag_by view o ≡ Some tag
+          → (it : Container) × (slice_get w.containers.items c ≡ Some it) × (tag ≡ tag_of it view)
       by None f e = absurd (none_some e)
       by (Some it) f e = (it, f, sym (some_is e))
 
   -- where the name stands for a container, the answer is the cause
-  pub tag_answers : (v : Value) → slice_get p.values.items name ≡ Some v → (tag : Tag) → tag_for p.containers.items v ≡ Some tag
+  pub tag_answers : (v : Value) → slice_get w.values.items name ≡ Some v → (tag : Tag) → tag_for w.containers.items v ≡ Some tag
       → (r : Result (Unit {0}) Blocked)
-      → IsAnswer (state_of p.safety tag.slot.0) tag p.jobs nobody writes r
+      → IsAnswer (state_of w.safety tag.slot.0) tag w.jobs nobody writes r
       → refused_as (cause_of (result_err r)) name ≡ access s name (need_of s name writes) []
   tag_answers Dead h tag e r a = absurd (none_some e)
   tag_answers (Whole c) h tag e r a =
       let v = st.names.are name (Whole c) h in
       let t = some_tag c None tag e in
-      answered s name writes p g begun n found st c t.0 t.1 None (ap (is_alive s) (sym v)) (ap (is_stale s) (sym v)) (ap states.container_of (sym v)) r
-      (subst (λ (k : Tag). IsAnswer (state_of p.safety k.slot.0) k p.jobs nobody writes r) t.2 a)
+      answered s name writes w g found st c t.0 t.1 None (ap (is_alive s) (sym v)) (ap (is_stale s) (sym v)) (ap states.container_of (sym v)) r
+      (subst (λ (k : Tag). IsAnswer (state_of w.safety k.slot.0) k w.jobs nobody writes r) t.2 a)
   tag_answers (Slice c start len) h tag e r a =
       let v = st.names.are name (Slice c start len) h in
       let t = some_tag c None tag e in
-      answered s name writes p g begun n found st c t.0 t.1 None (ap (is_alive s) (sym v)) (ap (is_stale s) (sym v)) (ap states.container_of (sym v)) r
-      (subst (λ (k : Tag). IsAnswer (state_of p.safety k.slot.0) k p.jobs nobody writes r) t.2 a)
+      answered s name writes w g found st c t.0 t.1 None (ap (is_alive s) (sym v)) (ap (is_stale s) (sym v)) (ap states.container_of (sym v)) r
+      (subst (λ (k : Tag). IsAnswer (state_of w.safety k.slot.0) k w.jobs nobody writes r) t.2 a)
   tag_answers (View c number) h tag e r a =
       let v = st.names.are name (View c number) h in
       let t = some_tag c (Some number) tag e in
-      answered s name writes p g begun n found st c t.0 t.1 (Some number) (ap (is_alive s) (sym v)) (ap (is_stale s) (sym v)) (ap states.container_of (sym v)) r
-      (subst (λ (k : Tag). IsAnswer (state_of p.safety k.slot.0) k p.jobs nobody writes r) t.2 a)
+      answered s name writes w g found st c t.0 t.1 (Some number) (ap (is_alive s) (sym v)) (ap (is_stale s) (sym v)) (ap states.container_of (sym v)) r
+      (subst (λ (k : Tag). IsAnswer (state_of w.safety k.slot.0) k w.jobs nobody writes r) t.2 a)
   tag_answers (Handles k) h tag e r a = absurd (none_some e)
 
   -- and where it stands for none, it is disposed
-  pub no_tag : (v : Value) → slice_get p.values.items name ≡ Some v → tag_for p.containers.items v ≡ None
+  pub no_tag : (v : Value) → slice_get w.values.items name ≡ Some v → tag_for w.containers.items v ≡ None
       → Some (record { cause = Disposed; name = name }) ≡ access s name (need_of s name writes) []
   no_tag v h e = is_disposed s name writes (ap (is_alive s) (sym (st.names.are name v h)) ∙ by v h e)
     where
-      gone : (c : ℕ) (view : Option ℕ) → c < length p.containers.items → tag_in p.containers.items c view ≡ None → ⊥
-      gone c view lt e = have (slice_get p.containers.items c) (there p.containers.items c lt) e
+      gone : (c : ℕ) (view : Option ℕ) → c < length w.containers.items → tag_in w.containers.items c view ≡ None → ⊥
+      gone c view lt e = have (slice_get w.containers.items c) (there w.containers.items c lt) e
         where
           have : (o : Option Container) → (it : Container) × (o ≡ Some it) → tag_by view o ≡ None → ⊥
           have None i e = none_some i.1
           have (Some it) i e = cc
 
-      by : (v : Value) → slice_get p.values.items name ≡ Some v → tag_for p.containers.items v ≡ None → is_alive s (value_for p.handles.items v) ≡ false
+      by : (v : Value) → slice_get w.values.items name ≡ Some v → tag_for w.containers.items v ≡ None → is_alive s (value_for w.handles.items v) ≡ false
       by Dead h e = refl
       by (Whole c) h e = absurd (gone c None (st.names.there name (Whole c) h) e)
       by (Slice c start len) h e = absurd (gone c None (st.names.there name (Slice c start len) h).0 e)
       by (View c number) h e = absurd (gone c (Some number) (st.names.there name (View c number) h) e)
-      by (Handles k) h e = jobs (slice_get p.handles.items k)
+      by (Handles k) h e = jobs (slice_get w.handles.items k)
         where
           jobs : (o : Option Handle) → is_alive s (jobs_at o) ≡ false
           jobs None = refl

@@ -43,30 +43,32 @@ viewed start (Entries room es) u = absurd cc
 
 module _ (p : Planner) (g : Setting) (begun : ScriptState) (n : ℕ) (s : ScriptState) (found : List ℕ) (st : Stands p g begun n s found) (x : Outline)
     (a : Agrees p g begun found x) where
-  bind_here : (c : ℕ) (f : Bind → Bind) → c < length p.containers.items → bind_in p.containers.items c f ≡ f (bind_of (x.starts (s.range c)) (s.contents c))
+  bind_here : (c : ℕ) (f : Bind → Bind) → c < length p.world.containers.items
+      → bind_in p.world.containers.items c f ≡ f (bind_of (x.starts (s.range c)) (s.contents c))
   bind_here c f lt =
-      let it = there p.containers.items c lt in
-      let k = st.containers.each c it.0 it.1 in
+      let it = there p.world.containers.items c lt in
+      let k = st.knows.containers.each c it.0 it.1 in
       ap (λ o. bind_from o f) it.1 ∙ ap f k.bind ∙ ap (λ n. f (bind_of n (s.contents c)))
-      (sym (a.starts (s.range c) (let lt = k.range in let t = st.takes in omega arith)))
+      (sym (a.starts (s.range c) (let lt = k.range in let t = st.knows.takes in omega arith)))
 
-  pub binds_at : (name : ℕ) (v : Value) → slice_get p.values.items name ≡ Some v → IsUsable s name → bind_by p.containers.items v ≡ bind_at x.starts s name
-  binds_at name Dead h u = absurd (subst (λ v. FitsContents v (contents_at s name)) (sym (st.names.are name Dead h)) u.fits)
+  pub binds_at : (name : ℕ) (v : Value) → slice_get p.world.values.items name ≡ Some v → IsUsable s name
+      → bind_by p.world.containers.items v ≡ bind_at x.starts s name
+  binds_at name Dead h u = absurd (subst (λ v. FitsContents v (contents_at s name)) (sym (st.knows.names.are name Dead h)) u.fits)
   binds_at name (Whole c) h u =
-      bind_here c (λ b. b) (st.names.there name (Whole c) h)
-      ∙ ap (λ v. bind_for v (x.starts (s.range (states.container_of v))) (s.contents (states.container_of v))) (st.names.are name (Whole c) h)
+      bind_here c (λ b. b) (st.knows.names.there name (Whole c) h)
+      ∙ ap (λ v. bind_for v (x.starts (s.range (states.container_of v))) (s.contents (states.container_of v))) (st.knows.names.are name (Whole c) h)
   binds_at name (Slice c start len) h u =
-      let v = st.names.are name (Slice c start len) h in
-      bind_here c (slice_in start len) (st.names.there name (Slice c start len) h).0
+      let v = st.knows.names.are name (Slice c start len) h in
+      bind_here c (slice_in start len) (st.knows.names.there name (Slice c start len) h).0
       ∙ sliced (x.starts (s.range c)) start len (s.contents c) (subst (λ v. FitsContents v (s.contents (states.container_of v))) (sym v) u.fits).0
       ∙ ap (λ v. bind_for v (x.starts (s.range (states.container_of v))) (s.contents (states.container_of v))) v
   binds_at name (View c number) h u =
-      let v = st.names.are name (View c number) h in
-      bind_here c view_in (st.names.there name (View c number) h)
+      let v = st.knows.names.are name (View c number) h in
+      bind_here c view_in (st.knows.names.there name (View c number) h)
       ∙ viewed (x.starts (s.range c)) (s.contents c) (subst (λ v. FitsContents v (s.contents (states.container_of v))) (sym v) u.fits)
       ∙ ap (λ v. bind_for v (x.starts (s.range (states.container_of v))) (s.contents (states.container_of v))) v
-  binds_at name (Handles k) h u = absurd (by (slice_get p.handles.items k)
-      (subst (λ v. FitsContents v (contents_at s name)) (sym (st.names.are name (Handles k) h)) u.fits))
+  binds_at name (Handles k) h u = absurd (by (slice_get p.world.handles.items k)
+      (subst (λ v. FitsContents v (contents_at s name)) (sym (st.knows.names.are name (Handles k) h)) u.fits))
     where
       by : (o : Option Handle) → FitsContents (jobs_at o) (contents_at s name) → ⊥
       by None u = u

@@ -1,4 +1,5 @@
 pub mod Accessing
+pub mod Answering
 pub mod Binding
 pub mod Naming
 pub mod Outlining

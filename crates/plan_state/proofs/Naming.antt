@@ -14,6 +14,7 @@ use Rattle.job_handle.specs.Sets.{jobs_of}
 use Rattle.plan_state.specs.declared.state.Value.{Value}
 use Rattle.plan_state.specs.declared.state.Value.TheVariants.{Dead, Whole, Slice, View, Jobs as Handles}
 use Rattle.plan_state.specs.declared.state.Planner.{Planner}
+use Rattle.plan_state.specs.declared.state.World.{World}
 use Rattle.plan_state.specs.Stands.{jobs_at, value_for, IsThere, AreNames}
 use Rattle.plan_state.specs.Accesses.{HasHandle, jobs_by, jobs_for, jobs_in, jobs_of_value}
 use Rattle.plan_state.proofs.Accessing.{there}
@@ -52,7 +53,7 @@ get_other (x ∷ xs) (suc n) y (suc k) ne = get_other xs n y k (λ e. ne (ap suc
 -- ---- the handles of names
 
 -- a name has a place
-pub own_place : (old : Planner) (handles : Vec Handle Global) (name place : ℕ) (h : Handle) → slice_get old.values.items name ≡ Some (Handles place)
+pub own_place : (old : World) (handles : Vec Handle Global) (name place : ℕ) (h : Handle) → slice_get old.values.items name ≡ Some (Handles place)
     → place < length old.handles.items
     → handles.items ≡ slice_set old.handles.items place h → HasHandle old (record old { handles = handles }) name (jobs_of h)
 own_place old handles name place h is lt set = record {
@@ -65,7 +66,7 @@ own_place old handles name place h is lt set = record {
 }
 
 -- or gets one
-pub new_place : (old : Planner) (values : Vec Value Global) (handles : Vec Handle Global) (name place : ℕ) (h : Handle) → place ≡ length old.handles.items
+pub new_place : (old : World) (values : Vec Value Global) (handles : Vec Handle Global) (name place : ℕ) (h : Handle) → place ≡ length old.handles.items
     → handles.items ≡ old.handles.items ++ h ∷ [] → values.items ≡ slice_set old.values.items name (Handles place)
     → HasHandle old (record old { values = values; handles = handles }) name (jobs_of h)
 new_place old values handles name place h is pushed set = record {
@@ -146,7 +147,7 @@ here_are None jobs e = absurd (none_some (sym e))
 here_are (Some h) jobs e = (ap states.Handle (sym (some_is e)), (h, refl))
 
 -- one stands for some jobs now
-module _ (p q : Planner) (made : ℕ) (s t : ScriptState) (name : ℕ) (jobs : Jobs)
+module _ (p q : World) (made : ℕ) (s t : ScriptState) (name : ℕ) (jobs : Jobs)
     (was : AreNames p.values.items p.handles.items made s) (has : HasHandle p q name jobs) (named : IsNamed s t name (states.Handle jobs)) where
   given : (jobs_at (slice_get q.handles.items has.place) ≡ states.Handle jobs) × ((h : Handle) × (slice_get q.handles.items has.place ≡ Some h))
   given = here_are (slice_get q.handles.items has.place) jobs has.here
@@ -218,11 +219,12 @@ jobs_value handles (Handles k) = by (slice_get handles k)
     by None = refl
     by (Some h) = refl
 
-pub jobs_are : (p : Planner) (s : ScriptState) (made : ℕ) → AreNames p.values.items p.handles.items made s → (names : List ℕ)
-    → ((k d : ℕ) → k < length names → get_or names k d < length p.values.items) → (j : ℕ)
-    → jobs_by p.handles.items p.values.items names j ≡ jobs_named s names j
+pub jobs_are : (p : Planner) (s : ScriptState) (made : ℕ) → AreNames p.world.values.items p.world.handles.items made s → (names : List ℕ)
+    → ((k d : ℕ) → k < length names → get_or names k d < length p.world.values.items) → (j : ℕ)
+    → jobs_by p.world.handles.items p.world.values.items names j ≡ jobs_named s names j
 jobs_are p s made are [] below j = refl
 jobs_are p s made are (x ∷ xs) below j =
-    let t = there p.values.items x (below 0 0 (omega arith)) in
-    let here = ap (λ o. jobs_for p.handles.items o j) t.1 ∙ ap (λ f. f j) (jobs_value p.handles.items t.0) ∙ ap (λ v. states.jobs_of v j) (are.are x t.0 t.1) in
+    let t = there p.world.values.items x (below 0 0 (omega arith)) in
+    let here = ap (λ o. jobs_for p.world.handles.items o j) t.1 ∙ ap (λ f. f j) (jobs_value p.world.handles.items t.0)
+    ∙ ap (λ v. states.jobs_of v j) (are.are x t.0 t.1) in
     λ i. here i || jobs_are p s made are xs (λ k d lt. below (suc k) d (omega arith)) j i

@@ -14,14 +14,14 @@ module _ (p : Planner) (script : Script) (table : Table) (begun : ScriptState) (
   pub outline : Outline
   outline = record {
     plan = record {
-      kernels = p.plan.kernels;
-      codes = p.plan.codes;
+      kernels = p.draft.kernels;
+      codes = p.draft.codes;
       names = script.names;
-      literals = p.plan.literals;
-      jobs = p.plan.jobs;
-      segments = p.plan.segments;
-      cells = peak_of p.store;
-      words = peak_of p.store;
+      literals = p.draft.literals;
+      jobs = p.draft.jobs;
+      segments = p.draft.segments;
+      cells = peak_of p.world.store;
+      words = peak_of p.world.store;
     };
     starts = λ k. get_or found k 0;
     begun = begun;
@@ -32,15 +32,15 @@ module _ (p : Planner) (script : Script) (table : Table) (begun : ScriptState) (
   agrees = record {
     begins = refl;
     names = refl;
-    kernels = ([], sym (append-nil p.plan.kernels.items));
-    literals = ([], sym (append-nil p.plan.literals.items));
-    jobs = ([], sym (append-nil p.plan.jobs.items));
+    kernels = ([], sym (append-nil p.draft.kernels.items));
+    literals = ([], sym (append-nil p.draft.literals.items));
+    jobs = ([], sym (append-nil p.draft.jobs.items));
     starts = λ k lt. refl;
     cells = omega arith;
     small = (let low = st.numbers.peak_low in let few = st.numbers.created_few in omega arith);
   }
 
   -- the jobs of this section are those of the plan
-  pub jobs_are : s.book.count ≡ begun.book.count + length p.plan.jobs.items
+  pub jobs_are : s.book.count ≡ begun.book.count + length p.draft.jobs.items
   unfolding outline
   jobs_are = (st.planned outline agrees).ordered.count

@@ -185,11 +185,11 @@ module _ (g : Setting) (starts : Starts) (s : ScriptState) (x : Order) where
 -- Neither a range nor a job is added, and what was waited for stays what is completed.
 pub record IsStill (g : Setting) (s : ScriptState) (x : Statement) (before : ℕ) (old new : Planner) : Type 0 where
   pub spans : given_so_far new ≡ given_so_far old
-  pub peak : peak_of new.store ≡ peak_of old.store
-  pub jobs : new.plan.jobs.items ≡ old.plan.jobs.items
-  pub kernels : new.plan.kernels.items ≡ old.plan.kernels.items
+  pub peak : peak_of new.world.store ≡ peak_of old.world.store
+  pub jobs : new.draft.jobs.items ≡ old.draft.jobs.items
+  pub kernels : new.draft.kernels.items ≡ old.draft.kernels.items
   pub segments_later : List Segment
-  pub segments_are : new.plan.segments.items ≡ old.plan.segments.items ++ segments_later
+  pub segments_are : new.draft.segments.items ≡ old.draft.segments.items ++ segments_later
   pub waited : HasWaited before s old → HasWaited before (act g s x) new
   pub waits : waits_by new ≡ waits_by old ++ unless_none (newly_completed before s (act g s x))
 
@@ -201,7 +201,7 @@ quiet_still g s x before old new quiet completed = record {
   jobs = quiet.jobs;
   kernels = quiet.kernels;
   segments_later = [];
-  segments_are = quiet.segments ∙ sym (append-nil old.plan.segments.items);
+  segments_are = quiet.segments ∙ sym (append-nil old.draft.segments.items);
   waited = λ h j pos.
       (let a = quiet.segments in let b = quiet.waits in λ i. has_job (waits_in (a i) ++ b i) j)
       ∙ h j pos
@@ -212,23 +212,23 @@ quiet_still g s x before old new quiet completed = record {
 
 module _ (g : Setting) (s : ScriptState) (x : Statement) (starts : Starts) (before : ℕ) (old new : Planner) (still : IsStill g s x before old new) where
   abbrev place : Option JobPlan
-  place = slice_get new.plan.jobs.items (s.book.count - before)
+  place = slice_get new.draft.jobs.items (s.book.count - before)
 
   grown : Takes g starts s s.passing x.act → span_by g starts s s.passing x.act ≡ []
-      → Schedules g starts before s (deps_after g s x) s.passing x.act new.plan.kernels.items place
-      → Awaits g before s s.passing x.act new.plan.segments.items
+      → Schedules g starts before s (deps_after g s x) s.passing x.act new.draft.kernels.items place
+      → Awaits g before s s.passing x.act new.draft.segments.items
       → Grows g s x starts before old new
   grown fit none schedules awaits = record {
     first_fit = fit;
     spans = still.spans ∙ sym (append-nil (given_so_far old)) ∙ ap (λ l. given_so_far old ++ l) (sym none);
-    peak = still.peak ∙ (let same : peak_of old.store ≡ max (peak_of old.store) 0 = omega arith in same)
-        ∙ ap (λ l. max (peak_of old.store) (greatest_end l)) (sym none);
+    peak = still.peak ∙ (let same : peak_of old.world.store ≡ max (peak_of old.world.store) 0 = omega arith in same)
+        ∙ ap (λ l. max (peak_of old.world.store) (greatest_end l)) (sym none);
     segments_later = still.segments_later;
     segments_are = still.segments_are;
     jobs_later = [];
-    jobs_are = still.jobs ∙ sym (append-nil old.plan.jobs.items);
+    jobs_are = still.jobs ∙ sym (append-nil old.draft.jobs.items);
     kernels_later = [];
-    kernels_are = still.kernels ∙ sym (append-nil old.plan.kernels.items);
+    kernels_are = still.kernels ∙ sym (append-nil old.draft.kernels.items);
     schedules = schedules;
     waited = still.waited;
     awaited = λ h. awaits;
@@ -238,16 +238,16 @@ module _ (g : Setting) (s : ScriptState) (x : Statement) (starts : Starts) (befo
   pub plain_grows : IsPlain g x.act → Grows g s x starts before old new
   plain_grows plain =
       grown (plain_takes g starts s x.act s.passing plain.0) (plain_span g starts s x.act s.passing plain.0)
-      (plain_schedules g starts before s (deps_after g s x) new.plan.kernels.items place x.act s.passing plain.1)
-      (plain_awaits g before s new.plan.segments.items x.act s.passing plain.1)
+      (plain_schedules g starts before s (deps_after g s x) new.draft.kernels.items place x.act s.passing plain.1)
+      (plain_awaits g before s new.draft.segments.items x.act s.passing plain.1)
 
   pub refused_grows : (r : Refused) → s.passing ≡ 0 → refusal g s x.act ≡ Some r → Grows g s x starts before old new
   refused_grows r acts e =
       grown
       (subst (λ k. Takes g starts s k x.act) (sym acts) (subst (TakesUnless g starts s x.act) (sym e) tt))
       (ap (λ k. span_by g starts s k x.act) acts ∙ ap (span_unless g starts s x.act) e)
-      (refused_schedules g starts before s (deps_after g s x) new.plan.kernels.items place x.act r acts e)
-      (refused_awaits g before s new.plan.segments.items x.act r acts e)
+      (refused_schedules g starts before s (deps_after g s x) new.draft.kernels.items place x.act r acts e)
+      (refused_awaits g before s new.draft.segments.items x.act r acts e)
 
   -- one that is passed by
   pub passed_grows : (k : ℕ) → s.passing ≡ suc k → Grows g s x starts before old new
@@ -255,8 +255,8 @@ module _ (g : Setting) (s : ScriptState) (x : Statement) (starts : Starts) (befo
       grown
       (subst (λ k. Takes g starts s k x.act) (sym e) tt)
       (ap (λ k. span_by g starts s k x.act) e)
-      (subst (λ k. Schedules g starts before s (deps_after g s x) k x.act new.plan.kernels.items place) (sym e) tt)
-      (subst (λ k. Awaits g before s k x.act new.plan.segments.items) (sym e) tt)
+      (subst (λ k. Schedules g starts before s (deps_after g s x) k x.act new.draft.kernels.items place) (sym e) tt)
+      (subst (λ k. Awaits g before s k x.act new.draft.segments.items) (sym e) tt)
 
 -- A STATEMENT THAT ADDS NOTHING goes on.
 

@@ -86,8 +86,8 @@ module _ (script : Script) (table : Table) (n : ℕ) (x : Statement) (step : IsS
 
 -- a name of the script is one of the planner's
 pub within : (p : Planner) (g : Setting) (begun : ScriptState) (n : ℕ) (s : ScriptState) (found : List ℕ) → Stands p g begun n s found → (name : ℕ)
-    → name < length g.names → name < vec_len p.values
-within p g begun n s found st name lt = let len = p.values.ok.0 in let e = st.each in omega arith
+    → name < length g.names → name < vec_len p.world.values
+within p g begun n s found st name lt = let len = p.world.values.ok.0 in let e = st.knows.each in omega arith
 
 -- no more ranges were found
 pub no_more : (q : Planner) (g : Setting) (begun : ScriptState) (n : ℕ) (t : ScriptState) (found : List ℕ) → Stands q g begun n t found

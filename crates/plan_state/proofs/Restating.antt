@@ -42,6 +42,7 @@ use Rattle.plan_state.specs.declared.state.Value.{Value}
 use Rattle.plan_state.specs.declared.state.Value.TheVariants.{Dead, Jobs as Handles}
 use Rattle.plan_state.specs.declared.state.Container.{Container}
 use Rattle.plan_state.specs.declared.state.Planner.{Planner}
+use Rattle.plan_state.specs.declared.state.World.{World}
 use Rattle.plan_state.specs.Accesses.{IsPushed, IsRenamed, HasHandle}
 use Rattle.job_handle.specs.declared.handle.Handle.{Handle}
 use Rattle.plan_state.specs.Growth.{given_from, given_in, IsQuiet}
@@ -75,28 +76,36 @@ words_kept c d e = words_are c ∙ ap words_in (e 0) ∙ sym (words_are d)
 -- ---- little changes
 
 pub record IsRestated (p q : Planner) (s t : ScriptState) : Type 0 where
-  pub planner : q ≡ record p { values = q.values; handles = q.handles; safety = q.safety; passing = q.passing; plan = record p.plan { ops = q.plan.ops } }
+  pub planner : q ≡ record p {
+    world = record p.world {
+      values = q.world.values;
+      handles = q.world.handles;
+      safety = q.world.safety;
+      passing = q.world.passing;
+    };
+    draft = record p.draft { ops = q.draft.ops };
+  }
   pub state : t ≡ record s { values = t.values; contents = t.contents; view = t.view; refused = t.refused; passing = t.passing; lines = t.lines }
-  pub passing : q.passing ≡ t.passing
-  pub values : length q.values.items ≡ length p.values.items
-  pub handles : length q.handles.items ≤ suc (length p.handles.items)
-  pub ops : length q.plan.ops.items ≤ suc (length p.plan.ops.items)
+  pub passing : q.world.passing ≡ t.passing
+  pub values : length q.world.values.items ≡ length p.world.values.items
+  pub handles : length q.world.handles.items ≤ suc (length p.world.handles.items)
+  pub ops : length q.draft.ops.items ≤ suc (length p.draft.ops.items)
   -- contents keep their form
   pub form : (c start : ℕ) → c < s.made → bind_of start (t.contents c) ≡ bind_of start (s.contents c)
   -- of the safety book only view numbers change, as they do in the script
-  pub slots : (k : ℕ) → state_of q.safety k ≡ record (state_of p.safety k) { view = (state_of q.safety k).view }
-  pub views : (c : ℕ) (it : Container) → slice_get p.containers.items c ≡ Some it → s.alive c ≡ true → (state_of q.safety it.slot.0).view ≡ t.view c
+  pub slots : (k : ℕ) → state_of q.world.safety k ≡ record (state_of p.world.safety k) { view = (state_of q.world.safety k).view }
+  pub views : (c : ℕ) (it : Container) → slice_get p.world.containers.items c ≡ Some it → s.alive c ≡ true → (state_of q.world.safety it.slot.0).view ≡ t.view c
 
 module _ (p : Planner) (g : Setting) (begun : ScriptState) (n : ℕ) (s : ScriptState) (found : List ℕ) (st : Stands p g begun n s found)
     (values : Vec Value Global) (handles : Vec Handle Global) (safety : SafetyBook) (passing : ℕ) (ops : Vec Op Global)
     (names : ℕ → states.Value) (contents : ℕ → Contents) (view : ℕ → ℕ) (refused passed : ℕ) (lines : List ℕ)
-    (passing_is : passing ≡ passed) (values_long : length values.items ≡ length p.values.items)
-    (handles_few : length handles.items ≤ suc (length p.handles.items)) (ops_few : length ops.items ≤ suc (length p.plan.ops.items))
+    (passing_is : passing ≡ passed) (values_long : length values.items ≡ length p.world.values.items)
+    (handles_few : length handles.items ≤ suc (length p.world.handles.items)) (ops_few : length ops.items ≤ suc (length p.draft.ops.items))
     (form : (c start : ℕ) → c < s.made → bind_of start (contents c) ≡ bind_of start (s.contents c))
-    (slots : (k : ℕ) → state_of safety k ≡ record (state_of p.safety k) { view = (state_of safety k).view })
-    (views : (c : ℕ) (it : Container) → slice_get p.containers.items c ≡ Some it → s.alive c ≡ true → (state_of safety it.slot.0).view ≡ view c) where
+    (slots : (k : ℕ) → state_of safety k ≡ record (state_of p.world.safety k) { view = (state_of safety k).view })
+    (views : (c : ℕ) (it : Container) → slice_get p.world.containers.items c ≡ Some it → s.alive c ≡ true → (state_of safety it.slot.0).view ≡ view c) where
   abbrev q : Planner
-  q = record p { values = values; handles = handles; safety = safety; passing = passing; plan = record p.plan { ops = ops } }
+  q = record p { world = record p.world { values = values; handles = handles; safety = safety; passing = passing }; draft = record p.draft { ops = ops } }
 
   abbrev t : ScriptState
   t = record s { values = names; contents = contents; view = view; refused = refused; passing = passed; lines = lines }
@@ -104,10 +113,11 @@ module _ (p : Planner) (g : Setting) (begun : ScriptState) (n : ℕ) (s : Script
   words : (c : ℕ) → c < s.made → words_of (contents c) ≡ words_of (s.contents c)
   words c below = words_kept (contents c) (s.contents c) (λ start. form c start below)
 
-  below_made : (c : ℕ) (it : Container) → slice_get p.containers.items c ≡ Some it → c < s.made
-  below_made c it h = let lt = get_below p.containers.items c it h in let e = st.containers.made in omega arith
+  below_made : (c : ℕ) (it : Container) → slice_get p.world.containers.items c ≡ Some it → c < s.made
+  below_made c it h = let lt = get_below p.world.containers.items c it h in let e = st.knows.containers.made in omega arith
 
-  container_kept : (c : ℕ) (it : Container) → slice_get p.containers.items c ≡ Some it → IsContainer p s found c it → IsContainer q t found c it
+  container_kept : (c : ℕ) (it : Container) → slice_get p.world.containers.items c ≡ Some it → IsContainer p.world s found c it
+      → IsContainer q.world t found c it
   container_kept c it h k =
       let span : ℕ → Span = λ w. record { start = get_or found (s.range c) 0; len = w } in
       record {
@@ -127,7 +137,7 @@ module _ (p : Planner) (g : Setting) (begun : ScriptState) (n : ℕ) (s : Script
         held = k.held;
       }
 
-  owned_kept : (slot : ℕ) → IsOwned p s slot → IsOwned q t slot
+  owned_kept : (slot : ℕ) → IsOwned p.world s slot → IsOwned q.world t slot
   owned_kept slot o = record { container = o.container; it = o.it; has = o.has; slot_is = o.slot_is; live = o.live }
 
   copy_kept : (k place : ℕ) → IsCopy p g k place → IsCopy q g k place
@@ -161,11 +171,27 @@ module _ (p : Planner) (g : Setting) (begun : ScriptState) (n : ℕ) (s : Script
     small = a.small;
   }
 
-  stands : IsKnown t → AreNames values.items handles.items (length p.containers.items) t
+  stands : IsKnown t → AreNames values.items handles.items (length p.world.containers.items) t
       → ((x : Outline) → Agrees p g begun found x → IsPlanned x t (draft_of q)) → Stands q g begun (suc n) t found
   stands known named planned =
       let m = st.numbers in record {
-        known = known;
+        knows = record {
+          known = known;
+          names = named;
+          each = values_long ∙ st.knows.each;
+          containers = record {
+            made = st.knows.containers.made;
+            each = λ c it h. container_kept c it h (st.knows.containers.each c it h);
+            slots = λ slot u. owned_kept slot (st.knows.containers.slots slot u);
+            once = st.knows.containers.once;
+            versions = st.knows.containers.versions;
+          };
+          takes = st.knows.takes;
+          temps = record { all = st.knows.temps.all; each = st.knows.temps.each };
+          tempjobs = (let o = st.knows.tempjobs in record { all = o.all; each = o.each; rising = o.rising; within = o.within; past = o.past; ahead = o.ahead });
+          frames = record { order = st.knows.frames.order; past = st.knows.frames.past };
+          jobs = st.knows.jobs;
+        };
         numbers = record {
           frame = m.frame;
           passing = passing_is;
@@ -184,20 +210,6 @@ module _ (p : Planner) (g : Setting) (begun : ScriptState) (n : ℕ) (s : Script
           kernels_few = (let le = m.kernels_few in omega arith);
           handles_few = (let le = m.handles_few in let few = handles_few in omega arith);
         };
-        names = named;
-        each = values_long ∙ st.each;
-        containers = record {
-          made = st.containers.made;
-          each = λ c it h. container_kept c it h (st.containers.each c it h);
-          slots = λ slot u. owned_kept slot (st.containers.slots slot u);
-          once = st.containers.once;
-          versions = st.containers.versions;
-        };
-        takes = st.takes;
-        temps = record { all = st.temps.all; each = st.temps.each };
-        tempjobs = (let o = st.tempjobs in record { all = o.all; each = o.each; rising = o.rising; within = o.within; past = o.past; ahead = o.ahead });
-        frames = record { order = st.frames.order; past = st.frames.past };
-        jobs = st.jobs;
         kernels = record {
           each = st.kernels.each;
           each_guard = st.kernels.each_guard;
@@ -214,68 +226,79 @@ pub restated : (p q : Planner) (g : Setting) (begun : ScriptState) (n : ℕ) (s 
     → Stands p g begun n s found
     → IsRestated p q s t
     → IsKnown t
-    → AreNames q.values.items q.handles.items (length p.containers.items) t
+    → AreNames q.world.values.items q.world.handles.items (length p.world.containers.items) t
     → ((x : Outline) → Agrees p g begun found x → IsPlanned x t (draft_of q))
     → Stands q g begun (suc n) t found
 restated p q g begun n s t found st r known named planned =
     let as_q : Planner = record p {
-      values = q.values;
-      handles = q.handles;
-      safety = q.safety;
-      passing = q.passing;
-      plan = record p.plan { ops = q.plan.ops };
+      world = record p.world {
+        values = q.world.values;
+        handles = q.world.handles;
+        safety = q.world.safety;
+        passing = q.world.passing;
+      };
+      draft = record p.draft { ops = q.draft.ops };
     } in
     let as_t : ScriptState = record s { values = t.values; contents = t.contents; view = t.view; refused = t.refused; passing = t.passing; lines = t.lines } in
     subst (λ k. Stands k g begun (suc n) t found) (sym r.planner)
     (subst (λ u. Stands as_q g begun (suc n) u found) (sym r.state)
-    (stands p g begun n s found st q.values q.handles q.safety q.passing q.plan.ops t.values t.contents t.view t.refused t.passing t.lines
+    (stands p g begun n s found st q.world.values q.world.handles q.world.safety q.world.passing q.draft.ops t.values t.contents t.view t.refused t.passing
+    t.lines
     r.passing r.values r.handles r.ops r.form r.slots r.views
     (subst IsKnown r.state known)
-    (subst (AreNames q.values.items q.handles.items (length p.containers.items)) r.state named)
+    (subst (AreNames q.world.values.items q.world.handles.items (length p.world.containers.items)) r.state named)
     (λ x a. subst (λ u. IsPlanned x u (draft_of as_q)) r.state (subst (λ k. IsPlanned x t (draft_of k)) r.planner (planned x a)))))
 
 -- ---- it gives no range and starts no job where its operations give none
 
-pub quiet_restated : (p q : Planner) (s t : ScriptState) → IsRestated p q s t → given_in q.plan.ops.items ≡ given_in p.plan.ops.items → IsQuiet p q
+pub quiet_restated : (p q : Planner) (s t : ScriptState) → IsRestated p q s t → given_in q.draft.ops.items ≡ given_in p.draft.ops.items → IsQuiet p q
 quiet_restated p q s t r same =
-    let segments = ap (λ (k : Planner). k.plan.segments.items) r.planner in
+    let segments = ap (λ (k : Planner). k.draft.segments.items) r.planner in
     record {
       spans = λ i. given_from (segments i) ++ same i;
-      peak = ap (λ (k : Planner). peak_of k.store) r.planner;
-      jobs = ap (λ (k : Planner). k.plan.jobs.items) r.planner;
-      kernels = ap (λ (k : Planner). k.plan.kernels.items) r.planner;
+      peak = ap (λ (k : Planner). peak_of k.world.store) r.planner;
+      jobs = ap (λ (k : Planner). k.draft.jobs.items) r.planner;
+      kernels = ap (λ (k : Planner). k.draft.kernels.items) r.planner;
       segments = segments;
-      waits = ap (λ (k : Planner). k.plan.waits.items) r.planner;
+      waits = ap (λ (k : Planner). k.draft.waits.items) r.planner;
     }
 
 -- ---- in the forms in which it is used
 
 -- a planner that is given as one with some fields changed
 pub changed_fields : (p q : Planner) (values : Vec Value Global) (handles : Vec Handle Global) (safety : SafetyBook) (passing : ℕ) (ops : Vec Op Global)
-    → q ≡ record p { values = values; handles = handles; safety = safety; passing = passing; plan = record p.plan { ops = ops } }
-    → q ≡ record p { values = q.values; handles = q.handles; safety = q.safety; passing = q.passing; plan = record p.plan { ops = q.plan.ops } }
+    → q ≡ record p { world = record p.world { values = values; handles = handles; safety = safety; passing = passing }; draft = record p.draft { ops = ops } }
+    → q ≡ record p {
+      world = record p.world { values = q.world.values; handles = q.world.handles; safety = q.world.safety; passing = q.world.passing };
+      draft = record p.draft { ops = q.draft.ops };
+    }
 changed_fields p q values handles safety passing ops e =
     let f : Planner → Planner = λ k. record p {
-      values = k.values;
-      handles = k.handles;
-      safety = k.safety;
-      passing = k.passing;
-      plan = record p.plan { ops = k.plan.ops };
+      world = record p.world {
+        values = k.world.values;
+        handles = k.world.handles;
+        safety = k.world.safety;
+        passing = k.world.passing;
+      };
+      draft = record p.draft { ops = k.draft.ops };
     } in
     e ∙ ap f (sym e)
 
 -- where the safety book, view numbers and contents are as they were
 pub calm : (p q : Planner) (g : Setting) (begun : ScriptState) (n : ℕ) (s t : ScriptState) (found : List ℕ)
     → Stands p g begun n s found
-    → q ≡ record p { values = q.values; handles = q.handles; safety = q.safety; passing = q.passing; plan = record p.plan { ops = q.plan.ops } }
+    → q ≡ record p {
+      world = record p.world { values = q.world.values; handles = q.world.handles; safety = q.world.safety; passing = q.world.passing };
+      draft = record p.draft { ops = q.draft.ops };
+    }
     → t ≡ record s { values = t.values; contents = t.contents; view = t.view; refused = t.refused; passing = t.passing; lines = t.lines }
-    → q.safety ≡ p.safety
+    → q.world.safety ≡ p.world.safety
     → t.view ≡ s.view
     → t.contents ≡ s.contents
-    → q.passing ≡ t.passing
-    → length q.values.items ≡ length p.values.items
-    → length q.handles.items ≤ suc (length p.handles.items)
-    → length q.plan.ops.items ≤ suc (length p.plan.ops.items)
+    → q.world.passing ≡ t.passing
+    → length q.world.values.items ≡ length p.world.values.items
+    → length q.world.handles.items ≤ suc (length p.world.handles.items)
+    → length q.draft.ops.items ≤ suc (length p.draft.ops.items)
     → IsRestated p q s t
 calm p q g begun n s t found st planner state safety view contents passing values handles ops = record {
   planner = planner;
@@ -285,8 +308,8 @@ calm p q g begun n s t found st planner state safety view contents passing value
   handles = handles;
   ops = ops;
   form = λ c start below. ap (λ f. bind_of start (f c)) contents;
-  slots = λ k. ap (λ b. record (state_of b k) { view = (state_of q.safety k).view }) safety;
-  views = λ c it h alive. ap (λ b. (state_of b it.slot.0).view) safety ∙ (st.containers.each c it h).view alive ∙ ap (λ f. f c) (sym view);
+  slots = λ k. ap (λ b. record (state_of b k) { view = (state_of q.world.safety k).view }) safety;
+  views = λ c it h alive. ap (λ b. (state_of b it.slot.0).view) safety ∙ (st.knows.containers.each c it h).view alive ∙ ap (λ f. f c) (sym view);
 }
 
 -- the names of the whole plan are those of the script
@@ -299,13 +322,16 @@ name_short g x n e lt = let l = ap length e in let f = long (λ v. string_bytes 
 
 -- the draft does one operation more
 pub adds_op : (p q : Planner) (op : Op)
-    → q ≡ record p { values = q.values; handles = q.handles; safety = q.safety; passing = q.passing; plan = record p.plan { ops = q.plan.ops } }
-    → q.plan.ops.items ≡ p.plan.ops.items ++ op ∷ []
+    → q ≡ record p {
+      world = record p.world { values = q.world.values; handles = q.world.handles; safety = q.world.safety; passing = q.world.passing };
+      draft = record p.draft { ops = q.draft.ops };
+    }
+    → q.draft.ops.items ≡ p.draft.ops.items ++ op ∷ []
     → Adds (draft_of p) (draft_of q) (op ∷ [])
 adds_op p q op e ops = record {
-  segments = ap (λ (k : Planner). k.plan.segments.items) e;
-  jobs = ap (λ (k : Planner). k.plan.jobs.items) e;
-  waits = ap (λ (k : Planner). k.plan.waits.items) e;
+  segments = ap (λ (k : Planner). k.draft.segments.items) e;
+  jobs = ap (λ (k : Planner). k.draft.jobs.items) e;
+  waits = ap (λ (k : Planner). k.draft.waits.items) e;
   ops = ops;
 }
 
@@ -313,12 +339,12 @@ pub one_op_more : (ops new : List Op) (op : Op) → new ≡ ops ++ op ∷ [] →
 one_op_more ops new op e = let l = ap length e in let m = length-append ops (op ∷ []) in omega arith
 
 -- names are as many as before
-pub pushed_in : (p q : Planner) (op : Op) (n : ℕ) → IsPushed p q op → n < vec_len p.values → n < vec_len q.values
-pushed_in p q op n i lt = subst (λ (k : Planner). n < vec_len k.values) (sym i.rest) lt
+pub pushed_in : (p q : Planner) (op : Op) (n : ℕ) → IsPushed p q op → n < vec_len p.world.values → n < vec_len q.world.values
+pushed_in p q op n i lt = subst (λ (k : Planner). n < vec_len k.world.values) (sym i.rest) lt
 
-pub pushed_there : (p q : Planner) (op : Op) (v : Value) → IsPushed p q op → IsThere (vec_len p.containers) (vec_len p.handles) v
-    → IsThere (vec_len q.containers) (vec_len q.handles) v
-pushed_there p q op v i h = subst (λ (k : Planner). IsThere (vec_len k.containers) (vec_len k.handles) v) (sym i.rest) h
+pub pushed_there : (p q : Planner) (op : Op) (v : Value) → IsPushed p q op → IsThere (vec_len p.world.containers) (vec_len p.world.handles) v
+    → IsThere (vec_len q.world.containers) (vec_len q.world.handles) v
+pushed_there p q op v i h = subst (λ (k : Planner). IsThere (vec_len k.world.containers) (vec_len k.world.handles) v) (sym i.rest) h
 
 -- ---- a refused statement
 
@@ -379,9 +405,9 @@ pub refused_stands : (p q : Planner) (g : Setting) (begun : ScriptState) (n : �
     → refusal g s x.act ≡ Some r
     → r.name < length g.names
     → IsRestated p q s (act g s x)
-    → q.plan.ops.items ≡ p.plan.ops.items ++ say_op x r ∷ []
+    → q.draft.ops.items ≡ p.draft.ops.items ++ say_op x r ∷ []
     → IsKnown (act g s x)
-    → AreNames q.values.items q.handles.items (length p.containers.items) (act g s x)
+    → AreNames q.world.values.items q.world.handles.items (length p.world.containers.items) (act g s x)
     → Stands q g begun (suc n) (act g s x) found
 refused_stands p q g begun n s found x r st pass refused below restates ops known named =
     restated p q g begun n s (act g s x) found st restates known named
@@ -425,81 +451,89 @@ module _ (script : Script) (table : Table) (begun : ScriptState) (n : ℕ) (foun
     abbrev Onward : Planner → Type 0
     Onward q = HasStepped script table begun n found p q x
 
-    onward : (q : Planner) → IsRestated p q s (act g s x) → q.plan.ops.items ≡ p.plan.ops.items ++ say_op x r ∷ []
-        → AreNames q.values.items q.handles.items (length p.containers.items) (act g s x) → Onward q
+    onward : (q : Planner) → IsRestated p q s (act g s x) → q.draft.ops.items ≡ p.draft.ops.items ++ say_op x r ∷ []
+        → AreNames q.world.values.items q.world.handles.items (length p.world.containers.items) (act g s x) → Onward q
     onward q restates ops named =
         refused_steps script table begun n found p q x step
         (refused_stands p q g begun n s found x r st step.acts refused below restates ops (known_after script table n x step) named)
-        (quiet_restated p q s (act g s x) restates (given_one p.plan.ops.items q.plan.ops.items (say_op x r) ops refl))
+        (quiet_restated p q s (act g s x) restates (given_one p.draft.ops.items q.draft.ops.items (say_op x r) ops refl))
         r refused
 
     -- nothing but the line, and how many statements are passed by
     pub said_passing : (m q : Planner) (passing : ℕ) → made_by x.act ≡ None → passed_with x.act ≡ passing → BreaksNone r x.act s → IsPushed p m (say_op x r)
-        → q ≡ record m { passing = passing } → Onward q
+        → q ≡ record m { world = record m.world { passing = passing } } → Onward q
     said_passing m q passing unnamed passed none i e =
-        let is = e ∙ ap (λ (k : Planner). record k { passing = passing }) i.rest in
-        let planner = changed_fields p q p.values p.handles p.safety passing m.plan.ops is in
-        let values = ap (λ (k : Planner). k.values.items) is in
-        let handles = ap (λ (k : Planner). k.handles.items) is in
-        let ops = ap (λ (k : Planner). k.plan.ops.items) is ∙ i.ops in
+        let is = e ∙ ap (λ (k : Planner). record k { world = record k.world { passing = passing } }) i.rest in
+        let planner = changed_fields p q p.world.values p.world.handles p.world.safety passing m.draft.ops is in
+        let values = ap (λ (k : Planner). k.world.values.items) is in
+        let handles = ap (λ (k : Planner). k.world.handles.items) is in
+        let ops = ap (λ (k : Planner). k.draft.ops.items) is ∙ i.ops in
         onward q
-        (calm p q g begun n s (act g s x) found st planner (like_state g x r s (act g s x) like) (ap (λ (k : Planner). k.safety) is)
+        (calm p q g begun n s (act g s x) found st planner (like_state g x r s (act g s x) like) (ap (λ (k : Planner). k.world.safety) is)
         (like_views g x r s (act g s x) like none) like.contents
-        (ap (λ (k : Planner). k.passing) is ∙ sym (like.passing ∙ passed))
-        (ap length values) (let l = ap length handles in omega arith) (one_op_more p.plan.ops.items q.plan.ops.items (say_op x r) ops))
+        (ap (λ (k : Planner). k.world.passing) is ∙ sym (like.passing ∙ passed))
+        (ap length values) (let l = ap length handles in omega arith) (one_op_more p.draft.ops.items q.draft.ops.items (say_op x r) ops))
         ops
-        (subst (λ vs. AreNames vs q.handles.items (length p.containers.items) (act g s x)) (sym values)
-        (subst (λ hs. AreNames p.values.items hs (length p.containers.items) (act g s x)) (sym handles)
-        (same_names p.values.items p.handles.items (length p.containers.items) s (act g s x) (like_unnamed g x r s (act g s x) like unnamed) st.names)))
+        (subst (λ vs. AreNames vs q.world.handles.items (length p.world.containers.items) (act g s x)) (sym values)
+        (subst (λ hs. AreNames p.world.values.items hs (length p.world.containers.items) (act g s x)) (sym handles)
+        (same_names p.world.values.items p.world.handles.items (length p.world.containers.items) s (act g s x)
+        (like_unnamed g x r s (act g s x) like unnamed) st.knows.names)))
 
     -- nothing but the line
     pub said : (q : Planner) → made_by x.act ≡ None → passed_with x.act ≡ 0 → BreaksNone r x.act s → IsPushed p q (say_op x r) → Onward q
     said q unnamed passed none i =
         said_passing q q 0 unnamed passed none i
-        (let zero_is = ap (λ (k : Planner). k.passing) i.rest ∙ st.numbers.passing ∙ step.acts in λ k. record q { passing = zero_is k })
+        (let zero_is = ap (λ (k : Planner). k.world.passing) i.rest ∙ st.numbers.passing
+        ∙ step.acts in λ k. record q { world = record q.world { passing = zero_is k } })
 
     -- a name that it would have made is dead
-    pub said_dead : (m q : Planner) (name : ℕ) → made_by x.act ≡ Some name → lost_value x.act ≡ states.Dead → passed_with x.act ≡ 0 → BreaksNone r x.act s
-        → IsPushed p m (say_op x r) → IsRenamed m q name Dead → Onward q
-    said_dead m q name made lost passed none i e =
-        let is = e.rest ∙ ap (λ (k : Planner). record k { values = q.values }) i.rest in
-        let planner = changed_fields p q q.values p.handles p.safety p.passing m.plan.ops is in
-        let values = e.values ∙ ap (λ (k : Planner). slice_set k.values.items name Dead) i.rest in
-        let handles = ap (λ (k : Planner). k.handles.items) is in
-        let ops = ap (λ (k : Planner). k.plan.ops.items) is ∙ i.ops in
+    pub said_dead : (m : Planner) (w : World) (name : ℕ) → made_by x.act ≡ Some name → lost_value x.act ≡ states.Dead → passed_with x.act ≡ 0
+        → BreaksNone r x.act s
+        → IsPushed p m (say_op x r) → IsRenamed m.world w name Dead → Onward (record m { world = w })
+    said_dead m w name made lost passed none i e =
+        let q : Planner = record m { world = w } in
+        let is = ap (λ (k : World). record m { world = k }) e.rest ∙ ap (λ (k : Planner). record k { world = record k.world { values = w.values } }) i.rest in
+        let planner = changed_fields p q q.world.values p.world.handles p.world.safety p.world.passing m.draft.ops is in
+        let values = e.values ∙ ap (λ (k : Planner). slice_set k.world.values.items name Dead) i.rest in
+        let handles = ap (λ (k : Planner). k.world.handles.items) is in
+        let ops = ap (λ (k : Planner). k.draft.ops.items) is ∙ i.ops in
         onward q
-        (calm p q g begun n s (act g s x) found st planner (like_state g x r s (act g s x) like) (ap (λ (k : Planner). k.safety) is)
+        (calm p q g begun n s (act g s x) found st planner (like_state g x r s (act g s x) like) (ap (λ (k : Planner). k.world.safety) is)
         (like_views g x r s (act g s x) like none) like.contents
-        (ap (λ (k : Planner). k.passing) is ∙ st.numbers.passing ∙ step.acts ∙ sym (like.passing ∙ passed))
-        (ap length values ∙ set_long p.values.items name Dead) (let l = ap length handles in omega arith)
-        (one_op_more p.plan.ops.items q.plan.ops.items (say_op x r) ops))
+        (ap (λ (k : Planner). k.world.passing) is ∙ st.numbers.passing ∙ step.acts ∙ sym (like.passing ∙ passed))
+        (ap length values ∙ set_long p.world.values.items name Dead) (let l = ap length handles in omega arith)
+        (one_op_more p.draft.ops.items q.draft.ops.items (say_op x r) ops))
         ops
-        (subst (λ hs. AreNames q.values.items hs (length p.containers.items) (act g s x)) (sym handles)
-        (renamed_names p.values.items q.values.items p.handles.items (length p.containers.items) s (act g s x) name Dead states.Dead st.names values tt
+        (subst (λ hs. AreNames q.world.values.items hs (length p.world.containers.items) (act g s x)) (sym handles)
+        (renamed_names p.world.values.items q.world.values.items p.world.handles.items (length p.world.containers.items) s
+        (act g s x) name Dead states.Dead st.knows.names values tt
         (λ k e. absurd cc) refl
         (like_named g x r s (act g s x) name states.Dead like made lost)))
 
     -- a name that it would have made has no jobs
-    pub said_nobody : (m q : Planner) (name : ℕ) → made_by x.act ≡ Some name → lost_value x.act ≡ states.Handle nobody → passed_with x.act ≡ 0
+    pub said_nobody : (m : Planner) (w : World) (name : ℕ) → made_by x.act ≡ Some name → lost_value x.act ≡ states.Handle nobody → passed_with x.act ≡ 0
         → BreaksNone r x.act s
-        → IsPushed p m (say_op x r) → HasHandle m q name nobody → Onward q
-    said_nobody m q name made lost passed none i e =
-        let was = subst (λ (k : Planner). AreNames k.values.items k.handles.items (length p.containers.items) s) (sym i.rest) st.names in
-        let is = e.rest ∙ ap (λ (k : Planner). record k { values = q.values; handles = q.handles }) i.rest in
-        let planner = changed_fields p q q.values q.handles p.safety p.passing m.plan.ops is in
-        let ops = ap (λ (k : Planner). k.plan.ops.items) is ∙ i.ops in
+        → IsPushed p m (say_op x r) → HasHandle m.world w name nobody → Onward (record m { world = w })
+    said_nobody m w name made lost passed none i e =
+        let q : Planner = record m { world = w } in
+        let was = subst (λ (k : Planner). AreNames k.world.values.items k.world.handles.items (length p.world.containers.items) s)
+        (sym i.rest) st.knows.names in
+        let is = ap (λ (k : World). record m { world = k }) e.rest
+        ∙ ap (λ (k : Planner). record k { world = record k.world { values = w.values; handles = w.handles } }) i.rest in
+        let planner = changed_fields p q q.world.values q.world.handles p.world.safety p.world.passing m.draft.ops is in
+        let ops = ap (λ (k : Planner). k.draft.ops.items) is ∙ i.ops in
         let named = like_named g x r s (act g s x) name (states.Handle nobody) like made lost in
-        let grown = (handles_more m q (length p.containers.items) s (act g s x) name nobody was e named).1 in
-        let as_many = ap (λ (k : Planner). length k.handles.items) i.rest in
+        let grown = (handles_more m.world w (length p.world.containers.items) s (act g s x) name nobody was e named).1 in
+        let as_many = ap (λ (k : Planner). length k.world.handles.items) i.rest in
         onward q
-        (calm p q g begun n s (act g s x) found st planner (like_state g x r s (act g s x) like) (ap (λ (k : Planner). k.safety) is)
+        (calm p q g begun n s (act g s x) found st planner (like_state g x r s (act g s x) like) (ap (λ (k : Planner). k.world.safety) is)
         (like_views g x r s (act g s x) like none) like.contents
-        (ap (λ (k : Planner). k.passing) is ∙ st.numbers.passing ∙ step.acts ∙ sym (like.passing ∙ passed))
-        (ap length e.values ∙ set_long m.values.items name (Handles e.place) ∙ ap (λ (k : Planner). length k.values.items) i.rest)
+        (ap (λ (k : Planner). k.world.passing) is ∙ st.numbers.passing ∙ step.acts ∙ sym (like.passing ∙ passed))
+        (ap length e.values ∙ set_long m.world.values.items name (Handles e.place) ∙ ap (λ (k : Planner). length k.world.values.items) i.rest)
         (omega arith)
-        (one_op_more p.plan.ops.items q.plan.ops.items (say_op x r) ops))
+        (one_op_more p.draft.ops.items q.draft.ops.items (say_op x r) ops))
         ops
-        (handle_names m q (length p.containers.items) s (act g s x) name nobody was e named)
+        (handle_names m.world w (length p.world.containers.items) s (act g s x) name nobody was e named)
 
 -- ---- an accepted statement
 
@@ -516,24 +550,25 @@ pub pushed_restates : (p q : Planner) (op : Op) (g : Setting) (begun : ScriptSta
     → ((c start : ℕ) → c < s.made → bind_of start (t.contents c) ≡ bind_of start (s.contents c))
     → IsRestated p q s t
 pushed_restates p q op g begun n s t found st i state passing view form =
-    let handles = ap (λ (k : Planner). length k.handles.items) i.rest in
+    let handles = ap (λ (k : Planner). length k.world.handles.items) i.rest in
     record {
-      planner = changed_fields p q p.values p.handles p.safety p.passing q.plan.ops i.rest;
+      planner = changed_fields p q p.world.values p.world.handles p.world.safety p.world.passing q.draft.ops i.rest;
       state = state;
-      passing = ap (λ (k : Planner). k.passing) i.rest ∙ st.numbers.passing ∙ sym passing;
-      values = ap (λ (k : Planner). length k.values.items) i.rest;
+      passing = ap (λ (k : Planner). k.world.passing) i.rest ∙ st.numbers.passing ∙ sym passing;
+      values = ap (λ (k : Planner). length k.world.values.items) i.rest;
       handles = omega arith;
-      ops = one_op_more p.plan.ops.items q.plan.ops.items op i.ops;
+      ops = one_op_more p.draft.ops.items q.draft.ops.items op i.ops;
       form = form;
-      slots = λ k. ap (λ b. record (state_of b k) { view = (state_of q.safety k).view }) (ap (λ (k : Planner). k.safety) i.rest);
-      views = λ c it h alive. ap (λ (k : Planner). (state_of k.safety it.slot.0).view) i.rest ∙ (st.containers.each c it h).view alive
+      slots = λ k. ap (λ b. record (state_of b k) { view = (state_of q.world.safety k).view }) (ap (λ (k : Planner). k.world.safety) i.rest);
+      views = λ c it h alive. ap (λ (k : Planner). (state_of k.world.safety it.slot.0).view) i.rest ∙ (st.knows.containers.each c it h).view alive
           ∙ ap (λ f. f c) (sym view);
     }
 
 pub pushed_names : (p q : Planner) (op : Op) (made : ℕ) (s t : ScriptState) → IsPushed p q op → t.values ≡ s.values
-    → AreNames p.values.items p.handles.items made s → AreNames q.values.items q.handles.items made t
+    → AreNames p.world.values.items p.world.handles.items made s → AreNames q.world.values.items q.world.handles.items made t
 pushed_names p q op made s t i values was =
-    subst (λ (k : Planner). AreNames k.values.items k.handles.items made t) (sym i.rest) (same_names p.values.items p.handles.items made s t values was)
+    subst (λ (k : Planner). AreNames k.world.values.items k.world.handles.items made t) (sym i.rest)
+    (same_names p.world.values.items p.world.handles.items made s t values was)
 
 -- An accepted statement of an accepted script that takes no words and starts no job goes on where the plan so far does.
 pub accepted_on : (script : Script) (table : Table) (begun : ScriptState) (n : ℕ) (found : List ℕ) (x : Statement)
@@ -545,9 +580,9 @@ pub accepted_on : (script : Script) (table : Table) (begun : ScriptState) (n : �
     → Stands p g begun n s found
     → refusal g s x.act ≡ None
     → IsPlain g x.act
-    → given_in q.plan.ops.items ≡ given_in p.plan.ops.items
+    → given_in q.draft.ops.items ≡ given_in p.draft.ops.items
     → IsRestated p q s t
-    → AreNames q.values.items q.handles.items (length p.containers.items) t
+    → AreNames q.world.values.items q.world.handles.items (length p.world.containers.items) t
     → ((y : Outline) → Agrees p g begun found y → IsPlanned y t (draft_of q))
     → HasStepped script table begun n found p q x
 accepted_on script table begun n found x step p q st none plain same restates named planned =

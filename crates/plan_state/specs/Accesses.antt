@@ -17,6 +17,7 @@ use Rattle.plan_state.specs.declared.state.Value.{Value}
 use Rattle.plan_state.specs.declared.state.Value.TheVariants.{Dead, Whole, Slice, View, Jobs}
 use Rattle.plan_state.specs.declared.state.Container.{Container}
 use Rattle.plan_state.specs.declared.state.Planner.{Planner}
+use Rattle.plan_state.specs.declared.state.World.{World}
 use Rattle.frame_ast.specs.declared.script.Statement.{Statement}
 use Rattle.frame_ast.specs.Checks.{refusal}
 use Rattle.frame_ast.specs.Orders.{Setting, setting}
@@ -26,7 +27,7 @@ use Rattle.frame_ast.specs.States.{ScriptState, is_alive}
 use Rattle.safety_handle.specs.declared.book.SafetyBook.{SafetyBook}
 use Rattle.safety_handle.specs.Checks.{IsAnswer}
 use Rattle.safety_handle.specs.Entries.{state_of}
-use Rattle.plan_state.specs.Stands.{tag_of, IsThere, Stands}
+use Rattle.plan_state.specs.Stands.{tag_of, IsThere, Knows}
 use Rattle.plan_state.specs.Steps.{state_at, AtStatement}
 
 abbrev pub tag_by : Option ℕ → Option Container → Option Tag
@@ -100,16 +101,16 @@ cause_of (Some (Waits j)) = Some (Pending j)
 
 -- The segment at hand has one operation more, and all else is as it was.
 pub record IsPushed (old new : Planner) (op : Op) : Type 0 where
-  pub ops : new.plan.ops.items ≡ old.plan.ops.items ++ op ∷ []
-  pub rest : new ≡ record old { plan = record old.plan { ops = new.plan.ops } }
+  pub ops : new.draft.ops.items ≡ old.draft.ops.items ++ op ∷ []
+  pub rest : new ≡ record old { draft = record old.draft { ops = new.draft.ops } }
 
 -- A name stands for something else, and all else is as it was.
-pub record IsRenamed (old new : Planner) (name : ℕ) (value : Value) : Type 0 where
+pub record IsRenamed (old new : World) (name : ℕ) (value : Value) : Type 0 where
   pub values : new.values.items ≡ slice_set old.values.items name value
   pub rest : new ≡ record old { values = new.values }
 
 -- A name stands for these jobs: it has a place of its own among the handles. All else is as it was.
-pub record HasHandle (old new : Planner) (name : ℕ) (jobs : JobSet) : Type 0 where
+pub record HasHandle (old new : World) (name : ℕ) (jobs : JobSet) : Type 0 where
   pub place : ℕ
   pub values : new.values.items ≡ slice_set old.values.items name (Jobs place)
   pub here : Some jobs ≡ option_map jobs_of (slice_get new.handles.items place)
@@ -131,15 +132,15 @@ abbrev pub AreThere : ℕ → ℕ → List Value → Type 0
 AreThere made handles values = (n : ℕ) (v : Value) → slice_get values n ≡ Some v → IsThere made handles v
 
 -- An answer is the cause for which a statement on a container is refused, before it is asked what its words hold.
-abbrev pub MayUse : Planner → ℕ → Bool → Option Refusal → Type 0
-MayUse p name writes answer = (g : Setting) (begun : ScriptState) (n : ℕ) (s : ScriptState) (found : List ℕ)
-    → Stands p g begun n s found
+abbrev pub MayUse : World → ℕ → Bool → Option Refusal → Type 0
+MayUse w name writes answer = (g : Setting) (s : ScriptState) (found : List ℕ)
+    → Knows w g s found
     → refused_as answer name ≡ access s name (need_of s name writes) []
 
 -- A cause is what the safety book answers to a use of a container that waits for nothing.
-abbrev pub IsCause : Planner → Tag → Bool → Option Refusal → Type 0
-IsCause p tag writes cause = (r : Result (Unit {0}) Blocked)
-    × IsAnswer (state_of p.safety tag.slot.0) tag p.jobs nobody writes r
+abbrev pub IsCause : World → Tag → Bool → Option Refusal → Type 0
+IsCause w tag writes cause = (r : Result (Unit {0}) Blocked)
+    × IsAnswer (state_of w.safety tag.slot.0) tag w.jobs nobody writes r
     × (cause ≡ cause_of (result_err r))
 
 -- the cause is that there is no container
@@ -148,9 +149,9 @@ is_gone Disposed = true
 is_gone _ = false
 
 -- An answer is whether a name stands for no container, or for one that was disposed.
-abbrev pub IsGone : Planner → ℕ → Bool → Type 0
-IsGone p name answer = (g : Setting) (begun : ScriptState) (n : ℕ) (s : ScriptState) (found : List ℕ)
-    → Stands p g begun n s found
+abbrev pub IsGone : World → ℕ → Bool → Type 0
+IsGone w name answer = (g : Setting) (s : ScriptState) (found : List ℕ)
+    → Knows w g s found
     → answer ≡ not (is_alive s (s.values name))
 
 -- An answer is the refusal of a statement, which names this name.

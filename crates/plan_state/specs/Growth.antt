@@ -54,7 +54,7 @@ given_from (s ∷ more) = given_in s.ops.items ++ given_from more
 
 -- those that a planner has given so far, in their order
 abbrev pub given_so_far : Planner → List Span
-given_so_far p = given_from p.plan.segments.items ++ given_in p.plan.ops.items
+given_so_far p = given_from p.draft.segments.items ++ given_in p.draft.ops.items
 
 -- The words that a statement takes by the definition: so many, from where the next range starts.
 
@@ -156,7 +156,7 @@ waits_in [] = []
 waits_in (s ∷ more) = s.waits.items ++ waits_in more
 
 abbrev pub waits_so_far : Planner → List JobId
-waits_so_far p = waits_in p.plan.segments.items ++ p.plan.waits.items
+waits_so_far p = waits_in p.draft.segments.items ++ p.draft.waits.items
 
 -- those that a planner has waited for so far are the completed ones, by the numbers of the section
 abbrev pub HasWaited : ℕ → ScriptState → Planner → Type 0
@@ -205,7 +205,7 @@ waits_of (s ∷ more) = unless_none s.waits.items ++ waits_of more
 
 -- and each segment of a planner so far
 abbrev pub waits_by : Planner → List (List JobId)
-waits_by p = waits_of p.plan.segments.items ++ unless_none p.plan.waits.items
+waits_by p = waits_of p.draft.segments.items ++ unless_none p.draft.waits.items
 
 -- the jobs that are completed in a state and weren't in one before it, by the numbers of a section
 abbrev pub newly_in : ℕ → ScriptState → ScriptState → Jobs
@@ -222,28 +222,28 @@ pub record Grows (g : Setting) (s : ScriptState) (x : Statement) (starts : Start
   -- a range is where the definition has it, and the plan gives it
   pub first_fit : Takes g starts s s.passing x.act
   pub spans : given_so_far new ≡ given_so_far old ++ span_by g starts s s.passing x.act
-  pub peak : peak_of new.store ≡ max (peak_of old.store) (greatest_end (span_by g starts s s.passing x.act))
+  pub peak : peak_of new.world.store ≡ max (peak_of old.world.store) (greatest_end (span_by g starts s s.passing x.act))
   -- segments, jobs and kernels stay, and those that are new come after them
   pub segments_later : List Segment
-  pub segments_are : new.plan.segments.items ≡ old.plan.segments.items ++ segments_later
+  pub segments_are : new.draft.segments.items ≡ old.draft.segments.items ++ segments_later
   pub jobs_later : List JobPlan
-  pub jobs_are : new.plan.jobs.items ≡ old.plan.jobs.items ++ jobs_later
+  pub jobs_are : new.draft.jobs.items ≡ old.draft.jobs.items ++ jobs_later
   pub kernels_later : List Kernel
-  pub kernels_are : new.plan.kernels.items ≡ old.plan.kernels.items ++ kernels_later
+  pub kernels_are : new.draft.kernels.items ≡ old.draft.kernels.items ++ kernels_later
   -- the next job is the one that is scheduled
-  pub schedules : Schedules g starts before s (deps_after g s x) s.passing x.act new.plan.kernels.items
-      (slice_get new.plan.jobs.items (s.book.count - before))
+  pub schedules : Schedules g starts before s (deps_after g s x) s.passing x.act new.draft.kernels.items
+      (slice_get new.draft.jobs.items (s.book.count - before))
   -- what was waited for stays what is completed, and the next job is started after just that
   pub waited : HasWaited before s old → HasWaited before (act g s x) new
-  pub awaited : HasWaited before s old → Awaits g before s s.passing x.act new.plan.segments.items
+  pub awaited : HasWaited before s old → Awaits g before s s.passing x.act new.draft.segments.items
   -- a segment waits for what the statement newly completes, if anything
   pub waits : waits_by new ≡ waits_by old ++ unless_none (newly_completed before s (act g s x))
 
 -- The planner gave no range, started no job and waits for no more: what a statement needs that adds nothing.
 pub record IsQuiet (old new : Planner) : Type 0 where
   pub spans : given_so_far new ≡ given_so_far old
-  pub peak : peak_of new.store ≡ peak_of old.store
-  pub jobs : new.plan.jobs.items ≡ old.plan.jobs.items
-  pub kernels : new.plan.kernels.items ≡ old.plan.kernels.items
-  pub segments : new.plan.segments.items ≡ old.plan.segments.items
-  pub waits : new.plan.waits.items ≡ old.plan.waits.items
+  pub peak : peak_of new.world.store ≡ peak_of old.world.store
+  pub jobs : new.draft.jobs.items ≡ old.draft.jobs.items
+  pub kernels : new.draft.kernels.items ≡ old.draft.kernels.items
+  pub segments : new.draft.segments.items ≡ old.draft.segments.items
+  pub waits : new.draft.waits.items ≡ old.draft.waits.items

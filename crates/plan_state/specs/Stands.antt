@@ -39,6 +39,7 @@ use Rattle.plan_state.specs.declared.state.Value.{Value}
 use Rattle.plan_state.specs.declared.state.Value.TheVariants.{Dead, Whole, Slice, View, Jobs}
 use Rattle.plan_state.specs.declared.state.Container.{Container}
 use Rattle.plan_state.specs.declared.state.Planner.{Planner}
+use Rattle.plan_state.specs.declared.state.World.{World}
 
 -- NAMES
 
@@ -79,49 +80,49 @@ pub record IsHeldFor (b : Book) (state : State) (u : Uses) : Type 0 where
   pub stands : StandForUses b latest u
   pub users : (j : ℕ) → users_of state j ≡ latest_users latest j
 
-pub record IsContainer (p : Planner) (s : ScriptState) (found : List ℕ) (c : ℕ) (it : Container) : Type 0 where
+pub record IsContainer (w : World) (s : ScriptState) (found : List ℕ) (c : ℕ) (it : Container) : Type 0 where
   -- the bind rests on where its range starts, and on the form of its contents
   pub bind : it.bind ≡ bind_of (get_or found (s.range c) 0) (s.contents c)
   pub range : s.range c < s.takes
   pub life : it.life ≡ s.life c
   pub making : (it.frame ≡ (s.making c).frame) × (it.name ≡ (s.making c).name) × (it.line ≡ (s.making c).line)
-  pub named : it.name < length p.values.items
+  pub named : it.name < length w.values.items
   -- it is alive exactly where its slot is live with its version
-  pub alive : is_current (state_of p.safety it.slot.0) (tag_of it None) ≡ s.alive c
-  pub uses : s.alive c ≡ true → StandForUses s.book (state_of p.safety it.slot.0).latest (s.uses c)
-  pub view : s.alive c ≡ true → (state_of p.safety it.slot.0).view ≡ s.view c
+  pub alive : is_current (state_of w.safety it.slot.0) (tag_of it None) ≡ s.alive c
+  pub uses : s.alive c ≡ true → StandForUses s.book (state_of w.safety it.slot.0).latest (s.uses c)
+  pub view : s.alive c ≡ true → (state_of w.safety it.slot.0).view ≡ s.view c
   -- its slot has its words as long as these are live: taken while it is alive, and then held for its users
-  pub in_use : is_live s c ≡ true → in_use (place_of p.store it.slot.0).state ≡ true
-  pub span : is_live s c ≡ true → (place_of p.store it.slot.0).span
+  pub in_use : is_live s c ≡ true → in_use (place_of w.store it.slot.0).state ≡ true
+  pub span : is_live s c ≡ true → (place_of w.store it.slot.0).span
       ≡ record { start = get_or found (s.range c) 0; len = words_of (s.contents c) }
-  pub taken : (is_taken (place_of p.store it.slot.0).state
-      && nat_eq (place_of p.store it.slot.0).version it.version.0) ≡ s.alive c
+  pub taken : (is_taken (place_of w.store it.slot.0).state
+      && nat_eq (place_of w.store it.slot.0).version it.version.0) ≡ s.alive c
   -- a slot is given again with a later version
-  pub older : s.alive c ≡ false → it.version.0 < (place_of p.store it.slot.0).version
+  pub older : s.alive c ≡ false → it.version.0 < (place_of w.store it.slot.0).version
   -- and no version is above the number of the container that has it
   pub low : it.version.0 ≤ c
-  pub held : s.alive c ≡ false → is_live s c ≡ true → IsHeldFor s.book (place_of p.store it.slot.0).state (s.uses c)
+  pub held : s.alive c ≡ false → is_live s c ≡ true → IsHeldFor s.book (place_of w.store it.slot.0).state (s.uses c)
 
 -- each slot in use has one live container
-pub record IsOwned (p : Planner) (s : ScriptState) (slot : ℕ) : Type 0 where
+pub record IsOwned (w : World) (s : ScriptState) (slot : ℕ) : Type 0 where
   pub container : ℕ
   pub it : Container
-  pub has : slice_get p.containers.items container ≡ Some it
+  pub has : slice_get w.containers.items container ≡ Some it
   pub slot_is : it.slot.0 ≡ slot
   pub live : is_live s container ≡ true
 
-pub record AreContainers (p : Planner) (s : ScriptState) (found : List ℕ) : Type 0 where
-  pub made : length p.containers.items ≡ s.made
-  pub each : (c : ℕ) (it : Container) → slice_get p.containers.items c ≡ Some it → IsContainer p s found c it
-  pub slots : (slot : ℕ) → in_use (place_of p.store slot).state ≡ true → IsOwned p s slot
+pub record AreContainers (w : World) (s : ScriptState) (found : List ℕ) : Type 0 where
+  pub made : length w.containers.items ≡ s.made
+  pub each : (c : ℕ) (it : Container) → slice_get w.containers.items c ≡ Some it → IsContainer w s found c it
+  pub slots : (slot : ℕ) → in_use (place_of w.store slot).state ≡ true → IsOwned w s slot
   pub once : (c d : ℕ) (it other : Container)
-      → slice_get p.containers.items c ≡ Some it
-      → slice_get p.containers.items d ≡ Some other
+      → slice_get w.containers.items c ≡ Some it
+      → slice_get w.containers.items d ≡ Some other
       → is_live s c ≡ true
       → is_live s d ≡ true
       → it.slot.0 ≡ other.slot.0
       → c ≡ d
-  pub versions : (slot : ℕ) → (place_of p.store slot).version ≤ s.made
+  pub versions : (slot : ℕ) → (place_of w.store slot).version ≤ s.made
 
 -- FRAMES. The `temp` containers that are alive, and the `tempjob` containers by the frame of their making.
 
@@ -154,7 +155,7 @@ pub record IsCopy (p : Planner) (g : Setting) (k place : ℕ) : Type 0 where
   pub old : Kernel
   pub new : Kernel
   pub is_old : slice_get g.kernels k ≡ Some old
-  pub is_new : slice_get p.plan.kernels.items place ≡ Some new
+  pub is_new : slice_get p.draft.kernels.items place ≡ Some new
   pub same : SameKernel old new
 
 -- the guarded copy of one
@@ -162,7 +163,7 @@ pub record IsGuardedCopy (p : Planner) (g : Setting) (k place : ℕ) : Type 0 wh
   pub old : Kernel
   pub new : Kernel
   pub is_old : slice_get g.kernels k ≡ Some old
-  pub is_new : slice_get p.plan.kernels.items place ≡ Some new
+  pub is_new : slice_get p.draft.kernels.items place ≡ Some new
   pub guarded : IsGuarded old new
   pub contents : GuardsContents old new
   pub words : GuardsWords old new
@@ -173,38 +174,38 @@ pub record AreKernels (p : Planner) (g : Setting) : Type 0 where
   pub each_guard : length p.guards.items ≡ length g.kernels
   pub copies : (k place : ℕ) → slice_get p.kernels.items k ≡ Some (Some place) → IsCopy p g k place
   pub guards : (k place : ℕ) → slice_get p.guards.items k ≡ Some (Some place) → IsGuardedCopy p g k place
-  pub checked : (place : ℕ) (k : Kernel) → slice_get p.plan.kernels.items place ≡ Some k → IsChecked k
-  pub coded : AreCodesOf p.plan.kernels.items p.plan.codes.items
+  pub checked : (place : ℕ) (k : Kernel) → slice_get p.draft.kernels.items place ≡ Some k → IsChecked k
+  pub coded : AreCodesOf p.draft.kernels.items p.draft.codes.items
 
 -- NUMBERS: those that are kept, and what keeps them small. So many statements were gone through.
 
 pub record AreNumbers (p : Planner) (begun : ScriptState) (n : ℕ) (s : ScriptState) : Type 0 where
-  pub frame : p.frame ≡ s.frame
-  pub passing : p.passing ≡ s.passing
-  pub created : p.created ≡ s.created
+  pub frame : p.world.frame ≡ s.frame
+  pub passing : p.world.passing ≡ s.passing
+  pub created : p.world.created ≡ s.created
   pub before : p.jobs_before ≡ begun.book.count
-  pub pieces : p.plan.pieces ≡ pieces_before p.plan.jobs.items (length p.plan.jobs.items)
-  pub live_words : live_words_of p.store ≡ live_words s
+  pub pieces : p.draft.pieces ≡ pieces_before p.draft.jobs.items (length p.draft.jobs.items)
+  pub live_words : live_words_of p.world.store ≡ live_words s
   -- what is small
   pub frames_few : s.frame ≤ n
   pub made_few : s.made ≤ n
   pub created_few : s.created ≤ MOST_CREATED_WORDS
-  pub peak_low : peak_of p.store ≤ s.created
-  pub slots_few : slots_in_use p.store ≤ s.made
-  pub ops_few : ops_count p.plan.segments.items + length p.plan.ops.items ≤ suc (n + p.overdue)
-  pub segments_few : length p.plan.segments.items ≤ n
-  pub literals_few : length p.plan.literals.items ≤ suc n
-  pub kernels_few : length p.plan.kernels.items ≤ n
-  pub handles_few : length p.handles.items ≤ n
+  pub peak_low : peak_of p.world.store ≤ s.created
+  pub slots_few : slots_in_use p.world.store ≤ s.made
+  pub ops_few : ops_count p.draft.segments.items + length p.draft.ops.items ≤ suc (n + p.world.overdue)
+  pub segments_few : length p.draft.segments.items ≤ n
+  pub literals_few : length p.draft.literals.items ≤ suc n
+  pub kernels_few : length p.draft.kernels.items ≤ n
+  pub handles_few : length p.world.handles.items ≤ n
 
 -- THE PLAN SO FAR
 
 abbrev pub draft_of : Planner → Draft
 draft_of p = record {
-  segments = p.plan.segments.items;
-  jobs = p.plan.jobs.items;
-  waits = p.plan.waits.items;
-  ops = p.plan.ops.items;
+  segments = p.draft.segments.items;
+  jobs = p.draft.jobs.items;
+  waits = p.draft.waits.items;
+  ops = p.draft.ops.items;
 }
 
 -- A whole plan that goes on from what was found so far: its names are those of the script, its kernels, literals and
@@ -212,27 +213,31 @@ draft_of p = record {
 pub record Agrees (p : Planner) (g : Setting) (begun : ScriptState) (found : List ℕ) (x : Outline) : Type 0 where
   pub begins : x.begun ≡ begun
   pub names : map (λ v. string_bytes v) x.plan.names.items ≡ g.names
-  pub kernels : (later : List Kernel) × (x.plan.kernels.items ≡ p.plan.kernels.items ++ later)
-  pub literals : (later : List (Vec ℤ Global)) × (x.plan.literals.items ≡ p.plan.literals.items ++ later)
-  pub jobs : (later : List JobPlan) × (x.plan.jobs.items ≡ p.plan.jobs.items ++ later)
+  pub kernels : (later : List Kernel) × (x.plan.kernels.items ≡ p.draft.kernels.items ++ later)
+  pub literals : (later : List (Vec ℤ Global)) × (x.plan.literals.items ≡ p.draft.literals.items ++ later)
+  pub jobs : (later : List JobPlan) × (x.plan.jobs.items ≡ p.draft.jobs.items ++ later)
   pub starts : (k : ℕ) → k < length found → x.starts k ≡ get_or found k 0
-  pub cells : peak_of p.store ≤ x.plan.cells
+  pub cells : peak_of p.world.store ≤ x.plan.cells
   pub small : x.plan.cells < 2 ^ 32
 
--- A planner stands for the state of the script after n statements, of a section that began in another state, with the
--- ranges taken so far starting at these words.
+-- WHAT STATEMENTS SEE. A world is that of a script in this state, where the ranges taken so far start at these words.
+pub record Knows (w : World) (g : Setting) (s : ScriptState) (found : List ℕ) : Type 0 where
+  pub known : IsKnown s
+  pub names : AreNames w.values.items w.handles.items (length w.containers.items) s
+  pub each : length w.values.items ≡ length g.names
+  pub containers : AreContainers w s found
+  pub takes : length found ≡ s.takes
+  pub temps : AreTemps w.temps.items s
+  pub tempjobs : AreTempJobs w.tempjobs.items w.overdue s
+  pub frames : AreFrames s
+  pub jobs : StandsFor w.jobs s.book
+
+-- A planner stands for the state of the script after n statements, of a section that began in another state: its world
+-- is that of the script, and its draft does what the script did.
 pub record Stands (p : Planner) (g : Setting) (begun : ScriptState) (n : ℕ) (s : ScriptState)
     (found : List ℕ) : Type 0 where
-  pub known : IsKnown s
+  pub knows : Knows p.world g s found
   pub numbers : AreNumbers p begun n s
-  pub names : AreNames p.values.items p.handles.items (length p.containers.items) s
-  pub each : length p.values.items ≡ length g.names
-  pub containers : AreContainers p s found
-  pub takes : length found ≡ s.takes
-  pub temps : AreTemps p.temps.items s
-  pub tempjobs : AreTempJobs p.tempjobs.items p.overdue s
-  pub frames : AreFrames s
-  pub jobs : StandsFor p.jobs s.book
   pub kernels : AreKernels p g
   -- for every whole plan that goes on from here
   pub planned : (x : Outline) → Agrees p g begun found x → IsPlanned x s (draft_of p)

@@ -4,14 +4,14 @@ ghost use Rattle.plan_state.specs.Stands.{IsThere};
 ghost use Rattle.plan_state.specs.Accesses.{tag_in, tag_for, slice_in, view_in, bind_by, is_gone, AreThere, IsCause, IsGone, MayUse};
 
 use crate::blocked::refusal_of_blocked;
-use crate::state::{Container, Planner, Value};
+use crate::state::{Container, Value, World};
 use job_base::Refusal;
 use job_handle::Handle;
 use kernel_exec::Bind;
 use native_array::ArrayAt;
 use safety_handle::Tag;
 
-impl Planner {
+impl World {
     /// The tag of a container that there is.
     pub fn tag_of(&self, number: u32, view: Option<u32>) -> Tag
         requires { number < vec_len self.now.containers }

@@ -5,7 +5,7 @@ ghost use Rattle.job_handle.specs.Sets.{jobs_of};
 ghost use Rattle.plan_state.specs.Stands.{IsThere};
 ghost use Rattle.plan_state.specs.Accesses.{AreThere, HasHandle, IsPushed, IsRenamed, jobs_by, jobs_of_value};
 
-use crate::state::{Planner, Value};
+use crate::state::{Planner, Value, World};
 use frame_core::{Act, Op};
 use job_base::{NoMemory, Refusal};
 use job_handle::Handle;
@@ -15,7 +15,7 @@ impl Planner {
     pub fn push(&mut self, line: u32, name: u32, act: Act) -> Result<(), NoMemory>
         ensures { OnOk result (IsPushed self.old self.new (record { line = line; name = name; act = act })) }
     {
-        self.plan.ops.push(Op { line, name, act })?;
+        self.draft.ops.push(Op { line, name, act })?;
         Ok(())
     }
 
@@ -25,7 +25,9 @@ impl Planner {
     {
         self.push(line, name, Act::Say { refusal })
     }
+}
 
+impl World {
     /// A name stands for another value.
     pub fn set_value(&mut self, name: u32, value: Value)
         requires { name < vec_len self.old.values }

@@ -1,23 +1,25 @@
 //! What the script's thread knows between two statements, and the plan so far.
 //!
-//! A [`Planner`] keeps what names stand for, the containers by their numbers, who uses them and where they lie
-//! (`job_handle`, `safety_handle`, `slot_store`), and the [`Draft`] of the plan. `specs/Stands` says what it stands
-//! for: the state that the script is in, and a plan so far that does what the script did. `specs/Steps` says how a
-//! statement takes the one state to the next, and `specs/Growth` what the plan grows by: a range, a job, and what is
-//! waited for.
+//! A [`Planner`] is a [`World`] and a [`Draft`]. The world is what statements see: what names stand for, the containers
+//! by their numbers, who uses them and where they lie (`job_handle`, `safety_handle`, `slot_store`). The draft is the
+//! plan so far. `specs/Stands` says what they stand for: the state that the script is in, and a plan that does what the
+//! script did. `specs/Steps` says how a statement takes the one state to the next, `specs/Answers` what a statement
+//! answers that has no draft, and `specs/Growth` what the plan grows by: a range, a job, and what is waited for.
 //!
 //! Here are the looks and the small changes that statements share: the words of a name, why the script may not use it
-//! now, an operation more, another value for a name. The statements themselves are functions over a planner, in
-//! `plan_statements` and in `plan_schedules`.
+//! now, another value for a name, an operation more. The statements themselves are functions, in `plan_statements` over
+//! a world and in `plan_schedules` over a planner.
 //!
 //! *Cost.* A look costs the same whatever was made or scheduled before, but for the jobs of several names, which are
 //! sets of 4,096 bits.
 #![tactic(auto)]
 
 mod access;
+mod answer;
 mod blocked;
 mod draft;
 mod state;
 
+pub use answer::Answer;
 pub use blocked::refusal_of_blocked;
-pub use state::{Container, Draft, PlanFault, Planner, Value};
+pub use state::{Container, Draft, PlanFault, Planner, Value, World};

@@ -106,9 +106,9 @@ impl Draft {
     }
 }
 
-/// What the script's thread knows, and the plan so far. Statements change it, one after another.
+/// What the script's statements see: names, handles, containers, frames and the books.
 #[derive(Drop)]
-pub struct Planner {
+pub struct World {
     // By name, and by the places that names of handles have.
     pub values: Vec<Value>,
     pub handles: Vec<Handle>,
@@ -127,10 +127,16 @@ pub struct Planner {
     pub created: u32,
     // How many of the next statements are passed by.
     pub passing: u32,
+}
+
+/// What the script's thread knows, and the draft of the plan. Statements change both, one after another.
+#[derive(Drop)]
+pub struct Planner {
+    pub world: World,
+    pub draft: Draft,
     // How many jobs the sections before have: a job's number in the script is that much more than in the plan.
     pub jobs_before: u32,
     // By the script's kernels: the places of their copies among the plan's, plain and with the guard of `defer`.
     pub kernels: Vec<Option<u32>>,
     pub guards: Vec<Option<u32>>,
-    pub plan: Draft,
 }

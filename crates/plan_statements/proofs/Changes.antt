@@ -51,6 +51,7 @@ use Rattle.plan_laws.proofs.Printing.{allowed}
 use Rattle.plan_laws.proofs.Writable.{accepted_names_are_writable}
 use Rattle.plan_state.specs.declared.state.Container.{Container}
 use Rattle.plan_state.specs.declared.state.Planner.{Planner}
+use Rattle.plan_state.specs.declared.state.World.{World}
 use Rattle.plan_state.specs.declared.state.Value.{Value}
 use Rattle.plan_state.specs.Accesses.{bind_by, AreThere, IsPushed, MayUse}
 use Rattle.plan_state.specs.Growth.{given_by}
@@ -186,20 +187,21 @@ module _ (x : Statement) (name : ℕ) (kinds : List NameKind) (w : IsWrite x.act
       let u = w.used (setting script table) step.accepted.kinds (fits_at script table n x step) in
       used_below script table n x step u.0 name kinds u.1
 
-  pub write_ready : (p : Planner) → IsReady p x → (name < vec_len p.values) × AreThere (vec_len p.containers) (vec_len p.handles) p.values.items
+  pub write_ready : (p : Planner) → IsReady p x → (name < vec_len p.world.values)
+      × AreThere (vec_len p.world.containers) (vec_len p.world.handles) p.world.values.items
   write_ready p r =
       let b = r.1 in
       let g = setting r.0 b.table in
       let s = state_at r.0 b.table b.n in
       (within p g b.begun b.n s b.found b.stands name (name_below r.0 b.table b.n b.step), are_there p g b.begun b.n s b.found b.stands)
 
-  pub write_refused : (p q : Planner) (cause : Refusal) → MayUse p name true (Some cause)
+  pub write_refused : (p q : Planner) (cause : Refusal) → MayUse p.world name true (Some cause)
       → IsPushed p q (record { line = x.line; name = name; act = Say cause }) → GoesOn p q x
   write_refused p q cause may i script table begun n found step st =
       let g = setting script table in
       let s = state_at script table n in
       let r : Refused = record { cause = cause; name = name } in
-      let is = sym (may g begun n s found st) in
+      let is = sym (may g s found st.knows) in
       said script table begun n found x step r p st (w.blocked g s r is) (name_below script table n step) q w.unnamed w.passed
       (inl (breaks_none s name true r is)) i
 
@@ -217,17 +219,17 @@ Plans x name kinds operation = (y : Outline) (g : Setting) (s : ScriptState) (d 
 planned_on : (x : Statement) (name : ℕ) (kinds : List NameKind) (w : IsWrite x.act name kinds) (operation : Bind → Act) → Plans x name kinds operation
     → (p m : Planner) (v : Value) (at : Bind) (script : Script) (table : Table) (begun : ScriptState) (n : ℕ) (found : List ℕ) (step : IsStep script table n x)
     → Stands p (setting script table) begun n (state_at script table n) found
-    → MayUse p name true None → slice_get p.values.items name ≡ Some v → at ≡ bind_by p.containers.items v
+    → MayUse p.world name true None → slice_get p.world.values.items name ≡ Some v → at ≡ bind_by p.world.containers.items v
     → IsPushed p m (record { line = x.line; name = name; act = operation at })
     → (y : Outline) → Agrees p (setting script table) begun found y → IsPlanned y (act (setting script table) (state_at script table n) x) (draft_of m)
 planned_on x name kinds w operation plans p m v at script table begun n found step st may value is i y a =
     let g = setting script table in
     let s = state_at script table n in
-    let none = sym (may g begun n s found st) in
+    let none = sym (may g s found st.knows) in
     let writable = accepted_names_are_writable script step.accepted table n x step.here name kinds w.by y a.names none in
-    plans y g s (draft_of p) (draft_of m) a.small st.known (st.planned y a) step.acts writable
-    (adds_op p m _ (changed_fields p m p.values p.handles p.safety p.passing m.plan.ops i.rest)
-    (i.ops ∙ ap (λ b. p.plan.ops.items ++ record { line = x.line; name = name; act = operation b } ∷ [])
+    plans y g s (draft_of p) (draft_of m) a.small st.knows.known (st.planned y a) step.acts writable
+    (adds_op p m _ (changed_fields p m p.world.values p.world.handles p.world.safety p.world.passing m.draft.ops i.rest)
+    (i.ops ∙ ap (λ b. p.draft.ops.items ++ record { line = x.line; name = name; act = operation b } ∷ [])
     (is ∙ binds_at p g begun n s found st y a name v value writable.usable)))
 
 -- ---- the state after it, whether the contents allow it or not
@@ -368,7 +370,7 @@ pub record IsResize (x : Order) (name : ℕ) (kinds : List NameKind) : Type 0 wh
 
 -- what its name stands for where nothing blocks it
 module _ (x : Statement) (name : ℕ) (kinds : List NameKind) (z : IsResize x.act name kinds) (p : Planner) (v : Value)
-    (h : slice_get p.values.items name ≡ Some v)
+    (h : slice_get p.world.values.items name ≡ Some v)
     (script : Script) (table : Table) (begun : ScriptState) (n : ℕ) (found : List ℕ) (step : IsStep script table n x)
     (st : Stands p (setting script table) begun n (state_at script table n) found)
     (none : access (state_at script table n) name (need_of (state_at script table n) name true) [] ≡ None) where
@@ -382,32 +384,32 @@ module _ (x : Statement) (name : ℕ) (kinds : List NameKind) (z : IsResize x.ac
   whole =
       let u = z.write.used (setting script table) step.accepted.kinds (fits_at script table n x step) in
       let used = is_used (record { kinds = step.accepted.kinds; made = u.0 }) name kinds u.1 in
-      let stands = st.names.are name v h in
+      let stands = st.knows.names.are name v h in
       let no_part = z.whole used.kind used.fits in
       whole_at p before used.kind v no_part.0 no_part.1
       (subst (IsOfKind before used.kind) (sym stands) ((holds_kinds script table n x step).names name used.kind used.at))
-      (ap (is_alive before) stands ∙ (allowed before name true none).alive) (st.names.there name v h)
+      (ap (is_alive before) stands ∙ (allowed before name true none).alive) (st.knows.names.there name v h)
 
   at : container_at before name ≡ whole.c
-  at = ap states.container_of (sym (st.names.are name v h) ∙ ap (value_for p.handles.items) whole.is)
+  at = ap states.container_of (sym (st.knows.names.are name v h) ∙ ap (value_for p.world.handles.items) whole.is)
 
   below : container_at before name < before.made
-  below = let lt = get_below p.containers.items whole.c whole.it whole.has in let e = st.containers.made in let a = at in omega arith
+  below = let lt = get_below p.world.containers.items whole.c whole.it whole.has in let e = st.knows.containers.made in let a = at in omega arith
 
-  slot : list_slot p.containers.items v ≡ (if is_list_now (before.contents whole.c) then Some whole.it.slot else None)
+  slot : list_slot p.world.containers.items v ≡ (if is_list_now (before.contents whole.c) then Some whole.it.slot else None)
   slot =
-      ap (list_slot p.containers.items) whole.is ∙ ap slot_from whole.has
-      ∙ ap (λ b. slot_by b whole.it.slot) (st.containers.each whole.c whole.it whole.has).bind
+      ap (list_slot p.world.containers.items) whole.is ∙ ap slot_from whole.has
+      ∙ ap (λ b. slot_by b whole.it.slot) (st.knows.containers.each whole.c whole.it whole.has).bind
       ∙ slot_is _ (before.contents whole.c) whole.it.slot
 
-  breakable_here : IsBreakable p.safety (list_slot p.containers.items v)
-  breakable_here = subst (IsBreakable p.safety) (sym slot) (by (is_list_now (before.contents whole.c)))
+  breakable_here : IsBreakable p.world.safety (list_slot p.world.containers.items v)
+  breakable_here = subst (IsBreakable p.world.safety) (sym slot) (by (is_list_now (before.contents whole.c)))
     where
-      by : (b : Bool) → IsBreakable p.safety (if b then Some whole.it.slot else None)
+      by : (b : Bool) → IsBreakable p.world.safety (if b then Some whole.it.slot else None)
       by false = tt
       by true =
-          let k = st.containers.each whole.c whole.it whole.has in
-          let z = state_of p.safety whole.it.slot.0 in
+          let k = st.knows.containers.each whole.c whole.it whole.has in
+          let z = state_of p.world.safety whole.it.slot.0 in
           let few = view_numbers_are_few (setting script table) (take n script.statements.items) whole.c in
           let long = length-take n script.statements.items in
           let most = statements_few script table n x step in
@@ -415,74 +417,79 @@ module _ (x : Statement) (name : ℕ) (kinds : List NameKind) (z : IsResize x.ac
           ((and_parts z.live _ (k.alive ∙ whole.alive)).0, omega arith)
 
   -- the views of its list are broken as they are in the script
-  module _ (m q : Planner) (op : Op) (i : IsPushed p m op) (e : IsBroken m q v) where
-    states_are : (k : ℕ) → state_of q.safety k ≡ with_break (list_slot p.containers.items v) k (state_of p.safety k)
-    states_are k = e.slots k ∙ ap (λ (y : Planner). with_break (list_slot y.containers.items v) k (state_of y.safety k)) i.rest
+  module _ (m : Planner) (w : World) (op : Op) (i : IsPushed p m op) (e : IsBroken m.world w v) where
+    abbrev q : Planner
+    q = record m { world = w }
+
+    states_are : (k : ℕ) → state_of q.world.safety k ≡ with_break (list_slot p.world.containers.items v) k (state_of p.world.safety k)
+    states_are k = e.slots k ∙ ap (λ (y : Planner). with_break (list_slot y.world.containers.items v) k (state_of y.world.safety k)) i.rest
 
     broken : IsViewBroken before after (container_at before name) (is_list_now (contents_at before name))
     broken = view_broken_now x name kinds z.write script table n step (z.change before) (z.is (setting script table) before x.line)
         (λ r f. z.resizes_it (setting script table) before r none f) (λ r f. z.breaks (setting script table) before r none f) below
 
-    views_are : (c : ℕ) (it : Container) → slice_get p.containers.items c ≡ Some it → before.alive c ≡ true → (state_of q.safety it.slot.0).view ≡ after.view c
+    views_are : (c : ℕ) (it : Container) → slice_get p.world.containers.items c ≡ Some it → before.alive c ≡ true
+        → (state_of q.world.safety it.slot.0).view ≡ after.view c
     views_are c it has alive = ⊎_elim list other (either_bool (is_list_now (before.contents whole.c)))
       where
-        own : (state_of p.safety it.slot.0).view ≡ before.view c
-        own = (st.containers.each c it has).view alive
+        own : (state_of p.world.safety it.slot.0).view ≡ before.view c
+        own = (st.knows.containers.each c it has).view alive
 
-        by_slot : (b : Bool) → is_list_now (before.contents whole.c) ≡ b → (state_of q.safety it.slot.0).view ≡
-            (with_break (if b then Some whole.it.slot else None) it.slot.0 (state_of p.safety it.slot.0)).view
+        by_slot : (b : Bool) → is_list_now (before.contents whole.c) ≡ b → (state_of q.world.safety it.slot.0).view ≡
+            (with_break (if b then Some whole.it.slot else None) it.slot.0 (state_of p.world.safety it.slot.0)).view
         by_slot b f = ap (λ (y : SlotState). y.view) (states_are it.slot.0
-            ∙ ap (λ o. with_break o it.slot.0 (state_of p.safety it.slot.0)) (slot ∙ ap (λ b. if b then Some whole.it.slot else None) f))
+            ∙ ap (λ o. with_break o it.slot.0 (state_of p.world.safety it.slot.0)) (slot ∙ ap (λ b. if b then Some whole.it.slot else None) f))
 
         same_list : is_list_now (contents_at before name) ≡ is_list_now (before.contents whole.c)
         same_list = ap (λ k. is_list_now (before.contents k)) at
 
-        other : is_list_now (before.contents whole.c) ≡ false → (state_of q.safety it.slot.0).view ≡ after.view c
+        other : is_list_now (before.contents whole.c) ≡ false → (state_of q.world.safety it.slot.0).view ≡ after.view c
         other f = by_slot false f ∙ own ∙ sym (broken.others c (inr (same_list ∙ f)))
 
-        list : is_list_now (before.contents whole.c) ≡ true → (state_of q.safety it.slot.0).view ≡ after.view c
+        list : is_list_now (before.contents whole.c) ≡ true → (state_of q.world.safety it.slot.0).view ≡ after.view c
         list f = by_slot true f ∙ ⊎_elim it_is it_is_not (cases_eq c whole.c)
           where
-            it_is : c ≡ whole.c → (with_break (Some whole.it.slot) it.slot.0 (state_of p.safety it.slot.0)).view ≡ after.view c
+            it_is : c ≡ whole.c → (with_break (Some whole.it.slot) it.slot.0 (state_of p.world.safety it.slot.0)).view ≡ after.view c
             it_is same =
-                let its = some_is (sym has ∙ ap (slice_get p.containers.items) same ∙ whole.has) in
+                let its = some_is (sym has ∙ ap (slice_get p.world.containers.items) same ∙ whole.has) in
                 let hit : nat_eq it.slot.0 whole.it.slot.0 ≡ true = eq-eqb it.slot.0 whole.it.slot.0 (ap (λ (y : Container). y.slot.0) its) in
-                let old = state_of p.safety it.slot.0 in
+                let old = state_of p.world.safety it.slot.0 in
                 ap (λ b. (if b then record old { view = old.view + 1 } else old).view) hit
                 ∙ ap (λ k. k + 1) own
                 ∙ ap (λ k. before.view k + 1) (same ∙ sym at)
                 ∙ sym (broken.here (same_list ∙ f))
                 ∙ ap after.view (at ∙ sym same)
 
-            it_is_not : c ≢ whole.c → (with_break (Some whole.it.slot) it.slot.0 (state_of p.safety it.slot.0)).view ≡ after.view c
+            it_is_not : c ≢ whole.c → (with_break (Some whole.it.slot) it.slot.0 (state_of p.world.safety it.slot.0)).view ≡ after.view c
             it_is_not ne =
-                let made : c < before.made = let lt = get_below p.containers.items c it has in let e = st.containers.made in omega arith in
-                let made_too : whole.c < before.made = let lt = get_below p.containers.items whole.c whole.it whole.has in let e = st.containers.made in
+                let made : c < before.made = let lt = get_below p.world.containers.items c it has in let e = st.knows.containers.made in omega arith in
+                let made_too : whole.c < before.made = let lt = get_below p.world.containers.items whole.c whole.it whole.has
+                in let e = st.knows.containers.made in
                 omega arith in
                 let live = alive_is_live before c made alive in
                 let live_too = alive_is_live before whole.c made_too whole.alive in
                 let miss : nat_eq it.slot.0 whole.it.slot.0 ≡ false = ne_eqb it.slot.0 whole.it.slot.0
-                (λ s. ne (st.containers.once c whole.c it whole.it has whole.has live live_too s)) in
-                let old = state_of p.safety it.slot.0 in
+                (λ s. ne (st.knows.containers.once c whole.c it whole.it has whole.has live live_too s)) in
+                let old = state_of p.world.safety it.slot.0 in
                 ap (λ b. (if b then record old { view = old.view + 1 } else old).view) miss
                 ∙ own ∙ sym (broken.others c (inl (λ s. ne (s ∙ at))))
 
     broken_restates : IsRestated p q before after
     broken_restates =
-        let is = e.rest ∙ ap (λ (k : Planner). record k { safety = q.safety }) i.rest in
+        let is = ap (λ (k : World). record m { world = k }) e.rest ∙ ap (λ (k : Planner). record k { world = record k.world { safety = w.safety } }) i.rest in
         let a = after_broken x name kinds z.write script table n step (z.change before) (z.is (setting script table) before x.line)
         (λ r f. z.resizes_it (setting script table) before r none f) (λ r f. z.breaks (setting script table) before r none f) below in
-        let handles = ap (λ (k : Planner). length k.handles.items) is in
+        let handles = ap (λ (k : Planner). length k.world.handles.items) is in
         record {
-          planner = changed_fields p q p.values p.handles q.safety p.passing m.plan.ops is;
+          planner = changed_fields p q p.world.values p.world.handles q.world.safety p.world.passing m.draft.ops is;
           state = a.state;
-          passing = ap (λ (k : Planner). k.passing) is ∙ st.numbers.passing ∙ step.acts ∙ sym a.passing;
-          values = ap (λ (k : Planner). length k.values.items) is;
+          passing = ap (λ (k : Planner). k.world.passing) is ∙ st.numbers.passing ∙ step.acts ∙ sym a.passing;
+          values = ap (λ (k : Planner). length k.world.values.items) is;
           handles = omega arith;
-          ops = one_op_more p.plan.ops.items q.plan.ops.items op (ap (λ (k : Planner). k.plan.ops.items) is ∙ i.ops);
+          ops = one_op_more p.draft.ops.items q.draft.ops.items op (ap (λ (k : Planner). k.draft.ops.items) is ∙ i.ops);
           form = a.form;
-          slots = λ k. states_are k ∙ views_only (list_slot p.containers.items v) k (state_of p.safety k)
-              ∙ ap (λ (y : SlotState). record (state_of p.safety k) { view = y.view }) (sym (states_are k));
+          slots = λ k. states_are k ∙ views_only (list_slot p.world.containers.items v) k (state_of p.world.safety k)
+              ∙ ap (λ (y : SlotState). record (state_of p.world.safety k) { view = y.view }) (sym (states_are k));
           views = views_are;
         }
 
@@ -500,8 +507,8 @@ pub record IsCalm (x : Order) : Type 0 where
 
 module _ (x : Statement) (name : ℕ) (kinds : List NameKind) (operation : Bind → Act) (plans : Plans x name kinds operation)
     (gives : (b : Bind) → given_by (operation b) ≡ []) where
-  pub write_on : (w : IsWrite x.act name kinds) → IsCalm x.act → (p q : Planner) (v : Value) (at : Bind) → MayUse p name true None
-      → slice_get p.values.items name ≡ Some v → at ≡ bind_by p.containers.items v
+  pub write_on : (w : IsWrite x.act name kinds) → IsCalm x.act → (p q : Planner) (v : Value) (at : Bind) → MayUse p.world name true None
+      → slice_get p.world.values.items name ≡ Some v → at ≡ bind_by p.world.containers.items v
       → IsPushed p q (record { line = x.line; name = name; act = operation at }) → GoesOn p q x
   write_on w calm p q v at may value is i script table begun n found step st =
       let g = setting script table in
@@ -515,41 +522,43 @@ module _ (x : Statement) (name : ℕ) (kinds : List NameKind) (operation : Bind 
       plain_steps script table begun n found p q x step
       (restated p q g begun n s t found st restates
       (known_after script table n x step)
-      (pushed_names p q _ (length p.containers.items) s t i a.values st.names)
+      (pushed_names p q _ (length p.world.containers.items) s t i a.values st.knows.names)
       (planned_on x name kinds w operation plans p q v at script table begun n found step st may value is i))
-      (quiet_restated p q s t restates (given_one p.plan.ops.items q.plan.ops.items op i.ops (gives at)))
+      (quiet_restated p q s t restates (given_one p.draft.ops.items q.draft.ops.items op i.ops (gives at)))
       (w.plain g) (ap (λ (u : ScriptState). u.book.completed) restates.state)
 
   -- one that breaks those of a list
-  pub resize_on : (z : IsResize x.act name kinds) (p m q : Planner) (v : Value) (at : Bind) → MayUse p name true None → slice_get p.values.items name ≡ Some v
-      → at ≡ bind_by p.containers.items v
-      → IsPushed p m (record { line = x.line; name = name; act = operation at }) → IsBroken m q v → GoesOn p q x
-  resize_on z p m q v at may value is i e script table begun n found step st =
+  pub resize_on : (z : IsResize x.act name kinds) (p m : Planner) (w : World) (v : Value) (at : Bind) → MayUse p.world name true None
+      → slice_get p.world.values.items name ≡ Some v
+      → at ≡ bind_by p.world.containers.items v
+      → IsPushed p m (record { line = x.line; name = name; act = operation at }) → IsBroken m.world w v → GoesOn p (record m { world = w }) x
+  resize_on z p m w v at may value is i e script table begun n found step st =
+      let q : Planner = record m { world = w } in
+      let q_is = ap (λ (k : World). record m { world = k }) e.rest in
       let g = setting script table in
       let s = state_at script table n in
       let t = act g s x in
-      let none = sym (may g begun n s found st) in
-      let restates = broken_restates x name kinds z p v value script table begun n found step st none m q _ i e in
+      let none = sym (may g s found st.knows) in
+      let restates = broken_restates x name kinds z p v value script table begun n found step st none m w _ i e in
       let op : Op = record { line = x.line; name = name; act = operation at } in
       plain_steps script table begun n found p q x step
       (restated p q g begun n s t found st restates
       (known_after script table n x step)
-      (subst (λ (k : Planner). AreNames k.values.items k.handles.items (length p.containers.items) t) (sym e.rest)
-      (pushed_names p m _ (length p.containers.items) s t i (broken_values x name kinds z p v value script table begun n found step st none m q _ i e)
-      st.names))
-      (λ y a. subst (λ k. IsPlanned y t (draft_of k)) (sym e.rest)
+      (subst (λ (k : Planner). AreNames k.world.values.items k.world.handles.items (length p.world.containers.items) t) (sym q_is)
+      (pushed_names p m _ (length p.world.containers.items) s t i (broken_values x name kinds z p v value script table begun n found step st none m w _ i e)
+      st.knows.names))
+      (λ y a. subst (λ k. IsPlanned y t (draft_of k)) (sym q_is)
       (planned_on x name kinds z.write operation plans p m v at script table begun n found step st may value is i y a)))
-      (quiet_restated p q s t restates (given_one p.plan.ops.items q.plan.ops.items op (ap (λ (k : Planner). k.plan.ops.items) e.rest ∙ i.ops) (gives at)))
+      (quiet_restated p q s t restates (given_one p.draft.ops.items q.draft.ops.items op (ap (λ (k : Planner). k.draft.ops.items) q_is ∙ i.ops) (gives at)))
       (z.write.plain g) (ap (λ (u : ScriptState). u.book.completed) restates.state)
 
-pub resize_breakable : (x : Statement) (name : ℕ) (kinds : List NameKind) (z : IsResize x.act name kinds) (p m : Planner) (op : Op) (v : Value) → IsReady p x
-    → MayUse p name true None → slice_get p.values.items name ≡ Some v
-    → IsPushed p m op → IsBreakable m.safety (list_slot m.containers.items v)
-resize_breakable x name kinds z p m op v r may value i =
+pub resize_breakable : (x : Statement) (name : ℕ) (kinds : List NameKind) (z : IsResize x.act name kinds) (p : Planner) (v : Value) → IsReady p x
+    → MayUse p.world name true None → slice_get p.world.values.items name ≡ Some v
+    → IsBreakable p.world.safety (list_slot p.world.containers.items v)
+resize_breakable x name kinds z p v r may value =
     let b = r.1 in
     let s = state_at r.0 b.table b.n in
-    subst (λ (k : Planner). IsBreakable k.safety (list_slot k.containers.items v)) (sym i.rest)
-    (breakable_here x name kinds z p v value r.0 b.table b.begun b.n b.found b.step b.stands (sym (may (setting r.0 b.table) b.begun b.n s b.found b.stands)))
+    breakable_here x name kinds z p v value r.0 b.table b.begun b.n b.found b.step b.stands (sym (may (setting r.0 b.table) s b.found b.stands.knows))
 
 -- ---- each statement
 

@@ -199,22 +199,23 @@ is_empty v e = by v.items (let len = v.ok.0 in let none = eqb-true (vec_len v) 0
     by (x ∷ xs) e = absurd (omega arith)
 
 pub newly_set : (b : Book) (p : Planner) (handle all : Jobs) → ((k : ℕ) → all k ≡ ancestors_in b handle k) → (ids : List JobId)
-    → ids ≡ rising_jobs (newly_of b p.jobs_before all) (count_of p.jobs - p.jobs_before)
-    → ids ≡ rising_jobs (newly_of b p.jobs_before (ancestors_in b handle)) (count_of p.jobs - p.jobs_before)
+    → ids ≡ rising_jobs (newly_of b p.jobs_before all) (count_of p.world.jobs - p.jobs_before)
+    → ids ≡ rising_jobs (newly_of b p.jobs_before (ancestors_in b handle)) (count_of p.world.jobs - p.jobs_before)
 newly_set b p handle all same ids e = e ∙ (let path : all ≡ ancestors_in b handle = λ i k. same k i in
-    ap (λ f. rising_jobs (newly_of b p.jobs_before f) (count_of p.jobs - p.jobs_before)) path)
+    ap (λ f. rising_jobs (newly_of b p.jobs_before f) (count_of p.world.jobs - p.jobs_before)) path)
 
 pub closed_after : (old : Planner) (jobs : JobBook) (store : SlotStore) (new : Planner) (handle : Jobs) (newly : List JobId)
-    → ((b : Book) → StandsFor old.jobs b → newly ≡ rising_jobs (newly_of b old.jobs_before (ancestors_in b handle)) (count_of old.jobs - old.jobs_before))
-    → ((b : Book) → StandsFor old.jobs b → StandsFor jobs (with_completed b handle))
-    → ((b : Book) → StandsFor jobs b → (k : ℕ) → place_of store k ≡ settled b (place_of old.store k))
-    → slots_in_use store ≤ slots_in_use old.store
-    → peak_of store ≡ peak_of old.store
-    → IsClosed (record old { jobs = jobs; store = store }) new newly
+    → ((b : Book) → StandsFor old.world.jobs b → newly ≡ rising_jobs (newly_of b old.jobs_before (ancestors_in b handle))
+    (count_of old.world.jobs - old.jobs_before))
+    → ((b : Book) → StandsFor old.world.jobs b → StandsFor jobs (with_completed b handle))
+    → ((b : Book) → StandsFor jobs b → (k : ℕ) → place_of store k ≡ settled b (place_of old.world.store k))
+    → slots_in_use store ≤ slots_in_use old.world.store
+    → peak_of store ≡ peak_of old.world.store
+    → IsClosed (record old { world = record old.world { jobs = jobs; store = store } }) new newly
     → AreCompleted old new handle
 closed_after old jobs store new handle newly are book places used peak closed =
-    let same_jobs = ap (λ (k : Planner). k.jobs) closed.rest in
-    let same_store = ap (λ (k : Planner). k.store) closed.rest in
+    let same_jobs = ap (λ (k : Planner). k.world.jobs) closed.rest in
+    let same_store = ap (λ (k : Planner). k.world.store) closed.rest in
     record {
       newly = newly;
       newly_are = are;
@@ -222,16 +223,17 @@ closed_after old jobs store new handle newly are book places used peak closed =
       places = λ b stands k. ap (λ z. place_of z k) same_store ∙ places b (subst (λ j. StandsFor j b) same_jobs stands) k;
       used = (let u = used in let e = ap slots_in_use same_store in omega arith);
       peak = ap peak_of same_store ∙ peak;
-      segment = inl (subst (λ z. IsClosed (record old { jobs = new.jobs; store = z }) new newly) (sym same_store)
-          (subst (λ j. IsClosed (record old { jobs = j; store = store }) new newly) (sym same_jobs) closed));
+      segment = inl (subst (λ z. IsClosed (record old { world = record old.world { jobs = new.world.jobs; store = z } }) new newly) (sym same_store)
+          (subst (λ j. IsClosed (record old { world = record old.world { jobs = j; store = store } }) new newly) (sym same_jobs) closed));
     }
 
 -- ---- the containers
 
-module _ (p q : Planner) (s : ScriptState) (found : List ℕ) (handle : Jobs) (was : AreContainers p s found) (known : IsKnown s)
+module _ (p q : Planner) (s : ScriptState) (found : List ℕ) (handle : Jobs) (was : AreContainers p.world s found) (known : IsKnown s)
     (up : AreUpTo s.book.count handle)
-    (containers : q.containers ≡ p.containers) (names : length q.values.items ≡ length p.values.items) (safety : q.safety ≡ p.safety)
-    (places : (k : ℕ) → place_of q.store k ≡ settled (with_completed s.book handle) (place_of p.store k)) where
+    (containers : q.world.containers ≡ p.world.containers) (names : length q.world.values.items ≡ length p.world.values.items)
+    (safety : q.world.safety ≡ p.world.safety)
+    (places : (k : ℕ) → place_of q.world.store k ≡ settled (with_completed s.book handle) (place_of p.world.store k)) where
   abbrev book : Book
   book = with_completed s.book handle
 
@@ -253,7 +255,7 @@ module _ (p q : Planner) (s : ScriptState) (found : List ℕ) (handle : Jobs) (w
   still_held : (state : Rattle.slot_store.specs.declared.place.State.State) (c : ℕ) → IsHeldFor s.book state (s.uses c) → IsHeldFor book state (s.uses c)
   still_held state c h = record { held = h.held; latest = h.latest; stands = completed_stands s.book h.latest (s.uses c) h.stands handle; users = h.users }
 
-  between : AreBetween p q s t (place_of p.store)
+  between : AreBetween p.world q.world s t (place_of p.world.store)
   between = record {
     used = λ k u. u;
     rising = λ k. omega arith;
@@ -262,10 +264,12 @@ module _ (p q : Planner) (s : ScriptState) (found : List ℕ) (handle : Jobs) (w
         (state_of b k) tag) safety ∙ e;
     stays = λ c it has a. (refl, ap (λ (b : Rattle.safety_handle.specs.declared.book.SafetyBook.SafetyBook). state_of b it.slot.0) safety);
     ended = λ c it has a d. absurd (not_both a d);
-    held = λ c it has d live. (still_held (place_of p.store it.slot.0).state c ((was.each c it has).held d live), refl);
+    held = λ c it has d live. (still_held (place_of p.world.store it.slot.0).state c ((was.each c it has).held d live), refl);
   }
 
-  pub completed_stand : AreContainers q t found
+  pub completed_stand : AreContainers q.world t found
   completed_stand =
-      ended p q s found s.alive book s.frame s.values s.lines was containers names (λ c lt a. a) less_pending (λ l u h. completed_stands s.book l u h handle)
-      (are_ended p q s found s.alive book s.frame s.values s.lines was (λ c a. a) less_pending book_known uses_known (place_of p.store) between places)
+      ended p.world q.world s found s.alive book s.frame s.values s.lines was containers names (λ c lt a. a) less_pending
+      (λ l u h. completed_stands s.book l u h handle)
+      (are_ended p.world q.world s found s.alive book s.frame s.values s.lines was (λ c a. a) less_pending book_known uses_known
+      (place_of p.world.store) between places)

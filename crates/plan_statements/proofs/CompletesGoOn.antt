@@ -54,18 +54,18 @@ ops_more (y ∷ ys) x = let more = ops_more ys x in omega arith
 -- ---- what completing needs
 module _ (p : Planner) (script : Script) (table : Table) (begun : ScriptState) (n : ℕ) (s : ScriptState) (found : List ℕ)
     (st : Stands p (setting script table) begun n s found) where
-  jobs_count : count_of p.jobs ≡ s.book.count
-  jobs_count = st.jobs.count
+  jobs_count : count_of p.world.jobs ≡ s.book.count
+  jobs_count = st.knows.jobs.count
 
-  pub section_low : p.jobs_before ≤ count_of p.jobs
+  pub section_low : p.jobs_before ≤ count_of p.world.jobs
   section_low = let are = jobs_are p script table begun n s found st in let before = st.numbers.before in let c = jobs_count in omega arith
 
-  pub section_jobs : count_of p.jobs - p.jobs_before ≡ length p.plan.jobs.items
+  pub section_jobs : count_of p.world.jobs - p.jobs_before ≡ length p.draft.jobs.items
   section_jobs = let are = jobs_are p script table begun n s found st in let before = st.numbers.before in let c = jobs_count in omega arith
 
-  pub users_known : (k : ℕ) → AreUpTo (count_of p.jobs) (users_of (place_of p.store k).state)
-  users_known k = subst (λ m. AreUpTo m (users_of (place_of p.store k).state)) (sym jobs_count)
-      (store_users p s found st.containers st.known.book st.known.uses k)
+  pub users_known : (k : ℕ) → AreUpTo (count_of p.world.jobs) (users_of (place_of p.world.store k).state)
+  users_known k = subst (λ m. AreUpTo m (users_of (place_of p.world.store k).state)) (sym jobs_count)
+      (store_users p.world s found st.knows.containers st.knows.known.book st.knows.known.uses k)
 
 -- ---- jobs are completed
 module _ (script : Script) (table : Table) (begun : ScriptState) (n : ℕ) (found : List ℕ) (x : Statement) (step : IsStep script table n x)
@@ -81,18 +81,18 @@ module _ (script : Script) (table : Table) (begun : ScriptState) (n : ℕ) (foun
   t = complete handle s
 
   abbrev last : ℕ
-  last = count_of p.jobs - p.jobs_before
+  last = count_of p.world.jobs - p.jobs_before
 
   abbrev set : Jobs
   set = newly_of s.book p.jobs_before (ancestors_in s.book handle)
 
   newly_is : c.newly ≡ rising_jobs set last
-  newly_is = c.newly_are s.book st.jobs
+  newly_is = c.newly_are s.book st.knows.jobs
 
   -- those after the last are none
   none_later : (j : ℕ) → last < j → set j ≡ false
   none_later j lt = ⊎_elim
-      (λ e. (let range = ancestors_among s.book st.known.book handle up (p.jobs_before + j) e in
+      (λ e. (let range = ancestors_among s.book st.knows.known.book handle up (p.jobs_before + j) e in
       let count = jobs_count p script table begun n s found st in absurd (omega arith)))
       (λ e. ap (λ b. b && not (s.book.completed (p.jobs_before + j))) e)
       (either_bool (ancestors_in s.book handle (p.jobs_before + j)))
@@ -128,18 +128,18 @@ module _ (script : Script) (table : Table) (begun : ScriptState) (n : ℕ) (foun
     news : AreNewlyCompleted y s handle c.newly
     news j pos = has_newly j pos ∙ ap (λ b. newly_of s.book b (ancestors_in s.book handle) j) (sym before_is)
 
-    fits : AreJobsUpTo (length p.plan.jobs.items) c.newly
+    fits : AreJobsUpTo (length p.draft.jobs.items) c.newly
     fits = subst (λ m. AreJobsUpTo m c.newly) (section_jobs p script table begun n s found st) (subst (AreJobsUpTo last) (sym newly_is) (rising_up_to set last))
 
     -- where the next segment waits for them
-    closed_planned : IsClosed (record p { jobs = q.jobs; store = q.store }) q c.newly → IsPlanned y t (draft_of q)
+    closed_planned : IsClosed (record p { world = record p.world { jobs = q.world.jobs; store = q.world.store } }) q c.newly → IsPlanned y t (draft_of q)
     closed_planned i =
-        completes_are_planned y a.small s handle (draft_of p) (draft_of q) i.segment c.newly was st.known up fits news i.starts
+        completes_are_planned y a.small s handle (draft_of p) (draft_of q) i.segment c.newly was st.knows.known up fits news i.starts
         (record {
           waits_were = i.waits_were;
           ops_were = i.ops_were;
           segments = i.segments;
-          jobs = ap (λ (k : Planner). k.plan.jobs.items) i.rest ∙ sym (append-nil p.plan.jobs.items);
+          jobs = ap (λ (k : Planner). k.draft.jobs.items) i.rest ∙ sym (append-nil p.draft.jobs.items);
           waits = i.waits;
           ops = i.ops;
         })
@@ -148,7 +148,7 @@ module _ (script : Script) (table : Table) (begun : ScriptState) (n : ℕ) (foun
     module _ (none : c.newly ≡ []) where
       all_done : (j : ℕ) → ancestors_in s.book handle j ≡ true → s.book.completed j ≡ true
       all_done j e =
-          let range = ancestors_among s.book st.known.book handle up j e in
+          let range = ancestors_among s.book st.knows.known.book handle up j e in
           ⊎_elim
           (λ lt. (let k : ℕ = j - p.jobs_before in
           let same : p.jobs_before + k ≡ j = omega arith in
@@ -203,58 +203,63 @@ module _ (script : Script) (table : Table) (begun : ScriptState) (n : ℕ) (foun
 
   Fields : Type 0
   Fields = (q ≡ record p {
-    values = q.values;
-    handles = q.handles;
-    temps = q.temps;
-    overdue = q.overdue;
-    frame = q.frame;
-    jobs = q.jobs;
-    safety = q.safety;
-    store = q.store;
-    plan = record p.plan { segments = q.plan.segments; waits = q.plan.waits; ops = q.plan.ops };
+    world = record p.world {
+      values = q.world.values;
+      handles = q.world.handles;
+      temps = q.world.temps;
+      overdue = q.world.overdue;
+      frame = q.world.frame;
+      jobs = q.world.jobs;
+      safety = q.world.safety;
+      store = q.world.store;
+    };
+    draft = record p.draft { segments = q.draft.segments; waits = q.draft.waits; ops = q.draft.ops };
   })
 
   -- what each way of going on gives
-  module _ (r : Planner) (rest : q ≡ r) (values : r.values ≡ p.values) (handles : r.handles ≡ p.handles) (temps : r.temps ≡ p.temps)
-      (overdue : r.overdue ≡ p.overdue)
-      (frame : r.frame ≡ p.frame) (safety : r.safety ≡ p.safety) (containers : r.containers ≡ p.containers)
+  module _ (r : Planner) (rest : q ≡ r) (values : r.world.values ≡ p.world.values) (handles : r.world.handles ≡ p.world.handles)
+      (temps : r.world.temps ≡ p.world.temps)
+      (overdue : r.world.overdue ≡ p.world.overdue)
+      (frame : r.world.frame ≡ p.world.frame) (safety : r.world.safety ≡ p.world.safety) (containers : r.world.containers ≡ p.world.containers)
       (fields : r ≡ record p {
-        values = r.values;
-        handles = r.handles;
-        temps = r.temps;
-        overdue = r.overdue;
-        frame = r.frame;
-        jobs = r.jobs;
-        safety = r.safety;
-        store = r.store;
-        plan = record p.plan { segments = r.plan.segments; waits = r.plan.waits; ops = r.plan.ops };
+        world = record p.world {
+          values = r.world.values;
+          handles = r.world.handles;
+          temps = r.world.temps;
+          overdue = r.world.overdue;
+          frame = r.world.frame;
+          jobs = r.world.jobs;
+          safety = r.world.safety;
+          store = r.world.store;
+        };
+        draft = record p.draft { segments = r.draft.segments; waits = r.draft.waits; ops = r.draft.ops };
       })
-      (segments : length q.plan.segments.items ≤ suc (length p.plan.segments.items))
-      (ops : (ops_count q.plan.segments.items + length q.plan.ops.items) ≤ (ops_count p.plan.segments.items + length p.plan.ops.items))
+      (segments : length q.draft.segments.items ≤ suc (length p.draft.segments.items))
+      (ops : (ops_count q.draft.segments.items + length q.draft.ops.items) ≤ (ops_count p.draft.segments.items + length p.draft.ops.items))
       (spans : given_so_far q ≡ given_so_far p)
       (segments_later : List Segment)
-      (segments_are : q.plan.segments.items ≡ p.plan.segments.items ++ segments_later)
+      (segments_are : q.draft.segments.items ≡ p.draft.segments.items ++ segments_later)
       (waits : waits_so_far q ≡ waits_so_far p ++ c.newly)
       (each : waits_by q ≡ waits_by p ++ unless_none c.newly)
       (is : act g s x ≡ t)
       (plain : IsPlain g x.act)
       (planned : (y : Outline) → Agrees p g begun found y → IsPlanned y t (draft_of q)) where
-    values_are : q.values ≡ p.values
-    values_are = ap (λ (k : Planner). k.values) rest ∙ values
+    values_are : q.world.values ≡ p.world.values
+    values_are = ap (λ (k : Planner). k.world.values) rest ∙ values
 
-    handles_are : q.handles ≡ p.handles
-    handles_are = ap (λ (k : Planner). k.handles) rest ∙ handles
+    handles_are : q.world.handles ≡ p.world.handles
+    handles_are = ap (λ (k : Planner). k.world.handles) rest ∙ handles
 
-    stand : AreContainers q t found
-    stand = completed_stand p q s found handle st.containers st.known up
-        (ap (λ (k : Planner). k.containers) rest ∙ containers) (ap (λ (v : Vec Value Global). length v.items) values_are)
-        (ap (λ (k : Planner). k.safety) rest ∙ safety) (c.places (with_completed s.book handle) (c.jobs s.book st.jobs))
+    stand : AreContainers q.world t found
+    stand = completed_stand p q s found handle st.knows.containers st.knows.known up
+        (ap (λ (k : Planner). k.world.containers) rest ∙ containers) (ap (λ (v : Vec Value Global). length v.items) values_are)
+        (ap (λ (k : Planner). k.world.safety) rest ∙ safety) (c.places (with_completed s.book handle) (c.jobs s.book st.knows.jobs))
 
     goes : IsContinued p q s t found
     goes = record {
       planner = as_continued p q r rest fields;
       state = refl;
-      frame = ap (λ (k : Planner). k.frame) rest ∙ frame ∙ st.numbers.frame;
+      frame = ap (λ (k : Planner). k.world.frame) rest ∙ frame ∙ st.numbers.frame;
       later = omega arith;
       next = omega arith;
       values = ap (λ (v : Vec Value Global). length v.items) values_are;
@@ -262,12 +267,12 @@ module _ (script : Script) (table : Table) (begun : ScriptState) (n : ℕ) (foun
       peak = c.peak;
       slots = c.used;
       segments = segments;
-      ops = (let o = ap (λ (k : Planner). k.overdue) rest ∙ overdue in let l = ops in omega arith);
-      temps = subst (λ (v : Vec ℕ Global). AreTemps v.items t) (sym (ap (λ (k : Planner). k.temps) rest ∙ temps))
-          (same_temps p.temps.items s s.alive (with_completed s.book handle) s.values s.lines (λ c a. a) st.temps);
-      tempjobs = subst (λ o. AreTempJobs p.tempjobs.items o t) (sym (ap (λ (k : Planner). k.overdue) rest ∙ overdue))
-          (same_tempjobs p.tempjobs.items p.overdue s s.alive (with_completed s.book handle) s.values s.lines st.tempjobs);
-      jobs = c.jobs s.book st.jobs;
+      ops = (let o = ap (λ (k : Planner). k.world.overdue) rest ∙ overdue in let l = ops in omega arith);
+      temps = subst (λ (v : Vec ℕ Global). AreTemps v.items t) (sym (ap (λ (k : Planner). k.world.temps) rest ∙ temps))
+          (same_temps p.world.temps.items s s.alive (with_completed s.book handle) s.values s.lines (λ c a. a) st.knows.temps);
+      tempjobs = subst (λ o. AreTempJobs p.world.tempjobs.items o t) (sym (ap (λ (k : Planner). k.world.overdue) rest ∙ overdue))
+          (same_tempjobs p.world.tempjobs.items p.world.overdue s s.alive (with_completed s.book handle) s.values s.lines st.knows.tempjobs);
+      jobs = c.jobs s.book st.knows.jobs;
       containers = stand;
     }
 
@@ -275,8 +280,8 @@ module _ (script : Script) (table : Table) (begun : ScriptState) (n : ℕ) (foun
     still = record {
       spans = spans;
       peak = c.peak;
-      jobs = ap (λ (k : Planner). k.plan.jobs.items) goes.planner;
-      kernels = ap (λ (k : Planner). k.plan.kernels.items) goes.planner;
+      jobs = ap (λ (k : Planner). k.draft.jobs.items) goes.planner;
+      kernels = ap (λ (k : Planner). k.draft.kernels.items) goes.planner;
       segments_later = segments_later;
       segments_are = segments_are;
       waited = λ h. subst (λ u. HasWaited begun.book.count u q) (sym is) (waited waits h);
@@ -288,9 +293,9 @@ module _ (script : Script) (table : Table) (begun : ScriptState) (n : ℕ) (foun
         still_steps script table begun n found p q x step
         (subst (λ u. Stands q g begun (suc n) u found) (sym is)
         (continued p q g begun n s t found st goes (subst IsKnown is (known_after script table n x step))
-        (subst (λ (v : Vec Value Global). AreNames v.items q.handles.items (length p.containers.items) t) (sym values_are)
-        (subst (λ (v : Vec Handle Global). AreNames p.values.items v.items (length p.containers.items) t) (sym handles_are)
-        (same_names p.values.items p.handles.items (length p.containers.items) s t refl st.names)))
+        (subst (λ (v : Vec Value Global). AreNames v.items q.world.handles.items (length p.world.containers.items) t) (sym values_are)
+        (subst (λ (v : Vec Handle Global). AreNames p.world.values.items v.items (length p.world.containers.items) t) (sym handles_are)
+        (same_names p.world.values.items p.world.handles.items (length p.world.containers.items) s t refl st.knows.names)))
         planned))
         still plain
 
@@ -298,28 +303,29 @@ module _ (script : Script) (table : Table) (begun : ScriptState) (n : ℕ) (foun
   completes_on is plain = ⊎_elim
       (λ i.
       let r : Planner = record p {
-        jobs = q.jobs;
-        store = q.store;
-        plan =
-            record p.plan { segments = q.plan.segments; waits = q.plan.waits; ops = q.plan.ops };
+        world = record p.world {
+          jobs = q.world.jobs;
+          store = q.world.store;
+        };
+        draft = record p.draft { segments = q.draft.segments; waits = q.draft.waits; ops = q.draft.ops };
       } in
       let segments = ap length i.segments in
-      let one = length-append p.plan.segments.items (i.segment ∷ []) in
-      let counted = ap ops_count i.segments ∙ ops_more p.plan.segments.items i.segment in
+      let one = length-append p.draft.segments.items (i.segment ∷ []) in
+      let counted = ap ops_count i.segments ∙ ops_more p.draft.segments.items i.segment in
       let were = ap length i.ops_were in
       let none = ap length i.ops in
       onward r i.rest refl refl refl refl refl refl refl refl (omega arith) (omega arith)
-      (given_closed p.plan.segments.items q.plan.segments.items i.segment p.plan.ops.items q.plan.ops.items i.segments i.ops_were i.ops)
+      (given_closed p.draft.segments.items q.draft.segments.items i.segment p.draft.ops.items q.draft.ops.items i.segments i.ops_were i.ops)
       (i.segment ∷ []) i.segments
-      (waits_closed p.plan.segments.items q.plan.segments.items i.segment p.plan.waits.items q.plan.waits.items c.newly i.segments i.waits_were i.waits)
-      (each_closed p.plan.segments.items q.plan.segments.items i.segment p.plan.waits.items q.plan.waits.items c.newly i.segments i.waits_were i.waits)
+      (waits_closed p.draft.segments.items q.draft.segments.items i.segment p.draft.waits.items q.draft.waits.items c.newly i.segments i.waits_were i.waits)
+      (each_closed p.draft.segments.items q.draft.segments.items i.segment p.draft.waits.items q.draft.waits.items c.newly i.segments i.waits_were i.waits)
       is plain (λ y a. closed_planned y a i))
-      (λ (i : (c.newly ≡ []) × (q ≡ record p { jobs = q.jobs; store = q.store })).
-      let r : Planner = record p { jobs = q.jobs; store = q.store } in
-      let segments = ap (λ (k : Planner). length k.plan.segments.items) i.1 in
-      let counted = ap (λ (k : Planner). ops_count k.plan.segments.items + length k.plan.ops.items) i.1 in
+      (λ (i : (c.newly ≡ []) × (q ≡ record p { world = record p.world { jobs = q.world.jobs; store = q.world.store } })).
+      let r : Planner = record p { world = record p.world { jobs = q.world.jobs; store = q.world.store } } in
+      let segments = ap (λ (k : Planner). length k.draft.segments.items) i.1 in
+      let counted = ap (λ (k : Planner). ops_count k.draft.segments.items + length k.draft.ops.items) i.1 in
       onward r i.1 refl refl refl refl refl refl refl refl (omega arith) (omega arith) (ap given_so_far i.1)
-      [] (ap (λ (k : Planner). k.plan.segments.items) i.1 ∙ sym (append-nil p.plan.segments.items))
+      [] (ap (λ (k : Planner). k.draft.segments.items) i.1 ∙ sym (append-nil p.draft.segments.items))
       (ap waits_so_far i.1 ∙ sym (append-nil (waits_so_far p)) ∙ ap (λ l. waits_so_far p ++ l) (sym i.0))
       (ap waits_by i.1 ∙ sym (append-nil (waits_by p)) ∙ ap (λ ids. waits_by p ++ unless_none ids) (sym i.0))
       is plain
@@ -333,11 +339,11 @@ module _ (p : Planner) (name : ℕ) where
 
   -- what the code needs
   pub record CanComplete : Type 0 where
-    pub name_in : name < vec_len p.values
-    pub there : AreThere (vec_len p.containers) (vec_len p.handles) p.values.items
-    pub before : p.jobs_before ≤ count_of p.jobs
-    pub users : (k : ℕ) → AreUpTo (count_of p.jobs) (users_of (place_of p.store k).state)
-    pub jobs : (v : Value) → slice_get p.values.items name ≡ Some v → AreUpTo (count_of p.jobs) (jobs_of_value p.handles.items v)
+    pub name_in : name < vec_len p.world.values
+    pub there : AreThere (vec_len p.world.containers) (vec_len p.world.handles) p.world.values.items
+    pub before : p.jobs_before ≤ count_of p.world.jobs
+    pub users : (k : ℕ) → AreUpTo (count_of p.world.jobs) (users_of (place_of p.world.store k).state)
+    pub jobs : (v : Value) → slice_get p.world.values.items name ≡ Some v → AreUpTo (count_of p.world.jobs) (jobs_of_value p.world.handles.items v)
 
   pub complete_ready : (line : ℕ) → IsReady p (statement line) → CanComplete
   complete_ready line ready =
@@ -352,17 +358,19 @@ module _ (p : Planner) (name : ℕ) where
         before = section_low p ready.0 b.table b.begun b.n s b.found b.stands;
         users = users_known p ready.0 b.table b.begun b.n s b.found b.stands;
         jobs = λ v h j e.
-            subst (λ m. (0 < j) × (j ≤ m)) (sym b.stands.jobs.count)
-            (b.stands.known.handles name j (sym (ap (λ w. states.jobs_of w j) (b.stands.names.are name v h))
-            ∙ sym (value_jobs p.values.items p.handles.items (length p.containers.items) s b.stands.names v j) ∙ e));
+            subst (λ m. (0 < j) × (j ≤ m)) (sym b.stands.knows.jobs.count)
+            (b.stands.knows.known.handles name j (sym (ap (λ w. states.jobs_of w j) (b.stands.knows.names.are name v h))
+            ∙ sym (value_jobs p.world.values.items p.world.handles.items (length p.world.containers.items) s b.stands.knows.names v j) ∙ e));
       }
 
-  pub complete_goes : (q : Planner) (jobs : Handle) (v : Value) → slice_get p.values.items name ≡ Some v → jobs_of jobs ≡ jobs_of_value p.handles.items v
+  pub complete_goes : (q : Planner) (jobs : Handle) (v : Value) → slice_get p.world.values.items name ≡ Some v
+      → jobs_of jobs ≡ jobs_of_value p.world.handles.items v
       → AreCompleted p q (jobs_of jobs) → (line : ℕ) → GoesOn p q (statement line)
   complete_goes q jobs v h are c line script table begun n found step st =
       let s = state_at script table n in
       let same : jobs_of jobs ≡ states.jobs_of (s.values name) =
-      are ∙ (λ i j. value_jobs p.values.items p.handles.items (length p.containers.items) s st.names v j i) ∙ ap states.jobs_of (st.names.are name v h) in
-      completes_on script table begun n found (statement line) step p st (states.jobs_of (s.values name)) (st.known.handles name) q
+      are ∙ (λ i j. value_jobs p.world.values.items p.world.handles.items (length p.world.containers.items) s st.knows.names v j i)
+      ∙ ap states.jobs_of (st.knows.names.are name v h) in
+      completes_on script table begun n found (statement line) step p st (states.jobs_of (s.values name)) (st.knows.known.handles name) q
       (subst (AreCompleted p q) same c)
       (accepted_state (setting script table) s (statement line) step.acts refl) (refl, tt)

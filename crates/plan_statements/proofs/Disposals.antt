@@ -25,10 +25,10 @@ use Rattle.frame_core.proofs.Small.{not_both, some_is, none_some, either_bool, g
 use Rattle.plan_state.specs.declared.state.Value.{Value}
 use Rattle.plan_state.specs.declared.state.Value.TheVariants.{Dead, Whole, Slice, View, Jobs as Handles}
 use Rattle.plan_state.specs.declared.state.Container.{Container}
-use Rattle.plan_state.specs.declared.state.Planner.{Planner}
+use Rattle.plan_state.specs.declared.state.World.{World}
 use Rattle.plan_state.specs.Accesses.{refused_as, cause_of, tag_in, tag_by}
 use Rattle.plan_statements.specs.Endings.{number_of, disposal, IsDisposable}
-use Rattle.plan_state.specs.Stands.{jobs_at, value_for, IsThere, tag_of, IsContainer, Stands}
+use Rattle.plan_state.specs.Stands.{jobs_at, value_for, IsThere, tag_of, IsContainer, Knows}
 
 -- ---- the first cause is that there is no container
 
@@ -86,11 +86,11 @@ module _ (s : ScriptState) (name : ℕ) (after : Jobs) where
   pub disposed_alive : disposal s name after ≡ None → is_alive s (s.values name) ≡ true
   disposed_alive e = ⊎_elim (λ a. a) (λ d. absurd (none_some (sym e ∙ sym (dead_disposal d)))) (either_bool (is_alive s (s.values name)))
 
-  module _ (p : Planner) (g : Setting) (begun : ScriptState) (n : ℕ) (found : List ℕ) (st : Stands p g begun n s found) (c : ℕ) (it : Container)
-      (has : slice_get p.containers.items c ≡ Some it)
+  module _ (w : World) (g : Setting) (found : List ℕ) (st : Knows w g s found) (c : ℕ) (it : Container)
+      (has : slice_get w.containers.items c ≡ Some it)
       (alive_is : is_alive s (s.values name) ≡ s.alive c) (at : container_at s name ≡ c)
-      (r : Result (Unit {0}) Blocked) (a : IsAnswer (state_of p.safety it.slot.0) (tag_of it None) p.jobs after true r) where
-    kept : IsContainer p s found c it
+      (r : Result (Unit {0}) Blocked) (a : IsAnswer (state_of w.safety it.slot.0) (tag_of it None) w.jobs after true r) where
+    kept : IsContainer w s found c it
     kept = st.containers.each c it has
 
     pub answered : refused_as (cause_of (result_err r)) name ≡ disposal s name after
@@ -156,32 +156,32 @@ pub tagged : (o : Option Container) (tag : Tag) → Some tag ≡ tag_by None o �
 tagged None tag e = absurd (none_some (sym e))
 tagged (Some it) tag e = (it, refl, some_is e)
 
-pub no_container : (p : Planner) (name : ℕ) (after : Jobs) (v : Value) → slice_get p.values.items name ≡ Some v → number_of v ≡ None
-    → IsDisposable p name after (Err Disposed)
-no_container p name after v h none g begun n s found st =
-    (dead_disposal s name after (ap (is_alive s) (sym (st.names.are name v h)) ∙ no_number s p.handles.items v none), tt)
+pub no_container : (w : World) (name : ℕ) (after : Jobs) (v : Value) → slice_get w.values.items name ≡ Some v → number_of v ≡ None
+    → IsDisposable w name after (Err Disposed)
+no_container w name after v h none g s found st =
+    (dead_disposal s name after (ap (is_alive s) (sym (st.names.are name v h)) ∙ no_number s w.handles.items v none), tt)
 
-module _ (p : Planner) (name : ℕ) (after : Jobs) (v : Value) (c : ℕ) (h : slice_get p.values.items name ≡ Some v) (is : number_of v ≡ Some c)
-    (tag : Tag) (tag_is : Some tag ≡ tag_in p.containers.items c None) (r : Result (Unit {0}) Blocked)
-    (a : IsAnswer (state_of p.safety tag.slot.0) tag p.jobs after true r) where
-  one : (it : Container) × (slice_get p.containers.items c ≡ Some it) × (tag ≡ tag_of it None)
-  one = tagged (slice_get p.containers.items c) tag tag_is
+module _ (w : World) (name : ℕ) (after : Jobs) (v : Value) (c : ℕ) (h : slice_get w.values.items name ≡ Some v) (is : number_of v ≡ Some c)
+    (tag : Tag) (tag_is : Some tag ≡ tag_in w.containers.items c None) (r : Result (Unit {0}) Blocked)
+    (a : IsAnswer (state_of w.safety tag.slot.0) tag w.jobs after true r) where
+  one : (it : Container) × (slice_get w.containers.items c ≡ Some it) × (tag ≡ tag_of it None)
+  one = tagged (slice_get w.containers.items c) tag tag_is
 
-  cause_is : (g : Setting) (begun : ScriptState) (n : ℕ) (s : ScriptState) (found : List ℕ) → Stands p g begun n s found
+  cause_is : (g : Setting) (s : ScriptState) (found : List ℕ) → Knows w g s found
       → refused_as (cause_of (result_err r)) name ≡ disposal s name after
-  cause_is g begun n s found st =
+  cause_is g s found st =
       let v_is = st.names.are name v h in
-      answered s name after p g begun n found st c one.0 one.1
-      (ap (is_alive s) (sym v_is) ∙ number_alive s p.handles.items v c is)
-      (ap states.container_of (sym v_is) ∙ number_at s p.handles.items v c is) r
-      (subst (λ (k : Tag). IsAnswer (state_of p.safety k.slot.0) k p.jobs after true r) one.2 a)
+      answered s name after w g found st c one.0 one.1
+      (ap (is_alive s) (sym v_is) ∙ number_alive s w.handles.items v c is)
+      (ap states.container_of (sym v_is) ∙ number_at s w.handles.items v c is) r
+      (subst (λ (k : Tag). IsAnswer (state_of w.safety k.slot.0) k w.jobs after true r) one.2 a)
 
-  pub may_dispose : r ≡ Ok tt → IsDisposable p name after (Ok c)
-  may_dispose ok g begun n s found st = (
-    ap (λ q. refused_as (cause_of (result_err q)) name) (sym ok) ∙ cause_is g begun n s found st,
-    (ap states.container_of (sym (st.names.are name v h)) ∙ number_at s p.handles.items v c is, get_below p.containers.items c one.0 one.1),
+  pub may_dispose : r ≡ Ok tt → IsDisposable w name after (Ok c)
+  may_dispose ok g s found st = (
+    ap (λ q. refused_as (cause_of (result_err q)) name) (sym ok) ∙ cause_is g s found st,
+    (ap states.container_of (sym (st.names.are name v h)) ∙ number_at s w.handles.items v c is, get_below w.containers.items c one.0 one.1),
   )
 
-  pub may_not : (b : Blocked) (cause : Refusal) → r ≡ Err b → Some cause ≡ cause_of (Some b) → IsDisposable p name after (Err cause)
-  may_not b cause err reported g begun n s found st =
-      (ap (λ o. refused_as o name) reported ∙ ap (λ q. refused_as (cause_of (result_err q)) name) (sym err) ∙ cause_is g begun n s found st, tt)
+  pub may_not : (b : Blocked) (cause : Refusal) → r ≡ Err b → Some cause ≡ cause_of (Some b) → IsDisposable w name after (Err cause)
+  may_not b cause err reported g s found st =
+      (ap (λ o. refused_as o name) reported ∙ ap (λ q. refused_as (cause_of (result_err q)) name) (sym err) ∙ cause_is g s found st, tt)

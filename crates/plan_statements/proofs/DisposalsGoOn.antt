@@ -41,6 +41,7 @@ use Rattle.plan_state.specs.declared.state.Value.{Value}
 use Rattle.plan_state.specs.declared.state.Value.TheVariants.{Dead, Whole, Slice, View, Jobs as Handles}
 use Rattle.plan_state.specs.declared.state.Container.{Container}
 use Rattle.plan_state.specs.declared.state.Planner.{Planner}
+use Rattle.plan_state.specs.declared.state.World.{World}
 use Rattle.plan_state.specs.Accesses.{refused_as, jobs_in, jobs_of_value, jobs_for, jobs_by, IsPushed, AreThere}
 use Rattle.plan_statements.specs.Endings.{disposal, IsDisposable, CanEnd, CanHold, IsGiven}
 use Rattle.plan_state.specs.Growth.{given_so_far}
@@ -92,67 +93,70 @@ module _ (values : List Value) (handles : List Handle) (made : ℕ) (s : ScriptS
 -- ---- what a container that ends needs
 
 module _ (p : Planner) (g : Setting) (begun : ScriptState) (n : ℕ) (s : ScriptState) (found : List ℕ) (st : Stands p g begun n s found) (few : n < 65536) where
-  module _ (c : ℕ) (below : c < length p.containers.items) (alive : s.alive c ≡ true) where
-    one : (it : Container) × (slice_get p.containers.items c ≡ Some it)
-    one = there p.containers.items c below
+  module _ (c : ℕ) (below : c < length p.world.containers.items) (alive : s.alive c ≡ true) where
+    one : (it : Container) × (slice_get p.world.containers.items c ≡ Some it)
+    one = there p.world.containers.items c below
 
-    ends : CanEnd p (Some one.0)
+    ends : CanEnd p.world (Some one.0)
     ends = (
-      taken0 p p s found c one.0 st.containers one.1 alive,
-      (let v = version0 p p s found c one.0 st.containers one.1 alive in
-          let low = (st.containers.each c one.0 one.1).low in
+      taken0 p.world p.world s found c one.0 st.knows.containers one.1 alive,
+      (let v = version0 p.world p.world s found c one.0 st.knows.containers one.1 alive in
+          let low = (st.knows.containers.each c one.0 one.1).low in
           let m = st.numbers.made_few in
-          let made = st.containers.made in omega arith),
+          let made = st.knows.containers.made in omega arith),
     )
 
-    pub can_end : CanEnd p (slice_get p.containers.items c)
-    can_end = subst (CanEnd p) (sym one.1) ends
+    pub can_end : CanEnd p.world (slice_get p.world.containers.items c)
+    can_end = subst (CanEnd p.world) (sym one.1) ends
 
-    count_is : s.book.count ≡ count_of p.jobs
-    count_is = sym st.jobs.count
+    count_is : s.book.count ≡ count_of p.world.jobs
+    count_is = sym st.knows.jobs.count
 
-    pub can_hold : CanHold p (slice_get p.containers.items c)
-    can_hold = subst (CanHold p) (sym one.1) (
+    pub can_hold : CanHold p.world (slice_get p.world.containers.items c)
+    can_hold = subst (CanHold p.world) (sym one.1) (
       ends,
-      (subst (λ m. AreUpTo m (latest_users (state_of p.safety one.0.slot.0).latest)) count_is
-          (λ j e. (st.known.uses c).users j (latest_are_users s.book (state_of p.safety one.0.slot.0).latest (s.uses c) (st.known.uses c)
-          ((st.containers.each c one.0 one.1).uses alive) j e))),
-      (λ k. subst (λ m. AreUpTo m (users_of (place_of p.store k).state)) count_is (store_users p s found st.containers st.known.book st.known.uses k)),
+      (subst (λ m. AreUpTo m (latest_users (state_of p.world.safety one.0.slot.0).latest)) count_is
+          (λ j e. (st.knows.known.uses c).users j (latest_are_users s.book (state_of p.world.safety one.0.slot.0).latest (s.uses c) (st.knows.known.uses c)
+          ((st.knows.containers.each c one.0 one.1).uses alive) j e))),
+      (λ k. subst (λ m. AreUpTo m (users_of (place_of p.world.store k).state)) count_is
+          (store_users p.world s found st.knows.containers st.knows.known.book st.knows.known.uses k)),
     )
 
 -- ---- of the container at a number, as the code reads it
 
-some_end : (p : Planner) (o : Option Container) → CanEnd p o → (it : Container) × (o ≡ Some it)
-some_end p None e = absurd e
-some_end p (Some it) e = (it, refl)
+some_end : (w : World) (o : Option Container) → CanEnd w o → (it : Container) × (o ≡ Some it)
+some_end w None e = absurd e
+some_end w (Some it) e = (it, refl)
 
-some_hold : (p : Planner) (o : Option Container) → CanHold p o → (it : Container) × (o ≡ Some it)
-some_hold p None e = absurd e
-some_hold p (Some it) e = (it, refl)
+some_hold : (w : World) (o : Option Container) → CanHold w o → (it : Container) × (o ≡ Some it)
+some_hold w None e = absurd e
+some_hold w (Some it) e = (it, refl)
 
-pub can_end_there : (p : Planner) (k : ℕ) → CanEnd p (slice_get p.containers.items k) → k < vec_len p.containers
-can_end_there p k e = let one = some_end p (slice_get p.containers.items k) e in let lt = get_below p.containers.items k one.0 one.1 in
-    let len = p.containers.ok.0 in omega arith
+pub can_end_there : (w : World) (k : ℕ) → CanEnd w (slice_get w.containers.items k) → k < vec_len w.containers
+can_end_there w k e = let one = some_end w (slice_get w.containers.items k) e in let lt = get_below w.containers.items k one.0 one.1 in
+    let len = w.containers.ok.0 in omega arith
 
-pub can_hold_there : (p : Planner) (k : ℕ) → CanHold p (slice_get p.containers.items k) → k < vec_len p.containers
-can_hold_there p k e = let one = some_hold p (slice_get p.containers.items k) e in let lt = get_below p.containers.items k one.0 one.1 in
-    let len = p.containers.ok.0 in omega arith
+pub can_hold_there : (w : World) (k : ℕ) → CanHold w (slice_get w.containers.items k) → k < vec_len w.containers
+can_hold_there w k e = let one = some_hold w (slice_get w.containers.items k) e in let lt = get_below w.containers.items k one.0 one.1 in
+    let len = w.containers.ok.0 in omega arith
 
 pub container_is : (v : Vec Container Global) (k : ℕ) (it : Container) → k < vec_len v → it ≡ get_or v.items k it → slice_get v.items k ≡ Some it
 container_is v k it lt e = read_some v k it lt e
 
 -- those for whom ranges are held are jobs of the book, with the users of one container more
-pub users_after : (p : Planner) (k : ℕ) (it : Container) → slice_get p.containers.items k ≡ Some it → CanHold p (slice_get p.containers.items k)
-    → (users : Handle) → jobs_of users ≡ latest_users (state_of p.safety it.slot.0).latest
+pub users_after : (w : World) (k : ℕ) (it : Container) → slice_get w.containers.items k ≡ Some it
+    → CanHold w (slice_get w.containers.items k)
+    → (users : Handle) → jobs_of users ≡ latest_users (state_of w.safety it.slot.0).latest
     → (store : SlotStore)
-    → ((j : ℕ) → place_of store j ≡ cond (nat_eq j it.slot.0) (held (place_of p.store it.slot.0) users) (place_of p.store j))
-    → (j : ℕ) → AreUpTo (count_of p.jobs) (users_of (place_of store j).state)
-users_after p k it has can users are store places j =
-    let h = subst (CanHold p) has can in
-    subst (λ (z : Place). AreUpTo (count_of p.jobs) (users_of z.state)) (sym (places j)) (by (nat_eq j it.slot.0) h)
+    → ((j : ℕ) → place_of store j ≡ cond (nat_eq j it.slot.0) (held (place_of w.store it.slot.0) users) (place_of w.store j))
+    → (j : ℕ) → AreUpTo (count_of w.jobs) (users_of (place_of store j).state)
+users_after w k it has can users are store places j =
+    let h = subst (CanHold w) has can in
+    subst (λ (z : Place). AreUpTo (count_of w.jobs) (users_of z.state)) (sym (places j)) (by (nat_eq j it.slot.0) h)
   where
-    by : (b : Bool) → CanHold p (Some it) → AreUpTo (count_of p.jobs) (users_of (cond b (held (place_of p.store it.slot.0) users) (place_of p.store j)).state)
-    by true h = subst (AreUpTo (count_of p.jobs)) (sym are) h.1
+    by : (b : Bool) → CanHold w (Some it) → AreUpTo (count_of w.jobs)
+        (users_of (cond b (held (place_of w.store it.slot.0) users) (place_of w.store j)).state)
+    by true h = subst (AreUpTo (count_of w.jobs)) (sym are) h.1
     by false h = h.2 j
 
 -- ---- at a statement
@@ -160,45 +164,51 @@ users_after p k it has can users are store places j =
 -- the fields that a statement of these may change
 pub as_continued : (p q r : Planner) → q ≡ r
     → r ≡ record p {
-      values = r.values;
-      handles = r.handles;
-      temps = r.temps;
-      overdue = r.overdue;
-      frame = r.frame;
-      jobs = r.jobs;
-      safety = r.safety;
-      store = r.store;
-      plan = record p.plan { segments = r.plan.segments; waits = r.plan.waits; ops = r.plan.ops };
+      world = record p.world {
+        values = r.world.values;
+        handles = r.world.handles;
+        temps = r.world.temps;
+        overdue = r.world.overdue;
+        frame = r.world.frame;
+        jobs = r.world.jobs;
+        safety = r.world.safety;
+        store = r.world.store;
+      };
+      draft = record p.draft { segments = r.draft.segments; waits = r.draft.waits; ops = r.draft.ops };
     }
     → q ≡ record p {
-      values = q.values;
-      handles = q.handles;
-      temps = q.temps;
-      overdue = q.overdue;
-      frame = q.frame;
-      jobs = q.jobs;
-      safety = q.safety;
-      store = q.store;
-      plan = record p.plan { segments = q.plan.segments; waits = q.plan.waits; ops = q.plan.ops };
+      world = record p.world {
+        values = q.world.values;
+        handles = q.world.handles;
+        temps = q.world.temps;
+        overdue = q.world.overdue;
+        frame = q.world.frame;
+        jobs = q.world.jobs;
+        safety = q.world.safety;
+        store = q.world.store;
+      };
+      draft = record p.draft { segments = q.draft.segments; waits = q.draft.waits; ops = q.draft.ops };
     }
 as_continued p q r e f =
     let change : Planner → Planner = λ k. record p {
-      values = k.values;
-      handles = k.handles;
-      temps = k.temps;
-      overdue = k.overdue;
-      frame = k.frame;
-      jobs = k.jobs;
-      safety = k.safety;
-      store = k.store;
-      plan = record p.plan { segments = k.plan.segments; waits = k.plan.waits; ops = k.plan.ops };
+      world = record p.world {
+        values = k.world.values;
+        handles = k.world.handles;
+        temps = k.world.temps;
+        overdue = k.world.overdue;
+        frame = k.world.frame;
+        jobs = k.world.jobs;
+        safety = k.world.safety;
+        store = k.world.store;
+      };
+      draft = record p.draft { segments = k.draft.segments; waits = k.draft.waits; ops = k.draft.ops };
     } in
     e ∙ f ∙ ap change (sym e)
 
 -- An answer that some statement is given
 abbrev pub Answers : Planner → ScriptState → ℕ → Jobs → Result ℕ Refusal → Type 0
 Answers p s name after answer = (refused_as (result_err answer) name ≡ disposal s name after)
-    × IfOk answer (λ c. (container_at s name ≡ c) × (c < length p.containers.items))
+    × IfOk answer (λ c. (container_at s name ≡ c) × (c < length p.world.containers.items))
 
 -- `dispose` without `after`
 module _ (script : Script) (table : Table) (begun : ScriptState) (n : ℕ) (found : List ℕ) (line name : ℕ) (after : Vec ℕ Global) where
@@ -246,10 +256,16 @@ module _ (script : Script) (table : Table) (begun : ScriptState) (n : ℕ) (foun
       alive : s.alive (container_at s name) ≡ true
       alive = alive_container s (s.values name) (disposed_alive s name nobody (sym a.0))
 
-      pub plain_can_end : CanEnd p (slice_get p.containers.items c)
+      pub plain_can_end : CanEnd p.world (slice_get p.world.containers.items c)
       plain_can_end = can_end p g begun n s found st (let few = statements_few script table n x step in omega arith) c a.1.1 (ap s.alive (sym a.1.0) ∙ alive)
 
-      module _ (q : Planner) (i : IsGiven p q c) where
+      module _ (after_it : World) (i : IsGiven p.world after_it c) where
+        abbrev q : Planner
+        q = record p { world = after_it }
+
+        rest : q ≡ record p { world = record p.world { safety = after_it.safety; store = after_it.store } }
+        rest = ap (λ (k : World). record p { world = k }) i.rest
+
         abbrev t : ScriptState
         t = dispose name s
 
@@ -259,39 +275,41 @@ module _ (script : Script) (table : Table) (begun : ScriptState) (n : ℕ) (foun
             (words_come_back g line s name after no_after unrefused)
           where
             below : nat_lt (container_at s name) s.made ≡ true
-            below = (let e = a.1.0 in let lt = a.1.1 in let m = st.containers.made in let less : container_at s name < s.made = omega arith in grind arith)
+            below = (let e = a.1.0 in let lt = a.1.1 in let m = st.knows.containers.made in let less : container_at s name < s.made = omega arith in grind
+                arith)
 
             by : (b l h : Bool) → b ≡ true → (b && (l || h)) ≡ false → h ≡ false
             by true true h e f = absurd (not_both refl f)
             by true false h e f = f
             by false l h e f = absurd (not_both e refl)
 
-        containers : AreContainers q t found
-        containers = given_stand p q s found (container_at s name) st.containers alive (subst (IsGiven p q) (sym a.1.0) i) no_users s.frame s.values s.lines
+        containers : AreContainers q.world t found
+        containers = given_stand p.world after_it s found (container_at s name) st.knows.containers alive
+            (subst (IsGiven p.world after_it) (sym a.1.0) i) no_users s.frame s.values s.lines
 
         is : act g s x ≡ t
         is = accepted_state g s x step.acts unrefused
 
         goes : IsContinued p q s t found
         goes = record {
-          planner = as_continued p q _ i.rest refl;
+          planner = as_continued p q _ rest refl;
           state = refl;
-          frame = ap (λ (k : Planner). k.frame) i.rest ∙ st.numbers.frame;
+          frame = ap (λ (k : Planner). k.world.frame) rest ∙ st.numbers.frame;
           later = omega arith;
           next = omega arith;
-          values = ap (λ (k : Planner). length k.values.items) i.rest;
-          handles = (let e = ap (λ (k : Planner). length k.handles.items) i.rest in omega arith);
+          values = ap (λ (k : Planner). length k.world.values.items) rest;
+          handles = (let e = ap (λ (k : Planner). length k.world.handles.items) rest in omega arith);
           peak = i.peak;
           slots = i.used;
-          segments = (let e = ap (λ (k : Planner). length k.plan.segments.items) i.rest in omega arith);
-          ops = (let e = ap (λ (k : Planner). ops_count k.plan.segments.items + length k.plan.ops.items) i.rest in
-              let o = ap (λ (k : Planner). k.overdue) i.rest in omega arith);
-          temps = subst (λ (k : Planner). AreTemps k.temps.items t) (sym i.rest)
-              (same_temps p.temps.items s (with_at s.alive (container_at s name) false) s.book s.values s.lines
-              (λ c a. (fallen s (container_at s name) c a).1) st.temps);
-          tempjobs = subst (λ (k : Planner). AreTempJobs p.tempjobs.items k.overdue t) (sym i.rest)
-              (same_tempjobs p.tempjobs.items p.overdue s (with_at s.alive (container_at s name) false) s.book s.values s.lines st.tempjobs);
-          jobs = subst (λ (k : Planner). StandsFor k.jobs s.book) (sym i.rest) st.jobs;
+          segments = (let e = ap (λ (k : Planner). length k.draft.segments.items) rest in omega arith);
+          ops = (let e = ap (λ (k : Planner). ops_count k.draft.segments.items + length k.draft.ops.items) rest in
+              let o = ap (λ (k : Planner). k.world.overdue) rest in omega arith);
+          temps = subst (λ (k : Planner). AreTemps k.world.temps.items t) (sym rest)
+              (same_temps p.world.temps.items s (with_at s.alive (container_at s name) false) s.book s.values s.lines
+              (λ c a. (fallen s (container_at s name) c a).1) st.knows.temps);
+          tempjobs = subst (λ (k : Planner). AreTempJobs p.world.tempjobs.items k.world.overdue t) (sym rest)
+              (same_tempjobs p.world.tempjobs.items p.world.overdue s (with_at s.alive (container_at s name) false) s.book s.values s.lines st.knows.tempjobs);
+          jobs = subst (λ (k : Planner). StandsFor k.world.jobs s.book) (sym rest) st.knows.jobs;
           containers = containers;
         }
 
@@ -300,11 +318,12 @@ module _ (script : Script) (table : Table) (begun : ScriptState) (n : ℕ) (foun
             plain_steps script table begun n found p q x step
             (subst (λ u. Stands q g begun (suc n) u found) (sym is)
             (continued p q g begun n s t found st goes (subst IsKnown is (known_after script table n x step))
-            (subst (λ (k : Planner). AreNames k.values.items k.handles.items (length p.containers.items) t) (sym i.rest)
-            (same_names p.values.items p.handles.items (length p.containers.items) s t refl st.names))
-            (λ y b. subst (λ (k : Planner). IsPlanned y t (draft_of k)) (sym i.rest) (disposals_are_planned y s name (draft_of p) st.known (st.planned y b)))))
-            (quiet_continued p q s t found goes (ap given_so_far i.rest) (ap (λ (k : Planner). k.plan.segments) i.rest)
-            (ap (λ (k : Planner). k.plan.waits) i.rest))
+            (subst (λ (k : Planner). AreNames k.world.values.items k.world.handles.items (length p.world.containers.items) t) (sym rest)
+            (same_names p.world.values.items p.world.handles.items (length p.world.containers.items) s t refl st.knows.names))
+            (λ y b. subst (λ (k : Planner). IsPlanned y t (draft_of k)) (sym rest)
+            (disposals_are_planned y s name (draft_of p) st.knows.known (st.planned y b)))))
+            (quiet_continued p q s t found goes (ap given_so_far rest) (ap (λ (k : Planner). k.draft.segments) rest)
+            (ap (λ (k : Planner). k.draft.waits) rest))
             (refl, tt) (ap (λ (u : ScriptState). u.book.completed) is)
 
 -- the same as the code asks and answers
@@ -312,8 +331,8 @@ module _ (p : Planner) (line name : ℕ) where
   abbrev plain : Vec ℕ Global → Statement
   plain after = record { line = line; act = Dispose name after None }
 
-  pub plain_ready : (after : Vec ℕ Global) → IsReady p (plain after) → (name < vec_len p.values)
-      × AreThere (vec_len p.containers) (vec_len p.handles) p.values.items
+  pub plain_ready : (after : Vec ℕ Global) → IsReady p (plain after) → (name < vec_len p.world.values)
+      × AreThere (vec_len p.world.containers) (vec_len p.world.handles) p.world.values.items
   plain_ready after ready =
       let b = ready.1 in
       let g = setting ready.0 b.table in
@@ -322,18 +341,20 @@ module _ (p : Planner) (line name : ℕ) where
         are_there p g b.begun b.n s b.found b.stands,
       )
 
-  pub plain_ends : (after : Vec ℕ Global) → IsReady p (plain after) → (c : ℕ) → IsDisposable p name nobody (Ok c) → CanEnd p (slice_get p.containers.items c)
+  pub plain_ends : (after : Vec ℕ Global) → IsReady p (plain after) → (c : ℕ) → IsDisposable p.world name nobody (Ok c)
+      → CanEnd p.world (slice_get p.world.containers.items c)
   plain_ends after ready c answer =
       let b = ready.1 in
       plain_can_end ready.0 b.table b.begun b.n b.found line name after b.step p b.stands c
-      (answer (setting ready.0 b.table) b.begun b.n (state_at ready.0 b.table b.n) b.found b.stands)
+      (answer (setting ready.0 b.table) (state_at ready.0 b.table b.n) b.found b.stands.knows)
 
-  pub plain_says : (q : Planner) (cause : Refusal) → IsDisposable p name nobody (Err cause)
+  pub plain_says : (q : Planner) (cause : Refusal) → IsDisposable p.world name nobody (Err cause)
       → IsPushed p q (record { line = line; name = name; act = Say cause })
       → (after : Vec ℕ Global) → GoesOn p q (plain after)
   plain_says q cause answer i after script table begun n found step st =
-      plain_refused script table begun n found line name after step p st q cause (answer (setting script table) begun n (state_at script table n) found st) i
+      plain_refused script table begun n found line name after step p st q cause (answer (setting script table) (state_at script table n) found st.knows) i
 
-  pub plain_goes : (q : Planner) (c : ℕ) → IsDisposable p name nobody (Ok c) → IsGiven p q c → (after : Vec ℕ Global) → GoesOn p q (plain after)
-  plain_goes q c answer i after script table begun n found step st =
-      plain_ended script table begun n found line name after step p st c (answer (setting script table) begun n (state_at script table n) found st) q i
+  pub plain_goes : (w : World) (c : ℕ) → IsDisposable p.world name nobody (Ok c) → IsGiven p.world w c → (after : Vec ℕ Global)
+      → GoesOn p (record p { world = w }) (plain after)
+  plain_goes w c answer i after script table begun n found step st =
+      plain_ended script table begun n found line name after step p st c (answer (setting script table) (state_at script table n) found st.knows) w i

@@ -24,6 +24,7 @@ use Rattle.plan_laws.specs.Planned.{Outline, IsPlanned}
 use Rattle.plan_laws.proofs.Frames.{frames_are_planned}
 use Rattle.plan_state.specs.declared.state.Container.{Container}
 use Rattle.plan_state.specs.declared.state.Planner.{Planner}
+use Rattle.plan_state.specs.declared.state.World.{World}
 use Rattle.plan_statements.specs.Frames.{is_kept, IsDue, AreSmall, IsOver, stays, AreUnused, AreSeen, AreReported, AreOver}
 use Rattle.plan_state.specs.Growth.{given_in, given_from, given_so_far}
 use Rattle.plan_state.specs.Stands.{AreNames, AreContainers, AreTemps, AreTempJobs, Agrees, Stands, draft_of}
@@ -42,14 +43,14 @@ use Rattle.plan_statements.proofs.Endings.Settling.{all_done}
 
 -- ---- containers end one by one
 
-pub record AreOverSoFar (old now : Planner) (s : ScriptState) (found : List ℕ) (at : ℕ) : Type 0 where
+pub record AreOverSoFar (old now : World) (s : ScriptState) (found : List ℕ) (at : ℕ) : Type 0 where
   pub alive : ℕ → Bool
   pub containers : AreContainers now (with_alive alive s) found
   pub falls : (c : ℕ) → alive c ≡ true → s.alive c ≡ true
   pub temp : (c : ℕ) → alive c ≡ false → s.alive c ≡ true → is_temp (s.life c) ≡ true
   pub gone : (k c : ℕ) → k < at → slice_get old.temps.items k ≡ Some c → alive c ≡ false
 
-pub none_over : (p : Planner) (s : ScriptState) (found : List ℕ) → AreContainers p s found → AreOverSoFar p p s found 0
+pub none_over : (p : World) (s : ScriptState) (found : List ℕ) → AreContainers p s found → AreOverSoFar p p s found 0
 none_over p s found is = record {
   alive = s.alive;
   containers = is;
@@ -58,7 +59,7 @@ none_over p s found is = record {
   gone = λ k c lt h. absurd (omega arith);
 }
 
-module _ (old p q : Planner) (s : ScriptState) (found : List ℕ) (k c : ℕ) (it : Container) (temps : AreTemps old.temps.items s) (unused : AreUnused s)
+module _ (old p q : World) (s : ScriptState) (found : List ℕ) (k c : ℕ) (it : Container) (temps : AreTemps old.temps.items s) (unused : AreUnused s)
     (at : slice_get old.temps.items k ≡ Some c) (has : slice_get p.containers.items c ≡ Some it) (so : AreOverSoFar old p s found k)
     (over : IsOver p q c it) where
   kept_is : is_kept p it ≡ so.alive c
@@ -102,9 +103,10 @@ module _ (old p q : Planner) (s : ScriptState) (found : List ℕ) (k c : ℕ) (i
       })
       over)
 
-module _ (old p q : Planner) (s : ScriptState) (found : List ℕ) (at : ℕ) (temps : AreTemps old.temps.items s) (so : AreOverSoFar old p s found at)
+module _ (old p q : World) (s : ScriptState) (found : List ℕ) (at : ℕ) (temps : AreTemps old.temps.items s) (so : AreOverSoFar old p s found at)
     (all : length old.temps.items ≤ at)
-    (containers : q.containers ≡ p.containers) (names : length q.values.items ≡ length p.values.items) (store : q.store ≡ p.store)
+    (containers : q.containers ≡ p.containers) (names : length q.values.items ≡ length p.values.items)
+    (store : q.store ≡ p.store)
     (safety : q.safety ≡ p.safety) where
   same : (c : ℕ) → c < s.made → stays s c ≡ so.alive c
   same c lt = ⊎_elim
@@ -128,23 +130,25 @@ module _ (old p q : Planner) (s : ScriptState) (found : List ℕ) (at : ℕ) (te
 
 -- ---- as the code goes along
 
-pub record OverSoFar (old now : Planner) (at : ℕ) : Type 0 where
+pub record OverSoFar (old now : World) (at : ℕ) : Type 0 where
   pub rest : now ≡ record old { safety = now.safety; store = now.store }
   pub used : slots_in_use now.store ≤ slots_in_use old.store
   pub peak : peak_of now.store ≡ peak_of old.store
-  pub so_far : (s : ScriptState) (found : List ℕ) → AreContainers old s found → AreTemps old.temps.items s → AreUnused s → AreOverSoFar old now s found at
+  pub so_far : (s : ScriptState) (found : List ℕ) → AreContainers old s found → AreTemps old.temps.items s → AreUnused s
+      → AreOverSoFar old now s found at
 
-pub over_none : (p : Planner) → OverSoFar p p 0
+pub over_none : (p : World) → OverSoFar p p 0
 over_none p = record { rest = refl; used = omega arith; peak = refl; so_far = λ s found is temps unused. none_over p s found is }
 
-module _ (p m : Planner) (at : ℕ) (so : OverSoFar p m at) where
+module _ (p m : World) (at : ℕ) (so : OverSoFar p m at) where
   -- what is read of the lists
-  pub next_read : All (λ c. c < vec_len p.containers) p.temps.items → at < vec_len p.temps → (c : ℕ) → c ≡ get_or m.temps.items at c → (it : Container)
+  pub next_read : All (λ c. c < vec_len p.containers) p.temps.items → at < vec_len p.temps → (c : ℕ) → c ≡ get_or m.temps.items at c
+      → (it : Container)
       → it ≡ get_or m.containers.items c it
       → (slice_get m.temps.items at ≡ Some c) × (slice_get m.containers.items c ≡ Some it)
   next_read numbers lt c e it f =
-      let temps = ap (λ (k : Planner). k.temps) so.rest in
-      let containers = ap (λ (k : Planner). k.containers) so.rest in
+      let temps = ap (λ (k : World). k.temps) so.rest in
+      let containers = ap (λ (k : World). k.containers) so.rest in
       let len = p.temps.ok.0 in
       let low = numbers at c (omega arith) in
       let is = ap (λ (v : Vec ℕ Global). get_or v.items at c) temps in
@@ -152,31 +156,33 @@ module _ (p m : Planner) (at : ℕ) (so : OverSoFar p m at) where
       let lengths = ap (λ (v : Vec ℕ Global). vec_len v) temps in
       (read_some m.temps at c (omega arith) e, read_some m.containers c it (omega arith) f)
 
-  pub over_more : (q : Planner) (c : ℕ) (it : Container) → slice_get m.temps.items at ≡ Some c → slice_get m.containers.items c ≡ Some it → IsOver m q c it
+  pub over_more : (q : World) (c : ℕ) (it : Container) → slice_get m.temps.items at ≡ Some c → slice_get m.containers.items c ≡ Some it
+      → IsOver m q c it
       → OverSoFar p q (at + 1)
   over_more q c it here has over = record {
     rest = ⊎_elim (λ o. subst (λ z. z ≡ record p { safety = z.safety; store = z.store }) (sym o.1) so.rest)
-        (λ o. o.1.rest ∙ ap {A = Planner} {B = Planner} (λ k. record k { safety = q.safety; store = q.store }) so.rest) over;
-    used = ⊎_elim (λ o. (let u = so.used in let e = ap (λ (k : Planner). slots_in_use k.store) o.1 in omega arith))
+        (λ o. o.1.rest ∙ ap {A = World} {B = World} (λ k. record k { safety = q.safety; store = q.store }) so.rest) over;
+    used = ⊎_elim (λ o. (let u = so.used in let e = ap (λ (k : World). slots_in_use k.store) o.1 in omega arith))
         (λ o. (let u = so.used in let v = o.1.used in omega arith)) over;
-    peak = ⊎_elim (λ o. ap (λ (k : Planner). peak_of k.store) o.1 ∙ so.peak) (λ o. o.1.peak ∙ so.peak) over;
+    peak = ⊎_elim (λ o. ap (λ (k : World). peak_of k.store) o.1 ∙ so.peak) (λ o. o.1.peak ∙ so.peak) over;
     so_far = λ s found is temps unused.
-        one_over p m q s found at c it temps unused (ap (λ (k : Planner). slice_get k.temps.items at) (sym so.rest) ∙ here) has
+        one_over p m q s found at c it temps unused (ap (λ (k : World). slice_get k.temps.items at) (sym so.rest) ∙ here) has
         (so.so_far s found is temps unused) over;
   }
 
-  pub over_all : (q : Planner) → vec_len p.temps ≤ at → q ≡ record m { temps = q.temps } → q.temps.items ≡ [] → AreOver p q
+  pub over_all : (q : World) → vec_len p.temps ≤ at → q ≡ record m { temps = q.temps } → q.temps.items ≡ []
+      → AreOver p q
   over_all q end last none = record {
     containers = λ s found is temps unused.
         all_over p m q s found at temps (so.so_far s found is temps unused)
         (let len = p.temps.ok.0 in omega arith)
-        (ap (λ (k : Planner). k.containers) last) (ap (λ (k : Planner). length k.values.items) last) (ap (λ (k : Planner). k.store) last)
-        (ap (λ (k : Planner). k.safety) last);
-    used = (let u = so.used in let e = ap (λ (k : Planner). slots_in_use k.store) last in omega arith);
-    peak = ap (λ (k : Planner). peak_of k.store) last ∙ so.peak;
+        (ap (λ (k : World). k.containers) last) (ap (λ (k : World). length k.values.items) last) (ap (λ (k : World). k.store) last)
+        (ap (λ (k : World). k.safety) last);
+    used = (let u = so.used in let e = ap (λ (k : World). slots_in_use k.store) last in omega arith);
+    peak = ap (λ (k : World). peak_of k.store) last ∙ so.peak;
     temps = none;
-    rest = (let by_p = last ∙ ap {A = Planner} {B = Planner} (λ k. record k { temps = q.temps }) so.rest in
-        by_p ∙ (let a = sym (ap (λ (k : Planner). k.safety) by_p) in let b = sym (ap (λ (k : Planner). k.store) by_p) in
+    rest = (let by_p = last ∙ ap {A = World} {B = World} (λ k. record k { temps = q.temps }) so.rest in
+        by_p ∙ (let a = sym (ap (λ (k : World). k.safety) by_p) in let b = sym (ap (λ (k : World). k.store) by_p) in
         λ i. record p { temps = q.temps; safety = a i; store = b i }));
   }
 
@@ -186,11 +192,11 @@ module _ (p : Planner) (line : ℕ) where
   statement = record { line = line; act = Frame }
 
   pub record CanFrame : Type 0 where
-    pub temps : All (λ c. c < vec_len p.containers) p.temps.items
-    pub tempjobs : All (λ c. c < vec_len p.containers) p.tempjobs.items
-    pub small : AreSmall p.containers.items
-    pub few : p.frame + 1 < 4294967296
-    pub places : (k c : ℕ) → slice_get p.tempjobs.items k ≡ Some c → k + 1 < 4294967296
+    pub temps : All (λ c. c < vec_len p.world.containers) p.world.temps.items
+    pub tempjobs : All (λ c. c < vec_len p.world.containers) p.world.tempjobs.items
+    pub small : AreSmall p.world.containers.items
+    pub few : p.world.frame + 1 < 4294967296
+    pub places : (k c : ℕ) → slice_get p.world.tempjobs.items k ≡ Some c → k + 1 < 4294967296
 
   pub frame_ready : IsReady p statement → CanFrame
   frame_ready ready =
@@ -199,32 +205,33 @@ module _ (p : Planner) (line : ℕ) where
       let s = state_at ready.0 b.table b.n in
       let st = b.stands in
       let most = statements_few ready.0 b.table b.n statement b.step in
-      let made = st.containers.made in
-      let len = p.containers.ok.0 in
+      let made = st.knows.containers.made in
+      let len = p.world.containers.ok.0 in
       let few = st.numbers.made_few in
       record {
-        temps = λ k d lt. let h = (st.temps.each k (get_or p.temps.items k d) (get_there p.temps.items k d lt)).0 in omega arith;
-        tempjobs = λ k d lt. let h = (st.tempjobs.each k (get_or p.tempjobs.items k d) (get_there p.tempjobs.items k d lt)).0 in omega arith;
+        temps = λ k d lt. let h = (st.knows.temps.each k (get_or p.world.temps.items k d) (get_there p.world.temps.items k d lt)).0 in omega arith;
+        tempjobs = λ k d lt. let h = (st.knows.tempjobs.each k (get_or p.world.tempjobs.items k d) (get_there p.world.tempjobs.items k d lt)).0 in omega arith;
         small = λ c it has.
-            let k = st.containers.each c it has in
+            let k = st.knows.containers.each c it has in
             let low = k.low in
-            let lt = get_below p.containers.items c it has in
-            let past = st.frames.past c (omega arith) in
+            let lt = get_below p.world.containers.items c it has in
+            let past = st.knows.frames.past c (omega arith) in
             let frames = st.numbers.frames_few in
             let f = k.making.0 in
             (omega arith, omega arith);
         few = (let frames = st.numbers.frames_few in let f = st.numbers.frame in omega arith);
-        places = λ k c h. let le = place_low p line g b.begun b.n s b.found st k c h in let lt = (st.tempjobs.each k c h).0 in omega arith;
+        places = λ k c h. let le = place_low p line g b.begun b.n s b.found st k c h in let lt = (st.knows.tempjobs.each k c h).0 in omega arith;
       }
 
 -- the place of one that is due can go on
 pub place_fits : (p m : Planner) (line : ℕ) → IsReady p (statement p line) → AreReportedSoFar p m line → (it : Container) → IsDue m it
-    → m.overdue + 1 < 4294967296
+    → m.world.overdue + 1 < 4294967296
 place_fits p m line ready so it due =
-    (frame_ready p line ready).places m.overdue due.number (ap (λ (k : Planner). slice_get k.tempjobs.items m.overdue) (sym so.rest) ∙ due.at)
+    (frame_ready p line ready).places m.world.overdue due.number (ap (λ (k : Planner). slice_get k.world.tempjobs.items m.world.overdue) (sym so.rest) ∙ due.at)
 
 -- ---- a frame
-module _ (p r m q : Planner) (line : ℕ) (reported : AreReported p r line) (over : AreOver r m) (last : q ≡ record m { frame = m.frame + 1 })
+module _ (p r : Planner) (m : World) (q : Planner) (line : ℕ) (reported : AreReported p r line) (over : AreOver r.world m)
+    (last : q ≡ record r { world = record m { frame = m.frame + 1 } })
     (script : Script) (table : Table) (begun : ScriptState) (n : ℕ) (found : List ℕ) (step : IsStep script table n (statement p line))
     (st : StandsAt p script table begun n found) where
   abbrev x : Statement
@@ -239,33 +246,47 @@ module _ (p r m q : Planner) (line : ℕ) (reported : AreReported p r line) (ove
   abbrev t : ScriptState
   t = next_frame g line s
 
-  said : (r.plan.ops.items ≡ p.plan.ops.items ++ report_ops s line s.made) × AreSeen p s r.overdue
+  said : (r.draft.ops.items ≡ p.draft.ops.items ++ report_ops s line s.made) × AreSeen p s r.world.overdue
   said = reported.ops g begun n s found st
 
-  is_m : m ≡ record p { overdue = r.overdue; plan = record p.plan { ops = r.plan.ops }; temps = m.temps; safety = m.safety; store = m.store }
-  is_m = over.rest ∙ ap {A = Planner} {B = Planner} (λ k. record k { temps = m.temps; safety = m.safety; store = m.store }) reported.rest
+  is_m : record r { world = m } ≡ record p {
+    world = record p.world { overdue = r.world.overdue; temps = m.temps; safety = m.safety; store = m.store };
+    draft = record p.draft { ops = r.draft.ops };
+  }
+  is_m = ap (λ (k : World). record r { world = k }) over.rest ∙ ap {A = Planner} {B = Planner} (λ k. record k {
+    world = record k.world { temps = m.temps; safety = m.safety; store = m.store };
+  }) reported.rest
 
   abbrev as_q : Planner
-  as_q = record p { overdue = r.overdue; plan = record p.plan { ops = r.plan.ops }; temps = m.temps; safety = m.safety; store = m.store; frame = p.frame + 1 }
+  as_q = record p {
+    world = record p.world {
+      overdue = r.world.overdue;
+      temps = m.temps;
+      safety = m.safety;
+      store = m.store;
+      frame = p.world.frame + 1;
+    };
+    draft = record p.draft { ops = r.draft.ops };
+  }
 
   is_q : q ≡ as_q
-  is_q = last ∙ ap {A = Planner} {B = Planner} (λ k. record k { frame = k.frame + 1 }) is_m
+  is_q = last ∙ ap {A = Planner} {B = Planner} (λ k. record k { world = record k.world { frame = k.world.frame + 1 } }) is_m
 
   unused : AreUnused s
   unused c j e = temps_have_no_users g (Rattle.std.specs.Prelude.take n script.statements.items) c j e
 
-  before : AreContainers r s found
-  before = still p r s found s.alive s.frame s.values s.lines st.containers
-      (ap (λ (k : Planner). k.containers) reported.rest) (ap (λ (k : Planner). length k.values.items) reported.rest)
-      (ap (λ (k : Planner). k.store) reported.rest) (ap (λ (k : Planner). k.safety) reported.rest) (λ c lt. refl)
+  before : AreContainers r.world s found
+  before = still p.world r.world s found s.alive s.frame s.values s.lines st.knows.containers
+      (ap (λ (k : Planner). k.world.containers) reported.rest) (ap (λ (k : Planner). length k.world.values.items) reported.rest)
+      (ap (λ (k : Planner). k.world.store) reported.rest) (ap (λ (k : Planner). k.world.safety) reported.rest) (λ c lt. refl)
 
-  temps_of : AreTemps r.temps.items s
-  temps_of = subst (λ (k : Planner). AreTemps k.temps.items s) (sym reported.rest) st.temps
+  temps_of : AreTemps r.world.temps.items s
+  temps_of = subst (λ (k : Planner). AreTemps k.world.temps.items s) (sym reported.rest) st.knows.temps
 
-  stand : AreContainers q t found
-  stand = still m q (with_alive (stays s) s) found (stays s) (s.frame + 1) s.values t.lines (over.containers s found before temps_of unused)
-      (ap (λ (k : Planner). k.containers) last) (ap (λ (k : Planner). length k.values.items) last)
-      (ap (λ (k : Planner). k.store) last) (ap (λ (k : Planner). k.safety) last) (λ c lt. refl)
+  stand : AreContainers q.world t found
+  stand = still m q.world (with_alive (stays s) s) found (stays s) (s.frame + 1) s.values t.lines (over.containers s found before temps_of unused)
+      (ap (λ (k : Planner). k.world.containers) last) (ap (λ (k : Planner). length k.world.values.items) last)
+      (ap (λ (k : Planner). k.world.store) last) (ap (λ (k : Planner). k.world.safety) last) (λ c lt. refl)
 
   no_temps : AreTemps [] t
   no_temps = record {
@@ -277,43 +298,51 @@ module _ (p r m q : Planner) (line : ℕ) (reported : AreReported p r line) (ove
       none true = refl
       none false = refl
 
-  tempjobs : AreTempJobs p.tempjobs.items r.overdue t
-  tempjobs = let o = st.tempjobs in record { all = o.all; each = o.each; rising = o.rising; within = said.1.within; past = said.1.past; ahead = said.1.ahead }
+  tempjobs : AreTempJobs p.world.tempjobs.items r.world.overdue t
+  tempjobs = let o = st.knows.tempjobs in record {
+    all = o.all;
+    each = o.each;
+    rising = o.rising;
+    within = said.1.within;
+    past = said.1.past;
+    ahead = said.1.ahead;
+  }
 
   goes : IsContinued p q s t found
   goes = record {
     planner = as_continued p q as_q is_q refl;
     state = refl;
-    frame = ap (λ (k : Planner). k.frame) is_q ∙ ap (λ f. f + 1) st.numbers.frame;
+    frame = ap (λ (k : Planner). k.world.frame) is_q ∙ ap (λ f. f + 1) st.numbers.frame;
     later = omega arith;
     next = omega arith;
-    values = ap (λ (k : Planner). length k.values.items) is_q;
-    handles = (let e = ap (λ (k : Planner). length k.handles.items) is_q in omega arith);
-    peak = ap (λ (k : Planner). peak_of k.store) is_q ∙ over.peak ∙ ap (λ (k : Planner). peak_of k.store) reported.rest;
-    slots = (let u = over.used in let a = ap (λ (k : Planner). slots_in_use k.store) is_q in let b = ap (λ (k : Planner). slots_in_use k.store) reported.rest in
+    values = ap (λ (k : Planner). length k.world.values.items) is_q;
+    handles = (let e = ap (λ (k : Planner). length k.world.handles.items) is_q in omega arith);
+    peak = ap (λ (k : Planner). peak_of k.world.store) is_q ∙ over.peak ∙ ap (λ (k : Planner). peak_of k.world.store) reported.rest;
+    slots = (let u = over.used in let a = ap (λ (k : Planner). slots_in_use k.world.store) is_q in let b = ap
+        (λ (k : Planner). slots_in_use k.world.store) reported.rest in
         omega arith);
-    segments = (let e = ap (λ (k : Planner). length k.plan.segments.items) is_q in omega arith);
-    ops = (let e = ap (λ (k : Planner). ops_count k.plan.segments.items) is_q in let f = ap (λ (k : Planner). length k.plan.ops.items) is_q in
-        let o = ap (λ (k : Planner). k.overdue) is_q in
+    segments = (let e = ap (λ (k : Planner). length k.draft.segments.items) is_q in omega arith);
+    ops = (let e = ap (λ (k : Planner). ops_count k.draft.segments.items) is_q in let f = ap (λ (k : Planner). length k.draft.ops.items) is_q in
+        let o = ap (λ (k : Planner). k.world.overdue) is_q in
         let count = reported.count in omega arith);
-    temps = subst (λ ts. AreTemps ts t) (sym (ap (λ (k : Planner). k.temps.items) is_q ∙ over.temps)) no_temps;
-    tempjobs = subst (λ o. AreTempJobs p.tempjobs.items o t) (sym (ap (λ (k : Planner). k.overdue) is_q)) tempjobs;
-    jobs = subst (λ (k : Planner). StandsFor k.jobs s.book) (sym is_q) st.jobs;
+    temps = subst (λ ts. AreTemps ts t) (sym (ap (λ (k : Planner). k.world.temps.items) is_q ∙ over.temps)) no_temps;
+    tempjobs = subst (λ o. AreTempJobs p.world.tempjobs.items o t) (sym (ap (λ (k : Planner). k.world.overdue) is_q)) tempjobs;
+    jobs = subst (λ (k : Planner). StandsFor k.world.jobs s.book) (sym is_q) st.knows.jobs;
     containers = stand;
   }
 
   name_low : (c : ℕ) → c < s.made → (s.making c).name < length g.names
   name_low c lt =
-      let one = one_of p s found st.containers c lt in
-      let k = st.containers.each c one.0 one.1 in
+      let one = one_of p.world s found st.knows.containers c lt in
+      let k = st.knows.containers.each c one.0 one.1 in
       let named = k.named in
       let e = k.making.1 in
-      let each = st.each in
+      let each = st.knows.each in
       omega arith
 
   planned : (y : Outline) → Agrees p g begun found y → IsPlanned y t (draft_of q)
   planned y a = subst (λ (k : Planner). IsPlanned y t (draft_of k)) (sym is_q)
-      (frames_are_planned y g s line (draft_of p) (draft_of as_q) a.small st.known (st.planned y a)
+      (frames_are_planned y g s line (draft_of p) (draft_of as_q) a.small st.knows.known (st.planned y a)
       (record {
         below = λ c lt. name_short g y (s.making c).name a.names (name_low c lt);
         text = λ c lt. name_is g y (s.making c).name a.names;
@@ -334,10 +363,10 @@ module _ (p r m q : Planner) (line : ℕ) (reported : AreReported p r line) (ove
   spans : given_so_far q ≡ given_so_far p
   spans =
       ap given_so_far is_q
-      ∙ ap (λ ops. given_from p.plan.segments.items ++ given_in ops) said.0
-      ∙ ap (λ l. given_from p.plan.segments.items ++ l)
-      (given_more p.plan.ops.items (report_ops s line s.made) ∙ ap (λ l. given_in p.plan.ops.items ++ l) (none_reported s.made)
-      ∙ append-nil (given_in p.plan.ops.items))
+      ∙ ap (λ ops. given_from p.draft.segments.items ++ given_in ops) said.0
+      ∙ ap (λ l. given_from p.draft.segments.items ++ l)
+      (given_more p.draft.ops.items (report_ops s line s.made) ∙ ap (λ l. given_in p.draft.ops.items ++ l) (none_reported s.made)
+      ∙ append-nil (given_in p.draft.ops.items))
 
   pub frame_on : HasStepped script table begun n found p q x
   frame_on =
@@ -345,11 +374,13 @@ module _ (p r m q : Planner) (line : ℕ) (reported : AreReported p r line) (ove
       plain_steps script table begun n found p q x step
       (subst (λ u. Stands q g begun (suc n) u found) (sym is)
       (continued p q g begun n s t found st goes (subst IsKnown is (known_after script table n x step))
-      (subst (λ (k : Planner). AreNames k.values.items k.handles.items (length p.containers.items) t) (sym is_q)
-      (same_names p.values.items p.handles.items (length p.containers.items) s t refl st.names))
+      (subst (λ (k : Planner). AreNames k.world.values.items k.world.handles.items (length p.world.containers.items) t) (sym is_q)
+      (same_names p.world.values.items p.world.handles.items (length p.world.containers.items) s t refl st.knows.names))
       planned))
-      (quiet_continued p q s t found goes spans (ap (λ (k : Planner). k.plan.segments) is_q) (ap (λ (k : Planner). k.plan.waits) is_q))
+      (quiet_continued p q s t found goes spans (ap (λ (k : Planner). k.draft.segments) is_q) (ap (λ (k : Planner). k.draft.waits) is_q))
       (refl, tt) (ap (λ (u : ScriptState). u.book.completed) is)
 
-pub frame_goes : (p r m q : Planner) (line : ℕ) → AreReported p r line → AreOver r m → q ≡ record m { frame = m.frame + 1 } → GoesOn p q (statement p line)
+pub frame_goes : (p r : Planner) (m : World) (q : Planner) (line : ℕ) → AreReported p r line → AreOver r.world m
+    → q ≡ record r { world = record m { frame = m.frame + 1 } }
+    → GoesOn p q (statement p line)
 frame_goes p r m q line reported over last script table begun n found step st = frame_on p r m q line reported over last script table begun n found step st

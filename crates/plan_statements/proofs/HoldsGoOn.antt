@@ -31,6 +31,7 @@ use Rattle.plan_laws.specs.Planned.{Outline, IsPlanned}
 use Rattle.plan_laws.proofs.Disposing.{disposals_are_planned, others_are_planned}
 use Rattle.plan_state.specs.declared.state.Value.TheVariants.{Jobs as Handles}
 use Rattle.plan_state.specs.declared.state.Planner.{Planner}
+use Rattle.plan_state.specs.declared.state.World.{World}
 use Rattle.plan_state.specs.Accesses.{jobs_by, IsPushed, HasHandle, AreThere}
 use Rattle.plan_statements.specs.Endings.{disposal, IsDisposable, CanHold, IsHeldBack}
 use Rattle.plan_state.specs.Growth.{given_so_far}
@@ -52,7 +53,10 @@ use Rattle.plan_state.proofs.Restating.{accepted_state, said_nobody}
 module _ (script : Script) (table : Table) (begun : ScriptState) (n : ℕ) (found : List ℕ) (x : Statement) (step : IsStep script table n x)
     (p : Planner) (st : StandsAt p script table begun n found) (name handle : ℕ) (jobs : Jobs)
     (alive : (state_at script table n).alive (container_at (state_at script table n) name) ≡ true)
-    (m q : Planner) (i : IsHeldBack p m (container_at (state_at script table n) name)) (e : HasHandle m q handle jobs) where
+    (m last : World) (i : IsHeldBack p.world m (container_at (state_at script table n) name)) (e : HasHandle m last handle jobs) where
+  abbrev q : Planner
+  q = record p { world = last }
+
   abbrev g : Setting
   g = setting script table
 
@@ -66,45 +70,53 @@ module _ (script : Script) (table : Table) (begun : ScriptState) (n : ℕ) (foun
   t = with_name handle (states.Handle jobs) (dispose name s)
 
   made : ℕ
-  made = length p.containers.items
+  made = length p.world.containers.items
 
   named : IsNamed s t handle (states.Handle jobs)
   named = record { here = at_here s.values handle (states.Handle jobs); others = λ k ne. at_other s.values handle (states.Handle jobs) k ne }
 
-  was_named : AreNames m.values.items m.handles.items (length p.containers.items) s
-  was_named = subst (λ (k : Planner). AreNames k.values.items k.handles.items (length p.containers.items) s) (sym i.rest) st.names
+  was_named : AreNames m.values.items m.handles.items (length p.world.containers.items) s
+  was_named = subst (λ (k : World). AreNames k.values.items k.handles.items (length p.world.containers.items) s) (sym i.rest) st.knows.names
 
   stand_held : AreContainers m t found
-  stand_held = held_stand p m s found c0 st.containers alive i st.jobs st.known.book st.known.uses s.frame t.values s.lines
+  stand_held = held_stand p.world m s found c0 st.knows.containers alive i st.knows.jobs st.knows.known.book st.knows.known.uses s.frame t.values s.lines
 
-  stand : AreContainers q t found
-  stand = still m q t found t.alive t.frame t.values t.lines stand_held
-      (ap (λ (k : Planner). k.containers) e.rest) (ap length e.values ∙ set_long m.values.items handle (Handles e.place))
-      (ap (λ (k : Planner). k.store) e.rest) (ap (λ (k : Planner). k.safety) e.rest) (λ c lt. refl)
+  stand : AreContainers q.world t found
+  stand = still m last t found t.alive t.frame t.values t.lines stand_held
+      (ap (λ (k : World). k.containers) e.rest) (ap length e.values ∙ set_long m.values.items handle (Handles e.place))
+      (ap (λ (k : World). k.store) e.rest) (ap (λ (k : World). k.safety) e.rest) (λ c lt. refl)
 
-  is_q : q ≡ record p { safety = m.safety; store = m.store; values = q.values; handles = q.handles }
-  is_q = e.rest ∙ ap {A = Planner} {B = Planner} (λ k. record k { values = q.values; handles = q.handles }) i.rest
+  is_q : q ≡ record p { world = record p.world { safety = m.safety; store = m.store; values = last.values; handles = last.handles } }
+  is_q = ap (λ (k : World). record p { world = k }) (e.rest ∙ ap (λ (k : World). record k { values = last.values; handles = last.handles }) i.rest)
 
   goes : IsContinued p q s t found
   goes = record {
-    planner = as_continued p q (record p { safety = m.safety; store = m.store; values = q.values; handles = q.handles }) is_q refl;
+    planner = as_continued p q (record p {
+      world = record p.world {
+        safety = m.safety;
+        store = m.store;
+        values = last.values;
+        handles = last.handles;
+      };
+    }) is_q refl;
     state = refl;
-    frame = ap (λ (k : Planner). k.frame) is_q ∙ st.numbers.frame;
+    frame = ap (λ (k : Planner). k.world.frame) is_q ∙ st.numbers.frame;
     later = omega arith;
     next = omega arith;
-    values = ap length e.values ∙ set_long m.values.items handle (Handles e.place) ∙ ap (λ (k : Planner). length k.values.items) i.rest;
-    handles = (let more = (handles_more m q (length p.containers.items) s t handle jobs was_named e named).1 in
-        let h = ap (λ (k : Planner). length k.handles.items) i.rest in omega arith);
-    peak = ap (λ (k : Planner). peak_of k.store) is_q ∙ i.peak;
-    slots = (let u = i.used in let h = ap (λ (k : Planner). slots_in_use k.store) is_q in omega arith);
-    segments = (let h = ap (λ (k : Planner). length k.plan.segments.items) is_q in omega arith);
-    ops = (let h = ap (λ (k : Planner). ops_count k.plan.segments.items + length k.plan.ops.items) is_q in let o = ap (λ (k : Planner). k.overdue) is_q in
+    values = ap length e.values ∙ set_long m.values.items handle (Handles e.place) ∙ ap (λ (k : World). length k.values.items) i.rest;
+    handles = (let more = (handles_more m last (length p.world.containers.items) s t handle jobs was_named e named).1 in
+        let h = ap (λ (k : World). length k.handles.items) i.rest in omega arith);
+    peak = ap (λ (k : Planner). peak_of k.world.store) is_q ∙ i.peak;
+    slots = (let u = i.used in let h = ap (λ (k : Planner). slots_in_use k.world.store) is_q in omega arith);
+    segments = (let h = ap (λ (k : Planner). length k.draft.segments.items) is_q in omega arith);
+    ops = (let h = ap (λ (k : Planner). ops_count k.draft.segments.items + length k.draft.ops.items) is_q in let o = ap
+        (λ (k : Planner). k.world.overdue) is_q in
         omega arith);
-    temps = subst (λ (k : Planner). AreTemps k.temps.items t) (sym is_q)
-        (same_temps p.temps.items s (with_at s.alive c0 false) s.book t.values s.lines (λ c a. (fallen s c0 c a).1) st.temps);
-    tempjobs = subst (λ (k : Planner). AreTempJobs p.tempjobs.items k.overdue t) (sym is_q)
-        (same_tempjobs p.tempjobs.items p.overdue s (with_at s.alive c0 false) s.book t.values s.lines st.tempjobs);
-    jobs = subst (λ (k : Planner). StandsFor k.jobs s.book) (sym is_q) st.jobs;
+    temps = subst (λ (k : Planner). AreTemps k.world.temps.items t) (sym is_q)
+        (same_temps p.world.temps.items s (with_at s.alive c0 false) s.book t.values s.lines (λ c a. (fallen s c0 c a).1) st.knows.temps);
+    tempjobs = subst (λ (k : Planner). AreTempJobs p.world.tempjobs.items k.world.overdue t) (sym is_q)
+        (same_tempjobs p.world.tempjobs.items p.world.overdue s (with_at s.alive c0 false) s.book t.values s.lines st.knows.tempjobs);
+    jobs = subst (λ (k : Planner). StandsFor k.world.jobs s.book) (sym is_q) st.knows.jobs;
     containers = stand;
   }
 
@@ -112,15 +124,15 @@ module _ (script : Script) (table : Table) (begun : ScriptState) (n : ℕ) (foun
   planned y a = subst (λ (k : Planner). IsPlanned y t (draft_of k)) (sym is_q)
       (others_are_planned y (dispose name s) t (draft_of p)
       (record { made = refl; contents = refl; alive = refl; uses = refl; range = refl; book = refl; traps = refl; refused = refl; lines = refl })
-      (disposals_are_planned y s name (draft_of p) st.known (st.planned y a)))
+      (disposals_are_planned y s name (draft_of p) st.knows.known (st.planned y a)))
 
   pub held_on : act g s x ≡ t → IsPlain g x.act → HasStepped script table begun n found p q x
   held_on is plain =
       plain_steps script table begun n found p q x step
       (subst (λ u. Stands q g begun (suc n) u found) (sym is)
       (continued p q g begun n s t found st goes (subst IsKnown is (known_after script table n x step))
-      (handle_names m q (length p.containers.items) s t handle jobs was_named e named) planned))
-      (quiet_continued p q s t found goes (ap given_so_far is_q) (ap (λ (k : Planner). k.plan.segments) is_q) (ap (λ (k : Planner). k.plan.waits) is_q))
+      (handle_names m last (length p.world.containers.items) s t handle jobs was_named e named) planned))
+      (quiet_continued p q s t found goes (ap given_so_far is_q) (ap (λ (k : Planner). k.draft.segments) is_q) (ap (λ (k : Planner). k.draft.waits) is_q))
       plain (ap (λ (u : ScriptState). u.book.completed) is)
 
 -- ---- `dispose` with `after`
@@ -166,28 +178,29 @@ module _ (script : Script) (table : Table) (begun : ScriptState) (n : ℕ) (foun
     handle_below = made_below script table n x_after step fits.made handle kind.Handle
         (and_parts (makes ns handle kind.Handle) (all_used ns after.items) halves.1).0
 
-    pub after_below : All (λ k. k < length p.values.items) after.items
-    after_below = all_below step.accepted.kinds fits.made (length p.values.items) after.items
+    pub after_below : All (λ k. k < length p.world.values.items) after.items
+    after_below = all_below step.accepted.kinds fits.made (length p.world.values.items) after.items
         (and_parts (makes ns handle kind.Handle) (all_used ns after.items) halves.1).1
-        (λ k h. let lt = used_below script table n x_after step fits.made k (kind.Handle ∷ []) h in let e = st.each in omega arith)
+        (λ k h. let lt = used_below script table n x_after step fits.made k (kind.Handle ∷ []) h in let e = st.knows.each in omega arith)
 
-    module _ (jobs : Jobs) (are : (j : ℕ) → jobs j ≡ jobs_by p.handles.items p.values.items after.items j) where
+    module _ (jobs : Jobs) (are : (j : ℕ) → jobs j ≡ jobs_by p.world.handles.items p.world.values.items after.items j) where
       jobs_are : jobs ≡ jobs_named s' after.items
-      jobs_are = λ i j. (are j ∙ all_named p.values.items p.handles.items (length p.containers.items) s' st.names after.items after_below j) i
+      jobs_are = λ i j. (are j ∙ all_named p.world.values.items p.world.handles.items
+          (length p.world.containers.items) s' st.knows.names after.items after_below j) i
 
-      pub jobs_known : AreUpTo (count_of p.jobs) jobs
-      jobs_known = subst (AreUpTo (count_of p.jobs)) (sym jobs_are) (subst (λ k. AreUpTo k (jobs_named s' after.items)) (sym st.jobs.count)
-          (named_among s' st.known after.items))
+      pub jobs_known : AreUpTo (count_of p.world.jobs) jobs
+      jobs_known = subst (AreUpTo (count_of p.world.jobs)) (sym jobs_are) (subst (λ k. AreUpTo k (jobs_named s' after.items)) (sym st.knows.jobs.count)
+          (named_among s' st.knows.known after.items))
 
       refusal_is : refusal g' s' x_after.act ≡ disposal s' name jobs
       refusal_is = ap (disposal s' name) (sym jobs_are)
 
-      pub after_refused : (m q : Planner) (cause : Refusal) → Answers p s' name jobs (Err cause)
+      pub after_refused : (m : Planner) (w : World) (cause : Refusal) → Answers p s' name jobs (Err cause)
           → IsPushed p m (record { line = line; name = name; act = Say cause })
-          → HasHandle m q handle nobody → HasStepped script table begun n found p q x_after
-      after_refused m q cause a i e =
+          → HasHandle m.world w handle nobody → HasStepped script table begun n found p (record m { world = w }) x_after
+      after_refused m w cause a i e =
           said_nobody script table begun n found x_after step (record { cause = cause; name = name }) p st
-          (refusal_is ∙ sym a.0) name_below m q handle refl refl refl (inr (λ c. refl)) i e
+          (refusal_is ∙ sym a.0) name_below m w handle refl refl refl (inr (λ c. refl)) i e
 
       module _ (c : ℕ) (a : Answers p s' name jobs (Ok c)) where
         unrefused : refusal g' s' x_after.act ≡ None
@@ -196,13 +209,14 @@ module _ (script : Script) (table : Table) (begun : ScriptState) (n : ℕ) (foun
         is_alive' : s'.alive (container_at s' name) ≡ true
         is_alive' = alive_container s' (s'.values name) (disposed_alive s' name jobs (sym a.0))
 
-        pub after_can_hold : CanHold p (slice_get p.containers.items c)
+        pub after_can_hold : CanHold p.world (slice_get p.world.containers.items c)
         after_can_hold = can_hold p g' begun n s' found st (let few = statements_few script table n x_after step in omega arith) c a.1.1
             (ap s'.alive (sym a.1.0) ∙ is_alive')
 
-        pub after_held : (m q : Planner) → IsHeldBack p m c → HasHandle m q handle jobs → HasStepped script table begun n found p q x_after
-        after_held m q i e =
-            held_on script table begun n found x_after step p st name handle jobs is_alive' m q (subst (IsHeldBack p m) (sym a.1.0) i) e
+        pub after_held : (m w : World) → IsHeldBack p.world m c → HasHandle m w handle jobs
+            → HasStepped script table begun n found p (record p { world = w }) x_after
+        after_held m w i e =
+            held_on script table begun n found x_after step p st name handle jobs is_alive' m w (subst (IsHeldBack p.world m) (sym a.1.0) i) e
             (accepted_state g' s' x_after step.acts unrefused ∙ ap (λ js. with_name handle (states.Handle js) (dispose name s')) (sym jobs_are)) (refl, tt)
 
 -- the same as the code asks and answers
@@ -211,14 +225,15 @@ module _ (p : Planner) (line name : ℕ) (after : Vec ℕ Global) (handle : ℕ)
   statement = record { line = line; act = Dispose name after (Some handle) }
 
   pub record CanDispose : Type 0 where
-    pub name_in : name < vec_len p.values
-    pub handle_in : handle < vec_len p.values
-    pub there : AreThere (vec_len p.containers) (vec_len p.handles) p.values.items
-    pub few : vec_len p.handles < 2 ^ 32
-    pub after_in : All (λ k. k < vec_len p.values) after.items
-    pub jobs : (jobs : Jobs) → ((j : ℕ) → jobs j ≡ jobs_by p.handles.items p.values.items after.items j) → AreUpTo (count_of p.jobs) jobs
-    pub holds : (jobs : Jobs) → ((j : ℕ) → jobs j ≡ jobs_by p.handles.items p.values.items after.items j) → (c : ℕ) → IsDisposable p name jobs (Ok c)
-        → CanHold p (slice_get p.containers.items c)
+    pub name_in : name < vec_len p.world.values
+    pub handle_in : handle < vec_len p.world.values
+    pub there : AreThere (vec_len p.world.containers) (vec_len p.world.handles) p.world.values.items
+    pub few : vec_len p.world.handles < 2 ^ 32
+    pub after_in : All (λ k. k < vec_len p.world.values) after.items
+    pub jobs : (jobs : Jobs) → ((j : ℕ) → jobs j ≡ jobs_by p.world.handles.items p.world.values.items after.items j) → AreUpTo (count_of p.world.jobs) jobs
+    pub holds : (jobs : Jobs) → ((j : ℕ) → jobs j ≡ jobs_by p.world.handles.items p.world.values.items after.items j) → (c : ℕ)
+        → IsDisposable p.world name jobs (Ok c)
+        → CanHold p.world (slice_get p.world.containers.items c)
 
   pub after_ready : IsReady p statement → CanDispose
   after_ready ready =
@@ -230,24 +245,25 @@ module _ (p : Planner) (line name : ℕ) (after : Vec ℕ Global) (handle : ℕ)
         handle_in = within p g b.begun b.n s b.found b.stands handle (handle_below ready.0 b.table b.begun b.n b.found line name after handle b.step p
             b.stands);
         there = are_there p g b.begun b.n s b.found b.stands;
-        few = (let few = b.stands.numbers.handles_few in let most = statements_few ready.0 b.table b.n statement b.step in let len = p.handles.ok.0 in
+        few = (let few = b.stands.numbers.handles_few in let most = statements_few ready.0 b.table b.n statement b.step in let len = p.world.handles.ok.0 in
             omega arith);
-        after_in = subst (λ most. All (λ k. k < most) after.items) (sym p.values.ok.0)
+        after_in = subst (λ most. All (λ k. k < most) after.items) (sym p.world.values.ok.0)
             (after_below ready.0 b.table b.begun b.n b.found line name after handle b.step p b.stands);
         jobs = jobs_known ready.0 b.table b.begun b.n b.found line name after handle b.step p b.stands;
         holds = λ js are c answer. after_can_hold ready.0 b.table b.begun b.n b.found line name after handle b.step p b.stands js are c
-            (answer g b.begun b.n s b.found b.stands);
+            (answer g s b.found b.stands.knows);
       }
 
-  pub after_says : (m q : Planner) (jobs : Jobs) → ((j : ℕ) → jobs j ≡ jobs_by p.handles.items p.values.items after.items j) → (cause : Refusal)
-      → IsDisposable p name jobs (Err cause) → IsPushed p m (record { line = line; name = name; act = Say cause }) → HasHandle m q handle nobody
-      → GoesOn p q statement
-  after_says m q jobs are cause answer i e script table begun n found step st =
-      after_refused script table begun n found line name after handle step p st jobs are m q cause
-      (answer (setting script table) begun n (state_at script table n) found st) i e
+  pub after_says : (m : Planner) (w : World) (jobs : Jobs) → ((j : ℕ) → jobs j ≡ jobs_by p.world.handles.items p.world.values.items after.items j)
+      → (cause : Refusal)
+      → IsDisposable p.world name jobs (Err cause) → IsPushed p m (record { line = line; name = name; act = Say cause }) → HasHandle m.world w handle nobody
+      → GoesOn p (record m { world = w }) statement
+  after_says m w jobs are cause answer i e script table begun n found step st =
+      after_refused script table begun n found line name after handle step p st jobs are m w cause
+      (answer (setting script table) (state_at script table n) found st.knows) i e
 
-  pub after_goes : (m q : Planner) (jobs : Jobs) → ((j : ℕ) → jobs j ≡ jobs_by p.handles.items p.values.items after.items j) → (c : ℕ)
-      → IsDisposable p name jobs (Ok c) → IsHeldBack p m c → HasHandle m q handle jobs → GoesOn p q statement
-  after_goes m q jobs are c answer i e script table begun n found step st =
+  pub after_goes : (m w : World) (jobs : Jobs) → ((j : ℕ) → jobs j ≡ jobs_by p.world.handles.items p.world.values.items after.items j) → (c : ℕ)
+      → IsDisposable p.world name jobs (Ok c) → IsHeldBack p.world m c → HasHandle m w handle jobs → GoesOn p (record p { world = w }) statement
+  after_goes m w jobs are c answer i e script table begun n found step st =
       after_held script table begun n found line name after handle step p st jobs are c
-      (answer (setting script table) begun n (state_at script table n) found st) m q i e
+      (answer (setting script table) (state_at script table n) found st.knows) m w i e

@@ -40,6 +40,7 @@ use Rattle.plan_state.specs.declared.state.Value.{Value}
 use Rattle.plan_state.specs.declared.state.Value.TheVariants.{Dead, Whole, Slice, View, Jobs as Handles}
 use Rattle.plan_state.specs.declared.state.Container.{Container}
 use Rattle.plan_state.specs.declared.state.Planner.{Planner}
+use Rattle.plan_state.specs.declared.state.World.{World}
 use Rattle.plan_state.specs.Accesses.{slice_in, bind_from, bind_in, bind_by, length_in, start_of, part_by, IsPushed, IsRenamed, HasHandle, IsGone, IsRefusal, IsLiveSlot, IsWholeAlive, AreThere, jobs_by, view_of, view_number, view_by}
 use Rattle.plan_state.specs.Stands.{value_for, jobs_at, IsThere, AreNames, Stands, draft_of}
 use Rattle.plan_state.specs.Growth.{given_in}
@@ -55,8 +56,11 @@ use Rattle.plan_state.proofs.Restating.{accepted_on, calm, changed_fields, said_
 named : (s : ScriptState) (name : ℕ) (v : states.Value) → IsNamed s (with_name name v s) name v
 named s name v = record { here = at_here s.values name v; others = λ m ne. at_other s.values name v m ne }
 
-module _ (script : Script) (table : Table) (begun : ScriptState) (n : ℕ) (found : List ℕ) (x : Statement) (step : IsStep script table n x) (p q : Planner)
-    (name : ℕ) where
+module _ (script : Script) (table : Table) (begun : ScriptState) (n : ℕ) (found : List ℕ) (x : Statement) (step : IsStep script table n x) (p : Planner)
+    (last : World) (name : ℕ) where
+  abbrev q : Planner
+  q = record p { world = last }
+
   abbrev g : Setting
   g = setting script table
 
@@ -68,15 +72,17 @@ module _ (script : Script) (table : Table) (begun : ScriptState) (n : ℕ) (foun
 
   module _ (st : Stands p g begun n s found) (none : refusal g s x.act ≡ None) (plain : IsPlain g x.act) where
     -- with a value that is no handle
-    pub renamed_on : (v : Value) (w : states.Value) → effect g x.line s x.act ≡ with_name name w s → IsRenamed p q name v
-        → IsThere (length p.containers.items) (length p.handles.items) v → ((k : ℕ) → v ≡ Handles k → ⊥) → value_for p.handles.items v ≡ w → Onward
+    pub renamed_on : (v : Value) (w : states.Value) → effect g x.line s x.act ≡ with_name name w s → IsRenamed p.world last name v
+        → IsThere (length p.world.containers.items) (length p.world.handles.items) v → ((k : ℕ) → v ≡ Handles k → ⊥) → value_for p.world.handles.items v ≡ w
+        → Onward
     renamed_on v w is e there no_jobs stands =
+        let rest = ap (λ (k : World). record p { world = k }) e.rest in
         let t = effect g x.line s x.act in
-        let handles = ap (λ (k : Planner). k.handles.items) e.rest in
-        let ops = ap (λ (k : Planner). k.plan.ops.items) e.rest in
-        accepted_on script table begun n found x step p q st none plain (ap (λ (k : Planner). given_in k.plan.ops.items) e.rest)
+        let handles = ap (λ (k : Planner). k.world.handles.items) rest in
+        let ops = ap (λ (k : Planner). k.draft.ops.items) rest in
+        accepted_on script table begun n found x step p q st none plain (ap (λ (k : Planner). given_in k.draft.ops.items) rest)
         (calm p q g begun n s t found st
-        (changed_fields p q q.values p.handles p.safety p.passing p.plan.ops e.rest)
+        (changed_fields p q q.world.values p.world.handles p.world.safety p.world.passing p.draft.ops rest)
         (subst (λ (u : ScriptState). u ≡ record s {
           values = u.values;
           contents = u.contents;
@@ -85,14 +91,15 @@ module _ (script : Script) (table : Table) (begun : ScriptState) (n : ℕ) (foun
           passing = u.passing;
           lines = u.lines;
         }) (sym is) refl)
-        (ap (λ (k : Planner). k.safety) e.rest) (ap (λ (u : ScriptState). u.view) is) (ap (λ (u : ScriptState). u.contents) is)
-        (ap (λ (k : Planner). k.passing) e.rest ∙ st.numbers.passing ∙ sym (ap (λ (u : ScriptState). u.passing) is))
-        (ap length e.values ∙ set_long p.values.items name v) (let l = ap length handles in omega arith) (let l = ap length ops in omega arith))
-        (subst (λ hs. AreNames q.values.items hs (length p.containers.items) t) (sym handles)
-        (renamed_names p.values.items q.values.items p.handles.items (length p.containers.items) s t name v w st.names e.values there no_jobs stands
+        (ap (λ (k : Planner). k.world.safety) rest) (ap (λ (u : ScriptState). u.view) is) (ap (λ (u : ScriptState). u.contents) is)
+        (ap (λ (k : Planner). k.world.passing) rest ∙ st.numbers.passing ∙ sym (ap (λ (u : ScriptState). u.passing) is))
+        (ap length e.values ∙ set_long p.world.values.items name v) (let l = ap length handles in omega arith) (let l = ap length ops in omega arith))
+        (subst (λ hs. AreNames q.world.values.items hs (length p.world.containers.items) t) (sym handles)
+        (renamed_names p.world.values.items q.world.values.items p.world.handles.items
+        (length p.world.containers.items) s t name v w st.knows.names e.values there no_jobs stands
         (subst (λ u. IsNamed s u name w) (sym is) (named s name w))))
         (λ y a. subst (λ u. IsPlanned y u (draft_of q)) (sym is)
-        (subst (λ k. IsPlanned y (with_name name w s) (draft_of k)) (sym e.rest)
+        (subst (λ k. IsPlanned y (with_name name w s) (draft_of k)) (sym rest)
         (others_are_planned y s (with_name name w s) _ (record {
           made = refl;
           contents = refl;
@@ -106,14 +113,15 @@ module _ (script : Script) (table : Table) (begun : ScriptState) (n : ℕ) (foun
         }) (st.planned y a))))
 
     -- with some jobs
-    pub handle_on : (jobs : Jobs) → effect g x.line s x.act ≡ with_name name (states.Handle jobs) s → HasHandle p q name jobs → Onward
+    pub handle_on : (jobs : Jobs) → effect g x.line s x.act ≡ with_name name (states.Handle jobs) s → HasHandle p.world last name jobs → Onward
     handle_on jobs is e =
+        let rest = ap (λ (k : World). record p { world = k }) e.rest in
         let t = effect g x.line s x.act in
-        let ops = ap (λ (k : Planner). k.plan.ops.items) e.rest in
+        let ops = ap (λ (k : Planner). k.draft.ops.items) rest in
         let is_named = subst (λ u. IsNamed s u name (states.Handle jobs)) (sym is) (named s name (states.Handle jobs)) in
-        accepted_on script table begun n found x step p q st none plain (ap (λ (k : Planner). given_in k.plan.ops.items) e.rest)
+        accepted_on script table begun n found x step p q st none plain (ap (λ (k : Planner). given_in k.draft.ops.items) rest)
         (calm p q g begun n s t found st
-        (changed_fields p q q.values q.handles p.safety p.passing p.plan.ops e.rest)
+        (changed_fields p q q.world.values q.world.handles p.world.safety p.world.passing p.draft.ops rest)
         (subst (λ (u : ScriptState). u ≡ record s {
           values = u.values;
           contents = u.contents;
@@ -122,13 +130,13 @@ module _ (script : Script) (table : Table) (begun : ScriptState) (n : ℕ) (foun
           passing = u.passing;
           lines = u.lines;
         }) (sym is) refl)
-        (ap (λ (k : Planner). k.safety) e.rest) (ap (λ (u : ScriptState). u.view) is) (ap (λ (u : ScriptState). u.contents) is)
-        (ap (λ (k : Planner). k.passing) e.rest ∙ st.numbers.passing ∙ sym (ap (λ (u : ScriptState). u.passing) is))
-        (ap length e.values ∙ set_long p.values.items name (Handles e.place))
-        (handles_more p q (length p.containers.items) s t name jobs st.names e is_named).1 (let l = ap length ops in omega arith))
-        (handle_names p q (length p.containers.items) s t name jobs st.names e is_named)
+        (ap (λ (k : Planner). k.world.safety) rest) (ap (λ (u : ScriptState). u.view) is) (ap (λ (u : ScriptState). u.contents) is)
+        (ap (λ (k : Planner). k.world.passing) rest ∙ st.numbers.passing ∙ sym (ap (λ (u : ScriptState). u.passing) is))
+        (ap length e.values ∙ set_long p.world.values.items name (Handles e.place))
+        (handles_more p.world last (length p.world.containers.items) s t name jobs st.knows.names e is_named).1 (let l = ap length ops in omega arith))
+        (handle_names p.world last (length p.world.containers.items) s t name jobs st.knows.names e is_named)
         (λ y a. subst (λ u. IsPlanned y u (draft_of q)) (sym is)
-        (subst (λ k. IsPlanned y (with_name name (states.Handle jobs) s) (draft_of k)) (sym e.rest)
+        (subst (λ k. IsPlanned y (with_name name (states.Handle jobs) s) (draft_of k)) (sym rest)
         (others_are_planned y s (with_name name (states.Handle jobs) s) _
         (record { made = refl; contents = refl; alive = refl; uses = refl; range = refl; book = refl; traps = refl; refused = refl; lines = refl })
         (st.planned y a))))
@@ -171,7 +179,7 @@ module _ (line name of : ℕ) where
         by None h = absurd (not_both h refl)
         by (Some k) h = made_below script table n copy step copy_used.0 name k h
 
-  pub copy_ready : (p : Planner) → IsReady p copy → (of < vec_len p.values) × (name < vec_len p.values)
+  pub copy_ready : (p : Planner) → IsReady p copy → (of < vec_len p.world.values) × (name < vec_len p.world.values)
   copy_ready p r =
       let b = r.1 in
       let g = setting r.0 b.table in
@@ -181,15 +189,17 @@ module _ (line name of : ℕ) where
         within p g b.begun b.n s b.found b.stands name (copy_below r.0 b.table b.n b.step),
       )
 
-  pub copied : (p q : Planner) (v : Value) → slice_get p.values.items of ≡ Some v → IsRenamed p q name v → GoesOn p q copy
-  copied p q v h e script table begun n found step st =
+  pub copied : (p : Planner) (w : World) (v : Value) → slice_get p.world.values.items of ≡ Some v → IsRenamed p.world w name v
+      → GoesOn p (record p { world = w }) copy
+  copied p w v h e script table begun n found step st =
       let s = state_at script table n in
       let u = copy_used script table n step in
       let used = is_used (names_at script table n step u.0) of CONTAINERS u.1 in
-      let stands = st.names.are of v h in
+      let stands = st.knows.names.are of v h in
       let held = subst (IsOfKind s used.kind) (sym stands) ((holds_kinds script table n copy step).names of used.kind used.at) in
-      renamed_on script table begun n found copy step p q name st refl (refl, tt) v (s.values of) refl e (st.names.there of v h)
-      (λ k is. container_no_jobs s used.kind p.handles.items v k held (no_handle used.kind used.fits) (st.names.there of (Handles k) (h ∙ ap Some is)) is)
+      renamed_on script table begun n found copy step p w name st refl (refl, tt) v (s.values of) refl e (st.knows.names.there of v h)
+      (λ k is. container_no_jobs s used.kind p.world.handles.items v k held (no_handle used.kind used.fits)
+      (st.knows.names.there of (Handles k) (h ∙ ap Some is)) is)
       stands
 
 -- by what is answered of a name
@@ -252,15 +262,16 @@ no_slices (Entries room es) h = cc
 -- what is known of a name that is an array or a slice
 module _ (p : Planner) (g : Setting) (begun : ScriptState) (n : ℕ) (s : ScriptState) (found : List ℕ) (st : Stands p g begun n s found) where
   -- the words of a container
-  bind_read : (c : ℕ) (f : Bind → Bind) → c < length p.containers.items → (start : ℕ) × (bind_in p.containers.items c f ≡ f (bind_of start (s.contents c)))
+  bind_read : (c : ℕ) (f : Bind → Bind) → c < length p.world.containers.items
+      → (start : ℕ) × (bind_in p.world.containers.items c f ≡ f (bind_of start (s.contents c)))
   bind_read c f lt =
-      let it = there p.containers.items c lt in
-      (get_or found (s.range c) 0, ap (λ o. bind_from o f) it.1 ∙ ap f (st.containers.each c it.0 it.1).bind)
+      let it = there p.world.containers.items c lt in
+      (get_or found (s.range c) 0, ap (λ o. bind_from o f) it.1 ∙ ap f (st.knows.containers.each c it.0 it.1).bind)
 
   few_words : live_words s ≤ 1048576
   few_words =
-      let a = p.store.kept.few in
-      let b = p.store.kept.live in
+      let a = p.world.store.kept.few in
+      let b = p.world.store.kept.live in
       let c = st.numbers.live_words in
       let most : MOST_LIVE_WORDS ≡ 1048576 = refl in
       omega arith
@@ -268,10 +279,11 @@ module _ (p : Planner) (g : Setting) (begun : ScriptState) (n : ℕ) (s : Script
   abbrev IsSliceable : NameKind → Type 0
   IsSliceable k = (k ≡ kind.Array) ⊎ (k ≡ kind.Slice)
 
-  elements_long : (k : NameKind) (v : Value) → IsSliceable k → IsOfKind s k (value_for p.handles.items v) → is_alive s (value_for p.handles.items v) ≡ true
-      → IsThere (length p.containers.items) (length p.handles.items) v
-      → length_in (bind_by p.containers.items v) ≡ Some (length (value_elements (value_for p.handles.items v)
-      (s.contents (states.container_of (value_for p.handles.items v)))))
+  elements_long : (k : NameKind) (v : Value) → IsSliceable k → IsOfKind s k (value_for p.world.handles.items v)
+      → is_alive s (value_for p.world.handles.items v) ≡ true
+      → IsThere (length p.world.containers.items) (length p.world.handles.items) v
+      → length_in (bind_by p.world.containers.items v) ≡ Some (length (value_elements (value_for p.world.handles.items v)
+      (s.contents (states.container_of (value_for p.world.handles.items v)))))
   elements_long k Dead either h alive lt = absurd (not_both alive refl)
   elements_long k (Whole c) either h alive lt =
       let b = bind_read c (λ b. b) lt in
@@ -281,18 +293,18 @@ module _ (p : Planner) (g : Setting) (begun : ScriptState) (n : ℕ) (s : Script
       let b = bind_read c (slice_in from have) lt.0 in
       ap length_in b.1 ∙ slice_bind b.0 from have (s.contents c) h.2 ∙ ap Some (sym (part_length (elements (s.contents c)) from have h.3))
   elements_long k (View c number) either h alive lt = ⊎_elim (λ e. absurd cc) (λ e. absurd cc) either
-  elements_long k (Handles j) either h alive lt = absurd (by (slice_get p.handles.items j) alive)
+  elements_long k (Handles j) either h alive lt = absurd (by (slice_get p.world.handles.items j) alive)
     where
       by : (o : Option Handle) → is_alive s (jobs_at o) ≡ true → ⊥
       by None e = not_both e refl
       by (Some q) e = not_both e refl
 
   -- a part of it
-  part_there : (k : NameKind) (v : Value) (start len : ℕ) → start ≤ 1048576 → IsOfKind s k (value_for p.handles.items v)
-      → is_alive s (value_for p.handles.items v) ≡ true
-      → start + len ≤ length (value_elements (value_for p.handles.items v) (s.contents (states.container_of (value_for p.handles.items v))))
-      → IsThere (length p.containers.items) (length p.handles.items) v
-      → IsThere (length p.containers.items) (length p.handles.items) (part_by v start len)
+  part_there : (k : NameKind) (v : Value) (start len : ℕ) → start ≤ 1048576 → IsOfKind s k (value_for p.world.handles.items v)
+      → is_alive s (value_for p.world.handles.items v) ≡ true
+      → start + len ≤ length (value_elements (value_for p.world.handles.items v) (s.contents (states.container_of (value_for p.world.handles.items v))))
+      → IsThere (length p.world.containers.items) (length p.world.handles.items) v
+      → IsThere (length p.world.containers.items) (length p.world.handles.items) (part_by v start len)
   part_there k Dead start len few h alive fits lt = tt
   part_there k (Whole c) start len few h alive fits lt = (lt, few)
   part_there k (Slice c from have) start len few h alive fits lt =
@@ -374,9 +386,9 @@ module _ (line name of start len : ℕ) where
       }
 
   pub record IsSliceReady (p : Planner) : Type 0 where
-    pub of_in : of < vec_len p.values
-    pub name_in : name < vec_len p.values
-    pub there : AreThere (vec_len p.containers) (vec_len p.handles) p.values.items
+    pub of_in : of < vec_len p.world.values
+    pub name_in : name < vec_len p.world.values
+    pub there : AreThere (vec_len p.world.containers) (vec_len p.world.handles) p.world.values.items
     pub start_few : start ≤ 1048576
     pub len_few : len ≤ 1048576
 
@@ -397,97 +409,99 @@ module _ (line name of start len : ℕ) where
   -- the length of its source
   module _ (p : Planner) (script : Script) (table : Table) (begun : ScriptState) (n : ℕ) (found : List ℕ) (step : IsStep script table n slice)
       (st : Stands p (setting script table) begun n (state_at script table n) found)
-      (v : Value) (h : slice_get p.values.items of ≡ Some v) (alive : is_alive (state_at script table n) ((state_at script table n).values of) ≡ true) where
+      (v : Value) (h : slice_get p.world.values.items of ≡ Some v) (alive : is_alive (state_at script table n) ((state_at script table n).values of)
+      ≡ true) where
     abbrev now : ScriptState
     now = state_at script table n
 
     used : IsUsed (record { kinds = step.accepted.kinds; made = (slice_used script table n step).made }) of SLICEABLE
     used = is_used (record { kinds = step.accepted.kinds; made = (slice_used script table n step).made }) of SLICEABLE (slice_used script table n step).uses_it
 
-    stands : value_for p.handles.items v ≡ now.values of
-    stands = st.names.are of v h
+    stands : value_for p.world.handles.items v ≡ now.values of
+    stands = st.knows.names.are of v h
 
-    held : IsOfKind now used.kind (value_for p.handles.items v)
+    held : IsOfKind now used.kind (value_for p.world.handles.items v)
     held = subst (IsOfKind now used.kind) (sym stands) ((holds_kinds script table n slice step).names of used.kind used.at)
 
-    alive_for : is_alive now (value_for p.handles.items v) ≡ true
+    alive_for : is_alive now (value_for p.world.handles.items v) ≡ true
     alive_for = ap (is_alive now) stands ∙ alive
 
-    pub source_long : length_in (bind_by p.containers.items v) ≡ Some (length (value_elements (now.values of) (contents_at now of)))
+    pub source_long : length_in (bind_by p.world.containers.items v) ≡ Some (length (value_elements (now.values of) (contents_at now of)))
     source_long =
         elements_long p (setting script table) begun n now found st used.kind v (two_kinds used.kind kind.Array kind.Slice used.fits) held alive_for
-        (st.names.there of v h)
+        (st.knows.names.there of v h)
         ∙ ap (λ v. Some (length (value_elements v (now.contents (states.container_of v))))) stands
 
     pub source_part : start + len ≤ length (value_elements (now.values of) (contents_at now of))
-        → IsThere (length p.containers.items) (length p.handles.items) (part_by v start len)
+        → IsThere (length p.world.containers.items) (length p.world.handles.items) (part_by v start len)
     source_part fits =
         part_there p (setting script table) begun n now found st used.kind v start len (slice_used script table n step).start_few held alive_for
-        (subst (λ v. start + len ≤ length (value_elements v (now.contents (states.container_of v)))) (sym stands) fits) (st.names.there of v h)
+        (subst (λ v. start + len ≤ length (value_elements v (now.contents (states.container_of v)))) (sym stands) fits) (st.knows.names.there of v h)
 
   -- what it answers
-  pub slice_gone : (p : Planner) (b : Bool) → IsGone p of b → b ≡ true → IsRefusal p slice of (Some Disposed)
+  pub slice_gone : (p : Planner) (b : Bool) → IsGone p.world of b → b ≡ true → IsRefusal p slice of (Some Disposed)
   slice_gone p b gone is script table begun n found step st =
       let g = setting script table in
       let s = state_at script table n in
-      sym (slice_decided g s ∙ ap (λ a. decide a (fits_in s)) (dead_by s of b (gone g begun n s found st) is))
+      sym (slice_decided g s ∙ ap (λ a. decide a (fits_in s)) (dead_by s of b (gone g s found st.knows) is))
 
-  pub slice_long : (p : Planner) (b : Bool) → IsGone p of b → b ≡ false → (v : Value) → slice_get p.values.items of ≡ Some v → (l : ℕ)
-      → length_in (bind_by p.containers.items v) ≡ Some l → l < start + len
+  pub slice_long : (p : Planner) (b : Bool) → IsGone p.world of b → b ≡ false → (v : Value) → slice_get p.world.values.items of ≡ Some v → (l : ℕ)
+      → length_in (bind_by p.world.containers.items v) ≡ Some l → l < start + len
       → IsRefusal p slice of (Some PastRange)
   slice_long p b gone is v h l at lt script table begun n found step st =
       let g = setting script table in
       let s = state_at script table n in
-      let alive = alive_by s of b (gone g begun n s found st) is in
+      let alive = alive_by s of b (gone g s found st.knows) is in
       let same : l ≡ length (value_elements (s.values of) (contents_at s of)) = some_is (sym at ∙ source_long p script table begun n found step st v h alive) in
       let past : fits_in s ≡ false = grind arith in
       sym (slice_decided g s ∙ ap (λ a. decide a (fits_in s)) alive ∙ ap (decide true) past)
 
-  pub slice_fits : (p : Planner) (b : Bool) → IsGone p of b → b ≡ false → (v : Value) → slice_get p.values.items of ≡ Some v → (l : ℕ)
-      → length_in (bind_by p.containers.items v) ≡ Some l → start + len ≤ l
+  pub slice_fits : (p : Planner) (b : Bool) → IsGone p.world of b → b ≡ false → (v : Value) → slice_get p.world.values.items of ≡ Some v → (l : ℕ)
+      → length_in (bind_by p.world.containers.items v) ≡ Some l → start + len ≤ l
       → IsRefusal p slice of None
   slice_fits p b gone is v h l at le script table begun n found step st =
       let g = setting script table in
       let s = state_at script table n in
-      let alive = alive_by s of b (gone g begun n s found st) is in
+      let alive = alive_by s of b (gone g s found st.knows) is in
       let same : l ≡ length (value_elements (s.values of) (contents_at s of)) = some_is (sym at ∙ source_long p script table begun n found step st v h alive) in
       let fits : fits_in s ≡ true = grind arith in
       sym (slice_decided g s ∙ ap (λ a. decide a (fits_in s)) alive ∙ ap (decide true) fits)
 
   -- and so its source has a length where it isn't gone
-  pub source_has : (p : Planner) → IsReady p slice → (b : Bool) → IsGone p of b → b ≡ false → (v : Value) → slice_get p.values.items of ≡ Some v
-      → (l : ℕ) × (length_in (bind_by p.containers.items v) ≡ Some l)
+  pub source_has : (p : Planner) → IsReady p slice → (b : Bool) → IsGone p.world of b → b ≡ false → (v : Value) → slice_get p.world.values.items of ≡ Some v
+      → (l : ℕ) × (length_in (bind_by p.world.containers.items v) ≡ Some l)
   source_has p r b gone is v h =
       let i = r.1 in
       let g = setting r.0 i.table in
       let s = state_at r.0 i.table i.n in
-      let alive = alive_by s of b (gone g i.begun i.n s i.found i.stands) is in
+      let alive = alive_by s of b (gone g s i.found i.stands.knows) is in
       (length (value_elements (s.values of) (contents_at s of)), source_long p r.0 i.table i.begun i.n i.found i.step i.stands v h alive)
 
   -- and it goes on
-  pub slice_refused : (p m q : Planner) (cause : Refusal) → IsRefusal p slice of (Some cause)
-      → IsPushed p m (record { line = line; name = of; act = Say cause }) → IsRenamed m q name Dead → GoesOn p q slice
-  slice_refused p m q cause is i e script table begun n found step st =
+  pub slice_refused : (p m : Planner) (w : World) (cause : Refusal) → IsRefusal p slice of (Some cause)
+      → IsPushed p m (record { line = line; name = of; act = Say cause }) → IsRenamed m.world w name Dead → GoesOn p (record m { world = w }) slice
+  slice_refused p m w cause is i e script table begun n found step st =
       let u = slice_used script table n step in
       said_dead script table begun n found slice step (record { cause = cause; name = of }) p st (sym (is script table begun n found step st))
-      (used_below script table n slice step u.made of SLICEABLE u.uses_it) m q name refl refl refl (inr (λ c. refl)) i e
+      (used_below script table n slice step u.made of SLICEABLE u.uses_it) m w name refl refl refl (inr (λ c. refl)) i e
 
   accepted : (a f : Bool) → decide a f ≡ None → (a ≡ true) × (f ≡ true)
   accepted false f e = absurd (none_some (sym e))
   accepted true false e = absurd (none_some (sym e))
   accepted true true e = (refl, refl)
 
-  pub slice_taken : (p q : Planner) (v : Value) → IsRefusal p slice of None → slice_get p.values.items of ≡ Some v → IsRenamed p q name (part_by v start len)
-      → GoesOn p q slice
-  slice_taken p q v is h e script table begun n found step st =
+  pub slice_taken : (p : Planner) (w : World) (v : Value) → IsRefusal p slice of None → slice_get p.world.values.items of ≡ Some v
+      → IsRenamed p.world w name (part_by v start len)
+      → GoesOn p (record p { world = w }) slice
+  slice_taken p w v is h e script table begun n found step st =
       let g = setting script table in
       let s = state_at script table n in
       let none : refusal g s (SliceOf name of start len) ≡ None = sym (is script table begun n found step st) in
       let both = accepted (is_alive s (s.values of)) (fits_in s) (sym (slice_decided g s) ∙ none) in
       let fits = leb-true (start + len) (length (value_elements (s.values of) (contents_at s of))) both.1 in
-      renamed_on script table begun n found slice step p q name st none (refl, tt) (part_by v start len) (part_of (s.values of) start len) refl e
+      renamed_on script table begun n found slice step p w name st none (refl, tt) (part_by v start len) (part_of (s.values of) start len) refl e
       (source_part p script table begun n found step st v h both.0 fits) (part_no_jobs v start len)
-      (part_stands p.handles.items v start len ∙ ap (λ v. part_of v start len) (st.names.are of v h))
+      (part_stands p.world.handles.items v start len ∙ ap (λ v. part_of v start len) (st.knows.names.are of v h))
 
 -- ---- `view`
 
@@ -496,17 +510,23 @@ pub record IsWholeAt (p : Planner) (s : ScriptState) (v : Value) : Type 0 where
   pub c : ℕ
   pub it : Container
   pub is : v ≡ Whole c
-  pub has : slice_get p.containers.items c ≡ Some it
+  pub has : slice_get p.world.containers.items c ≡ Some it
   pub alive : s.alive c ≡ true
 
 pub whole_at : (p : Planner) (s : ScriptState) (k : NameKind) (v : Value) → (k ≡ kind.Slice → ⊥) → (k ≡ kind.View → ⊥)
-    → IsOfKind s k (value_for p.handles.items v) → is_alive s (value_for p.handles.items v) ≡ true
-    → IsThere (length p.containers.items) (length p.handles.items) v → IsWholeAt p s v
+    → IsOfKind s k (value_for p.world.handles.items v) → is_alive s (value_for p.world.handles.items v) ≡ true
+    → IsThere (length p.world.containers.items) (length p.world.handles.items) v → IsWholeAt p s v
 whole_at p s k Dead no_slice no_view h alive lt = absurd (not_both alive refl)
-whole_at p s k (Whole c) no_slice no_view h alive lt = let t = there p.containers.items c lt in record { c = c; it = t.0; is = refl; has = t.1; alive = alive }
+whole_at p s k (Whole c) no_slice no_view h alive lt = let t = there p.world.containers.items c lt in record {
+  c = c;
+  it = t.0;
+  is = refl;
+  has = t.1;
+  alive = alive;
+}
 whole_at p s k (Slice c start len) no_slice no_view h alive lt = absurd (no_slice h.0)
 whole_at p s k (View c number) no_slice no_view h alive lt = absurd (no_view h.0)
-whole_at p s k (Handles j) no_slice no_view h alive lt = absurd (by (slice_get p.handles.items j) alive)
+whole_at p s k (Handles j) no_slice no_view h alive lt = absurd (by (slice_get p.world.handles.items j) alive)
   where
     by : (o : Option Handle) → is_alive s (jobs_at o) ≡ true → ⊥
     by None e = not_both e refl
@@ -540,9 +560,9 @@ module _ (line name of : ℕ) where
       record { made = f.made; makes_it = both.0; uses_it = both.1 }
 
   pub record IsViewReady (p : Planner) : Type 0 where
-    pub of_in : of < vec_len p.values
-    pub name_in : name < vec_len p.values
-    pub there : AreThere (vec_len p.containers) (vec_len p.handles) p.values.items
+    pub of_in : of < vec_len p.world.values
+    pub name_in : name < vec_len p.world.values
+    pub there : AreThere (vec_len p.world.containers) (vec_len p.world.handles) p.world.values.items
 
   pub view_ready : (p : Planner) → IsReady p viewing → IsViewReady p
   view_ready p r =
@@ -558,53 +578,55 @@ module _ (line name of : ℕ) where
 
   module _ (p : Planner) (script : Script) (table : Table) (begun : ScriptState) (n : ℕ) (found : List ℕ) (step : IsStep script table n viewing)
       (st : Stands p (setting script table) begun n (state_at script table n) found)
-      (v : Value) (h : slice_get p.values.items of ≡ Some v) (alive : is_alive (state_at script table n) ((state_at script table n).values of) ≡ true) where
+      (v : Value) (h : slice_get p.world.values.items of ≡ Some v) (alive : is_alive (state_at script table n) ((state_at script table n).values of)
+      ≡ true) where
     list_source : IsWholeAt p (state_at script table n) v
     list_source =
         let s = state_at script table n in
         let u = view_used script table n step in
         let used = is_used (record { kinds = step.accepted.kinds; made = u.made }) of (kind.List ∷ []) u.uses_it in
-        let stands = st.names.are of v h in
+        let stands = st.knows.names.are of v h in
         let is = one_kind used.kind kind.List used.fits in
         whole_at p s used.kind v (λ e. cc) (λ e. cc)
         (subst (IsOfKind s used.kind) (sym stands) ((holds_kinds script table n viewing step).names of used.kind used.at))
-        (ap (is_alive s) stands ∙ alive) (st.names.there of v h)
+        (ap (is_alive s) stands ∙ alive) (st.knows.names.there of v h)
 
-  pub view_source : (p : Planner) → IsReady p viewing → (b : Bool) → IsGone p of b → b ≡ false → (v : Value) → slice_get p.values.items of ≡ Some v
-      → IsWholeAlive p.safety p.containers.items v
+  pub view_source : (p : Planner) → IsReady p viewing → (b : Bool) → IsGone p.world of b → b ≡ false → (v : Value) → slice_get p.world.values.items of ≡ Some v
+      → IsWholeAlive p.world.safety p.world.containers.items v
   view_source p r b gone is v h =
       let i = r.1 in
       let s = state_at r.0 i.table i.n in
-      let a = alive_by s of b (gone (setting r.0 i.table) i.begun i.n s i.found i.stands) is in
+      let a = alive_by s of b (gone (setting r.0 i.table) s i.found i.stands.knows) is in
       let l = list_source p r.0 i.table i.begun i.n i.found i.step i.stands v h a in
-      let slot = state_of p.safety l.it.slot.0 in
-      let live = (and_parts slot.live _ ((i.stands.containers.each l.c l.it l.has).alive ∙ l.alive)).0 in
-      subst (IsWholeAlive p.safety p.containers.items) (sym l.is) (subst (IsLiveSlot p.safety) (sym l.has) live)
+      let slot = state_of p.world.safety l.it.slot.0 in
+      let live = (and_parts slot.live _ ((i.stands.knows.containers.each l.c l.it l.has).alive ∙ l.alive)).0 in
+      subst (IsWholeAlive p.world.safety p.world.containers.items) (sym l.is) (subst (IsLiveSlot p.world.safety) (sym l.has) live)
 
-  pub view_refused : (p m q : Planner) (b : Bool) → IsGone p of b → b ≡ true → IsPushed p m (record { line = line; name = of; act = Say Disposed })
-      → IsRenamed m q name Dead → GoesOn p q viewing
-  view_refused p m q b gone is i e script table begun n found step st =
+  pub view_refused : (p m : Planner) (w : World) (b : Bool) → IsGone p.world of b → b ≡ true
+      → IsPushed p m (record { line = line; name = of; act = Say Disposed })
+      → IsRenamed m.world w name Dead → GoesOn p (record m { world = w }) viewing
+  view_refused p m w b gone is i e script table begun n found step st =
       let g = setting script table in
       let s = state_at script table n in
       let u = view_used script table n step in
       said_dead script table begun n found viewing step (refused Disposed of) p st
-      (view_decided g s ∙ ap unless_alive (dead_by s of b (gone g begun n s found st) is))
-      (used_below script table n viewing step u.made of (kind.List ∷ []) u.uses_it) m q name refl refl refl (inr (λ c. refl)) i e
+      (view_decided g s ∙ ap unless_alive (dead_by s of b (gone g s found st.knows) is))
+      (used_below script table n viewing step u.made of (kind.List ∷ []) u.uses_it) m w name refl refl refl (inr (λ c. refl)) i e
 
-  pub viewed : (p q : Planner) (b : Bool) → IsGone p of b → b ≡ false → (v : Value) → slice_get p.values.items of ≡ Some v
-      → IsRenamed p q name (view_by p.safety p.containers.items v) → GoesOn p q viewing
-  viewed p q b gone is v h e script table begun n found step st =
+  pub viewed : (p : Planner) (w : World) (b : Bool) → IsGone p.world of b → b ≡ false → (v : Value) → slice_get p.world.values.items of ≡ Some v
+      → IsRenamed p.world w name (view_by p.world.safety p.world.containers.items v) → GoesOn p (record p { world = w }) viewing
+  viewed p w b gone is v h e script table begun n found step st =
       let g = setting script table in
       let s = state_at script table n in
-      let a = alive_by s of b (gone g begun n s found st) is in
+      let a = alive_by s of b (gone g s found st.knows) is in
       let l = list_source p script table begun n found step st v h a in
-      let k = st.containers.each l.c l.it l.has in
-      let now : view_by p.safety p.containers.items v ≡ View l.c (s.view l.c) =
-      ap (view_by p.safety p.containers.items) l.is ∙ ap (λ o. view_of l.c (view_number p.safety o)) l.has ∙ ap (View l.c) (k.view l.alive) in
-      let at : l.c ≡ container_at s of = ap states.container_of (sym (ap (value_for p.handles.items) l.is) ∙ st.names.are of v h) in
-      renamed_on script table begun n found viewing step p q name st (view_decided g s ∙ ap unless_alive a) (refl, tt) (View l.c (s.view l.c))
+      let k = st.knows.containers.each l.c l.it l.has in
+      let now : view_by p.world.safety p.world.containers.items v ≡ View l.c (s.view l.c) =
+      ap (view_by p.world.safety p.world.containers.items) l.is ∙ ap (λ o. view_of l.c (view_number p.world.safety o)) l.has ∙ ap (View l.c) (k.view l.alive) in
+      let at : l.c ≡ container_at s of = ap states.container_of (sym (ap (value_for p.world.handles.items) l.is) ∙ st.knows.names.are of v h) in
+      renamed_on script table begun n found viewing step p w name st (view_decided g s ∙ ap unless_alive a) (refl, tt) (View l.c (s.view l.c))
       (states.View (container_at s of) (s.view (container_at s of))) refl
-      (subst (IsRenamed p q name) now e) (get_below p.containers.items l.c l.it l.has) (λ k e. absurd cc) (ap (λ c. states.View c (s.view c)) at)
+      (subst (IsRenamed p.world w name) now e) (get_below p.world.containers.items l.c l.it l.has) (λ k e. absurd cc) (ap (λ c. states.View c (s.view c)) at)
 
 -- ---- `combine`
 
@@ -636,10 +658,10 @@ module _ (line name : ℕ) (of : Vec ℕ Global) where
       }
 
   pub record IsCombineReady (p : Planner) : Type 0 where
-    pub of_in : All (λ n. n < vec_len p.values) of.items
-    pub name_in : name < vec_len p.values
-    pub there : AreThere (vec_len p.containers) (vec_len p.handles) p.values.items
-    pub few : vec_len p.handles < 2 ^ 32
+    pub of_in : All (λ n. n < vec_len p.world.values) of.items
+    pub name_in : name < vec_len p.world.values
+    pub there : AreThere (vec_len p.world.containers) (vec_len p.world.handles) p.world.values.items
+    pub few : vec_len p.world.handles < 2 ^ 32
 
   pub combine_ready : (p : Planner) → IsReady p combining → IsCombineReady p
   combine_ready p r =
@@ -651,19 +673,20 @@ module _ (line name : ℕ) (of : Vec ℕ Global) where
         of_in = λ k d lt. within p g b.begun b.n s b.found b.stands (get_or of.items k d) (u.below k d lt);
         name_in = within p g b.begun b.n s b.found b.stands name (made_below r.0 b.table b.n combining b.step u.made name kind.Handle u.makes_it);
         there = are_there p g b.begun b.n s b.found b.stands;
-        few = (let le = b.stands.numbers.handles_few in let lt = statements_few r.0 b.table b.n combining b.step in let len = p.handles.ok.0 in
+        few = (let le = b.stands.numbers.handles_few in let lt = statements_few r.0 b.table b.n combining b.step in let len = p.world.handles.ok.0 in
             let most : MOST_STATEMENTS ≤ 1048576 = omega arith in omega arith);
       }
 
-  pub combined : (p q : Planner) (jobs : Handle) → ((j : ℕ) → jobs_of jobs j ≡ jobs_by p.handles.items p.values.items of.items j)
-      → HasHandle p q name (jobs_of jobs) → GoesOn p q combining
-  combined p q jobs are e script table begun n found step st =
+  pub combined : (p : Planner) (w : World) (jobs : Handle) → ((j : ℕ) → jobs_of jobs j ≡ jobs_by p.world.handles.items p.world.values.items of.items j)
+      → HasHandle p.world w name (jobs_of jobs) → GoesOn p (record p { world = w }) combining
+  combined p w jobs are e script table begun n found step st =
       let g = setting script table in
       let s = state_at script table n in
       let u = combine_used script table n step in
       let same : jobs_of jobs ≡ jobs_named s of.items =
-      λ i j. (are j ∙ jobs_are p s (length p.containers.items) st.names of.items (λ k d lt. let b = u.below k d lt in let l = st.each in omega arith) j) i in
-      handle_on script table begun n found combining step p q name st refl (refl, tt) (jobs_named s of.items) refl (subst (HasHandle p q name) same e)
+      λ i j. (are j ∙ jobs_are p s (length p.world.containers.items) st.knows.names of.items
+      (λ k d lt. let b = u.below k d lt in let l = st.knows.each in omega arith) j) i in
+      handle_on script table begun n found combining step p w name st refl (refl, tt) (jobs_named s of.items) refl (subst (HasHandle p.world w name) same e)
 
 -- ---- `flush`
 
@@ -673,4 +696,4 @@ flushed line p script table begun n found step st =
     let s = state_at script table n in
     accepted_on script table begun n found (record { line = line; act = FlushAll }) step p p st refl (refl, tt) refl
     (calm p p g begun n s s found st refl refl refl refl refl st.numbers.passing refl (omega arith) (omega arith))
-    st.names (λ y a. st.planned y a)
+    st.knows.names (λ y a. st.planned y a)

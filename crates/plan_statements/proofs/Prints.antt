@@ -27,7 +27,8 @@ module _ (line name : ℕ) where
   abbrev print : Statement
   print = record { line = line; act = PrintOf name }
 
-  pub print_ready : (p : Planner) → IsReady p print → (name < vec_len p.values) × AreThere (vec_len p.containers) (vec_len p.handles) p.values.items
+  pub print_ready : (p : Planner) → IsReady p print → (name < vec_len p.world.values)
+      × AreThere (vec_len p.world.containers) (vec_len p.world.handles) p.world.values.items
   print_ready p r =
       let b = r.1 in
       let g = setting r.0 b.table in
@@ -36,33 +37,34 @@ module _ (line name : ℕ) where
       let below = used_below r.0 b.table b.n print b.step f.made name CONTAINERS f.fits in
       (within p g b.begun b.n s b.found b.stands name below, are_there p g b.begun b.n s b.found b.stands)
 
-  pub print_refused : (p q : Planner) (cause : Refusal) → MayUse p name false (Some cause) → IsPushed p q (record { line = line; name = name; act = Say cause })
+  pub print_refused : (p q : Planner) (cause : Refusal) → MayUse p.world name false (Some cause)
+      → IsPushed p q (record { line = line; name = name; act = Say cause })
       → GoesOn p q print
   print_refused p q cause may i script table begun n found step st =
       let g = setting script table in
       let f = fits_at script table n print step in
       said script table begun n found print step (record { cause = cause; name = name }) p st
-      (sym (may g begun n (state_at script table n) found st))
+      (sym (may g (state_at script table n) found st.knows))
       (used_below script table n print step f.made name CONTAINERS f.fits) q refl refl (inr (λ c. refl)) i
 
-  pub print_shown : (p q : Planner) (v : Value) (at : Bind) → MayUse p name false None → slice_get p.values.items name ≡ Some v
-      → at ≡ bind_by p.containers.items v
+  pub print_shown : (p q : Planner) (v : Value) (at : Bind) → MayUse p.world name false None → slice_get p.world.values.items name ≡ Some v
+      → at ≡ bind_by p.world.containers.items v
       → IsPushed p q (record { line = line; name = name; act = Print at }) → GoesOn p q print
   print_shown p q v at may value is i script table begun n found step st =
       let g = setting script table in
       let s = state_at script table n in
       let t = effect g line s (PrintOf name) in
-      let none : refusal g s (PrintOf name) ≡ None = sym (may g begun n s found st) in
+      let none : refusal g s (PrintOf name) ≡ None = sym (may g s found st.knows) in
       let f = fits_at script table n print step in
       let below = used_below script table n print step f.made name CONTAINERS f.fits in
       let u = usable script table n print step f.made name CONTAINERS f.fits (allowed s name false none).alive in
       let op : Op = record { line = line; name = name; act = Print at } in
       let restates = pushed_restates p q op g begun n s t found st i refl refl refl (λ c start below. refl) in
       accepted_on script table begun n found print step p q st none (refl, tt)
-      (given_one p.plan.ops.items q.plan.ops.items op i.ops refl)
+      (given_one p.draft.ops.items q.draft.ops.items op i.ops refl)
       restates
-      (pushed_names p q op _ s t i refl st.names)
-      (λ y a. prints_are_planned y g s line name (draft_of p) (draft_of q) a.small st.known (st.planned y a) none u (name_short g y name a.names below)
+      (pushed_names p q op _ s t i refl st.knows.names)
+      (λ y a. prints_are_planned y g s line name (draft_of p) (draft_of q) a.small st.knows.known (st.planned y a) none u (name_short g y name a.names below)
       (name_is g y name a.names)
-      (adds_op p q _ restates.planner (i.ops ∙ ap (λ b. p.plan.ops.items ++ record { line = line; name = name; act = Print b } ∷ [])
+      (adds_op p q _ restates.planner (i.ops ∙ ap (λ b. p.draft.ops.items ++ record { line = line; name = name; act = Print b } ∷ [])
       (is ∙ binds_at p g begun n s found st y a name v value u))))

@@ -20,6 +20,7 @@ use Rattle.job_handle.specs.Sets.{job_numbered}
 use Rattle.job_handle.specs.Books.{StandsFor}
 use Rattle.frame_core.specs.declared.plan.Act.TheVariants.{Say}
 use Rattle.plan_state.specs.declared.state.Planner.{Planner}
+use Rattle.plan_state.specs.declared.state.World.{World}
 use Rattle.plan_state.specs.Accesses.{refused_as, IsPushed, IsGone, AreThere}
 use Rattle.plan_state.specs.Steps.{state_at, IsStep, GoesOn, IsReady}
 use Rattle.plan_statements.specs.Tests.{IsTestRefusal}
@@ -58,21 +59,21 @@ flip true false e = refl
 flip false true e = refl
 flip false false e = e
 
-module _ (p : Planner) (name : ℕ) where
-  pub test_gone : IsGone p name true → IsTestRefusal p name (Some Disposed)
-  test_gone gone g begun n s found st =
+module _ (w : World) (name : ℕ) where
+  pub test_gone : IsGone w name true → IsTestRefusal w name (Some Disposed)
+  test_gone gone g s found st =
       ap (λ a. if not a then Some (record { cause = Disposed; name = name }) else busy s name)
-      (sym (flip true (is_alive s (s.values name)) (gone g begun n s found st)))
+      (sym (flip true (is_alive s (s.values name)) (gone g s found st)))
       ∙ sym (disposed_first s name (busy s name))
 
-  pub test_busy : IsGone p name false → (o : Option JobId)
-      → ((b : Rattle.frame_ast.specs.Jobs.Book) → StandsFor p.jobs b → o ≡ job_numbered (greatest (λ j. not (b.completed j)) b.count))
-      → IsTestRefusal p name (option_map Busy o)
-  test_busy there o is g begun n s found st =
+  pub test_busy : IsGone w name false → (o : Option JobId)
+      → ((b : Rattle.frame_ast.specs.Jobs.Book) → StandsFor w.jobs b → o ≡ job_numbered (greatest (λ j. not (b.completed j)) b.count))
+      → IsTestRefusal w name (option_map Busy o)
+  test_busy there o is g s found st =
       ap (λ q. refused_as (option_map Busy q) name) (is s.book st.jobs)
       ∙ busy_named name (greatest (λ j. not (s.book.completed j)) s.book.count)
       ∙ ap (λ a. if not a then Some (record { cause = Disposed; name = name }) else busy s name)
-      (sym (flip false (is_alive s (s.values name)) (there g begun n s found st)))
+      (sym (flip false (is_alive s (s.values name)) (there g s found st)))
       ∙ sym (disposed_first s name (busy s name))
 
 -- ---- at a statement
@@ -87,16 +88,17 @@ module _ (p : Planner) (line name : ℕ) (sign : Sign) (value : ℤ) (count : �
       (and_parts (uses (record { kinds = step.accepted.kinds; made = fits.made }) name (kind.Reference ∷ []))
       (nat_le count fits.rest && nat_eq fits.inside 0) fits.fits).0
 
-  pub test_ready : IsReady p statement → (name < vec_len p.values) × AreThere (vec_len p.containers) (vec_len p.handles) p.values.items
+  pub test_ready : IsReady p statement → (name < vec_len p.world.values) × AreThere (vec_len p.world.containers) (vec_len p.world.handles) p.world.values.items
   test_ready ready =
       let b = ready.1 in
       let g = setting ready.0 b.table in
       let s = state_at ready.0 b.table b.n in
       (within p g b.begun b.n s b.found b.stands name (test_below ready.0 b.table b.n b.step), are_there p g b.begun b.n s b.found b.stands)
 
-  pub test_refused : (m : Planner) (cause : Refusal) → IsTestRefusal p name (Some cause) → IsPushed p m (record { line = line; name = name; act = Say cause })
-      → GoesOn p (record m { passing = count }) statement
+  pub test_refused : (m : Planner) (cause : Refusal) → IsTestRefusal p.world name (Some cause)
+      → IsPushed p m (record { line = line; name = name; act = Say cause })
+      → GoesOn p (record m { world = record m.world { passing = count } }) statement
   test_refused m cause answer i script table begun n found step st =
       said_passing script table begun n found statement step (record { cause = cause; name = name }) p st
-      (sym (answer (setting script table) begun n (state_at script table n) found st)) (test_below script table n step) m
-      (record m { passing = count }) count refl refl (inr (λ c. refl)) i refl
+      (sym (answer (setting script table) (state_at script table n) found st.knows)) (test_below script table n step) m
+      (record m { world = record m.world { passing = count } }) count refl refl (inr (λ c. refl)) i refl

@@ -36,10 +36,11 @@ use Rattle.frame_core.proofs.Small.{not_both, some_is, none_some, either_bool, g
 use Rattle.plan_state.specs.declared.state.Value.{Value}
 use Rattle.plan_state.specs.declared.state.Container.{Container}
 use Rattle.plan_state.specs.declared.state.Planner.{Planner}
+use Rattle.plan_state.specs.declared.state.World.{World}
 use Rattle.plan_state.specs.Accesses.{refused_as, tag_in, IsPushed, HasHandle, IsGone, MayUse, AreThere}
 use Rattle.plan_statements.specs.Completions.{AreCompleted}
 use Rattle.plan_statements.specs.Endings.{number_of, CanHold, IsHeldBack}
-use Rattle.plan_state.specs.Stands.{tag_of, Stands}
+use Rattle.plan_state.specs.Stands.{tag_of, Stands, Knows}
 use Rattle.plan_state.specs.Steps.{state_at, IsStep, GoesOn, IsReady}
 use Rattle.plan_statements.specs.Waiting.{IsLiveAt, IsLive, IsBroken, says_broken, IsCompletable, KnowsUsers, AreWaitedFor}
 use Rattle.plan_state.proofs.Accessing.{are_there}
@@ -60,16 +61,16 @@ flip false false e = e
 
 -- ---- the container of a name, where it is alive
 
-module _ (p : Planner) (name : ℕ) where
-  pub live_gone : IsGone p name true → IsLive p name None
-  live_gone gone g begun n s found st = flip true (is_alive s (s.values name)) (gone g begun n s found st)
+module _ (w : World) (name : ℕ) where
+  pub live_gone : IsGone w name true → IsLive w name None
+  live_gone gone g s found st = flip true (is_alive s (s.values name)) (gone g s found st)
 
-  pub live_there : IsGone p name false → (v : Value) → slice_get p.values.items name ≡ Some v → (o : Option ℕ) → o ≡ number_of v → IsLive p name o
-  live_there here v h None e g begun n s found st = ap (is_alive s) (sym (st.names.are name v h)) ∙ no_number s p.handles.items v (sym e)
-  live_there here v h (Some c) e g begun n s found st = record {
-    alive = flip false (is_alive s (s.values name)) (here g begun n s found st);
-    at = ap states.container_of (sym (st.names.are name v h)) ∙ number_at s p.handles.items v c (sym e);
-    below = number_below (length p.containers.items) (length p.handles.items) v c (st.names.there name v h) (sym e);
+  pub live_there : IsGone w name false → (v : Value) → slice_get w.values.items name ≡ Some v → (o : Option ℕ) → o ≡ number_of v → IsLive w name o
+  live_there here v h None e g s found st = ap (is_alive s) (sym (st.names.are name v h)) ∙ no_number s w.handles.items v (sym e)
+  live_there here v h (Some c) e g s found st = record {
+    alive = flip false (is_alive s (s.values name)) (here g s found st);
+    at = ap states.container_of (sym (st.names.are name v h)) ∙ number_at s w.handles.items v c (sym e);
+    below = number_below (length w.containers.items) (length w.handles.items) v c (st.names.there name v h) (sym e);
   }
 
 -- ---- why it may not be used
@@ -128,28 +129,28 @@ module _ (s : ScriptState) (name : ℕ) where
         λ f h. absurd (not_both h refl),
       )
 
-module _ (p : Planner) (name : ℕ) (answer : Option Refusal) (may : MayUse p name true answer) where
-  module _ (g : Setting) (begun : ScriptState) (n : ℕ) (s : ScriptState) (found : List ℕ) (st : Stands p g begun n s found) where
+module _ (w : World) (name : ℕ) (answer : Option Refusal) (may : MayUse w name true answer) where
+  module _ (g : Setting) (s : ScriptState) (found : List ℕ) (st : Knows w g s found) where
     both : (access s name (need_of s name true) [] ≡ Some (record { cause = StaleView; name = name })
         → (is_alive s (s.values name) ≡ true) × (is_stale s (s.values name) ≡ true))
         × (is_alive s (s.values name) ≡ true → is_stale s (s.values name) ≡ true
         → access s name (need_of s name true) [] ≡ Some (record { cause = StaleView; name = name }))
     both = access_stale s name (is_alive s (s.values name)) (is_stale s (s.values name)) (pending s nobody (need_of s name true ∷ [])) refl refl refl
 
-  pub is_stale_now : answer ≡ Some StaleView → IsCompletable p name (Err StaleView)
-  is_stale_now e g begun n s found st =
-      let h = (both g begun n s found st).0 (sym (may g begun n s found st) ∙ ap (λ o. refused_as o name) e) in
+  pub is_stale_now : answer ≡ Some StaleView → IsCompletable w name (Err StaleView)
+  is_stale_now e g s found st =
+      let h = (both g s found st).0 (sym (may g s found st) ∙ ap (λ o. refused_as o name) e) in
       (sym (causes_are s name ∙ (λ i. shape s name (h.0 i) (h.1 i))), tt)
 
   as_answer : (o : Option Refusal) → refused_as o name ≡ Some (record { cause = StaleView; name = name }) → o ≡ Some StaleView
   as_answer None e = absurd (none_some e)
   as_answer (Some c) e = ap Some (ap (λ (r : Refused). r.cause) (some_is e))
 
-  pub completes_alive : (answer ≡ Some StaleView → ⊥) → (c : ℕ) → IsLive p name (Some c) → IsCompletable p name (Ok c)
-  completes_alive not_stale c live g begun n s found st =
-      let h = live g begun n s found st in
+  pub completes_alive : (answer ≡ Some StaleView → ⊥) → (c : ℕ) → IsLive w name (Some c) → IsCompletable w name (Ok c)
+  completes_alive not_stale c live g s found st =
+      let h = live g s found st in
       let fresh : is_stale s (s.values name) ≡ false = ⊎_elim
-      (λ old. absurd (not_stale (as_answer answer (may g begun n s found st ∙ (both g begun n s found st).1 h.alive old))))
+      (λ old. absurd (not_stale (as_answer answer (may g s found st ∙ (both g s found st).1 h.alive old))))
       (λ f. f)
       (either_bool (is_stale s (s.values name))) in
       (sym (causes_are s name ∙ (λ i. shape s name (h.alive i) (fresh i))), h)
@@ -169,72 +170,74 @@ broken_is (Some PresentKey) e = absurd (not_both e refl)
 broken_is (Some TempInJob) e = absurd (not_both e refl)
 broken_is (Some (Busy j)) e = absurd (not_both e refl)
 
-pub stale_completes : (p : Planner) (name : ℕ) → IsBroken p name true → IsCompletable p name (Err StaleView)
-stale_completes p name b = is_stale_now p name b.refusal b.may (broken_is b.refusal (sym b.says))
+pub stale_completes : (w : World) (name : ℕ) → IsBroken w name true → IsCompletable w name (Err StaleView)
+stale_completes w name b = is_stale_now w name b.refusal b.may (broken_is b.refusal (sym b.says))
 
-pub completes_live : (p : Planner) (name : ℕ) → IsBroken p name false → (c : ℕ) → IsLive p name (Some c) → IsCompletable p name (Ok c)
-completes_live p name b c live = completes_alive p name b.refusal b.may (λ e. not_both (ap says_broken e) (sym b.says)) c live
+pub completes_live : (w : World) (name : ℕ) → IsBroken w name false → (c : ℕ) → IsLive w name (Some c) → IsCompletable w name (Ok c)
+completes_live w name b c live = completes_alive w name b.refusal b.may (λ e. not_both (ap says_broken e) (sym b.says)) c live
 
-pub completes_gone : (p : Planner) (name : ℕ) → IsLive p name None → IsCompletable p name (Err Disposed)
-completes_gone p name gone g begun n s found st =
-    (sym (causes_are s name ∙ ap (λ a. shape s name a (is_stale s (s.values name))) (gone g begun n s found st)), tt)
+pub completes_gone : (w : World) (name : ℕ) → IsLive w name None → IsCompletable w name (Err Disposed)
+completes_gone w name gone g s found st =
+    (sym (causes_are s name ∙ ap (λ a. shape s name a (is_stale s (s.values name))) (gone g s found st)), tt)
 
 -- ---- the automatic set
 
-some_known : (p : Planner) (o : Option Container) → KnowsUsers p o → (it : Container) × (o ≡ Some it)
-some_known p None e = absurd e
-some_known p (Some it) e = (it, refl)
+some_known : (w : World) (o : Option Container) → KnowsUsers w o → (it : Container) × (o ≡ Some it)
+some_known w None e = absurd e
+some_known w (Some it) e = (it, refl)
 
-pub known_there : (p : Planner) (k : ℕ) → KnowsUsers p (slice_get p.containers.items k) → k < vec_len p.containers
-known_there p k e = let one = some_known p (slice_get p.containers.items k) e in let lt = get_below p.containers.items k one.0 one.1 in
-    let len = p.containers.ok.0 in omega arith
+pub known_there : (w : World) (k : ℕ) → KnowsUsers w (slice_get w.containers.items k) → k < vec_len w.containers
+known_there w k e = let one = some_known w (slice_get w.containers.items k) e in let lt = get_below w.containers.items k one.0 one.1 in
+    let len = w.containers.ok.0 in omega arith
 
-module _ (p : Planner) (k : ℕ) (tag : Tag) (is : Some tag ≡ tag_in p.containers.items k None) where
-  one : (it : Container) × (slice_get p.containers.items k ≡ Some it) × (tag ≡ tag_of it None)
-  one = tagged (slice_get p.containers.items k) tag is
+module _ (w : World) (k : ℕ) (tag : Tag) (is : Some tag ≡ tag_in w.containers.items k None) where
+  one : (it : Container) × (slice_get w.containers.items k ≡ Some it) × (tag ≡ tag_of it None)
+  one = tagged (slice_get w.containers.items k) tag is
 
-  pub noted : KnowsUsers p (slice_get p.containers.items k) → AreUpTo (count_of p.jobs) (conflicting_with p.safety ((tag, Write) ∷ []))
+  pub noted : KnowsUsers w (slice_get w.containers.items k) → AreUpTo (count_of w.jobs) (conflicting_with w.safety ((tag, Write) ∷ []))
   noted known j e =
-      let k0 : KnowsUsers p (Some one.0) = subst (KnowsUsers p) one.1 known in
-      k0 j (subst (λ (z : Tag). latest_users (state_of p.safety z.slot.0).latest j ≡ true) one.2
-      (or_none (latest_users (state_of p.safety tag.slot.0).latest j) e))
+      let k0 : KnowsUsers w (Some one.0) = subst (KnowsUsers w) one.1 known in
+      k0 j (subst (λ (z : Tag). latest_users (state_of w.safety z.slot.0).latest j ≡ true) one.2
+      (or_none (latest_users (state_of w.safety tag.slot.0).latest j) e))
     where
       or_none : (b : Bool) → (b || false) ≡ true → b ≡ true
       or_none true e = refl
       or_none false e = e
 
-  pub waited : (after answer : Jobs) → after ≡ nobody → ForNeeds p.jobs p.safety ((tag, Write) ∷ []) (IsAutomatic after answer)
-      → AreWaitedFor p (slice_get p.containers.items k) answer
-  waited after answer none set = subst (λ o. AreWaitedFor p o answer) (sym one.1) (λ b uses need stands all writes latest j.
+  pub waited : (after answer : Jobs) → after ≡ nobody → ForNeeds w.jobs w.safety ((tag, Write) ∷ []) (IsAutomatic after answer)
+      → AreWaitedFor w (slice_get w.containers.items k) answer
+  waited after answer none set = subst (λ o. AreWaitedFor w o answer) (sym one.1) (λ b uses need stands all writes latest j.
       set b uses (need ∷ []) stands all (
-        record { writes = writes; latest = subst (λ (z : Tag). StandForUses b (state_of p.safety z.slot.0).latest (uses need.container)) (sym one.2) latest },
+        record { writes = writes; latest = subst (λ (z : Tag). StandForUses b (state_of w.safety z.slot.0).latest (uses need.container)) (sym one.2) latest },
         tt,
       ) j
       ∙ ap (λ f. automatic b uses f (need ∷ []) j) none)
 
 module _ (p : Planner) (g : Setting) (begun : ScriptState) (n : ℕ) (s : ScriptState) (found : List ℕ) (st : Stands p g begun n s found) (name c : ℕ)
-    (live : IsLiveAt p s name c) where
-  it : (i : Container) × (slice_get p.containers.items c ≡ Some i)
-  it = there p.containers.items c live.below
+    (live : IsLiveAt p.world s name c) where
+  it : (i : Container) × (slice_get p.world.containers.items c ≡ Some i)
+  it = there p.world.containers.items c live.below
 
   alive_c : s.alive c ≡ true
   alive_c = ap s.alive (sym live.at) ∙ alive_container s (s.values name) live.alive
 
-  stand_for : StandForUses s.book (state_of p.safety it.0.slot.0).latest (s.uses c)
-  stand_for = (st.containers.each c it.0 it.1).uses alive_c
+  stand_for : StandForUses s.book (state_of p.world.safety it.0.slot.0).latest (s.uses c)
+  stand_for = (st.knows.containers.each c it.0 it.1).uses alive_c
 
-  pub users_are_known : KnowsUsers p (slice_get p.containers.items c)
-  users_are_known = subst (KnowsUsers p) (sym it.1)
-      (subst (λ m. AreUpTo m (latest_users (state_of p.safety it.0.slot.0).latest)) (sym st.jobs.count)
-      (λ j e. (st.known.uses c).users j (latest_are_users s.book (state_of p.safety it.0.slot.0).latest (s.uses c) (st.known.uses c) stand_for j e)))
+  pub users_are_known : KnowsUsers p.world (slice_get p.world.containers.items c)
+  users_are_known = subst (KnowsUsers p.world) (sym it.1)
+      (subst (λ m. AreUpTo m (latest_users (state_of p.world.safety it.0.slot.0).latest)) (sym st.knows.jobs.count)
+      (λ j e. (st.knows.known.uses c).users j (latest_are_users s.book (state_of p.world.safety it.0.slot.0).latest (s.uses c)
+      (st.knows.known.uses c) stand_for j e)))
 
-  pub set_is : (jobs : Jobs) → AreWaitedFor p (slice_get p.containers.items c) jobs → jobs ≡ automatic s.book s.uses nobody (need_of s name true ∷ [])
-  set_is jobs w = λ i j. subst (λ o. AreWaitedFor p o jobs) it.1 w s.book s.uses (need_of s name true) st.jobs st.known.uses refl
-      (subst (λ k. StandForUses s.book (state_of p.safety it.0.slot.0).latest (s.uses k)) (sym live.at) stand_for) j i
+  pub set_is : (jobs : Jobs) → AreWaitedFor p.world (slice_get p.world.containers.items c) jobs
+      → jobs ≡ automatic s.book s.uses nobody (need_of s name true ∷ [])
+  set_is jobs w = λ i j. subst (λ o. AreWaitedFor p.world o jobs) it.1 w s.book s.uses (need_of s name true) st.knows.jobs st.knows.known.uses refl
+      (subst (λ k. StandForUses s.book (state_of p.world.safety it.0.slot.0).latest (s.uses k)) (sym live.at) stand_for) j i
 
   pub set_known : AreUpTo s.book.count (automatic s.book s.uses nobody (need_of s name true ∷ []))
   set_known j h =
-      blocking_among s.book s.uses st.known.uses nobody (need_of s name true ∷ []) j
+      blocking_among s.book s.uses st.knows.known.uses nobody (need_of s name true ∷ []) j
       (and_parts (blocking s.book s.uses nobody (need_of s name true ∷ []) j)
       (not (any_job (λ i. blocking s.book s.uses nobody (need_of s name true ∷ []) i && leads_to s.book i j) s.book.count)) h).0
 
@@ -252,12 +255,12 @@ module _ (p : Planner) (line name handle : ℕ) where
       (used_below script table n ending step fits.made name DISPOSABLE both.0, made_below script table n ending step fits.made handle kind.Handle both.1)
 
   pub record CanEndWaiting : Type 0 where
-    pub name_in : name < vec_len p.values
-    pub handle_in : handle < vec_len p.values
-    pub there : AreThere (vec_len p.containers) (vec_len p.handles) p.values.items
-    pub few : vec_len p.handles < 2 ^ 32
-    pub known : (c : ℕ) → IsLive p name (Some c) → KnowsUsers p (slice_get p.containers.items c)
-    pub holds : (c : ℕ) → IsLive p name (Some c) → CanHold p (slice_get p.containers.items c)
+    pub name_in : name < vec_len p.world.values
+    pub handle_in : handle < vec_len p.world.values
+    pub there : AreThere (vec_len p.world.containers) (vec_len p.world.handles) p.world.values.items
+    pub few : vec_len p.world.handles < 2 ^ 32
+    pub known : (c : ℕ) → IsLive p.world name (Some c) → KnowsUsers p.world (slice_get p.world.containers.items c)
+    pub holds : (c : ℕ) → IsLive p.world name (Some c) → CanHold p.world (slice_get p.world.containers.items c)
 
   pub ending_ready : IsReady p ending → CanEndWaiting
   ending_ready ready =
@@ -269,31 +272,33 @@ module _ (p : Planner) (line name handle : ℕ) where
         name_in = within p g b.begun b.n s b.found b.stands name fits.0;
         handle_in = within p g b.begun b.n s b.found b.stands handle fits.1;
         there = are_there p g b.begun b.n s b.found b.stands;
-        few = (let few = b.stands.numbers.handles_few in let most = statements_few ready.0 b.table b.n ending b.step in let len = p.handles.ok.0 in
+        few = (let few = b.stands.numbers.handles_few in let most = statements_few ready.0 b.table b.n ending b.step in let len = p.world.handles.ok.0 in
             omega arith);
-        known = λ c live. users_are_known p g b.begun b.n s b.found b.stands name c (live g b.begun b.n s b.found b.stands);
-        holds = λ c live. let l = live g b.begun b.n s b.found b.stands in
+        known = λ c live. users_are_known p g b.begun b.n s b.found b.stands name c (live g s b.found b.stands.knows);
+        holds = λ c live. let l = live g s b.found b.stands.knows in
             can_hold p g b.begun b.n s b.found b.stands (let few = statements_few ready.0 b.table b.n ending b.step in omega arith) c l.below
             (alive_c p g b.begun b.n s b.found b.stands name c l);
       }
 
-  pub ending_says : (m q : Planner) → IsLive p name None → IsPushed p m (record { line = line; name = name; act = Say Disposed }) → HasHandle m q handle nobody
-      → GoesOn p q ending
-  ending_says m q gone i e script table begun n found step st =
+  pub ending_says : (m : Planner) (w : World) → IsLive p.world name None → IsPushed p m (record { line = line; name = name; act = Say Disposed })
+      → HasHandle m.world w handle nobody
+      → GoesOn p (record m { world = w }) ending
+  ending_says m w gone i e script table begun n found step st =
       let s = state_at script table n in
       said_nobody script table begun n found ending step (record { cause = Disposed; name = name }) p st
-      (ap (λ a. option_map (refused Disposed) (cond (not a) (Some name) None)) (gone (setting script table) begun n s found st))
-      (ending_fits script table n step).0 m q handle refl refl refl (inr (λ c. refl)) i e
+      (ap (λ a. option_map (refused Disposed) (cond (not a) (Some name) None)) (gone (setting script table) s found st.knows))
+      (ending_fits script table n step).0 m w handle refl refl refl (inr (λ c. refl)) i e
 
-  pub ending_goes : (m q : Planner) (jobs : Jobs) (c : ℕ) → IsLive p name (Some c) → AreWaitedFor p (slice_get p.containers.items c) jobs → IsHeldBack p m c
-      → HasHandle m q handle jobs → GoesOn p q ending
-  ending_goes m q jobs c live w i e script table begun n found step st =
+  pub ending_goes : (m last : World) (jobs : Jobs) (c : ℕ) → IsLive p.world name (Some c) → AreWaitedFor p.world (slice_get p.world.containers.items c) jobs
+      → IsHeldBack p.world m c
+      → HasHandle m last handle jobs → GoesOn p (record p { world = last }) ending
+  ending_goes m last jobs c live w i e script table begun n found step st =
       let g = setting script table in
       let s = state_at script table n in
-      let l = live g begun n s found st in
+      let l = live g s found st.knows in
       let none : refusal g s ending.act ≡ None = ap (λ a. option_map (refused Disposed) (cond (not a) (Some name) None)) l.alive in
-      held_on script table begun n found ending step p st name handle jobs (alive_container s (s.values name) l.alive) m q
-      (subst (IsHeldBack p m) (sym l.at) i) e
+      held_on script table begun n found ending step p st name handle jobs (alive_container s (s.values name) l.alive) m last
+      (subst (IsHeldBack p.world m) (sym l.at) i) e
       (accepted_state g s ending step.acts none ∙ ap (λ js. with_name handle (states.Handle js) (dispose name s))
       (sym (set_is p g begun n s found st name c l jobs w))) (refl, tt)
 
@@ -308,12 +313,13 @@ module _ (p : Planner) (line name : ℕ) where
       used_below script table n completing step fits.made name CONTAINERS fits.fits
 
   pub record CanCompleteAuto : Type 0 where
-    pub name_in : name < vec_len p.values
-    pub there : AreThere (vec_len p.containers) (vec_len p.handles) p.values.items
-    pub before : p.jobs_before ≤ count_of p.jobs
-    pub users : (k : ℕ) → AreUpTo (count_of p.jobs) (users_of (place_of p.store k).state)
-    pub known : (c : ℕ) → IsCompletable p name (Ok c) → KnowsUsers p (slice_get p.containers.items c)
-    pub jobs : (c : ℕ) → IsCompletable p name (Ok c) → (jobs : Jobs) → AreWaitedFor p (slice_get p.containers.items c) jobs → AreUpTo (count_of p.jobs) jobs
+    pub name_in : name < vec_len p.world.values
+    pub there : AreThere (vec_len p.world.containers) (vec_len p.world.handles) p.world.values.items
+    pub before : p.jobs_before ≤ count_of p.world.jobs
+    pub users : (k : ℕ) → AreUpTo (count_of p.world.jobs) (users_of (place_of p.world.store k).state)
+    pub known : (c : ℕ) → IsCompletable p.world name (Ok c) → KnowsUsers p.world (slice_get p.world.containers.items c)
+    pub jobs : (c : ℕ) → IsCompletable p.world name (Ok c) → (jobs : Jobs) → AreWaitedFor p.world (slice_get p.world.containers.items c) jobs
+        → AreUpTo (count_of p.world.jobs) jobs
 
   pub completing_ready : IsReady p completing → CanCompleteAuto
   completing_ready ready =
@@ -325,25 +331,27 @@ module _ (p : Planner) (line name : ℕ) where
         there = are_there p g b.begun b.n s b.found b.stands;
         before = section_low p ready.0 b.table b.begun b.n s b.found b.stands;
         users = users_known p ready.0 b.table b.begun b.n s b.found b.stands;
-        known = λ c may. users_are_known p g b.begun b.n s b.found b.stands name c (may g b.begun b.n s b.found b.stands).1;
-        jobs = λ c may jobs w. let l = (may g b.begun b.n s b.found b.stands).1 in
-            subst (AreUpTo (count_of p.jobs)) (sym (set_is p g b.begun b.n s b.found b.stands name c l jobs w))
-            (subst (λ m. AreUpTo m (automatic s.book s.uses nobody (need_of s name true ∷ []))) (sym b.stands.jobs.count)
+        known = λ c may. users_are_known p g b.begun b.n s b.found b.stands name c (may g s b.found b.stands.knows).1;
+        jobs = λ c may jobs w. let l = (may g s b.found b.stands.knows).1 in
+            subst (AreUpTo (count_of p.world.jobs)) (sym (set_is p g b.begun b.n s b.found b.stands name c l jobs w))
+            (subst (λ m. AreUpTo m (automatic s.book s.uses nobody (need_of s name true ∷ []))) (sym b.stands.knows.jobs.count)
             (set_known p g b.begun b.n s b.found b.stands name c l));
       }
 
-  pub completing_says : (q : Planner) (cause : Refusal) → IsCompletable p name (Err cause) → IsPushed p q (record { line = line; name = name; act = Say cause })
+  pub completing_says : (q : Planner) (cause : Refusal) → IsCompletable p.world name (Err cause)
+      → IsPushed p q (record { line = line; name = name; act = Say cause })
       → GoesOn p q completing
   completing_says q cause may i script table begun n found step st =
       said script table begun n found completing step (record { cause = cause; name = name }) p st
-      (sym (may (setting script table) begun n (state_at script table n) found st).0) (completing_below script table n step) q refl refl (inr (λ c. refl)) i
+      (sym (may (setting script table) (state_at script table n) found st.knows).0) (completing_below script table n step) q refl refl (inr (λ c. refl)) i
 
-  pub completing_goes : (q : Planner) (jobs : Jobs) (c : ℕ) → IsCompletable p name (Ok c) → AreWaitedFor p (slice_get p.containers.items c) jobs
+  pub completing_goes : (q : Planner) (jobs : Jobs) (c : ℕ) → IsCompletable p.world name (Ok c)
+      → AreWaitedFor p.world (slice_get p.world.containers.items c) jobs
       → AreCompleted p q jobs → GoesOn p q completing
   completing_goes q jobs c may w done script table begun n found step st =
       let g = setting script table in
       let s = state_at script table n in
-      let m = may g begun n s found st in
+      let m = may g s found st.knows in
       completes_on script table begun n found completing step p st (automatic s.book s.uses nobody (need_of s name true ∷ []))
       (set_known p g begun n s found st name c m.1) q
       (subst (AreCompleted p q) (set_is p g begun n s found st name c m.1 jobs w) done)

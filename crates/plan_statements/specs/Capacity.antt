@@ -51,21 +51,23 @@ pub record IsMoved (old new : Planner) (line name number : ℕ) (it : Container)
   pub frame_is : now.frame ≡ it.frame
   pub name_is : now.name ≡ it.name
   pub line_is : now.line ≡ it.line
-  pub regrown : HasRegrown old.store new.store it.slot.0 (cap + 1) span
-  pub broken : HasBroken old.safety new.safety it.slot.0
-  pub containers : new.containers.items ≡ slice_set old.containers.items number now
-  pub created : new.created ≡ old.created + (cap + 1)
-  pub ops : new.plan.ops.items ≡ old.plan.ops.items ++ record {
+  pub regrown : HasRegrown old.world.store new.world.store it.slot.0 (cap + 1) span
+  pub broken : HasBroken old.world.safety new.world.safety it.slot.0
+  pub containers : new.world.containers.items ≡ slice_set old.world.containers.items number now
+  pub created : new.world.created ≡ old.world.created + (cap + 1)
+  pub ops : new.draft.ops.items ≡ old.draft.ops.items ++ record {
     line = line;
     name = name;
     act = Move (record { start = at.start; len = at.cap + 1 }) span;
   } ∷ []
   pub rest : new ≡ record old {
-    store = new.store;
-    safety = new.safety;
-    containers = new.containers;
-    created = new.created;
-    plan = record old.plan { ops = new.plan.ops };
+    world = record old.world {
+      store = new.world.store;
+      safety = new.world.safety;
+      containers = new.world.containers;
+      created = new.world.created;
+    };
+    draft = record old.draft { ops = new.draft.ops };
   }
 
 -- the same of a container whose bind says where the list was

@@ -17,8 +17,8 @@ newly_of b before all j = all (before + j) && not (b.completed (before + j))
 -- Some jobs are those of a set that aren't completed, in every book that the planner's stands for.
 abbrev pub AreNotCompleted : Planner → Jobs → List JobId → Type 0
 AreNotCompleted p all ids = (b : Book)
-    → StandsFor p.jobs b
-    → ids ≡ rising_jobs (newly_of b p.jobs_before all) (count_of p.jobs - p.jobs_before)
+    → StandsFor p.world.jobs b
+    → ids ≡ rising_jobs (newly_of b p.jobs_before all) (count_of p.world.jobs - p.jobs_before)
 
 -- `complete`: how it goes on, whatever its line
 abbrev pub Completes : Planner → Planner → ℕ → Type 0
@@ -27,25 +27,40 @@ Completes old new name = (line : ℕ) → GoesOn old new (record { line = line; 
 -- The segment at hand is closed without starting a job, and the next one waits for some jobs.
 pub record IsClosed (old new : Planner) (after : List JobId) : Type 0 where
   pub segment : Segment
-  pub waits_were : segment.waits.items ≡ old.plan.waits.items
-  pub ops_were : segment.ops.items ≡ old.plan.ops.items
+  pub waits_were : segment.waits.items ≡ old.draft.waits.items
+  pub ops_were : segment.ops.items ≡ old.draft.ops.items
   pub starts : segment.starts ≡ None
-  pub segments : new.plan.segments.items ≡ old.plan.segments.items ++ segment ∷ []
-  pub waits : new.plan.waits.items ≡ after
-  pub ops : new.plan.ops.items ≡ []
+  pub segments : new.draft.segments.items ≡ old.draft.segments.items ++ segment ∷ []
+  pub waits : new.draft.waits.items ≡ after
+  pub ops : new.draft.ops.items ≡ []
   pub rest : new ≡ record old {
-    plan = record old.plan { segments = new.plan.segments; waits = new.plan.waits; ops = new.plan.ops };
+    draft = record old.draft {
+      segments = new.draft.segments;
+      waits = new.draft.waits;
+      ops = new.draft.ops;
+    };
   }
 
 -- Jobs are completed with their ancestors. The next segment waits for those that are newly completed; where there is
 -- none, the segment at hand goes on. What is held for completed jobs alone comes back.
 pub record AreCompleted (old new : Planner) (handle : Jobs) : Type 0 where
   pub newly : List JobId
-  pub newly_are : (b : Book) → StandsFor old.jobs b → newly
-      ≡ rising_jobs (newly_of b old.jobs_before (ancestors_in b handle)) (count_of old.jobs - old.jobs_before)
-  pub jobs : (b : Book) → StandsFor old.jobs b → StandsFor new.jobs (with_completed b handle)
-  pub places : (b : Book) → StandsFor new.jobs b → (k : ℕ) → place_of new.store k ≡ settled b (place_of old.store k)
-  pub used : slots_in_use new.store ≤ slots_in_use old.store
-  pub peak : peak_of new.store ≡ peak_of old.store
-  pub segment : IsClosed (record old { jobs = new.jobs; store = new.store }) new newly
-      ⊎ (newly ≡ []) × (new ≡ record old { jobs = new.jobs; store = new.store })
+  pub newly_are : (b : Book) → StandsFor old.world.jobs b → newly
+      ≡ rising_jobs (newly_of b old.jobs_before (ancestors_in b handle)) (count_of old.world.jobs - old.jobs_before)
+  pub jobs : (b : Book) → StandsFor old.world.jobs b → StandsFor new.world.jobs (with_completed b handle)
+  pub places : (b : Book) → StandsFor new.world.jobs b → (k : ℕ)
+      → place_of new.world.store k ≡ settled b (place_of old.world.store k)
+  pub used : slots_in_use new.world.store ≤ slots_in_use old.world.store
+  pub peak : peak_of new.world.store ≡ peak_of old.world.store
+  pub segment : IsClosed (record old {
+    world = record old.world {
+      jobs = new.world.jobs;
+      store = new.world.store;
+    };
+  }) new newly
+      ⊎ (newly ≡ []) × (new ≡ record old {
+        world = record old.world {
+          jobs = new.world.jobs;
+          store = new.world.store;
+        };
+      })

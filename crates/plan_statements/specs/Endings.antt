@@ -21,25 +21,19 @@ use Rattle.safety_handle.specs.Uses.{users_of as latest_users}
 use Rattle.plan_state.specs.declared.state.Value.{Value}
 use Rattle.plan_state.specs.declared.state.Value.TheVariants.{Whole, Slice, View}
 use Rattle.plan_state.specs.declared.state.Container.{Container}
-use Rattle.plan_state.specs.declared.state.Planner.{Planner}
+use Rattle.plan_state.specs.declared.answer.Answer.{Answer}
+use Rattle.plan_state.specs.declared.state.World.{World}
 use Rattle.plan_state.specs.Accesses.{refused_as}
-use Rattle.plan_state.specs.Stands.{Stands}
-use Rattle.plan_state.specs.Steps.{GoesOn, IsReady}
+use Rattle.plan_state.specs.Stands.{Knows}
+use Rattle.plan_state.specs.Answers.{Answers, IsReadyFor}
 
--- A `dispose` without `after`, whose text has no names of handles: what it needs, and how it goes on.
+-- A `dispose` without `after`, whose text has no names of handles: what it needs, and what it answers.
 
-abbrev pub IsReadyToDispose : Planner → ℕ → ℕ → Type 0
-IsReadyToDispose p line name =
-    (after : Vec ℕ Global) × IsReady p (record { line = line; act = Dispose name after None })
+abbrev pub IsReadyToDispose : World → ℕ → Type 0
+IsReadyToDispose w name = (after : Vec ℕ Global) × IsReadyFor w (Dispose name after None)
 
-abbrev pub Disposes : Planner → Planner → ℕ → ℕ → Type 0
-Disposes old new line name =
-    (after : Vec ℕ Global) → GoesOn old new (record { line = line; act = Dispose name after None })
-
--- and with it
-abbrev pub DisposesAfter : Planner → Planner → ℕ → ℕ → Vec ℕ Global → ℕ → Type 0
-DisposesAfter old new line name after handle =
-    GoesOn old new (record { line = line; act = Dispose name after (Some handle) })
+abbrev pub Disposes : World → World → ℕ → Answer → Type 0
+Disposes old new name answer = (after : Vec ℕ Global) → Answers old new (Dispose name after None) answer
 
 -- the container that a value stands for, or is a part of
 abbrev pub number_of : Value → Option ℕ
@@ -53,34 +47,34 @@ abbrev pub disposal : ScriptState → ℕ → JobSet → Option Refused
 disposal s name after = first_some (disposed s (name ∷ []) ∷ pending s after (need_of s name true ∷ []) ∷ [])
 
 -- An answer is the container of a name, which may be disposed once some jobs ended, or why it may not.
-abbrev pub IsDisposable : Planner → ℕ → JobSet → Result ℕ Refusal → Type 0
-IsDisposable p name after answer = (g : Setting) (begun : ScriptState) (n : ℕ) (s : ScriptState) (found : List ℕ)
-    → Stands p g begun n s found
+abbrev pub IsDisposable : World → ℕ → JobSet → Result ℕ Refusal → Type 0
+IsDisposable w name after answer = (g : Setting) (s : ScriptState) (found : List ℕ)
+    → Knows w g s found
     → (refused_as (result_err answer) name ≡ disposal s name after)
-    × IfOk answer (λ c. (container_at s name ≡ c) × (c < length p.containers.items))
+    × IfOk answer (λ c. (container_at s name ≡ c) × (c < length w.containers.items))
 
 -- A container is taken in the store, with a version that can rise.
-abbrev pub CanEnd : Planner → Option Container → Type 0
-CanEnd p None = ⊥
-CanEnd p (Some it) =
-    (is_taken (place_of p.store it.slot.0).state ≡ true)
-    × ((place_of p.store it.slot.0).version < 4294967295)
+abbrev pub CanEnd : World → Option Container → Type 0
+CanEnd w None = ⊥
+CanEnd w (Some it) =
+    (is_taken (place_of w.store it.slot.0).state ≡ true)
+    × ((place_of w.store it.slot.0).version < 4294967295)
 
 -- Beside that, the book of jobs knows its users, and those for whom ranges are held.
-abbrev pub CanHold : Planner → Option Container → Type 0
-CanHold p None = ⊥
-CanHold p (Some it) =
-    CanEnd p (Some it)
-    × AreUpTo (count_of p.jobs) (latest_users (state_of p.safety it.slot.0).latest)
-    × ((k : ℕ) → AreUpTo (count_of p.jobs) (users_of (place_of p.store k).state))
+abbrev pub CanHold : World → Option Container → Type 0
+CanHold w None = ⊥
+CanHold w (Some it) =
+    CanEnd w (Some it)
+    × AreUpTo (count_of w.jobs) (latest_users (state_of w.safety it.slot.0).latest)
+    × ((k : ℕ) → AreUpTo (count_of w.jobs) (users_of (place_of w.store k).state))
 
 -- The safety book knows a container no longer.
-pub record IsReleased (old new : Planner) (slot : ℕ) : Type 0 where
+pub record IsReleased (old new : World) (slot : ℕ) : Type 0 where
   pub here : state_of new.safety slot ≡ record (state_of old.safety slot) { live = false }
   pub others : (k : ℕ) → k ≢ slot → state_of new.safety k ≡ state_of old.safety k
 
 -- A container ends, and its words come back at once.
-pub record IsGiven (old new : Planner) (number : ℕ) : Type 0 where
+pub record IsGiven (old new : World) (number : ℕ) : Type 0 where
   pub it : Container
   pub has : slice_get old.containers.items number ≡ Some it
   pub released : IsReleased old new it.slot.0
@@ -91,14 +85,15 @@ pub record IsGiven (old new : Planner) (number : ℕ) : Type 0 where
   pub rest : new ≡ record old { safety = new.safety; store = new.store }
 
 -- A container ends, and its words come back once its users are completed, as the book has them.
-pub record IsHeldBack (old new : Planner) (number : ℕ) : Type 0 where
+pub record IsHeldBack (old new : World) (number : ℕ) : Type 0 where
   pub it : Container
   pub has : slice_get old.containers.items number ≡ Some it
   pub released : IsReleased old new it.slot.0
   pub users : Handle
   pub users_are : jobs_of users ≡ latest_users (state_of old.safety it.slot.0).latest
   pub places : (b : Book) → StandsFor old.jobs b → (k : ℕ) → place_of new.store k
-      ≡ settled b (if nat_eq k it.slot.0 then held (place_of old.store it.slot.0) users else place_of old.store k)
+      ≡ settled b (if nat_eq k it.slot.0 then held
+      (place_of old.store it.slot.0) users else place_of old.store k)
   pub used : slots_in_use new.store ≤ slots_in_use old.store
   pub peak : peak_of new.store ≡ peak_of old.store
   pub rest : new ≡ record old { safety = new.safety; store = new.store }

@@ -37,22 +37,23 @@ pub record TakesWords (old new : SlotStore) (len : ℕ) (t : Taken) : Type 0 whe
 
 -- The planner took words for a new container, and passes no limit by it.
 pub record HasTaken (old new : Planner) (len : ℕ) (t : Taken) : Type 0 where
-  pub few : live_words_of old.store + len ≤ MOST_LIVE_WORDS
-  pub small : old.created + len ≤ MOST_CREATED_WORDS
-  pub taken : TakesWords old.store new.store len t
-  pub created : new.created ≡ old.created + len
-  pub rest : new ≡ record old { store = new.store; created = new.created }
+  pub few : live_words_of old.world.store + len ≤ MOST_LIVE_WORDS
+  pub small : old.world.created + len ≤ MOST_CREATED_WORDS
+  pub taken : TakesWords old.world.store new.world.store len t
+  pub created : new.world.created ≡ old.world.created + len
+  pub rest : new ≡ record old { world = record old.world { store = new.world.store; created = new.world.created } }
 
 -- The store is full: the statement says so, and its name stands for nothing.
 pub record IsLost (old new : Planner) (line name : ℕ) : Type 0 where
   pub said : Planner
   pub says : IsPushed old said (record { line = line; name = name; act = Say StoreFull })
-  pub renames : IsRenamed said new name Dead
+  pub renames : IsRenamed said.world new.world name Dead
+  pub rest : new ≡ record said { world = new.world }
 
 -- words were taken, or the statement is refused since so many words more are too many
 abbrev pub TakesOrRefuses : Planner → Planner → ℕ → ℕ → ℕ → Option Taken → Type 0
 TakesOrRefuses old new line name len None =
-    (MOST_LIVE_WORDS < live_words_of old.store + len) × IsLost old new line name
+    (MOST_LIVE_WORDS < live_words_of old.world.store + len) × IsLost old new line name
 TakesOrRefuses old new line name len (Some t) = HasTaken old new len t
 
 -- the faults of taking so many words: too many in all, where the store has room for them, and want of memory
@@ -60,7 +61,7 @@ abbrev pub FailsToTake : PlanFault → Planner → ℕ → Type 0
 FailsToTake NoMemory old len = Unit {0}
 FailsToTake Jobs old len = ⊥
 FailsToTake Words old len =
-    (live_words_of old.store + len ≤ MOST_LIVE_WORDS) × (MOST_CREATED_WORDS < old.created + len)
+    (live_words_of old.world.store + len ≤ MOST_LIVE_WORDS) × (MOST_CREATED_WORDS < old.world.created + len)
 
 -- LITERALS
 
@@ -68,9 +69,9 @@ FailsToTake Words old len =
 pub record HasLiteral (old new : Planner) (xs : List ℤ) (number : ℕ) : Type 0 where
   pub literal : Vec ℤ Global
   pub elements : literal.items ≡ xs
-  pub number_is : number ≡ length old.plan.literals.items
-  pub literals : new.plan.literals.items ≡ old.plan.literals.items ++ literal ∷ []
-  pub rest : new ≡ record old { plan = record old.plan { literals = new.plan.literals } }
+  pub number_is : number ≡ length old.draft.literals.items
+  pub literals : new.draft.literals.items ≡ old.draft.literals.items ++ literal ∷ []
+  pub rest : new ≡ record old { draft = record old.draft { literals = new.draft.literals } }
 
 -- where there are elements, the plan has a literal of them; else all is as it was
 abbrev pub HasLiteralOf : Planner → Planner → Option (List ℤ) → Option ℕ → Type 0
@@ -88,9 +89,9 @@ and_if false xs c = xs
 
 -- The lists of `temp` and `tempjob` containers have a container more, by its life.
 pub record HasLife (old new : Planner) (life : Life) (c : ℕ) : Type 0 where
-  pub temps : new.temps.items ≡ and_if (is_temp life) old.temps.items c
-  pub tempjobs : new.tempjobs.items ≡ and_if (is_tempjob life) old.tempjobs.items c
-  pub rest : new ≡ record old { temps = new.temps; tempjobs = new.tempjobs }
+  pub temps : new.world.temps.items ≡ and_if (is_temp life) old.world.temps.items c
+  pub tempjobs : new.world.tempjobs.items ≡ and_if (is_tempjob life) old.world.tempjobs.items c
+  pub rest : new ≡ record old { world = record old.world { temps = new.world.temps; tempjobs = new.world.tempjobs } }
 
 -- A container whose words were taken is known by its name, to the safety book, to the list of its life and to the plan.
 pub record IsEntered (old new : Planner) (line name : ℕ) (life : Life) (t : Taken) (bind : Bind)
@@ -100,22 +101,26 @@ pub record IsEntered (old new : Planner) (line name : ℕ) (life : Life) (t : Ta
   pub slot_is : it.slot ≡ t.slot
   pub version_is : it.version ≡ t.version
   pub life_is : it.life ≡ life
-  pub frame_is : it.frame ≡ old.frame
+  pub frame_is : it.frame ≡ old.world.frame
   pub name_is : it.name ≡ name
   pub line_is : it.line ≡ line
-  pub enrolled : state_of new.safety t.slot.0 ≡ fresh t.version.0
-  pub others : (k : ℕ) → k ≢ t.slot.0 → state_of new.safety k ≡ state_of old.safety k
-  pub containers : new.containers.items ≡ old.containers.items ++ it ∷ []
-  pub values : new.values.items ≡ slice_set old.values.items name (Whole (length old.containers.items))
-  pub temps : new.temps.items ≡ and_if (is_temp life) old.temps.items (length old.containers.items)
-  pub tempjobs : new.tempjobs.items ≡ and_if (is_tempjob life) old.tempjobs.items (length old.containers.items)
-  pub ops : new.plan.ops.items
-      ≡ old.plan.ops.items ++ record { line = line; name = name; act = Fill t.span literal } ∷ []
+  pub enrolled : state_of new.world.safety t.slot.0 ≡ fresh t.version.0
+  pub others : (k : ℕ) → k ≢ t.slot.0 → state_of new.world.safety k ≡ state_of old.world.safety k
+  pub containers : new.world.containers.items ≡ old.world.containers.items ++ it ∷ []
+  pub values : new.world.values.items ≡ slice_set old.world.values.items name
+      (Whole (length old.world.containers.items))
+  pub temps : new.world.temps.items ≡ and_if (is_temp life) old.world.temps.items (length old.world.containers.items)
+  pub tempjobs : new.world.tempjobs.items ≡ and_if (is_tempjob life) old.world.tempjobs.items
+      (length old.world.containers.items)
+  pub ops : new.draft.ops.items
+      ≡ old.draft.ops.items ++ record { line = line; name = name; act = Fill t.span literal } ∷ []
   pub rest : new ≡ record old {
-    safety = new.safety;
-    containers = new.containers;
-    values = new.values;
-    temps = new.temps;
-    tempjobs = new.tempjobs;
-    plan = record old.plan { ops = new.plan.ops };
+    world = record old.world {
+      safety = new.world.safety;
+      containers = new.world.containers;
+      values = new.world.values;
+      temps = new.world.temps;
+      tempjobs = new.world.tempjobs;
+    };
+    draft = record old.draft { ops = new.draft.ops };
   }

@@ -13,14 +13,15 @@ use Rattle.job_handle.specs.declared.book.JobBook.{JobBook}
 use Rattle.job_handle.specs.Books.{StandsFor}
 use Rattle.job_handle.specs.Sets.{job_numbered}
 use Rattle.plan_state.specs.declared.state.Planner.{Planner}
+use Rattle.plan_state.specs.declared.state.World.{World}
 use Rattle.plan_state.specs.Accesses.{refused_as}
-use Rattle.plan_state.specs.Stands.{Stands}
+use Rattle.plan_state.specs.Stands.{Knows}
 use Rattle.plan_state.specs.Steps.{state_at, AtStatement, GoesOn}
 
 -- An answer is the cause for which the value of a name can't be tested now.
-abbrev pub IsTestRefusal : Planner → ℕ → Option Refusal → Type 0
-IsTestRefusal p name answer = (g : Setting) (begun : ScriptState) (n : ℕ) (s : ScriptState) (found : List ℕ)
-    → Stands p g begun n s found
+abbrev pub IsTestRefusal : World → ℕ → Option Refusal → Type 0
+IsTestRefusal w name answer = (g : Setting) (s : ScriptState) (found : List ℕ)
+    → Knows w g s found
     → refused_as answer name ≡ first_some (disposed s (name ∷ []) ∷ busy s name ∷ [])
 
 -- An answer is the greatest job that isn't completed, in every book that the planner's stands for.

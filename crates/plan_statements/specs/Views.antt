@@ -9,7 +9,7 @@ use Rattle.safety_handle.specs.Entries.{SlotState, state_of}
 use Rattle.plan_state.specs.declared.state.Value.{Value}
 use Rattle.plan_state.specs.declared.state.Value.TheVariants.{Whole}
 use Rattle.plan_state.specs.declared.state.Container.{Container}
-use Rattle.plan_state.specs.declared.state.Planner.{Planner}
+use Rattle.plan_state.specs.declared.state.World.{World}
 
 -- the slot of a list, and none of another container
 abbrev pub slot_by : Bind → Slot → Option Slot
@@ -30,7 +30,7 @@ with_break None k state = state
 with_break (Some slot) k state = if nat_eq k slot.0 then record state { view = state.view + 1 } else state
 
 -- The views of the list that a value stands for are broken, where it stands for a list, and all else is as it was.
-pub record IsBroken (old new : Planner) (value : Value) : Type 0 where
+pub record IsBroken (old new : World) (value : Value) : Type 0 where
   pub slots : (k : ℕ) → state_of new.safety k ≡ with_break (list_slot old.containers.items value) k
       (state_of old.safety k)
   pub rest : new ≡ record old { safety = new.safety }

@@ -26,23 +26,23 @@ pub fn set_capacity(planner: &mut Planner, line: u32, name: u32, cap: u32) -> Re
     ensures fails { IfErr result (λ fault. FailsBy fault planner.old
         (record { line = line; act = SetCapacity name cap })) }
 {
-    if let Some(refusal) = planner.blocked(name, true) {
+    if let Some(refusal) = planner.world.blocked(name, true) {
         planner.push_refusal(line, name, refusal)?;
         return Ok(());
     }
-    if is_full_for(planner, u64::from(cap) + 1) {
+    if is_full_for(&planner.world, u64::from(cap) + 1) {
         planner.push_refusal(line, name, Refusal::StoreFull)?;
         return Ok(());
     }
-    let number = whole_of(planner.values[name as usize]);
-    let container = planner.containers[number as usize];
+    let number = whole_of(planner.world.values[name as usize]);
+    let container = planner.world.containers[number as usize];
     let at = list_of(container.bind);
     if cap < at.cap {
-        planner.safety.bump_view(container.slot);
+        planner.world.safety.bump_view(container.slot);
         planner.push_refusal(line, name, Refusal::Range)?;
         return Ok(());
     }
-    if planner.created + (cap + 1) > MOST_CREATED_WORDS {
+    if planner.world.created + (cap + 1) > MOST_CREATED_WORDS {
         return Err(PlanFault::Words);
     }
     move_list(planner, line, name, number, container, cap)?;
@@ -58,13 +58,13 @@ fn move_list(
     container: Container,
     cap: u32,
 ) -> Result<(), NoMemory>
-    requires number { number < vec_len planner.old.containers }
+    requires number { number < vec_len planner.old.world.containers }
     requires list { IsList container.bind }
-    requires taken { is_taken (place_of planner.old.store container.slot.0).state ≡ true }
-    requires live { (state_of planner.old.safety container.slot.0).live ≡ true }
-    requires views { (state_of planner.old.safety container.slot.0).view < MOST_STATEMENTS }
-    requires low { peak_of planner.old.store ≤ MOST_CREATED_WORDS }
-    requires small { planner.old.created + (cap + 1) ≤ MOST_CREATED_WORDS }
+    requires taken { is_taken (place_of planner.old.world.store container.slot.0).state ≡ true }
+    requires live { (state_of planner.old.world.safety container.slot.0).live ≡ true }
+    requires views { (state_of planner.old.world.safety container.slot.0).view < MOST_STATEMENTS }
+    requires low { peak_of planner.old.world.store ≤ MOST_CREATED_WORDS }
+    requires small { planner.old.world.created + (cap + 1) ≤ MOST_CREATED_WORDS }
     ensures { OnOk result (MovesList planner.old planner.new line name number container cap) }
 {
     let at = list_of(container.bind);
@@ -72,11 +72,11 @@ fn move_list(
         start: at.start,
         len: at.cap + 1,
     };
-    let Ok(to) = planner.store.regrow(container.slot, cap + 1) else {
+    let Ok(to) = planner.world.store.regrow(container.slot, cap + 1) else {
         return Err(NoMemory);
     };
-    planner.safety.bump_view(container.slot);
-    planner.containers[number as usize] = Container {
+    planner.world.safety.bump_view(container.slot);
+    planner.world.containers[number as usize] = Container {
         bind: Bind::List(ListAt {
             start: to.start,
             cap,
@@ -88,7 +88,7 @@ fn move_list(
         name: container.name,
         line: container.line,
     };
-    planner.created += cap + 1;
+    planner.world.created += cap + 1;
     planner.push(line, name, Act::Move { from, to })
 }
 

@@ -1,152 +1,135 @@
 // The statements that change what a container holds: `set`, `add`, `put`, `remove` and `clear`. Whether its contents
 // allow the change is seen when the operation is run. The views of a list are broken in either case.
-ghost use Rattle.std.specs.Prelude.{◌≡◌, ◌<◌, OnOk, vec_len};
+ghost use Rattle.std.specs.Prelude.{◌≡◌, ◌<◌, vec_len};
 ghost use Rattle.frame_ast.specs.declared.script.Order.TheVariants.{Set as SetTo, Add as AddIn, Put as PutIn, Remove as RemoveIn, Clear as ClearAll};
 ghost use Rattle.plan_laws.specs.Accessing.{add_act};
 ghost use Rattle.plan_state.specs.Stands.{IsThere};
-ghost use Rattle.plan_state.specs.Steps.{GoesOn, IsReady};
+ghost use Rattle.plan_state.specs.Answers.{Answers, IsReadyFor};
 ghost use Rattle.plan_statements.specs.Views.{list_slot, slot_by, IsBreakable, IsBroken};
 
 use frame_core::Act;
-use job_base::NoMemory;
 use kernel_exec::Bind;
-use plan_state::{Container, Planner, Value};
+use plan_state::{Answer, Container, Value, World};
 use slot_store::Slot;
 
 /// `set`, of an element or of a reference
-pub fn set(
-    planner: &mut Planner,
-    line: u32,
-    name: u32,
-    at: Option<i64>,
-    value: i64,
-) -> Result<(), NoMemory>
-    requires ready { IsReady planner.old (record { line = line; act = SetTo name at value }) }
-    ensures goes_on { OnOk result (GoesOn planner.old planner.new (record { line = line; act = SetTo name at value })) }
+pub fn set(world: &World, name: u32, at: Option<i64>, value: i64) -> Answer
+    requires ready { IsReadyFor world.now (SetTo name at value) }
+    ensures answers { Answers world.now world.now (SetTo name at value) result }
 {
-    match planner.blocked(name, true) {
-        Some(refusal) => planner.push_refusal(line, name, refusal),
+    match world.blocked(name, true) {
+        Some(refusal) => Answer::Refused { name, refusal },
         None => {
-            let words = planner.bind(planner.values[name as usize]);
+            let words = world.bind(world.values[name as usize]);
             let i = at.unwrap_or(0);
-            planner.push(
-                line,
+            Answer::Does {
                 name,
-                Act::Set {
+                act: Act::Set {
                     at: words,
                     i,
                     v: value,
                 },
-            )
+            }
         }
     }
 }
 
 /// `add`, to a list or to a map
-pub fn add(
-    planner: &mut Planner,
-    line: u32,
-    name: u32,
-    first: i64,
-    second: Option<i64>,
-) -> Result<(), NoMemory>
-    requires ready { IsReady planner.old (record { line = line; act = AddIn name first second }) }
-    ensures goes_on { OnOk result
-        (GoesOn planner.old planner.new (record { line = line; act = AddIn name first second })) }
+pub fn add(world: &mut World, name: u32, first: i64, second: Option<i64>) -> Answer
+    requires ready { IsReadyFor world.old (AddIn name first second) }
+    ensures answers { Answers world.old world.new (AddIn name first second) result }
 {
-    match planner.blocked(name, true) {
-        Some(refusal) => planner.push_refusal(line, name, refusal),
+    match world.blocked(name, true) {
+        Some(refusal) => Answer::Refused { name, refusal },
         None => {
-            let value = planner.values[name as usize];
-            let words = planner.bind(value);
-            planner.push(line, name, addition(words, first, second))?;
-            break_views(planner, value);
-            Ok(())
+            let value = world.values[name as usize];
+            let words = world.bind(value);
+            break_views(world, value);
+            Answer::Does {
+                name,
+                act: addition(words, first, second),
+            }
         }
     }
 }
 
 /// `put`, of a key that a map may have already
-pub fn put(
-    planner: &mut Planner,
-    line: u32,
-    name: u32,
-    key: i64,
-    value: i64,
-) -> Result<(), NoMemory>
-    requires ready { IsReady planner.old (record { line = line; act = PutIn name key value }) }
-    ensures goes_on { OnOk result (GoesOn planner.old planner.new
-        (record { line = line; act = PutIn name key value })) }
+pub fn put(world: &World, name: u32, key: i64, value: i64) -> Answer
+    requires ready { IsReadyFor world.now (PutIn name key value) }
+    ensures answers { Answers world.now world.now (PutIn name key value) result }
 {
-    match planner.blocked(name, true) {
-        Some(refusal) => planner.push_refusal(line, name, refusal),
+    match world.blocked(name, true) {
+        Some(refusal) => Answer::Refused { name, refusal },
         None => {
-            let words = planner.bind(planner.values[name as usize]);
-            planner.push(
-                line,
+            let words = world.bind(world.values[name as usize]);
+            Answer::Does {
                 name,
-                Act::Put {
+                act: Act::Put {
                     at: words,
                     k: key,
                     v: value,
                 },
-            )
+            }
         }
     }
 }
 
 /// `remove`, from a list or from a map
-pub fn remove(planner: &mut Planner, line: u32, name: u32, at: i64) -> Result<(), NoMemory>
-    requires ready { IsReady planner.old (record { line = line; act = RemoveIn name at }) }
-    ensures goes_on { OnOk result (GoesOn planner.old planner.new (record { line = line; act = RemoveIn name at })) }
+pub fn remove(world: &mut World, name: u32, at: i64) -> Answer
+    requires ready { IsReadyFor world.old (RemoveIn name at) }
+    ensures answers { Answers world.old world.new (RemoveIn name at) result }
 {
-    match planner.blocked(name, true) {
-        Some(refusal) => planner.push_refusal(line, name, refusal),
+    match world.blocked(name, true) {
+        Some(refusal) => Answer::Refused { name, refusal },
         None => {
-            let value = planner.values[name as usize];
-            let words = planner.bind(value);
-            planner.push(line, name, Act::Remove { at: words, i: at })?;
-            break_views(planner, value);
-            Ok(())
+            let value = world.values[name as usize];
+            let words = world.bind(value);
+            break_views(world, value);
+            Answer::Does {
+                name,
+                act: Act::Remove { at: words, i: at },
+            }
         }
     }
 }
 
 /// `clear`, of a list, a map or a stream
-pub fn clear(planner: &mut Planner, line: u32, name: u32) -> Result<(), NoMemory>
-    requires ready { IsReady planner.old (record { line = line; act = ClearAll name }) }
-    ensures goes_on { OnOk result (GoesOn planner.old planner.new (record { line = line; act = ClearAll name })) }
+pub fn clear(world: &mut World, name: u32) -> Answer
+    requires ready { IsReadyFor world.old (ClearAll name) }
+    ensures answers { Answers world.old world.new (ClearAll name) result }
 {
-    match planner.blocked(name, true) {
-        Some(refusal) => planner.push_refusal(line, name, refusal),
+    match world.blocked(name, true) {
+        Some(refusal) => Answer::Refused { name, refusal },
         None => {
-            let value = planner.values[name as usize];
-            let words = planner.bind(value);
-            planner.push(line, name, Act::Clear { at: words })?;
-            break_views(planner, value);
-            Ok(())
+            let value = world.values[name as usize];
+            let words = world.bind(value);
+            break_views(world, value);
+            Answer::Does {
+                name,
+                act: Act::Clear { at: words },
+            }
         }
     }
 }
 
 /// The views of the list that a value stands for are broken, where it stands for a list.
-pub(crate) fn break_views(planner: &mut Planner, value: Value)
-    requires there { IsThere (vec_len planner.old.containers) (vec_len planner.old.handles) value }
-    requires breakable { IsBreakable planner.old.safety (list_slot planner.old.containers.items value) }
-    ensures { IsBroken planner.old planner.new value }
+fn break_views(world: &mut World, value: Value)
+    requires there { IsThere (vec_len world.old.containers) (vec_len world.old.handles) value }
+    requires breakable { IsBreakable world.old.safety (list_slot world.old.containers.items value) }
+    ensures { IsBroken world.old world.new value }
 {
-    if let Some(slot) = list_slot(planner, value) {
-        planner.safety.bump_view(slot);
+    if let Some(slot) = list_slot(world, value) {
+        world.safety.bump_view(slot);
     }
 }
 
 /// The slot of the list that a value stands for.
-fn list_slot(planner: &Planner, value: Value) -> Option<Slot>
-    requires there { IsThere (vec_len planner.now.containers) (vec_len planner.now.handles) value }
-    ensures { result ≡ list_slot planner.now.containers.items value }
+fn list_slot(world: &World, value: Value) -> Option<Slot>
+    requires there { IsThere (vec_len world.now.containers) (vec_len world.now.handles) value }
+    ensures { result ≡ list_slot world.now.containers.items value }
 {
     match value {
-        Value::Whole(number) => slot_of(planner.containers[number as usize]),
+        Value::Whole(number) => slot_of(world.containers[number as usize]),
         Value::Dead | Value::Slice { .. } | Value::View { .. } | Value::Jobs(_) => None,
     }
 }

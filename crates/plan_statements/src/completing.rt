@@ -23,7 +23,8 @@ pub fn complete(planner: &mut Planner, alloc: Global, name: u32) -> Result<(), N
     requires ready { (line : ℕ) × IsReady planner.old (record { line = line; act = CompleteOf name }) }
     ensures goes_on { OnOk result (Completes planner.old planner.new name) }
 {
-    let jobs = planner.jobs_of(planner.values[name as usize]);
+    let value = planner.world.values[name as usize];
+    let jobs = planner.world.jobs_of(value);
     complete_jobs(planner, alloc, &jobs)
 }
 
@@ -33,15 +34,16 @@ pub(crate) fn complete_jobs(
     alloc: Global,
     jobs: &Handle,
 ) -> Result<(), NoMemory>
-    requires known { AreUpTo (count_of planner.old.jobs) (jobs_of jobs.now) }
-    requires before { planner.old.jobs_before ≤ count_of planner.old.jobs }
-    requires users { (k : ℕ) → AreUpTo (count_of planner.old.jobs) (users_of (place_of planner.old.store k).state) }
+    requires known { AreUpTo (count_of planner.old.world.jobs) (jobs_of jobs.now) }
+    requires before { planner.old.jobs_before ≤ count_of planner.old.world.jobs }
+    requires users { (k : ℕ) → AreUpTo (count_of planner.old.world.jobs)
+        (users_of (place_of planner.old.world.store k).state) }
     ensures { OnOk result (AreCompleted planner.old planner.new (jobs_of jobs.now)) }
 {
-    let all = planner.jobs.closure(jobs);
+    let all = planner.world.jobs.closure(jobs);
     let newly = not_completed(planner, alloc, &all)?;
-    planner.jobs.complete(jobs);
-    planner.store.settle(&planner.jobs);
+    planner.world.jobs.complete(jobs);
+    planner.world.store.settle(&planner.world.jobs);
     if newly.is_empty() {
         return Ok(());
     }
@@ -50,12 +52,12 @@ pub(crate) fn complete_jobs(
 
 /// The jobs of a set that aren't completed, in rising order and numbered as in the plan.
 fn not_completed(planner: &Planner, alloc: Global, all: &Handle) -> Result<Vec<JobId>, NoMemory>
-    requires { planner.now.jobs_before ≤ count_of planner.now.jobs }
+    requires { planner.now.jobs_before ≤ count_of planner.now.world.jobs }
     ensures { IfOk result (λ ids. AreNotCompleted planner.now (jobs_of all.now) ids.items) }
 {
     let mut ids = Vec::new(alloc);
     let mut at = planner.jobs_before;
-    while let Some(job) = planner.jobs.next_open(all, at) {
+    while let Some(job) = planner.world.jobs.next_open(all, at) {
         ids.push(JobId(job.0 - planner.jobs_before))?;
         at = job.0;
     }
@@ -66,9 +68,9 @@ fn not_completed(planner: &Planner, alloc: Global, all: &Handle) -> Result<Vec<J
 fn begin_segment(planner: &mut Planner, alloc: Global, after: Vec<JobId>) -> Result<(), NoMemory>
     ensures { OnOk result (IsClosed planner.old planner.new after.items) }
 {
-    let waits = mem::replace(&mut planner.plan.waits, after);
-    let ops = mem::replace(&mut planner.plan.ops, Vec::new(alloc));
-    planner.plan.segments.push(Segment {
+    let waits = mem::replace(&mut planner.draft.waits, after);
+    let ops = mem::replace(&mut planner.draft.ops, Vec::new(alloc));
+    planner.draft.segments.push(Segment {
         waits,
         ops,
         starts: None,

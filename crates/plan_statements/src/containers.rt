@@ -10,7 +10,7 @@ use frame_core::Act;
 use job_base::limits::{MOST_CREATED_WORDS, MOST_LIVE_WORDS};
 use job_base::{NoMemory, Refusal};
 use kernel_exec::Bind;
-use plan_state::{Container, PlanFault, Planner, Value};
+use plan_state::{Container, PlanFault, Planner, Value, World};
 use slot_store::Taken;
 use std::alloc::Global;
 
@@ -21,23 +21,23 @@ pub(crate) fn take_words(
     name: u32,
     len: u64,
 ) -> Result<Option<Taken>, PlanFault>
-    requires name { name < vec_len planner.old.values }
-    requires low { peak_of planner.old.store ≤ MOST_CREATED_WORDS }
-    requires slots { slots_in_use planner.old.store < 4294967295 }
+    requires name { name < vec_len planner.old.world.values }
+    requires low { peak_of planner.old.world.store ≤ MOST_CREATED_WORDS }
+    requires slots { slots_in_use planner.old.world.store < 4294967295 }
     ensures taken { IfOk result (TakesOrRefuses planner.old planner.new line name len) }
     ensures fails { IfErr result (λ fault. FailsToTake fault planner.old len) }
 {
-    if is_full_for(planner, len) {
+    if is_full_for(&planner.world, len) {
         refuse_full(planner, line, name)?;
         return Ok(None);
     }
-    if u64::from(planner.created) + len > u64::from(MOST_CREATED_WORDS) {
+    if u64::from(planner.world.created) + len > u64::from(MOST_CREATED_WORDS) {
         return Err(PlanFault::Words);
     }
     // It isn't full, so a fault is want of memory.
-    match planner.store.take(len as u32) {
+    match planner.world.store.take(len as u32) {
         Ok(taken) => {
-            planner.created += len as u32;
+            planner.world.created += len as u32;
             Ok(Some(taken))
         }
         Err(_) => Err(PlanFault::NoMemory),
@@ -45,19 +45,19 @@ pub(crate) fn take_words(
 }
 
 /// Whether so many words more are too many live ones.
-pub(crate) fn is_full_for(planner: &Planner, len: u64) -> bool
-    ensures { IsTrue result ↔ (MOST_LIVE_WORDS < live_words_of planner.now.store + len) }
+pub(crate) fn is_full_for(world: &World, len: u64) -> bool
+    ensures { IsTrue result ↔ (MOST_LIVE_WORDS < live_words_of world.now.store + len) }
 {
-    len > u64::from(MOST_LIVE_WORDS - planner.store.live_words())
+    len > u64::from(MOST_LIVE_WORDS - world.store.live_words())
 }
 
 /// The statement is refused since the store is full, and its name stands for nothing.
 fn refuse_full(planner: &mut Planner, line: u32, name: u32) -> Result<(), NoMemory>
-    requires { name < vec_len planner.old.values }
+    requires { name < vec_len planner.old.world.values }
     ensures { OnOk result (IsLost planner.old planner.new line name) }
 {
     planner.push_refusal(line, name, Refusal::StoreFull)?;
-    planner.set_value(name, Value::Dead);
+    planner.world.set_value(name, Value::Dead);
     Ok(())
 }
 
@@ -67,7 +67,7 @@ pub(crate) fn copy_literal(
     values: Option<u32>,
     script: &Script,
 ) -> Result<Option<u32>, NoMemory>
-    requires few { vec_len planner.old.plan.literals < 2 ^ 32 }
+    requires few { vec_len planner.old.draft.literals < 2 ^ 32 }
     requires there { IfSome values (λ n. n < vec_len script.now.literals) }
     ensures { IfOk result (HasLiteralOf planner.old planner.new
         (option_map (λ n. get_or (map (λ v. v.items) script.now.literals.items) n []) values)) }
@@ -87,7 +87,7 @@ pub(crate) fn push_value(
     alloc: Global,
     value: Option<i64>,
 ) -> Result<Option<u32>, NoMemory>
-    requires few { vec_len planner.old.plan.literals < 2 ^ 32 }
+    requires few { vec_len planner.old.draft.literals < 2 ^ 32 }
     ensures { IfOk result (HasLiteralOf planner.old planner.new (option_map (λ z. z ∷ []) value)) }
 {
     match value {
@@ -105,7 +105,7 @@ pub(crate) fn copy_column(
     alloc: Global,
     values: Option<&[i64]>,
 ) -> Result<Option<u32>, NoMemory>
-    requires few { vec_len planner.old.plan.literals < 2 ^ 32 }
+    requires few { vec_len planner.old.draft.literals < 2 ^ 32 }
     ensures { IfOk result (HasLiteralOf planner.old planner.new (option_map (λ s. s.now) values.entry)) }
 {
     match values {
@@ -119,11 +119,11 @@ pub(crate) fn copy_column(
 
 /// A literal of the plan, by its place.
 fn push_literal(planner: &mut Planner, literal: Vec<i64>) -> Result<u32, NoMemory>
-    requires few { vec_len planner.old.plan.literals < 2 ^ 32 }
+    requires few { vec_len planner.old.draft.literals < 2 ^ 32 }
     ensures { IfOk result (HasLiteral planner.old planner.new literal.items) }
 {
-    let number = planner.plan.literals.len() as u32;
-    planner.plan.literals.push(literal)?;
+    let number = planner.draft.literals.len() as u32;
+    planner.draft.literals.push(literal)?;
     Ok(number)
 }
 
@@ -137,24 +137,24 @@ pub(crate) fn add_container(
     bind: Bind,
     literal: Option<u32>,
 ) -> Result<(), NoMemory>
-    requires name { name < vec_len planner.old.values }
-    requires few { vec_len planner.old.containers < 2 ^ 32 }
+    requires name { name < vec_len planner.old.world.values }
+    requires few { vec_len planner.old.world.containers < 2 ^ 32 }
     requires small { end_of bind < 2 ^ 31 }
     ensures { OnOk result (IsEntered planner.old planner.new line name life taken bind literal) }
 {
-    let number = planner.containers.len() as u32;
-    planner.safety.enroll(taken.slot, taken.version)?;
-    planner.containers.push(Container {
+    let number = planner.world.containers.len() as u32;
+    planner.world.safety.enroll(taken.slot, taken.version)?;
+    planner.world.containers.push(Container {
         bind,
         slot: taken.slot,
         version: taken.version,
         life,
-        frame: planner.frame,
+        frame: planner.world.frame,
         name,
         line,
     })?;
     note_life(planner, life, number)?;
-    planner.set_value(name, Value::Whole(number));
+    planner.world.set_value(name, Value::Whole(number));
     planner.push(
         line,
         name,
@@ -170,8 +170,8 @@ fn note_life(planner: &mut Planner, life: Life, number: u32) -> Result<(), NoMem
     ensures { OnOk result (HasLife planner.old planner.new life number) }
 {
     match life {
-        Life::Temp => planner.temps.push(number)?,
-        Life::TempJob => planner.tempjobs.push(number)?,
+        Life::Temp => planner.world.temps.push(number)?,
+        Life::TempJob => planner.world.tempjobs.push(number)?,
         Life::Persistent => {}
     }
     Ok(())

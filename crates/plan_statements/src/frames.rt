@@ -7,7 +7,7 @@ ghost use Rattle.plan_state.specs.Steps.{GoesOn, IsReady};
 use crate::disposing::give_back;
 use frame_core::Act;
 use job_base::NoMemory;
-use plan_state::{Container, Planner};
+use plan_state::{Container, Planner, World};
 
 /// `frame`: what is overdue from now on is reported, and the `temp` containers end.
 pub fn frame(planner: &mut Planner, line: u32) -> Result<(), NoMemory>
@@ -15,8 +15,8 @@ pub fn frame(planner: &mut Planner, line: u32) -> Result<(), NoMemory>
     ensures goes_on { OnOk result (GoesOn planner.old planner.new (record { line = line; act = FrameOf })) }
 {
     report_overdue(planner, line)?;
-    end_temps(planner);
-    planner.frame += 1;
+    end_temps(&mut planner.world);
+    planner.world.frame += 1;
     Ok(())
 }
 
@@ -27,23 +27,23 @@ fn report_overdue(planner: &mut Planner, line: u32) -> Result<(), NoMemory>
 {
     while let Some(container) = next_due(planner) {
         report(planner, line, container)?;
-        planner.overdue += 1;
+        planner.world.overdue += 1;
     }
     Ok(())
 }
 
 /// The next container that was made so long ago that it is overdue from now on, if there is one.
 fn next_due(planner: &Planner) -> Option<Container>
-    requires numbers { All (λ c. c < vec_len planner.now.containers) planner.now.tempjobs.items }
-    requires small { AreSmall planner.now.containers.items }
+    requires numbers { All (λ c. c < vec_len planner.now.world.containers) planner.now.world.tempjobs.items }
+    requires small { AreSmall planner.now.world.containers.items }
     ensures { IsNextDue planner.now result }
 {
-    if planner.overdue as usize >= planner.tempjobs.len() {
+    if planner.world.overdue as usize >= planner.world.tempjobs.len() {
         return None;
     }
-    let number = planner.tempjobs[planner.overdue as usize];
-    let container = planner.containers[number as usize];
-    if container.frame + 3 > planner.frame {
+    let number = planner.world.tempjobs[planner.world.overdue as usize];
+    let container = planner.world.containers[number as usize];
+    if container.frame + 3 > planner.world.frame {
         return None;
     }
     Some(container)
@@ -53,7 +53,7 @@ fn next_due(planner: &Planner) -> Option<Container>
 fn report(planner: &mut Planner, line: u32, container: Container) -> Result<(), NoMemory>
     ensures { OnOk result (IsReported planner.old planner.new line container) }
 {
-    if planner.store.live(container.slot, container.version) {
+    if planner.world.store.live(container.slot, container.version) {
         planner.push(
             line,
             container.name,
@@ -66,26 +66,26 @@ fn report(planner: &mut Planner, line: u32, container: Container) -> Result<(), 
 }
 
 /// The containers end that were made for this frame. No job uses them.
-fn end_temps(planner: &mut Planner)
-    requires numbers { All (λ c. c < vec_len planner.old.containers) planner.old.temps.items }
-    requires small { AreSmall planner.old.containers.items }
-    ensures { AreOver planner.old planner.new }
+fn end_temps(world: &mut World)
+    requires numbers { All (λ c. c < vec_len world.old.containers) world.old.temps.items }
+    requires small { AreSmall world.old.containers.items }
+    ensures { AreOver world.old world.new }
 {
-    for at in 0..planner.temps.len() {
-        let number = planner.temps[at];
-        let container = planner.containers[number as usize];
-        end_temp(planner, number, container);
+    for at in 0..world.temps.len() {
+        let number = world.temps[at];
+        let container = world.containers[number as usize];
+        end_temp(world, number, container);
     }
-    planner.temps.clear();
+    world.temps.clear();
 }
 
 /// A container ends, where it is alive.
-fn end_temp(planner: &mut Planner, number: u32, container: Container)
-    requires has { slice_get planner.old.containers.items number ≡ Some container }
+fn end_temp(world: &mut World, number: u32, container: Container)
+    requires has { slice_get world.old.containers.items number ≡ Some container }
     requires small { container.version.0 < 4294967295 }
-    ensures { IsOver planner.old planner.new number container }
+    ensures { IsOver world.old world.new number container }
 {
-    if planner.store.live(container.slot, container.version) {
-        give_back(planner, number);
+    if world.store.live(container.slot, container.version) {
+        give_back(world, number);
     }
 }

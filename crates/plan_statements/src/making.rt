@@ -163,10 +163,7 @@ pub fn map(
     match take_words(planner, line, name, native_map::words_of(cap))? {
         None => Ok(()),
         Some(taken) => {
-            let at = MapAt {
-                start: taken.span.start,
-                cap,
-            };
+            let at = MapAt::new(taken.span.start, cap);
             add_container(planner, line, name, life, taken, Bind::Map(at), None)?;
             Ok(())
         }

@@ -1,85 +1,73 @@
 // The statements that give a name to what there is already: `slice`, `view`, `copy` and `combine`. And `flush`, which
 // does nothing: a job may run as soon as it is scheduled.
-ghost use Rattle.std.specs.Prelude.{◌≡◌, ◌+◌, ◌<◌, ◌^◌, ℕ, Some, OnOk};
+ghost use Rattle.std.specs.Prelude.{◌≡◌, ◌+◌, ◌<◌, ◌^◌, ℕ, Some, IfOk};
 ghost use Rattle.frame_ast.specs.declared.script.Order.TheVariants.{Slice as SliceOf, View as ViewOf, Copy as CopyOf, Combine as CombineOf, Flush as FlushAll};
-ghost use Rattle.plan_state.specs.Accesses.{IsRefusal, IsWholeAlive, length_in, part_by, start_of, view_by};
-ghost use Rattle.plan_state.specs.Steps.{GoesOn, IsReady};
+ghost use Rattle.plan_state.specs.Accesses.{IsWholeAlive, length_in, part_by, start_of, view_by};
+ghost use Rattle.plan_state.specs.Answers.{Answers, IsReadyFor, IsRefusalOf};
 
 use job_base::{NoMemory, Refusal};
 use kernel_exec::Bind;
-use plan_state::{Planner, Value};
+use plan_state::{Answer, Value, World};
 
 /// `slice`: `len` elements of an array or of a slice, from `start` on.
-pub fn slice(
-    planner: &mut Planner,
-    line: u32,
-    name: u32,
-    of: u32,
-    start: u32,
-    len: u32,
-) -> Result<(), NoMemory>
-    requires ready { IsReady planner.old (record { line = line; act = SliceOf name of start len }) }
-    ensures goes_on { OnOk result (GoesOn planner.old planner.new
-        (record { line = line; act = SliceOf name of start len })) }
+pub fn slice(world: &mut World, name: u32, of: u32, start: u32, len: u32) -> Answer
+    requires ready { IsReadyFor world.old (SliceOf name of start len) }
+    ensures answers { Answers world.old world.new (SliceOf name of start len) result }
 {
-    match slice_refusal(planner, line, name, of, start, len) {
+    match slice_refusal(world, name, of, start, len) {
         Some(refusal) => {
-            planner.push_refusal(line, of, refusal)?;
-            planner.set_value(name, Value::Dead);
+            world.set_value(name, Value::Dead);
+            Answer::Refused { name: of, refusal }
         }
         None => {
-            let value = take_part(planner.values[of as usize], start, len);
-            planner.set_value(name, value);
+            let value = take_part(world.values[of as usize], start, len);
+            world.set_value(name, value);
+            Answer::Nothing
         }
     }
-    Ok(())
 }
 
 /// Why a slice can't be taken: its container is disposed, or the slice ends past its elements.
-fn slice_refusal(
-    planner: &Planner,
-    line: u32,
-    name: u32,
-    of: u32,
-    start: u32,
-    len: u32,
-) -> Option<Refusal>
-    requires ready { IsReady planner.now (record { line = line; act = SliceOf name of start len }) }
-    ensures { IsRefusal planner.now (record { line = line; act = SliceOf name of start len }) of result }
+fn slice_refusal(world: &World, name: u32, of: u32, start: u32, len: u32) -> Option<Refusal>
+    requires ready { IsReadyFor world.now (SliceOf name of start len) }
+    ensures { IsRefusalOf world.now (SliceOf name of start len) of result }
 {
-    if planner.is_disposed(of) {
+    if world.is_disposed(of) {
         return Some(Refusal::Disposed);
     }
-    if start + len > length_of(planner.bind(planner.values[of as usize])) {
+    if start + len > length_of(world.bind(world.values[of as usize])) {
         return Some(Refusal::Range);
     }
     None
 }
 
 /// `view`: a list as an array, until its views are broken.
-pub fn view(planner: &mut Planner, line: u32, name: u32, of: u32) -> Result<(), NoMemory>
-    requires ready { IsReady planner.old (record { line = line; act = ViewOf name of }) }
-    ensures goes_on { OnOk result (GoesOn planner.old planner.new (record { line = line; act = ViewOf name of })) }
+pub fn view(world: &mut World, name: u32, of: u32) -> Answer
+    requires ready { IsReadyFor world.old (ViewOf name of) }
+    ensures answers { Answers world.old world.new (ViewOf name of) result }
 {
-    if planner.is_disposed(of) {
-        planner.push_refusal(line, of, Refusal::Disposed)?;
-        planner.set_value(name, Value::Dead);
+    if world.is_disposed(of) {
+        world.set_value(name, Value::Dead);
+        Answer::Refused {
+            name: of,
+            refusal: Refusal::Disposed,
+        }
     } else {
-        let value = view_now(planner, planner.values[of as usize]);
-        planner.set_value(name, value);
+        let value = view_now(world, world.values[of as usize]);
+        world.set_value(name, value);
+        Answer::Nothing
     }
-    Ok(())
 }
 
 /// A view of a list, as its views are now.
-fn view_now(planner: &Planner, value: Value) -> Value
-    requires { IsWholeAlive planner.now.safety planner.now.containers.items value }
-    ensures { result ≡ view_by planner.now.safety planner.now.containers.items value }
+fn view_now(world: &World, value: Value) -> Value
+    requires { IsWholeAlive world.now.safety world.now.containers.items value }
+    ensures { result ≡ view_by world.now.safety world.now.containers.items value }
 {
     match value {
         Value::Whole(of) => {
-            let slot = planner.containers[of as usize].slot;
-            let number = planner.safety.view_version(slot);
+            let slot = world.containers[of as usize].slot;
+            let number = world.safety.view_version(slot);
             Value::View { of, number }
         }
         _ => unreachable!(),
@@ -87,29 +75,31 @@ fn view_now(planner: &Planner, value: Value) -> Value
 }
 
 /// `copy`: another name for the same.
-pub fn copy(planner: &mut Planner, line: u32, name: u32, of: u32)
-    requires ready { IsReady planner.old (record { line = line; act = CopyOf name of }) }
-    ensures goes_on { GoesOn planner.old planner.new (record { line = line; act = CopyOf name of }) }
+pub fn copy(world: &mut World, name: u32, of: u32) -> Answer
+    requires ready { IsReadyFor world.old (CopyOf name of) }
+    ensures answers { Answers world.old world.new (CopyOf name of) result }
 {
-    let value = planner.values[of as usize];
-    planner.set_value(name, value);
+    let value = world.values[of as usize];
+    world.set_value(name, value);
+    Answer::Nothing
 }
 
 /// `combine`: the handle of several.
-pub fn combine(planner: &mut Planner, line: u32, name: u32, of: &Vec<u32>) -> Result<(), NoMemory>
-    requires ready { IsReady planner.old (record { line = line; act = CombineOf name of.now }) }
-    ensures goes_on { OnOk result (GoesOn planner.old planner.new
-        (record { line = line; act = CombineOf name of.now })) }
+pub fn combine(world: &mut World, name: u32, of: &Vec<u32>) -> Result<Answer, NoMemory>
+    requires ready { IsReadyFor world.old (CombineOf name of.now) }
+    ensures answers { IfOk result (Answers world.old world.new (CombineOf name of.now)) }
 {
-    let jobs = planner.jobs_of_all(of);
-    planner.set_handle(name, &jobs)
+    let jobs = world.jobs_of_all(of);
+    world.set_handle(name, &jobs)?;
+    Ok(Answer::Nothing)
 }
 
 /// `flush`: nothing is left to do, since jobs may run as soon as they are scheduled.
-pub fn flush(planner: &Planner, line: u32)
-    requires ready { IsReady planner.now (record { line = line; act = FlushAll }) }
-    ensures goes_on { GoesOn planner.now planner.now (record { line = line; act = FlushAll }) }
-{}
+pub fn flush(world: &World) -> Answer
+    ensures answers { Answers world.now world.now FlushAll result }
+{
+    Answer::Nothing
+}
 
 /// A part of what a value stands for, from one of its elements on.
 fn take_part(value: Value, from: u32, len: u32) -> Value

@@ -1,22 +1,23 @@
 // `print`: the contents are written when the operation is run.
-ghost use Rattle.std.specs.Prelude.{OnOk};
 ghost use Rattle.frame_ast.specs.declared.script.Order.TheVariants.{Print as PrintOf};
-ghost use Rattle.plan_state.specs.Steps.{GoesOn, IsReady};
+ghost use Rattle.plan_state.specs.Answers.{Answers, IsReadyFor};
 
 use frame_core::Act;
-use job_base::NoMemory;
-use plan_state::Planner;
+use plan_state::{Answer, World};
 
 /// One operation, if the script may read the container now.
-pub fn print(planner: &mut Planner, line: u32, name: u32) -> Result<(), NoMemory>
-    requires ready { IsReady planner.old (record { line = line; act = PrintOf name }) }
-    ensures goes_on { OnOk result (GoesOn planner.old planner.new (record { line = line; act = PrintOf name })) }
+pub fn print(world: &World, name: u32) -> Answer
+    requires ready { IsReadyFor world.now (PrintOf name) }
+    ensures answers { Answers world.now world.now (PrintOf name) result }
 {
-    match planner.blocked(name, false) {
-        Some(refusal) => planner.push_refusal(line, name, refusal),
+    match world.blocked(name, false) {
+        Some(refusal) => Answer::Refused { name, refusal },
         None => {
-            let at = planner.bind(planner.values[name as usize]);
-            planner.push(line, name, Act::Print { at })
+            let at = world.bind(world.values[name as usize]);
+            Answer::Does {
+                name,
+                act: Act::Print { at },
+            }
         }
     }
 }

@@ -7,7 +7,7 @@ ghost use Rattle.plan_statements.specs.Tests.{IsDecided, IsLatestRunning, IsTest
 
 use frame_ast::script::Sign;
 use job_base::{JobId, NoMemory, Refusal};
-use plan_state::Planner;
+use plan_state::{Planner, World};
 
 /// Whether a `when` is refused. Then that is said, and its block will be passed by.
 pub fn refuse_test(
@@ -22,39 +22,39 @@ pub fn refuse_test(
     ensures decided { IfOk result (IsDecided planner.old planner.new
         (record { line = line; act = WhenOf name sign value count })) }
 {
-    match test_refusal(planner, name) {
+    match test_refusal(&planner.world, name) {
         None => Ok(false),
         Some(refusal) => {
             planner.push_refusal(line, name, refusal)?;
-            planner.passing = count;
+            planner.world.passing = count;
             Ok(true)
         }
     }
 }
 
 /// Why the value of a name can't be tested now: its container is disposed, or a job isn't completed.
-fn test_refusal(planner: &Planner, name: u32) -> Option<Refusal>
-    requires name { name < vec_len planner.now.values }
-    requires there { AreThere (vec_len planner.now.containers) (vec_len planner.now.handles) planner.now.values.items }
-    ensures { IsTestRefusal planner.now name result }
+fn test_refusal(world: &World, name: u32) -> Option<Refusal>
+    requires name { name < vec_len world.now.values }
+    requires there { AreThere (vec_len world.now.containers) (vec_len world.now.handles) world.now.values.items }
+    ensures { IsTestRefusal world.now name result }
 {
-    if planner.is_disposed(name) {
+    if world.is_disposed(name) {
         return Some(Refusal::Disposed);
     }
-    match latest_running(planner) {
+    match latest_running(world) {
         None => None,
         Some(job) => Some(Refusal::Busy(job)),
     }
 }
 
 /// The latest job that isn't completed.
-fn latest_running(planner: &Planner) -> Option<JobId>
-    ensures { IsLatestRunning planner.now.jobs result }
+fn latest_running(world: &World) -> Option<JobId>
+    ensures { IsLatestRunning world.now.jobs result }
 {
-    let mut left = planner.jobs.count();
+    let mut left = world.jobs.count();
     while left > 0 {
         let job = JobId(left);
-        if !planner.jobs.is_completed(job) {
+        if !world.jobs.is_completed(job) {
             return Some(job);
         }
         left -= 1;

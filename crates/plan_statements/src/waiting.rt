@@ -1,8 +1,9 @@
 // The statements with `auto`: they wait for what they have to.
-ghost use Rattle.std.specs.Prelude.{◌≡◌, ◌<◌, slice_get, vec_len, OnOk};
+ghost use Rattle.std.specs.Prelude.{◌≡◌, ◌<◌, slice_get, vec_len, IfOk, OnOk};
 ghost use Rattle.frame_ast.specs.declared.script.Order.TheVariants.{CompleteAuto as CompleteAutoOf, DisposeAuto as DisposeAutoOf};
 ghost use Rattle.job_handle.specs.Sets.{jobs_of};
 ghost use Rattle.plan_state.specs.Accesses.{AreThere};
+ghost use Rattle.plan_state.specs.Answers.{Answers, IsReadyFor};
 ghost use Rattle.plan_state.specs.Steps.{GoesOn, IsReady};
 ghost use Rattle.plan_statements.specs.Waiting.{AreWaitedFor, IsBroken, IsCompletable, IsLive, KnowsUsers, is_broken};
 
@@ -11,29 +12,27 @@ use crate::disposing::{container_of, hold_back};
 use auto_deps::automatic;
 use job_base::{Access, NoMemory, Refusal};
 use job_handle::Handle;
-use plan_state::Planner;
+use plan_state::{Answer, Planner, World};
 use std::alloc::Global;
 
 /// `dispose auto`. The handle's name stands for the jobs that have to be waited for.
-pub fn dispose_auto(
-    planner: &mut Planner,
-    line: u32,
-    name: u32,
-    handle: u32,
-) -> Result<(), NoMemory>
-    requires ready { IsReady planner.old (record { line = line; act = DisposeAutoOf name handle }) }
-    ensures goes_on { OnOk result (GoesOn planner.old planner.new
-        (record { line = line; act = DisposeAutoOf name handle })) }
+pub fn dispose_auto(world: &mut World, name: u32, handle: u32) -> Result<Answer, NoMemory>
+    requires ready { IsReadyFor world.old (DisposeAutoOf name handle) }
+    ensures answers { IfOk result (Answers world.old world.new (DisposeAutoOf name handle)) }
 {
-    match live_container(planner, name) {
+    match live_container(world, name) {
         None => {
-            planner.push_refusal(line, name, Refusal::Disposed)?;
-            planner.set_handle(handle, &Handle::empty())
+            world.set_handle(handle, &Handle::empty())?;
+            Ok(Answer::Refused {
+                name,
+                refusal: Refusal::Disposed,
+            })
         }
         Some(number) => {
-            let deps = waited_for(planner, number);
-            hold_back(planner, number);
-            planner.set_handle(handle, &deps)
+            let deps = waited_for(world, number);
+            hold_back(world, number);
+            world.set_handle(handle, &deps)?;
+            Ok(Answer::Nothing)
         }
     }
 }
@@ -48,66 +47,66 @@ pub fn complete_auto(
     requires ready { IsReady planner.old (record { line = line; act = CompleteAutoOf name }) }
     ensures goes_on { OnOk result (GoesOn planner.old planner.new (record { line = line; act = CompleteAutoOf name })) }
 {
-    match completable(planner, name) {
+    match completable(&planner.world, name) {
         Err(refusal) => planner.push_refusal(line, name, refusal),
         Ok(number) => {
-            let jobs = waited_for(planner, number);
+            let jobs = waited_for(&planner.world, number);
             complete_jobs(planner, alloc, &jobs)
         }
     }
 }
 
 /// The container of a name, where it is alive.
-fn live_container(planner: &Planner, name: u32) -> Option<u32>
-    requires name { name < vec_len planner.now.values }
-    requires there { AreThere (vec_len planner.now.containers) (vec_len planner.now.handles) planner.now.values.items }
-    ensures { IsLive planner.now name result }
+fn live_container(world: &World, name: u32) -> Option<u32>
+    requires name { name < vec_len world.now.values }
+    requires there { AreThere (vec_len world.now.containers) (vec_len world.now.handles) world.now.values.items }
+    ensures { IsLive world.now name result }
 {
-    if planner.is_disposed(name) {
+    if world.is_disposed(name) {
         return None;
     }
-    let value = planner.values[name as usize];
+    let value = world.values[name as usize];
     container_of(value)
 }
 
 /// The container of a name, where it may be used once its users ended, or why it may not.
-fn completable(planner: &Planner, name: u32) -> Result<u32, Refusal>
-    requires name { name < vec_len planner.now.values }
-    requires there { AreThere (vec_len planner.now.containers) (vec_len planner.now.handles) planner.now.values.items }
-    ensures { IsCompletable planner.now name result }
+fn completable(world: &World, name: u32) -> Result<u32, Refusal>
+    requires name { name < vec_len world.now.values }
+    requires there { AreThere (vec_len world.now.containers) (vec_len world.now.handles) world.now.values.items }
+    ensures { IsCompletable world.now name result }
 {
-    if is_stale(planner, name) {
+    if is_stale(world, name) {
         return Err(Refusal::StaleView);
     }
-    match live_container(planner, name) {
+    match live_container(world, name) {
         None => Err(Refusal::Disposed),
         Some(number) => Ok(number),
     }
 }
 
 /// Whether a name stands for a view that is stale.
-fn is_stale(planner: &Planner, name: u32) -> bool
-    requires name { name < vec_len planner.now.values }
-    requires there { AreThere (vec_len planner.now.containers) (vec_len planner.now.handles) planner.now.values.items }
-    ensures { IsBroken planner.now name result }
+fn is_stale(world: &World, name: u32) -> bool
+    requires name { name < vec_len world.now.values }
+    requires there { AreThere (vec_len world.now.containers) (vec_len world.now.handles) world.now.values.items }
+    ensures { IsBroken world.now name result }
 {
-    match planner.blocked(name, true) {
+    match world.blocked(name, true) {
         None => false,
         Some(refusal) => says_stale(refusal),
     }
 }
 
 /// The jobs that a writing use of a container has to wait for.
-fn waited_for(planner: &Planner, number: u32) -> Handle
-    requires { KnowsUsers planner.now (slice_get planner.now.containers.items number) }
-    ensures { AreWaitedFor planner.now (slice_get planner.now.containers.items number) (jobs_of result) }
+fn waited_for(world: &World, number: u32) -> Handle
+    requires { KnowsUsers world.now (slice_get world.now.containers.items number) }
+    ensures { AreWaitedFor world.now (slice_get world.now.containers.items number) (jobs_of result) }
 {
-    let tag = planner.tag_of(number, None);
+    let tag = world.tag_of(number, None);
     automatic(
         &[(tag, Access::Write)],
         &Handle::empty(),
-        &planner.safety,
-        &planner.jobs,
+        &world.safety,
+        &world.jobs,
     )
 }
 

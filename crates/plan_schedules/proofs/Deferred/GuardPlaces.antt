@@ -19,30 +19,30 @@ use Rattle.plan_schedules.proofs.Coding.{coded_added}
 
 -- nothing but the copies and their places changes
 pub moved : (script : Script) (p middle : Planner) (kernel place : ℕ) → IsGuardedAt script p middle kernel place
-    → middle ≡ record p { guards = middle.guards; plan = record p.plan { kernels = middle.plan.kernels; codes = middle.plan.codes } }
+    → middle ≡ record p { guards = middle.guards; draft = record p.draft { kernels = middle.draft.kernels; codes = middle.draft.codes } }
 moved script p middle kernel place guarded = ⊎_elim
     (λ (l : (slice_get p.guards.items kernel ≡ Some (Some place)) × (middle ≡ p)). l.1
-    ∙ ap (λ (m : Planner). record p { guards = m.guards; plan = record p.plan { kernels = m.plan.kernels; codes = m.plan.codes } }) (sym l.1))
+    ∙ ap (λ (m : Planner). record p { guards = m.guards; draft = record p.draft { kernels = m.draft.kernels; codes = m.draft.codes } }) (sym l.1))
     (λ (r : IsGuardedAnew script p middle kernel place).
-    r.rest ∙ ap (λ (d : Draft). record p { guards = middle.guards; plan = d }) r.added.rest)
+    r.rest ∙ ap (λ (d : Draft). record p { guards = middle.guards; draft = d }) r.added.rest)
     guarded
 
 module _ (script : Script) (g : Setting) (is_g : g.kernels ≡ script.kernels.items) (p middle : Planner) (kernel place : ℕ) (ks : AreKernels p g)
     (guarded : IsGuardedAt script p middle kernel place)
     (source : Kernel) (has_source : slice_get script.kernels.items kernel ≡ Some source) where
   -- the copies so far keep their places
-  grown : (k : ℕ) (it : Kernel) → slice_get p.plan.kernels.items k ≡ Some it → slice_get middle.plan.kernels.items k ≡ Some it
+  grown : (k : ℕ) (it : Kernel) → slice_get p.draft.kernels.items k ≡ Some it → slice_get middle.draft.kernels.items k ≡ Some it
   grown k it h = ⊎_elim
-      (λ (l : (slice_get p.guards.items kernel ≡ Some (Some place)) × (middle ≡ p)). ap (λ (m : Planner). slice_get m.plan.kernels.items k) l.1 ∙ h)
+      (λ (l : (slice_get p.guards.items kernel ≡ Some (Some place)) × (middle ≡ p)). ap (λ (m : Planner). slice_get m.draft.kernels.items k) l.1 ∙ h)
       (λ (r : IsGuardedAnew script p middle kernel place).
       ap (λ xs. slice_get xs k) r.added.kernels
-      ∙ get_before p.plan.kernels.items (r.copy ∷ []) k (get_below p.plan.kernels.items k it h) ∙ h)
+      ∙ get_before p.draft.kernels.items (r.copy ∷ []) k (get_below p.draft.kernels.items k it h) ∙ h)
       guarded
 
   -- and the kernel has its guarded copy
   pub record HasGuard : Type 0 where
     pub copy : Kernel
-    pub here : slice_get middle.plan.kernels.items place ≡ Some copy
+    pub here : slice_get middle.draft.kernels.items place ≡ Some copy
     pub guards : IsGuardOf source copy
 
   pub has_guard : HasGuard
@@ -65,35 +65,35 @@ module _ (script : Script) (g : Setting) (is_g : g.kernels ≡ script.kernels.it
         copy = r.copy;
         here =
             ap (λ xs. slice_get xs place) r.added.kernels
-            ∙ (let e : place ≡ length p.plan.kernels.items + 0 = (let l = r.added.last in omega arith) in
-            ap (slice_get (p.plan.kernels.items ++ r.copy ∷ [])) e)
-            ∙ get_behind p.plan.kernels.items (r.copy ∷ []) 0;
+            ∙ (let e : place ≡ length p.draft.kernels.items + 0 = (let l = r.added.last in omega arith) in
+            ap (slice_get (p.draft.kernels.items ++ r.copy ∷ [])) e)
+            ∙ get_behind p.draft.kernels.items (r.copy ∷ []) 0;
         guards = subst (λ (k : Kernel). IsGuardOf k r.copy) (some_is (sym r.is_source ∙ has_source)) r.guards;
       })
       guarded
 
-  pub copies_few : length middle.plan.kernels.items ≤ suc (length p.plan.kernels.items)
+  pub copies_few : length middle.draft.kernels.items ≤ suc (length p.draft.kernels.items)
   copies_few = ⊎_elim
       (λ (l : (slice_get p.guards.items kernel ≡ Some (Some place)) × (middle ≡ p)).
-      let e = ap (λ (m : Planner). length m.plan.kernels.items) l.1 in omega arith)
-      (λ (r : IsGuardedAnew script p middle kernel place). let e = ap length r.added.kernels ∙ length-append p.plan.kernels.items (r.copy ∷ []) in omega arith)
+      let e = ap (λ (m : Planner). length m.draft.kernels.items) l.1 in omega arith)
+      (λ (r : IsGuardedAnew script p middle kernel place). let e = ap length r.added.kernels ∙ length-append p.draft.kernels.items (r.copy ∷ []) in omega arith)
       guarded
 
   -- what a whole plan has after them, it has after those so far
-  pub kernels_later : (all : List Kernel) → (rest : List Kernel) × (all ≡ middle.plan.kernels.items ++ rest)
-      → (rest : List Kernel) × (all ≡ p.plan.kernels.items ++ rest)
+  pub kernels_later : (all : List Kernel) → (rest : List Kernel) × (all ≡ middle.draft.kernels.items ++ rest)
+      → (rest : List Kernel) × (all ≡ p.draft.kernels.items ++ rest)
   kernels_later all r = ⊎_elim
       (λ (l : (slice_get p.guards.items kernel ≡ Some (Some place)) × (middle ≡ p)).
-      (r.0, r.1 ∙ ap (λ (m : Planner). m.plan.kernels.items ++ r.0) l.1))
+      (r.0, r.1 ∙ ap (λ (m : Planner). m.draft.kernels.items ++ r.0) l.1))
       (λ (a : IsGuardedAnew script p middle kernel place). (
         a.copy ∷ r.0,
         r.1 ∙ ap (λ xs. xs ++ r.0) a.added.kernels
-            ∙ append_assoc p.plan.kernels.items (a.copy ∷ []) r.0,
+            ∙ append_assoc p.draft.kernels.items (a.copy ∷ []) r.0,
       ))
       guarded
 
   -- of a planner that has them
-  pub kernels_stand : (q : Planner) → q.guards ≡ middle.guards → q.plan.kernels ≡ middle.plan.kernels → q.plan.codes ≡ middle.plan.codes
+  pub kernels_stand : (q : Planner) → q.guards ≡ middle.guards → q.draft.kernels ≡ middle.draft.kernels → q.draft.codes ≡ middle.draft.codes
       → q.kernels ≡ p.kernels
       → AreKernels q g
   kernels_stand q guards copies codes kernels = record {
@@ -104,11 +104,11 @@ module _ (script : Script) (g : Setting) (is_g : g.kernels ≡ script.kernels.it
         record { old = c.old; new = c.new; is_old = c.is_old; is_new = there at c.new (grown at c.new c.is_new); same = c.same };
     guards = λ k at h. guard_at k at (ap (λ (v : Vec (Option ℕ) Global). slice_get v.items k) (sym guards) ∙ h);
     checked = λ at k h. all_checked at k (ap (λ (v : Vec Kernel Global). slice_get v.items at) (sym copies) ∙ h);
-    coded = subst (λ (v : Vec Kernel Global). AreCodesOf v.items q.plan.codes.items) (sym copies)
-        (subst (λ (v : Vec Code Global). AreCodesOf middle.plan.kernels.items v.items) (sym codes) all_coded);
+    coded = subst (λ (v : Vec Kernel Global). AreCodesOf v.items q.draft.codes.items) (sym copies)
+        (subst (λ (v : Vec Code Global). AreCodesOf middle.draft.kernels.items v.items) (sym codes) all_coded);
   }
     where
-      there : (at : ℕ) (it : Kernel) → slice_get middle.plan.kernels.items at ≡ Some it → slice_get q.plan.kernels.items at ≡ Some it
+      there : (at : ℕ) (it : Kernel) → slice_get middle.draft.kernels.items at ≡ Some it → slice_get q.draft.kernels.items at ≡ Some it
       there at it h = ap (λ (v : Vec Kernel Global). slice_get v.items at) copies ∙ h
 
       long : length middle.guards.items ≡ length p.guards.items
@@ -151,21 +151,21 @@ module _ (script : Script) (g : Setting) (is_g : g.kernels ≡ script.kernels.it
           (set_either p.guards.items kernel (Some place) k (Some at) (ap (λ xs. slice_get xs k) (sym r.places) ∙ h)))
           guarded
 
-      all_coded : AreCodesOf middle.plan.kernels.items middle.plan.codes.items
+      all_coded : AreCodesOf middle.draft.kernels.items middle.draft.codes.items
       all_coded = ⊎_elim
           (λ (l : (slice_get p.guards.items kernel ≡ Some (Some place)) × (middle ≡ p)).
-          subst (λ (m : Planner). AreCodesOf m.plan.kernels.items m.plan.codes.items) (sym l.1) ks.coded)
-          (λ (r : IsGuardedAnew script p middle kernel place). coded_added p.plan middle.plan r.copy place r.added ks.coded)
+          subst (λ (m : Planner). AreCodesOf m.draft.kernels.items m.draft.codes.items) (sym l.1) ks.coded)
+          (λ (r : IsGuardedAnew script p middle kernel place). coded_added p.draft middle.draft r.copy place r.added ks.coded)
           guarded
 
-      all_checked : (at : ℕ) (k : Kernel) → slice_get middle.plan.kernels.items at ≡ Some k → IsChecked k
+      all_checked : (at : ℕ) (k : Kernel) → slice_get middle.draft.kernels.items at ≡ Some k → IsChecked k
       all_checked at k h = ⊎_elim
           (λ (l : (slice_get p.guards.items kernel ≡ Some (Some place)) × (middle ≡ p)). ks.checked at k
-          (ap (λ (m : Planner). slice_get m.plan.kernels.items at) (sym l.1) ∙ h))
+          (ap (λ (m : Planner). slice_get m.draft.kernels.items at) (sym l.1) ∙ h))
           (λ (r : IsGuardedAnew script p middle kernel place). ⊎_elim
           (λ e. ks.checked at k e.1)
           (λ e. last r e.0 e.2)
-          (get_either p.plan.kernels.items (r.copy ∷ []) at k (ap (λ xs. slice_get xs at) (sym r.added.kernels) ∙ h)))
+          (get_either p.draft.kernels.items (r.copy ∷ []) at k (ap (λ xs. slice_get xs at) (sym r.added.kernels) ∙ h)))
           guarded
         where
           last : (r : IsGuardedAnew script p middle kernel place) (i : ℕ) → slice_get (r.copy ∷ []) i ≡ Some k → IsChecked k

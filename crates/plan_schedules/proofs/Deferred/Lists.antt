@@ -42,35 +42,36 @@ module _ (p : Planner) (g : Setting) (begun : ScriptState) (n : ℕ) (s : Script
 
   module _ (list : ℕ) where
     abbrev Found : states.Value → Value → Type 0
-    Found w v = (at : ListAt) × (bind_of_container p.containers.items v ≡ WholeList at) × (at.start ≡ get_or found (s.range (container_of w)) 0)
+    Found w v = (at : ListAt) × (bind_of_container p.world.containers.items v ≡ WholeList at) × (at.start ≡ get_or found (s.range (container_of w)) 0)
         × (s.range (container_of w) < length found) × (at.cap ≡ capacity_of (s.contents (container_of w)))
 
-    list_value : (v : Value) → IsThere (length p.containers.items) (length p.handles.items) v → IsWhole s kind.List (value_for p.handles.items v)
-        → Found (value_for p.handles.items v) v
+    list_value : (v : Value) → IsThere (length p.world.containers.items) (length p.world.handles.items) v
+        → IsWhole s kind.List (value_for p.world.handles.items v)
+        → Found (value_for p.world.handles.items v) v
     list_value Dead there h = absurd h
     list_value (Whole c) there h =
-        let it = some_at p.containers.items c there in
-        let k = st.containers.each c it.0 it.1 in
+        let it = some_at p.world.containers.items c there in
+        let k = st.knows.containers.each c it.0 it.1 in
         let w = list_words (get_or found (s.range c) 0) (s.contents c) h in (
           w.0,
           ap (λ o. bind_from o (λ b. b)) it.1 ∙ k.bind ∙ w.1,
           w.2,
-          (let lt = k.range in let t = st.takes in omega arith),
+          (let lt = k.range in let t = st.knows.takes in omega arith),
           w.3,
         )
     list_value (Slice c start len) there h = absurd h
     list_value (View c number) there h = absurd h
-    list_value (Handles k) there h = absurd (by (slice_get p.handles.items k) h)
+    list_value (Handles k) there h = absurd (by (slice_get p.world.handles.items k) h)
       where
         by : (o : Option Handle) → IsWhole s kind.List (jobs_at o) → ⊥
         by None h = h
         by (Some x) h = h
 
-    pub is_list : list < length p.values.items → IsWhole s kind.List (s.values list) → IsList list
+    pub is_list : list < length p.world.values.items → IsWhole s kind.List (s.values list) → IsList list
     is_list below h =
-        let v = some_at p.values.items list below in
-        let same = st.names.are list v.0 v.1 in
-        let f = subst (λ w. Found w v.0) same (list_value v.0 (st.names.there list v.0 v.1) (subst (IsWhole s kind.List) (sym same) h)) in
+        let v = some_at p.world.values.items list below in
+        let same = st.knows.names.are list v.0 v.1 in
+        let f = subst (λ w. Found w v.0) same (list_value v.0 (st.knows.names.there list v.0 v.1) (subst (IsWhole s kind.List) (sym same) h)) in
         record { at = f.0; is = ap (bind_of_value p) v.1 ∙ f.1; start = f.2; range = f.3; cap = f.4 }
 
     pub list_name : (l : IsList list) → capacity_of (contents_at s list) ≤ MOST_INDEXES → IsListName p list

@@ -24,8 +24,8 @@ plain g = record g { is_length = false }
 module _ (p : Planner) (g : Setting) (begun : ScriptState) (m : ℕ) (s : ScriptState) (found : List ℕ) (st : Stands p g begun m s found) (after : Jobs) where
   pub length_meant : (n : ℕ) (u : NamedUse) → IsLengthUse p after n u → IsMeant p s after u (plain (length_value s n))
   length_meant n u is =
-      let v = st.names.are n is.value is.has in
-      let k = means p g begun m s found st after is.value (st.names.there n is.value is.has) in
+      let v = st.knows.names.are n is.value is.has in
+      let k = means p g begun m s found st after is.value (st.knows.names.there n is.value is.has) in
       let at : number_of_value is.value ≡ container_at s n = k.container ∙ ap container_of v in
       record {
         given = λ i. record {
@@ -42,7 +42,7 @@ module _ (p : Planner) (g : Setting) (begun : ScriptState) (m : ℕ) (s : Script
         known_by = λ alive.
             let w = k.known_by (ap (is_alive s) v ∙ alive) in (
               w.0,
-              ap (slice_get p.containers.items) (sym at) ∙ w.1,
+              ap (slice_get p.world.containers.items) (sym at) ∙ w.1,
               (w.2.0, is.tag ∙ w.2.1, w.2.2),
               ap s.alive (sym at) ∙ w.3,
             );

@@ -67,20 +67,20 @@ module _ (script : Script) (table : Table) (begun : ScriptState) (n : ℕ) (foun
     abbrev the_text : IsDeferredText script table n line home asked list batch step
     the_text = deferred_text script table n line home asked list batch step
 
-    values_long : vec_len p.values ≡ length g.names
-    values_long = let len = p.values.ok.0 in let e = st.each in omega arith
+    values_long : vec_len p.world.values ≡ length g.names
+    values_long = let len = p.world.values.ok.0 in let e = st.knows.each in omega arith
 
-    pub handle_below : asked.handle < vec_len p.values
+    pub handle_below : asked.handle < vec_len p.world.values
     handle_below = let lt = the_text.handle_below in let e = values_long in omega arith
 
-    pub list_below : list < vec_len p.values
+    pub list_below : list < vec_len p.world.values
     list_below = let lt = the_text.list_below in let e = values_long in omega arith
 
     pub kernel_below : asked.kernel < vec_len script.kernels
     kernel_below = let lt = get_below script.kernels.items asked.kernel the_text.source the_text.has in let len = script.kernels.ok.0 in omega arith
 
-    pub after_below : (names : List ℕ) → names ≡ asked.after.items → (k d : ℕ) → k < length names → get_or names k d < vec_len p.values
-    after_below names e = subst (λ ns. (k d : ℕ) → k < length ns → get_or ns k d < vec_len p.values) (sym e)
+    pub after_below : (names : List ℕ) → names ≡ asked.after.items → (k d : ℕ) → k < length names → get_or names k d < vec_len p.world.values
+    after_below names e = subst (λ ns. (k d : ℕ) → k < length ns → get_or ns k d < vec_len p.world.values) (sym e)
         (λ k d lt. let low = the_text.after_below k d lt in let e = values_long in omega arith)
 
     pub each_arg : (given : List Arg) (params : List Param) (source : Kernel) → given ≡ asked.args.items → params ≡ source.params.items
@@ -91,16 +91,16 @@ module _ (script : Script) (table : Table) (begun : ScriptState) (n : ℕ) (foun
     pub few_args : (given : List Arg) → given ≡ asked.args.items → length given ≤ 16
     few_args given e = let few = the_text.few in let l = ap length e in omega arith
 
-    pub args_below : (given : List Arg) → given ≡ asked.args.items → All (IsNameBelow (vec_len p.values)) given
-    args_below given e = subst (All (IsNameBelow (vec_len p.values))) (sym e)
-        (all_below (vec_len p.values) asked.args.items (each_lower (length g.names) (vec_len p.values)
+    pub args_below : (given : List Arg) → given ≡ asked.args.items → All (IsNameBelow (vec_len p.world.values)) given
+    args_below given e = subst (All (IsNameBelow (vec_len p.world.values))) (sym e)
+        (all_below (vec_len p.world.values) asked.args.items (each_lower (length g.names) (vec_len p.world.values)
         (let e = values_long in omega arith) asked.args.items the_text.below))
 
-    pub handles_few : vec_len p.handles < 2 ^ 32
-    handles_few = let few = st.numbers.handles_few in let lt = statements_few script table n x step in let len = p.handles.ok.0 in omega arith
+    pub handles_few : vec_len p.world.handles < 2 ^ 32
+    handles_few = let few = st.numbers.handles_few in let lt = statements_few script table n x step in let len = p.world.handles.ok.0 in omega arith
 
-    pub copies_few : vec_len p.plan.kernels < 2 ^ 32
-    copies_few = let few = st.numbers.kernels_few in let lt = statements_few script table n x step in let len = p.plan.kernels.ok.0 in omega arith
+    pub copies_few : vec_len p.draft.kernels < 2 ^ 32
+    copies_few = let few = st.numbers.kernels_few in let lt = statements_few script table n x step in let len = p.draft.kernels.ok.0 in omega arith
 
     pub guardable : (source : Kernel) → slice_get script.kernels.items asked.kernel ≡ Some source → MayBeGuarded source
     guardable source at = subst MayBeGuarded (some_is (sym the_text.has ∙ at)) the_text.guardable
@@ -108,23 +108,24 @@ module _ (script : Script) (table : Table) (begun : ScriptState) (n : ℕ) (foun
     pub batch_fit : (1 ≤ batch) × (batch ≤ MOST_INDEXES)
     batch_fit = the_text.batch_fit
 
-    count_is : count_of p.jobs ≡ s.book.count
-    count_is = st.jobs.count
+    count_is : count_of p.world.jobs ≡ s.book.count
+    count_is = st.knows.jobs.count
 
     -- ---- the named jobs
 
     module _ (named : Handle) (names : List ℕ) (names_are : names ≡ asked.after.items)
-        (are : (j : ℕ) → jobs_of named j ≡ jobs_by p.handles.items p.values.items names j) where
+        (are : (j : ℕ) → jobs_of named j ≡ jobs_by p.world.handles.items p.world.values.items names j) where
       pub named_is : jobs_of named ≡ jobs_named s asked.after.items
       named_is = λ i j.
           (are j
-          ∙ jobs_are p s (length p.containers.items) st.names names (λ k d lt. let b = after_below names names_are k d lt in let len = p.values.ok.0 in
+          ∙ jobs_are p s (length p.world.containers.items) st.knows.names names
+          (λ k d lt. let b = after_below names names_are k d lt in let len = p.world.values.ok.0 in
           omega arith) j
           ∙ ap (λ ns. jobs_named s ns j) names_are) i
 
-      pub named_up : AreUpTo (count_of p.jobs) (jobs_of named)
+      pub named_up : AreUpTo (count_of p.world.jobs) (jobs_of named)
       named_up j h =
-          let up = named_among s st.known asked.after.items j (sym (ap (λ f. f j) named_is) ∙ h) in
+          let up = named_among s st.knows.known asked.after.items j (sym (ap (λ f. f j) named_is) ∙ h) in
           let e = count_is in (up.0, omega arith)
 
       -- ---- the uses
@@ -159,7 +160,9 @@ module _ (script : Script) (table : Table) (begun : ScriptState) (n : ℕ) (foun
 
           -- refused
           pub refused_on : (cause : Cause) → Some cause ≡ deferred_refusal uses length_use parallel asked.auto → (q : Planner)
-              → (said : Planner) × IsPushed p said (record { line = line; name = cause.name; act = Say cause.refusal }) × HasHandle said q asked.handle nobody
+              → (said : Planner) × IsPushed p said (record { line = line; name = cause.name; act = Say cause.refusal })
+              × HasHandle said.world q.world asked.handle nobody
+              × (q ≡ record said { world = q.world })
               → HasStepped script table begun n found p q x
           refused_on cause e q h =
               let r : Refused = record { cause = cause.refusal; name = cause.name } in
@@ -167,14 +170,15 @@ module _ (script : Script) (table : Table) (begun : ScriptState) (n : ℕ) (foun
               let below = deferred_named (length g.names) uses length_use parallel asked.auto
               (uses_named p (jobs_of named) (length g.names) the_text.source.params.items asked.args.items uses in_text the_text.below)
               (subst (λ k. k < length g.names) (sym is_length.named) the_text.list_below) cause (sym e) in
-              said_nobody script table begun n found x step r p st is below h.0 q asked.handle refl refl refl (inr (λ c. refl)) h.1 h.2
+              subst (λ z. HasStepped script table begun n found p z x) (sym h.3)
+              (said_nobody script table begun n found x step r p st is below h.0 q.world asked.handle refl refl refl (inr (λ c. refl)) h.1 h.2)
 
           -- accepted
           module _ (open_ : None ≡ deferred_refusal uses length_use parallel asked.auto) where
             none : refusal g s x.act ≡ None
             none = sym refusal_as ∙ ap as_refused (sym open_)
 
-            pub may_note_all : MayNoteAll (noted_uses uses length_use) (state_of p.safety)
+            pub may_note_all : MayNoteAll (noted_uses uses length_use) (state_of p.world.safety)
             may_note_all = started.may_note_all script table begun n found line home asked list batch step the_text p st uses length_use
                 (jobs_of named) named_is in_text is_length none
 
@@ -182,22 +186,23 @@ module _ (script : Script) (table : Table) (begun : ScriptState) (n : ℕ) (foun
             list_named = started.list_named script table begun n found line home asked list batch step the_text p st uses length_use
                 (jobs_of named) named_is in_text is_length none
 
-            pub conflicts_up : AreUpTo (count_of p.jobs) (conflicting_with p.safety (tags_of (with_length uses length_use)))
+            pub conflicts_up : AreUpTo (count_of p.world.jobs) (conflicting_with p.world.safety (tags_of (with_length uses length_use)))
             conflicts_up j h =
                 let needs = waiting.needs_are p g begun n s found st (jobs_of named) (with_length uses length_use) _
                 (started.meant_all script table begun n found line home asked list batch step the_text p st uses length_use
                 (jobs_of named) named_is in_text is_length none)
                 (started.alive_all script table begun n found line home asked list batch step the_text p st uses length_use
                 (jobs_of named) named_is in_text is_length none) in
-                let up = waiting.needs_up s.book s.uses st.known.uses p.safety (tags_of (with_length uses length_use)) _ needs j h in
+                let up = waiting.needs_up s.book s.uses st.knows.known.uses p.world.safety (tags_of (with_length uses length_use)) _ needs j h in
                 let e = count_is in (up.0, omega arith)
 
-            module _ (deps : Jobs) (are_deps : AreDeps asked.auto (jobs_of named) p.jobs p.safety (tags_of (with_length uses length_use)) deps) where
+            module _ (deps : Jobs) (are_deps : AreDeps asked.auto (jobs_of named) p.world.jobs p.world.safety
+                (tags_of (with_length uses length_use)) deps) where
               waits : deps ≡ Rattle.plan_laws.specs.Accepting.deps_of g s (started.o script table begun n found line home asked list batch)
               waits = started.waits_are script table begun n found line home asked list batch step the_text p st uses length_use
                   (jobs_of named) named_is in_text is_length none deps are_deps
 
-              pub deps_up : AreUpTo (count_of p.jobs) deps
+              pub deps_up : AreUpTo (count_of p.world.jobs) deps
               deps_up j h =
                   let up = started.waited_up script table begun n found line home asked list batch step the_text p st uses length_use
                   (jobs_of named) named_is in_text is_length none j (sym (ap (λ f. f j) waits) ∙ h) in
@@ -216,7 +221,7 @@ module _ (script : Script) (table : Table) (begun : ScriptState) (n : ℕ) (foun
                   (subst (λ us. IsScheduled mid q asked.handle run us deps) u d)
 
             -- there are all jobs already
-            pub fails : (fault : PlanFault) → IsFull fault (count_of p.jobs) → PassesLimit fault (state_after script table n x)
+            pub fails : (fault : PlanFault) → IsFull fault (count_of p.world.jobs) → PassesLimit fault (state_after script table n x)
             fails NoMemory h = tt
             fails TooManyJobs h =
                 let e = count_is in

@@ -135,7 +135,7 @@ module _ (script : Script) (table : Table) (begun : ScriptState) (n : ℕ) (foun
       broken = λ u. noting.noted_broken gs l refl u ∙ ap (λ hs. all_broken hs u) (sym gives_are);
     }
 
-    pub may_note_all : MayNoteAll all_noted (state_of p.safety)
+    pub may_note_all : MayNoteAll all_noted (state_of p.world.safety)
     may_note_all = started.may_note_all script table begun n found line home here step p st none named all_noted ng noted
 
     -- ---- what it waits for
@@ -153,7 +153,7 @@ module _ (script : Script) (table : Table) (begun : ScriptState) (n : ℕ) (foun
     alive_all = noting.all_alive_here p s named uses ps asked.args.items meant_args length_use list batch meant_length
         (is_parallel g asked.kernel) asked.auto asked.after.items unrefused
 
-    pub waits_are : (deps : Jobs) → AreDeps asked.auto named p.jobs p.safety (tags_of (with_length uses length_use)) deps → deps ≡ waited
+    pub waits_are : (deps : Jobs) → AreDeps asked.auto named p.world.jobs p.world.safety (tags_of (with_length uses length_use)) deps → deps ≡ waited
     waits_are deps d =
         waiting.deps_are p g begun n s found st named asked.auto (with_length uses length_use) all meant_all alive_all deps d
         ∙ ap (λ ns. if asked.auto then both named (automatic s.book s.uses named ns) else named) (needs_same gs l ∙ ap needs (sym gives_are))
@@ -161,8 +161,8 @@ module _ (script : Script) (table : Table) (begun : ScriptState) (n : ℕ) (foun
 
     -- ---- the list
 
-    below_list : list < length p.values.items
-    below_list = let lt = is_text.list_below in let e = st.each in omega arith
+    below_list : list < length p.world.values.items
+    below_list = let lt = is_text.list_below in let e = st.knows.each in omega arith
 
     pub the_list : IsList p g begun n s found st list
     the_list = lists.is_list p g begun n s found st list below_list accepted_as.list_fits.value
@@ -180,7 +180,7 @@ module _ (script : Script) (table : Table) (begun : ScriptState) (n : ℕ) (foun
       copy : places.HasGuard script g refl p mid asked.kernel run.kernel st.kernels r.guarded r.source r.is_source
       copy = places.has_guard script g refl p mid asked.kernel run.kernel st.kernels r.guarded r.source r.is_source
 
-      place : HasPlace p g p.kernels mid.guards mid.plan.kernels mid.plan.codes run.kernel copy.copy
+      place : HasPlace p g p.kernels mid.guards mid.draft.kernels mid.draft.codes run.kernel copy.copy
       place = record {
         here = copy.here;
         few = places.copies_few script g refl p mid asked.kernel run.kernel st.kernels r.guarded r.source r.is_source;
@@ -189,7 +189,11 @@ module _ (script : Script) (table : Table) (begun : ScriptState) (n : ℕ) (foun
             places.kernels_stand script g refl p mid asked.kernel run.kernel st.kernels r.guarded r.source r.is_source q guards copies codes kernels;
       }
 
-      done : IsScheduled (record p { kernels = p.kernels; guards = mid.guards; plan = record p.plan { kernels = mid.plan.kernels; codes = mid.plan.codes } })
+      done : IsScheduled (record p {
+        kernels = p.kernels;
+        guards = mid.guards;
+        draft = record p.draft { kernels = mid.draft.kernels; codes = mid.draft.codes };
+      })
           new asked.handle run all_noted deps
       done = subst (λ m. IsScheduled m new asked.handle run all_noted deps)
           (places.moved script p mid asked.kernel run.kernel r.guarded) d
@@ -206,7 +210,7 @@ module _ (script : Script) (table : Table) (begun : ScriptState) (n : ℕ) (foun
         where
           args_now : job_binds p r.source.parallel asked.waive.items 0 r.source.params.items asked.args.items ≡ argument_binds y.starts s o r.source
           args_now = args_are p g begun n s found st y a (Some (list, batch)) r.source.parallel asked.waive.items 0 r.source.params.items asked.args.items
-              (each_lower (length g.names) (length p.values.items) (let e = st.each in omega arith) asked.args.items is_text.below)
+              (each_lower (length g.names) (length p.world.values.items) (let e = st.knows.each in omega arith) asked.args.items is_text.below)
               (subst (λ k. ArgsFit s (Some (list, batch)) (kernel_params k) asked.args.items) r.is_source accepted_as.args_fit)
 
           start_now : r.at.start ≡ start_at y.starts s list
@@ -227,17 +231,17 @@ module _ (script : Script) (table : Table) (begun : ScriptState) (n : ℕ) (foun
       }
 
       abbrev q : Planner
-      q = started.as_q script table begun n found line home here step p st none named all_noted ng noted p.kernels mid.guards mid.plan.kernels
-          mid.plan.codes copy.copy run place new deps deps_are done
+      q = started.as_q script table begun n found line home here step p st none named all_noted ng noted p.kernels mid.guards mid.draft.kernels
+          mid.draft.codes copy.copy run place new deps deps_are done
 
       back : (y : Outline) → Agrees q g begun found y → Agrees p g begun found y
-      back = started.agrees script table begun n found line home here step p st none named all_noted ng noted p.kernels mid.guards mid.plan.kernels
-          mid.plan.codes copy.copy run place new deps deps_are done
+      back = started.agrees script table begun n found line home here step p st none named all_noted ng noted p.kernels mid.guards mid.draft.kernels
+          mid.draft.codes copy.copy run place new deps deps_are done
 
       planned_job : (y : Outline) → Agrees q g begun found y → IsPlannedJob y (draft_of p) o (guarded_kernel y.starts s o list r.source copy.copy) waited
           done.job
       planned_job y a = started.job_as script table begun n found line home here step p st none named all_noted ng noted p.kernels mid.guards
-          mid.plan.kernels mid.plan.codes copy.copy run place new deps deps_are done y a (Some (r.at.cap, batch)) r.cut_by
+          mid.draft.kernels mid.draft.codes copy.copy run place new deps deps_are done y a (Some (r.at.cap, batch)) r.cut_by
           (argument_binds y.starts s o r.source ++ length_bind y.starts s list ∷ []) (capacity_of (contents_at s list)) copy.guards.checked
           (binds_are y (back y a)) indexes_are
           (λ h. absurd (not_both copy.guards.guarded.parallel h))
@@ -255,14 +259,14 @@ module _ (script : Script) (table : Table) (begun : ScriptState) (n : ℕ) (foun
 
       plans : (y : Outline) → Agrees q g begun found y → IsPlanned y t (draft_of q)
       plans y a = schedules_are_planned y g s o r.source (guarded_kernel y.starts s o list r.source copy.copy) (draft_of p) (draft_of q)
-          done.started.segment done.job a.small st.known (st.planned y (back y a)) accepted_as r.is_source (planned_job y a)
+          done.started.segment done.job a.small st.knows.known (st.planned y (back y a)) accepted_as r.is_source (planned_job y a)
           (guarded_kernels_stand_in y g s o (list, batch) r.source copy.copy (draft_of p) done.job a.small (st.planned y (back y a)) accepted_as refl
           r.is_source guards (planned_job y a))
-          (started.starts_next script table begun n found line home here step p st none named all_noted ng noted p.kernels mid.guards mid.plan.kernels
-          mid.plan.codes copy.copy run place new deps deps_are done)
-          (started.closes script table begun n found line home here step p st none named all_noted ng noted p.kernels mid.guards mid.plan.kernels
-          mid.plan.codes copy.copy run place new deps deps_are done)
+          (started.starts_next script table begun n found line home here step p st none named all_noted ng noted p.kernels mid.guards mid.draft.kernels
+          mid.draft.codes copy.copy run place new deps deps_are done)
+          (started.closes script table begun n found line home here step p st none named all_noted ng noted p.kernels mid.guards mid.draft.kernels
+          mid.draft.codes copy.copy run place new deps deps_are done)
 
       pub goes_on : HasStepped script table begun n found p new x
-      goes_on = started.goes_on script table begun n found line home here step p st none named all_noted ng noted p.kernels mid.guards mid.plan.kernels
-          mid.plan.codes copy.copy run place new deps deps_are done is_run plans
+      goes_on = started.goes_on script table begun n found line home here step p st none named all_noted ng noted p.kernels mid.guards mid.draft.kernels
+          mid.draft.codes copy.copy run place new deps deps_are done is_run plans

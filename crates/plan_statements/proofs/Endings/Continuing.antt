@@ -30,31 +30,33 @@ use Rattle.plan_statements.proofs.Endings.Ending.{changed, words_counted}
 
 pub record IsContinued (p q : Planner) (s t : ScriptState) (found : List ℕ) : Type 0 where
   pub planner : q ≡ record p {
-    values = q.values;
-    handles = q.handles;
-    temps = q.temps;
-    overdue = q.overdue;
-    frame = q.frame;
-    jobs = q.jobs;
-    safety = q.safety;
-    store = q.store;
-    plan = record p.plan { segments = q.plan.segments; waits = q.plan.waits; ops = q.plan.ops };
+    world = record p.world {
+      values = q.world.values;
+      handles = q.world.handles;
+      temps = q.world.temps;
+      overdue = q.world.overdue;
+      frame = q.world.frame;
+      jobs = q.world.jobs;
+      safety = q.world.safety;
+      store = q.world.store;
+    };
+    draft = record p.draft { segments = q.draft.segments; waits = q.draft.waits; ops = q.draft.ops };
   }
   pub state : t ≡ changed s t.alive t.book t.frame t.values t.lines
-  pub frame : q.frame ≡ t.frame
+  pub frame : q.world.frame ≡ t.frame
   pub later : s.frame ≤ t.frame
   pub next : t.frame ≤ suc s.frame
-  pub values : length q.values.items ≡ length p.values.items
-  pub handles : length q.handles.items ≤ suc (length p.handles.items)
-  pub peak : peak_of q.store ≡ peak_of p.store
-  pub slots : slots_in_use q.store ≤ slots_in_use p.store
-  pub segments : length q.plan.segments.items ≤ suc (length p.plan.segments.items)
-  pub ops : (ops_count q.plan.segments.items + length q.plan.ops.items) + p.overdue
-      ≤ (ops_count p.plan.segments.items + length p.plan.ops.items) + q.overdue
-  pub temps : AreTemps q.temps.items t
-  pub tempjobs : AreTempJobs p.tempjobs.items q.overdue t
-  pub jobs : StandsFor q.jobs t.book
-  pub containers : AreContainers q t found
+  pub values : length q.world.values.items ≡ length p.world.values.items
+  pub handles : length q.world.handles.items ≤ suc (length p.world.handles.items)
+  pub peak : peak_of q.world.store ≡ peak_of p.world.store
+  pub slots : slots_in_use q.world.store ≤ slots_in_use p.world.store
+  pub segments : length q.draft.segments.items ≤ suc (length p.draft.segments.items)
+  pub ops : (ops_count q.draft.segments.items + length q.draft.ops.items) + p.world.overdue
+      ≤ (ops_count p.draft.segments.items + length p.draft.ops.items) + q.world.overdue
+  pub temps : AreTemps q.world.temps.items t
+  pub tempjobs : AreTempJobs p.world.tempjobs.items q.world.overdue t
+  pub jobs : StandsFor q.world.jobs t.book
+  pub containers : AreContainers q.world t found
 
 module _ (p : Planner) (g : Setting) (begun : ScriptState) (n : ℕ) (s : ScriptState) (found : List ℕ) (st : Stands p g begun n s found)
     (values : Vec Value Global) (handles : Vec Handle Global) (temps : Vec ℕ Global) (overdue frame : ℕ) (jobs : JobBook) (safety : SafetyBook)
@@ -63,15 +65,17 @@ module _ (p : Planner) (g : Setting) (begun : ScriptState) (n : ℕ) (s : Script
     (alive : ℕ → Bool) (book : Book) (framed : ℕ) (named : ℕ → states.Value) (lines : List ℕ) where
   abbrev q : Planner
   q = record p {
-    values = values;
-    handles = handles;
-    temps = temps;
-    overdue = overdue;
-    frame = frame;
-    jobs = jobs;
-    safety = safety;
-    store = store;
-    plan = record p.plan { segments = segments; waits = waits; ops = ops };
+    world = record p.world {
+      values = values;
+      handles = handles;
+      temps = temps;
+      overdue = overdue;
+      frame = frame;
+      jobs = jobs;
+      safety = safety;
+      store = store;
+    };
+    draft = record p.draft { segments = segments; waits = waits; ops = ops };
   }
 
   abbrev t : ScriptState
@@ -92,18 +96,28 @@ module _ (p : Planner) (g : Setting) (begun : ScriptState) (n : ℕ) (s : Script
     footprint = c.footprint;
   }
 
-  stands : IsContinued p q s t found → IsKnown t → AreNames values.items handles.items (length p.containers.items) t
+  stands : IsContinued p q s t found → IsKnown t → AreNames values.items handles.items (length p.world.containers.items) t
       → ((x : Outline) → Agrees p g begun found x → IsPlanned x t (draft_of q)) → Stands q g begun (suc n) t found
   stands r known names planned =
       let m = st.numbers in record {
-        known = known;
+        knows = record {
+          known = known;
+          names = names;
+          each = r.values ∙ st.knows.each;
+          containers = r.containers;
+          takes = st.knows.takes;
+          temps = r.temps;
+          tempjobs = r.tempjobs;
+          frames = record { order = st.knows.frames.order; past = λ c lt. let le = st.knows.frames.past c lt in let l = r.later in omega arith };
+          jobs = r.jobs;
+        };
         numbers = record {
           frame = r.frame;
           passing = m.passing;
           created = m.created;
           before = m.before;
           pieces = m.pieces;
-          live_words = words_counted q t found r.containers;
+          live_words = words_counted q.world t found r.containers;
           frames_few = (let le = m.frames_few in let l = r.next in omega arith);
           made_few = (let le = m.made_few in omega arith);
           created_few = m.created_few;
@@ -115,14 +129,6 @@ module _ (p : Planner) (g : Setting) (begun : ScriptState) (n : ℕ) (s : Script
           kernels_few = (let le = m.kernels_few in omega arith);
           handles_few = (let le = m.handles_few in let l = r.handles in omega arith);
         };
-        names = names;
-        each = r.values ∙ st.each;
-        containers = r.containers;
-        takes = st.takes;
-        temps = r.temps;
-        tempjobs = r.tempjobs;
-        frames = record { order = st.frames.order; past = λ c lt. let le = st.frames.past c lt in let l = r.later in omega arith };
-        jobs = r.jobs;
         kernels = record {
           each = st.kernels.each;
           each_guard = st.kernels.each_guard;
@@ -148,39 +154,42 @@ pub continued : (p q : Planner) (g : Setting) (begun : ScriptState) (n : ℕ) (s
     → Stands p g begun n s found
     → IsContinued p q s t found
     → IsKnown t
-    → AreNames q.values.items q.handles.items (length p.containers.items) t
+    → AreNames q.world.values.items q.world.handles.items (length p.world.containers.items) t
     → ((x : Outline) → Agrees p g begun found x → IsPlanned x t (draft_of q))
     → Stands q g begun (suc n) t found
 continued p q g begun n s t found st r known names planned =
     let as_q : Planner = record p {
-      values = q.values;
-      handles = q.handles;
-      temps = q.temps;
-      overdue = q.overdue;
-      frame = q.frame;
-      jobs = q.jobs;
-      safety = q.safety;
-      store = q.store;
-      plan = record p.plan { segments = q.plan.segments; waits = q.plan.waits; ops = q.plan.ops };
+      world = record p.world {
+        values = q.world.values;
+        handles = q.world.handles;
+        temps = q.world.temps;
+        overdue = q.world.overdue;
+        frame = q.world.frame;
+        jobs = q.world.jobs;
+        safety = q.world.safety;
+        store = q.world.store;
+      };
+      draft = record p.draft { segments = q.draft.segments; waits = q.draft.waits; ops = q.draft.ops };
     } in
     let as_t : ScriptState = changed s t.alive t.book t.frame t.values t.lines in
     subst (λ k. Stands k g begun (suc n) t found) (sym r.planner)
     (subst (λ u. Stands as_q g begun (suc n) u found) (sym r.state)
-    (stands p g begun n s found st q.values q.handles q.temps q.overdue q.frame q.jobs q.safety q.store q.plan.segments q.plan.waits q.plan.ops t.alive t.book
+    (stands p g begun n s found st q.world.values q.world.handles q.world.temps q.world.overdue q.world.frame q.world.jobs q.world.safety q.world.store
+    q.draft.segments q.draft.waits q.draft.ops t.alive t.book
     t.frame t.values t.lines
     (subst (λ u. IsContinued p as_q s u found) r.state (subst (λ k. IsContinued p k s t found) r.planner r))
     (subst IsKnown r.state known)
-    (subst (AreNames q.values.items q.handles.items (length p.containers.items)) r.state names)
+    (subst (AreNames q.world.values.items q.world.handles.items (length p.world.containers.items)) r.state names)
     (λ x a. subst (λ u. IsPlanned x u (draft_of as_q)) r.state (subst (λ k. IsPlanned x t (draft_of k)) r.planner (planned x a)))))
 
 -- It gives no range and starts no job where its segments and operations give none.
 pub quiet_continued : (p q : Planner) (s t : ScriptState) (found : List ℕ) → IsContinued p q s t found → given_so_far q ≡ given_so_far p
-    → q.plan.segments ≡ p.plan.segments → q.plan.waits ≡ p.plan.waits → IsQuiet p q
+    → q.draft.segments ≡ p.draft.segments → q.draft.waits ≡ p.draft.waits → IsQuiet p q
 quiet_continued p q s t found r same segments waits = record {
   spans = same;
   peak = r.peak;
-  jobs = ap (λ (k : Planner). k.plan.jobs.items) r.planner;
-  kernels = ap (λ (k : Planner). k.plan.kernels.items) r.planner;
+  jobs = ap (λ (k : Planner). k.draft.jobs.items) r.planner;
+  kernels = ap (λ (k : Planner). k.draft.kernels.items) r.planner;
   segments = ap (λ (v : Vec Segment Global). v.items) segments;
   waits = ap (λ (v : Vec JobId Global). v.items) waits;
 }

@@ -23,7 +23,7 @@ use Rattle.safety_handle.specs.Checks.{is_current}
 use Rattle.safety_handle.specs.Uses.{Latest, StandForUses}
 use Rattle.frame_core.proofs.Small.{not_both, get_below, either_bool}
 use Rattle.plan_state.specs.declared.state.Container.{Container}
-use Rattle.plan_state.specs.declared.state.Planner.{Planner}
+use Rattle.plan_state.specs.declared.state.World.{World}
 use Rattle.plan_state.specs.Stands.{tag_of, IsHeldFor, IsContainer, IsOwned, AreContainers}
 use Rattle.plan_statements.proofs.Endings.Counting.{AreOwnedBy, words_are_counted_alike}
 
@@ -31,7 +31,7 @@ use Rattle.plan_statements.proofs.Endings.Counting.{AreOwnedBy, words_are_counte
 abbrev pub changed : ScriptState → (ℕ → Bool) → Book → ℕ → (ℕ → states.Value) → List ℕ → ScriptState
 changed s alive book frame values lines = record s { alive = alive; book = book; frame = frame; values = values; lines = lines }
 
-pub record AreEnded (p q : Planner) (s t : ScriptState) : Type 0 where
+pub record AreEnded (p q : World) (s t : ScriptState) : Type 0 where
   -- no slot is used that wasn't, and versions rise
   pub used : (k : ℕ) → in_use (place_of q.store k).state ≡ true → in_use (place_of p.store k).state ≡ true
   pub rising : (k : ℕ) → (place_of p.store k).version ≤ (place_of q.store k).version
@@ -69,7 +69,7 @@ live_below s c e =
     let lt = both.0 in
     grind arith
 
-module _ (p q : Planner) (s : ScriptState) (found : List ℕ) (alive : ℕ → Bool) (book : Book) (frame : ℕ) (values : ℕ → states.Value) (lines : List ℕ)
+module _ (p q : World) (s : ScriptState) (found : List ℕ) (alive : ℕ → Bool) (book : Book) (frame : ℕ) (values : ℕ → states.Value) (lines : List ℕ)
     (was : AreContainers p s found)
     (containers : q.containers ≡ p.containers)
     (names : length q.values.items ≡ length p.values.items)
@@ -179,7 +179,7 @@ module _ (p q : Planner) (s : ScriptState) (found : List ℕ) (alive : ℕ → B
   }
 
 -- ---- Nothing ended.
-pub still : (p q : Planner) (s : ScriptState) (found : List ℕ) (alive : ℕ → Bool) (frame : ℕ) (values : ℕ → states.Value) (lines : List ℕ)
+pub still : (p q : World) (s : ScriptState) (found : List ℕ) (alive : ℕ → Bool) (frame : ℕ) (values : ℕ → states.Value) (lines : List ℕ)
     → AreContainers p s found
     → q.containers ≡ p.containers
     → length q.values.items ≡ length p.values.items
@@ -220,7 +220,7 @@ abbrev slot_or : Option Container → ℕ
 slot_or None = 0
 slot_or (Some it) = it.slot.0
 
-module _ (p : Planner) (s : ScriptState) (found : List ℕ) (is : AreContainers p s found) where
+module _ (p : World) (s : ScriptState) (found : List ℕ) (is : AreContainers p s found) where
   abbrev slot : ℕ → ℕ
   slot c = slot_or (slice_get p.containers.items c)
 

@@ -13,7 +13,7 @@ use Rattle.safety_handle.specs.Entries.{SlotState, state_of}
 use Rattle.safety_handle.specs.Checks.{is_current}
 use Rattle.frame_core.proofs.Small.{not_both, some_is, get_below}
 use Rattle.plan_state.specs.declared.state.Container.{Container}
-use Rattle.plan_state.specs.declared.state.Planner.{Planner}
+use Rattle.plan_state.specs.declared.state.World.{World}
 use Rattle.plan_statements.specs.Endings.{IsReleased, IsGiven}
 use Rattle.plan_state.specs.Stands.{tag_of, IsHeldFor, IsContainer, AreContainers}
 use Rattle.plan_statements.proofs.Endings.Ending.{changed, alive_is_live, AreEnded, ended}
@@ -34,7 +34,7 @@ fallen s c0 c e = ⊎_elim
     (λ ne. (ne, sym (at_other s.alive c0 false c ne) ∙ e))
     (cases_eq c c0)
 
-module _ (p q : Planner) (s : ScriptState) (found : List ℕ) (c0 : ℕ) (it0 : Container)
+module _ (p q : World) (s : ScriptState) (found : List ℕ) (c0 : ℕ) (it0 : Container)
     (was : AreContainers p s found) (has0 : slice_get p.containers.items c0 ≡ Some it0) (alive0 : s.alive c0 ≡ true) where
   below0 : c0 < s.made
   below0 = let lt = get_below p.containers.items c0 it0 has0 in let m = was.made in omega arith
@@ -46,7 +46,8 @@ module _ (p q : Planner) (s : ScriptState) (found : List ℕ) (c0 : ℕ) (it0 : 
   k0 = was.each c0 it0 has0
 
   pub taken0 : is_taken (place_of p.store it0.slot.0).state ≡ true
-  taken0 = (and_parts (is_taken (place_of p.store it0.slot.0).state) (nat_eq (place_of p.store it0.slot.0).version it0.version.0) (k0.taken ∙ alive0)).0
+  taken0 = (and_parts (is_taken (place_of p.store it0.slot.0).state) (nat_eq (place_of p.store it0.slot.0).version it0.version.0) (k0.taken
+      ∙ alive0)).0
 
   pub version0 : (place_of p.store it0.slot.0).version ≡ it0.version.0
   version0 = eqb-true (place_of p.store it0.slot.0).version it0.version.0
@@ -77,7 +78,7 @@ module _ (p q : Planner) (s : ScriptState) (found : List ℕ) (c0 : ℕ) (it0 : 
 
 -- ---- its words come back at once
 
-module _ (p q : Planner) (s : ScriptState) (found : List ℕ) (c0 : ℕ) (was : AreContainers p s found) (alive0 : s.alive c0 ≡ true)
+module _ (p q : World) (s : ScriptState) (found : List ℕ) (c0 : ℕ) (was : AreContainers p s found) (alive0 : s.alive c0 ≡ true)
     (i : IsGiven p q c0) (done : has_pending s.book (s.uses c0) ≡ false) (frame : ℕ) (values : ℕ → states.Value) (lines : List ℕ) where
   abbrev alive : ℕ → Bool
   alive = with_at s.alive c0 false
@@ -162,5 +163,5 @@ module _ (p q : Planner) (s : ScriptState) (found : List ℕ) (c0 : ℕ) (was : 
   pub given_stand : AreContainers q t found
   given_stand =
       ended p q s found alive s.book frame values lines was
-      (ap (λ (k : Planner). k.containers) i.rest) (ap (λ (k : Planner). Rattle.std.specs.Prelude.length k.values.items) i.rest)
+      (ap (λ (k : World). k.containers) i.rest) (ap (λ (k : World). Rattle.std.specs.Prelude.length k.values.items) i.rest)
       (λ c lt a. (fallen s c0 c a).1) (λ c h. h) (λ l u h. h) are_ended

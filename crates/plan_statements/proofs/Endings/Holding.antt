@@ -15,7 +15,7 @@ use Rattle.safety_handle.specs.Entries.{state_of}
 use Rattle.safety_handle.specs.Checks.{is_current}
 use Rattle.frame_core.proofs.Small.{not_both, get_below}
 use Rattle.plan_state.specs.declared.state.Container.{Container}
-use Rattle.plan_state.specs.declared.state.Planner.{Planner}
+use Rattle.plan_state.specs.declared.state.World.{World}
 use Rattle.plan_statements.specs.Endings.{IsHeldBack}
 use Rattle.plan_state.specs.Stands.{tag_of, IsHeldFor, AreContainers}
 use Rattle.plan_statements.proofs.Endings.Ending.{changed, alive_is_live, ended}
@@ -28,7 +28,7 @@ taken_used Taken e = refl
 taken_used (Held users) e = refl
 
 -- ---- those for whom ranges are held are jobs of the book
-module _ (p : Planner) (s : ScriptState) (found : List ℕ) (was : AreContainers p s found) (known : IsBook s.book)
+module _ (p : World) (s : ScriptState) (found : List ℕ) (was : AreContainers p s found) (known : IsBook s.book)
     (uses : (c : ℕ) → AreUses s.book (s.uses c)) where
   as_it_is : AreBetween p p s (changed s s.alive s.book s.frame s.values s.lines) (place_of p.store)
   as_it_is = record {
@@ -45,7 +45,7 @@ module _ (p : Planner) (s : ScriptState) (found : List ℕ) (was : AreContainers
   store_users = mid_users p p s found s.alive s.book s.frame s.values s.lines was (λ c a. a) (λ c h. h) known uses (place_of p.store) as_it_is
 
 -- ---- a container ends
-module _ (p q : Planner) (s : ScriptState) (found : List ℕ) (c0 : ℕ) (was : AreContainers p s found) (alive0 : s.alive c0 ≡ true)
+module _ (p q : World) (s : ScriptState) (found : List ℕ) (c0 : ℕ) (was : AreContainers p s found) (alive0 : s.alive c0 ≡ true)
     (i : IsHeldBack p q c0) (jobs : StandsFor p.jobs s.book) (known : IsBook s.book) (uses : (c : ℕ) → AreUses s.book (s.uses c))
     (frame : ℕ) (values : ℕ → states.Value) (lines : List ℕ) where
   abbrev alive : ℕ → Bool
@@ -80,7 +80,8 @@ module _ (p q : Planner) (s : ScriptState) (found : List ℕ) (c0 : ℕ) (was : 
   between : AreBetween p q s t mid
   between = record {
     used = λ k u. by_slot k
-        (λ here. ap (λ n. in_use (place_of p.store n).state) here ∙ taken_used (place_of p.store slot0).state (taken0 p q s found c0 i.it was i.has alive0))
+        (λ here. ap (λ n. in_use (place_of p.store n).state) here
+        ∙ taken_used (place_of p.store slot0).state (taken0 p q s found c0 i.it was i.has alive0))
         (λ ne. ap (λ (z : Place). in_use z.state) (sym (mid_other k ne)) ∙ u);
     rising = λ k. by_slot k
         (λ here. let a = ap (λ n. (mid n).version) here ∙ ap (λ (z : Place). z.version) mid_here in let b = ap (λ n. (place_of p.store n).version) here in
@@ -122,6 +123,6 @@ module _ (p q : Planner) (s : ScriptState) (found : List ℕ) (c0 : ℕ) (was : 
   pub held_stand : AreContainers q t found
   held_stand =
       ended p q s found alive s.book frame values lines was
-      (ap (λ (k : Planner). k.containers) i.rest) (ap (λ (k : Planner). length k.values.items) i.rest)
+      (ap (λ (k : World). k.containers) i.rest) (ap (λ (k : World). length k.values.items) i.rest)
       (λ c lt a. (fallen s c0 c a).1) (λ c h. h) (λ l u h. h)
       (are_ended p q s found alive s.book frame values lines was (λ c a. (fallen s c0 c a).1) (λ c h. h) known uses mid between (i.places s.book jobs))

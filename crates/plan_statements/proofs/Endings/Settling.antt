@@ -21,7 +21,7 @@ use Rattle.safety_handle.specs.Checks.{is_current}
 use Rattle.frame_core.proofs.Small.{not_both, get_below, either_bool}
 use Rattle.plan_laws.proofs.Completing.{any_true, none_any}
 use Rattle.plan_state.specs.declared.state.Container.{Container}
-use Rattle.plan_state.specs.declared.state.Planner.{Planner}
+use Rattle.plan_state.specs.declared.state.World.{World}
 use Rattle.plan_state.specs.Stands.{tag_of, IsHeldFor, AreContainers}
 use Rattle.plan_statements.proofs.Endings.Ending.{changed, AreEnded}
 
@@ -130,7 +130,7 @@ taken_users (Held users) e j = absurd (not_both e refl)
 
 -- ---- A store in which ranges are held, and what is settled after it
 
-pub record AreBetween (p q : Planner) (s t : ScriptState) (mid : ℕ → Place) : Type 0 where
+pub record AreBetween (p q : World) (s t : ScriptState) (mid : ℕ → Place) : Type 0 where
   pub used : (k : ℕ) → in_use (mid k).state ≡ true → in_use (place_of p.store k).state ≡ true
   pub rising : (k : ℕ) → (place_of p.store k).version ≤ (mid k).version
   pub low : (k : ℕ) → (mid k).version ≤ s.made
@@ -142,7 +142,7 @@ pub record AreBetween (p q : Planner) (s t : ScriptState) (mid : ℕ → Place) 
   pub held : (c : ℕ) (it : Container) → slice_get p.containers.items c ≡ Some it → t.alive c ≡ false → is_live s c ≡ true
       → IsHeldFor t.book (mid it.slot.0).state (s.uses c) × ((mid it.slot.0).span ≡ (place_of p.store it.slot.0).span)
 
-module _ (p q : Planner) (s : ScriptState) (found : List ℕ) (alive : ℕ → Bool) (book : Book) (frame : ℕ) (values : ℕ → states.Value) (lines : List ℕ)
+module _ (p q : World) (s : ScriptState) (found : List ℕ) (alive : ℕ → Bool) (book : Book) (frame : ℕ) (values : ℕ → states.Value) (lines : List ℕ)
     (was : AreContainers p s found)
     (falls : (c : ℕ) → alive c ≡ true → s.alive c ≡ true)
     (settles : (c : ℕ) → has_pending book (s.uses c) ≡ true → has_pending s.book (s.uses c) ≡ true)

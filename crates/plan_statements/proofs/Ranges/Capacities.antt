@@ -127,22 +127,22 @@ module _ (script : Script) (table : Table) (begun : ScriptState) (n line name ca
     pub it : Container
     pub old : ℕ
     pub xs : List ℤ
-    pub value : slice_get p.values.items name ≡ Some (Whole c)
-    pub has : slice_get p.containers.items c ≡ Some it
+    pub value : slice_get p.world.values.items name ≡ Some (Whole c)
+    pub has : slice_get p.world.containers.items c ≡ Some it
     pub c_is : container_at s name ≡ c
     pub contents : s.contents c ≡ Items old xs
     pub alive : s.alive c ≡ true
 
-  list_of_value : (v : Value) → slice_get p.values.items name ≡ Some v → value_for p.handles.items v ≡ s.values name
-      → IsOfKind s ListName (value_for p.handles.items v) → is_alive s (value_for p.handles.items v) ≡ true → HasList
+  list_of_value : (v : Value) → slice_get p.world.values.items name ≡ Some v → value_for p.world.handles.items v ≡ s.values name
+      → IsOfKind s ListName (value_for p.world.handles.items v) → is_alive s (value_for p.world.handles.items v) ≡ true → HasList
   list_of_value Dead h e of alive = absurd (not_both alive refl)
   list_of_value (Whole c) h e of alive =
-      let it = there p.containers.items c (let lt = of.1 in let m = st.containers.made in omega arith) in
+      let it = there p.world.containers.items c (let lt = of.1 in let m = st.knows.containers.made in omega arith) in
       let l = list_contents (s.contents c) of.0 in
       record { c = c; it = it.0; old = l.0; xs = l.1; value = h; has = it.1; c_is = ap container_of (sym e); contents = l.2; alive = alive }
   list_of_value (Slice c start len) h e of alive = absurd (let k = of.0 in cc)
   list_of_value (View c number) h e of alive = absurd (let k = of.0 in cc)
-  list_of_value (Handles k) h e of alive = absurd (gone (slice_get p.handles.items k) alive)
+  list_of_value (Handles k) h e of alive = absurd (gone (slice_get p.world.handles.items k) alive)
     where
       gone : (o : Option Handle) → is_alive s (jobs_at o) ≡ true → ⊥
       gone None a = not_both a refl
@@ -150,8 +150,8 @@ module _ (script : Script) (table : Table) (begun : ScriptState) (n line name ca
 
   pub has_list : access s name (need_of s name true) [] ≡ None → HasList
   has_list none =
-      let v = there p.values.items name (let lt = named.below in let e = st.each in omega arith) in
-      let e = st.names.are name v.0 v.1 in
+      let v = there p.world.values.items name (let lt = named.below in let e = st.knows.each in omega arith) in
+      let e = st.knows.names.are name v.0 v.1 in
       let alive = lives s name (first_none (disposed s (name ∷ [])) _ none).0 in
       list_of_value v.0 v.1 e (subst (IsOfKind s ListName) (sym e) named.of) (ap (is_alive s) e ∙ alive)
 
@@ -159,9 +159,10 @@ module _ (script : Script) (table : Table) (begun : ScriptState) (n line name ca
   whole_is e = cc
 
   -- as the code reads it
-  abbrev pub list_read : access s name (need_of s name true) [] ≡ None → (v : Value) (number : ℕ) (it : Container) → slice_get p.values.items name ≡ Some v
+  abbrev pub list_read : access s name (need_of s name true) [] ≡ None → (v : Value) (number : ℕ) (it : Container)
+      → slice_get p.world.values.items name ≡ Some v
       → v ≡ Whole number
-      → slice_get p.containers.items number ≡ Some it → HasList
+      → slice_get p.world.containers.items number ≡ Some it → HasList
   list_read none v number it value is has =
       let l = has_list none in
       let same : number ≡ l.c = whole_is (sym is ∙ some_is (sym value ∙ l.value)) in
@@ -177,41 +178,42 @@ module _ (script : Script) (table : Table) (begun : ScriptState) (n line name ca
         alive = ap s.alive same ∙ l.alive;
       }
 
-  pub is_whole : access s name (need_of s name true) [] ≡ None → (v : Value) → slice_get p.values.items name ≡ Some v → IsWhole v
+  pub is_whole : access s name (need_of s name true) [] ≡ None → (v : Value) → slice_get p.world.values.items name ≡ Some v → IsWhole v
   is_whole none v value = let l = has_list none in subst IsWhole (some_is (sym l.value ∙ value)) tt
 
-  pub whole_below : access s name (need_of s name true) [] ≡ None → (v : Value) (number : ℕ) → slice_get p.values.items name ≡ Some v → v ≡ Whole number
-      → number < length p.containers.items
-  whole_below none v number value is = st.names.there name (Whole number) (value ∙ ap Some is)
+  pub whole_below : access s name (need_of s name true) [] ≡ None → (v : Value) (number : ℕ) → slice_get p.world.values.items name ≡ Some v → v ≡ Whole number
+      → number < length p.world.containers.items
+  whole_below none v number value is = st.knows.names.there name (Whole number) (value ∙ ap Some is)
 
   -- the use isn't refused
-  pub unblocked : (answer : Option Refusal) → MayUse p name true answer → ((r : Refusal) → answer ≡ Some r → ⊥) → access s name (need_of s name true) [] ≡ None
-  unblocked answer may not = sym (may g begun n s found st) ∙ ap (λ o. refused_as o name) (none_of answer not)
+  pub unblocked : (answer : Option Refusal) → MayUse p.world name true answer → ((r : Refusal) → answer ≡ Some r → ⊥)
+      → access s name (need_of s name true) [] ≡ None
+  unblocked answer may not = sym (may g s found st.knows) ∙ ap (λ o. refused_as o name) (none_of answer not)
     where
       none_of : (o : Option Refusal) → ((r : Refusal) → o ≡ Some r → ⊥) → o ≡ None
       none_of None not = refl
       none_of (Some r) not = absurd (not r refl)
 
-  pub name_read : (v : Value) → v ≡ get_or p.values.items name v → slice_get p.values.items name ≡ Some v
-  name_read v e = read_some p.values name v (within p g begun n s found st name named.below) e
+  pub name_read : (v : Value) → v ≡ get_or p.world.values.items name v → slice_get p.world.values.items name ≡ Some v
+  name_read v e = read_some p.world.values name v (within p g begun n s found st name named.below) e
 
   -- the list, where the code read the name and the container
-  module _ (answer : Option Refusal) (not : (r : Refusal) → answer ≡ Some r → ⊥) (may : MayUse p name true answer) (v : Value)
-      (v_is : v ≡ get_or p.values.items name v) where
+  module _ (answer : Option Refusal) (not : (r : Refusal) → answer ≡ Some r → ⊥) (may : MayUse p.world name true answer) (v : Value)
+      (v_is : v ≡ get_or p.world.values.items name v) where
     pub read_whole : IsWhole v
     read_whole = is_whole (unblocked answer may not) v (name_read v v_is)
 
     module _ (number : ℕ) (is : v ≡ Whole number) where
-      pub read_below : number < vec_len p.containers
-      read_below = let lt = whole_below (unblocked answer may not) v number (name_read v v_is) is in let len = p.containers.ok.0 in omega arith
+      pub read_below : number < vec_len p.world.containers
+      read_below = let lt = whole_below (unblocked answer may not) v number (name_read v v_is) is in let len = p.world.containers.ok.0 in omega arith
 
-      module _ (it : Container) (it_is : it ≡ get_or p.containers.items number it) where
+      module _ (it : Container) (it_is : it ≡ get_or p.world.containers.items number it) where
         abbrev pub list_at : HasList
-        list_at = list_read (unblocked answer may not) v number it (name_read v v_is) is (read_some p.containers number it read_below it_is)
+        list_at = list_read (unblocked answer may not) v number it (name_read v v_is) is (read_some p.world.containers number it read_below it_is)
 
   module _ (l : HasList) where
-    k : IsContainer p s found l.c l.it
-    k = st.containers.each l.c l.it l.has
+    k : IsContainer p.world s found l.c l.it
+    k = st.knows.containers.each l.c l.it l.has
 
     -- where its words are
     pub bind_is : l.it.bind ≡ WholeList (record { start = get_or found (s.range l.c) 0; cap = l.old })
@@ -223,13 +225,13 @@ module _ (script : Script) (table : Table) (begun : ScriptState) (n line name ca
     pub is_list : IsList l.it.bind
     is_list = subst IsList (sym bind_is) tt
 
-    pub is_list_taken : is_taken (place_of p.store l.it.slot.0).state ≡ true
-    is_list_taken = (and_parts (is_taken (place_of p.store l.it.slot.0).state) _ (k.taken ∙ l.alive)).0
+    pub is_list_taken : is_taken (place_of p.world.store l.it.slot.0).state ≡ true
+    is_list_taken = (and_parts (is_taken (place_of p.world.store l.it.slot.0).state) _ (k.taken ∙ l.alive)).0
 
-    pub is_list_live : (state_of p.safety l.it.slot.0).live ≡ true
-    is_list_live = (and_parts (state_of p.safety l.it.slot.0).live _ (k.alive ∙ l.alive)).0
+    pub is_list_live : (state_of p.world.safety l.it.slot.0).live ≡ true
+    is_list_live = (and_parts (state_of p.world.safety l.it.slot.0).live _ (k.alive ∙ l.alive)).0
 
-    pub few_views : (state_of p.safety l.it.slot.0).view < MOST_STATEMENTS
+    pub few_views : (state_of p.world.safety l.it.slot.0).view < MOST_STATEMENTS
     few_views =
         let e = k.view l.alive in
         let few = view_numbers_are_few g (take n script.statements.items) l.c in
@@ -244,12 +246,12 @@ module _ (script : Script) (table : Table) (begun : ScriptState) (n line name ca
 
   -- REFUSED, OR NOT
 
-  pub fits_live : (full : Bool) (words : ℕ) → words ≡ cap + 1 → (IsTrue full ↔ (MOST_LIVE_WORDS < live_words_of p.store + words)) → full ≡ false
+  pub fits_live : (full : Bool) (words : ℕ) → words ≡ cap + 1 → (IsTrue full ↔ (MOST_LIVE_WORDS < live_words_of p.world.store + words)) → full ≡ false
       → live_words s + (cap + 1) ≤ MOST_LIVE_WORDS
   fits_live full words e decides is = ⊎_elim
       (λ lt. absurd (not_both (decides.1 lt) is))
       (λ le. let k = st.numbers.live_words in omega arith)
-      (cases_lt MOST_LIVE_WORDS (live_words_of p.store + words))
+      (cases_lt MOST_LIVE_WORDS (live_words_of p.world.store + words))
 
   pub refused_by : (r : Refused) → access s name (need_of s name true) [] ≡ Some r → refusal g s (SetCapacity name cap) ≡ Some r
   refused_by r e = access_some s name (need_of s name true) (store_full s (cap + 1) name ∷ unchanged name (capacity_in (contents_at s name) cap) ∷ []) r e
@@ -295,13 +297,13 @@ module _ (script : Script) (table : Table) (begun : ScriptState) (n line name ca
             ∙ capacity_is g line s name cap l.old l.xs contents_is grows
             ∙ ap (λ c. with_capacity s c cap l.xs) l.c_is
 
-        pub capacity_fails : MOST_CREATED_WORDS < p.created + (cap + 1) → MOST_CREATED_WORDS < (act g s x).created
+        pub capacity_fails : MOST_CREATED_WORDS < p.world.created + (cap + 1) → MOST_CREATED_WORDS < (act g s x).created
         capacity_fails lt =
             let e = ap (λ (t : ScriptState). t.created) acted in
             let k = st.numbers.created in
             omega arith
 
-        pub capacity_goes_on : (q : Planner) (at : ListAt) → l.it.bind ≡ WholeList at → p.created + (cap + 1) ≤ MOST_CREATED_WORDS
+        pub capacity_goes_on : (q : Planner) (at : ListAt) → l.it.bind ≡ WholeList at → p.world.created + (cap + 1) ≤ MOST_CREATED_WORDS
             → IsMoved p q line name l.c l.it at cap
             → HasStepped script table begun n found p q x
         capacity_goes_on q at was small m =
@@ -310,15 +312,16 @@ module _ (script : Script) (table : Table) (begun : ScriptState) (n line name ca
             (record { fit = m.regrown.fit; len = m.regrown.len_is; peak = m.regrown.peak })
             (record {
               ops = m.ops;
-              segments = ap (λ (z : Planner). z.plan.segments) m.rest;
-              waits = ap (λ (z : Planner). z.plan.waits) m.rest;
-              jobs = ap (λ (z : Planner). z.plan.jobs) m.rest;
-              kernels = ap (λ (z : Planner). z.plan.kernels) m.rest;
+              segments = ap (λ (z : Planner). z.draft.segments) m.rest;
+              waits = ap (λ (z : Planner). z.draft.waits) m.rest;
+              jobs = ap (λ (z : Planner). z.draft.jobs) m.rest;
+              kernels = ap (λ (z : Planner). z.draft.kernels) m.rest;
             })
             refl unrefused refl tt (ap (λ (z : ScriptState). z.book.completed) acted)
             (subst (λ z. Stands q g begun (suc n) z (found ++ m.span.start ∷ [])) (sym acted)
             (subst (λ z. Stands z g begun (suc n) (with_capacity s l.c cap l.xs) (found ++ m.span.start ∷ [])) (sym m.rest)
-            (regrown_stands p g begun n s found line name l.c cap l.old l.xs l.it m.now m.span q.store q.safety q.containers q.created q.plan.ops
+            (regrown_stands p g begun n s found line name l.c cap l.old l.xs l.it m.now m.span q.world.store q.world.safety q.world.containers q.world.created
+            q.draft.ops
             st named.below l.c_is l.contents l.alive grows
             (record {
               has = l.has;
@@ -342,8 +345,8 @@ module _ (script : Script) (table : Table) (begun : ScriptState) (n line name ca
 
       -- REFUSED SINCE IT IS TOO LOW: the views are broken
 
-      module _ (lt : cap < l.old) (safety : SafetyBook) (broken : HasBroken p.safety safety l.it.slot.0) (q : Planner)
-          (i : IsPushed (record p { safety = safety }) q (record { line = line; name = name; act = Say PastRange })) where
+      module _ (lt : cap < l.old) (safety : SafetyBook) (broken : HasBroken p.world.safety safety l.it.slot.0) (q : Planner)
+          (i : IsPushed (record p { world = record p.world { safety = safety } }) q (record { line = line; name = name; act = Say PastRange })) where
         abbrev y : Statement
         y = record { line = line; act = SetCapacity name cap }
 
@@ -353,19 +356,19 @@ module _ (script : Script) (table : Table) (begun : ScriptState) (n line name ca
         like : IsLikeBefore g y (refused PastRange name) s t
         like = refused_changes_little g s y (refused PastRange name) step.acts (refused_low lt)
 
-        slot_same : (k : ℕ) → state_of q.safety k ≡ record (state_of p.safety k) { view = (state_of q.safety k).view }
+        slot_same : (k : ℕ) → state_of q.world.safety k ≡ record (state_of p.world.safety k) { view = (state_of q.world.safety k).view }
         slot_same k = ⊎_elim
-            (λ e. subst (λ j. state_of q.safety j ≡ record (state_of p.safety j) { view = (state_of q.safety j).view }) (sym e) here)
-            (λ ne. ap (λ (z : SlotState). record z { view = (state_of q.safety k).view }) (there_same ne))
+            (λ e. subst (λ j. state_of q.world.safety j ≡ record (state_of p.world.safety j) { view = (state_of q.world.safety j).view }) (sym e) here)
+            (λ ne. ap (λ (z : SlotState). record z { view = (state_of q.world.safety k).view }) (there_same ne))
             (cases_eq k l.it.slot.0)
           where
-            there_same : k ≢ l.it.slot.0 → state_of q.safety k ≡ state_of p.safety k
-            there_same ne = ap (λ (z : Planner). state_of z.safety k) i.rest ∙ broken.others k ne
+            there_same : k ≢ l.it.slot.0 → state_of q.world.safety k ≡ state_of p.world.safety k
+            there_same ne = ap (λ (z : Planner). state_of z.world.safety k) i.rest ∙ broken.others k ne
 
-            here : state_of q.safety l.it.slot.0 ≡ record (state_of p.safety l.it.slot.0) { view = (state_of q.safety l.it.slot.0).view }
+            here : state_of q.world.safety l.it.slot.0 ≡ record (state_of p.world.safety l.it.slot.0) { view = (state_of q.world.safety l.it.slot.0).view }
             here =
-                let e = ap (λ (z : Planner). state_of z.safety l.it.slot.0) i.rest ∙ broken.slot_is in
-                e ∙ ap (λ v. record (state_of p.safety l.it.slot.0) { view = v }) (sym (ap (λ (z : SlotState). z.view) e))
+                let e = ap (λ (z : Planner). state_of z.world.safety l.it.slot.0) i.rest ∙ broken.slot_is in
+                e ∙ ap (λ v. record (state_of p.world.safety l.it.slot.0) { view = v }) (sym (ap (λ (z : SlotState). z.view) e))
 
         breaks : (d : ℕ) → nat_eq d (container_at s name) ≡ false → breaks_views_of PastRange (SetCapacity name cap) s d ≡ false
         breaks d e = ap (λ b. b && is_list_now (s.contents d)) e
@@ -373,40 +376,41 @@ module _ (script : Script) (table : Table) (begun : ScriptState) (n line name ca
         breaks_it : breaks_views_of PastRange (SetCapacity name cap) s l.c ≡ true
         breaks_it = (let a = eq-eqb l.c (container_at s name) (sym l.c_is) in let b = l.contents in λ i. a i && is_list_now (b i))
 
-        views : (d : ℕ) (it : Container) → slice_get p.containers.items d ≡ Some it → s.alive d ≡ true → (state_of q.safety it.slot.0).view ≡ t.view d
+        views : (d : ℕ) (it : Container) → slice_get p.world.containers.items d ≡ Some it → s.alive d ≡ true
+            → (state_of q.world.safety it.slot.0).view ≡ t.view d
         views d it has alive = ⊎_elim here other (cases_eq d l.c)
           where
-            kept : IsContainer p s found d it
-            kept = st.containers.each d it has
+            kept : IsContainer p.world s found d it
+            kept = st.knows.containers.each d it has
 
-            here : d ≡ l.c → (state_of q.safety it.slot.0).view ≡ t.view d
+            here : d ≡ l.c → (state_of q.world.safety it.slot.0).view ≡ t.view d
             here e =
-                let same : it ≡ l.it = some_is (sym has ∙ ap (slice_get p.containers.items) e ∙ l.has) in
-                let up : (state_of q.safety l.it.slot.0).view ≡ (state_of p.safety l.it.slot.0).view + 1 =
-                ap (λ (z : Planner). (state_of z.safety l.it.slot.0).view) i.rest ∙ ap (λ (z : SlotState). z.view) broken.slot_is in
-                let was = (st.containers.each l.c l.it l.has).view l.alive in
+                let same : it ≡ l.it = some_is (sym has ∙ ap (slice_get p.world.containers.items) e ∙ l.has) in
+                let up : (state_of q.world.safety l.it.slot.0).view ≡ (state_of p.world.safety l.it.slot.0).view + 1 =
+                ap (λ (z : Planner). (state_of z.world.safety l.it.slot.0).view) i.rest ∙ ap (λ (z : SlotState). z.view) broken.slot_is in
+                let was = (st.knows.containers.each l.c l.it l.has).view l.alive in
                 let new = like.broken l.c breaks_it in
-                ap (λ (z : Container). (state_of q.safety z.slot.0).view) same ∙ up ∙ ap (λ v. v + 1) was ∙ sym new ∙ ap t.view (sym e)
+                ap (λ (z : Container). (state_of q.world.safety z.slot.0).view) same ∙ up ∙ ap (λ v. v + 1) was ∙ sym new ∙ ap t.view (sym e)
 
-            other : d ≢ l.c → (state_of q.safety it.slot.0).view ≡ t.view d
+            other : d ≢ l.c → (state_of q.world.safety it.slot.0).view ≡ t.view d
             other ne =
-                let below : (e : ℕ) (j : Container) → slice_get p.containers.items e ≡ Some j
-                → e < s.made = (λ e j h. let lt = get_below p.containers.items e j h in let m = st.containers.made in omega arith) in
-                let apart : it.slot.0 ≢ l.it.slot.0 = (λ e. ne (st.containers.once d l.c it l.it has l.has (alive_is_live s d (below d it has) alive)
+                let below : (e : ℕ) (j : Container) → slice_get p.world.containers.items e ≡ Some j
+                → e < s.made = (λ e j h. let lt = get_below p.world.containers.items e j h in let m = st.knows.containers.made in omega arith) in
+                let apart : it.slot.0 ≢ l.it.slot.0 = (λ e. ne (st.knows.containers.once d l.c it l.it has l.has (alive_is_live s d (below d it has) alive)
                 (alive_is_live s l.c (below l.c l.it l.has) l.alive) e)) in
-                ap (λ (z : Planner). (state_of z.safety it.slot.0).view) i.rest ∙ ap (λ (z : SlotState). z.view) (broken.others it.slot.0 apart)
+                ap (λ (z : Planner). (state_of z.world.safety it.slot.0).view) i.rest ∙ ap (λ (z : SlotState). z.view) (broken.others it.slot.0 apart)
                 ∙ kept.view alive ∙ sym (like.views d (breaks d (ne_eqb d (container_at s name) (λ e. ne (e ∙ l.c_is)))))
 
         restates : IsRestated p q s t
         restates =
-            let handles = ap (λ (z : Planner). length z.handles.items) i.rest in
+            let handles = ap (λ (z : Planner). length z.world.handles.items) i.rest in
             record {
-              planner = changed_fields p q p.values p.handles safety p.passing q.plan.ops i.rest;
+              planner = changed_fields p q p.world.values p.world.handles safety p.world.passing q.draft.ops i.rest;
               state = like_state g y (refused PastRange name) s t like;
-              passing = ap (λ (z : Planner). z.passing) i.rest ∙ st.numbers.passing ∙ step.acts ∙ sym like.passing;
-              values = ap (λ (z : Planner). length z.values.items) i.rest;
+              passing = ap (λ (z : Planner). z.world.passing) i.rest ∙ st.numbers.passing ∙ step.acts ∙ sym like.passing;
+              values = ap (λ (z : Planner). length z.world.values.items) i.rest;
               handles = omega arith;
-              ops = one_op_more p.plan.ops.items q.plan.ops.items (record { line = line; name = name; act = Say PastRange }) i.ops;
+              ops = one_op_more p.draft.ops.items q.draft.ops.items (record { line = line; name = name; act = Say PastRange }) i.ops;
               form = λ d start below. ap (λ f. bind_of start (f d)) like.contents;
               slots = slot_same;
               views = views;
@@ -417,8 +421,8 @@ module _ (script : Script) (table : Table) (begun : ScriptState) (n line name ca
             refused_steps script table begun n found p q y step
             (refused_stands p q g begun n s found y (refused PastRange name) st step.acts (refused_low lt) named.below restates i.ops
             (known_after script table n y step)
-            (subst (λ (z : Planner). AreNames z.values.items z.handles.items (length p.containers.items) t) (sym i.rest)
-            (same_names p.values.items p.handles.items (length p.containers.items) s t (λ j m. like.values m refl j) st.names)))
-            (quiet_restated p q s t restates (given_one p.plan.ops.items q.plan.ops.items
+            (subst (λ (z : Planner). AreNames z.world.values.items z.world.handles.items (length p.world.containers.items) t) (sym i.rest)
+            (same_names p.world.values.items p.world.handles.items (length p.world.containers.items) s t (λ j m. like.values m refl j) st.knows.names)))
+            (quiet_restated p q s t restates (given_one p.draft.ops.items q.draft.ops.items
             (record { line = line; name = name; act = Say PastRange }) i.ops refl))
             (refused PastRange name) (refused_low lt)

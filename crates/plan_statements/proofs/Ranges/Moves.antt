@@ -15,16 +15,31 @@ use Rattle.plan_statements.specs.Capacity.{HasRegrown, HasBroken, IsMoved}
 
 module _ (old new : Planner) (line name number : ℕ) (it : Container) (at : ListAt) (cap : ℕ) (span : Span) (now : Container) (store : SlotStore)
     (safety : SafetyBook) (containers : Vec Container Global)
-    (created : ℕ) (pushed : IsPushed (record old { store = store; safety = safety; containers = containers; created = created }) new
+    (created : ℕ) (pushed : IsPushed (record old {
+      world = record old.world {
+        store = store;
+        safety = safety;
+        containers = containers;
+        created = created;
+      };
+    }) new
     (record { line = line; name = name; act = Move (record { start = at.start; len = at.cap + 1 }) span })) where
   abbrev but_list : Planner → Planner
-  but_list z = record old { store = z.store; safety = z.safety; containers = z.containers; created = z.created; plan = record old.plan { ops = z.plan.ops } }
+  but_list z = record old {
+    world = record old.world {
+      store = z.world.store;
+      safety = z.world.safety;
+      containers = z.world.containers;
+      created = z.world.created;
+    };
+    draft = record old.draft { ops = z.draft.ops };
+  }
 
   pub moved : now.bind ≡ WholeList (record { start = span.start; cap = cap }) → now.slot ≡ it.slot → now.version ≡ it.version → now.life ≡ it.life
       → now.frame ≡ it.frame → now.name ≡ it.name
-      → now.line ≡ it.line → HasRegrown old.store store it.slot.0 (cap + 1) span → HasBroken old.safety safety it.slot.0
-      → containers.items ≡ slice_set old.containers.items number now
-      → created ≡ old.created + (cap + 1) → IsMoved old new line name number it at cap
+      → now.line ≡ it.line → HasRegrown old.world.store store it.slot.0 (cap + 1) span → HasBroken old.world.safety safety it.slot.0
+      → containers.items ≡ slice_set old.world.containers.items number now
+      → created ≡ old.world.created + (cap + 1) → IsMoved old new line name number it at cap
   moved bind slot version life frame name_is line_is regrown broken set more = record {
     span = span;
     now = now;
@@ -35,10 +50,10 @@ module _ (old new : Planner) (line name number : ℕ) (it : Container) (at : Lis
     frame_is = frame;
     name_is = name_is;
     line_is = line_is;
-    regrown = subst (λ (z : Planner). HasRegrown old.store z.store it.slot.0 (cap + 1) span) (sym pushed.rest) regrown;
-    broken = subst (λ (z : Planner). HasBroken old.safety z.safety it.slot.0) (sym pushed.rest) broken;
-    containers = ap (λ (z : Planner). z.containers.items) pushed.rest ∙ set;
-    created = ap (λ (z : Planner). z.created) pushed.rest ∙ more;
+    regrown = subst (λ (z : Planner). HasRegrown old.world.store z.world.store it.slot.0 (cap + 1) span) (sym pushed.rest) regrown;
+    broken = subst (λ (z : Planner). HasBroken old.world.safety z.world.safety it.slot.0) (sym pushed.rest) broken;
+    containers = ap (λ (z : Planner). z.world.containers.items) pushed.rest ∙ set;
+    created = ap (λ (z : Planner). z.world.created) pushed.rest ∙ more;
     ops = pushed.ops;
     rest = pushed.rest ∙ ap but_list (sym pushed.rest);
   }

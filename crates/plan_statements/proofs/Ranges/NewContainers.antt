@@ -90,28 +90,29 @@ literal_there (x ∷ xs) more v = literal_there xs more v
 
 -- the planner that has the words and the literal
 pub taken_with : (p q r : Planner) (len : ℕ) (t : Taken) (xs : Option (List ℤ)) (literal : Option ℕ) → HasTaken p q len t → HasLiteralOf q r xs literal
-    → r ≡ record p { store = q.store; created = q.created; plan = record p.plan { literals = r.plan.literals } }
+    → r ≡ record p { world = record p.world { store = q.world.store; created = q.world.created }; draft = record p.draft { literals = r.draft.literals } }
 taken_with p q r len t xs literal took has =
-    rest xs literal has ∙ ap (λ (z : Planner). record z { plan = record z.plan { literals = r.plan.literals } }) took.rest
+    rest xs literal has ∙ ap (λ (z : Planner). record z { draft = record z.draft { literals = r.draft.literals } }) took.rest
   where
-    rest : (xs : Option (List ℤ)) (literal : Option ℕ) → HasLiteralOf q r xs literal → r ≡ record q { plan = record q.plan { literals = r.plan.literals } }
-    rest None None e = e ∙ (λ i. record q { plan = record q.plan { literals = (sym e i).plan.literals } })
+    rest : (xs : Option (List ℤ)) (literal : Option ℕ) → HasLiteralOf q r xs literal → r ≡ record q { draft = record q.draft { literals = r.draft.literals } }
+    rest None None e = e ∙ (λ i. record q { draft = record q.draft { literals = (sym e i).draft.literals } })
     rest None (Some k) e = absurd e
     rest (Some ys) None e = absurd e
     rest (Some ys) (Some k) e = e.rest
 
 -- it knows as many names and containers
 pub as_many_names : (p q r : Planner) (len : ℕ) (t : Taken) (xs : Option (List ℤ)) (literal : Option ℕ) → HasTaken p q len t → HasLiteralOf q r xs literal
-    → (name : ℕ) → name < vec_len p.values → name < vec_len r.values
-as_many_names p q r len t xs literal took has name lt = subst (λ (z : Planner). name < vec_len z.values) (sym (taken_with p q r len t xs literal took has)) lt
-
-pub as_many_containers : (p q r : Planner) (len : ℕ) (t : Taken) (xs : Option (List ℤ)) (literal : Option ℕ) → HasTaken p q len t → HasLiteralOf q r xs literal
-    → vec_len p.containers < 2 ^ 32 → vec_len r.containers < 2 ^ 32
-as_many_containers p q r len t xs literal took has lt = subst (λ (z : Planner). vec_len z.containers < 2 ^ 32)
+    → (name : ℕ) → name < vec_len p.world.values → name < vec_len r.world.values
+as_many_names p q r len t xs literal took has name lt = subst (λ (z : Planner). name < vec_len z.world.values)
     (sym (taken_with p q r len t xs literal took has)) lt
 
-pub as_many_literals : (p q : Planner) (len : ℕ) (t : Taken) → HasTaken p q len t → vec_len p.plan.literals < 2 ^ 32 → vec_len q.plan.literals < 2 ^ 32
-as_many_literals p q len t took lt = subst (λ (z : Planner). vec_len z.plan.literals < 2 ^ 32) (sym took.rest) lt
+pub as_many_containers : (p q r : Planner) (len : ℕ) (t : Taken) (xs : Option (List ℤ)) (literal : Option ℕ) → HasTaken p q len t → HasLiteralOf q r xs literal
+    → vec_len p.world.containers < 2 ^ 32 → vec_len r.world.containers < 2 ^ 32
+as_many_containers p q r len t xs literal took has lt = subst (λ (z : Planner). vec_len z.world.containers < 2 ^ 32)
+    (sym (taken_with p q r len t xs literal took has)) lt
+
+pub as_many_literals : (p q : Planner) (len : ℕ) (t : Taken) → HasTaken p q len t → vec_len p.draft.literals < 2 ^ 32 → vec_len q.draft.literals < 2 ^ 32
+as_many_literals p q len t took lt = subst (λ (z : Planner). vec_len z.draft.literals < 2 ^ 32) (sym took.rest) lt
 
 -- WHAT READY SAYS
 
@@ -119,17 +120,18 @@ module _ (script : Script) (x : Statement) (p : Planner) (b : IsBefore script p 
   abbrev few : b.n < MOST_STATEMENTS
   few = statements_few script b.table b.n x b.step
 
-  pub ready_name : (name : ℕ) → name < length (setting script b.table).names → name < vec_len p.values
+  pub ready_name : (name : ℕ) → name < length (setting script b.table).names → name < vec_len p.world.values
   ready_name name lt = within p (setting script b.table) b.begun b.n (state_at script b.table b.n) b.found b.stands name lt
 
-  pub ready_slots : slots_in_use p.store < 4294967295
+  pub ready_slots : slots_in_use p.world.store < 4294967295
   ready_slots = let a = b.stands.numbers.slots_few in let m = b.stands.numbers.made_few in let c = few in omega arith
 
-  pub ready_containers : vec_len p.containers < 2 ^ 32
-  ready_containers = let l = p.containers.ok.0 in let a = b.stands.containers.made in let m = b.stands.numbers.made_few in let c = few in omega arith
+  pub ready_containers : vec_len p.world.containers < 2 ^ 32
+  ready_containers = let l = p.world.containers.ok.0 in let a = b.stands.knows.containers.made in let m = b.stands.numbers.made_few in let c = few in omega
+      arith
 
-  pub ready_literals : vec_len p.plan.literals < 2 ^ 32
-  ready_literals = let l = p.plan.literals.ok.0 in let a = b.stands.numbers.literals_few in let c = few in omega arith
+  pub ready_literals : vec_len p.draft.literals < 2 ^ 32
+  ready_literals = let l = p.draft.literals.ok.0 in let a = b.stands.numbers.literals_few in let c = few in omega arith
 
 -- THE STATEMENT IS ACCEPTED
 
@@ -142,10 +144,10 @@ module _ (script : Script) (table : Table) (begun : ScriptState) (n : ℕ) (x : 
   abbrev s : ScriptState
   s = state_at script table n
 
-  accepted : live_words_of p.store + words_of c ≤ MOST_LIVE_WORDS → refusal g s x.act ≡ None
+  accepted : live_words_of p.world.store + words_of c ≤ MOST_LIVE_WORDS → refusal g s x.act ≡ None
   accepted le = makes.refusal_is s ∙ not_full s (words_of c) name (let e = st.numbers.live_words in omega arith)
 
-  acted : live_words_of p.store + words_of c ≤ MOST_LIVE_WORDS → act g s x ≡ make x.line name life c s
+  acted : live_words_of p.world.store + words_of c ≤ MOST_LIVE_WORDS → act g s x ≡ make x.line name life c s
   acted le =
       ap (λ k. act_or_pass k g s x) step.acts
       ∙ ap (λ o. decided o g s x) (accepted le)
@@ -163,96 +165,106 @@ module _ (script : Script) (table : Table) (begun : ScriptState) (n : ℕ) (x : 
       omega arith
 
   -- too many live words
-  pub lost_goes_on : (q : Planner) (len : ℕ) → len ≡ words_of c → MOST_LIVE_WORDS < live_words_of p.store + len → IsLost p q x.line name
+  pub lost_goes_on : (q : Planner) (len : ℕ) → len ≡ words_of c → MOST_LIVE_WORDS < live_words_of p.world.store + len → IsLost p q x.line name
       → HasStepped script table begun n found p q x
   lost_goes_on q len e lt l =
-      said_dead script table begun n found x step (refused StoreFull name) p st
+      subst (λ z. HasStepped script table begun n found p z x) (sym l.rest)
+      (said_dead script table begun n found x step (refused StoreFull name) p st
       (makes.refusal_is s ∙ is_full s (words_of c) name (let k = st.numbers.live_words in omega arith)) makes.below
-      l.said q name makes.made makes.lost makes.passed (inl refl) l.says l.renames
+      l.said q.world name makes.made makes.lost makes.passed (inl refl) l.says l.renames)
 
   module _ (q r u : Planner) (t : Taken) (len : ℕ) (len_is : len ≡ words_of c) (took : HasTaken p q len t) (bind : Bind)
       (bind_is : bind ≡ bind_of t.span.start c)
       (xs : Option (List ℤ)) (given : IsGiven xs c) (literal : Option ℕ) (has : HasLiteralOf q r xs literal)
       (entered : IsEntered r u x.line name life t bind literal) where
-    before : r ≡ record p { store = q.store; created = q.created; plan = record p.plan { literals = r.plan.literals } }
+    before : r ≡ record p {
+      world = record p.world { store = q.world.store; created = q.world.created };
+      draft = record p.draft { literals = r.draft.literals };
+    }
     before = taken_with p q r len t xs literal took has
 
     after : u ≡ record p {
-      store = q.store;
-      safety = u.safety;
-      containers = u.containers;
-      values = u.values;
-      temps = u.temps;
-      tempjobs = u.tempjobs;
-      created = q.created;
-      plan = record p.plan { literals = r.plan.literals; ops = u.plan.ops };
+      world = record p.world {
+        store = q.world.store;
+        safety = u.world.safety;
+        containers = u.world.containers;
+        values = u.world.values;
+        temps = u.world.temps;
+        tempjobs = u.world.tempjobs;
+        created = q.world.created;
+      };
+      draft = record p.draft { literals = r.draft.literals; ops = u.draft.ops };
     }
     after = entered.rest ∙ ap (λ (z : Planner). record z {
-      safety = u.safety;
-      containers = u.containers;
-      values = u.values;
-      temps = u.temps;
-      tempjobs = u.tempjobs;
-      plan = record z.plan { ops = u.plan.ops };
+      world = record z.world {
+        safety = u.world.safety;
+        containers = u.world.containers;
+        values = u.world.values;
+        temps = u.world.temps;
+        tempjobs = u.world.tempjobs;
+      };
+      draft = record z.draft { ops = u.draft.ops };
     }) before
 
     more_literals : (xs : Option (List ℤ)) (literal : Option ℕ) → HasLiteralOf q r xs literal
-        → (more : List (Vec ℤ Global)) × (r.plan.literals.items ≡ p.plan.literals.items ++ more) × (length more ≤ 1)
-    more_literals None None e = ([], ap (λ (z : Planner). z.plan.literals.items) (e ∙ took.rest) ∙ sym (append-nil p.plan.literals.items), omega arith)
+        → (more : List (Vec ℤ Global)) × (r.draft.literals.items ≡ p.draft.literals.items ++ more) × (length more ≤ 1)
+    more_literals None None e = ([], ap (λ (z : Planner). z.draft.literals.items) (e ∙ took.rest) ∙ sym (append-nil p.draft.literals.items), omega arith)
     more_literals None (Some k) e = absurd e
     more_literals (Some ys) None e = absurd e
-    more_literals (Some ys) (Some k) e = (e.literal ∷ [], e.literals ∙ ap (λ (z : Planner). z.plan.literals.items ++ e.literal ∷ []) took.rest, omega arith)
+    more_literals (Some ys) (Some k) e = (e.literal ∷ [], e.literals ∙ ap (λ (z : Planner). z.draft.literals.items ++ e.literal ∷ []) took.rest, omega arith)
 
-    more : (more : List (Vec ℤ Global)) × (r.plan.literals.items ≡ p.plan.literals.items ++ more) × (length more ≤ 1)
+    more : (more : List (Vec ℤ Global)) × (r.draft.literals.items ≡ p.draft.literals.items ++ more) × (length more ≤ 1)
     more = more_literals xs literal has
 
-    few_words : live_words_of p.store + words_of c ≤ MOST_LIVE_WORDS
+    few_words : live_words_of p.world.store + words_of c ≤ MOST_LIVE_WORDS
     few_words = let a = took.few in omega arith
 
-    words : TakesWords p.store q.store (words_of c) t
-    words = subst (λ k. TakesWords p.store q.store k t) len_is took.taken
+    words : TakesWords p.world.store q.world.store (words_of c) t
+    words = subst (λ k. TakesWords p.world.store q.world.store k t) len_is took.taken
 
-    made_is : IsMade p x.line name life c literal t entered.it q.store u.safety u.containers u.values u.temps u.tempjobs q.created r.plan.literals u.plan.ops
+    made_is : IsMade p x.line name life c literal t entered.it q.world.store u.world.safety u.world.containers u.world.values u.world.temps u.world.tempjobs
+        q.world.created r.draft.literals u.draft.ops
     made_is = record {
       small = (let a = took.small in let e = took.created in omega arith);
-      created_is = took.created ∙ ap (λ k. p.created + k) len_is;
+      created_is = took.created ∙ ap (λ k. p.world.created + k) len_is;
       takes = words;
       enrolled = entered.enrolled;
-      others = λ k ne. entered.others k ne ∙ ap (λ (z : Planner). state_of z.safety k) before;
+      others = λ k ne. entered.others k ne ∙ ap (λ (z : Planner). state_of z.world.safety k) before;
       bind = entered.bind_is ∙ bind_is;
       slot_is = entered.slot_is;
       version_is = entered.version_is;
       life_is = entered.life_is;
-      frame_is = entered.frame_is ∙ ap (λ (z : Planner). z.frame) before;
+      frame_is = entered.frame_is ∙ ap (λ (z : Planner). z.world.frame) before;
       name_is = entered.name_is;
       line_is = entered.line_is;
-      containers_are = entered.containers ∙ ap (λ (z : Planner). z.containers.items ++ entered.it ∷ []) before;
-      values_are = entered.values ∙ ap (λ (z : Planner). slice_set z.values.items name (Whole (length z.containers.items))) before;
-      temps_are = entered.temps ∙ ap (λ (z : Planner). and_if (Rattle.frame_ast.specs.Refusals.is_temp life) z.temps.items (length z.containers.items)) before;
-      tempjobs_are = entered.tempjobs ∙ ap (λ (z : Planner). and_if (Rattle.frame_ast.specs.Effects.is_tempjob life) z.tempjobs.items
-          (length z.containers.items)) before;
+      containers_are = entered.containers ∙ ap (λ (z : Planner). z.world.containers.items ++ entered.it ∷ []) before;
+      values_are = entered.values ∙ ap (λ (z : Planner). slice_set z.world.values.items name (Whole (length z.world.containers.items))) before;
+      temps_are = entered.temps ∙ ap (λ (z : Planner). and_if (Rattle.frame_ast.specs.Refusals.is_temp life) z.world.temps.items
+          (length z.world.containers.items)) before;
+      tempjobs_are = entered.tempjobs ∙ ap (λ (z : Planner). and_if (Rattle.frame_ast.specs.Effects.is_tempjob life) z.world.tempjobs.items
+          (length z.world.containers.items)) before;
       literals_more = more.0;
       literals_are = more.1;
       literals_one = more.2;
-      ops_are = entered.ops ∙ ap (λ (z : Planner). z.plan.ops.items ++ record { line = x.line; name = name; act = Fill t.span literal } ∷ []) before;
+      ops_are = entered.ops ∙ ap (λ (z : Planner). z.draft.ops.items ++ record { line = x.line; name = name; act = Fill t.span literal } ∷ []) before;
     }
 
     -- what the whole plan has at the literal's place
-    literal_is : (y : Outline) (later : List (Vec ℤ Global)) → y.plan.literals.items ≡ r.plan.literals.items ++ later
+    literal_is : (y : Outline) (later : List (Vec ℤ Global)) → y.plan.literals.items ≡ r.draft.literals.items ++ later
         → (xs : Option (List ℤ)) (literal : Option ℕ) → IsGiven xs c → HasLiteralOf q r xs literal
         → IsLiteral y.plan t.span literal × FillsAs y.plan t.span literal c
     literal_is y later e None None given h = (tt, zeros_fill y.plan t.span c words.len_is given)
     literal_is y later e None (Some k) given h = absurd h
     literal_is y later e (Some ys) None given h = absurd h
     literal_is y later e (Some ys) (Some k) given h =
-        let all : y.plan.literals.items ≡ (q.plan.literals.items ++ h.literal ∷ []) ++ later = e ∙ ap (λ l. l ++ later) h.literals in
+        let all : y.plan.literals.items ≡ (q.draft.literals.items ++ h.literal ∷ []) ++ later = e ∙ ap (λ l. l ++ later) h.literals in
         let at : literal_of y.plan k ≡ ys =
         (let a = all in let b = h.number_is in λ i. get_or (map (λ (v : Vec ℤ Global). v.items) (a i)) (b i) [])
-        ∙ literal_there q.plan.literals.items later h.literal ∙ h.elements in
+        ∙ literal_there q.draft.literals.items later h.literal ∙ h.elements in
         let n = h.number_is in
         let l = ap length all in
-        let m = length-append (q.plan.literals.items ++ h.literal ∷ []) later in
-        let o = length-append q.plan.literals.items (h.literal ∷ []) in (
+        let m = length-append (q.draft.literals.items ++ h.literal ∷ []) later in
+        let o = length-append q.draft.literals.items (h.literal ∷ []) in (
           ((omega arith), ap length at ∙ given_long ys c given ∙ sym words.len_is),
           literals_fill y.plan t.span k c words.len_is (subst (λ zs. IsGivenBy zs c) (sym at) given),
         )
@@ -264,14 +276,14 @@ module _ (script : Script) (table : Table) (begun : ScriptState) (n : ℕ) (x : 
     one_op : HasOneMore p u filling
     one_op = record {
       ops = made_is.ops_are;
-      segments = ap (λ (z : Planner). z.plan.segments) after;
-      waits = ap (λ (z : Planner). z.plan.waits) after;
-      jobs = ap (λ (z : Planner). z.plan.jobs) after;
-      kernels = ap (λ (z : Planner). z.plan.kernels) after;
+      segments = ap (λ (z : Planner). z.draft.segments) after;
+      waits = ap (λ (z : Planner). z.draft.waits) after;
+      jobs = ap (λ (z : Planner). z.draft.jobs) after;
+      kernels = ap (λ (z : Planner). z.draft.kernels) after;
     }
 
     found_is : HasFound p u (words_of c) t.span
-    found_is = record { fit = words.fit; len = words.len_is; peak = ap (λ (z : Planner). peak_of z.store) after ∙ words.peak }
+    found_is = record { fit = words.fit; len = words.len_is; peak = ap (λ (z : Planner). peak_of z.world.store) after ∙ words.peak }
 
     pub goes_on : HasStepped script table begun n found p u x
     goes_on =
@@ -279,6 +291,7 @@ module _ (script : Script) (table : Table) (begun : ScriptState) (n : ℕ) (x : 
         (accepted few_words) makes.takes makes.job (ap (λ (z : ScriptState). z.book.completed) (acted few_words))
         (subst (λ z. Stands u g begun (suc n) z (found ++ t.span.start ∷ [])) (sym (acted few_words))
         (subst (λ z. Stands z g begun (suc n) (make x.line name life c s) (found ++ t.span.start ∷ [])) (sym after)
-        (made_stands p g begun n s found x.line name life c literal t entered.it q.store u.safety u.containers u.values u.temps u.tempjobs q.created
-        r.plan.literals u.plan.ops st makes.below made_is
+        (made_stands p g begun n s found x.line name life c literal t entered.it q.world.store u.world.safety u.world.containers u.world.values u.world.temps
+        u.world.tempjobs q.world.created
+        r.draft.literals u.draft.ops st makes.below made_is
         (λ y a. literal_is y a.literals.0 a.literals.1 xs literal given has))))

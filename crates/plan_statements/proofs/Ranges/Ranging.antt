@@ -25,17 +25,17 @@ use Rattle.plan_statements.proofs.Ranges.Storing.{live_words_are_alike}
 
 -- The plan does one operation more, and nothing else.
 pub record HasOneMore (p q : Planner) (op : Op) : Type 0 where
-  pub ops : q.plan.ops.items ≡ p.plan.ops.items ++ op ∷ []
-  pub segments : q.plan.segments ≡ p.plan.segments
-  pub waits : q.plan.waits ≡ p.plan.waits
-  pub jobs : q.plan.jobs ≡ p.plan.jobs
-  pub kernels : q.plan.kernels ≡ p.plan.kernels
+  pub ops : q.draft.ops.items ≡ p.draft.ops.items ++ op ∷ []
+  pub segments : q.draft.segments ≡ p.draft.segments
+  pub waits : q.draft.waits ≡ p.draft.waits
+  pub jobs : q.draft.jobs ≡ p.draft.jobs
+  pub kernels : q.draft.kernels ≡ p.draft.kernels
 
 -- The store gave so many words, which are the first fit.
 pub record HasFound (p q : Planner) (words : ℕ) (span : Span) : Type 0 where
-  pub fit : IsFirstFit (is_live_word p.store) words span.start
+  pub fit : IsFirstFit (is_live_word p.world.store) words span.start
   pub len : span.len ≡ words
-  pub peak : peak_of q.store ≡ max (peak_of p.store) (span.start + words)
+  pub peak : peak_of q.world.store ≡ max (peak_of p.world.store) (span.start + words)
 
 module _ (script : Script) (table : Table) (begun : ScriptState) (n : ℕ) (found : List ℕ) (x : Statement) (step : IsStep script table n x)
     (p q : Planner) (st : StandsAt p script table begun n found) (words : ℕ) (span : Span) (op : Op) (has : HasFound p q words span) (more : HasOneMore p q op)
@@ -55,15 +55,15 @@ module _ (script : Script) (table : Table) (begun : ScriptState) (n : ℕ) (foun
   module _ (starts : Starts) (same : StartAs starts (found ++ span.start ∷ [])) where
     start : starts s.takes ≡ span.start
     start =
-        same s.takes (let e = one_more found span.start in let k = st.takes in omega arith)
-        ∙ get_new found span.start s.takes (sym st.takes)
+        same s.takes (let e = one_more found span.start in let k = st.knows.takes in omega arith)
+        ∙ get_new found span.start s.takes (sym st.knows.takes)
 
-    alike : is_live_word p.store ≡ ranges.is_live_word starts s
+    alike : is_live_word p.world.store ≡ ranges.is_live_word starts s
     alike = λ i w. live_words_are_alike p g begun n s found starts st
         (λ k lt. same k (let e = one_more found span.start in omega arith) ∙ get_old found span.start k lt) w i
 
     fit : IsFirstFit (ranges.is_live_word starts s) words (starts s.takes)
-    fit = subst (λ live. IsFirstFit live words (starts s.takes)) alike (subst (IsFirstFit (is_live_word p.store) words) (sym start) has.fit)
+    fit = subst (λ live. IsFirstFit live words (starts s.takes)) alike (subst (IsFirstFit (is_live_word p.world.store) words) (sym start) has.fit)
 
     abbrev here : Span
     here = record { start = starts s.takes; len = words }
@@ -74,11 +74,11 @@ module _ (script : Script) (table : Table) (begun : ScriptState) (n : ℕ) (foun
         ∙ ap (span_unless g starts s x.act) none
         ∙ ap (span_at starts s) takes
 
-    given : given_in q.plan.ops.items ≡ given_in p.plan.ops.items ++ here ∷ []
+    given : given_in q.draft.ops.items ≡ given_in p.draft.ops.items ++ here ∷ []
     given =
         ap given_in more.ops
-        ∙ given_more p.plan.ops.items (op ∷ [])
-        ∙ ap (λ l. given_in p.plan.ops.items ++ l)
+        ∙ given_more p.draft.ops.items (op ∷ [])
+        ∙ ap (λ l. given_in p.draft.ops.items ++ l)
         (append-nil (given_by op.act) ∙ gives ∙ (let e = sym start in let l = has.len in λ i. record { start = e i; len = l i } ∷ []))
 
     grows : Grows g s x starts before p q
@@ -89,22 +89,22 @@ module _ (script : Script) (table : Table) (begun : ScriptState) (n : ℕ) (foun
           first_fit = subst (λ k. Takes g starts s k x.act) (sym step.acts)
               (subst (TakesUnless g starts s x.act) (sym none) (subst (IsTaken starts s) (sym takes) fit));
           spans = (λ i. given_from (segments i).items ++ given i)
-              ∙ sym (append_assoc (given_from p.plan.segments.items) (given_in p.plan.ops.items) (here ∷ []))
+              ∙ sym (append_assoc (given_from p.draft.segments.items) (given_in p.draft.ops.items) (here ∷ []))
               ∙ ap (λ l. given_so_far p ++ l) (sym span_is);
           peak = has.peak
               ∙ (let e = start in
-              let m : max (peak_of p.store) (span.start + words) ≡ max (peak_of p.store) (max (starts s.takes + words) 0) = omega arith in m)
-              ∙ ap (λ l. max (peak_of p.store) (greatest_end l)) (sym span_is);
+              let m : max (peak_of p.world.store) (span.start + words) ≡ max (peak_of p.world.store) (max (starts s.takes + words) 0) = omega arith in m)
+              ∙ ap (λ l. max (peak_of p.world.store) (greatest_end l)) (sym span_is);
           segments_later = [];
-          segments_are = (λ i. (segments i).items) ∙ sym (append-nil p.plan.segments.items);
+          segments_are = (λ i. (segments i).items) ∙ sym (append-nil p.draft.segments.items);
           jobs_later = [];
-          jobs_are = (let e = more.jobs in λ i. (e i).items) ∙ sym (append-nil p.plan.jobs.items);
+          jobs_are = (let e = more.jobs in λ i. (e i).items) ∙ sym (append-nil p.draft.jobs.items);
           kernels_later = [];
-          kernels_are = (let e = more.kernels in λ i. (e i).items) ∙ sym (append-nil p.plan.kernels.items);
-          schedules = plain_schedules g starts before s (deps_after g s x) q.plan.kernels.items
-              (slice_get q.plan.jobs.items (s.book.count - before)) x.act s.passing job;
+          kernels_are = (let e = more.kernels in λ i. (e i).items) ∙ sym (append-nil p.draft.kernels.items);
+          schedules = plain_schedules g starts before s (deps_after g s x) q.draft.kernels.items
+              (slice_get q.draft.jobs.items (s.book.count - before)) x.act s.passing job;
           waited = λ h j pos. (λ i. has_job (waits_in (segments i).items ++ (waits i).items) j) ∙ h j pos ∙ ap (λ jobs. later before jobs j) (sym completed);
-          awaited = λ h. plain_awaits g before s q.plan.segments.items x.act s.passing job;
+          awaited = λ h. plain_awaits g before s q.draft.segments.items x.act s.passing job;
           waits = (λ i. waits_of (segments i).items ++ unless_none (waits i).items) ∙ waits_stay before s (act g s x) (waits_by p) completed;
         }
 

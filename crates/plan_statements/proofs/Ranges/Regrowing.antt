@@ -70,9 +70,9 @@ span_at start len = record { start = start; len = len }
 
 pub record IsRegrown (p : Planner) (line name c cap old : ℕ) (it now : Container) (span : Span) (store : SlotStore) (safety : SafetyBook)
     (containers : Vec Container Global) (created : ℕ) (ops : Vec Op Global) : Type 0 where
-  pub has : slice_get p.containers.items c ≡ Some it
-  pub store_is : HasRegrown p.store store it.slot.0 (cap + 1) span
-  pub safety_is : HasBroken p.safety safety it.slot.0
+  pub has : slice_get p.world.containers.items c ≡ Some it
+  pub store_is : HasRegrown p.world.store store it.slot.0 (cap + 1) span
+  pub safety_is : HasBroken p.world.safety safety it.slot.0
   pub bind : now.bind ≡ WholeList (record { start = span.start; cap = cap })
   pub slot_is : now.slot ≡ it.slot
   pub version_is : now.version ≡ it.version
@@ -80,12 +80,12 @@ pub record IsRegrown (p : Planner) (line name c cap old : ℕ) (it now : Contain
   pub frame_is : now.frame ≡ it.frame
   pub name_is : now.name ≡ it.name
   pub line_is : now.line ≡ it.line
-  pub containers_are : containers.items ≡ slice_set p.containers.items c now
-  pub created_is : created ≡ p.created + (cap + 1)
+  pub containers_are : containers.items ≡ slice_set p.world.containers.items c now
+  pub created_is : created ≡ p.world.created + (cap + 1)
   pub small : created ≤ MOST_CREATED_WORDS
   pub at : ListAt
   pub was : it.bind ≡ WholeList at
-  pub ops_are : ops.items ≡ p.plan.ops.items ++ record { line = line; name = name; act = Move (record { start = at.start; len = at.cap + 1 }) span } ∷ []
+  pub ops_are : ops.items ≡ p.draft.ops.items ++ record { line = line; name = name; act = Move (record { start = at.start; len = at.cap + 1 }) span } ∷ []
 
 module _ (p : Planner) (g : Setting) (begun : ScriptState) (n : ℕ) (s : ScriptState) (found : List ℕ)
     (line name c cap old : ℕ) (xs : List ℤ) (it now : Container) (span : Span) (store : SlotStore) (safety : SafetyBook)
@@ -94,7 +94,7 @@ module _ (p : Planner) (g : Setting) (begun : ScriptState) (n : ℕ) (s : Script
     (alive : s.alive c ≡ true) (le : old ≤ cap)
     (made : IsRegrown p line name c cap old it now span store safety containers created ops) where
   abbrev q : Planner
-  q = record p { store = store; safety = safety; containers = containers; created = created; plan = record p.plan { ops = ops } }
+  q = record p { world = record p.world { store = store; safety = safety; containers = containers; created = created }; draft = record p.draft { ops = ops } }
 
   abbrev w : ScriptState
   w = with_capacity s c cap xs
@@ -102,66 +102,67 @@ module _ (p : Planner) (g : Setting) (begun : ScriptState) (n : ℕ) (s : Script
   abbrev found' : List ℕ
   found' = found ++ span.start ∷ []
 
-  rg : HasRegrown p.store store it.slot.0 (cap + 1) span
+  rg : HasRegrown p.world.store store it.slot.0 (cap + 1) span
   rg = made.store_is
 
-  k : IsContainer p s found c it
-  k = st.containers.each c it made.has
+  k : IsContainer p.world s found c it
+  k = st.knows.containers.each c it made.has
 
   c_below : c < s.made
-  c_below = let lt = get_below p.containers.items c it made.has in let e = st.containers.made in omega arith
+  c_below = let lt = get_below p.world.containers.items c it made.has in let e = st.knows.containers.made in omega arith
 
   live : is_live s c ≡ true
   live = alive_is_live s c c_below alive
 
-  place_old : (j : ℕ) → j ≢ it.slot.0 → place_of store j ≡ place_of p.store j
-  place_old j ne = rg.places j ∙ ap (λ b. cond b (taken (place_of p.store it.slot.0).version span) (place_of p.store j)) (ne_eqb j it.slot.0 ne)
+  place_old : (j : ℕ) → j ≢ it.slot.0 → place_of store j ≡ place_of p.world.store j
+  place_old j ne = rg.places j ∙ ap (λ b. cond b (taken (place_of p.world.store it.slot.0).version span) (place_of p.world.store j)) (ne_eqb j it.slot.0 ne)
 
-  place_new : place_of store it.slot.0 ≡ taken (place_of p.store it.slot.0).version span
-  place_new = rg.places it.slot.0 ∙ ap (λ b. cond b (taken (place_of p.store it.slot.0).version span) (place_of p.store it.slot.0))
+  place_new : place_of store it.slot.0 ≡ taken (place_of p.world.store it.slot.0).version span
+  place_new = rg.places it.slot.0 ∙ ap (λ b. cond b (taken (place_of p.world.store it.slot.0).version span) (place_of p.world.store it.slot.0))
       (eq-eqb it.slot.0 it.slot.0 refl)
 
-  was_taken : (is_taken (place_of p.store it.slot.0).state ≡ true) × (nat_eq (place_of p.store it.slot.0).version it.version.0 ≡ true)
-  was_taken = and_parts (is_taken (place_of p.store it.slot.0).state) (nat_eq (place_of p.store it.slot.0).version it.version.0) (k.taken ∙ alive)
+  was_taken : (is_taken (place_of p.world.store it.slot.0).state ≡ true) × (nat_eq (place_of p.world.store it.slot.0).version it.version.0 ≡ true)
+  was_taken = and_parts (is_taken (place_of p.world.store it.slot.0).state) (nat_eq (place_of p.world.store it.slot.0).version it.version.0) (k.taken ∙ alive)
 
   -- what stays of every slot
   by_slot : {A : ℕ → Type 0} → A it.slot.0 → ((j : ℕ) → j ≢ it.slot.0 → A j) → (j : ℕ) → A j
   by_slot {A} here there j = ⊎_elim (λ e. subst A (sym e) here) (there j) (cases_eq j it.slot.0)
 
-  version_same : (j : ℕ) → (place_of store j).version ≡ (place_of p.store j).version
-  version_same = by_slot {A = λ j. (place_of store j).version ≡ (place_of p.store j).version} (ap (λ (z : Place). z.version) place_new)
+  version_same : (j : ℕ) → (place_of store j).version ≡ (place_of p.world.store j).version
+  version_same = by_slot {A = λ j. (place_of store j).version ≡ (place_of p.world.store j).version} (ap (λ (z : Place). z.version) place_new)
       (λ j ne. ap (λ (z : Place). z.version) (place_old j ne))
 
-  taken_same : (j : ℕ) → is_taken (place_of store j).state ≡ is_taken (place_of p.store j).state
-  taken_same = by_slot {A = λ j. is_taken (place_of store j).state ≡ is_taken (place_of p.store j).state}
+  taken_same : (j : ℕ) → is_taken (place_of store j).state ≡ is_taken (place_of p.world.store j).state
+  taken_same = by_slot {A = λ j. is_taken (place_of store j).state ≡ is_taken (place_of p.world.store j).state}
       (ap (λ (z : Place). is_taken z.state) place_new ∙ sym was_taken.0) (λ j ne. ap (λ (z : Place). is_taken z.state) (place_old j ne))
 
-  in_use_same : (j : ℕ) → in_use (place_of store j).state ≡ in_use (place_of p.store j).state
-  in_use_same = by_slot {A = λ j. in_use (place_of store j).state ≡ in_use (place_of p.store j).state}
+  in_use_same : (j : ℕ) → in_use (place_of store j).state ≡ in_use (place_of p.world.store j).state
+  in_use_same = by_slot {A = λ j. in_use (place_of store j).state ≡ in_use (place_of p.world.store j).state}
       (ap (λ (z : Place). in_use z.state) place_new ∙ sym (k.in_use live)) (λ j ne. ap (λ (z : Place). in_use z.state) (place_old j ne))
 
   abbrev bumped : SlotState → SlotState
   bumped z = record z { view = z.view + 1 }
 
-  live_same : (j : ℕ) → (state_of safety j).live ≡ (state_of p.safety j).live
-  live_same = by_slot {A = λ j. (state_of safety j).live ≡ (state_of p.safety j).live} (ap (λ (z : SlotState). z.live) made.safety_is.slot_is)
+  live_same : (j : ℕ) → (state_of safety j).live ≡ (state_of p.world.safety j).live
+  live_same = by_slot {A = λ j. (state_of safety j).live ≡ (state_of p.world.safety j).live} (ap (λ (z : SlotState). z.live) made.safety_is.slot_is)
       (λ j ne. ap (λ (z : SlotState). z.live) (made.safety_is.others j ne))
 
-  numbered_same : (j : ℕ) → (state_of safety j).version ≡ (state_of p.safety j).version
-  numbered_same = by_slot {A = λ j. (state_of safety j).version ≡ (state_of p.safety j).version} (ap (λ (z : SlotState). z.version) made.safety_is.slot_is)
+  numbered_same : (j : ℕ) → (state_of safety j).version ≡ (state_of p.world.safety j).version
+  numbered_same = by_slot {A = λ j. (state_of safety j).version ≡ (state_of p.world.safety j).version}
+      (ap (λ (z : SlotState). z.version) made.safety_is.slot_is)
       (λ j ne. ap (λ (z : SlotState). z.version) (made.safety_is.others j ne))
 
-  current_same : (i : Container) → is_current (state_of safety i.slot.0) (tag_of i None) ≡ is_current (state_of p.safety i.slot.0) (tag_of i None)
+  current_same : (i : Container) → is_current (state_of safety i.slot.0) (tag_of i None) ≡ is_current (state_of p.world.safety i.slot.0) (tag_of i None)
   current_same i = let a = live_same i.slot.0 in let b = numbered_same i.slot.0 in λ j. a j && nat_eq (b j) i.version.0
 
   -- OTHER CONTAINERS
 
-  module _ (d : ℕ) (i : Container) (has : slice_get p.containers.items d ≡ Some i) (ne : d ≢ c) where
-    o : IsContainer p s found d i
-    o = st.containers.each d i has
+  module _ (d : ℕ) (i : Container) (has : slice_get p.world.containers.items d ≡ Some i) (ne : d ≢ c) where
+    o : IsContainer p.world s found d i
+    o = st.knows.containers.each d i has
 
     other_slot : is_live s d ≡ true → i.slot.0 ≢ it.slot.0
-    other_slot l e = ne (st.containers.once d c i it has made.has l live e)
+    other_slot l e = ne (st.knows.containers.once d c i it has made.has l live e)
 
     range_same : w.range d ≡ s.range d
     range_same = at_other s.range c s.takes d ne
@@ -170,16 +171,16 @@ module _ (p : Planner) (g : Setting) (begun : ScriptState) (n : ℕ) (s : Script
     contents_same = at_other s.contents c (Items cap xs) d ne
 
     start_same : get_or found' (w.range d) 0 ≡ get_or found (s.range d) 0
-    start_same = ap (λ r. get_or found' r 0) range_same ∙ get_old found span.start (s.range d) (let r = o.range in let l = st.takes in omega arith)
+    start_same = ap (λ r. get_or found' r 0) range_same ∙ get_old found span.start (s.range d) (let r = o.range in let l = st.knows.takes in omega arith)
 
-    place_same : is_live s d ≡ true → place_of store i.slot.0 ≡ place_of p.store i.slot.0
+    place_same : is_live s d ≡ true → place_of store i.slot.0 ≡ place_of p.world.store i.slot.0
     place_same l = place_old i.slot.0 (other_slot l)
 
-    state_same : s.alive d ≡ true → state_of safety i.slot.0 ≡ state_of p.safety i.slot.0
+    state_same : s.alive d ≡ true → state_of safety i.slot.0 ≡ state_of p.world.safety i.slot.0
     state_same a = made.safety_is.others i.slot.0 (other_slot (alive_is_live s d
-        (let lt = get_below p.containers.items d i has in let e = st.containers.made in omega arith) a))
+        (let lt = get_below p.world.containers.items d i has in let e = st.knows.containers.made in omega arith) a))
 
-    other_kept : IsContainer q w found' d i
+    other_kept : IsContainer q.world w found' d i
     other_kept = record {
       bind = o.bind ∙ (let a = sym start_same in let b = sym contents_same in λ j. bind_of (a j) (b j));
       range = (let r = o.range in let e = range_same in omega arith);
@@ -213,18 +214,18 @@ module _ (p : Planner) (g : Setting) (begun : ScriptState) (n : ℕ) (s : Script
   version_at = ap (λ (z : Version). z.0) made.version_is
 
   start_new : get_or found' (w.range c) 0 ≡ span.start
-  start_new = ap (λ r. get_or found' r 0) (at_here s.range c s.takes) ∙ get_new found span.start s.takes (sym st.takes)
+  start_new = ap (λ r. get_or found' r 0) (at_here s.range c s.takes) ∙ get_new found span.start s.takes (sym st.knows.takes)
 
   contents_new : w.contents c ≡ Items cap xs
   contents_new = at_here s.contents c (Items cap xs)
 
-  state_new : state_of safety now.slot.0 ≡ bumped (state_of p.safety it.slot.0)
+  state_new : state_of safety now.slot.0 ≡ bumped (state_of p.world.safety it.slot.0)
   state_new = ap (state_of safety) slot_at ∙ made.safety_is.slot_is
 
-  place_is : place_of store now.slot.0 ≡ taken (place_of p.store it.slot.0).version span
+  place_is : place_of store now.slot.0 ≡ taken (place_of p.world.store it.slot.0).version span
   place_is = ap (place_of store) slot_at ∙ place_new
 
-  list_kept : IsContainer q w found' c now
+  list_kept : IsContainer q.world w found' c now
   list_kept = record {
     bind = made.bind ∙ (let a = sym start_new in let b = sym contents_new in λ j. bind_of (a j) (b j));
     range = (let e = at_here s.range c s.takes in omega arith);
@@ -245,39 +246,40 @@ module _ (p : Planner) (g : Setting) (begun : ScriptState) (n : ℕ) (s : Script
 
   -- ALL OF THEM
 
-  which : (d : ℕ) (i : Container) → slice_get containers.items d ≡ Some i → ((d ≡ c) × (now ≡ i)) ⊎ ((d ≢ c) × (slice_get p.containers.items d ≡ Some i))
-  which d i h = ⊎_elim (λ a. inl (a.0, sym a.1)) (λ b. inr b) (set_either p.containers.items c now d i
+  which : (d : ℕ) (i : Container) → slice_get containers.items d ≡ Some i → ((d ≡ c) × (now ≡ i)) ⊎ ((d ≢ c) × (slice_get p.world.containers.items d ≡ Some i))
+  which d i h = ⊎_elim (λ a. inl (a.0, sym a.1)) (λ b. inr b) (set_either p.world.containers.items c now d i
       (ap (λ cs. slice_get cs d) (sym made.containers_are) ∙ h))
 
-  kept : (d : ℕ) (i : Container) → slice_get containers.items d ≡ Some i → IsContainer q w found' d i
+  kept : (d : ℕ) (i : Container) → slice_get containers.items d ≡ Some i → IsContainer q.world w found' d i
   kept d i h = ⊎_elim
-      (λ a. subst (IsContainer q w found' d) a.1 (subst (λ e. IsContainer q w found' e now) (sym a.0) list_kept))
+      (λ a. subst (IsContainer q.world w found' d) a.1 (subst (λ e. IsContainer q.world w found' e now) (sym a.0) list_kept))
       (λ b. other_kept d i b.1 b.0)
       (which d i h)
 
   -- its slot is as before
-  old_of : (d : ℕ) (i : Container) → slice_get containers.items d ≡ Some i → (o : Container) × (slice_get p.containers.items d ≡ Some o) × (o.slot.0 ≡ i.slot.0)
+  old_of : (d : ℕ) (i : Container) → slice_get containers.items d ≡ Some i
+      → (o : Container) × (slice_get p.world.containers.items d ≡ Some o) × (o.slot.0 ≡ i.slot.0)
   old_of d i h = ⊎_elim
-      (λ a. (it, ap (slice_get p.containers.items) a.0 ∙ made.has, sym slot_at ∙ ap (λ (z : Container). z.slot.0) a.1))
+      (λ a. (it, ap (slice_get p.world.containers.items) a.0 ∙ made.has, sym slot_at ∙ ap (λ (z : Container). z.slot.0) a.1))
       (λ b. (i, b.1, refl))
       (which d i h)
 
-  owned : (slot : ℕ) → in_use (place_of store slot).state ≡ true → IsOwned q w slot
+  owned : (slot : ℕ) → in_use (place_of store slot).state ≡ true → IsOwned q.world w slot
   owned slot e =
-      let o = st.containers.slots slot (sym (in_use_same slot) ∙ e) in
+      let o = st.knows.containers.slots slot (sym (in_use_same slot) ∙ e) in
       ⊎_elim
       (λ a. record {
         container = o.container;
         it = now;
-        has = ap (λ cs. slice_get cs o.container) made.containers_are ∙ ap (slice_get (slice_set p.containers.items c now)) a
-            ∙ get_set p.containers.items c now (get_below p.containers.items c it made.has);
-        slot_is = slot_at ∙ ap (λ (z : Container). z.slot.0) (some_is (sym made.has ∙ ap (slice_get p.containers.items) (sym a) ∙ o.has)) ∙ o.slot_is;
+        has = ap (λ cs. slice_get cs o.container) made.containers_are ∙ ap (slice_get (slice_set p.world.containers.items c now)) a
+            ∙ get_set p.world.containers.items c now (get_below p.world.containers.items c it made.has);
+        slot_is = slot_at ∙ ap (λ (z : Container). z.slot.0) (some_is (sym made.has ∙ ap (slice_get p.world.containers.items) (sym a) ∙ o.has)) ∙ o.slot_is;
         live = o.live;
       })
       (λ ne. record {
         container = o.container;
         it = o.it;
-        has = ap (λ cs. slice_get cs o.container) made.containers_are ∙ get_other p.containers.items c now o.container ne ∙ o.has;
+        has = ap (λ cs. slice_get cs o.container) made.containers_are ∙ get_other p.world.containers.items c now o.container ne ∙ o.has;
         slot_is = o.slot_is;
         live = o.live;
       })
@@ -288,18 +290,18 @@ module _ (p : Planner) (g : Setting) (begun : ScriptState) (n : ℕ) (s : Script
   once d e i j hd he ld le same =
       let a = old_of d i hd in
       let b = old_of e j he in
-      st.containers.once d e a.0 b.0 a.1 b.1 ld le (a.2 ∙ same ∙ sym b.2)
+      st.knows.containers.once d e a.0 b.0 a.1 b.1 ld le (a.2 ∙ same ∙ sym b.2)
 
-  containers_long : length containers.items ≡ length p.containers.items
-  containers_long = ap length made.containers_are ∙ set_long p.containers.items c now
+  containers_long : length containers.items ≡ length p.world.containers.items
+  containers_long = ap length made.containers_are ∙ set_long p.world.containers.items c now
 
-  containers_stand : AreContainers q w found'
+  containers_stand : AreContainers q.world w found'
   containers_stand = record {
-    made = containers_long ∙ st.containers.made;
+    made = containers_long ∙ st.knows.containers.made;
     each = kept;
     slots = owned;
     once = once;
-    versions = λ slot. let e = version_same slot in let l = st.containers.versions slot in omega arith;
+    versions = λ slot. let e = version_same slot in let l = st.knows.containers.versions slot in omega arith;
   }
 
   -- LIVE WORDS
@@ -350,7 +352,7 @@ module _ (p : Planner) (g : Setting) (begun : ScriptState) (n : ℕ) (s : Script
       let f : if_below s.made (cap + 1) ≡ cap + 1 = ap (λ b. if b then cap + 1 else 0) yes in
       omega arith
 
-  old_len : (place_of p.store it.slot.0).span.len ≡ old + 1
+  old_len : (place_of p.world.store it.slot.0).span.len ≡ old + 1
   old_len = ap (λ (z : Span). z.len) (k.span live) ∙ ap words_of is
 
   live_words_stand : live_words_of store ≡ live_words w
@@ -358,11 +360,11 @@ module _ (p : Planner) (g : Setting) (begun : ScriptState) (n : ℕ) (s : Script
 
   -- NAMES, KERNELS AND NUMBERS
 
-  names_stand : AreNames p.values.items p.handles.items (length containers.items) w
+  names_stand : AreNames p.world.values.items p.world.handles.items (length containers.items) w
   names_stand = record {
-    are = st.names.are;
-    there = λ m v h. subst (λ l. IsThere l (length p.handles.items) v) (sym containers_long) (st.names.there m v h);
-    apart = st.names.apart;
+    are = st.knows.names.are;
+    there = λ m v h. subst (λ l. IsThere l (length p.world.handles.items) v) (sym containers_long) (st.knows.names.there m v h);
+    apart = st.knows.names.apart;
   }
 
   copy_kept : (j place : ℕ) → IsCopy p g j place → IsCopy q g j place
@@ -405,7 +407,7 @@ module _ (p : Planner) (g : Setting) (begun : ScriptState) (n : ℕ) (s : Script
         created_few = (let l = made.small in let e = made.created_is in let f = k.created in omega arith);
         peak_low = (let l = k.peak_low in let e = rg.peak in let b = rg.low in omega arith);
         slots_few = (let l = k.slots_few in let e = rg.used in omega arith);
-        ops_few = (let l = k.ops_few in let e = ap length made.ops_are ∙ one_more p.plan.ops.items
+        ops_few = (let l = k.ops_few in let e = ap length made.ops_are ∙ one_more p.draft.ops.items
             (record { line = line; name = name; act = Move (record { start = made.at.start; len = made.at.cap + 1 }) span }) in omega arith);
         segments_few = (let l = k.segments_few in omega arith);
         literals_few = (let l = k.literals_few in omega arith);
@@ -437,20 +439,20 @@ module _ (p : Planner) (g : Setting) (begun : ScriptState) (n : ℕ) (s : Script
   planned : refusal g s (SetCapacity name cap) ≡ None → (x : Outline) → Agrees q g begun found' x → IsPlanned x w (draft_of q)
   planned none x a =
       let b = agrees_back x a in
-      let start : x.starts s.takes ≡ span.start = a.starts s.takes (let e = one_more found span.start in let k = st.takes in omega arith)
-      ∙ get_new found span.start s.takes (sym st.takes) in
+      let start : x.starts s.takes ≡ span.start = a.starts s.takes (let e = one_more found span.start in let k = st.knows.takes in omega arith)
+      ∙ get_new found span.start s.takes (sym st.knows.takes) in
       let was : x.starts (s.range (container_at s name)) ≡ get_or found (s.range c) 0 = ap (λ d. x.starts (s.range d)) c_is
-      ∙ b.starts (s.range c) (let r = k.range in let l = st.takes in omega arith) in
-      let alike : is_live_word p.store ≡ ranges.is_live_word x.starts s = (λ i v. live_words_are_alike p g begun n s found x.starts st b.starts v i) in
+      ∙ b.starts (s.range c) (let r = k.range in let l = st.knows.takes in omega arith) in
+      let alike : is_live_word p.world.store ≡ ranges.is_live_word x.starts s = (λ i v. live_words_are_alike p g begun n s found x.starts st b.starts v i) in
       let shown : name < length x.plan.names.items = (let e = ap length b.names in let l = long (λ v. string_bytes v) x.plan.names.items in omega arith) in
       let from : span_at made.at.start (made.at.cap + 1) ≡ span_at (x.starts (s.range (container_at s name))) (old + 1) =
       (let e = list_at in let f = sym was in λ i. span_at ((ap (λ (z : ListAt). z.start) e ∙ f) i) ((ap (λ (z : ListAt). z.cap) e) i + 1)) in
       let to : span ≡ span_at (x.starts s.takes) (cap + 1) = (let e = sym start in let l = rg.len_is in λ i. span_at (e i) (l i)) in
       subst (λ z. IsPlanned x z (draft_of q)) (capacity_is g line s name cap old xs (ap s.contents c_is ∙ is) le ∙ ap (λ d. with_capacity s d cap xs) c_is)
-      (moves_are_planned x g s line name cap old xs (draft_of p) (draft_of q) b.small st.known (st.planned x b) none
+      (moves_are_planned x g s line name cap old xs (draft_of p) (draft_of q) b.small st.knows.known (st.planned x b) none
       (subst (λ d. d < s.made) (sym c_is) c_below)
       (ap s.contents c_is ∙ is)
-      (subst (λ f. IsFirstFit f (cap + 1) (x.starts s.takes)) alike (subst (IsFirstFit (is_live_word p.store) (cap + 1)) (sym start) rg.fit))
+      (subst (λ f. IsFirstFit f (cap + 1) (x.starts s.takes)) alike (subst (IsFirstFit (is_live_word p.world.store) (cap + 1)) (sym start) rg.fit))
       (let l = a.cells in let e = rg.peak in omega arith)
       shown
       (record {
@@ -458,28 +460,30 @@ module _ (p : Planner) (g : Setting) (begun : ScriptState) (n : ℕ) (s : Script
         jobs = refl;
         waits = refl;
         ops = made.ops_are
-            ∙ (λ i. p.plan.ops.items ++ record { line = line; name = name; act = Move (from i) (to i) } ∷ []);
+            ∙ (λ i. p.draft.ops.items ++ record { line = line; name = name; act = Move (from i) (to i) } ∷ []);
       }))
 
   pub regrown_stands : refusal g s (SetCapacity name cap) ≡ None → Stands q g begun (suc n) w found'
   regrown_stands none = record {
-    known = record { book = st.known.book; handles = st.known.handles; uses = st.known.uses };
-    numbers = numbers_stand;
-    names = names_stand;
-    each = st.each;
-    containers = containers_stand;
-    takes = (let e = one_more found span.start in let k = st.takes in omega arith);
-    temps = record { all = st.temps.all; each = st.temps.each };
-    tempjobs = record {
-      all = st.tempjobs.all;
-      each = st.tempjobs.each;
-      rising = st.tempjobs.rising;
-      within = st.tempjobs.within;
-      past = st.tempjobs.past;
-      ahead = st.tempjobs.ahead;
+    knows = record {
+      known = record { book = st.knows.known.book; handles = st.knows.known.handles; uses = st.knows.known.uses };
+      names = names_stand;
+      each = st.knows.each;
+      containers = containers_stand;
+      takes = (let e = one_more found span.start in let k = st.knows.takes in omega arith);
+      temps = record { all = st.knows.temps.all; each = st.knows.temps.each };
+      tempjobs = record {
+        all = st.knows.tempjobs.all;
+        each = st.knows.tempjobs.each;
+        rising = st.knows.tempjobs.rising;
+        within = st.knows.tempjobs.within;
+        past = st.knows.tempjobs.past;
+        ahead = st.knows.tempjobs.ahead;
+      };
+      frames = record { order = st.knows.frames.order; past = st.knows.frames.past };
+      jobs = st.knows.jobs;
     };
-    frames = record { order = st.frames.order; past = st.frames.past };
-    jobs = st.jobs;
+    numbers = numbers_stand;
     kernels = kernels_stand;
     planned = planned none;
   }

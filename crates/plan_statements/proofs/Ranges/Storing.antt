@@ -44,31 +44,31 @@ below_word starts s (suc n) w e = by (is_live s n && ranges.has_word starts s n 
 module _ (p : Planner) (g : Setting) (begun : ScriptState) (n : ℕ) (s : ScriptState) (found : List ℕ) (starts : Starts)
     (st : Stands p g begun n s found) (same : StartAs starts found) where
   -- the words of a live container, by its slot
-  words_alike : (c : ℕ) (it : Container) → slice_get p.containers.items c ≡ Some it → is_live s c ≡ true → (w : ℕ)
-      → spaces.has_word (place_of p.store it.slot.0).span w ≡ ranges.has_word starts s c w
+  words_alike : (c : ℕ) (it : Container) → slice_get p.world.containers.items c ≡ Some it → is_live s c ≡ true → (w : ℕ)
+      → spaces.has_word (place_of p.world.store it.slot.0).span w ≡ ranges.has_word starts s c w
   words_alike c it has live w =
-      let k = st.containers.each c it has in
+      let k = st.knows.containers.each c it has in
       ap (λ (span : Span). spaces.has_word span w) (k.span live)
-      ∙ ap (λ n. nat_le n w && nat_lt w (n + words_of (s.contents c))) (sym (same (s.range c) (let lt = k.range in let t = st.takes in omega arith)))
+      ∙ ap (λ n. nat_le n w && nat_lt w (n + words_of (s.contents c))) (sym (same (s.range c) (let lt = k.range in let t = st.knows.takes in omega arith)))
 
-  alike : (w : ℕ) → is_live_word p.store w ≡ ranges.is_live_word starts s w
-  alike w = same_bool (is_live_word p.store w) (ranges.is_live_word starts s w) forth back
+  alike : (w : ℕ) → is_live_word p.world.store w ≡ ranges.is_live_word starts s w
+  alike w = same_bool (is_live_word p.world.store w) (ranges.is_live_word starts s w) forth back
     where
-      forth : is_live_word p.store w ≡ true → ranges.is_live_word starts s w ≡ true
+      forth : is_live_word p.world.store w ≡ true → ranges.is_live_word starts s w ≡ true
       forth e =
-          let at = at_live p.store.places.items w e in
-          let b = and_both (in_use (place_of p.store at.0).state) (spaces.has_word (place_of p.store at.0).span w) at.1 in
-          let o = st.containers.slots at.0 b.0 in
+          let at = at_live p.world.store.places.items w e in
+          let b = and_both (in_use (place_of p.world.store at.0).state) (spaces.has_word (place_of p.world.store at.0).span w) at.1 in
+          let o = st.knows.containers.slots at.0 b.0 in
           word_is_live starts s s.made o.container w (live_below s o.container o.live) o.live
-          (sym (words_alike o.container o.it o.has o.live w) ∙ ap (λ k. spaces.has_word (place_of p.store k).span w) o.slot_is ∙ b.1)
+          (sym (words_alike o.container o.it o.has o.live w) ∙ ap (λ k. spaces.has_word (place_of p.world.store k).span w) o.slot_is ∙ b.1)
 
-      back : ranges.is_live_word starts s w ≡ true → is_live_word p.store w ≡ true
+      back : ranges.is_live_word starts s w ≡ true → is_live_word p.world.store w ≡ true
       back e =
           let c = below_word starts s s.made w e in
-          let it = there p.containers.items c.0 (let lt = live_below s c.0 c.1 in let m = st.containers.made in omega arith) in
-          let used = (st.containers.each c.0 it.0 it.1).in_use c.1 in
-          live_at p.store.places.items it.0.slot.0 w (λ i. used i && (words_alike c.0 it.0 it.1 c.1 w ∙ c.2) i)
+          let it = there p.world.containers.items c.0 (let lt = live_below s c.0 c.1 in let m = st.knows.containers.made in omega arith) in
+          let used = (st.knows.containers.each c.0 it.0 it.1).in_use c.1 in
+          live_at p.world.store.places.items it.0.slot.0 w (λ i. used i && (words_alike c.0 it.0 it.1 c.1 w ∙ c.2) i)
 
 pub live_words_are_alike : (p : Planner) (g : Setting) (begun : ScriptState) (n : ℕ) (s : ScriptState) (found : List ℕ) (starts : Starts)
-    → Stands p g begun n s found → StartAs starts found → (w : ℕ) → is_live_word p.store w ≡ ranges.is_live_word starts s w
+    → Stands p g begun n s found → StartAs starts found → (w : ℕ) → is_live_word p.world.store w ≡ ranges.is_live_word starts s w
 live_words_are_alike p g begun n s found starts st same w = alike p g begun n s found starts st same w

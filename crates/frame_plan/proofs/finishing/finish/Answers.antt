@@ -17,7 +17,7 @@ pub overflow_cast-len : goal.overflow_cast-len
 overflow_cast-len c =
     let r = c.requires in
     let few = jobs_few r.0 r.1 c.args.planner.now r.2 r.3 r.4 r.5 r.7 r.6 in
-    let len = c.args.planner.now.plan.jobs.ok.0 in
+    let len = c.args.planner.now.draft.jobs.ok.0 in
     let e = c.len.ensures in
     omega arith
 
@@ -25,26 +25,26 @@ pub overflow_mul-result : goal.overflow_mul-result
 overflow_mul-result c =
     let r = c.requires in
     let few = pieces_small r.0 r.1 c.args.planner.now r.2 r.3 r.4 r.5 r.7 r.6 in
-    let is : c.replace-kernels.result.pieces ≡ c.args.planner.now.plan.pieces = ap (λ (w : Draft). w.pieces) c.replace-kernels.ensures.value in
+    let is : c.replace-kernels.result.pieces ≡ c.args.planner.now.draft.pieces = ap (λ (w : Draft). w.pieces) c.replace-kernels.ensures.value in
     omega arith
 
 pub overflow_add-result : goal.overflow_add-result
 overflow_add-result c =
     let r = c.requires in
     let few = pieces_small r.0 r.1 c.args.planner.now r.2 r.3 r.4 r.5 r.7 r.6 in
-    let less : peak_of c.args.planner.now.store ≤ 8388608 = cells_small r.0 r.1 c.args.planner.now r.2 r.3 r.4 r.5 r.7 r.6 in
-    let is : c.replace-kernels.result.pieces ≡ c.args.planner.now.plan.pieces = ap (λ (w : Draft). w.pieces) c.replace-kernels.ensures.value in
-    let cells : c.peak-cells.result ≡ peak_of c.args.planner.now.store = c.peak-cells.ensures in
+    let less : peak_of c.args.planner.now.world.store ≤ 8388608 = cells_small r.0 r.1 c.args.planner.now r.2 r.3 r.4 r.5 r.7 r.6 in
+    let is : c.replace-kernels.result.pieces ≡ c.args.planner.now.draft.pieces = ap (λ (w : Draft). w.pieces) c.replace-kernels.ensures.value in
+    let cells : c.peak-cells.result ≡ peak_of c.args.planner.now.world.store = c.peak-cells.ensures in
     omega arith
 
 pub returns-clause-plan : goal.returns-clause-plan
 returns-clause-plan c script accepted names =
     let p = c.args.planner.now in
-    let v : c.replace-kernels.result ≡ p.plan = c.replace-kernels.ensures.value in
+    let v : c.replace-kernels.result ≡ p.draft = c.replace-kernels.ensures.value in
     let last : Segment = record { waits = c.replace-kernels.result.waits; ops = c.replace-kernels.result.ops; starts = None } in
     let final : Segment = record { waits = c.in_ok-all.all; ops = c.new.result; starts = None } in
-    let count : c.len.result ≡ length p.plan.jobs.items = (let len = p.plan.jobs.ok.0 in let e = c.len.ensures in omega arith) in
-    let all : c.in_ok-all.all.items ≡ first_jobs (length p.plan.jobs.items) = c.in_ok-all.ensures ∙ ap first_jobs count in
+    let count : c.len.result ≡ length p.draft.jobs.items = (let len = p.draft.jobs.ok.0 in let e = c.len.ensures in omega arith) in
+    let all : c.in_ok-all.all.items ≡ first_jobs (length p.draft.jobs.items) = c.in_ok-all.ensures ∙ ap first_jobs count in
     let segments = c.in_ok-push-2.ensures.items ∙ ap (λ l. l ++ final ∷ [])
     (c.in_ok-push.ensures.items ∙ ap (λ (w : Draft). w.segments.items ++ last ∷ []) v) in
     record {
@@ -52,11 +52,11 @@ returns-clause-plan c script accepted names =
       kernels = ap (λ (w : Draft). w.kernels.items) v;
       codes = ap (λ (w : Draft). w.codes.items) v;
       jobs = ap (λ (w : Draft). w.jobs.items) v;
-      spans = given_finished p.plan.segments.items _ last final p.plan.ops.items segments (ap (λ (w : Draft). w.ops.items) v) c.new.ensures.items;
-      waits = waits_finished p.plan.segments.items _ last final p.plan.waits.items segments (ap (λ (w : Draft). w.waits.items) v)
+      spans = given_finished p.draft.segments.items _ last final p.draft.ops.items segments (ap (λ (w : Draft). w.ops.items) v) c.new.ensures.items;
+      waits = waits_finished p.draft.segments.items _ last final p.draft.waits.items segments (ap (λ (w : Draft). w.waits.items) v)
           ∙ ap (λ ids. waits_by p ++ unless_none ids) all;
       segments_later = last ∷ final ∷ [];
-      segments = segments ∙ append_assoc p.plan.segments.items (last ∷ []) (final ∷ []);
+      segments = segments ∙ append_assoc p.draft.segments.items (last ∷ []) (final ∷ []);
       done = λ table begun n found inside st.
           is_done script table p begun n found st accepted inside _ last final
           names
@@ -70,8 +70,8 @@ returns-clause-plan c script accepted names =
           (ap (λ (w : Draft). w.waits.items) v)
           (ap (λ (w : Draft). w.ops.items) v)
           refl
-          (subst (AreJobsUpTo (length p.plan.jobs.items)) (sym all) (rising_up_to (λ j. true) (length p.plan.jobs.items)))
-          (λ j pos le. ap (λ ids. has_job ids j) all ∙ has_set (λ j. true) (length p.plan.jobs.items) j pos le)
+          (subst (AreJobsUpTo (length p.draft.jobs.items)) (sym all) (rising_up_to (λ j. true) (length p.draft.jobs.items)))
+          (λ j pos le. ap (λ ids. has_job ids j) all ∙ has_set (λ j. true) (length p.draft.jobs.items) j pos le)
           c.new.ensures.items
           refl;
       within = λ table begun n found inside st.

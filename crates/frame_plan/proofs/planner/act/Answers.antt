@@ -3,7 +3,7 @@ use Rattle.std.proofs.lemmas.Int.{ints}
 use Rattle.frame_ast.specs.declared.script.Order.TheVariants as order
 use Rattle.plan_statements.specs.Tables.{columns_of}
 use Rattle.plan_schedules.proofs.Forms.{without_list, with_list}
-use Rattle.frame_plan.proofs.Acting.{before, ready, passed, passed_in, passed_with, fails, fails_in, fails_with, if_err}
+use Rattle.frame_plan.proofs.Acting.{before, ready, sees, taken, passed, passed_in, passed_with, fails, fails_in, fails_with, if_err}
 use Rattle.plan_state.proofs.Binding.{on_ok}
 use Rattle.frame_plan.proofs.planner.act.Goals as goal
 
@@ -105,46 +105,49 @@ pub returns-in-SetCapacity-clause-fails : goal.returns-in-SetCapacity-clause-fai
 returns-in-SetCapacity-clause-fails c = if_err c.set_capacity.result (fails c.args.script.now
     (columns_of c.args.table.now) c.args.planner.now c.args.statement.now c.requires.at c.requires.acts _ c.in-SetCapacity.is) c.set_capacity.ensures.fails
 
-pub slice-requires : goal.slice-requires
-slice-requires c = record {
-  ready = ready c.args.script.now (columns_of c.args.table.now) c.args.planner.now c.args.statement.now c.requires.at c.requires.acts _
+pub slice-answer-requires : goal.slice-answer-requires
+slice-answer-requires c = record {
+  ready = sees c.args.script.now (columns_of c.args.table.now) c.args.planner.now c.args.statement.now c.requires.at c.requires.acts _
       c.in-Slice.is;
 }
 
-pub returns-in_ok-slice-in-Slice-clause-passed : goal.returns-in_ok-slice-in-Slice-clause-passed
-returns-in_ok-slice-in-Slice-clause-passed c = passed c.args.script.now (columns_of c.args.table.now) c.args.planner.now c.args.statement.now c.requires.at
-    c.requires.acts _ c.in-Slice.is c.slice.new.planner c.in_ok-slice-in-Slice.ensures.goes_on
+pub returns-in_ok-take-in-Slice-clause-passed : goal.returns-in_ok-take-in-Slice-clause-passed
+returns-in_ok-take-in-Slice-clause-passed c = taken c.args.script.now (columns_of c.args.table.now) c.args.planner.now c.args.statement.now c.requires.at
+    c.requires.acts _ c.in-Slice.is c.slice-answer.new.world c.take.new.self c.slice-answer.result c.slice-answer.ensures.answers c.in_ok-take-in-Slice.ensures
 
-pub view-requires : goal.view-requires
-view-requires c = record {
-  ready = ready c.args.script.now (columns_of c.args.table.now) c.args.planner.now c.args.statement.now c.requires.at c.requires.acts _
+pub view-answer-requires : goal.view-answer-requires
+view-answer-requires c = record {
+  ready = sees c.args.script.now (columns_of c.args.table.now) c.args.planner.now c.args.statement.now c.requires.at c.requires.acts _
       c.in-View.is;
 }
 
-pub returns-in_ok-view-in-View-clause-passed : goal.returns-in_ok-view-in-View-clause-passed
-returns-in_ok-view-in-View-clause-passed c = passed c.args.script.now (columns_of c.args.table.now) c.args.planner.now c.args.statement.now c.requires.at
-    c.requires.acts _ c.in-View.is c.view.new.planner c.in_ok-view-in-View.ensures.goes_on
+pub returns-in_ok-take-in-View-clause-passed : goal.returns-in_ok-take-in-View-clause-passed
+returns-in_ok-take-in-View-clause-passed c = taken c.args.script.now (columns_of c.args.table.now) c.args.planner.now c.args.statement.now c.requires.at
+    c.requires.acts _ c.in-View.is c.view-answer.new.world c.take-in-View.new.self c.view-answer.result c.view-answer.ensures.answers
+    c.in_ok-take-in-View.ensures
 
-pub clear-requires : goal.clear-requires
-clear-requires c = record {
-  ready = ready c.args.script.now (columns_of c.args.table.now) c.args.planner.now c.args.statement.now c.requires.at c.requires.acts _
+pub clear-answer-requires : goal.clear-answer-requires
+clear-answer-requires c = record {
+  ready = sees c.args.script.now (columns_of c.args.table.now) c.args.planner.now c.args.statement.now c.requires.at c.requires.acts _
       c.in-Clear.is;
 }
 
-pub returns-in_ok-clear-in-Clear-clause-passed : goal.returns-in_ok-clear-in-Clear-clause-passed
-returns-in_ok-clear-in-Clear-clause-passed c = passed c.args.script.now (columns_of c.args.table.now) c.args.planner.now c.args.statement.now c.requires.at
-    c.requires.acts _ c.in-Clear.is c.clear.new.planner c.in_ok-clear-in-Clear.ensures.goes_on
+pub returns-in_ok-take-in-Clear-clause-passed : goal.returns-in_ok-take-in-Clear-clause-passed
+returns-in_ok-take-in-Clear-clause-passed c = taken c.args.script.now (columns_of c.args.table.now) c.args.planner.now c.args.statement.now c.requires.at
+    c.requires.acts _ c.in-Clear.is c.clear-answer.new.world c.take-in-Clear.new.self c.clear-answer.result c.clear-answer.ensures.answers
+    c.in_ok-take-in-Clear.ensures
 
 pub combine-requires : goal.combine-requires
 combine-requires c = record {
-  ready = ready c.args.script.now (columns_of c.args.table.now) c.args.planner.now c.args.statement.now c.requires.at c.requires.acts _
+  ready = sees c.args.script.now (columns_of c.args.table.now) c.args.planner.now c.args.statement.now c.requires.at c.requires.acts _
       c.in-Combine.is;
 }
 
-pub returns-in_ok-combine-in-Combine-clause-passed : goal.returns-in_ok-combine-in-Combine-clause-passed
-returns-in_ok-combine-in-Combine-clause-passed c = passed c.args.script.now
-    (columns_of c.args.table.now) c.args.planner.now c.args.statement.now c.requires.at c.requires.acts _ c.in-Combine.is c.combine.new.planner
-    c.in_ok-combine-in-Combine.ensures.goes_on
+pub returns-in_ok-take-in-Combine-clause-passed : goal.returns-in_ok-take-in-Combine-clause-passed
+returns-in_ok-take-in-Combine-clause-passed c = taken c.args.script.now
+    (columns_of c.args.table.now) c.args.planner.now c.args.statement.now c.requires.at c.requires.acts _ c.in-Combine.is c.combine.new.world
+    c.take-in-Combine.new.self
+    c.in_ok-answer-in-Combine.answer c.in_ok-answer-in-Combine.ensures.answers c.in_ok-take-in-Combine.ensures
 
 pub complete-requires : goal.complete-requires
 complete-requires c = record {
@@ -173,24 +176,25 @@ returns-in_ok-complete_auto-in-CompleteAuto-clause-passed c = passed c.args.scri
 
 pub dispose_auto-requires : goal.dispose_auto-requires
 dispose_auto-requires c = record {
-  ready = ready c.args.script.now (columns_of c.args.table.now) c.args.planner.now c.args.statement.now c.requires.at
+  ready = sees c.args.script.now (columns_of c.args.table.now) c.args.planner.now c.args.statement.now c.requires.at
       c.requires.acts _ c.in-DisposeAuto.is;
 }
 
-pub returns-in_ok-dispose_auto-in-DisposeAuto-clause-passed : goal.returns-in_ok-dispose_auto-in-DisposeAuto-clause-passed
-returns-in_ok-dispose_auto-in-DisposeAuto-clause-passed c = passed c.args.script.now
-    (columns_of c.args.table.now) c.args.planner.now c.args.statement.now c.requires.at c.requires.acts _ c.in-DisposeAuto.is c.dispose_auto.new.planner
-    c.in_ok-dispose_auto-in-DisposeAuto.ensures.goes_on
+pub returns-in_ok-take-in-DisposeAuto-clause-passed : goal.returns-in_ok-take-in-DisposeAuto-clause-passed
+returns-in_ok-take-in-DisposeAuto-clause-passed c = taken c.args.script.now
+    (columns_of c.args.table.now) c.args.planner.now c.args.statement.now c.requires.at c.requires.acts _ c.in-DisposeAuto.is c.dispose_auto.new.world
+    c.take-in-DisposeAuto.new.self c.in_ok-answer-in-DisposeAuto.answer c.in_ok-answer-in-DisposeAuto.ensures.answers c.in_ok-take-in-DisposeAuto.ensures
 
-pub print-requires : goal.print-requires
-print-requires c = record {
-  ready = ready c.args.script.now (columns_of c.args.table.now) c.args.planner.now c.args.statement.now c.requires.at c.requires.acts _
+pub print-answer-requires : goal.print-answer-requires
+print-answer-requires c = record {
+  ready = sees c.args.script.now (columns_of c.args.table.now) c.args.planner.now c.args.statement.now c.requires.at c.requires.acts _
       c.in-Print.is;
 }
 
-pub returns-in_ok-print-in-Print-clause-passed : goal.returns-in_ok-print-in-Print-clause-passed
-returns-in_ok-print-in-Print-clause-passed c = passed c.args.script.now (columns_of c.args.table.now) c.args.planner.now c.args.statement.now c.requires.at
-    c.requires.acts _ c.in-Print.is c.print.new.planner c.in_ok-print-in-Print.ensures.goes_on
+pub returns-in_ok-take-in-Print-clause-passed : goal.returns-in_ok-take-in-Print-clause-passed
+returns-in_ok-take-in-Print-clause-passed c = taken c.args.script.now (columns_of c.args.table.now) c.args.planner.now c.args.statement.now c.requires.at
+    c.requires.acts _ c.in-Print.is c.args.planner.now.world c.take-in-Print.new.self c.print-answer.result c.print-answer.ensures.answers
+    c.in_ok-take-in-Print.ensures
 
 pub frame-requires : goal.frame-requires
 frame-requires c = record {
@@ -202,112 +206,117 @@ pub returns-in_ok-frame-in-Frame-clause-passed : goal.returns-in_ok-frame-in-Fra
 returns-in_ok-frame-in-Frame-clause-passed c = passed c.args.script.now (columns_of c.args.table.now) c.args.planner.now c.args.statement.now c.requires.at
     c.requires.acts _ c.in-Frame.is c.frame.new.planner c.in_ok-frame-in-Frame.ensures.goes_on
 
-pub set-requires : goal.set-requires
-set-requires c =
+pub set-answer-requires : goal.set-answer-requires
+set-answer-requires c =
     let value : to_z w64 (of_z w64 c.in-Set.value) ≡ c.in-Set.value = omega (arith, ints) in
     record {
-      ready = ready c.args.script.now (columns_of c.args.table.now) c.args.planner.now c.args.statement.now c.requires.at c.requires.acts _
+      ready = sees c.args.script.now (columns_of c.args.table.now) c.args.planner.now c.args.statement.now c.requires.at c.requires.acts _
           (c.in-Set.is ∙ (λ i. order.Set c.in-Set.name c.in-Set.at (sym value i)));
     }
 
-pub returns-in_ok-set-in-Set-clause-passed : goal.returns-in_ok-set-in-Set-clause-passed
-returns-in_ok-set-in-Set-clause-passed c =
+pub returns-in_ok-take-in-Set-clause-passed : goal.returns-in_ok-take-in-Set-clause-passed
+returns-in_ok-take-in-Set-clause-passed c =
     let value : to_z w64 (of_z w64 c.in-Set.value) ≡ c.in-Set.value = omega (arith, ints) in
-    passed c.args.script.now (columns_of c.args.table.now) c.args.planner.now c.args.statement.now c.requires.at c.requires.acts _
-    (c.in-Set.is ∙ (λ i. order.Set c.in-Set.name c.in-Set.at (sym value i))) c.set.new.planner c.in_ok-set-in-Set.ensures.goes_on
+    taken c.args.script.now (columns_of c.args.table.now) c.args.planner.now c.args.statement.now c.requires.at c.requires.acts _
+    (c.in-Set.is ∙ (λ i. order.Set c.in-Set.name c.in-Set.at (sym value i))) c.args.planner.now.world c.take-in-Set.new.self c.set-answer.result
+    c.set-answer.ensures.answers
+    c.in_ok-take-in-Set.ensures
 
-pub add-requires : goal.add-requires
-add-requires c =
+pub add-answer-requires : goal.add-answer-requires
+add-answer-requires c =
     let first : to_z w64 (of_z w64 c.in-Add.first) ≡ c.in-Add.first = omega (arith, ints) in
     record {
-      ready = ready c.args.script.now (columns_of c.args.table.now) c.args.planner.now c.args.statement.now c.requires.at c.requires.acts _
+      ready = sees c.args.script.now (columns_of c.args.table.now) c.args.planner.now c.args.statement.now c.requires.at c.requires.acts _
           (c.in-Add.is ∙ (λ i. order.Add c.in-Add.name (sym first i) c.in-Add.second));
     }
 
-pub returns-in_ok-add-in-Add-clause-passed : goal.returns-in_ok-add-in-Add-clause-passed
-returns-in_ok-add-in-Add-clause-passed c =
+pub returns-in_ok-take-in-Add-clause-passed : goal.returns-in_ok-take-in-Add-clause-passed
+returns-in_ok-take-in-Add-clause-passed c =
     let first : to_z w64 (of_z w64 c.in-Add.first) ≡ c.in-Add.first = omega (arith, ints) in
-    passed c.args.script.now (columns_of c.args.table.now) c.args.planner.now c.args.statement.now c.requires.at c.requires.acts _
-    (c.in-Add.is ∙ (λ i. order.Add c.in-Add.name (sym first i) c.in-Add.second)) c.add.new.planner c.in_ok-add-in-Add.ensures.goes_on
+    taken c.args.script.now (columns_of c.args.table.now) c.args.planner.now c.args.statement.now c.requires.at c.requires.acts _
+    (c.in-Add.is ∙ (λ i. order.Add c.in-Add.name (sym first i) c.in-Add.second)) c.add-answer.new.world c.take-in-Add.new.self c.add-answer.result
+    c.add-answer.ensures.answers
+    c.in_ok-take-in-Add.ensures
 
-pub put-requires : goal.put-requires
-put-requires c =
+pub put-answer-requires : goal.put-answer-requires
+put-answer-requires c =
     let key : to_z w64 (of_z w64 c.in-Put.key) ≡ c.in-Put.key = omega (arith, ints) in
     let value : to_z w64 (of_z w64 c.in-Put.value) ≡ c.in-Put.value = omega (arith, ints) in
     record {
-      ready = ready c.args.script.now (columns_of c.args.table.now) c.args.planner.now c.args.statement.now c.requires.at c.requires.acts _
+      ready = sees c.args.script.now (columns_of c.args.table.now) c.args.planner.now c.args.statement.now c.requires.at c.requires.acts _
           (c.in-Put.is ∙ (λ i. order.Put c.in-Put.name (sym key i) (sym value i)));
     }
 
-pub returns-in_ok-put-in-Put-clause-passed : goal.returns-in_ok-put-in-Put-clause-passed
-returns-in_ok-put-in-Put-clause-passed c =
+pub returns-in_ok-take-in-Put-clause-passed : goal.returns-in_ok-take-in-Put-clause-passed
+returns-in_ok-take-in-Put-clause-passed c =
     let key : to_z w64 (of_z w64 c.in-Put.key) ≡ c.in-Put.key = omega (arith, ints) in
     let value : to_z w64 (of_z w64 c.in-Put.value) ≡ c.in-Put.value = omega (arith, ints) in
-    passed c.args.script.now (columns_of c.args.table.now) c.args.planner.now c.args.statement.now c.requires.at c.requires.acts _
-    (c.in-Put.is ∙ (λ i. order.Put c.in-Put.name (sym key i) (sym value i))) c.put.new.planner c.in_ok-put-in-Put.ensures.goes_on
+    taken c.args.script.now (columns_of c.args.table.now) c.args.planner.now c.args.statement.now c.requires.at c.requires.acts _
+    (c.in-Put.is ∙ (λ i. order.Put c.in-Put.name (sym key i) (sym value i))) c.args.planner.now.world c.take-in-Put.new.self c.put-answer.result
+    c.put-answer.ensures.answers
+    c.in_ok-take-in-Put.ensures
 
-pub remove-requires : goal.remove-requires
-remove-requires c =
+pub remove-answer-requires : goal.remove-answer-requires
+remove-answer-requires c =
     let at : to_z w64 (of_z w64 c.in-Remove.at) ≡ c.in-Remove.at = omega (arith, ints) in
     record {
-      ready = ready c.args.script.now (columns_of c.args.table.now) c.args.planner.now c.args.statement.now c.requires.at c.requires.acts _
+      ready = sees c.args.script.now (columns_of c.args.table.now) c.args.planner.now c.args.statement.now c.requires.at c.requires.acts _
           (c.in-Remove.is ∙ (λ i. order.Remove c.in-Remove.name (sym at i)));
     }
 
-pub returns-in_ok-remove-in-Remove-clause-passed : goal.returns-in_ok-remove-in-Remove-clause-passed
-returns-in_ok-remove-in-Remove-clause-passed c =
+pub returns-in_ok-take-in-Remove-clause-passed : goal.returns-in_ok-take-in-Remove-clause-passed
+returns-in_ok-take-in-Remove-clause-passed c =
     let at : to_z w64 (of_z w64 c.in-Remove.at) ≡ c.in-Remove.at = omega (arith, ints) in
-    passed c.args.script.now (columns_of c.args.table.now) c.args.planner.now c.args.statement.now c.requires.at c.requires.acts _
-    (c.in-Remove.is ∙ (λ i. order.Remove c.in-Remove.name (sym at i))) c.remove.new.planner c.in_ok-remove-in-Remove.ensures.goes_on
+    taken c.args.script.now (columns_of c.args.table.now) c.args.planner.now c.args.statement.now c.requires.at c.requires.acts _
+    (c.in-Remove.is ∙ (λ i. order.Remove c.in-Remove.name (sym at i))) c.remove-answer.new.world c.take-in-Remove.new.self c.remove-answer.result
+    c.remove-answer.ensures.answers
+    c.in_ok-take-in-Remove.ensures
 
-pub copy-requires : goal.copy-requires
-copy-requires c = record {
-  ready = ready c.args.script.now (columns_of c.args.table.now) c.args.planner.now c.args.statement.now c.requires.at c.requires.acts _
+pub copy-answer-requires : goal.copy-answer-requires
+copy-answer-requires c = record {
+  ready = sees c.args.script.now (columns_of c.args.table.now) c.args.planner.now c.args.statement.now c.requires.at c.requires.acts _
       c.in-Copy.is;
 }
 
-pub returns-in-Copy-clause-passed : goal.returns-in-Copy-clause-passed
-returns-in-Copy-clause-passed c = passed c.args.script.now (columns_of c.args.table.now) c.args.planner.now c.args.statement.now c.requires.at c.requires.acts _
-    c.in-Copy.is c.copy.new.planner c.copy.ensures.goes_on
+pub returns-in_ok-take-in-Copy-clause-passed : goal.returns-in_ok-take-in-Copy-clause-passed
+returns-in_ok-take-in-Copy-clause-passed c = taken c.args.script.now
+    (columns_of c.args.table.now) c.args.planner.now c.args.statement.now c.requires.at c.requires.acts _
+    c.in-Copy.is c.copy-answer.new.world c.take-in-Copy.new.self c.copy-answer.result c.copy-answer.ensures.answers c.in_ok-take-in-Copy.ensures
 
-pub flush-requires : goal.flush-requires
-flush-requires c = record {
-  ready = ready c.args.script.now (columns_of c.args.table.now) c.args.planner.now c.args.statement.now c.requires.at c.requires.acts _
-      c.in-Flush.is;
-}
-
-pub returns-in-Flush-clause-passed : goal.returns-in-Flush-clause-passed
-returns-in-Flush-clause-passed c = passed c.args.script.now (columns_of c.args.table.now) c.args.planner.now c.args.statement.now c.requires.at c.requires.acts
+pub returns-in_ok-take-in-Flush-clause-passed : goal.returns-in_ok-take-in-Flush-clause-passed
+returns-in_ok-take-in-Flush-clause-passed c = taken c.args.script.now
+    (columns_of c.args.table.now) c.args.planner.now c.args.statement.now c.requires.at c.requires.acts
     _
-    c.in-Flush.is c.args.planner.now c.flush.ensures.goes_on
+    c.in-Flush.is c.args.planner.now.world c.take-in-Flush.new.self c.flush-answer.result c.flush-answer.ensures.answers c.in_ok-take-in-Flush.ensures
 
-pub dispose-requires : goal.dispose-requires
-dispose-requires c = record {
+pub dispose-answer-requires : goal.dispose-answer-requires
+dispose-answer-requires c = record {
   ready = (
     c.in-Dispose.after,
-    ready c.args.script.now
-        (columns_of c.args.table.now) c.args.planner.now c.args.statement.now c.requires.at c.requires.acts _
+    sees c.args.script.now (columns_of c.args.table.now) c.args.planner.now c.args.statement.now c.requires.at c.requires.acts _
         (c.in-Dispose.is ∙ ap (λ h. order.Dispose c.in-Dispose.name c.in-Dispose.after h) c.in-None-handle.is),
   );
 }
 
-pub returns-in_ok-dispose-in-None-handle-clause-passed : goal.returns-in_ok-dispose-in-None-handle-clause-passed
-returns-in_ok-dispose-in-None-handle-clause-passed c = passed c.args.script.now
+pub returns-in_ok-take-in-None-handle-clause-passed : goal.returns-in_ok-take-in-None-handle-clause-passed
+returns-in_ok-take-in-None-handle-clause-passed c = taken c.args.script.now
     (columns_of c.args.table.now) c.args.planner.now c.args.statement.now c.requires.at c.requires.acts _
-    (c.in-Dispose.is ∙ ap (λ h. order.Dispose c.in-Dispose.name c.in-Dispose.after h) c.in-None-handle.is) c.dispose.new.planner
-    (c.in_ok-dispose-in-None-handle.ensures.goes_on c.in-Dispose.after)
+    (c.in-Dispose.is ∙ ap (λ h. order.Dispose c.in-Dispose.name c.in-Dispose.after h) c.in-None-handle.is) c.dispose-answer.new.world
+    c.take-in-None-handle.new.self
+    c.dispose-answer.result (c.dispose-answer.ensures.answers c.in-Dispose.after) c.in_ok-take-in-None-handle.ensures
 
 pub dispose_after-requires : goal.dispose_after-requires
 dispose_after-requires c = record {
-  ready = ready c.args.script.now (columns_of c.args.table.now) c.args.planner.now c.args.statement.now c.requires.at
-      c.requires.acts _ (c.in-Dispose.is ∙ ap (λ h. order.Dispose c.in-Dispose.name c.in-Dispose.after h) c.in-Some-handle.is);
+  ready = sees c.args.script.now (columns_of c.args.table.now) c.args.planner.now c.args.statement.now c.requires.at c.requires.acts _
+      (c.in-Dispose.is ∙ ap (λ h. order.Dispose c.in-Dispose.name c.in-Dispose.after h) c.in-Some-handle.is);
 }
 
-pub returns-in_ok-dispose_after-in-Some-handle-clause-passed : goal.returns-in_ok-dispose_after-in-Some-handle-clause-passed
-returns-in_ok-dispose_after-in-Some-handle-clause-passed c = passed c.args.script.now
+pub returns-in_ok-take-in-Some-handle-clause-passed : goal.returns-in_ok-take-in-Some-handle-clause-passed
+returns-in_ok-take-in-Some-handle-clause-passed c = taken c.args.script.now
     (columns_of c.args.table.now) c.args.planner.now c.args.statement.now c.requires.at c.requires.acts _
-    (c.in-Dispose.is ∙ ap (λ h. order.Dispose c.in-Dispose.name c.in-Dispose.after h) c.in-Some-handle.is) c.dispose_after.new.planner
-    c.in_ok-dispose_after-in-Some-handle.ensures.goes_on
+    (c.in-Dispose.is ∙ ap (λ h. order.Dispose c.in-Dispose.name c.in-Dispose.after h) c.in-Some-handle.is) c.dispose_after.new.world
+    c.take-in-Some-handle.new.self
+    c.in_ok-answer-in-Some-handle.answer c.in_ok-answer-in-Some-handle.ensures.answers c.in_ok-take-in-Some-handle.ensures
 
 pub schedule-requires : goal.schedule-requires
 schedule-requires c =

@@ -13,26 +13,27 @@ returns-clause-done c =
     let old = c.args.planner.now in
     let after = c.note_all.new.planner in
     let rest = c.note_all.ensures.rest in
-    let jobs = ap (λ (p : Planner). p.jobs) rest in
+    let jobs = ap (λ (p : Planner). p.world.jobs) rest in
     let number = c.in-Ok.ensures.number in
     record {
       after = after;
       jobs = λ b st. subst (λ k. StandsFor k (with_job b (jobs_of c.args.deps.now))) (sym jobs) (c.in-Ok.ensures.book b st);
-      safety = λ k. c.note_all.ensures.noted k ∙ ap (λ j. noted_all j c.args.uses.now (state_of old.safety) k) number;
-      rest = rest ∙ (λ i. record old { jobs = sym jobs i; safety = after.safety });
+      safety = λ k. c.note_all.ensures.noted k ∙ ap (λ j. noted_all j c.args.uses.now (state_of old.world.safety) k) number;
+      rest = rest ∙ (λ i. record old { world = record old.world { jobs = sym jobs i; safety = after.world.safety } });
       job = record {
         kernel = c.args.run.kernel;
         binds = c.args.run.binds;
         cut = c.args.run.cut;
         parallel = c.args.run.parallel;
         deps = c.in_ok-later.later;
-        first = record { 0 = after.plan.pieces };
+        first = record { 0 = after.draft.pieces };
       };
       runs = refl;
       later_are = c.in_ok-later.ensures;
       first = refl;
       ended = c.start.new.planner;
       started = c.in_ok-start.ensures;
-      named = subst (λ (j : Jobs). HasHandle c.start.new.planner c.set_handle.new.self c.args.handle j) (c.of.ensures ∙ ap only number)
+      named = subst (λ (j : Jobs). HasHandle c.start.new.planner.world c.set_handle.new.self c.args.handle j) (c.of.ensures ∙ ap only number)
           c.in_ok-set_handle.ensures;
+      at_last = refl;
     }

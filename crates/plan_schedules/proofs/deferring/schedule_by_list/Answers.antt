@@ -102,7 +102,7 @@ refuse_schedule-requires-clause-name c =
 pub add_job-requires-clause-handle : goal.add_job-requires-clause-handle
 add_job-requires-clause-handle c =
     let r = c.requires.ready in
-    subst (λ (k : Planner). c.args.job.now.handle < vec_len k.values)
+    subst (λ (k : Planner). c.args.job.now.handle < vec_len k.world.values)
     (sym (moved c.args.script.now c.args.planner.now c.guarded_run.new.planner c.args.job.now.kernel c.in_ok-run.run'.kernel c.in_ok-run.ensures.guarded))
     (ready.handle_below c.args.script.now r.1.table r.1.begun r.1.n r.1.found c.args.line r.0 c.args.job.now c.args.list c.args.batch r.1.step
     c.args.planner.now
@@ -117,14 +117,14 @@ refuse_schedule-requires-clause-few c =
 pub add_job-requires-clause-there : goal.add_job-requires-clause-there
 add_job-requires-clause-there c =
     let r = c.requires.ready in
-    subst (λ (k : Planner). AreThere (vec_len k.containers) (vec_len k.handles) k.values.items)
+    subst (λ (k : Planner). AreThere (vec_len k.world.containers) (vec_len k.world.handles) k.world.values.items)
     (sym (moved c.args.script.now c.args.planner.now c.guarded_run.new.planner c.args.job.now.kernel c.in_ok-run.run'.kernel c.in_ok-run.ensures.guarded))
     (are_there c.args.planner.now (setting c.args.script.now r.1.table) r.1.begun r.1.n (state_at c.args.script.now r.1.table r.1.n) r.1.found r.1.stands)
 
 pub add_job-requires-clause-handles : goal.add_job-requires-clause-handles
 add_job-requires-clause-handles c =
     let r = c.requires.ready in
-    subst (λ (k : Planner). vec_len k.handles < 2 ^ 32)
+    subst (λ (k : Planner). vec_len k.world.handles < 2 ^ 32)
     (sym (moved c.args.script.now c.args.planner.now c.guarded_run.new.planner c.args.job.now.kernel c.in_ok-run.run'.kernel c.in_ok-run.ensures.guarded))
     (ready.handles_few c.args.script.now r.1.table r.1.begun r.1.n r.1.found c.args.line r.0 c.args.job.now c.args.list c.args.batch r.1.step c.args.planner.now
     r.1.stands)
@@ -141,7 +141,7 @@ deps-requires-clause-noted c =
     ∙ ap (λ us. deferred_refusal us c.length_use-length.result c.index-2.result.now.parallel c.args.job.now.auto)
     c.deref-5.ensures.value in
     let all = c.deref-7.ensures.value ∙ c.in_ok-all.ensures ∙ ap (λ us. with_length us c.length_use-length.result) c.deref-4.ensures.value in
-    subst (λ us. AreUpTo (count_of c.args.planner.now.jobs) (conflicting_with c.args.planner.now.safety (tags_of us))) (sym all)
+    subst (λ us. AreUpTo (count_of c.args.planner.now.world.jobs) (conflicting_with c.args.planner.now.world.safety (tags_of us))) (sym all)
     (ready.conflicts_up c.args.script.now r.1.table r.1.begun r.1.n r.1.found c.args.line r.0 c.args.job.now c.args.list c.args.batch r.1.step
     c.args.planner.now
     r.1.stands c.jobs_of_all-named.result c.deref.result.now c.deref.ensures.value c.jobs_of_all-named.ensures c.index.result.now at c.deref-2.result.now
@@ -211,9 +211,9 @@ add_job-requires-clause-uses c =
     let unrefused = sym (no_cause c.deferred_refusal.result c.in_default.not-Some) ∙ c.deferred_refusal.ensures
     ∙ ap (λ us. deferred_refusal us c.length_use-length.result c.index-2.result.now.parallel c.args.job.now.auto)
     c.deref-5.ensures.value in
-    subst (λ (k : Planner). MayNoteAll c.deref-10.result.now (state_of k.safety))
+    subst (λ (k : Planner). MayNoteAll c.deref-10.result.now (state_of k.world.safety))
     (sym (moved c.args.script.now c.args.planner.now c.guarded_run.new.planner c.args.job.now.kernel c.in_ok-run.run'.kernel c.in_ok-run.ensures.guarded))
-    (subst (λ us. MayNoteAll us (state_of c.args.planner.now.safety)) (sym (c.deref-10.ensures.value ∙ c.noted_uses-noted.ensures))
+    (subst (λ us. MayNoteAll us (state_of c.args.planner.now.world.safety)) (sym (c.deref-10.ensures.value ∙ c.noted_uses-noted.ensures))
     (ready.may_note_all c.args.script.now r.1.table r.1.begun r.1.n r.1.found c.args.line r.0 c.args.job.now c.args.list c.args.batch r.1.step
     c.args.planner.now
     r.1.stands c.jobs_of_all-named.result c.deref.result.now c.deref.ensures.value c.jobs_of_all-named.ensures c.index.result.now at c.deref-2.result.now
@@ -232,9 +232,10 @@ add_job-requires-clause-deps c =
     ∙ ap (λ us. deferred_refusal us c.length_use-length.result c.index-2.result.now.parallel c.args.job.now.auto)
     c.deref-5.ensures.value in
     let all = c.deref-7.ensures.value ∙ c.in_ok-all.ensures ∙ ap (λ us. with_length us c.length_use-length.result) c.deref-4.ensures.value in
-    let waits = subst (λ us. AreDeps c.args.job.now.auto (jobs_of c.jobs_of_all-named.result) c.args.planner.now.jobs c.args.planner.now.safety (tags_of us)
+    let waits = subst (λ us. AreDeps c.args.job.now.auto (jobs_of c.jobs_of_all-named.result) c.args.planner.now.world.jobs c.args.planner.now.world.safety
+    (tags_of us)
     (jobs_of c.in_ok-deps.deps)) all c.in_ok-deps.ensures in
-    subst (λ (k : Planner). AreUpTo (count_of k.jobs) (jobs_of c.in_ok-deps.deps))
+    subst (λ (k : Planner). AreUpTo (count_of k.world.jobs) (jobs_of c.in_ok-deps.deps))
     (sym (moved c.args.script.now c.args.planner.now c.guarded_run.new.planner c.args.job.now.kernel c.in_ok-run.run'.kernel c.in_ok-run.ensures.guarded))
     (ready.deps_up c.args.script.now r.1.table r.1.begun r.1.n r.1.found c.args.line r.0 c.args.job.now c.args.list c.args.batch r.1.step c.args.planner.now
     r.1.stands c.jobs_of_all-named.result c.deref.result.now c.deref.ensures.value c.jobs_of_all-named.ensures c.index.result.now at c.deref-2.result.now
@@ -244,21 +245,21 @@ add_job-requires-clause-deps c =
 pub add_job-requires-clause-before : goal.add_job-requires-clause-before
 add_job-requires-clause-before c =
     let r = c.requires.ready in
-    subst (λ (k : Planner). k.jobs_before ≤ count_of k.jobs)
+    subst (λ (k : Planner). k.jobs_before ≤ count_of k.world.jobs)
     (sym (moved c.args.script.now c.args.planner.now c.guarded_run.new.planner c.args.job.now.kernel c.in_ok-run.run'.kernel c.in_ok-run.ensures.guarded))
     (rooms.jobs_after c.args.script.now r.1.table c.args.planner.now r.1.begun r.1.n (state_at c.args.script.now r.1.table r.1.n) r.1.found r.1.stands)
 
 pub add_job-requires-clause-room : goal.add_job-requires-clause-room
 add_job-requires-clause-room c =
     let r = c.requires.ready in
-    subst (λ (k : Planner). count_of k.jobs ≢ MOST_JOBS → vec_len k.plan.jobs < MOST_JOBS)
+    subst (λ (k : Planner). count_of k.world.jobs ≢ MOST_JOBS → vec_len k.draft.jobs < MOST_JOBS)
     (sym (moved c.args.script.now c.args.planner.now c.guarded_run.new.planner c.args.job.now.kernel c.in_ok-run.run'.kernel c.in_ok-run.ensures.guarded))
     (rooms.job_room c.args.script.now r.1.table c.args.planner.now r.1.begun r.1.n (state_at c.args.script.now r.1.table r.1.n) r.1.found r.1.stands)
 
 pub add_job-requires-clause-pieces : goal.add_job-requires-clause-pieces
 add_job-requires-clause-pieces c =
     let r = c.requires.ready in
-    subst (λ (k : Planner). k.plan.pieces ≤ MOST_PIECES * MOST_JOBS)
+    subst (λ (k : Planner). k.draft.pieces ≤ MOST_PIECES * MOST_JOBS)
     (sym (moved c.args.script.now c.args.planner.now c.guarded_run.new.planner c.args.job.now.kernel c.in_ok-run.run'.kernel c.in_ok-run.ensures.guarded))
     (rooms.few_pieces c.args.script.now r.1.table c.args.planner.now r.1.begun r.1.n (state_at c.args.script.now r.1.table r.1.n) r.1.found r.1.stands)
 
@@ -288,7 +289,8 @@ returns-clause-goes_on c = on_ok c.add_job.result (λ is home table begun n foun
     let unrefused = sym (no_cause c.deferred_refusal.result c.in_default.not-Some) ∙ c.deferred_refusal.ensures
     ∙ ap (λ us. deferred_refusal us c.length_use-length.result c.index-2.result.now.parallel c.args.job.now.auto) c.deref-5.ensures.value in
     let all = c.deref-7.ensures.value ∙ c.in_ok-all.ensures ∙ ap (λ us. with_length us c.length_use-length.result) c.deref-4.ensures.value in
-    let waits = subst (λ us. AreDeps c.args.job.now.auto (jobs_of c.jobs_of_all-named.result) c.args.planner.now.jobs c.args.planner.now.safety (tags_of us)
+    let waits = subst (λ us. AreDeps c.args.job.now.auto (jobs_of c.jobs_of_all-named.result) c.args.planner.now.world.jobs c.args.planner.now.world.safety
+    (tags_of us)
     (jobs_of c.in_ok-deps.deps)) all c.in_ok-deps.ensures in
     ready.accepted_on c.args.script.now table begun n found c.args.line home c.args.job.now c.args.list c.args.batch step c.args.planner.now st
     c.jobs_of_all-named.result c.deref.result.now c.deref.ensures.value c.jobs_of_all-named.ensures c.index.result.now at c.deref-2.result.now
@@ -310,6 +312,6 @@ returns-clause-fails c = if_err c.add_job.result (λ fault full home table begun
     c.jobs_of_all-named.result c.deref.result.now c.deref.ensures.value c.jobs_of_all-named.ensures c.index.result.now at c.deref-2.result.now
     c.deref-2.ensures.value c.deref-3.result.now c.deref-3.ensures.value c.in_ok-uses.uses.items c.in_ok-uses.ensures c.length_use-length.result
     c.length_use-length.ensures c.index-2.result.now.parallel same unrefused fault
-    (subst (λ (k : Planner). IsFull fault (count_of k.jobs))
+    (subst (λ (k : Planner). IsFull fault (count_of k.world.jobs))
     (moved c.args.script.now c.args.planner.now c.guarded_run.new.planner c.args.job.now.kernel c.in_ok-run.run'.kernel c.in_ok-run.ensures.guarded) full))
     c.add_job.ensures.full

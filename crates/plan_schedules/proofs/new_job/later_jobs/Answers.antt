@@ -50,7 +50,7 @@ pub returns : goal.returns
 returns c =
     let was = c.loop-job.invariant in
     let before = c.args.planner.now.jobs_before in
-    let count = count_of c.args.planner.now.jobs in
+    let count = count_of c.args.planner.now.world.jobs in
     let jobs = jobs_of c.args.jobs.now in
     let none = jobs_of c.empty-none.result in
     let same = c.count.ensures.count in

@@ -93,21 +93,21 @@ plain_run-requires-clause-checked c = c.requires.ready.1.step.accepted.kernels c
 pub add_job-requires-clause-handle : goal.add_job-requires-clause-handle
 add_job-requires-clause-handle c =
     let r = c.requires.ready in
-    subst (λ (k : Planner). c.args.job.now.handle < vec_len k.values)
+    subst (λ (k : Planner). c.args.job.now.handle < vec_len k.world.values)
     (sym (moved c.args.script.now c.args.planner.now c.plain_run.new.planner c.args.job.now.kernel c.in_ok-run.run'.kernel c.in_ok-run.ensures.copied))
     (ready.handle_below c.args.script.now c.args.planner.now c.args.line r.0 c.args.job.now r.1.table r.1.begun r.1.n r.1.found r.1.step r.1.stands)
 
 pub add_job-requires-clause-there : goal.add_job-requires-clause-there
 add_job-requires-clause-there c =
     let r = c.requires.ready in
-    subst (λ (k : Planner). AreThere (vec_len k.containers) (vec_len k.handles) k.values.items)
+    subst (λ (k : Planner). AreThere (vec_len k.world.containers) (vec_len k.world.handles) k.world.values.items)
     (sym (moved c.args.script.now c.args.planner.now c.plain_run.new.planner c.args.job.now.kernel c.in_ok-run.run'.kernel c.in_ok-run.ensures.copied))
     (are_there c.args.planner.now (setting c.args.script.now r.1.table) r.1.begun r.1.n (state_at c.args.script.now r.1.table r.1.n) r.1.found r.1.stands)
 
 pub add_job-requires-clause-handles : goal.add_job-requires-clause-handles
 add_job-requires-clause-handles c =
     let r = c.requires.ready in
-    subst (λ (k : Planner). vec_len k.handles < 2 ^ 32)
+    subst (λ (k : Planner). vec_len k.world.handles < 2 ^ 32)
     (sym (moved c.args.script.now c.args.planner.now c.plain_run.new.planner c.args.job.now.kernel c.in_ok-run.run'.kernel c.in_ok-run.ensures.copied))
     (ready.handles_low c.args.script.now c.args.planner.now c.args.line r.0 c.args.job.now r.1.table r.1.begun r.1.n r.1.found r.1.step r.1.stands)
 
@@ -119,21 +119,21 @@ plain_run-requires-clause-cut c =
 pub add_job-requires-clause-before : goal.add_job-requires-clause-before
 add_job-requires-clause-before c =
     let r = c.requires.ready in
-    subst (λ (k : Planner). k.jobs_before ≤ count_of k.jobs)
+    subst (λ (k : Planner). k.jobs_before ≤ count_of k.world.jobs)
     (sym (moved c.args.script.now c.args.planner.now c.plain_run.new.planner c.args.job.now.kernel c.in_ok-run.run'.kernel c.in_ok-run.ensures.copied))
     (ready.before_low c.args.script.now c.args.planner.now c.args.line r.0 c.args.job.now r.1.table r.1.begun r.1.n r.1.found r.1.step r.1.stands)
 
 pub add_job-requires-clause-room : goal.add_job-requires-clause-room
 add_job-requires-clause-room c =
     let r = c.requires.ready in
-    subst (λ (k : Planner). count_of k.jobs ≢ MOST_JOBS → vec_len k.plan.jobs < MOST_JOBS)
+    subst (λ (k : Planner). count_of k.world.jobs ≢ MOST_JOBS → vec_len k.draft.jobs < MOST_JOBS)
     (sym (moved c.args.script.now c.args.planner.now c.plain_run.new.planner c.args.job.now.kernel c.in_ok-run.run'.kernel c.in_ok-run.ensures.copied))
     (ready.room c.args.script.now c.args.planner.now c.args.line r.0 c.args.job.now r.1.table r.1.begun r.1.n r.1.found r.1.step r.1.stands)
 
 pub add_job-requires-clause-pieces : goal.add_job-requires-clause-pieces
 add_job-requires-clause-pieces c =
     let r = c.requires.ready in
-    subst (λ (k : Planner). k.plan.pieces ≤ MOST_PIECES * MOST_JOBS)
+    subst (λ (k : Planner). k.draft.pieces ≤ MOST_PIECES * MOST_JOBS)
     (sym (moved c.args.script.now c.args.planner.now c.plain_run.new.planner c.args.job.now.kernel c.in_ok-run.run'.kernel c.in_ok-run.ensures.copied))
     (ready.pieces_low c.args.script.now c.args.planner.now c.args.line r.0 c.args.job.now r.1.table r.1.begun r.1.n r.1.found r.1.step r.1.stands)
 
@@ -154,7 +154,7 @@ deps-requires-clause-noted c =
     (ready.kernel_below c.args.script.now c.args.planner.now c.args.line r.0 c.args.job.now r.1.table r.1.begun r.1.n r.1.found r.1.step r.1.stands)
     c.index-2.ensures) c.deref-4.result.now c.deref-4.ensures.value c.refusal_of.result c.refusal_of.ensures)
     ∙ ap as_refused (no_cause c.refusal_of.result c.in_default.not-Some) in
-    subst (λ us. AreUpTo (count_of c.args.planner.now.jobs) (conflicting_with c.args.planner.now.safety (tags_of us))) (sym c.deref-5.ensures.value)
+    subst (λ us. AreUpTo (count_of c.args.planner.now.world.jobs) (conflicting_with c.args.planner.now.world.safety (tags_of us))) (sym c.deref-5.ensures.value)
     (ready.noted_up c.args.script.now c.args.planner.now c.args.line r.0 c.args.job.now r.1.table r.1.begun r.1.n r.1.found r.1.step r.1.stands uses named
     named_are given none)
 
@@ -175,7 +175,7 @@ add_job-requires-clause-uses c =
     (ready.kernel_below c.args.script.now c.args.planner.now c.args.line r.0 c.args.job.now r.1.table r.1.begun r.1.n r.1.found r.1.step r.1.stands)
     c.index-2.ensures) c.deref-4.result.now c.deref-4.ensures.value c.refusal_of.result c.refusal_of.ensures)
     ∙ ap as_refused (no_cause c.refusal_of.result c.in_default.not-Some) in
-    subst (λ (k : Planner). MayNoteAll c.deref-8.result.now (state_of k.safety))
+    subst (λ (k : Planner). MayNoteAll c.deref-8.result.now (state_of k.world.safety))
     (sym (moved c.args.script.now c.args.planner.now c.plain_run.new.planner c.args.job.now.kernel c.in_ok-run.run'.kernel c.in_ok-run.ensures.copied))
     (ready.may_note c.args.script.now c.args.planner.now c.args.line r.0 c.args.job.now r.1.table r.1.begun r.1.n r.1.found r.1.step
     r.1.stands uses named named_are given none c.deref-8.result.now c.deref-8.ensures.value)
@@ -216,11 +216,12 @@ add_job-requires-clause-deps c =
     (ready.kernel_below c.args.script.now c.args.planner.now c.args.line r.0 c.args.job.now r.1.table r.1.begun r.1.n r.1.found r.1.step r.1.stands)
     c.index-2.ensures) c.deref-4.result.now c.deref-4.ensures.value c.refusal_of.result c.refusal_of.ensures)
     ∙ ap as_refused (no_cause c.refusal_of.result c.in_default.not-Some) in
-    subst (λ (k : Planner). AreUpTo (count_of k.jobs) (jobs_of c.in_ok-deps.deps))
+    subst (λ (k : Planner). AreUpTo (count_of k.world.jobs) (jobs_of c.in_ok-deps.deps))
     (sym (moved c.args.script.now c.args.planner.now c.plain_run.new.planner c.args.job.now.kernel c.in_ok-run.run'.kernel c.in_ok-run.ensures.copied))
     (ready.deps_up c.args.script.now c.args.planner.now c.args.line r.0 c.args.job.now r.1.table r.1.begun r.1.n r.1.found r.1.step r.1.stands uses named
     named_are
-    given none (jobs_of c.in_ok-deps.deps) (subst (λ us. AreDeps c.args.job.now.auto named c.args.planner.now.jobs c.args.planner.now.safety (tags_of us)
+    given none (jobs_of c.in_ok-deps.deps) (subst (λ us. AreDeps c.args.job.now.auto named c.args.planner.now.world.jobs c.args.planner.now.world.safety
+    (tags_of us)
     (jobs_of c.in_ok-deps.deps)) c.deref-5.ensures.value c.in_ok-deps.ensures))
 
 pub returns-in-Some-clause-goes_on : goal.returns-in-Some-clause-goes_on
@@ -239,6 +240,7 @@ returns-in-Some-clause-goes_on c home table begun n found step st =
     (ready.kernel_below c.args.script.now c.args.planner.now c.args.line home c.args.job.now table begun n found step st) c.index-2.ensures)
     c.deref-4.result.now c.deref-4.ensures.value
     (sym c.in-Some.is ∙ c.refusal_of.ensures) c.in_ok-refuse_schedule.ensures.1 c.in_ok-refuse_schedule.ensures.2
+    c.in_ok-refuse_schedule.ensures.3
 
 pub returns-clause-goes_on : goal.returns-clause-goes_on
 returns-clause-goes_on c = on_ok c.add_job.result (λ is home table begun n found step st.
@@ -258,7 +260,7 @@ returns-clause-goes_on c = on_ok c.add_job.result (λ is home table begun n foun
     ready.goes_on c.args.script.now c.args.planner.now c.args.line home c.args.job.now table begun n found step st uses named named_are given none
     c.plain_run.new.planner c.add_job.new.planner c.in_ok-run.run' (jobs_of c.in_ok-deps.deps) c.deref-6.result.now c.deref-7.result.now
     c.deref-8.result.now c.deref-6.ensures.value c.deref-7.ensures.value c.deref-8.ensures.value
-    (subst (λ us. AreDeps c.args.job.now.auto named c.args.planner.now.jobs c.args.planner.now.safety (tags_of us) (jobs_of c.in_ok-deps.deps))
+    (subst (λ us. AreDeps c.args.job.now.auto named c.args.planner.now.world.jobs c.args.planner.now.world.safety (tags_of us) (jobs_of c.in_ok-deps.deps))
     c.deref-5.ensures.value c.in_ok-deps.ensures) c.in_ok-run.ensures is) c.add_job.ensures.done
 
 pub returns-clause-fails : goal.returns-clause-fails
@@ -277,6 +279,6 @@ returns-clause-fails c = if_err c.add_job.result (λ fault full home table begun
     c.deref-4.result.now c.deref-4.ensures.value c.refusal_of.result c.refusal_of.ensures)
     ∙ ap as_refused (no_cause c.refusal_of.result c.in_default.not-Some) in
     ready.fails_so c.args.script.now c.args.planner.now c.args.line home c.args.job.now table begun n found step st uses named named_are given none fault
-    (subst (λ (k : Planner). IsFull fault (count_of k.jobs))
+    (subst (λ (k : Planner). IsFull fault (count_of k.world.jobs))
     (moved c.args.script.now c.args.planner.now c.plain_run.new.planner c.args.job.now.kernel c.in_ok-run.run'.kernel c.in_ok-run.ensures.copied) full))
     c.add_job.ensures.full

@@ -18,7 +18,7 @@ blocked-requires-clause-name c = ready_name c.requires.ready.0 _ c.args.planner.
 pub returns-in-Some-clause-goes_on : goal.returns-in-Some-clause-goes_on
 returns-in-Some-clause-goes_on c script table begun n found step st =
     let r : Refused = record { cause = c.in-Some.refusal; name = c.args.name } in
-    let e = sym (c.blocked.ensures _ begun n (state_at script table n) found st) ∙ ap (λ o. refused_as o c.args.name) c.in-Some.is in
+    let e = sym (c.blocked.ensures _ (state_at script table n) found st.knows) ∙ ap (λ o. refused_as o c.args.name) c.in-Some.is in
     said script table begun n found (record { line = c.args.line; act = SetCapacity c.args.name c.args.cap }) step r c.args.planner.now st
     (facts.refused_by script table begun n c.args.line c.args.name c.args.cap found c.args.planner.now step st r e)
     (facts.capacity_below script table begun n c.args.line c.args.name c.args.cap found c.args.planner.now step st) c.push_refusal.new.self refl refl

@@ -39,5 +39,5 @@ loop-job-preserved c =
 pub returns : goal.returns
 returns c b stands =
     let was = c.loop-job.invariant in
-    none_left b c.args.planner.now.jobs_before (jobs_of c.args.all.now) c.loop-job.at (count_of c.args.planner.now.jobs) was.low was.high
+    none_left b c.args.planner.now.jobs_before (jobs_of c.args.all.now) c.loop-job.at (count_of c.args.planner.now.world.jobs) was.low was.high
     (c.in_default.ensures.next b stands) c.loop-job.ids.items (was.ids b stands)

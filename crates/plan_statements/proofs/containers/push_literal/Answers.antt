@@ -5,7 +5,7 @@ pub returns : goal.returns
 returns c = record {
   literal = c.args.literal;
   elements = refl;
-  number_is = (let e = c.len-number.ensures in let l = c.args.planner.now.plan.literals.ok.0 in omega arith);
+  number_is = (let e = c.len-number.ensures in let l = c.args.planner.now.draft.literals.ok.0 in omega arith);
   literals = c.in_ok-push.ensures.items;
   rest = refl;
 }

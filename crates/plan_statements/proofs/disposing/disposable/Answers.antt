@@ -7,26 +7,26 @@ use Rattle.plan_statements.proofs.disposing.disposable.Goals as goal
 
 pub returns-in_default : goal.returns-in_default
 returns-in_default c =
-    no_container c.args.planner.now c.args.name (jobs_of c.args.deps.now) c.index-value.result.now
-    (read_some c.args.planner.now.values c.args.name c.index-value.result.now c.requires.name c.index-value.ensures)
+    no_container c.args.world.now c.args.name (jobs_of c.args.deps.now) c.index-value.result.now
+    (read_some c.args.world.now.values c.args.name c.index-value.result.now c.requires.name c.index-value.ensures)
     (sym c.container_of.ensures ∙ c.in_default.is)
 
 pub tag_of-tag-requires : goal.tag_of-tag-requires
 tag_of-tag-requires c =
-    number_below (vec_len c.args.planner.now.containers) (vec_len c.args.planner.now.handles) c.index-value.result.now c.in-Some.number
+    number_below (vec_len c.args.world.now.containers) (vec_len c.args.world.now.handles) c.index-value.result.now c.in-Some.number
     (c.requires.there c.args.name c.index-value.result.now
-    (read_some c.args.planner.now.values c.args.name c.index-value.result.now c.requires.name c.index-value.ensures))
+    (read_some c.args.world.now.values c.args.name c.index-value.result.now c.requires.name c.index-value.ensures))
     (sym c.container_of.ensures ∙ c.in-Some.is)
 
 pub returns-in-Ok : goal.returns-in-Ok
 returns-in-Ok c =
-    may_dispose c.args.planner.now c.args.name (jobs_of c.args.deps.now) c.index-value.result.now c.in-Some.number
-    (read_some c.args.planner.now.values c.args.name c.index-value.result.now c.requires.name c.index-value.ensures)
+    may_dispose c.args.world.now c.args.name (jobs_of c.args.deps.now) c.index-value.result.now c.in-Some.number
+    (read_some c.args.world.now.values c.args.name c.index-value.result.now c.requires.name c.index-value.ensures)
     (sym c.container_of.ensures ∙ c.in-Some.is) c.tag_of-tag.result c.tag_of-tag.ensures (Ok c.in-Ok.field-0) c.in-Ok.ensures refl
 
 pub returns-in-Err : goal.returns-in-Err
 returns-in-Err c =
-    may_not c.args.planner.now c.args.name (jobs_of c.args.deps.now) c.index-value.result.now c.in-Some.number
-    (read_some c.args.planner.now.values c.args.name c.index-value.result.now c.requires.name c.index-value.ensures)
+    may_not c.args.world.now c.args.name (jobs_of c.args.deps.now) c.index-value.result.now c.in-Some.number
+    (read_some c.args.world.now.values c.args.name c.index-value.result.now c.requires.name c.index-value.ensures)
     (sym c.container_of.ensures ∙ c.in-Some.is) c.tag_of-tag.result c.tag_of-tag.ensures (Err c.in-Err.blocked) c.in-Err.ensures
     c.in-Err.blocked c.refusal_of_blocked.result refl c.refusal_of_blocked.ensures

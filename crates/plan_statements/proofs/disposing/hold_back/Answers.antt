@@ -5,15 +5,16 @@ use Rattle.plan_statements.proofs.disposing.hold_back.Goals as goal
 
 pub settle-requires : goal.settle-requires
 settle-requires c = record {
-  known = users_after c.args.planner.now c.args.number c.index.result.now
-      (container_is c.args.planner.now.containers c.args.number c.index.result.now (can_hold_there c.args.planner.now c.args.number c.requires) c.index.ensures)
+  known = users_after c.args.world.now c.args.number c.index.result.now
+      (container_is c.args.world.now.containers c.args.number c.index.result.now
+      (can_hold_there c.args.world.now c.args.number c.requires) c.index.ensures)
       c.requires c.users-users.result c.users-users.ensures c.hold.new.self c.hold.ensures.places;
 }
 
 pub returns : goal.returns
 returns c = record {
   it = c.index.result.now;
-  has = container_is c.args.planner.now.containers c.args.number c.index.result.now (can_hold_there c.args.planner.now c.args.number c.requires)
+  has = container_is c.args.world.now.containers c.args.number c.index.result.now (can_hold_there c.args.world.now c.args.number c.requires)
       c.index.ensures;
   released = record { here = c.release.ensures.slot; others = c.release.ensures.others };
   users = c.users-users.result;

@@ -13,25 +13,25 @@ loop-container-init c = reported_none c.args.planner.now c.args.line
 
 pub next_due-requires-clause-numbers : goal.next_due-requires-clause-numbers
 next_due-requires-clause-numbers c =
-    subst (λ (k : Planner). All (λ c. c < vec_len k.containers) k.tempjobs.items) (sym c.loop-container.invariant.rest)
+    subst (λ (k : Planner). All (λ c. c < vec_len k.world.containers) k.world.tempjobs.items) (sym c.loop-container.invariant.rest)
     (frame_ready c.args.planner.now c.args.line c.requires.ready).tempjobs
 
 pub next_due-requires-clause-small : goal.next_due-requires-clause-small
-next_due-requires-clause-small c = subst (λ (k : Planner). AreSmall k.containers.items) (sym c.loop-container.invariant.rest)
+next_due-requires-clause-small c = subst (λ (k : Planner). AreSmall k.world.containers.items) (sym c.loop-container.invariant.rest)
     (frame_ready c.args.planner.now c.args.line c.requires.ready).small
 
 pub overflow_add-planner : goal.overflow_add-planner
 overflow_add-planner c =
     let fits = place_fits c.args.planner.now c.loop-container.planner c.args.line c.requires.ready c.loop-container.invariant c.in-Some.container
     c.in-Some.ensures in
-    let same = ap (λ (k : Planner). k.overdue) c.in_ok-report.ensures.rest in
+    let same = ap (λ (k : Planner). k.world.overdue) c.in_ok-report.ensures.rest in
     omega arith
 
 pub loop-container-smaller : goal.loop-container-smaller
 loop-container-smaller c =
-    let same = ap (λ (k : Planner). k.overdue) c.in_ok-report.ensures.rest in
-    let long = ap (λ (k : Planner). length k.tempjobs.items) c.in_ok-report.ensures.rest in
-    let lt = get_below c.loop-container.planner.tempjobs.items c.loop-container.planner.overdue c.in-Some.ensures.number c.in-Some.ensures.at in
+    let same = ap (λ (k : Planner). k.world.overdue) c.in_ok-report.ensures.rest in
+    let long = ap (λ (k : Planner). length k.world.tempjobs.items) c.in_ok-report.ensures.rest in
+    let lt = get_below c.loop-container.planner.world.tempjobs.items c.loop-container.planner.world.overdue c.in-Some.ensures.number c.in-Some.ensures.at in
     omega arith
 
 pub loop-container-preserved : goal.loop-container-preserved

@@ -6,4 +6,4 @@ abbrev pub invariant-loop-container : goal.invariant-loop-container
 invariant-loop-container l = AreReportedSoFar l.fn.planner l.planner l.line
 
 abbrev pub decreases-loop-container : goal.decreases-loop-container
-decreases-loop-container l = length l.planner.tempjobs.items - l.planner.overdue
+decreases-loop-container l = length l.planner.world.tempjobs.items - l.planner.world.overdue

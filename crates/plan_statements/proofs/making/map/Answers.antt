@@ -1,5 +1,6 @@
-use Rattle.std.proofs.Common.{refl, subst, None}
+use Rattle.std.proofs.Common.{ap, refl, subst, None}
 use Rattle.frame_ast.specs.Orders.{new_map}
+use Rattle.kernel_exec.specs.declared.binds.Bind.TheVariants.{Map}
 use Rattle.plan_statements.specs.Making.{TakesOrRefuses}
 use Rattle.plan_statements.proofs.Ranges.Makings.{map_makes}
 use Rattle.plan_statements.proofs.Ranges.NewContainers.{ready_name, ready_slots, ready_containers, as_many_names, as_many_containers, lost_goes_on, goes_on, fails, handed_on}
@@ -51,7 +52,8 @@ returns-in_ok-add_container-in-Some-clause-goes_on c script table begun n found 
     c.in_ok-take_words.ensures.taken in
     goes_on script table begun n _ found c.args.planner.now step st c.args.name c.args.life (new_map c.args.cap)
     (map_makes script table n c.args.line c.args.name c.args.cap c.args.life step)
-    c.take_words.new.planner c.take_words.new.planner c.add_container.new.planner c.in-Some.taken c.words_of.result c.words_of.ensures.words took _ refl None
+    c.take_words.new.planner c.take_words.new.planner c.add_container.new.planner c.in-Some.taken c.words_of.result c.words_of.ensures.words took _
+    (ap Map c.new-at.ensures) None
     refl None
     refl
     c.in_ok-add_container-in-Some.ensures

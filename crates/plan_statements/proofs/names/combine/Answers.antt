@@ -1,25 +1,37 @@
 use Rattle.std.proofs.Common.{◌<◌, ap, subst, sym, ◌∙◌}
 use Rattle.std.specs.List.{All}
 use Rattle.std.specs.Prelude.{vec_len}
+use Rattle.frame_ast.specs.declared.script.Order.TheVariants.{Combine as CombineOf}
 use Rattle.plan_state.specs.Accesses.{jobs_by}
-use Rattle.plan_state.proofs.Binding.{on_ok}
+use Rattle.plan_state.proofs.Answering.{nothing_taken}
 use Rattle.plan_statements.proofs.NewNames.{combine_ready, combined}
 use Rattle.plan_statements.proofs.names.combine.Goals as goal
 
 pub jobs_of_all-jobs-requires-clause-names : goal.jobs_of_all-jobs-requires-clause-names
 jobs_of_all-jobs-requires-clause-names c =
-    subst (All (λ n. n < vec_len c.args.planner.now.values)) (sym c.deref.ensures.value)
-    (combine_ready c.args.line c.args.name c.args.of.now c.args.planner.now c.requires.ready).of_in
+    let r = c.requires.ready in
+    subst (All (λ n. n < vec_len c.args.world.now.values)) (sym c.deref.ensures.value)
+    (combine_ready r.0 c.args.name c.args.of.now (record r.1 { world = c.args.world.now }) r.2).of_in
+
+pub jobs_of_all-jobs-requires-clause-there : goal.jobs_of_all-jobs-requires-clause-there
+jobs_of_all-jobs-requires-clause-there c = let r = c.requires.ready in
+    (combine_ready r.0 c.args.name c.args.of.now (record r.1 { world = c.args.world.now }) r.2).there
 
 pub set_handle-requires-clause-name : goal.set_handle-requires-clause-name
-set_handle-requires-clause-name c = (combine_ready c.args.line c.args.name c.args.of.now c.args.planner.now c.requires.ready).name_in
+set_handle-requires-clause-name c = let r = c.requires.ready in (combine_ready r.0 c.args.name c.args.of.now
+    (record r.1 { world = c.args.world.now }) r.2).name_in
+
+pub set_handle-requires-clause-there : goal.set_handle-requires-clause-there
+set_handle-requires-clause-there c = let r = c.requires.ready in (combine_ready r.0 c.args.name c.args.of.now
+    (record r.1 { world = c.args.world.now }) r.2).there
 
 pub set_handle-requires-clause-few : goal.set_handle-requires-clause-few
-set_handle-requires-clause-few c = (combine_ready c.args.line c.args.name c.args.of.now c.args.planner.now c.requires.ready).few
+set_handle-requires-clause-few c = let r = c.requires.ready in (combine_ready r.0 c.args.name c.args.of.now (record r.1 { world = c.args.world.now }) r.2).few
 
 pub returns : goal.returns
 returns c = record {
-  goes_on = on_ok c.set_handle.result (λ has. combined c.args.line c.args.name c.args.of.now c.args.planner.now c.set_handle.new.self c.jobs_of_all-jobs.result
-      (λ j. c.jobs_of_all-jobs.ensures j ∙ ap (λ ns. jobs_by c.args.planner.now.handles.items c.args.planner.now.values.items ns j) c.deref.ensures.value) has)
-      c.set_handle.ensures;
+  answers = λ line p draft t. nothing_taken p c.args.world.now c.set_handle.new.self (record { line = line; act = CombineOf c.args.name c.args.of.now }) draft t
+      (combined line c.args.name c.args.of.now (record p { world = c.args.world.now }) c.set_handle.new.self c.jobs_of_all-jobs.result
+      (λ j. c.jobs_of_all-jobs.ensures j ∙ ap (λ ns. jobs_by c.args.world.now.handles.items c.args.world.now.values.items ns j) c.deref.ensures.value)
+      c.in_ok-set_handle.ensures);
 }

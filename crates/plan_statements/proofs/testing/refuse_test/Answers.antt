@@ -13,7 +13,7 @@ test_refusal-requires-clause-there c = (test_ready c.args.planner.now c.args.lin
 
 pub returns-in-None : goal.returns-in-None
 returns-in-None c = record {
-  decided = (refl, λ script table begun n found step st. sym (c.in-None.ensures (setting script table) begun n (state_at script table n) found st));
+  decided = (refl, λ script table begun n found step st. sym (c.in-None.ensures (setting script table) (state_at script table n) found st.knows));
 }
 
 pub returns-in_ok-push_refusal-in-Some : goal.returns-in_ok-push_refusal-in-Some
@@ -21,6 +21,6 @@ returns-in_ok-push_refusal-in-Some c = record {
   decided = (
     test_refused c.args.planner.now c.args.line c.args.name c.args.sign c.args.value c.args.count c.push_refusal.new.self c.in-Some.refusal
         c.in-Some.ensures c.in_ok-push_refusal-in-Some.ensures,
-    λ script table begun n found step st none. none_some (sym none ∙ sym (c.in-Some.ensures (setting script table) begun n (state_at script table n) found st)),
+    λ script table begun n found step st none. none_some (sym none ∙ sym (c.in-Some.ensures (setting script table) (state_at script table n) found st.knows)),
   );
 }

@@ -8,5 +8,5 @@ automatic-requires-clause-after c = none_up_to _ _ c.empty.ensures
 
 pub returns : goal.returns
 returns c =
-    waited c.args.planner.now c.args.number c.tag_of-tag.result c.tag_of-tag.ensures (jobs_of c.empty.result)
+    waited c.args.world.now c.args.number c.tag_of-tag.result c.tag_of-tag.ensures (jobs_of c.empty.result)
     (jobs_of c.automatic.result) c.empty.ensures c.automatic.ensures.set

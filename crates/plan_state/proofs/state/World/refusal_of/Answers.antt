@@ -1,5 +1,5 @@
 use Rattle.plan_state.proofs.Accessing.{none_up_to}
-use Rattle.plan_state.proofs.state.Planner.refusal_of.Goals as goal
+use Rattle.plan_state.proofs.state.World.refusal_of.Goals as goal
 
 pub check_write-answer-requires : goal.check_write-answer-requires
 check_write-answer-requires c = none_up_to _ _ c.empty-deps.ensures

@@ -2,7 +2,7 @@ use Rattle.std.proofs.Common.{ap, refl, ◌∙◌, Some, arith}
 use Rattle.plan_state.specs.declared.state.Value.TheVariants.{Jobs}
 use Rattle.plan_state.proofs.Accessing.{read_some}
 use Rattle.plan_state.proofs.Naming.{new_place, own_place}
-use Rattle.plan_state.proofs.state.Planner.set_handle.Goals as goal
+use Rattle.plan_state.proofs.state.World.set_handle.Goals as goal
 
 pub index_mut-requires : goal.index_mut-requires
 index_mut-requires c =

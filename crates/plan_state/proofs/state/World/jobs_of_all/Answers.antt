@@ -1,7 +1,7 @@
 use Rattle.std.proofs.Common.{ap, refl, get_or}
 use Rattle.plan_state.proofs.Accessing.{read_some}
 use Rattle.plan_state.proofs.Naming.{jobs_more}
-use Rattle.plan_state.proofs.state.Planner.jobs_of_all.Goals as goal
+use Rattle.plan_state.proofs.state.World.jobs_of_all.Goals as goal
 
 pub loop-name-init : goal.loop-name-init
 loop-name-init c j = ap (λ f. f j) c.empty-all.ensures
