@@ -90,17 +90,19 @@ typedef struct frame_handle {
 enum frame_status {
     /* The call isn't one for what its handles have. Nothing was changed. */
     FRAME_NOT_NOW = 10,
-    /* frame_turn, frame_help: something was run, and there may be more. */
+    /* frame_turn: not all segments of the section are run. frame_help: a piece was run. */
     FRAME_AGAIN = 11,
     /* frame_help: nothing was found to run now. There may be later. */
     FRAME_IDLE = 12,
-    /* frame_turn: all segments are run. frame_help: the section is run; close the helper. */
+    /* From then on always. frame_turn: exactly where all segments of the section are run. frame_help: only where this
+     * helper has seen that each job of the section is finished, so that nothing is left for it to run; close it. */
     FRAME_OVER = 13,
     /* frame_end: the script tests what it has computed, and goes on: frame_next is the next call. */
     FRAME_NEXT = 14,
-    /* frame_end: segments aren't run yet, or helpers aren't closed yet. The frame is as it was. */
+    /* frame_end: frame_turn didn't answer FRAME_OVER yet, or helpers aren't closed yet. The frame is as it was. */
     FRAME_BUSY = 15,
-    /* frame_helper: no place is left. frame_read: no such name, or nothing that can be read as numbers. */
+    /* frame_helper: exactly where all places are given out. frame_read: no such name, or nothing that can be read as
+     * numbers. */
     FRAME_NONE = 16
 };
 
@@ -123,23 +125,28 @@ uint8_t frame_column(frame_handle *columns, const uint8_t *name, size_t name_len
 uint8_t frame_begin(frame_handle *script, frame_handle *columns, frame_handle *frame);
 
 /* Makes the next section of a frame, the first one too, and all memory that its run needs, with a place for each of so
- * many helpers; for no more than it has pieces of jobs. 0; or 8, and then the frame is given up and its handle empty. */
+ * many helpers: exactly the least of `helpers`, of the pieces that its jobs have, and of 63. 0; or 8, and then the frame
+ * is given up and its handle empty. */
 uint8_t frame_next(frame_handle *frame, uint32_t helpers);
 
-/* Gives the empty handle `helper` a place in the section of `frame`, for another thread. 0, 16 where no place is left, or
- * 8. Called by the thread that owns the frame, before or while the section is run. */
+/* Gives the empty handle `helper` a place in the section of `frame`, for another thread. 0; 16 exactly where all places
+ * are given out; or 8, and the place is left. A place is given out once: a helper that is closed leaves none. Called by
+ * the thread that owns the frame, before or while the section is run. */
 uint8_t frame_helper(frame_handle *frame, frame_handle *helper);
 
 /* Runs at most one segment of the script, or one piece of a job while the script waits for a job, and returns at once.
- * 11 or 13. Called by the thread that owns the frame, which is the script's; it gets through with no helper too. */
+ * 13 exactly where all segments of the section are run, and from then on always; else 11. Called by the thread that owns
+ * the frame, which is the script's; it gets through with no helper too. */
 uint8_t frame_turn(frame_handle *frame);
 
-/* Runs at most one piece of a job of the helper's section, and returns at once. 11, 12 or 13. */
+/* Runs at most one piece of a job of the helper's section, and returns at once. 13 only where the helper has seen that
+ * each job of the section is finished, and from then on always; else 11 or 12. */
 uint8_t frame_help(frame_handle *helper);
 
-/* Ends a section that is run, once its helpers are closed. 0, 1 or 5: it was the last one, and this is the status of the
- * script; the handle has what it came to, for frame_read, frame_text and frame_report. 14: another one follows. 15: not
- * yet. 8: the frame is given up, and its handle empty. */
+/* Ends a section of which frame_turn answered 13, once its helpers are closed. 0, 1 or 5: it was the last one, and this is
+ * the status of the script; the handle has what it came to, for frame_read, frame_text and frame_report. 14: another one
+ * follows. 8: the frame is given up, and its handle empty. 15: not yet, and nothing is changed; only where frame_turn
+ * didn't answer 13 in this section, or frame_helper was called for it while a place was left. */
 uint8_t frame_end(frame_handle *frame);
 
 /* Copies to `out` what the container of this name holds at the script's end: the elements of an array or a list, or the
@@ -159,9 +166,9 @@ typedef struct frame_report_of {
     uint64_t refused;
     /* How many runs of kernels trapped. */
     uint64_t traps;
-    /* The first trap, where there is one: its job, counted from 1 in the order of the script; its index; and which trap:
-     * 1 overflow, 2 division by zero, 3 range, 4 another index's place, 5 full, 6 missing key, 7 present key, 8 written
-     * twice, 9 too many steps. */
+    /* The first trap: its job, counted from 1 in the order of the script; its index; and which trap: 1 overflow,
+     * 2 division by zero, 3 range, 4 another index's place, 5 full, 6 missing key, 7 present key, 8 written twice,
+     * 9 too many steps. Where there is none all three are 0. */
     uint32_t job;
     uint32_t index;
     uint32_t trap;

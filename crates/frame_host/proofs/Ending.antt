@@ -1,5 +1,5 @@
 -- The end of a section.
-use Rattle.std.proofs.Common.{◌≡◌, ◌≢◌, sym, ap, ◌∙◌, subst, ℕ, suc, ◌≤◌, ◌<◌, Bool, cond, true, false, ℤ, List, ◌++◌, length, Option, None, Some, arith}
+use Rattle.std.proofs.Common.{◌≡◌, ◌≢◌, sym, ap, ◌∙◌, subst, ℕ, suc, ◌≤◌, Bool, cond, true, false, ℤ, List, ◌++◌, length, Option, None, Some, arith}
 use Rattle.std.proofs.lemmas.Bool.{leb-true}
 use Rattle.std.proofs.lemmas.List.Sums.{sum_by-take-le}
 use Rattle.std.specs.Prelude.{count_by}
@@ -34,6 +34,7 @@ use Rattle.frame_top.proofs.Saying.{closed}
 use Rattle.frame_host.specs.declared.answer.FrameAnswer.{FrameAnswer}
 use Rattle.frame_host.specs.declared.frame.Frame.{Frame}
 use Rattle.frame_host.specs.declared.text.KeptText.{KeptText}
+use Rattle.frame_host.specs.Reports.{IsFrameReport}
 use Rattle.frame_host.specs.Frames.{AreReadable, IsAnswer, IsBetween, IsRun, IsToFinish, WasSaid, faults_of, table_in, taken_of, tree_in}
 use Rattle.frame_host.proofs.Lines.{at_end, given, said_as, said_on, said_still}
 
@@ -100,13 +101,13 @@ module _ (frame : Frame) (stage : Stage) (place : Place WordSeat) (left : List �
 -- an answer has the script and the columns of its frame
 answered : (a : FrameAnswer) (frame : Frame) → a.tree ≡ frame.tree → a.table ≡ frame.table → a.status ≡ status_of (tree_in frame) (table_in frame)
     → a.text.items ≡ output_of (tree_in frame) (table_in frame)
-    → IsReportAt (state_at (tree_in frame) (table_in frame) (length (tree_in frame).statements.items)) a.report
+    → IsFrameReport (state_at (tree_in frame) (table_in frame) (length (tree_in frame).statements.items)) a.report
     → a.book ≡ frame.book
     → AreReadable (tree_in frame) (state_at (tree_in frame) (table_in frame) (length (tree_in frame).statements.items)) frame.book a.cells.items → IsAnswer a
 answered a frame is_tree is_table status text report is_book reads = record {
   status = status ∙ sym (λ i. status_of (is_tree i).value (columns_of (is_table i)));
   text = text ∙ sym (λ i. output_of (is_tree i).value (columns_of (is_table i)));
-  report = subst (λ (r : Frame). IsReportAt (state_at (tree_in r) (table_in r) (length (tree_in r).statements.items)) a.report)
+  report = subst (λ (r : Frame). IsFrameReport (state_at (tree_in r) (table_in r) (length (tree_in r).statements.items)) a.report)
       (sym (λ i. record frame { tree = is_tree i; table = is_table i })) report;
   reads = subst (λ (r : Frame). AreReadable (tree_in r) (state_at (tree_in r) (table_in r) (length (tree_in r).statements.items)) r.book a.cells.items)
       (sym (λ i. record frame { tree = is_tree i; table = is_table i; book = is_book i })) reads;
@@ -116,9 +117,10 @@ answered a frame is_tree is_table status text report is_book reads = record {
 pub answers : (frame : Frame) (q : Progress) (text : KeptText) (status : ℕ) (a : FrameAnswer) (cells : List ℤ) → (last : IsToFinish frame cells)
     → ((s : ScriptState) → IsReportAt s frame.progress.report → Closes taken_of faults_of frame.text frame.progress text q (traps_text s.traps)
     (status_by s.traps s.refused) status)
-    → status ≢ UNWRITTEN → a.status ≡ status → a.text.items ≡ text.bytes.items → a.report ≡ frame.progress.report
+    → status ≢ UNWRITTEN → a.status ≡ status → a.text.items ≡ text.bytes.items
+    → ((s : ScriptState) → IsReportAt s frame.progress.report → IsFrameReport s a.report)
     → a.tree ≡ frame.tree → a.table ≡ frame.table → a.book ≡ frame.book → a.cells.items ≡ cells → IsAnswer a
-answers frame q text status a cells last closes other is_status is_text is_report is_tree is_table is_book is_cells =
+answers frame q text status a cells last closes other is_status is_text reports is_tree is_table is_book is_cells =
     let script = tree_in frame in
     let table = table_in frame in
     let s = state_at script table last.to in
@@ -132,7 +134,7 @@ answers frame q text status a cells last closes other is_status is_text is_repor
     answered a frame is_tree is_table
     (is_status ∙ both.0 ∙ ap (λ (t : ScriptState). status_by t.traps t.refused) whole)
     (is_text ∙ both.1 ∙ ap (λ (t : ScriptState). t.lines ++ traps_text t.traps) whole)
-    (subst (λ n. IsReportAt (state_at script table n) a.report) last.last (subst (λ r. IsReportAt s r) (sym is_report) last.report))
+    (subst (λ n. IsFrameReport (state_at script table n) a.report) last.last (reports s last.report))
     is_book
     (subst (λ n. AreReadable script (state_at script table n) frame.book a.cells.items) last.last
     (subst (λ cs. AreReadable script s frame.book cs) (sym is_cells) last.reads))

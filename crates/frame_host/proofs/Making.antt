@@ -1,8 +1,7 @@
 -- A section as it is made.
 use Rattle.std.proofs.Common.{◌≡◌, sym, ap, ◌∙◌, subst, ℕ, ℤ, List, length, All, None}
-use Rattle.std.specs.Prelude.{Vec}
+use Rattle.std.specs.Prelude.{Box, Vec}
 use Rattle.std.specs.declared.alloc.Global.{Global}
-use Rattle.std.specs.declared.sync.Arc.{Arc}
 use Rattle.frame_ast.specs.declared.script.Script.{Script}
 use Rattle.frame_core.specs.declared.plan.Plan.{Plan}
 use Rattle.frame_plan.specs.declared.section.Section.{Section}
@@ -16,6 +15,7 @@ use Rattle.word_board.specs.declared.board.WordBoard.{WordBoard}
 use Rattle.word_board.specs.declared.seat.WordSeat.{WordSeat}
 use Rattle.word_board.specs.Boards.{home_of, know_of, name_of}
 use Rattle.frame_stage.specs.declared.stage.Stage.{Stage}
+use Rattle.frame_stage.specs.declared.hold.Hold.TheVariants.{Alone}
 use Rattle.frame_stage.specs.Stages.{IsStage}
 use Rattle.frame_top.specs.Running.{HasRun, IsMade}
 use Rattle.frame_top.specs.declared.sections.Progress.{Progress}
@@ -38,7 +38,7 @@ pub record IsSet (plan : Plan) (board : WordBoard) (text : KeptText) (out : List
   pub stands : IsStanding home_of know_of (name_of board) plan at place
   pub said : HasSaid taken_of faults_of plan text out text out at
 
-module _ (frame : Frame) (book : SectionBook) (q : Progress) (section : Section) (plan : Plan) (board : WordBoard) (stage : Arc Stage Global)
+module _ (frame : Frame) (book : SectionBook) (q : Progress) (section : Section) (plan : Plan) (board : WordBoard) (stage : Box Stage Global)
     (place : Place WordSeat) (others : Vec (Place WordSeat) Global) (at : Standing) (left : List ℤ) where
   pub underway : (b : IsBetween frame) → IsMade (tree_in frame) (table_in frame) b.sections b.from book section q.report
       → q.out ≡ frame.progress.out → q.failed ≡ frame.progress.failed → stage.value.section ≡ section → IsStage stage.value
@@ -46,7 +46,7 @@ module _ (frame : Frame) (book : SectionBook) (q : Progress) (section : Section)
       → plan ≡ stage.value.section.plan → board ≡ stage.value.board → IsSet plan board frame.text q.out at place
       → IsUnderway record {
         frame = record { tree = frame.tree; table = frame.table; book = book; progress = q; text = frame.text };
-        stage = stage;
+        stage = Alone stage;
         place = place;
         others = others;
         at = at;

@@ -1,6 +1,7 @@
 -- A section from turn to turn, and at its end.
-use Rattle.std.proofs.Common.{◌≡◌, sym, subst, ℕ, List, length, All, Option, None, Some}
-use Rattle.std.specs.Prelude.{IfSome, Vec}
+use Rattle.std.proofs.Common.{◌≡◌, sym, subst, ℕ, false, List, length, All, Option, None, Some}
+use Rattle.std.proofs.lemmas.Bool.{false≢true}
+use Rattle.std.specs.Prelude.{IfSome, Box, Vec}
 use Rattle.std.specs.declared.alloc.Global.{Global}
 use Rattle.std.specs.declared.sync.Arc.{Arc}
 use Rattle.frame_core.specs.declared.plan.Plan.{Plan}
@@ -16,34 +17,38 @@ use Rattle.word_board.specs.declared.board.WordBoard.{WordBoard}
 use Rattle.word_board.specs.declared.seat.WordSeat.{WordSeat}
 use Rattle.word_board.specs.Boards.{home_of, know_of, name_of}
 use Rattle.frame_stage.specs.declared.stage.Stage.{Stage}
-use Rattle.frame_stage.specs.Stages.{IsHelper, IsStage}
+use Rattle.frame_stage.specs.declared.hold.Hold.{Hold}
+use Rattle.frame_stage.specs.Stages.{IsHelper, IsStage, stage_of, stage_of_part}
 use Rattle.frame_host.specs.declared.section.FrameSection.{FrameSection}
 use Rattle.frame_host.specs.declared.text.KeptText.{KeptText}
-use Rattle.frame_host.specs.Frames.{IsRun, IsThrough, IsUnderway, faults_of, table_in, taken_of, tree_in}
+use Rattle.frame_host.specs.Frames.{IsRun, IsThrough, IsUnderway, IsUnderwayOn, faults_of, stage_in, table_in, taken_of, tree_in}
 use Rattle.frame_host.proofs.Lines.{said_on}
 
--- some places are handed out
-pub with_others : (s : FrameSection) (others : Vec (Place WordSeat) Global) → IsUnderway s
-    → All (IsReady home_of know_of (name_of s.stage.value.board)) others.items → IsUnderway record s { others = others }
-with_others s others u ready = record {
-  sections = u.sections;
-  from = u.from;
-  after = u.after;
-  room = u.room;
-  stands = u.stands;
-  others = ready;
-  before = u.before;
-  waited = u.waited;
-  said_before = u.said_before;
-  said = u.said;
-  through = u.through;
-}
+-- It holds its stage otherwise, and some places are given out.
+pub given_on : (s : FrameSection) (hold : Hold) (others : Vec (Place WordSeat) Global) → IsUnderway s → stage_of hold ≡ stage_in s
+    → All (IsReady home_of know_of (name_of (stage_in s).board)) others.items → IsUnderway record s { stage = hold; others = others }
+given_on s hold others u same ready =
+    let there : IsUnderwayOn (stage_in s) record s { stage = hold; others = others } = record {
+      sections = u.sections;
+      from = u.from;
+      after = u.after;
+      room = u.room;
+      stands = u.stands;
+      others = ready;
+      before = u.before;
+      waited = u.waited;
+      said_before = u.said_before;
+      said = u.said;
+      through = u.through;
+    } in
+    subst (λ stage. IsUnderwayOn stage record s { stage = hold; others = others }) (sym same) there
 
-pub is_helper : (s : FrameSection) (stage : Arc Stage Global) (place : Place WordSeat) → IsUnderway s → stage.value ≡ s.stage.value
-    → IsReady home_of know_of (name_of s.stage.value.board) place → IsHelper record { stage = stage; place = place }
-is_helper s stage place u same ready = record {
-  stage = subst IsStage (sym same) u.after.stage_is;
+pub is_helper : (stage : Stage) (part : Arc (Box Stage Global) Global) (place : Place WordSeat) → IsStage stage → stage_of_part part ≡ stage
+    → IsReady home_of know_of (name_of stage.board) place → IsHelper record { stage = part; place = place; over = false }
+is_helper stage part place is_stage same ready = record {
+  stage = subst IsStage (sym same) is_stage;
   ready = subst (λ (x : Stage). IsReady home_of know_of (name_of x.board) place) (sym same) ready;
+  over = λ e. absurd (false≢true e);
 }
 
 -- What a turn of the script's thread leaves, and what is known where it was the last one.
@@ -58,7 +63,7 @@ pub record IsTurn (s : FrameSection) (plan : Plan) (board : WordBoard) (place : 
 
 module _ (s : FrameSection) (plan : Plan) (board : WordBoard) (place : Place WordSeat) (at : Standing) (out : List ℕ) (text : KeptText)
     (ended : Option RunEnd) where
-  pub turned : IsUnderway s → plan ≡ s.stage.value.section.plan → board ≡ s.stage.value.board → IsTurn s plan board place at out text ended
+  pub turned : IsUnderway s → plan ≡ (stage_in s).section.plan → board ≡ (stage_in s).board → IsTurn s plan board place at out text ended
       → IsUnderway record s {
         frame = record s.frame { progress = record s.frame.progress { out = out }; text = text };
         place = place;
@@ -66,8 +71,8 @@ module _ (s : FrameSection) (plan : Plan) (board : WordBoard) (place : Place Wor
         ended = ended;
       }
   turned u is_plan is_board turn =
-      let here : IsTurn s s.stage.value.section.plan s.stage.value.board place at out text ended =
-      subst (λ w. IsTurn s s.stage.value.section.plan w place at out text ended) is_board
+      let here : IsTurn s (stage_in s).section.plan (stage_in s).board place at out text ended =
+      subst (λ w. IsTurn s (stage_in s).section.plan w place at out text ended) is_board
       (subst (λ p. IsTurn s p board place at out text ended) is_plan turn) in
       record {
         sections = u.sections;
@@ -83,21 +88,21 @@ module _ (s : FrameSection) (plan : Plan) (board : WordBoard) (place : Place Wor
         through = by ended here.through;
       }
     where
-      by : (o : Option RunEnd) → IfSome o (λ end. IsFirst home_of know_of (name_of s.stage.value.board) (length s.stage.value.section.plan.segments.items) place
+      by : (o : Option RunEnd) → IfSome o (λ end. IsFirst home_of know_of (name_of (stage_in s).board) (length (stage_in s).section.plan.segments.items) place
           × ((first : KeptText) (waited : List ℕ)
-          → HasSaid taken_of faults_of s.stage.value.section.plan first waited s.frame.text s.frame.progress.out s.at
-          → RunsBetween taken_of faults_of s.stage.value.section.plan (plan_lines s.stage.value.section.plan) first waited text out end))
-          → IfSome o (IsThrough s.stage.value place u.before u.waited text out)
+          → HasSaid taken_of faults_of (stage_in s).section.plan first waited s.frame.text s.frame.progress.out s.at
+          → RunsBetween taken_of faults_of (stage_in s).section.plan (plan_lines (stage_in s).section.plan) first waited text out end))
+          → IfSome o (IsThrough (stage_in s) place u.before u.waited text out)
       by None t = tt
       by (Some end) t = record { first = t.0; run = t.1 u.before u.waited u.said }
 
 -- the turns are over, and nobody else has the stage
-pub is_run : (s : FrameSection) (stage : Stage) (end : RunEnd) → IsUnderway s → s.ended ≡ Some end → stage ≡ s.stage.value
+pub is_run : (s : FrameSection) (stage : Stage) (end : RunEnd) → IsUnderway s → s.ended ≡ Some end → stage ≡ (stage_in s)
     → IsRun s.frame stage s.place s.left end
 is_run s stage end u ends same =
-    let through : IsThrough s.stage.value s.place u.before u.waited s.frame.text s.frame.progress.out end =
-    subst (λ o. IfSome o (IsThrough s.stage.value s.place u.before u.waited s.frame.text s.frame.progress.out)) ends u.through in
-    let run : IsRun s.frame s.stage.value s.place s.left end = record {
+    let through : IsThrough (stage_in s) s.place u.before u.waited s.frame.text s.frame.progress.out end =
+    subst (λ o. IfSome o (IsThrough (stage_in s) s.place u.before u.waited s.frame.text s.frame.progress.out)) ends u.through in
+    let run : IsRun s.frame (stage_in s) s.place s.left end = record {
       sections = u.sections;
       from = u.from;
       after = u.after;
@@ -105,6 +110,6 @@ is_run s stage end u ends same =
       first = through.first;
       report = through.run.1;
       said = said_on u.before u.waited s.frame.text s.frame.progress.out (is_fault end) (state_at (tree_in s.frame) (table_in s.frame) u.from).lines
-          (plan_lines s.stage.value.section.plan) u.said_before through.run.0;
+          (plan_lines (stage_in s).section.plan) u.said_before through.run.0;
     } in
     subst (λ x. IsRun s.frame x s.place s.left end) (sym same) run

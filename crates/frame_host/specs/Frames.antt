@@ -2,13 +2,14 @@
 --
 -- A frame stands between two sections, or in one. Decided here is what was said until then, and that what comes next
 -- can be run. Who takes which turn, and when, is decided by the caller alone, and none of it says who did.
-use Rattle.std.specs.Prelude.{◌≡◌, ◌<◌, ℕ, Bool, false, ℤ, List, [], ◌++◌, length, All, Option, Some, IfSome}
+use Rattle.std.specs.Prelude.{◌≡◌, ◌<◌, ℕ, Bool, false, ℤ, List, [], ◌++◌, length, All, Option, None, Some, IfSome}
 use Rattle.job_base.specs.Cells.{cells_of}
 use Rattle.frame_ast.specs.declared.script.Script.{Script}
 use Rattle.frame_ast.specs.Accepted.{IsAccepted}
 use Rattle.frame_ast.specs.Orders.{Table}
 use Rattle.frame_ast.specs.Scripts.{output_of, status_of}
 use Rattle.frame_ast.specs.States.{ScriptState}
+use Rattle.frame_core.specs.declared.plan.Plan.{Plan}
 use Rattle.frame_core.specs.Output.{plan_lines}
 use Rattle.frame_plan.specs.Bindings.{IsBindAt, bind_in}
 use Rattle.frame_plan.specs.declared.sections.SectionBook.{SectionBook}
@@ -24,8 +25,9 @@ use Rattle.steal_pool.specs.Turns.{HasSaid, IsStanding}
 use Rattle.word_board.specs.declared.seat.WordSeat.{WordSeat}
 use Rattle.word_board.specs.Boards.{home_of, know_of, name_of}
 use Rattle.frame_stage.specs.declared.stage.Stage.{Stage}
-use Rattle.frame_stage.specs.Stages.{IsStage}
+use Rattle.frame_stage.specs.Stages.{IsShared, IsStage, stage_of}
 use Rattle.frame_top.specs.Running.{HasRun, IsMade, IsReportAt}
+use Rattle.frame_host.specs.Reports.{IsFrameReport}
 use Rattle.frame_host.specs.declared.answer.FrameAnswer.{FrameAnswer}
 use Rattle.frame_host.specs.declared.answer.FrameEnd.{FrameEnd}
 use Rattle.frame_host.specs.declared.answer.FrameEnd.TheVariants.{Next, Over, NoMemory}
@@ -82,6 +84,36 @@ pub record IsBetween (frame : Frame) : Type 0 where
 
 -- IN A SECTION
 
+-- its stage, and the plan that is run there
+abbrev pub stage_in : FrameSection → Stage
+stage_in section = stage_of section.stage
+
+abbrev pub plan_in : FrameSection → Plan
+plan_in section = (stage_in section).section.plan
+
+-- how many helpers of it can still be had
+abbrev pub places_in : FrameSection → ℕ
+places_in section = length section.others.items
+
+-- how many of its segments are run
+abbrev pub segments_run : FrameSection → ℕ
+segments_run section = section.at.segment
+
+abbrev pub IsAllRun : FrameSection → Type 0
+IsAllRun section = segments_run section ≡ length (plan_in section).segments.items
+
+-- No helper of it was given out, and no turn said that it is run.
+pub record IsNew (section : FrameSection) : Type 0 where
+  pub alone : ¬ IsShared section.stage
+  pub ended : section.ended ≡ None
+
+-- The second one is the first, but for the places that are given out.
+pub record KeepsRun (old section : FrameSection) : Type 0 where
+  pub frame : section.frame ≡ old.frame
+  pub stage : stage_in section ≡ stage_in old
+  pub at : section.at ≡ old.at
+  pub ended : section.ended ≡ old.ended
+
 -- A section was made after so many others, which came to this place.
 pub record IsAfter (frame : Frame) (stage : Stage) (sections from : ℕ) : Type 0 where
   pub accepted : IsAccepted (tree_in frame)
@@ -96,25 +128,28 @@ pub record IsThrough (stage : Stage) (place : Place WordSeat) (before : KeptText
   pub run : RunsBetween taken_of faults_of stage.section.plan (plan_lines stage.section.plan)
       before waited text waits end
 
--- The section is made, and is run up to one of its segments.
-pub record IsUnderway (section : FrameSection) : Type 0 where
+-- The section is made, and is run on this stage up to one of its segments.
+pub record IsUnderwayOn (stage : Stage) (section : FrameSection) : Type 0 where
   pub sections : ℕ
   pub from : ℕ
-  pub after : IsAfter section.frame section.stage.value sections from
-  pub room : length section.left ≡ section.stage.value.section.plan.words
+  pub after : IsAfter section.frame stage sections from
+  pub room : length section.left ≡ stage.section.plan.words
   -- the places of the script's thread and of helpers
-  pub stands : IsStanding home_of know_of (name_of section.stage.value.board) section.stage.value.section.plan
+  pub stands : IsStanding home_of know_of (name_of stage.board) stage.section.plan
       section.at section.place
-  pub others : All (IsReady home_of know_of (name_of section.stage.value.board)) section.others.items
+  pub others : All (IsReady home_of know_of (name_of stage.board)) section.others.items
   -- what was said before the section, and since
   pub before : KeptText
   pub waited : List ℕ
   pub said_before : WasSaid before waited false
       (state_at (tree_in section.frame) (table_in section.frame) from).lines
-  pub said : HasSaid taken_of faults_of section.stage.value.section.plan before waited
+  pub said : HasSaid taken_of faults_of stage.section.plan before waited
       section.frame.text section.frame.progress.out section.at
-  pub through : IfSome section.ended (IsThrough section.stage.value section.place before waited
+  pub through : IfSome section.ended (IsThrough stage section.place before waited
       section.frame.text section.frame.progress.out)
+
+abbrev pub IsUnderway : FrameSection → Type 0
+IsUnderway section = IsUnderwayOn (stage_in section) section
 
 -- All segments of a section are run, and nobody else has its stage.
 pub record IsRun (frame : Frame) (stage : Stage) (place : Place WordSeat) (left : List ℤ) (end : RunEnd) : Type 0 where
@@ -149,7 +184,7 @@ pub record IsToFinish (frame : Frame) (cells : List ℤ) : Type 0 where
 pub record IsAnswer (answer : FrameAnswer) : Type 0 where
   pub status : answer.status ≡ status_of (answered_tree answer) (answered_table answer)
   pub text : answer.text.items ≡ output_of (answered_tree answer) (answered_table answer)
-  pub report : IsReportAt (state_at (answered_tree answer) (answered_table answer)
+  pub report : IsFrameReport (state_at (answered_tree answer) (answered_table answer)
       (length (answered_tree answer).statements.items)) answer.report
   pub reads : AreReadable (answered_tree answer) (state_at (answered_tree answer) (answered_table answer)
       (length (answered_tree answer).statements.items)) answer.book answer.cells.items

@@ -1,9 +1,9 @@
 // What a section and a frame come to.
 
 use crate::frame::Frame;
+use crate::report::FrameReport;
 use frame_ast::script::Script;
 use frame_plan::SectionBook;
-use frame_print::Report;
 use std::alloc::Global;
 use std::sync::Arc;
 use table_in::Table;
@@ -16,7 +16,7 @@ pub struct FrameAnswer {
     /// What the script prints, with the lines of its refusals and traps.
     pub text: Vec<u8>,
     /// How many statements were refused and how many runs of kernels trapped, and the first trap.
-    pub report: Report,
+    pub report: FrameReport,
     // of which it is the answer
     pub(crate) tree: Arc<Script, Global>,
     pub(crate) table: Table,

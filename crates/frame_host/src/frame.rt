@@ -3,15 +3,16 @@ ghost use Rattle.std.specs.Prelude.{◌≡◌, false, None, IfErr, IfOk};
 ghost use Rattle.frame_ast.specs.Accepted.{IsAccepted};
 ghost use Rattle.plan_statements.specs.Tables.{columns_of};
 ghost use Rattle.frame_top.specs.Refusals.{frame_refusal};
+ghost use Rattle.frame_stage.specs.Stages.{places_for};
 ghost use Rattle.frame_host.specs.Scripts.{IsBeginFault, IsRefusedAs, tree_of};
-ghost use Rattle.frame_host.specs.Frames.{IsBetween, IsUnderway, columns_in, tree_in};
+ghost use Rattle.frame_host.specs.Frames.{IsBetween, IsNew, IsUnderway, columns_in, places_in, plan_in, tree_in};
 
 use crate::script::FrameScript;
 use crate::section::FrameSection;
 use crate::text::KeptText;
 use frame_ast::script::Script;
 use frame_plan::{PlanFault, SectionBook, missing_column};
-use frame_stage::{Stage, Staged, room_for, set_stage};
+use frame_stage::{Hold, Stage, Staged, room_for, set_stage};
 use frame_top::{Progress, begin_frame, next_section};
 use job_base::{NoMemory, OpenGate};
 use std::alloc::Global;
@@ -73,13 +74,15 @@ impl Frame {
         }
     }
 
-    /// Plans the next section, and makes all that its run needs, with a place for each of so many helpers; for no more
-    /// than it has pieces of jobs.
+    /// Plans the next section, and makes all that its run needs, with a place for each of so many helpers; but for no
+    /// more than it has pieces of jobs, nor than 63.
     pub fn next(self, alloc: Global, helpers: u32) -> Result<FrameSection, NoMemory>
         requires sound { IsBetween self }
         ensures sound { IfOk result IsUnderway }
         ensures script { IfOk result (λ section. tree_in section.frame ≡ tree_in self) }
         ensures table { IfOk result (λ section. columns_in section.frame ≡ columns_in self) }
+        ensures places { IfOk result (λ section. places_in section ≡ places_for (plan_in section) helpers) }
+        ensures begins { IfOk result (λ section. IsNew section) }
     {
         let mut frame = self;
         let section = next_section(
@@ -101,7 +104,7 @@ impl Frame {
         let at = turns.begin(&first, &frame.progress.out, &frame.text);
         Ok(FrameSection {
             frame,
-            stage,
+            stage: Hold::Alone(stage),
             place: first,
             others,
             at,

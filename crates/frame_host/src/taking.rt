@@ -1,9 +1,10 @@
 // The end of a section: its board is closed, and the frame takes over what it came to.
 ghost use Rattle.std.specs.Prelude.{◌≡◌, false, true};
-ghost use Rattle.frame_host.specs.Frames.{EndsAs, IsBetween, IsRun, IsToFinish, columns_in, tree_in};
+ghost use Rattle.frame_host.specs.Frames.{EndsAs, IsRun, IsToFinish, columns_in, tree_in};
 
 use crate::answer::{FrameAnswer, FrameEnd};
 use crate::frame::Frame;
+use crate::report::FrameReport;
 use frame_core::Board;
 use frame_stage::Stage;
 use frame_top::status::UNWRITTEN;
@@ -20,7 +21,7 @@ fn answer_of(frame: Frame, cells: FlatMem) -> FrameEnd
     ensures { EndsAs (tree_in frame) (columns_in frame) result }
 {
     let mut frame = frame;
-    let report = frame.progress.report;
+    let report = FrameReport::of(&frame.progress.report);
     let status = finish(&mut frame.progress, &mut frame.text);
     if status == UNWRITTEN {
         return FrameEnd::NoMemory;

@@ -1,5 +1,5 @@
 -- What a run comes to, copied to the caller's buffer.
-use Rattle.std.proofs.Common.{◌≡◌, ◌≢◌, ◌⊎◌, inl, inr, refl, sym, ap, ◌∙◌, subst, ℕ, ◌<◌, ◌≤◌, List, [], ◌∷◌, ◌++◌, length, take, Some, arith}
+use Rattle.std.proofs.Common.{◌≡◌, ◌≢◌, ◌⊎◌, inl, inr, refl, sym, ap, ◌∙◌, ℕ, ◌<◌, List, [], ◌∷◌, ◌++◌, length, take, Some}
 use Rattle.std.specs.Io.KnownBytes.{Appends}
 use Rattle.job_base.specs.Faults.{Rose}
 use Rattle.command_words.specs.Words.{Text}

@@ -5,7 +5,7 @@ use mir.Val.{Val, vstruct, of_list}
 use base.Fml.{ftrue}
 use types.Logic.{Logic}
 use types.Kit.{Item, Goal, Seq, Step, step, ‵, ◌$◌, move, drop, fsplit, fjoin, fpick, fpack, feq_i, feq_l}
-use denote.RattleType.{RattleType, Valss}
+use denote.RattleType.{Valss}
 use denote.RawPtr.{Ptr, ptr_val}
 use denote.Steps.{nothing}
 use denote.Param.{layout}
@@ -17,7 +17,7 @@ use Rattle.std.specs.declared.alloc.Global.{Global}
 use Rattle.std.specs.declared.option.Option.{Option}
 use Rattle.std.specs.contracts.alloc.Global as heap
 use Rattle.frame_handle.specs.Handles.{held}
-use Rattle.frame_handle.proofs.Values.{both, handle_good, heap_al}
+use Rattle.frame_handle.proofs.Values.{both, heap_al}
 use Rattle.frame_jobs.specs.Holding.{IsSound}
 use Rattle.frame_jobs.specs.declared.held.Held.{Held}
 use Rattle.frame_jobs.specs.contracts.held.Held as row_of_held

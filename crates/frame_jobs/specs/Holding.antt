@@ -1,5 +1,5 @@
 -- What a handle of a host has: it is sound whatever the host did with it, since nobody else makes one.
-use Rattle.std.specs.Prelude.{◌≡◌, Option, None, Some, [], List}
+use Rattle.std.specs.Prelude.{Option, None, Some, [], List}
 use Rattle.frame_ast.specs.Accepted.{IsAccepted}
 use Rattle.table_in.specs.Columns.{NamedColumn}
 use Rattle.frame_stage.specs.Stages.{IsHelper}

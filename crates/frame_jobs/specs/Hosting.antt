@@ -3,7 +3,7 @@
 -- Each definition goes by what the handles have before the call. Where that isn't what the call is for, it answers so,
 -- and nothing is changed. What a frame comes to is the script's meaning with its columns, whatever threads took which
 -- turns in what order: none of it says who did.
-use Rattle.std.specs.Prelude.{◌≡◌, ◌⊎◌, ◌<◌, ℕ, ℤ, false, List, [], ◌∷◌, ◌++◌, length, take, slice_get, Option, None, Some, IfSome, IsSome}
+use Rattle.std.specs.Prelude.{◌≡◌, ◌⊎◌, ◌+◌, ◌<◌, ℕ, ℤ, false, List, [], ◌∷◌, ◌++◌, length, take, slice_get, Option, None, Some, IsSome, IsTrue, IsFalse}
 use Rattle.job_base.specs.declared.limits.TheConstants.{MOST_SCRIPT_BYTES}
 use Rattle.job_base.specs.declared.Trap.{Trap}
 use Rattle.job_base.specs.declared.Trap.TheVariants as trap
@@ -18,14 +18,15 @@ use Rattle.table_in.specs.Columns.{NamedColumn}
 use Rattle.frame_top.specs.Inputs.{Accepts}
 use Rattle.frame_top.specs.Refusals.{Answer, frame_refusal}
 use Rattle.frame_top.specs.declared.status.TheConstants.{DONE, NO_MEMORY, PAST_LIMIT, SCRIPT_REFUSED, UNWRITTEN}
-use Rattle.frame_host.specs.declared.answer.FrameAnswer.{FrameAnswer}
+use Rattle.frame_stage.specs.declared.helper.FrameHelper.{FrameHelper}
+use Rattle.frame_stage.specs.Stages.{IsShared as HasHelpers, SeesAll, places_for, stage_of_part}
 use Rattle.frame_host.specs.declared.frame.Frame.{Frame}
 use Rattle.frame_host.specs.declared.section.FrameSection.{FrameSection}
-use Rattle.frame_host.specs.Frames.{answered_columns, answered_table, answered_tree, columns_in, table_in, tree_in}
+use Rattle.frame_host.specs.Frames.{IsAllRun, IsNew, KeepsRun, answered_columns, answered_table, answered_tree, columns_in, places_in, plan_in, segments_run, stage_in, table_in, tree_in}
 use Rattle.frame_host.specs.Reading.{numbers_named}
 use Rattle.frame_host.specs.Scripts.{tree_of}
 use Rattle.frame_jobs.specs.declared.held.Held.{Held}
-use Rattle.frame_jobs.specs.declared.held.Held.TheVariants.{Columns, Read, Between, Underway, Answered, Helping}
+use Rattle.frame_jobs.specs.declared.held.Held.TheVariants.{Read, Between, Underway, Answered, Helping}
 use Rattle.frame_jobs.specs.declared.answering.HostReport.{HostReport}
 use Rattle.frame_jobs.specs.declared.status.TheConstants.{AGAIN, BUSY, IDLE, NEXT, NONE, NOT_NOW, OVER}
 use Rattle.frame_jobs.specs.Holding.{columns_held}
@@ -97,40 +98,55 @@ Begins None (Some (Read script)) old_columns status frame columns =
 Begins old_frame script old_columns status frame columns =
     (columns ≡ old_columns) × IsNotNow old_frame status frame
 
--- the next section of a frame is made; without memory the frame is given up
-abbrev pub IsMadeOf : Frame → ℕ → Option Held → Type 0
-IsMadeOf frame status (Some (Underway section)) =
-    (status ≡ DONE) × (tree_in section.frame ≡ tree_in frame) × (columns_in section.frame ≡ columns_in frame)
-IsMadeOf frame status None = status ≡ NO_MEMORY
-IsMadeOf frame status _ = ⊥
+-- The next section of a frame is made, with so many places for helpers. Without memory the frame is given up.
+abbrev pub IsMadeOf : Frame → ℕ → ℕ → Option Held → Type 0
+IsMadeOf frame helpers status (Some (Underway section)) = (status ≡ DONE)
+    × (tree_in section.frame ≡ tree_in frame)
+    × (columns_in section.frame ≡ columns_in frame)
+    × (places_in section ≡ places_for (plan_in section) helpers)
+    × IsNew section
+IsMadeOf frame helpers status None = status ≡ NO_MEMORY
+IsMadeOf frame helpers status _ = ⊥
 
-abbrev pub Makes : Option Held → ℕ → Option Held → Type 0
-Makes (Some (Between frame)) status new = IsMadeOf frame status new
-Makes old status new = IsNotNow old status new
+abbrev pub Makes : Option Held → ℕ → ℕ → Option Held → Type 0
+Makes (Some (Between frame)) helpers status new = IsMadeOf frame helpers status new
+Makes old helpers status new = IsNotNow old status new
 
--- A turn: the section is the same frame's. Where no segment is left, all are run.
+-- A turn leaves the frame its script and columns, and the section its stage and its places. It runs one segment at
+-- most, and where all are run they stay so.
+pub record IsTurnOf (old section : FrameSection) : Type 0 where
+  pub script : tree_in section.frame ≡ tree_in old.frame
+  pub columns : columns_in section.frame ≡ columns_in old.frame
+  pub stage : section.stage ≡ old.stage
+  pub places : places_in section ≡ places_in old
+  pub next : (segments_run section ≡ segments_run old) ⊎ (segments_run section ≡ segments_run old + 1)
+  pub always : IsAllRun old → IsAllRun section
+
+-- It says that the section is over exactly where all segments are run. Only then can the section end.
 abbrev pub IsTurned : FrameSection → ℕ → Option Held → Type 0
-IsTurned old status (Some (Underway section)) =
-    (tree_in section.frame ≡ tree_in old.frame)
-    × (columns_in section.frame ≡ columns_in old.frame)
-    × ((status ≡ AGAIN) ⊎ ((status ≡ OVER) × IsSome section.ended))
+IsTurned old status (Some (Underway section)) = IsTurnOf old section
+    × ((status ≡ OVER) × IsAllRun section × IsSome section.ended ⊎ (status ≡ AGAIN) × ¬ IsAllRun section)
 IsTurned old status _ = ⊥
 
 abbrev pub Turns : Option Held → ℕ → Option Held → Type 0
 Turns (Some (Underway section)) status new = IsTurned section status new
 Turns old status new = IsNotNow old status new
 
--- The end of a section: another one follows, or the script's answer; or the section doesn't end yet, and is as it was;
--- or memory wasn't found, and the frame is given up.
+-- The end of a section of which a turn said that it is over: another one follows, or the script's answer; or memory
+-- wasn't found, and the frame is given up. Or the section is as it was: no turn said so, or a helper of it was given
+-- out.
 abbrev pub IsEnded : FrameSection → ℕ → Option Held → Type 0
-IsEnded old status (Some (Between frame)) =
-    (status ≡ NEXT) × (tree_in frame ≡ tree_in old.frame) × (columns_in frame ≡ columns_in old.frame)
-IsEnded old status (Some (Answered answer)) =
-    (status ≡ status_of (tree_in old.frame) (table_in old.frame))
+IsEnded old status (Some (Between frame)) = IsSome old.ended
+    × (status ≡ NEXT)
+    × (tree_in frame ≡ tree_in old.frame)
+    × (columns_in frame ≡ columns_in old.frame)
+IsEnded old status (Some (Answered answer)) = IsSome old.ended
+    × (status ≡ status_of (tree_in old.frame) (table_in old.frame))
     × (answered_tree answer ≡ tree_in old.frame)
     × (answered_columns answer ≡ columns_in old.frame)
-IsEnded old status (Some (Underway section)) = (status ≡ BUSY) × (section ≡ old)
-IsEnded old status None = status ≡ NO_MEMORY
+IsEnded old status (Some (Underway section)) =
+    (status ≡ BUSY) × (section ≡ old) × ((old.ended ≡ None) ⊎ HasHelpers old.stage)
+IsEnded old status None = IsSome old.ended × (status ≡ NO_MEMORY)
 IsEnded old status _ = ⊥
 
 abbrev pub Ends : Option Held → ℕ → Option Held → Type 0
@@ -139,28 +155,36 @@ Ends old status new = IsNotNow old status new
 
 -- HELPERS
 
--- the section keeps its frame
-abbrev pub IsSameFrame : FrameSection → Option Held → Type 0
-IsSameFrame old (Some (Underway section)) = section.frame ≡ old.frame
-IsSameFrame old _ = ⊥
+-- A helper of the section, which has one place less; or no place is left, and nothing is changed; or memory wasn't
+-- found, and the place is left.
+abbrev pub IsHanded : FrameSection → ℕ → FrameSection → Option Held → Type 0
+IsHanded old status section (Some (Helping helper)) = (status ≡ DONE)
+    × (stage_of_part helper.stage ≡ stage_in old)
+    × (places_in old ≡ places_in section + 1)
+IsHanded old status section None = (status ≡ NONE) × (places_in old ≡ 0) × (section ≡ old)
+    ⊎ (status ≡ NO_MEMORY) × (0 < places_in old) × (places_in section ≡ places_in old)
+IsHanded old status section _ = ⊥
 
--- a helper, or none: no place is left, or no memory was found
-abbrev pub IsHanded : ℕ → Option Held → Type 0
-IsHanded status (Some (Helping helper)) = status ≡ DONE
-IsHanded status None = (status ≡ NONE) ⊎ (status ≡ NO_MEMORY)
-IsHanded status _ = ⊥
+-- the section is run on as before
+abbrev pub HandsOutOf : FrameSection → ℕ → Option Held → Option Held → Type 0
+HandsOutOf old status (Some (Underway section)) helper = KeepsRun old section × IsHanded old status section helper
+HandsOutOf old status _ helper = ⊥
 
 abbrev pub HandsOut : Option Held → Option Held → ℕ → Option Held → Option Held → Type 0
-HandsOut (Some (Underway section)) None status frame helper = IsSameFrame section frame × IsHanded status helper
+HandsOut (Some (Underway section)) None status frame helper = HandsOutOf section status frame helper
 HandsOut old_frame old_helper status frame helper = (frame ≡ old_frame) × IsNotNow old_helper status helper
 
--- a turn of a helper: it ran a piece, found none, or its section is run
-abbrev pub IsHelped : ℕ → Option Held → Type 0
-IsHelped status (Some (Helping helper)) = (status ≡ AGAIN) ⊎ ((status ≡ IDLE) ⊎ (status ≡ OVER))
-IsHelped status _ = ⊥
+-- A turn of a helper, which stays one of its section. It says that the section is over only where its seat has seen
+-- each job of the section finished, and then nothing changes any more.
+abbrev pub IsHelped : FrameHelper → ℕ → Option Held → Type 0
+IsHelped old status (Some (Helping helper)) = (helper.stage ≡ old.stage)
+    × (IsTrue old.over → helper ≡ old)
+    × ((status ≡ OVER) × IsTrue helper.over × SeesAll (stage_of_part helper.stage).section.plan helper.place
+    ⊎ ((status ≡ AGAIN) ⊎ (status ≡ IDLE)) × IsFalse helper.over)
+IsHelped old status _ = ⊥
 
 abbrev pub Helps : Option Held → ℕ → Option Held → Type 0
-Helps (Some (Helping helper)) status new = IsHelped status new
+Helps (Some (Helping helper)) status new = IsHelped helper status new
 Helps old status new = IsNotNow old status new
 
 -- ANSWERS. The handle is as it was.
@@ -200,17 +224,16 @@ trap_number trap.PresentKey = 7
 trap_number trap.Written = 8
 trap_number trap.Budget = 9
 
--- the first trap
-pub record IsFirst (report : HostReport) (t : JobTrap) : Type 0 where
-  pub job : t.job ≡ report.job
-  pub index : t.index ≡ report.index
-  pub trap : trap_number t.trap ≡ report.trap
+-- the first trap, or zeros where there is none
+abbrev pub IsFirst : HostReport → Option JobTrap → Type 0
+IsFirst report None = (report.job ≡ 0) × (report.index ≡ 0) × (report.trap ≡ 0)
+IsFirst report (Some t) = (report.job ≡ t.job) × (report.index ≡ t.index) × (report.trap ≡ trap_number t.trap)
 
--- The refused statements and the traps of a state, and the first trap, where there is one.
+-- the refused statements and the traps of a state
 pub record IsReported (s : ScriptState) (report : HostReport) : Type 0 where
   pub refused : report.refused ≡ s.refused
   pub traps : report.traps ≡ length s.traps
-  pub first : IfSome (slice_get s.traps 0) (IsFirst report)
+  pub first : IsFirst report (slice_get s.traps 0)
 
 abbrev pub Reports : Option Held → HostReport → ℕ → Type 0
 Reports (Some (Answered answer)) report status = (status ≡ DONE)

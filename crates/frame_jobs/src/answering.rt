@@ -1,12 +1,14 @@
 // What a frame came to.
-ghost use Rattle.std.specs.Prelude.{◌≡◌, ◌≤◌, length, take, option_copied, Some};
-ghost use Rattle.frame_host.specs.Frames.{IsAnswer};
+ghost use Rattle.std.specs.Prelude.{◌≡◌, ◌≤◌, length, take, Some};
+ghost use Rattle.frame_ast.specs.States.{ScriptState};
+ghost use Rattle.frame_host.specs.Reports.{IsFrameReport};
 ghost use Rattle.frame_jobs.specs.Holding.{IsSoundHeld};
-ghost use Rattle.frame_jobs.specs.Hosting.{IsLeft, Prints, Reads, Reports, trap_number};
+ghost use Rattle.frame_jobs.specs.Hosting.{IsLeft, IsReported, Prints, Reads, Reports, trap_number};
 
 use crate::held::Held;
 use crate::host::HostHandle;
 use crate::status::{NONE, NOT_NOW};
+use frame_host::FrameReport;
 use frame_top::status::{DONE, UNWRITTEN};
 use job_base::Trap;
 use std::alloc::Global;
@@ -19,10 +21,10 @@ pub struct HostReport {
     pub refused: u64,
     /// How many runs of kernels trapped.
     pub traps: u64,
-    /// The job of the first trap. Where there is none, it says nothing, as the two after it.
+    /// The job of the first trap, and its index. 0 where there is none.
     pub job: u32,
     pub index: u32,
-    /// What stands for the trap: 1 to 9, in the order of the header.
+    /// What stands for the trap: 1 to 9, in the order of the header, or 0 where there is none.
     pub trap: u32,
 }
 
@@ -132,6 +134,28 @@ pub extern "C" fn frame_text(
     status
 }
 
+// A report as C has it.
+fn report_for_host(report: &FrameReport) -> HostReport
+    ensures { (s : ScriptState) → IsFrameReport s report.now → IsReported s result }
+{
+    let none = HostReport {
+        refused: report.refused,
+        traps: report.traps,
+        job: 0,
+        index: 0,
+        trap: 0,
+    };
+    match report.first {
+        Some(first) => HostReport {
+            job: first.job.0,
+            index: first.index,
+            trap: number_of_trap(first.trap),
+            ..none
+        },
+        None => none,
+    }
+}
+
 // The report of an answer.
 fn read_report(held: &Held, report: &mut HostReport) -> u8
     requires sound { IsSoundHeld held.now }
@@ -140,14 +164,7 @@ fn read_report(held: &Held, report: &mut HostReport) -> u8
     let Held::Answered(answer) = held else {
         return NOT_NOW;
     };
-    let from = &answer.report;
-    *report = HostReport {
-        refused: from.refused,
-        traps: from.traps,
-        job: from.job.0,
-        index: from.index,
-        trap: number_of_trap(from.trap),
-    };
+    *report = report_for_host(&answer.report);
     DONE
 }
 

@@ -71,7 +71,7 @@ pub extern "C" fn frame_begin(
 // The next section of a frame.
 fn made(alloc: Global, held: Held, helpers: u32) -> (Option<Held>, u8)
     requires sound { IsSoundHeld held }
-    ensures made { Makes (Some held) result.1 result.0 }
+    ensures made { Makes (Some held) helpers result.1 result.0 }
     ensures sound { IsSound result.0 }
 {
     match held {
@@ -83,10 +83,11 @@ fn made(alloc: Global, held: Held, helpers: u32) -> (Option<Held>, u8)
     }
 }
 
-/// Makes the next section of a frame, with a place for each of so many helpers, but for no more than it has pieces.
+/// Makes the next section of a frame, with a place for each of so many helpers; but for no more than it has pieces of
+/// jobs, nor than 63.
 #[unsafe(no_mangle)]
 pub extern "C" fn frame_next(alloc: Global, frame: &mut HostHandle, helpers: u32) -> u8
-    ensures { Makes frame.old.value result frame.new.value }
+    ensures { Makes frame.old.value helpers result frame.new.value }
 {
     let Some((block, held)) = frame.take_out(alloc) else {
         return NOT_NOW;
@@ -105,8 +106,10 @@ fn turned(held: Held) -> (Option<Held>, u8)
     match held {
         Held::Underway(section) => {
             let mut section = section;
-            let status = if section.turn() { AGAIN } else { OVER };
-            (Some(Held::Underway(section)), status)
+            if section.turn() {
+                return (Some(Held::Underway(section)), AGAIN);
+            }
+            (Some(Held::Underway(section)), OVER)
         }
         other => (Some(other), NOT_NOW),
     }

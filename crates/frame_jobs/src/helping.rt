@@ -1,26 +1,37 @@
 // Helpers: what each other thread has that runs pieces of a section.
-ghost use Rattle.std.specs.Prelude.{◌≡◌, IfSome, Some};
-ghost use Rattle.frame_stage.specs.Stages.{IsHelper};
+ghost use Rattle.std.specs.Prelude.{◌≡◌, None, Some};
 ghost use Rattle.frame_jobs.specs.Holding.{IsSound, IsSoundHeld};
-ghost use Rattle.frame_jobs.specs.Hosting.{HandsOut, Helps, IsHanded};
+ghost use Rattle.frame_jobs.specs.Hosting.{HandsOut, Helps};
+ghost use Rattle.frame_jobs.specs.declared.held.Held.TheVariants.{Underway};
 
 use crate::held::Held;
 use crate::host::HostHandle;
 use crate::status::{AGAIN, IDLE, NONE, NOT_NOW, OVER};
-use frame_stage::FrameHelper;
-use frame_top::status::DONE;
+use frame_host::FrameSection;
+use frame_top::status::{DONE, NO_MEMORY};
 use std::alloc::Global;
 use steal_pool::HelperTurn;
 
-// What an empty handle is given, and what is answered.
-fn handed(helper: Option<FrameHelper>) -> (Option<Held>, u8)
-    requires sound { IfSome helper IsHelper }
-    ensures handed { IsHanded result.1 result.0 }
+// A helper of a section, for an empty handle. Its block is made before its place is taken, so that none is lost.
+fn give(alloc: Global, section: FrameSection, helper: &mut HostHandle) -> (Option<Held>, u8)
+    requires empty { helper.old.value ≡ None }
+    requires sound { IsSoundHeld (Underway section) }
+    ensures handed { HandsOut (Some (Underway section)) None result.1 result.0 helper.new.value }
     ensures sound { IsSound result.0 }
 {
-    match helper {
-        Some(helper) => (Some(Held::Helping(helper)), DONE),
-        None => (None, NONE),
+    if section.places() == 0 {
+        return (Some(Held::Underway(section)), NONE);
+    }
+    let Ok(block) = Box::new(alloc, Held::Lost) else {
+        return (Some(Held::Underway(section)), NO_MEMORY);
+    };
+    let (section, given) = section.helper(alloc);
+    match given {
+        Ok(given) => {
+            helper.put_back(block, Some(Held::Helping(given)));
+            (Some(Held::Underway(section)), DONE)
+        }
+        Err(_) => (Some(Held::Underway(section)), NO_MEMORY),
     }
 }
 
@@ -36,16 +47,14 @@ fn hand_out(alloc: Global, held: Held, helper: &mut HostHandle) -> (Option<Held>
                 helper.put_back(block, Some(there));
                 return (Some(Held::Underway(section)), NOT_NOW);
             }
-            let mut section = section;
-            let (held, status) = handed(section.helper());
-            let status = helper.put(alloc, held, status);
-            (Some(Held::Underway(section)), status)
+            give(alloc, section, helper)
         }
         other => (Some(other), NOT_NOW),
     }
 }
 
-/// Gives an empty handle a helper of a section, for another thread, while there is a place that none has.
+/// Gives an empty handle a helper of a section, for another thread. It answers `NONE` exactly where all places are
+/// given out.
 #[unsafe(no_mangle)]
 pub extern "C" fn frame_helper(alloc: Global, frame: &mut HostHandle, helper: &mut HostHandle) -> u8
     ensures { HandsOut frame.old.value helper.old.value result frame.new.value helper.new.value }
@@ -67,18 +76,18 @@ fn helped(held: Held) -> (Option<Held>, u8)
     match held {
         Held::Helping(helper) => {
             let mut helper = helper;
-            let status = match helper.turn() {
-                HelperTurn::Ran => AGAIN,
-                HelperTurn::Idle => IDLE,
-                HelperTurn::Over => OVER,
-            };
-            (Some(Held::Helping(helper)), status)
+            match helper.turn() {
+                HelperTurn::Ran => (Some(Held::Helping(helper)), AGAIN),
+                HelperTurn::Idle => (Some(Held::Helping(helper)), IDLE),
+                HelperTurn::Over => (Some(Held::Helping(helper)), OVER),
+            }
         }
         other => (Some(other), NOT_NOW),
     }
 }
 
-/// Runs a piece of a job, if one is found, and returns at once.
+/// Runs a piece of a job, if one is found, and returns at once. It answers that the section is over only where the
+/// helper has seen that each of its jobs is finished, and from then on always.
 #[unsafe(no_mangle)]
 pub extern "C" fn frame_help(alloc: Global, helper: &mut HostHandle) -> u8
     ensures { Helps helper.old.value result helper.new.value }

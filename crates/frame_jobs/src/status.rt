@@ -3,20 +3,20 @@
 /// The call isn't one for what its handle has. Nothing was changed.
 pub const NOT_NOW: u8 = 10;
 
-/// There is more to run.
+/// Of a section: not all of its segments are run. Of a helper: a piece was run.
 pub const AGAIN: u8 = 11;
 
-/// There was nothing to run. There may be later.
+/// A helper found nothing to run. There may be later.
 pub const IDLE: u8 = 12;
 
-/// All of the section is run.
+/// All segments of the section are run. Of a helper: it saw that each job of the section is finished.
 pub const OVER: u8 = 13;
 
 /// There is another section.
 pub const NEXT: u8 = 14;
 
-/// Segments aren't run yet, or helpers aren't given back.
+/// No turn said yet that all segments are run, or helpers aren't given back.
 pub const BUSY: u8 = 15;
 
-/// No place is left for a helper; or the name has no numbers.
+/// All places for helpers are given out; or the name has no numbers.
 pub const NONE: u8 = 16;

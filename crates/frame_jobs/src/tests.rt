@@ -42,6 +42,14 @@ const TESTED: &[u8] = b"parallel rise(a: rw array) { a[index] = a[index] + 1; }\
     schedule h rise(a) 2 1\nschedule k first(a, r) after h\ncomplete k\n\
     when r > 2 {\nset a 0 = 0\n}\nprint a\n";
 
+const NO_REPORT: HostReport = HostReport {
+    refused: 9,
+    traps: 9,
+    job: 9,
+    index: 9,
+    trap: 9,
+};
+
 // Runs a frame's sections: a helper and the script's thread take turns.
 fn run_sections(alloc: Global, frame: &mut HostHandle) -> u8 {
     for _section in 0..3 {
@@ -102,6 +110,10 @@ fn a_frame_is_run_by_turns_and_read(rt: HostRuntime) -> Result<(), Fail> {
     let mut text = [0u8; 16];
     assert_eq!(rt; frame_text(alloc, &mut frame, &mut text, &mut len), 0);
     assert_eq!(rt; text[..11], *b"a = [0, 5]\n".as_slice());
+    let mut report = NO_REPORT;
+    assert_eq!(rt; frame_report(alloc, &mut frame, &mut report), 0);
+    assert_eq!(rt; report.traps, 0);
+    assert_eq!(rt; report.trap, 0);
     Ok(())
 }
 
@@ -126,14 +138,10 @@ fn a_call_at_a_wrong_time_is_answered(rt: HostRuntime) -> Result<(), Fail> {
     assert_eq!(rt; frame_next(alloc, &mut frame, 1), NOT_NOW);
     let mut helper = HostHandle::empty(alloc);
     assert_eq!(rt; frame_helper(alloc, &mut frame, &mut helper), 0);
+    let mut none = HostHandle::empty(alloc);
+    assert_eq!(rt; frame_helper(alloc, &mut frame, &mut none), NONE);
     assert_eq!(rt; frame_end(alloc, &mut frame), BUSY);
-    let mut report = HostReport {
-        refused: 0,
-        traps: 0,
-        job: 0,
-        index: 0,
-        trap: 0,
-    };
+    let mut report = NO_REPORT;
     assert_eq!(rt; frame_report(alloc, &mut frame, &mut report), NOT_NOW);
     Ok(())
 }

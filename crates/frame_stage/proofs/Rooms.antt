@@ -1,7 +1,8 @@
 -- The places of a room that is made of a word board's seats.
-use Rattle.std.proofs.Common.{◌≡◌, refl, ap, subst, ℕ, zero, suc, ◌<◌, ◌≤◌, true, false, List, [], ◌∷◌, length, get_or, Some, arith}
+use Rattle.std.proofs.Common.{◌≡◌, refl, ap, subst, ℕ, zero, suc, ◌+◌, ◌<◌, ◌≤◌, true, false, List, [], ◌∷◌, length, get_or, Some, arith}
 use Rattle.std.specs.Prelude.{slice_get}
 use Rattle.std.proofs.lemmas.Bool.{ne_eqb}
+use Rattle.std.proofs.lemmas.List.{length-map}
 use Rattle.frame_core.specs.declared.plan.Plan.{Plan}
 use Rattle.frame_core.specs.Know.{new_seat}
 use Rattle.steal_pool.specs.declared.room.PoolRoom.{PoolRoom}
@@ -31,3 +32,12 @@ made_ready rooms_are_ready plan board n (first ∷ others) room e some new has =
     (new (suc k) (get_or others k d) (at_get others k d l)) in
     record { at_home = it.home; knows = new_knows (plan_of board) (get_or others k d) false it.view })
     has
+
+-- a place for each seat but the first
+pub as_many : (plan : Plan) (seats : List WordSeat) (room : PoolRoom WordSeat) (n m : ℕ) → HasSeats plan seats room → length seats ≡ n → n ≡ m + 1
+    → length room.others.items ≡ m
+as_many plan seats room n m has count is =
+    let same = ap length has.seats_are in
+    let others = length-map room.others.items (λ place. place.seat) in
+    let all = length-map seats (λ seat. Some seat) in
+    omega (arith, same, others, all, count, is)

@@ -1,18 +1,16 @@
 // What all who run a section share, and its places.
-ghost use Rattle.std.specs.Prelude.{◌≡◌, ◌≤◌, All, IfOk, length};
-ghost use Rattle.std.specs.Arc.{arc_value};
+ghost use Rattle.std.specs.Prelude.{◌≡◌, ◌≤◌, ◌+◌, All, IfOk, length};
 ghost use Rattle.job_base.specs.declared.limits.TheConstants.{MOST_WORKERS};
 ghost use Rattle.frame_core.specs.Ordered.{IsWellOrderedPlan};
 ghost use Rattle.steal_pool.specs.Seats.{IsFirst, IsReady};
 ghost use Rattle.word_board.specs.Boards.{home_of, know_of, name_of};
-ghost use Rattle.frame_stage.specs.Stages.{IsStage};
+ghost use Rattle.frame_stage.specs.Stages.{IsStage, places_for};
 
 use frame_core::Plan;
 use frame_plan::Section;
 use job_base::limits::MOST_WORKERS;
 use job_base::{FlatMem, NoMemory, OpenGate};
 use std::alloc::Global;
-use std::sync::Arc;
 use steal_pool::laws::rooms_are_ready;
 use steal_pool::{Place, PoolRoom, Shared, Turns};
 use word_board::{WordBoard, WordSeat};
@@ -28,7 +26,7 @@ pub struct Stage {
 /// A stage with its places, the first one that of the script's thread.
 #[derive(Drop)]
 pub struct Staged {
-    pub stage: Arc<Stage, Global>,
+    pub stage: Box<Stage>,
     pub first: Place<WordSeat>,
     pub others: Vec<Place<WordSeat>>,
 }
@@ -52,6 +50,7 @@ impl Stage {
 // How many seats a board needs: one for the script's thread, and one for each helper that can have a piece.
 fn seats_for(plan: &Plan, helpers: u32) -> u32
     requires well { IsWellOrderedPlan plan.now }
+    ensures seats { result ≡ places_for plan.now helpers + 1 }
     ensures some { 1 ≤ result }
     ensures most { result ≤ MOST_WORKERS }
 {
@@ -61,12 +60,13 @@ fn seats_for(plan: &Plan, helpers: u32) -> u32
 /// Sets the stage of a section, for so many helpers and no more than it has pieces.
 pub fn set_stage(alloc: Global, section: Section, helpers: u32) -> Result<Staged, NoMemory>
     requires well { IsWellOrderedPlan section.plan }
-    ensures section { IfOk result (λ s. (arc_value s.stage).section ≡ section) }
-    ensures stage { IfOk result (λ s. IsStage (arc_value s.stage)) }
+    ensures section { IfOk result (λ s. s.stage.value.section ≡ section) }
+    ensures stage { IfOk result (λ s. IsStage s.stage.value) }
     ensures first { IfOk result (λ s.
-        IsFirst home_of know_of (name_of (arc_value s.stage).board) 0 s.first) }
+        IsFirst home_of know_of (name_of s.stage.value.board) 0 s.first) }
     ensures others { IfOk result (λ s.
-        All (IsReady home_of know_of (name_of (arc_value s.stage).board)) s.others.items) }
+        All (IsReady home_of know_of (name_of s.stage.value.board)) s.others.items) }
+    ensures places { IfOk result (λ s. length s.others.items ≡ places_for section.plan helpers) }
 {
     let seats = seats_for(&section.plan, helpers);
     let (board, made) = WordBoard::make(alloc, &section.plan, seats)?;
@@ -82,7 +82,7 @@ pub fn set_stage(alloc: Global, section: Section, helpers: u32) -> Result<Staged
         board,
         shared,
     };
-    match Arc::new(alloc, stage) {
+    match Box::new(alloc, stage) {
         Ok(stage) => Ok(Staged {
             stage,
             first,

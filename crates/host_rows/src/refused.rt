@@ -42,13 +42,15 @@ fn a_section_waits_for_its_helpers(rt: HostRuntime) -> Result<(), Fail> {
     let Ok(frame) = Frame::begin(alloc, &script, column(alloc, b"a", &[1, 2])?) else {
         return Err(Fail::new("it isn't begun"));
     };
-    let mut section = frame.next(alloc, 1)?;
-    let Some(helper) = section.helper() else {
+    let (section, helper) = frame.next(alloc, 1)?.helper(alloc);
+    let Ok(helper) = helper else {
         return Err(Fail::new("no helper"));
     };
     let Err(section) = section.end(alloc) else {
         return Err(Fail::new("it ended before it was run"));
     };
+    let (section, none) = section.helper(alloc);
+    assert!(rt; none.is_err());
     drop(helper);
     drop(section);
     Ok(())

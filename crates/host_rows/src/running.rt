@@ -25,8 +25,9 @@ fn run_section(alloc: Global, section: FrameSection) -> Result<FrameEnd, Fail>
     requires sound { IsUnderway section }
     ensures { IfOk result (EndsAs (tree_in section.frame) (columns_in section.frame)) }
 {
+    let (section, helper) = section.helper(alloc);
     let mut section = section;
-    let mut helper = section.helper();
+    let mut helper = helper.ok();
     for _turn in 0..MOST_TURNS {
         let more = section.turn();
         if let Some(helper) = &mut helper {

@@ -5,7 +5,7 @@ use Rattle.frame_host.proofs.taking.answer_of.Goals as goal
 pub returns : goal.returns
 returns c = (
   answers c.args.frame c.finish-status.new.progress c.finish-status.new.sink c.finish-status.result _ _ c.requires.last c.finish-status.ensures.closed
-      c.if-status-eq-UNWRITTEN.false refl refl refl refl refl refl c.into_cells.ensures,
+      c.if-status-eq-UNWRITTEN.false refl refl c.of-report.ensures refl refl refl c.into_cells.ensures,
   refl,
   refl,
 )

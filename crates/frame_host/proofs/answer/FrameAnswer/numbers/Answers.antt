@@ -1,4 +1,4 @@
-use Rattle.std.proofs.Common.{◌≡◌, ap, length, subst, sym, ◌∙◌, Some, arith}
+use Rattle.std.proofs.Common.{ap, length, subst, sym, ◌∙◌, Some, arith}
 use Rattle.std.specs.Prelude.{option_copied}
 use Rattle.job_base.specs.Cells.{cells_of}
 use Rattle.frame_ast.specs.States.{contents_at}

@@ -1,11 +1,9 @@
 -- `into_handle` keeps the pointer and what it owns, and tells that it is sound.
 use Rattle.std.proofs.Common.{◌≡◌, List, [], ◌∷◌, ◌++◌, refl, sym, subst}
 use mir.Val.{Val}
-use mir.MapTy.{inst_fn}
 use base.Logic.{SProp, ent, emp, id⊢}
-use base.Fml.{ftrue, flft}
 use prog.Wp.{WpFn}
-use types.Kit.{‵, raw, ◌⊛◌, ◌$◌, ◌∵◌, !, qed, by, move, keep, drop, split, join, fsplit, fjoin, suffices, use0, learn}
+use types.Kit.{‵, raw, ◌⊛◌, ◌$◌, ◌∵◌, !, qed, by, move, keep, split, join, fsplit, fjoin, suffices, use0}
 use types.Run.{stop, fld, of_opd, no_more, and_then, returns, enter}
 use types.ByLocal.{alloc_all, pass_all, free_all, look_at, get, get_in, sets}
 use types.Part.{agg, sub, whole}
@@ -14,15 +12,15 @@ use contract.Running.{tables}
 use denote.Exit.{yes}
 use denote.RattleType.{RattleType, owns}
 use denote.Signature.{types_at, plain}
-use denote.RawPtr.{Ptr, ptr_val}
-use denote.Steps.{nothing, heard}
+use denote.RawPtr.{ptr_val}
+use denote.Steps.{nothing}
 use denote.Triple.Entry.{alive}
 use denote.Triple.Walked.{Stays, stay_dropped, walk_of}
 use Rattle.std.proofs.alloc.Calls.{Goes-blank}
 use Rattle.std.specs.contracts.alloc.Global as heap
 use Rattle.std.proofs.raw_atomic.Walks.{proved_at, leaves}
 use Rattle.frame_handle.proofs.Steps.{Ptr-Good}
-use Rattle.frame_handle.proofs.Values.{both, Handle, handle_good, handle_in}
+use Rattle.frame_handle.proofs.Values.{both, handle_good, handle_in}
 use Rattle.frame_jobs.proofs.HostValues.{host_out}
 use Rattle.frame_jobs.specs.Holding.{IsSound}
 use Rattle.frame_jobs.specs.contracts.held.Held as row_of_held
