@@ -20,10 +20,10 @@ slice s x 62 2
 print s
 ";
 
-// The first two pieces of the last job.
+// Two pieces of the last job: the first one, and one so far behind it that no claim has both.
 const FIRST: PieceId = PieceId(66);
 
-const SECOND: PieceId = PieceId(67);
+const SECOND: PieceId = PieceId(82);
 
 #[test]
 fn sleepers_are_woken(rt: HostRuntime) -> Result<(), Fail> {
