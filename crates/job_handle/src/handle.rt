@@ -3,7 +3,7 @@ ghost use Rattle.std.specs.Prelude.{◌≡◌, ℕ, ◌<◌, ◌≤◌, ◌+◌,
 ghost use Rattle.std.specs.Int.{bit_at};
 ghost use Rattle.frame_ast.specs.Jobs.{nobody, only, both, greatest};
 ghost use Rattle.frame_ast.specs.Laws.{AreUpTo};
-ghost use Rattle.job_handle.specs.Sets.{jobs_of, outside, job_numbered, IsLast, IsNext};
+ghost use Rattle.job_handle.specs.Extent.{AreWithin};
 
 use job_base::JobId;
 use job_base::limits::MOST_JOBS;
@@ -22,14 +22,25 @@ const WORDS: usize = 64;
 pub struct Handle {
     // Job j is bit (j - 1) % WORD_JOBS of word (j - 1) / WORD_JOBS.
     words: [u64; WORDS],
+    // The words with jobs lie from `low` up to before `high`, so a set of few jobs is gone through in few steps.
+    low: usize,
+    high: usize,
+    ghost few: { (low ≤ 64) × (high ≤ 64) },
+    ghost within: { AreWithin words low high },
 }
 
 impl Handle {
+    ghost use Rattle.job_handle.specs.Sets.{jobs_of, outside, job_numbered, IsLast, IsNext};
+
     /// No job: the default handle.
     pub fn empty() -> Handle
         ensures { jobs_of result ≡ nobody }
     {
-        Handle { words: [0; WORDS] }
+        Handle {
+            words: [0; WORDS],
+            low: WORDS,
+            high: 0,
+        }
     }
 
     /// One job, 1 to [`MOST_JOBS`].
@@ -40,7 +51,11 @@ impl Handle {
         let mut words = [0; WORDS];
         let at = (j.0 - 1) as usize;
         words[at / WORD_JOBS] = 1u64 << (at % WORD_JOBS);
-        Handle { words }
+        Handle {
+            words,
+            low: at / WORD_JOBS,
+            high: at / WORD_JOBS + 1,
+        }
     }
 
     /// Whether a job, 1 to [`MOST_JOBS`], is in the set.
@@ -67,7 +82,9 @@ impl Handle {
     pub fn add_all(&mut self, other: &Handle)
         ensures { jobs_of self.new ≡ both (jobs_of self.old) (jobs_of other.now) }
     {
-        for i in 0..WORDS {
+        self.low = self.low.min(other.low);
+        self.high = self.high.max(other.high);
+        for i in other.low..other.high {
             self.words[i] |= other.words[i];
         }
     }
@@ -78,7 +95,10 @@ impl Handle {
         ensures { jobs_of self.new ≡ both (jobs_of self.old) (only j.0) }
     {
         let at = (j.0 - 1) as usize;
-        self.words[at / WORD_JOBS] |= 1u64 << (at % WORD_JOBS);
+        let word = at / WORD_JOBS;
+        self.low = self.low.min(word);
+        self.high = self.high.max(word + 1);
+        self.words[word] |= 1u64 << (at % WORD_JOBS);
     }
 
     /// The greatest job that is in this set and not in another one, or none.
@@ -89,13 +109,15 @@ impl Handle {
         self.latest_up_to(other, MOST_JOBS)
     }
 
-    /// The greatest job up to job `to` that is in this set and not in another one, or none. It costs a step a word.
+    /// The greatest job up to job `to` that is in this set and not in another one, or none. It costs
+    /// a step for each word of this set that may have some.
     pub(crate) fn latest_up_to(&self, other: &Handle, to: u32) -> Option<JobId>
         requires { to ≤ MOST_JOBS }
         ensures { IsLast (outside (jobs_of self.now) (jobs_of other.now)) to result }
     {
-        let mut left = to;
-        while left > 0 {
+        let first = (self.low * WORD_JOBS) as u32;
+        let mut left = to.min((self.high * WORD_JOBS) as u32);
+        while left > first {
             if let Some(j) = self.latest_in_word(other, left) {
                 return Some(j);
             }
@@ -105,13 +127,14 @@ impl Handle {
     }
 
     /// The least job after job `from` and up to job `to` that is in this set and not in another one, or none. It costs
-    /// a step a word.
+    /// a step for each word of this set that may have some.
     pub fn next_outside(&self, other: &Handle, from: u32, to: u32) -> Option<JobId>
         requires { to ≤ MOST_JOBS }
         ensures { IsNext (outside (jobs_of self.now) (jobs_of other.now)) from to result }
     {
-        let mut at = from;
-        while at < to {
+        let last = to.min((self.high * WORD_JOBS) as u32);
+        let mut at = from.max((self.low * WORD_JOBS) as u32);
+        while at < last {
             if let Some(j) = self.next_in_word(other, at) {
                 return if j.0 <= to { Some(j) } else { None };
             }

@@ -1,13 +1,13 @@
 -- A set of the jobs whose use conflicts, and the greatest of them that doesn't happen before.
 use Rattle.std.proofs.Common.{◌≡◌, ℕ, zero, suc, ◌+◌, ◌-◌, ◌<◌, ◌≤◌, ⊎_elim, Bool, true, false, ◌&&◌, ◌||◌, Option, None, Some, is_some, refl, sym, ap, subst, ◌∙◌, arith}
 use Rattle.std.specs.Prelude.{not, nat_eq, nat_lt, if◌then◌else◌}
-use Rattle.std.proofs.lemmas.Bool.{cond-false, or_left, or_right, or_cases, and_parts, and_from, eqb-true, ltb-true, lt-ltb, not_from_true, false_from_ne_true}
+use Rattle.std.proofs.lemmas.Bool.{cond-false, or_left, or_right, or_cases, and_parts, and_from, eqb-true, eq-eqb, ltb-true, lt-ltb, not_from_true, not_from_false, false_from_ne_true}
 use Rattle.job_base.specs.declared.JobId.{JobId}
 use Rattle.job_base.specs.declared.limits.TheConstants.{MOST_JOBS}
 use Rattle.frame_ast.specs.Jobs.{Jobs, nobody, only, both, greatest, Book, happens_before}
 use Rattle.frame_ast.specs.Conflicts.{Uses, blocker}
 use Rattle.frame_ast.specs.Laws.{AreUpTo, AreUses}
-use Rattle.frame_ast.proofs.Ancestry.{greatest_below}
+use Rattle.frame_ast.proofs.Ancestry.{greatest_below, greatest_in, greatest_above}
 use Rattle.job_handle.specs.declared.handle.Handle.{Handle}
 use Rattle.job_handle.specs.declared.book.JobBook.{JobBook}
 use Rattle.job_handle.specs.Sets.{bit_of, jobs_of, outside, job_numbered}
@@ -130,6 +130,50 @@ only_writer l writes k unread t = ⊎_elim
     (λ q. eqb-true k l.writer q)
     (λ r. absurd (not_both r (unread k)))
     (or_cases (nat_eq k l.writer) (writes && l.readers k) (and_parts (nat_lt 0 k) (nat_eq k l.writer || (writes && l.readers k)) t).1)
+
+numbered : (j : ℕ) → 0 < j → Some (record { 0 = j }) ≡ job_numbered j
+numbered zero low = absurd (omega arith)
+numbered (suc j) low = refl
+
+-- where the writer doesn't happen before, it blocks a use that only reads
+pub writer_blocks : (book : JobBook) (l : Latest) (after : Handle) (w : ℕ) → w ≡ l.writer → 0 < w
+    → ((b : Book) → StandsFor book b → happens_before b (jobs_of after) w ≡ false)
+    → (b : Book) (u : Uses) → StandsFor book b → AreUses b u → StandForUses b l u → Some (record { 0 = w }) ≡ job_numbered (blocker b u (jobs_of after) false)
+writer_blocks book l after w same some late b u F U S =
+    numbered w some ∙ ap (λ n. job_numbered n) (is_writer ∙ latest_decide b l u F.known U S (jobs_of after) false)
+  where
+    set : Jobs
+    set = latest_blockers b l (jobs_of after) false
+
+    top : l.writer ≤ b.count
+    top = subst (λ x. x ≤ b.count) (sym S.writer) (greatest_below u.writers b.count)
+
+    here : set w ≡ true
+    here = and_from (nat_eq w l.writer || false) (not (happens_before b (jobs_of after) w)) (or_left (nat_eq w l.writer) false (eq-eqb w l.writer same))
+        (not_from_false (happens_before b (jobs_of after) w) (late b F))
+
+    is_writer : w ≡ greatest set b.count
+    is_writer =
+        let above : w ≤ greatest set b.count = greatest_above set b.count w (let t = top in omega arith) here in
+        let g : ℕ = greatest set b.count in
+        let p = and_parts (nat_eq g l.writer || false) (not (happens_before b (jobs_of after) g)) (greatest_in set b.count (omega arith)) in
+        ⊎_elim
+        (λ q. same ∙ sym (eqb-true g l.writer q))
+        (λ f. absurd (not_both f refl))
+        (or_cases (nat_eq g l.writer) false p.0)
+
+-- no job conflicts with a use that only reads where there is no writer
+pub unwritten : (l : Latest) (k : ℕ) → l.writer ≡ 0 → conflicting_in l false k ≡ false
+unwritten l k z = ap (λ w. nat_lt 0 k && (nat_eq k w || false)) z ∙ sym (none k false (λ t. not_both t refl))
+
+-- where no reader counts, a use that writes is blocked as one that only reads
+pub unread_same : (book : JobBook) (l : Latest) (after : Handle) (writes : Bool) → ((k : ℕ) → (writes && l.readers k) ≡ false)
+    → (b : Book) (u : Uses) → StandsFor book b → AreUses b u → StandForUses b l u → blocker b u (jobs_of after) false ≡ blocker b u (jobs_of after) writes
+unread_same book l after writes unread b u F U S =
+    sym (latest_decide b l u F.known U S (jobs_of after) false)
+    ∙ alike (latest_blockers b l (jobs_of after) false) (latest_blockers b l (jobs_of after) writes) b.count
+    (λ k some. ap (λ x. (nat_eq k l.writer || x) && not (happens_before b (jobs_of after) k)) (sym (unread k)))
+    ∙ latest_decide b l u F.known U S (jobs_of after) writes
 
 pub no_readers : (readers : Option Handle) → is_some readers ≡ false → (k : ℕ) → readers_in readers k ≡ false
 no_readers None none k = refl

@@ -1,4 +1,4 @@
-use Rattle.std.proofs.Common.{◌≡◌, ◌∙◌, ◌-◌, ◌+◌, ◌<◌, ℕ, suc, [], get_or, true, sym, ap, subst, refl, length, arith}
+use Rattle.std.proofs.Common.{◌≡◌, ◌∙◌, ◌-◌, ◌+◌, ◌<◌, ℕ, suc, Some, true, sym, ap, subst, refl, length, arith}
 use Rattle.std.proofs.lemmas.Option.{slice_get-get_or}
 use Rattle.job_handle.specs.declared.handle.Handle.{Handle}
 use Rattle.job_handle.specs.Sets.{jobs_of}
@@ -19,17 +19,16 @@ loop-back-preserved c =
     let next : left ≡ suc (length c.args.rows.now - (c.loop-back.back + 1)) = omega arith in
     let inside : left - 1 < length c.args.rows.now = omega arith in
     let one : suc (left - 1) ≡ left = omega arith in
-    let none : Handle = record { words = [] } in
-    let row : Handle = get_or c.args.rows.now (left - 1) none in
     elim c.if-has.branch [
       | then-has+then-not-has+in_ok-push w ↦
           takes c.args.rows.now (jobs_of c.args.wanted.now) (jobs_of c.loop-back.closure) (jobs_of c.if-has.closure)
-          c.loop-back.jobs.items c.if-has.jobs.items left (length c.args.rows.now - (c.loop-back.back + 1)) _ row
+          c.loop-back.jobs.items c.if-has.jobs.items left (length c.args.rows.now - (c.loop-back.back + 1)) _ w.index-rows-job.result
           c.loop-back.invariant next refl
           (sym c.has.ensures ∙ w.if-has.true)
           (sym w.has-then-has.ensures ∙ w.if-not-has.true)
-          (slice_get-get_or c.args.rows.now (left - 1) none inside)
-          (subst (λ n. jobs_of row n ≡ true) one (c.requires.own (left - 1) none inside))
+          (slice_get-get_or c.args.rows.now (left - 1) w.index-rows-job.result inside ∙ ap (λ h. Some h) (sym w.index-rows-job.is))
+          (subst (λ n. jobs_of w.index-rows-job.result n ≡ true) one (subst (λ h. jobs_of h (suc (left - 1)) ≡ true) (sym w.index-rows-job.is)
+          (c.requires.own (left - 1) w.index-rows-job.result inside)))
           (λ k. ap (λ f. f k) (ap jobs_of w.closure-is ∙ w.combine-closure.ensures))
           (ap (λ v. v.items) w.jobs-is ∙ w.in_ok-push.ensures.items)
       | else-has w ↦
