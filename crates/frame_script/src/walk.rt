@@ -67,8 +67,8 @@ impl<'a> Walk<'a> {
         ensures outer_tests { IfOk result (λ walk. walk.outer_tests.items ≡ []) }
     {
         Ok(Walk {
-            // A statement that makes a name has some four tokens, its line's end among them.
-            names: Names::new(alloc, tokens / 4)?,
+            // A statement that makes a name has some four tokens, so a name has four buckets, and few share theirs.
+            names: Names::new(alloc, tokens)?,
             kernels: Kernels::new(alloc),
             literals: Vec::new(alloc),
             written: Written::new(alloc),
