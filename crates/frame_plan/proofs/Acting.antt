@@ -1,9 +1,9 @@
 -- A statement of a script that a planner stands before, and the planner after it.
-use Rattle.std.proofs.Common.{◌≡◌, ℕ, zero, suc, ◌<◌, ◌≤◌, ⊎_elim, false, ℤ, List, [], ◌∷◌, ◌++◌, length, None, Some, Result, Ok, Err, refl, sym, ap, subst, ◌∙◌, arith}
-use Rattle.std.specs.Prelude.{IfErr, IsErrAnd, slice_get}
+use Rattle.std.proofs.Common.{◌≡◌, ℕ, zero, suc, ◌<◌, ◌≤◌, ⊎_elim, true, false, ℤ, List, [], ◌∷◌, ◌++◌, length, None, Some, Result, Ok, Err, refl, sym, ap, subst, ◌∙◌, arith}
+use Rattle.std.specs.Prelude.{◌^◌, IfErr, IfOk, IsErrAnd, slice_get, vec_len}
 use Rattle.std.proofs.lemmas.Bool.{cases_eq}
 use Rattle.frame_ast.specs.declared.script.Order.{Order}
-use Rattle.frame_ast.specs.declared.script.Order.TheVariants.{When}
+use Rattle.frame_ast.specs.declared.script.Order.TheVariants.{Schedule, Complete, CompleteAuto, Frame, When}
 use Rattle.frame_ast.specs.declared.script.Script.{Script}
 use Rattle.frame_ast.specs.declared.script.Sign.{Sign}
 use Rattle.frame_ast.specs.declared.script.Statement.{Statement}
@@ -17,12 +17,13 @@ use Rattle.plan_state.specs.declared.answer.Answer.{Answer}
 use Rattle.plan_state.specs.declared.state.Draft.{Draft}
 use Rattle.plan_state.specs.declared.state.Planner.{Planner}
 use Rattle.plan_state.specs.declared.state.World.{World}
-use Rattle.plan_state.specs.Answers.{Answers, HasTaken, IsReadyFor}
+use Rattle.plan_state.specs.Answers.{Answers, AnswersIn, ExceedsIn, HasTaken, IsBeforeAt, IsReadyAt, IsReadyFor}
 use Rattle.plan_state.specs.Growth.{Grows}
-use Rattle.frame_plan.specs.Runs.{IsActingTest, NoneActs, IsAtStatement, IsFurther, HasPassed, StopsAt, GoesPast, FailsAtPlace}
+use Rattle.frame_plan.specs.Runs.{leaves_draft, IsActingTest, NoneActs, IsAtStatement, IsFurther, HasPassed, StopsAt, GoesPast, FailsAtPlace}
 use Rattle.plan_state.specs.Stands.{Stands}
-use Rattle.plan_state.specs.Steps.{state_at, state_after, StandsAt, HasStepped, AtStatement, IsStep, IsBefore, IsReady, GoesOn, GoesOnIn, GoesOnWith, FailsBy, FailsIn, FailsWith, PassesLimit}
-use Rattle.plan_statements.specs.Tests.{IsRefused}
+use Rattle.plan_state.specs.Steps.{state_at, state_after, StandsAt, HasStepped, IsStep, IsBefore, IsReady, GoesOn, GoesOnIn, FailsIn, PassesLimit}
+use Rattle.plan_statements.specs.Tests.{Acts, IsRefused}
+use Rattle.plan_statements.proofs.Ranges.NewContainers.{ready_literals}
 use Rattle.plan_state.proofs.Reaching.{next_state}
 
 -- the statement, with its form written out
@@ -58,14 +59,11 @@ module _ (script : Script) (table : Table) (p : Planner) (x : Statement) (at : I
           (r.grows starts same);
     }
 
+    pub passed_in : GoesOnIn script table p q (written x a) → HasPassed script table p q x
+    passed_in h begun n found e st = next begun n found e (h begun n found (step begun n found e st) st)
+
     pub passed : GoesOn p q (written x a) → HasPassed script table p q x
-    passed h begun n found e st = next begun n found e (h script table begun n found (step begun n found e st) st)
-
-    pub passed_in : GoesOnIn script p q (written x a) → HasPassed script table p q x
-    passed_in h begun n found e st = next begun n found e (h table begun n found (step begun n found e st) st)
-
-    pub passed_with : GoesOnWith table p q (written x a) → HasPassed script table p q x
-    passed_with h begun n found e st = next begun n found e (h script begun n found (step begun n found e st) st)
+    passed h = passed_in (h script table)
 
   -- some planner with its world is ready
   pub sees : IsReadyFor p.world a
@@ -76,19 +74,62 @@ module _ (script : Script) (table : Table) (p : Planner) (x : Statement) (at : I
       → HasPassed script table p (record p { world = w; draft = draft }) x
   taken w draft answer answers took = passed (record p { world = w; draft = draft }) (answers x.line p draft took)
 
+  pub taken_in : (w : World) (draft : Draft) (answer : Answer) → AnswersIn script table p.world w (written x a) answer → HasTaken p.draft draft x.line answer
+      → HasPassed script table p (record p { world = w; draft = draft }) x
+  taken_in w draft answer answers took = passed_in (record p { world = w; draft = draft }) (answers p draft took)
+
+  -- there is room for a literal more
+  pub few_literals : vec_len p.draft.literals < 2 ^ 32
+  few_literals = ready_literals script (written x a) p before
+
   module _ (fault : PlanFault) where
     limit : (n : ℕ) → slice_get script.statements.items n ≡ Some x → PassesLimit fault (state_after script table n (written x a))
         → PassesLimit fault (state_at script table (suc n))
     limit n e h = subst (PassesLimit fault) (next_state script table n (written x a) (here n e)) h
 
-    pub fails : FailsBy fault p (written x a) → FailsAtPlace script table fault p x
-    fails h begun n found e st = limit n e (h script table begun n found (step begun n found e st) st)
+    pub fails_in : FailsIn script table fault p (written x a) → FailsAtPlace script table fault p x
+    fails_in h begun n found e st = limit n e (h begun n found (step begun n found e st) st)
 
-    pub fails_in : FailsIn script fault p (written x a) → FailsAtPlace script table fault p x
-    fails_in h begun n found e st = limit n e (h table begun n found (step begun n found e st) st)
+    pub exceeds_in : ExceedsIn script table fault p.world (written x a) → FailsAtPlace script table fault p x
+    exceeds_in h = fails_in (h p)
 
-    pub fails_with : FailsWith table fault p (written x a) → FailsAtPlace script table fault p x
-    fails_with h begun n found e st = limit n e (h script begun n found (step begun n found e st) st)
+-- THE WORLD ALONE, before a statement of which the form is written out
+module _ (script : Script) (table : Table) (x : Statement) (a : Order) (is : x.act ≡ a) (old : World) where
+  before_written : IsBeforeAt script old x → IsBeforeAt script old (written x a)
+  before_written r = subst (IsBeforeAt script old) (is_written x a is) r
+
+  pub before_at : IsBeforeAt script old x → IsBeforeAt script old (written x a)
+  before_at r = before_written r
+
+  pub ready_at : IsBeforeAt script old x → IsReadyAt old (written x a)
+  ready_at r = (script, before_written r)
+
+  pub ready_for : IsBeforeAt script old x → IsReadyFor old a
+  ready_for r = let b = before_written r in (x.line, b.0, (script, b.1))
+
+  module _ (new : World) (answer : Answer) where
+    pub answers_in : AnswersIn script table old new (written x a) answer → AnswersIn script table old new x answer
+    answers_in h = subst (λ y. AnswersIn script table old new y answer) (sym (is_written x a is)) h
+
+    pub answers_for : Answers old new a answer → AnswersIn script table old new x answer
+    answers_for h = answers_in (λ p draft took. h x.line p draft took script table)
+
+  pub exceeding : (fault : PlanFault) → ExceedsIn script table fault old (written x a) → ExceedsIn script table fault old x
+  exceeding fault h = subst (λ y. ExceedsIn script table fault old y) (sym (is_written x a is)) h
+
+-- which statements leave the draft to their caller
+pub leaves : (a : Order) → ((job : _) → a ≡ Schedule job → ⊥) → ((name : ℕ) → a ≡ Complete name → ⊥) → ((name : ℕ) → a ≡ CompleteAuto name → ⊥)
+    → (a ≡ Frame → ⊥) → is_when a ≡ false → leaves_draft a ≡ true
+leaves (Schedule job) s c d f w = absurd (s job refl)
+leaves (Complete name) s c d f w = absurd (c name refl)
+leaves (CompleteAuto name) s c d f w = absurd (d name refl)
+leaves Frame s c d f w = absurd (f refl)
+leaves (When name sign value count) s c d f w = absurd (not_both refl w)
+leaves a s c d f w = refl
+
+pub if_ok : {T E : Type 0} (r : Result T E) {P Q : T → Type 0} → ((x : T) → P x → Q x) → IfOk r P → IfOk r Q
+if_ok (Ok x) f h = f x h
+if_ok (Err e) f h = tt
 
 pub if_err : {T E : Type 0} (r : Result T E) {P Q : E → Type 0} → ((e : E) → P e → Q e) → IfErr r P → IfErr r Q
 if_err (Ok x) f h = tt
@@ -97,12 +138,14 @@ if_err (Err e) f h = f e h
 -- a `when` that isn't refused
 pub test_stops : (script : Script) (table : Table) (p : Planner) (x : Statement) (at : IsAtStatement script table p x) (acts : p.world.passing ≡ 0) (name : ℕ)
     (sign : Sign) (value : ℤ) (count : ℕ) (is : x.act ≡ When name sign value count)
-    → AtStatement p (written x (When name sign value count)) (λ script table begun n found. refusal (setting script table) (state_at script table n)
-    (When name sign value count) ≡ None)
+    → Acts p.world (When name sign value count)
     → StopsAt script table p x
 test_stops script table p x at acts name sign value count is h begun n found here_is st =
-    subst (IsActingTest (setting script table) (state_at script table n)) (sym is)
-    (sym st.numbers.passing ∙ acts, h script table begun n found (step script table p x at acts (When name sign value count) is begun n found here_is st) st)
+    subst (IsActingTest (setting script table) (state_at script table n)) (sym is) (
+      sym st.numbers.passing ∙ acts,
+      h x.line p script table begun n found
+          (step script table p x at acts (When name sign value count) is begun n found here_is st) st,
+    )
 
 -- a statement that is passed by, and what is no `when`
 pub passes_by : (script : Script) (table : Table) (p : Planner) (x : Statement) → 0 < p.world.passing → GoesPast script table p x
@@ -123,10 +166,10 @@ other_past script table p x other begun n found here st acts = by x.act other ac
 pub test_past : (script : Script) (table : Table) (p : Planner) (x : Statement)
     → (at : IsAtStatement script table p x) (acts : p.world.passing ≡ 0)
     → (name : ℕ) (sign : Sign) (value : ℤ) (count : ℕ) (is : x.act ≡ When name sign value count)
-    → IsRefused p (written x (When name sign value count))
+    → IsRefused p.world (When name sign value count)
     → GoesPast script table p x
 test_past script table p x at acts name sign value count is h begun n found here_is st test =
-    h script table begun n found (step script table p x at acts (When name sign value count) is begun n found here_is st) st
+    h x.line p script table begun n found (step script table p x at acts (When name sign value count) is begun n found here_is st) st
     (subst (IsActingTest (setting script table) (state_at script table n)) is test).1
 
 -- one statement more is no test that acts

@@ -1,6 +1,6 @@
 -- A section is handed out, and the first one is planned.
 use Rattle.std.proofs.Common.{◌≡◌, ℕ, zero, suc, ◌+◌, ◌<◌, ◌≤◌, ◌⊎◌, inl, inr, ⊎_elim, Bool, true, false, List, [], ◌∷◌, ◌++◌, length, map, take, Option, None, Some, refl, sym, ap, subst, ◌∙◌, arith, append-nil}
-use Rattle.std.specs.Prelude.{slice_get, IsSome, if◌then◌else◌, String}
+use Rattle.std.specs.Prelude.{get_or, slice_get, IsSome, if◌then◌else◌, String}
 use Rattle.std.specs.declared.alloc.Global.{Global}
 use Rattle.std.specs.List.{list_any}
 use Rattle.frame_ast.specs.declared.script.Order.{Order}
@@ -28,7 +28,7 @@ use Rattle.plan_state.specs.declared.state.PlanFault.TheVariants.{NoMemory}
 use Rattle.plan_state.specs.declared.state.Planner.{Planner}
 use Rattle.plan_state.specs.Growth.{first_jobs, unless_none}
 use Rattle.frame_plan.specs.Bindings.{IsBindAt, bind_named}
-use Rattle.frame_plan.specs.Layouts.{starts_by, IsLaidOut}
+use Rattle.frame_plan.specs.Layouts.{IsLaidOut}
 use Rattle.frame_plan.specs.Names.{AreNamesOf}
 use Rattle.frame_plan.specs.References.{IsOfTest, IsTestFor}
 use Rattle.frame_plan.specs.Runs.{IsActingTest, IsStop, IsWithin, PassesOnce, IsFinished, IsEmptied, outline_of}
@@ -70,7 +70,7 @@ module _ (script : Script) (table : Table) (from : ℕ) (book : SectionBook) (re
   -- the plan has the definitions' ranges, jobs and contents
   laid_out : IsLaidOut script table from book.at plan
   laid_out =
-      let starts : Starts = starts_by ready.found in
+      let starts : Starts = (λ k. get_or ready.found k 0) in
       let h = ready.grown starts (λ k lt. refl) in
       let planned = some_planned script table book.planner (state_at script table from) book.at ready.found ready.stands ready.accepted ready.inside in
       let draft = book.planner.draft in

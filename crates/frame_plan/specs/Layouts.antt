@@ -4,7 +4,7 @@
 -- Decided here is that the ranges, the jobs and the waits of a plan are those that the definitions have for the
 -- statements between two places, each where they have it, and no others. That its run gives the script's output, and
 -- what the next section is given, is said in `Sections`.
-use Rattle.std.specs.Prelude.{ℕ, zero, suc, ◌+◌, ◌-◌, ◌≡◌, ◌<◌, ◌≤◌, nat_le, if◌then◌else◌, List, [], ◌∷◌, ◌++◌, length, get_or, take, Option, None, Some, slice_get}
+use Rattle.std.specs.Prelude.{ℕ, zero, suc, ◌+◌, ◌-◌, ◌≡◌, ◌<◌, ◌≤◌, nat_le, if◌then◌else◌, List, [], ◌∷◌, ◌++◌, length, take, Option, None, Some, slice_get}
 use Rattle.job_base.specs.declared.JobId.{JobId}
 use Rattle.job_base.specs.declared.Span.{Span}
 use Rattle.frame_ast.specs.declared.kernel.Kernel.{Kernel}
@@ -84,9 +84,6 @@ completed_between script table from (suc n) =
     else []
 
 -- A SECTION
-
-abbrev pub starts_by : List ℕ → Starts
-starts_by found k = get_or found k 0
 
 -- The plan of a section is laid out as the definitions say.
 pub record IsLaidOut (script : Script) (table : Table) (from to : ℕ) (plan : Plan) : Type 0 where

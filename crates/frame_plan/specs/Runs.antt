@@ -1,8 +1,8 @@
 -- A planner goes through the statements of a script one after another, up to a test that acts or to the script's end.
-use Rattle.std.specs.Prelude.{true, ℕ, suc, ◌≡◌, ◌<◌, ◌≤◌, List, [], ◌++◌, length, Option, None, Some, slice_get}
+use Rattle.std.specs.Prelude.{Bool, true, false, ℕ, suc, ◌≡◌, ◌<◌, ◌≤◌, List, [], ◌++◌, length, Option, None, Some, slice_get}
 use Rattle.job_base.specs.declared.limits.TheConstants.{MOST_JOBS, MOST_CREATED_WORDS}
 use Rattle.frame_ast.specs.declared.script.Order.{Order}
-use Rattle.frame_ast.specs.declared.script.Order.TheVariants.{When}
+use Rattle.frame_ast.specs.declared.script.Order.TheVariants.{Schedule, Complete, CompleteAuto, Frame, When}
 use Rattle.frame_ast.specs.declared.script.Script.{Script}
 use Rattle.frame_ast.specs.declared.script.Statement.{Statement}
 use Rattle.frame_ast.specs.Accepted.{IsAccepted}
@@ -46,6 +46,16 @@ NoneActs script table from to = (n : ℕ) (x : Statement)
     → slice_get script.statements.items n ≡ Some x
     → IsActingTest (setting script table) (state_at script table n) x.act
     → ⊥
+
+-- WHO HAS A DRAFT: schedules, completions and frames do, a `when` is none of these, and all others leave it to their
+-- caller
+abbrev pub leaves_draft : Order → Bool
+leaves_draft (Schedule job) = false
+leaves_draft (Complete name) = false
+leaves_draft (CompleteAuto name) = false
+leaves_draft Frame = false
+leaves_draft (When name sign value count) = false
+leaves_draft _ = true
 
 -- ONE STATEMENT of a script, with its table, passed by or not
 

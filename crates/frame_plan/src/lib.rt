@@ -14,6 +14,7 @@
 //! a kernel is compiled once, however many sections schedule it.
 #![tactic(auto)]
 
+mod answers;
 mod binding;
 mod copies;
 mod finishing;

@@ -7,6 +7,7 @@ ghost use Rattle.frame_plan.specs.Runs.{HasBegun, IsAtStatement, HasPassed, Stop
 ghost use Rattle.plan_state.specs.Steps.{StandsAt};
 ghost use Rattle.plan_statements.specs.Tables.{columns_of};
 
+use crate::answers::answer;
 use frame_ast::script::{Order, Script, Statement};
 use job_base::NoMemory;
 use job_handle::JobBook;
@@ -100,14 +101,19 @@ fn pass(
         count,
     } = &statement.act
     {
-        return Ok(plan_statements::refuse_test(
-            planner,
-            statement.line,
+        return match plan_statements::refuse_test(
+            &mut planner.world,
             *name,
             *sign,
             *value,
             *count,
-        )?);
+        ) {
+            None => Ok(false),
+            Some(answer) => {
+                planner.draft.take(statement.line, answer)?;
+                Ok(true)
+            }
+        };
     }
     act(planner, alloc, script, table, statement)?;
     Ok(true)
@@ -128,119 +134,33 @@ fn act(
     ensures fails { IfErr result (λ fault.
         FailsAtPlace script.now (columns_of table.now) fault planner.old statement.now) }
 {
-    let line = statement.line;
     match &statement.act {
-        Order::Array {
-            name,
-            len,
-            life,
-            values,
-        } => plan_statements::array(planner, line, *name, *len, *life, *values, script),
-        Order::Column { name, column, life } => plan_statements::column(
-            planner, alloc, line, *name, column, *life, table,
-        ),
-        Order::List { name, cap, life } => plan_statements::list(planner, line, *name, *cap, *life),
-        Order::Reference { name, life, value } => plan_statements::reference(
-            planner, alloc, line, *name, *life, *value,
-        ),
-        Order::Map { name, cap, life } => plan_statements::map(planner, line, *name, *cap, *life),
-        Order::Stream {
-            name,
-            count,
-            room,
-            life,
-        } => plan_statements::stream(planner, line, *name, *count, *room, *life),
-        Order::Slice {
-            name,
-            of,
-            start,
-            len,
-        } => {
-            let answer = plan_statements::slice(&mut planner.world, *name, *of, *start, *len);
-            Ok(planner.draft.take(line, answer)?)
-        }
-        Order::View { name, of } => {
-            let answer = plan_statements::view(&mut planner.world, *name, *of);
-            Ok(planner.draft.take(line, answer)?)
-        }
-        Order::Copy { name, of } => {
-            let answer = plan_statements::copy(&mut planner.world, *name, *of);
-            Ok(planner.draft.take(line, answer)?)
-        }
-        Order::Set { name, at, value } => {
-            let answer = plan_statements::set(&planner.world, *name, *at, *value);
-            Ok(planner.draft.take(line, answer)?)
-        }
-        Order::Add {
-            name,
-            first,
-            second,
-        } => {
-            let answer = plan_statements::add(&mut planner.world, *name, *first, *second);
-            Ok(planner.draft.take(line, answer)?)
-        }
-        Order::Put { name, key, value } => {
-            let answer = plan_statements::put(&planner.world, *name, *key, *value);
-            Ok(planner.draft.take(line, answer)?)
-        }
-        Order::Remove { name, at } => {
-            let answer = plan_statements::remove(&mut planner.world, *name, *at);
-            Ok(planner.draft.take(line, answer)?)
-        }
-        Order::Clear { name } => {
-            let answer = plan_statements::clear(&mut planner.world, *name);
-            Ok(planner.draft.take(line, answer)?)
-        }
-        Order::SetCapacity { name, cap } => plan_statements::set_capacity(
-            planner, line, *name, *cap,
-        ),
         Order::Schedule(job) => match job.defer {
-            None => plan_schedules::schedule(planner, alloc, script, line, job),
+            None => plan_schedules::schedule(planner, alloc, script, statement.line, job),
             Some(defer) => plan_schedules::schedule_deferred(
-                planner, alloc, script, line, job, defer,
+                planner,
+                alloc,
+                script,
+                statement.line,
+                job,
+                defer,
             ),
         },
-        Order::Combine { name, of } => {
-            let answer = plan_statements::combine(&mut planner.world, *name, of)?;
-            Ok(planner.draft.take(line, answer)?)
-        }
         Order::Complete { name } => Ok(plan_statements::complete(planner, alloc, *name)?),
         Order::CompleteAuto { name } => Ok(plan_statements::complete_auto(
-            planner, alloc, line, *name,
+            planner,
+            alloc,
+            statement.line,
+            *name,
         )?),
-        Order::Dispose {
-            name,
-            after,
-            handle,
-        } => match *handle {
-            None => {
-                let answer = plan_statements::dispose(&mut planner.world, *name);
-                Ok(planner.draft.take(line, answer)?)
-            }
-            Some(handle) => {
-                let answer = plan_statements::dispose_after(
-                    &mut planner.world,
-                    *name,
-                    after,
-                    handle,
-                )?;
-                Ok(planner.draft.take(line, answer)?)
-            }
-        },
-        Order::DisposeAuto { name, handle } => {
-            let answer = plan_statements::dispose_auto(&mut planner.world, *name, *handle)?;
-            Ok(planner.draft.take(line, answer)?)
-        }
-        Order::Print { name } => {
-            let answer = plan_statements::print(&planner.world, *name);
-            Ok(planner.draft.take(line, answer)?)
-        }
-        Order::Flush => {
-            let answer = plan_statements::flush(&planner.world);
-            Ok(planner.draft.take(line, answer)?)
-        }
-        Order::Frame => Ok(plan_statements::frame(planner, line)?),
+        Order::Frame => Ok(plan_statements::frame(planner, statement.line)?),
         Order::When { .. } => unreachable!(),
+        // All others leave the draft to this place, where what they answer is pushed.
+        _ => {
+            let answer = answer(&mut planner.world, alloc, script, table, statement)?;
+            planner.draft.take(statement.line, answer)?;
+            Ok(())
+        }
     }
 }
 

@@ -4,6 +4,7 @@ ghost use Rattle.job_base.specs.declared.limits.TheConstants.{MOST_INDEXES, MOST
 ghost use Rattle.frame_ast.specs.declared.kernel.Kernel.{Kernel};
 ghost use Rattle.std.specs.declared.alloc.Global.{Global};
 ghost use Rattle.frame_ast.specs.declared.script.NewJob.{NewJob};
+ghost use Rattle.frame_ast.specs.Orders.{Table};
 ghost use Rattle.defer_laws.specs.GuardedRuns as deferred;
 ghost use Rattle.plan_schedules.specs.Deferring.{IsGuardedRun, IsKernelGuardable, IsListName, deferring};
 ghost use Rattle.plan_state.specs.Accesses.{AreThere};
@@ -15,7 +16,7 @@ use crate::accepting::{Run, add_job};
 use crate::deferred_uses::{deferred_refusal, length_use, list_at, noted_uses, with_length};
 use crate::guards::guarded_copy_of;
 use crate::job_binds::job_binds;
-use crate::scheduling::{deps, is_split, refuse_schedule};
+use crate::scheduling::{add_automatic, is_split, refuse_schedule};
 use crate::uses::uses;
 use frame_ast::kernel::Kernel;
 use frame_ast::script::{Arg, NewJob, Script};
@@ -43,10 +44,10 @@ pub fn schedule_deferred(
     requires ready { (home : Box NewJob Global) × IsBefore script.now planner.old
         (deferring line home job.now job.now.cut defer) }
 
-    ensures goes_on { OnOk result ((home : Box NewJob Global)
-        → GoesOnIn script.now planner.old planner.new (deferring line home job.now job.now.cut defer)) }
-    ensures fails { IfErr result (λ fault. (home : Box NewJob Global)
-        → FailsIn script.now fault planner.old (deferring line home job.now job.now.cut defer)) }
+    ensures goes_on { OnOk result ((home : Box NewJob Global) (table : Table)
+        → GoesOnIn script.now table planner.old planner.new (deferring line home job.now job.now.cut defer)) }
+    ensures fails { IfErr result (λ fault. (home : Box NewJob Global) (table : Table)
+        → FailsIn script.now table fault planner.old (deferring line home job.now job.now.cut defer)) }
 {
     schedule_by_list(planner, alloc, script, line, job, defer.0, defer.1)
 }
@@ -64,22 +65,22 @@ fn schedule_by_list(
     requires ready { (home : Box NewJob Global) × IsBefore script.now planner.old
         (deferring line home job.now None (list, batch)) }
 
-    ensures goes_on { OnOk result ((home : Box NewJob Global)
-        → GoesOnIn script.now planner.old planner.new (deferring line home job.now None (list, batch))) }
-    ensures fails { IfErr result (λ fault. (home : Box NewJob Global)
-        → FailsIn script.now fault planner.old (deferring line home job.now None (list, batch))) }
+    ensures goes_on { OnOk result ((home : Box NewJob Global) (table : Table)
+        → GoesOnIn script.now table planner.old planner.new (deferring line home job.now None (list, batch))) }
+    ensures fails { IfErr result (λ fault. (home : Box NewJob Global) (table : Table)
+        → FailsIn script.now table fault planner.old (deferring line home job.now None (list, batch))) }
 {
     let params = &script.kernels[job.kernel as usize].params;
     let parallel = script.kernels[job.kernel as usize].parallel;
-    let named = planner.world.jobs_of_all(&job.after);
-    let uses = uses(planner, alloc, params, &job.args, &named)?;
-    let length = length_use(planner, list, &named);
+    let mut deps = planner.world.jobs_of_all(&job.after);
+    let uses = uses(planner, alloc, params, &job.args, &deps)?;
+    let length = length_use(planner, list, &deps);
     let all = with_length(alloc, &uses, &length)?;
     if let Some(cause) = deferred_refusal(&uses, &length, &all, parallel, job.auto) {
         refuse_schedule(planner, line, job.handle, cause)?;
         return Ok(());
     }
-    let deps = deps(planner, alloc, job.auto, &named, &all)?;
+    add_automatic(planner, alloc, job.auto, &mut deps, &all)?;
     let noted = noted_uses(uses, all, &length);
     let run = guarded_run(
         planner,

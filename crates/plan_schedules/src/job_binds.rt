@@ -30,7 +30,7 @@ pub(crate) fn job_binds(
     ensures { IfOk result (λ binds. binds.items
         ≡ job_binds planner.now kernel.now.parallel waive.now 0 kernel.now.params.items args.now) }
 {
-    let mut binds = Vec::new(alloc);
+    let mut binds = Vec::with_capacity(alloc, args.len())?;
     for i in 0..args.len() {
         let param = &kernel.params[i];
         let width = width_of(kernel.parallel, param, i as u32, waive);

@@ -4,6 +4,7 @@ ghost use Rattle.frame_ast.specs.declared.kernel.Kernel.{Kernel};
 ghost use Rattle.job_base.specs.declared.limits.TheConstants.{MOST_PARAMS};
 ghost use Rattle.std.specs.declared.alloc.Global.{Global};
 ghost use Rattle.frame_ast.specs.declared.script.NewJob.{NewJob};
+ghost use Rattle.frame_ast.specs.Orders.{Table};
 ghost use Rattle.frame_ast.specs.Accepted.{cut_fits};
 ghost use Rattle.frame_ast.specs.Jobs.{nobody};
 ghost use Rattle.frame_core.specs.declared.plan.Act.TheVariants.{Say};
@@ -42,20 +43,20 @@ pub fn schedule(
     // The statement has its job in a box, whichever that is.
     requires ready { (home : Box NewJob Global) × IsBefore script.now planner.old (scheduling line home job.now) }
 
-    ensures goes_on { OnOk result ((home : Box NewJob Global)
-        → GoesOnIn script.now planner.old planner.new (scheduling line home job.now)) }
-    ensures fails { IfErr result (λ fault. (home : Box NewJob Global)
-        → FailsIn script.now fault planner.old (scheduling line home job.now)) }
+    ensures goes_on { OnOk result ((home : Box NewJob Global) (table : Table)
+        → GoesOnIn script.now table planner.old planner.new (scheduling line home job.now)) }
+    ensures fails { IfErr result (λ fault. (home : Box NewJob Global) (table : Table)
+        → FailsIn script.now table fault planner.old (scheduling line home job.now)) }
 {
     let params = &script.kernels[job.kernel as usize].params;
     let parallel = script.kernels[job.kernel as usize].parallel;
-    let named = planner.world.jobs_of_all(&job.after);
-    let uses = uses(planner, alloc, params, &job.args, &named)?;
+    let mut deps = planner.world.jobs_of_all(&job.after);
+    let uses = uses(planner, alloc, params, &job.args, &deps)?;
     if let Some(cause) = refusal_of(&uses, parallel, job.auto) {
         refuse_schedule(planner, line, job.handle, cause)?;
         return Ok(());
     }
-    let deps = deps(planner, alloc, job.auto, &named, &uses)?;
+    add_automatic(planner, alloc, job.auto, &mut deps, &uses)?;
     let run = plain_run(
         planner, alloc, script, job.kernel, &job.args, job.cut, &job.waive,
     )?;
@@ -82,26 +83,28 @@ pub(crate) fn refuse_schedule(
     planner.world.set_handle(handle, &Handle::empty())
 }
 
-/// What the job waits for: the named jobs, and with `auto` all others that it has to.
-pub(crate) fn deps(
+/// What the job waits for: the named jobs, and with `auto` all others that it has to, which are added to them.
+pub(crate) fn add_automatic(
     planner: &Planner,
     alloc: Global,
     auto: bool,
-    named: &Handle,
+    deps: &mut Handle,
     uses: &[NamedUse],
-) -> Result<Handle, NoMemory>
-    requires named { AreUpTo (count_of planner.now.world.jobs) (jobs_of named.now) }
+) -> Result<(), NoMemory>
+    requires named { AreUpTo (count_of planner.now.world.jobs) (jobs_of deps.old) }
     requires noted { AreUpTo (count_of planner.now.world.jobs) (conflicting_with planner.now.world.safety
         (tags_of uses.now)) }
-    ensures { IfOk result (λ deps.
-        AreDeps auto (jobs_of named.now) planner.now.world.jobs planner.now.world.safety (tags_of uses.now)
-        (jobs_of deps)) }
+    ensures { OnOk result (
+        AreDeps auto (jobs_of deps.old) planner.now.world.jobs planner.now.world.safety (tags_of uses.now)
+        (jobs_of deps.new)) }
 {
     if !auto {
-        return Ok(*named);
+        return Ok(());
     }
     let tags = tags(alloc, uses)?;
-    Ok(named.combine(&automatic(&tags, named, &planner.world.safety, &planner.world.jobs)))
+    let more = automatic(&tags, deps, &planner.world.safety, &planner.world.jobs);
+    deps.add_all(&more);
+    Ok(())
 }
 
 /// What the job of a schedule without `defer` runs: its kernel, of which the plan has a copy then.

@@ -46,7 +46,7 @@ pub(crate) fn uses(
     requires jobs { AreUpTo (count_of planner.now.world.jobs) (jobs_of named.now) }
     ensures { IfOk result (λ uses. ForNames (IsUse planner.now (jobs_of named.now)) params.now args.now uses.items) }
 {
-    let mut uses = Vec::new(alloc);
+    let mut uses = Vec::with_capacity(alloc, args.len())?;
     for (i, arg) in args.iter().enumerate() {
         match *arg {
             Arg::Name(name) => uses.push(use_of(planner, &params[i], name, named))?,

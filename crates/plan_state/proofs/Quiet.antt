@@ -25,7 +25,7 @@ use Rattle.frame_core.specs.declared.plan.Segment.{Segment}
 use Rattle.frame_core.specs.Names.{has_job}
 use Rattle.plan_laws.specs.Ledgers.{later}
 use Rattle.plan_state.specs.declared.state.Planner.{Planner}
-use Rattle.plan_state.specs.Growth.{given_by, given_in, given_from, given_so_far, span_at, span_unless, span_by, greatest_end, waits_in, Schedules, SchedulesUnless, deps_after, Awaits, AwaitsUnless, HasWaited, rising_jobs, unless_none, waits_of, waits_by, newly_in, newly_completed, Grows, IsQuiet}
+use Rattle.plan_state.specs.Growth.{given_by, given_in, given_from, given_so_far, span_at, span_unless, span_by, greatest_end, waits_in, Schedules, SchedulesUnless, deps_after, Awaits, AwaitsUnless, HasWaited, rising_jobs, unless_none, waits_of, waits_by, newly_in, newly_completed, Grows}
 use Rattle.plan_state.specs.Stands.{Stands}
 use Rattle.plan_state.specs.Steps.{state_at, state_after, IsStep, HasStepped}
 
@@ -181,6 +181,15 @@ module _ (g : Setting) (starts : Starts) (s : ScriptState) (x : Order) where
   plain_span (suc k) none = refl
 
 -- GROWING BY NOTHING
+
+-- The planner gave no range, started no job and waits for no more: what a statement needs that adds nothing.
+pub record IsQuiet (old new : Planner) : Type 0 where
+  pub spans : given_so_far new ≡ given_so_far old
+  pub peak : peak_of new.world.store ≡ peak_of old.world.store
+  pub jobs : new.draft.jobs.items ≡ old.draft.jobs.items
+  pub kernels : new.draft.kernels.items ≡ old.draft.kernels.items
+  pub segments : new.draft.segments.items ≡ old.draft.segments.items
+  pub waits : new.draft.waits.items ≡ old.draft.waits.items
 
 -- Neither a range nor a job is added, and what was waited for stays what is completed.
 pub record IsStill (g : Setting) (s : ScriptState) (x : Statement) (before : ℕ) (old new : Planner) : Type 0 where

@@ -45,11 +45,11 @@ use Rattle.plan_state.specs.declared.state.Planner.{Planner}
 use Rattle.plan_state.specs.declared.state.World.{World}
 use Rattle.plan_state.specs.Accesses.{IsPushed, IsRenamed, HasHandle}
 use Rattle.job_handle.specs.declared.handle.Handle.{Handle}
-use Rattle.plan_state.specs.Growth.{given_from, given_in, IsQuiet}
+use Rattle.plan_state.specs.Growth.{given_from, given_in}
 use Rattle.plan_state.specs.Stands.{tag_of, IsThere, AreNames, IsContainer, IsOwned, IsCopy, IsGuardedCopy, Agrees, Stands, draft_of}
 use Rattle.plan_state.specs.Steps.{state_at, IsStep, StandsAt, HasStepped}
 use Rattle.plan_state.proofs.Naming.{set_long, IsNamed, same_names, renamed_names, handle_names, handles_more}
-use Rattle.plan_state.proofs.Quiet.{IsPlain, given_one, plain_steps, refused_steps}
+use Rattle.plan_state.proofs.Quiet.{IsPlain, IsQuiet, given_one, plain_steps, refused_steps}
 use Rattle.plan_state.proofs.Reaching.{long, known_after}
 
 -- ---- the words of a container rest on its form

@@ -238,12 +238,3 @@ pub record Grows (g : Setting) (s : ScriptState) (x : Statement) (starts : Start
   pub awaited : HasWaited before s old → Awaits g before s s.passing x.act new.draft.segments.items
   -- a segment waits for what the statement newly completes, if anything
   pub waits : waits_by new ≡ waits_by old ++ unless_none (newly_completed before s (act g s x))
-
--- The planner gave no range, started no job and waits for no more: what a statement needs that adds nothing.
-pub record IsQuiet (old new : Planner) : Type 0 where
-  pub spans : given_so_far new ≡ given_so_far old
-  pub peak : peak_of new.world.store ≡ peak_of old.world.store
-  pub jobs : new.draft.jobs.items ≡ old.draft.jobs.items
-  pub kernels : new.draft.kernels.items ≡ old.draft.kernels.items
-  pub segments : new.draft.segments.items ≡ old.draft.segments.items
-  pub waits : new.draft.waits.items ≡ old.draft.waits.items

@@ -39,20 +39,6 @@ AtStatement p x Holds = (script : Script) (table : Table) (begun : ScriptState) 
     → StandsAt p script table begun n found
     → Holds script table begun n found
 
--- the same of one script
-abbrev pub AtStatementOf : Script → Planner → Statement → (Table → ScriptState → ℕ → List ℕ → Type 0) → Type 0
-AtStatementOf script p x Holds = (table : Table) (begun : ScriptState) (n : ℕ) (found : List ℕ)
-    → IsStep script table n x
-    → StandsAt p script table begun n found
-    → Holds table begun n found
-
--- the same with one table
-abbrev pub AtStatementWith : Table → Planner → Statement → (Script → ScriptState → ℕ → List ℕ → Type 0) → Type 0
-AtStatementWith table p x Holds = (script : Script) (begun : ScriptState) (n : ℕ) (found : List ℕ)
-    → IsStep script table n x
-    → StandsAt p script table begun n found
-    → Holds script begun n found
-
 -- WHAT A STATEMENT NEEDS: there is a script in which the planner stands before it.
 
 pub record IsBefore (script : Script) (p : Planner) (x : Statement) : Type 0 where
@@ -77,18 +63,16 @@ pub record HasStepped (script : Script) (table : Table) (begun : ScriptState) (n
       → StartAs starts (found ++ more)
       → Grows (setting script table) (state_at script table n) x starts begun.book.count old new
 
--- it goes on
+-- it goes on, where it is of this script and has this table
+abbrev pub GoesOnIn : Script → Table → Planner → Planner → Statement → Type 0
+GoesOnIn script table old new x = (begun : ScriptState) (n : ℕ) (found : List ℕ)
+    → IsStep script table n x
+    → StandsAt old script table begun n found
+    → HasStepped script table begun n found old new x
+
+-- it goes on, whatever they are
 abbrev pub GoesOn : Planner → Planner → Statement → Type 0
-GoesOn old new x = AtStatement old x (λ script table begun n found.
-    HasStepped script table begun n found old new x)
-
-abbrev pub GoesOnIn : Script → Planner → Planner → Statement → Type 0
-GoesOnIn script old new x = AtStatementOf script old x (λ table begun n found.
-    HasStepped script table begun n found old new x)
-
-abbrev pub GoesOnWith : Table → Planner → Planner → Statement → Type 0
-GoesOnWith table old new x = AtStatementWith table old x (λ script begun n found.
-    HasStepped script table begun n found old new x)
+GoesOn old new x = (script : Script) (table : Table) → GoesOnIn script table old new x
 
 -- a fault other than want of memory comes where the state afterwards passes a limit
 abbrev pub PassesLimit : PlanFault → ScriptState → Type 0
@@ -96,13 +80,8 @@ PassesLimit NoMemory after = Unit {0}
 PassesLimit Jobs after = MOST_JOBS < after.book.count
 PassesLimit Words after = MOST_CREATED_WORDS < after.created
 
-abbrev pub FailsBy : PlanFault → Planner → Statement → Type 0
-FailsBy fault old x = AtStatement old x (λ script table begun n found. PassesLimit fault (state_after script table n x))
-
-abbrev pub FailsIn : Script → PlanFault → Planner → Statement → Type 0
-FailsIn script fault old x =
-    AtStatementOf script old x (λ table begun n found. PassesLimit fault (state_after script table n x))
-
-abbrev pub FailsWith : Table → PlanFault → Planner → Statement → Type 0
-FailsWith table fault old x =
-    AtStatementWith table old x (λ script begun n found. PassesLimit fault (state_after script table n x))
+abbrev pub FailsIn : Script → Table → PlanFault → Planner → Statement → Type 0
+FailsIn script table fault old x = (begun : ScriptState) (n : ℕ) (found : List ℕ)
+    → IsStep script table n x
+    → StandsAt old script table begun n found
+    → PassesLimit fault (state_after script table n x)

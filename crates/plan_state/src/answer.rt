@@ -1,25 +1,38 @@
 // What a statement answers that changes what statements see, and leaves the draft to its caller.
-ghost use Rattle.std.specs.Prelude.{OnOk};
-ghost use Rattle.plan_state.specs.Answers.{HasTaken, HasOp};
+ghost use Rattle.std.specs.Prelude.{◌<◌, ◌^◌, OnOk, vec_len};
+ghost use Rattle.plan_state.specs.Answers.{HasTaken, HasFilled, HasOp};
 
 use crate::state::Draft;
 use frame_core::{Act, Op};
-use job_base::{NoMemory, Refusal};
+use job_base::{NoMemory, Refusal, Span};
 
 /// What a statement adds to the plan.
-#[derive(Clone, Copy)]
+#[derive(Drop)]
 pub enum Answer {
     /// Nothing: nothing is left to do when the plan is run.
     Nothing,
     /// The line of a refusal, whatever the cells are.
-    Refused { name: u32, refusal: Refusal },
+    Refused {
+        name: u32,
+        refusal: Refusal,
+    },
     /// One operation. Whether contents allow it is seen when it is run.
-    Does { name: u32, act: Act },
+    Does {
+        name: u32,
+        act: Act,
+    },
+    /// One operation, which fills new words: with zeros, or with these elements.
+    Fills {
+        name: u32,
+        span: Span,
+        values: Option<Vec<i64>>,
+    },
 }
 
 impl Draft {
     /// The segment at hand does what a statement answered, which stands at this line.
     pub fn take(&mut self, line: u32, answer: Answer) -> Result<(), NoMemory>
+        requires few { vec_len self.old.literals < 2 ^ 32 }
         ensures { OnOk result (HasTaken self.old self.new line answer) }
     {
         match answer {
@@ -30,11 +43,47 @@ impl Draft {
                 act: Act::Say { refusal },
             }),
             Answer::Does { name, act } => self.push(Op { line, name, act }),
+            Answer::Fills { name, span, values } => self.fill(line, name, span, values),
         }
     }
 
-    /// The segment at hand does one operation more.
-    fn push(&mut self, op: Op) -> Result<(), NoMemory>
+    /// The segment at hand fills words. What they are filled with is a literal more of the plan.
+    fn fill(
+        &mut self,
+        line: u32,
+        name: u32,
+        span: Span,
+        values: Option<Vec<i64>>,
+    ) -> Result<(), NoMemory>
+        requires few { vec_len self.old.literals < 2 ^ 32 }
+        ensures { OnOk result (HasFilled self.old self.new line name span values) }
+    {
+        match values {
+            None => self.push(Op {
+                line,
+                name,
+                act: Act::Fill {
+                    span,
+                    literal: None,
+                },
+            }),
+            Some(values) => {
+                let number = self.literals.len() as u32;
+                self.literals.push(values)?;
+                self.push(Op {
+                    line,
+                    name,
+                    act: Act::Fill {
+                        span,
+                        literal: Some(number),
+                    },
+                })
+            }
+        }
+    }
+
+    /// The segment at hand does one operation more. All that is pushed is pushed here.
+    pub(crate) fn push(&mut self, op: Op) -> Result<(), NoMemory>
         ensures { OnOk result (HasOp self.old self.new op) }
     {
         self.ops.push(op)?;

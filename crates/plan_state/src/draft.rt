@@ -15,8 +15,7 @@ impl Planner {
     pub fn push(&mut self, line: u32, name: u32, act: Act) -> Result<(), NoMemory>
         ensures { OnOk result (IsPushed self.old self.new (record { line = line; name = name; act = act })) }
     {
-        self.draft.ops.push(Op { line, name, act })?;
-        Ok(())
+        self.draft.push(Op { line, name, act })
     }
 
     /// The statement is refused, whatever the cells are: its line will be written.

@@ -3,7 +3,6 @@ pub mod Additions
 pub mod Capacities
 pub mod Entering
 pub mod Makings
-pub mod Moves
 pub mod NewContainers
 pub mod Ranging
 pub mod Regrowing

@@ -1,19 +1,17 @@
--- What `setcapacity` changes in the planner.
-use Rattle.std.specs.Prelude.{ℕ, ◌+◌, ◌≡◌, ◌≢◌, ◌≤◌, max, nat_eq, if◌then◌else◌, [], ◌∷◌, ◌++◌, slice_set}
+-- What `setcapacity` changes in the world.
+use Rattle.std.specs.Prelude.{ℕ, ◌+◌, ◌≡◌, ◌≢◌, ◌≤◌, max, nat_eq, if◌then◌else◌, slice_set}
 use Rattle.job_base.specs.declared.Span.{Span}
 use Rattle.frame_ast.specs.Ranges.{IsFirstFit}
-use Rattle.native_list.specs.declared.ListAt.{ListAt}
 use Rattle.kernel_exec.specs.declared.binds.Bind.{Bind}
 use Rattle.kernel_exec.specs.declared.binds.Bind.TheVariants.{List as WholeList}
 use Rattle.slot_store.specs.declared.store.SlotStore.{SlotStore}
 use Rattle.slot_store.specs.Stores.{place_of, peak_of, is_live_word, live_words_of, slots_in_use, taken}
 use Rattle.safety_handle.specs.declared.book.SafetyBook.{SafetyBook}
 use Rattle.safety_handle.specs.Entries.{state_of}
-use Rattle.frame_core.specs.declared.plan.Act.TheVariants.{Move}
 use Rattle.plan_state.specs.declared.state.Value.{Value}
 use Rattle.plan_state.specs.declared.state.Value.TheVariants.{Whole}
 use Rattle.plan_state.specs.declared.state.Container.{Container}
-use Rattle.plan_state.specs.declared.state.Planner.{Planner}
+use Rattle.plan_state.specs.declared.state.World.{World}
 
 -- a name that stands for a whole container, and the words of a list
 abbrev pub IsWhole : Value → Type 0
@@ -40,9 +38,8 @@ pub record HasBroken (old new : SafetyBook) (slot : ℕ) : Type 0 where
   pub slot_is : state_of new slot ≡ record (state_of old slot) { view = (state_of old slot).view + 1 }
   pub others : (k : ℕ) → k ≢ slot → state_of new k ≡ state_of old k
 
--- A list has a new range, its views are broken, and the segment at hand moves its words.
-pub record IsMoved (old new : Planner) (line name number : ℕ) (it : Container) (at : ListAt) (cap : ℕ) : Type 0 where
-  pub span : Span
+-- A list has a new range, and its views are broken.
+pub record IsMoved (old new : World) (number : ℕ) (it : Container) (cap : ℕ) (span : Span) : Type 0 where
   pub now : Container
   pub bind_is : now.bind ≡ WholeList (record { start = span.start; cap = cap })
   pub slot_is : now.slot ≡ it.slot
@@ -51,26 +48,13 @@ pub record IsMoved (old new : Planner) (line name number : ℕ) (it : Container)
   pub frame_is : now.frame ≡ it.frame
   pub name_is : now.name ≡ it.name
   pub line_is : now.line ≡ it.line
-  pub regrown : HasRegrown old.world.store new.world.store it.slot.0 (cap + 1) span
-  pub broken : HasBroken old.world.safety new.world.safety it.slot.0
-  pub containers : new.world.containers.items ≡ slice_set old.world.containers.items number now
-  pub created : new.world.created ≡ old.world.created + (cap + 1)
-  pub ops : new.draft.ops.items ≡ old.draft.ops.items ++ record {
-    line = line;
-    name = name;
-    act = Move (record { start = at.start; len = at.cap + 1 }) span;
-  } ∷ []
+  pub regrown : HasRegrown old.store new.store it.slot.0 (cap + 1) span
+  pub broken : HasBroken old.safety new.safety it.slot.0
+  pub containers : new.containers.items ≡ slice_set old.containers.items number now
+  pub created : new.created ≡ old.created + (cap + 1)
   pub rest : new ≡ record old {
-    world = record old.world {
-      store = new.world.store;
-      safety = new.world.safety;
-      containers = new.world.containers;
-      created = new.world.created;
-    };
-    draft = record old.draft { ops = new.draft.ops };
+    store = new.store;
+    safety = new.safety;
+    containers = new.containers;
+    created = new.created;
   }
-
--- the same of a container whose bind says where the list was
-abbrev pub MovesList : Planner → Planner → ℕ → ℕ → ℕ → Container → ℕ → Type 0
-MovesList old new line name number it cap =
-    (at : ListAt) × (it.bind ≡ WholeList at) × IsMoved old new line name number it at cap

@@ -1,8 +1,8 @@
 -- Whether a `when` acts, in the code's terms.
-use Rattle.std.specs.Prelude.{ℕ, ◌≡◌, ◌≢◌, Bool, true, false, not, List, [], ◌∷◌, Option, None}
+use Rattle.std.specs.Prelude.{ℕ, ◌≡◌, ◌≢◌, not, List, [], ◌∷◌, Option, None, Some}
 use Rattle.job_base.specs.declared.JobId.{JobId}
 use Rattle.job_base.specs.declared.Refusal.{Refusal}
-use Rattle.frame_ast.specs.declared.script.Statement.{Statement}
+use Rattle.frame_ast.specs.declared.script.Order.{Order}
 use Rattle.frame_ast.specs.Checks.{refusal}
 use Rattle.frame_ast.specs.Jobs.{Book, greatest}
 use Rattle.frame_ast.specs.Lists.{first_some}
@@ -12,11 +12,13 @@ use Rattle.frame_ast.specs.States.{ScriptState}
 use Rattle.job_handle.specs.declared.book.JobBook.{JobBook}
 use Rattle.job_handle.specs.Books.{StandsFor}
 use Rattle.job_handle.specs.Sets.{job_numbered}
+use Rattle.plan_state.specs.declared.answer.Answer.{Answer}
 use Rattle.plan_state.specs.declared.state.Planner.{Planner}
 use Rattle.plan_state.specs.declared.state.World.{World}
 use Rattle.plan_state.specs.Accesses.{refused_as}
 use Rattle.plan_state.specs.Stands.{Knows}
-use Rattle.plan_state.specs.Steps.{state_at, AtStatement, GoesOn}
+use Rattle.plan_state.specs.Answers.{Answers}
+use Rattle.plan_state.specs.Steps.{state_at, AtStatement}
 
 -- An answer is the cause for which the value of a name can't be tested now.
 abbrev pub IsTestRefusal : World → ℕ → Option Refusal → Type 0
@@ -30,17 +32,19 @@ IsLatestRunning book answer = (b : Book)
     → StandsFor book b
     → answer ≡ job_numbered (greatest (λ j. not (b.completed j)) b.count)
 
--- A statement isn't refused.
-abbrev pub Acts : Planner → Statement → Type 0
-Acts p x = AtStatement p x (λ script table begun n found.
-    refusal (setting script table) (state_at script table n) x.act ≡ None)
+-- A statement isn't refused, of whichever planner with this world.
+abbrev pub Acts : World → Order → Type 0
+Acts w x = (line : ℕ) (p : Planner)
+    → AtStatement (record p { world = w }) (record { line = line; act = x }) (λ script table begun n found.
+    refusal (setting script table) (state_at script table n) x ≡ None)
 
 -- it is refused
-abbrev pub IsRefused : Planner → Statement → Type 0
-IsRefused p x = AtStatement p x (λ script table begun n found.
-    refusal (setting script table) (state_at script table n) x.act ≢ None)
+abbrev pub IsRefused : World → Order → Type 0
+IsRefused w x = (line : ℕ) (p : Planner)
+    → AtStatement (record p { world = w }) (record { line = line; act = x }) (λ script table begun n found.
+    refusal (setting script table) (state_at script table n) x ≢ None)
 
--- Where a statement is refused the planner goes on, and else it is as it was.
-abbrev pub IsDecided : Planner → Planner → Statement → Bool → Type 0
-IsDecided old new x true = GoesOn old new x × IsRefused old x
-IsDecided old new x false = (new ≡ old) × Acts old x
+-- Where a statement is refused there is an answer, and else all is as it was.
+abbrev pub IsDecided : World → World → Order → Option Answer → Type 0
+IsDecided old new x None = (new ≡ old) × Acts old x
+IsDecided old new x (Some answer) = Answers old new x answer × IsRefused old x

@@ -1,33 +1,30 @@
 // `when`: whether it acts. The block of one that is refused is passed by.
-ghost use Rattle.std.specs.Prelude.{◌<◌, IfOk, vec_len};
+ghost use Rattle.std.specs.Prelude.{◌<◌, vec_len};
 ghost use Rattle.frame_ast.specs.declared.script.Order.TheVariants.{When as WhenOf};
 ghost use Rattle.plan_state.specs.Accesses.{AreThere};
-ghost use Rattle.plan_state.specs.Steps.{IsReady};
+ghost use Rattle.plan_state.specs.Answers.{IsReadyFor};
 ghost use Rattle.plan_statements.specs.Tests.{IsDecided, IsLatestRunning, IsTestRefusal};
 
 use frame_ast::script::Sign;
-use job_base::{JobId, NoMemory, Refusal};
-use plan_state::{Planner, World};
+use job_base::{JobId, Refusal};
+use plan_state::{Answer, World};
 
-/// Whether a `when` is refused. Then that is said, and its block will be passed by.
+/// What a `when` answers that is refused, whose block will be passed by; or none where it acts.
 pub fn refuse_test(
-    planner: &mut Planner,
-    line: u32,
+    world: &mut World,
     name: u32,
     sign: Sign,
     value: i64,
     count: u32,
-) -> Result<bool, NoMemory>
-    requires ready { IsReady planner.old (record { line = line; act = WhenOf name sign value count }) }
-    ensures decided { IfOk result (IsDecided planner.old planner.new
-        (record { line = line; act = WhenOf name sign value count })) }
+) -> Option<Answer>
+    requires ready { IsReadyFor world.old (WhenOf name sign value count) }
+    ensures decided { IsDecided world.old world.new (WhenOf name sign value count) result }
 {
-    match test_refusal(&planner.world, name) {
-        None => Ok(false),
+    match test_refusal(world, name) {
+        None => None,
         Some(refusal) => {
-            planner.push_refusal(line, name, refusal)?;
-            planner.world.passing = count;
-            Ok(true)
+            world.passing = count;
+            Some(Answer::Refused { name, refusal })
         }
     }
 }

@@ -24,7 +24,8 @@ use Rattle.frame_core.specs.Ordered.{ops_count}
 use Rattle.plan_laws.specs.Planned.{Outline, IsPlanned}
 use Rattle.plan_state.specs.declared.state.Value.{Value}
 use Rattle.plan_state.specs.declared.state.Planner.{Planner}
-use Rattle.plan_state.specs.Growth.{given_so_far, IsQuiet}
+use Rattle.plan_state.specs.Growth.{given_so_far}
+use Rattle.plan_state.proofs.Quiet.{IsQuiet}
 use Rattle.plan_state.specs.Stands.{AreNames, AreContainers, AreTemps, AreTempJobs, IsCopy, IsGuardedCopy, Agrees, Stands, draft_of}
 use Rattle.plan_statements.proofs.Endings.Ending.{changed, words_counted}
 

@@ -3,6 +3,7 @@ use Rattle.std.proofs.Common.{◌≡◌, ◌≢◌, ℕ, zero, suc, ◌+◌, ◌
 use Rattle.std.specs.Prelude.{◌↔◌, IsTrue, vec_len, slice_get, get_or, nat_eq, nat_lt, nat_le, if◌then◌else◌}
 use Rattle.std.proofs.lemmas.Bool.{and_parts, leb-true, cases_eq, cases_lt, eq-eqb, ne_eqb}
 use Rattle.job_base.specs.declared.Refusal.{Refusal}
+use Rattle.job_base.specs.declared.Span.{Span}
 use Rattle.job_base.specs.declared.Refusal.TheVariants.{StoreFull, Range as PastRange}
 use Rattle.job_base.specs.declared.Trap.TheVariants.{Range}
 use Rattle.job_base.specs.declared.limits.TheConstants.{MOST_STATEMENTS, MOST_ELEMENTS, MOST_LIVE_WORDS, MOST_CREATED_WORDS}
@@ -40,8 +41,11 @@ use Rattle.plan_laws.proofs.Making.{alive_is_live}
 use Rattle.plan_state.specs.declared.state.Value.{Value}
 use Rattle.plan_state.specs.declared.state.Value.TheVariants.{Dead, Whole, Slice, View, Jobs as Handles}
 use Rattle.plan_state.specs.declared.state.Container.{Container}
+use Rattle.plan_state.specs.declared.state.Draft.{Draft}
 use Rattle.plan_state.specs.declared.state.Planner.{Planner}
+use Rattle.plan_state.specs.declared.state.World.{World}
 use Rattle.plan_state.specs.Accesses.{IsPushed, MayUse, refused_as}
+use Rattle.plan_state.specs.Answers.{HasOp}
 use Rattle.plan_state.specs.Stands.{jobs_at, value_for, AreNames, IsContainer, Stands}
 use Rattle.plan_state.specs.Steps.{state_at, IsStep, StandsAt, HasStepped}
 use Rattle.plan_statements.specs.Capacity.{IsWhole, IsList, HasBroken, IsMoved}
@@ -303,25 +307,28 @@ module _ (script : Script) (table : Table) (begun : ScriptState) (n line name ca
             let k = st.numbers.created in
             omega arith
 
-        pub capacity_goes_on : (q : Planner) (at : ListAt) → l.it.bind ≡ WholeList at → p.world.created + (cap + 1) ≤ MOST_CREATED_WORDS
-            → IsMoved p q line name l.c l.it at cap
-            → HasStepped script table begun n found p q x
-        capacity_goes_on q at was small m =
-            range_steps script table begun n found x step p q st (cap + 1) m.span
-            (record { line = line; name = name; act = Move (record { start = at.start; len = at.cap + 1 }) m.span })
+        pub capacity_goes_on : (w : World) (draft : Draft) (span : Span) (at : ListAt) → l.it.bind ≡ WholeList at
+            → p.world.created + (cap + 1) ≤ MOST_CREATED_WORDS
+            → IsMoved p.world w l.c l.it cap span
+            → HasOp p.draft draft (record { line = line; name = name; act = Move (record { start = at.start; len = at.cap + 1 }) span })
+            → HasStepped script table begun n found p (record p { world = w; draft = draft }) x
+        capacity_goes_on w draft span at was small m has =
+            range_steps script table begun n found x step p (record p { world = w; draft = draft }) st (cap + 1) span
+            (record { line = line; name = name; act = Move (record { start = at.start; len = at.cap + 1 }) span })
             (record { fit = m.regrown.fit; len = m.regrown.len_is; peak = m.regrown.peak })
             (record {
-              ops = m.ops;
-              segments = ap (λ (z : Planner). z.draft.segments) m.rest;
-              waits = ap (λ (z : Planner). z.draft.waits) m.rest;
-              jobs = ap (λ (z : Planner). z.draft.jobs) m.rest;
-              kernels = ap (λ (z : Planner). z.draft.kernels) m.rest;
+              ops = has.ops;
+              segments = ap (λ (z : Draft). z.segments) has.rest;
+              waits = ap (λ (z : Draft). z.waits) has.rest;
+              jobs = ap (λ (z : Draft). z.jobs) has.rest;
+              kernels = ap (λ (z : Draft). z.kernels) has.rest;
             })
             refl unrefused refl tt (ap (λ (z : ScriptState). z.book.completed) acted)
-            (subst (λ z. Stands q g begun (suc n) z (found ++ m.span.start ∷ [])) (sym acted)
-            (subst (λ z. Stands z g begun (suc n) (with_capacity s l.c cap l.xs) (found ++ m.span.start ∷ [])) (sym m.rest)
-            (regrown_stands p g begun n s found line name l.c cap l.old l.xs l.it m.now m.span q.world.store q.world.safety q.world.containers q.world.created
-            q.draft.ops
+            (subst (λ z. Stands (record p { world = w; draft = draft }) g begun (suc n) z (found ++ span.start ∷ [])) (sym acted)
+            (subst (λ z. Stands z g begun (suc n) (with_capacity s l.c cap l.xs) (found ++ span.start ∷ []))
+            (let a = m.rest in let b = has.rest in λ i. record p { world = sym a i; draft = sym b i })
+            (regrown_stands p g begun n s found line name l.c cap l.old l.xs l.it m.now span w.store w.safety w.containers w.created
+            draft.ops
             st named.below l.c_is l.contents l.alive grows
             (record {
               has = l.has;
@@ -339,7 +346,7 @@ module _ (script : Script) (table : Table) (begun : ScriptState) (n line name ca
               small = (let e = m.created in omega arith);
               at = at;
               was = was;
-              ops_are = m.ops;
+              ops_are = has.ops;
             })
             unrefused)))
 

@@ -34,12 +34,19 @@ use Rattle.plan_laws.specs.Planned.{Outline}
 use Rattle.plan_laws.proofs.Filling.{zeros_fill, literals_fill}
 use Rattle.plan_state.specs.declared.state.PlanFault.{PlanFault}
 use Rattle.plan_state.specs.declared.state.PlanFault.TheVariants.{Jobs, Words, NoMemory}
+use Rattle.plan_state.specs.declared.answer.Answer.{Answer}
+use Rattle.plan_state.specs.declared.answer.Answer.TheVariants.{Refused as RefusedAs}
+use Rattle.plan_state.specs.declared.state.Draft.{Draft}
 use Rattle.plan_state.specs.declared.state.Planner.{Planner}
-use Rattle.plan_state.specs.declared.state.Value.TheVariants.{Whole}
-use Rattle.plan_statements.specs.Making.{TakesWords, HasTaken, FailsToTake, HasLiteralOf, IsEntered, IsLost, and_if}
+use Rattle.plan_state.specs.declared.state.Value.TheVariants.{Dead, Whole}
+use Rattle.plan_state.specs.declared.state.World.{World}
+use Rattle.plan_state.specs.Accesses.{IsRenamed}
+use Rattle.plan_state.specs.Answers.{HasFilled, HasTaken}
+use Rattle.plan_statements.specs.Making.{TakesWords, HasWords, FailsToTake, IsEntered, and_if, elements_of}
 use Rattle.plan_state.specs.Stands.{Stands}
 use Rattle.plan_state.specs.Steps.{state_at, state_after, IsStep, StandsAt, HasStepped, IsBefore, PassesLimit}
 use Rattle.plan_statements.proofs.Ranges.Entering.{IsMade, made_stands}
+use Rattle.plan_state.proofs.Answering.{was_pushed}
 use Rattle.plan_state.proofs.Quiet.{IsNoSchedule}
 use Rattle.plan_statements.proofs.Ranges.Ranging.{HasFound, HasOneMore, range_steps}
 use Rattle.plan_state.proofs.Reaching.{statements_few, within}
@@ -88,31 +95,12 @@ literal_there : (xs more : List (Vec ℤ Global)) (v : Vec ℤ Global) → get_o
 literal_there [] more v = refl
 literal_there (x ∷ xs) more v = literal_there xs more v
 
--- the planner that has the words and the literal
-pub taken_with : (p q r : Planner) (len : ℕ) (t : Taken) (xs : Option (List ℤ)) (literal : Option ℕ) → HasTaken p q len t → HasLiteralOf q r xs literal
-    → r ≡ record p { world = record p.world { store = q.world.store; created = q.world.created }; draft = record p.draft { literals = r.draft.literals } }
-taken_with p q r len t xs literal took has =
-    rest xs literal has ∙ ap (λ (z : Planner). record z { draft = record z.draft { literals = r.draft.literals } }) took.rest
-  where
-    rest : (xs : Option (List ℤ)) (literal : Option ℕ) → HasLiteralOf q r xs literal → r ≡ record q { draft = record q.draft { literals = r.draft.literals } }
-    rest None None e = e ∙ (λ i. record q { draft = record q.draft { literals = (sym e i).draft.literals } })
-    rest None (Some k) e = absurd e
-    rest (Some ys) None e = absurd e
-    rest (Some ys) (Some k) e = e.rest
+-- a world of which words were taken knows as many names and containers
+pub as_many_names : (old new : World) (len : ℕ) (t : Taken) → HasWords old new len t → (name : ℕ) → name < vec_len old.values → name < vec_len new.values
+as_many_names old new len t took name lt = subst (λ (z : World). name < vec_len z.values) (sym took.rest) lt
 
--- it knows as many names and containers
-pub as_many_names : (p q r : Planner) (len : ℕ) (t : Taken) (xs : Option (List ℤ)) (literal : Option ℕ) → HasTaken p q len t → HasLiteralOf q r xs literal
-    → (name : ℕ) → name < vec_len p.world.values → name < vec_len r.world.values
-as_many_names p q r len t xs literal took has name lt = subst (λ (z : Planner). name < vec_len z.world.values)
-    (sym (taken_with p q r len t xs literal took has)) lt
-
-pub as_many_containers : (p q r : Planner) (len : ℕ) (t : Taken) (xs : Option (List ℤ)) (literal : Option ℕ) → HasTaken p q len t → HasLiteralOf q r xs literal
-    → vec_len p.world.containers < 2 ^ 32 → vec_len r.world.containers < 2 ^ 32
-as_many_containers p q r len t xs literal took has lt = subst (λ (z : Planner). vec_len z.world.containers < 2 ^ 32)
-    (sym (taken_with p q r len t xs literal took has)) lt
-
-pub as_many_literals : (p q : Planner) (len : ℕ) (t : Taken) → HasTaken p q len t → vec_len p.draft.literals < 2 ^ 32 → vec_len q.draft.literals < 2 ^ 32
-as_many_literals p q len t took lt = subst (λ (z : Planner). vec_len z.draft.literals < 2 ^ 32) (sym took.rest) lt
+pub as_many_containers : (old new : World) (len : ℕ) (t : Taken) → HasWords old new len t → vec_len old.containers < 2 ^ 32 → vec_len new.containers < 2 ^ 32
+as_many_containers old new len t took lt = subst (λ (z : World). vec_len z.containers < 2 ^ 32) (sym took.rest) lt
 
 -- WHAT READY SAYS
 
@@ -154,7 +142,7 @@ module _ (script : Script) (table : Table) (begun : ScriptState) (n : ℕ) (x : 
       ∙ makes.effect_is s
 
   -- too many words in all
-  pub fails : (fault : PlanFault) (len : ℕ) → len ≡ words_of c → FailsToTake fault p len → PassesLimit fault (state_after script table n x)
+  pub fails : (fault : PlanFault) (len : ℕ) → len ≡ words_of c → FailsToTake fault p.world len → PassesLimit fault (state_after script table n x)
   fails NoMemory len e f = tt
   fails Jobs len e f = absurd f
   fails Words len e f =
@@ -165,133 +153,163 @@ module _ (script : Script) (table : Table) (begun : ScriptState) (n : ℕ) (x : 
       omega arith
 
   -- too many live words
-  pub lost_goes_on : (q : Planner) (len : ℕ) → len ≡ words_of c → MOST_LIVE_WORDS < live_words_of p.world.store + len → IsLost p q x.line name
-      → HasStepped script table begun n found p q x
-  lost_goes_on q len e lt l =
-      subst (λ z. HasStepped script table begun n found p z x) (sym l.rest)
-      (said_dead script table begun n found x step (refused StoreFull name) p st
+  pub lost_goes_on : (v w : World) (draft : Draft) (len : ℕ) (answer : Answer) → len ≡ words_of c → (MOST_LIVE_WORDS < live_words_of p.world.store + len) ×
+      (v ≡ p.world)
+      → IsRenamed v w name Dead
+      → answer ≡ RefusedAs name StoreFull
+      → HasTaken p.draft draft x.line answer
+      → HasStepped script table begun n found p (record p { world = w; draft = draft }) x
+  lost_goes_on v w draft len answer e full renames is took =
+      let lt = full.0 in
+      said_dead script table begun n found x step (refused StoreFull name) p st
       (makes.refusal_is s ∙ is_full s (words_of c) name (let k = st.numbers.live_words in omega arith)) makes.below
-      l.said q.world name makes.made makes.lost makes.passed (inl refl) l.says l.renames)
+      (record p { draft = draft }) w name makes.made makes.lost makes.passed (inl refl)
+      (was_pushed p p.world draft _ (subst (HasTaken p.draft draft x.line) is took))
+      (subst (λ z. IsRenamed z w name Dead) full.1 renames)
 
-  module _ (q r u : Planner) (t : Taken) (len : ℕ) (len_is : len ≡ words_of c) (took : HasTaken p q len t) (bind : Bind)
+  module _ (v w : World) (draft : Draft) (t : Taken) (len : ℕ) (len_is : len ≡ words_of c) (took : HasWords p.world v len t) (bind : Bind)
       (bind_is : bind ≡ bind_of t.span.start c)
-      (xs : Option (List ℤ)) (given : IsGiven xs c) (literal : Option ℕ) (has : HasLiteralOf q r xs literal)
-      (entered : IsEntered r u x.line name life t bind literal) where
-    before : r ≡ record p {
-      world = record p.world { store = q.world.store; created = q.world.created };
-      draft = record p.draft { literals = r.draft.literals };
-    }
-    before = taken_with p q r len t xs literal took has
+      (values : Option (Vec ℤ Global)) (given : IsGiven (elements_of values) c)
+      (entered : IsEntered v w x.line name life t bind) (filled : HasFilled p.draft draft x.line name t.span values) where
+    abbrev u : Planner
+    u = record p { world = w; draft = draft }
 
-    after : u ≡ record p {
-      world = record p.world {
-        store = q.world.store;
-        safety = u.world.safety;
-        containers = u.world.containers;
-        values = u.world.values;
-        temps = u.world.temps;
-        tempjobs = u.world.tempjobs;
-        created = q.world.created;
-      };
-      draft = record p.draft { literals = r.draft.literals; ops = u.draft.ops };
+    -- the literal that has the elements
+    abbrev number_of : Option (Vec ℤ Global) → Option ℕ
+    number_of None = None
+    number_of (Some v) = Some (length p.draft.literals.items)
+
+    abbrev literal : Option ℕ
+    literal = number_of values
+
+    before : v ≡ record p.world { store = v.store; created = v.created }
+    before = took.rest
+
+    after : w ≡ record p.world {
+      store = v.store;
+      safety = w.safety;
+      containers = w.containers;
+      values = w.values;
+      temps = w.temps;
+      tempjobs = w.tempjobs;
+      created = v.created;
     }
-    after = entered.rest ∙ ap (λ (z : Planner). record z {
-      world = record z.world {
-        safety = u.world.safety;
-        containers = u.world.containers;
-        values = u.world.values;
-        temps = u.world.temps;
-        tempjobs = u.world.tempjobs;
-      };
-      draft = record z.draft { ops = u.draft.ops };
+    after = entered.rest ∙ ap (λ (z : World). record z {
+      safety = w.safety;
+      containers = w.containers;
+      values = w.values;
+      temps = w.temps;
+      tempjobs = w.tempjobs;
     }) before
 
-    more_literals : (xs : Option (List ℤ)) (literal : Option ℕ) → HasLiteralOf q r xs literal
-        → (more : List (Vec ℤ Global)) × (r.draft.literals.items ≡ p.draft.literals.items ++ more) × (length more ≤ 1)
-    more_literals None None e = ([], ap (λ (z : Planner). z.draft.literals.items) (e ∙ took.rest) ∙ sym (append-nil p.draft.literals.items), omega arith)
-    more_literals None (Some k) e = absurd e
-    more_literals (Some ys) None e = absurd e
-    more_literals (Some ys) (Some k) e = (e.literal ∷ [], e.literals ∙ ap (λ (z : Planner). z.draft.literals.items ++ e.literal ∷ []) took.rest, omega arith)
+    drafted_by : (xs : Option (Vec ℤ Global)) → HasFilled p.draft draft x.line name t.span xs
+        → draft ≡ record p.draft { literals = draft.literals; ops = draft.ops }
+    drafted_by None f = f.rest ∙ (λ i. record p.draft { literals = (sym f.rest i).literals; ops = draft.ops })
+    drafted_by (Some l) f = f.rest
 
-    more : (more : List (Vec ℤ Global)) × (r.draft.literals.items ≡ p.draft.literals.items ++ more) × (length more ≤ 1)
-    more = more_literals xs literal has
+    drafted : draft ≡ record p.draft { literals = draft.literals; ops = draft.ops }
+    drafted = drafted_by values filled
+
+    all_is : u ≡ record p {
+      world = record p.world {
+        store = v.store;
+        safety = w.safety;
+        containers = w.containers;
+        values = w.values;
+        temps = w.temps;
+        tempjobs = w.tempjobs;
+        created = v.created;
+      };
+      draft = record p.draft { literals = draft.literals; ops = draft.ops };
+    }
+    all_is = (let a = after in let b = drafted in λ i. record p { world = a i; draft = b i })
+
+    more_literals : (xs : Option (Vec ℤ Global)) → HasFilled p.draft draft x.line name t.span xs
+        → (more : List (Vec ℤ Global)) × (draft.literals.items ≡ p.draft.literals.items ++ more) × (length more ≤ 1)
+    more_literals None f = ([], ap (λ (z : Draft). z.literals.items) f.rest ∙ sym (append-nil p.draft.literals.items), omega arith)
+    more_literals (Some l) f = (l ∷ [], f.literals, omega arith)
+
+    more : (more : List (Vec ℤ Global)) × (draft.literals.items ≡ p.draft.literals.items ++ more) × (length more ≤ 1)
+    more = more_literals values filled
+
+    -- the operation that fills the words
+    abbrev filling_with : Option (Vec ℤ Global) → Op
+    filling_with xs = record { line = x.line; name = name; act = Fill t.span (number_of xs) }
+
+    abbrev filling : Op
+    filling = filling_with values
+
+    one_filling : (xs : Option (Vec ℤ Global)) → HasFilled p.draft draft x.line name t.span xs → draft.ops.items ≡ p.draft.ops.items ++ filling_with xs ∷ []
+    one_filling None f = f.ops
+    one_filling (Some l) f = f.ops
 
     few_words : live_words_of p.world.store + words_of c ≤ MOST_LIVE_WORDS
     few_words = let a = took.few in omega arith
 
-    words : TakesWords p.world.store q.world.store (words_of c) t
-    words = subst (λ k. TakesWords p.world.store q.world.store k t) len_is took.taken
+    words : TakesWords p.world.store v.store (words_of c) t
+    words = subst (λ k. TakesWords p.world.store v.store k t) len_is took.taken
 
-    made_is : IsMade p x.line name life c literal t entered.it q.world.store u.world.safety u.world.containers u.world.values u.world.temps u.world.tempjobs
-        q.world.created r.draft.literals u.draft.ops
+    made_is : IsMade p x.line name life c literal t entered.it v.store w.safety w.containers w.values w.temps w.tempjobs v.created draft.literals draft.ops
     made_is = record {
       small = (let a = took.small in let e = took.created in omega arith);
       created_is = took.created ∙ ap (λ k. p.world.created + k) len_is;
       takes = words;
       enrolled = entered.enrolled;
-      others = λ k ne. entered.others k ne ∙ ap (λ (z : Planner). state_of z.world.safety k) before;
+      others = λ k ne. entered.others k ne ∙ ap (λ (z : World). state_of z.safety k) before;
       bind = entered.bind_is ∙ bind_is;
       slot_is = entered.slot_is;
       version_is = entered.version_is;
       life_is = entered.life_is;
-      frame_is = entered.frame_is ∙ ap (λ (z : Planner). z.world.frame) before;
+      frame_is = entered.frame_is ∙ ap (λ (z : World). z.frame) before;
       name_is = entered.name_is;
       line_is = entered.line_is;
-      containers_are = entered.containers ∙ ap (λ (z : Planner). z.world.containers.items ++ entered.it ∷ []) before;
-      values_are = entered.values ∙ ap (λ (z : Planner). slice_set z.world.values.items name (Whole (length z.world.containers.items))) before;
-      temps_are = entered.temps ∙ ap (λ (z : Planner). and_if (Rattle.frame_ast.specs.Refusals.is_temp life) z.world.temps.items
-          (length z.world.containers.items)) before;
-      tempjobs_are = entered.tempjobs ∙ ap (λ (z : Planner). and_if (Rattle.frame_ast.specs.Effects.is_tempjob life) z.world.tempjobs.items
-          (length z.world.containers.items)) before;
+      containers_are = entered.containers ∙ ap (λ (z : World). z.containers.items ++ entered.it ∷ []) before;
+      values_are = entered.values ∙ ap (λ (z : World). slice_set z.values.items name (Whole (length z.containers.items))) before;
+      temps_are = entered.temps ∙ ap (λ (z : World). and_if (Rattle.frame_ast.specs.Refusals.is_temp life) z.temps.items
+          (length z.containers.items)) before;
+      tempjobs_are = entered.tempjobs ∙ ap (λ (z : World). and_if (Rattle.frame_ast.specs.Effects.is_tempjob life) z.tempjobs.items
+          (length z.containers.items)) before;
       literals_more = more.0;
       literals_are = more.1;
       literals_one = more.2;
-      ops_are = entered.ops ∙ ap (λ (z : Planner). z.draft.ops.items ++ record { line = x.line; name = name; act = Fill t.span literal } ∷ []) before;
+      ops_are = one_filling values filled;
     }
 
     -- what the whole plan has at the literal's place
-    literal_is : (y : Outline) (later : List (Vec ℤ Global)) → y.plan.literals.items ≡ r.draft.literals.items ++ later
-        → (xs : Option (List ℤ)) (literal : Option ℕ) → IsGiven xs c → HasLiteralOf q r xs literal
-        → IsLiteral y.plan t.span literal × FillsAs y.plan t.span literal c
-    literal_is y later e None None given h = (tt, zeros_fill y.plan t.span c words.len_is given)
-    literal_is y later e None (Some k) given h = absurd h
-    literal_is y later e (Some ys) None given h = absurd h
-    literal_is y later e (Some ys) (Some k) given h =
-        let all : y.plan.literals.items ≡ (q.draft.literals.items ++ h.literal ∷ []) ++ later = e ∙ ap (λ l. l ++ later) h.literals in
-        let at : literal_of y.plan k ≡ ys =
-        (let a = all in let b = h.number_is in λ i. get_or (map (λ (v : Vec ℤ Global). v.items) (a i)) (b i) [])
-        ∙ literal_there q.draft.literals.items later h.literal ∙ h.elements in
-        let n = h.number_is in
+    literal_is : (y : Outline) (later : List (Vec ℤ Global)) → y.plan.literals.items ≡ draft.literals.items ++ later
+        → (xs : Option (Vec ℤ Global)) → IsGiven (elements_of xs) c → HasFilled p.draft draft x.line name t.span xs
+        → IsLiteral y.plan t.span (number_of xs) × FillsAs y.plan t.span (number_of xs) c
+    literal_is y later e None given h = (tt, zeros_fill y.plan t.span c words.len_is given)
+    literal_is y later e (Some literal) given h =
+        let all : y.plan.literals.items ≡ (p.draft.literals.items ++ literal ∷ []) ++ later = e ∙ ap (λ l. l ++ later) h.literals in
+        let at : literal_of y.plan (length p.draft.literals.items) ≡ literal.items =
+        (let a = all in λ i. get_or (map (λ (v : Vec ℤ Global). v.items) (a i)) (length p.draft.literals.items) [])
+        ∙ literal_there p.draft.literals.items later literal in
         let l = ap length all in
-        let m = length-append (q.draft.literals.items ++ h.literal ∷ []) later in
-        let o = length-append q.draft.literals.items (h.literal ∷ []) in (
-          ((omega arith), ap length at ∙ given_long ys c given ∙ sym words.len_is),
-          literals_fill y.plan t.span k c words.len_is (subst (λ zs. IsGivenBy zs c) (sym at) given),
+        let m = length-append (p.draft.literals.items ++ literal ∷ []) later in
+        let o = length-append p.draft.literals.items (literal ∷ []) in (
+          ((omega arith), ap length at ∙ given_long literal.items c given ∙ sym words.len_is),
+          literals_fill y.plan t.span (length p.draft.literals.items) c words.len_is (subst (λ zs. IsGivenBy zs c) (sym at) given),
         )
-
-    -- the operation that fills the words
-    abbrev filling : Op
-    filling = record { line = x.line; name = name; act = Fill t.span literal }
 
     one_op : HasOneMore p u filling
     one_op = record {
       ops = made_is.ops_are;
-      segments = ap (λ (z : Planner). z.draft.segments) after;
-      waits = ap (λ (z : Planner). z.draft.waits) after;
-      jobs = ap (λ (z : Planner). z.draft.jobs) after;
-      kernels = ap (λ (z : Planner). z.draft.kernels) after;
+      segments = ap (λ (z : Draft). z.segments) drafted;
+      waits = ap (λ (z : Draft). z.waits) drafted;
+      jobs = ap (λ (z : Draft). z.jobs) drafted;
+      kernels = ap (λ (z : Draft). z.kernels) drafted;
     }
 
     found_is : HasFound p u (words_of c) t.span
-    found_is = record { fit = words.fit; len = words.len_is; peak = ap (λ (z : Planner). peak_of z.world.store) after ∙ words.peak }
+    found_is = record { fit = words.fit; len = words.len_is; peak = ap (λ (z : World). peak_of z.store) after ∙ words.peak }
 
     pub goes_on : HasStepped script table begun n found p u x
     goes_on =
         range_steps script table begun n found x step p u st (words_of c) t.span filling found_is one_op refl
         (accepted few_words) makes.takes makes.job (ap (λ (z : ScriptState). z.book.completed) (acted few_words))
         (subst (λ z. Stands u g begun (suc n) z (found ++ t.span.start ∷ [])) (sym (acted few_words))
-        (subst (λ z. Stands z g begun (suc n) (make x.line name life c s) (found ++ t.span.start ∷ [])) (sym after)
-        (made_stands p g begun n s found x.line name life c literal t entered.it q.world.store u.world.safety u.world.containers u.world.values u.world.temps
-        u.world.tempjobs q.world.created
-        r.draft.literals u.draft.ops st makes.below made_is
-        (λ y a. literal_is y a.literals.0 a.literals.1 xs literal given has))))
+        (subst (λ z. Stands z g begun (suc n) (make x.line name life c s) (found ++ t.span.start ∷ [])) (sym all_is)
+        (made_stands p g begun n s found x.line name life c literal t entered.it v.store w.safety w.containers w.values w.temps w.tempjobs v.created
+        draft.literals draft.ops st makes.below made_is
+        (λ y a. literal_is y a.literals.0 a.literals.1 values given filled))))

@@ -1,4 +1,4 @@
-use Rattle.std.proofs.Common.{◌≡◌, ℕ, ℤ, false, refl, sym, subst, ◌∙◌, to_z, of_z, w64, arith}
+use Rattle.std.proofs.Common.{◌≡◌, ℕ, ℤ, false, refl, sym, ap, subst, ◌∙◌, to_z, of_z, w64, arith}
 use Rattle.std.proofs.lemmas.Int.{ints}
 use Rattle.frame_ast.specs.declared.script.Order.{Order}
 use Rattle.frame_ast.specs.declared.script.Order.TheVariants as order
@@ -6,7 +6,7 @@ use Rattle.frame_ast.specs.declared.script.Sign.{Sign}
 use Rattle.frame_ast.specs.Accepted.{is_when}
 use Rattle.plan_statements.specs.Tables.{columns_of}
 use Rattle.plan_statements.specs.Tests.{IsDecided}
-use Rattle.frame_plan.proofs.Acting.{written, ready, passed, passes_by, other_past, test_past, test_stops}
+use Rattle.frame_plan.proofs.Acting.{sees, taken, few_literals, passes_by, other_past, test_past, test_stops}
 use Rattle.frame_plan.proofs.Passing.{passed_by}
 use Rattle.frame_plan.proofs.planner.pass.Goals as goal
 
@@ -21,26 +21,52 @@ pub refuse_test-requires : goal.refuse_test-requires
 refuse_test-requires c =
     let value : to_z w64 (of_z w64 c.in-When.value) ≡ c.in-When.value = omega (arith, ints) in
     record {
-      ready = ready c.args.script.now (columns_of c.args.table.now) c.args.planner.now c.args.statement.now c.requires (omega arith) _
+      ready = sees c.args.script.now (columns_of c.args.table.now) c.args.planner.now c.args.statement.now c.requires (omega arith) _
           (c.in-When.is ∙ (λ i. order.When c.in-When.name c.in-When.sign (sym value i) c.in-When.count));
     }
 
-pub returns-in-When-clause-passed : goal.returns-in-When-clause-passed
-returns-in-When-clause-passed c went =
-    let value : to_z w64 (of_z w64 c.in-When.value) ≡ c.in-When.value = omega (arith, ints) in
-    let x = written c.args.statement.now (order.When c.in-When.name c.in-When.sign (to_z w64 (of_z w64 c.in-When.value)) c.in-When.count) in
-    passed c.args.script.now (columns_of c.args.table.now) c.args.planner.now c.args.statement.now c.requires (omega arith) _
-    (c.in-When.is ∙ (λ i. order.When c.in-When.name c.in-When.sign (sym value i) c.in-When.count))
-    c.refuse_test.new.planner (subst (IsDecided c.args.planner.now c.refuse_test.new.planner x) went c.in_ok-refuse_test.ensures.decided).0
+pub take-requires : goal.take-requires
+take-requires c = record {
+  few = few_literals c.args.script.now (columns_of c.args.table.now) c.args.planner.now c.args.statement.now c.requires
+      (omega arith) _ refl;
+}
 
-pub returns-in-When-clause-past : goal.returns-in-When-clause-past
-returns-in-When-clause-past c went =
+pub returns-in_ok-take-in-Some-clause-passed : goal.returns-in_ok-take-in-Some-clause-passed
+returns-in_ok-take-in-Some-clause-passed c went =
     let value : to_z w64 (of_z w64 c.in-When.value) ≡ c.in-When.value = omega (arith, ints) in
-    let x = written c.args.statement.now (order.When c.in-When.name c.in-When.sign (to_z w64 (of_z w64 c.in-When.value)) c.in-When.count) in
+    taken c.args.script.now (columns_of c.args.table.now) c.args.planner.now c.args.statement.now c.requires (omega arith) _
+    (c.in-When.is ∙ (λ i. order.When c.in-When.name c.in-When.sign (sym value i) c.in-When.count))
+    c.refuse_test.new.world c.take.new.self c.in-Some.answer (subst
+    (IsDecided c.args.planner.now.world c.refuse_test.new.world
+    (order.When c.in-When.name c.in-When.sign (to_z w64 (of_z w64 c.in-When.value)) c.in-When.count))
+    c.in-Some.is c.refuse_test.ensures.decided).0 c.in_ok-take-in-Some.ensures
+
+pub returns-in_ok-take-in-Some-clause-past : goal.returns-in_ok-take-in-Some-clause-past
+returns-in_ok-take-in-Some-clause-past c went =
+    let value : to_z w64 (of_z w64 c.in-When.value) ≡ c.in-When.value = omega (arith, ints) in
     test_past c.args.script.now (columns_of c.args.table.now) c.args.planner.now c.args.statement.now c.requires (omega arith)
     c.in-When.name c.in-When.sign (to_z w64 (of_z w64 c.in-When.value)) c.in-When.count
     (c.in-When.is ∙ (λ i. order.When c.in-When.name c.in-When.sign (sym value i) c.in-When.count))
-    (subst (IsDecided c.args.planner.now c.refuse_test.new.planner x) went c.in_ok-refuse_test.ensures.decided).1
+    (subst (IsDecided c.args.planner.now.world c.refuse_test.new.world
+    (order.When c.in-When.name c.in-When.sign (to_z w64 (of_z w64 c.in-When.value)) c.in-When.count))
+    c.in-Some.is c.refuse_test.ensures.decided).1
+
+pub returns-in-None-clause-stops : goal.returns-in-None-clause-stops
+returns-in-None-clause-stops c stay =
+    let value : to_z w64 (of_z w64 c.in-When.value) ≡ c.in-When.value = omega (arith, ints) in
+    test_stops c.args.script.now (columns_of c.args.table.now) c.args.planner.now c.args.statement.now c.requires (omega arith)
+    c.in-When.name c.in-When.sign (to_z w64 (of_z w64 c.in-When.value)) c.in-When.count
+    (c.in-When.is ∙ (λ i. order.When c.in-When.name c.in-When.sign (sym value i) c.in-When.count))
+    (subst (IsDecided c.args.planner.now.world c.refuse_test.new.world
+    (order.When c.in-When.name c.in-When.sign (to_z w64 (of_z w64 c.in-When.value)) c.in-When.count))
+    c.in-None.is c.refuse_test.ensures.decided).1
+
+pub returns-in-None-clause-stays : goal.returns-in-None-clause-stays
+returns-in-None-clause-stays c stay =
+    let value : to_z w64 (of_z w64 c.in-When.value) ≡ c.in-When.value = omega (arith, ints) in
+    ap (λ w. record c.args.planner.now { world = w }) (subst (IsDecided c.args.planner.now.world c.refuse_test.new.world
+    (order.When c.in-When.name c.in-When.sign (to_z w64 (of_z w64 c.in-When.value)) c.in-When.count))
+    c.in-None.is c.refuse_test.ensures.decided).0
 
 pub returns-then-planner-gt0-clause-past : goal.returns-then-planner-gt0-clause-past
 returns-then-planner-gt0-clause-past c went = passes_by c.args.script.now (columns_of c.args.table.now) c.args.planner.now c.args.statement.now (omega arith)
@@ -48,17 +74,3 @@ returns-then-planner-gt0-clause-past c went = passes_by c.args.script.now (colum
 pub returns-clause-past : goal.returns-clause-past
 returns-clause-past c went =
     other_past c.args.script.now (columns_of c.args.table.now) c.args.planner.now c.args.statement.now (not_when c.args.statement.now.act c.in_default.not-When)
-
-pub returns-in-When-clause-stops : goal.returns-in-When-clause-stops
-returns-in-When-clause-stops c stay =
-    let value : to_z w64 (of_z w64 c.in-When.value) ≡ c.in-When.value = omega (arith, ints) in
-    let x = written c.args.statement.now (order.When c.in-When.name c.in-When.sign (to_z w64 (of_z w64 c.in-When.value)) c.in-When.count) in
-    test_stops c.args.script.now (columns_of c.args.table.now) c.args.planner.now c.args.statement.now c.requires (omega arith)
-    c.in-When.name c.in-When.sign (to_z w64 (of_z w64 c.in-When.value)) c.in-When.count
-    (c.in-When.is ∙ (λ i. order.When c.in-When.name c.in-When.sign (sym value i) c.in-When.count))
-    (subst (IsDecided c.args.planner.now c.refuse_test.new.planner x) stay c.in_ok-refuse_test.ensures.decided).1
-
-pub returns-in-When-clause-stays : goal.returns-in-When-clause-stays
-returns-in-When-clause-stays c stay =
-    let x = written c.args.statement.now (order.When c.in-When.name c.in-When.sign (to_z w64 (of_z w64 c.in-When.value)) c.in-When.count) in
-    (subst (IsDecided c.args.planner.now c.refuse_test.new.planner x) stay c.in_ok-refuse_test.ensures.decided).0

@@ -32,8 +32,8 @@ index-requires-2 c =
     let r = c.requires.ready in
     ready.kernel_below c.args.script.now c.args.planner.now c.args.line r.0 c.args.job.now r.1.table r.1.begun r.1.n r.1.found r.1.step r.1.stands
 
-pub jobs_of_all-named-requires-clause-names : goal.jobs_of_all-named-requires-clause-names
-jobs_of_all-named-requires-clause-names c =
+pub jobs_of_all-deps-requires-clause-names : goal.jobs_of_all-deps-requires-clause-names
+jobs_of_all-deps-requires-clause-names c =
     let r = c.requires.ready in
     ready.after_below c.args.script.now c.args.planner.now c.args.line r.0 c.args.job.now r.1.table r.1.begun r.1.n r.1.found r.1.step r.1.stands
     c.deref.result.now c.deref.ensures.value
@@ -57,8 +57,8 @@ pub uses-requires-clause-jobs : goal.uses-requires-clause-jobs
 uses-requires-clause-jobs c =
     let r = c.requires.ready in
     ready.named_up c.args.script.now c.args.planner.now c.args.line r.0 c.args.job.now r.1.table r.1.begun r.1.n r.1.found r.1.step r.1.stands
-    (jobs_of c.jobs_of_all-named.result) (ready.named_is c.args.script.now c.args.planner.now c.args.line r.0 c.args.job.now r.1.table r.1.begun r.1.n
-    r.1.found r.1.step r.1.stands (jobs_of c.jobs_of_all-named.result) c.deref.result.now c.deref.ensures.value c.jobs_of_all-named.ensures)
+    (jobs_of c.jobs_of_all-deps.result) (ready.named_is c.args.script.now c.args.planner.now c.args.line r.0 c.args.job.now r.1.table r.1.begun r.1.n
+    r.1.found r.1.step r.1.stands (jobs_of c.jobs_of_all-deps.result) c.deref.result.now c.deref.ensures.value c.jobs_of_all-deps.ensures)
 
 pub refuse_schedule-requires-clause-name : goal.refuse_schedule-requires-clause-name
 refuse_schedule-requires-clause-name c =
@@ -70,12 +70,12 @@ refuse_schedule-requires-clause-few c =
     let r = c.requires.ready in
     ready.handles_low c.args.script.now c.args.planner.now c.args.line r.0 c.args.job.now r.1.table r.1.begun r.1.n r.1.found r.1.step r.1.stands
 
-pub deps-requires-clause-named : goal.deps-requires-clause-named
-deps-requires-clause-named c =
+pub add_automatic-requires-clause-named : goal.add_automatic-requires-clause-named
+add_automatic-requires-clause-named c =
     let r = c.requires.ready in
     ready.named_up c.args.script.now c.args.planner.now c.args.line r.0 c.args.job.now r.1.table r.1.begun r.1.n r.1.found r.1.step r.1.stands
-    (jobs_of c.jobs_of_all-named.result) (ready.named_is c.args.script.now c.args.planner.now c.args.line r.0 c.args.job.now r.1.table r.1.begun r.1.n
-    r.1.found r.1.step r.1.stands (jobs_of c.jobs_of_all-named.result) c.deref.result.now c.deref.ensures.value c.jobs_of_all-named.ensures)
+    (jobs_of c.jobs_of_all-deps.result) (ready.named_is c.args.script.now c.args.planner.now c.args.line r.0 c.args.job.now r.1.table r.1.begun r.1.n
+    r.1.found r.1.step r.1.stands (jobs_of c.jobs_of_all-deps.result) c.deref.result.now c.deref.ensures.value c.jobs_of_all-deps.ensures)
 
 pub plain_run-requires-clause-kernel : goal.plain_run-requires-clause-kernel
 plain_run-requires-clause-kernel c =
@@ -137,13 +137,13 @@ add_job-requires-clause-pieces c =
     (sym (moved c.args.script.now c.args.planner.now c.plain_run.new.planner c.args.job.now.kernel c.in_ok-run.run'.kernel c.in_ok-run.ensures.copied))
     (ready.pieces_low c.args.script.now c.args.planner.now c.args.line r.0 c.args.job.now r.1.table r.1.begun r.1.n r.1.found r.1.step r.1.stands)
 
-pub deps-requires-clause-noted : goal.deps-requires-clause-noted
-deps-requires-clause-noted c =
+pub add_automatic-requires-clause-noted : goal.add_automatic-requires-clause-noted
+add_automatic-requires-clause-noted c =
     let r = c.requires.ready in
     let uses = c.in_ok-uses.uses.items in
-    let named = jobs_of c.jobs_of_all-named.result in
+    let named = jobs_of c.jobs_of_all-deps.result in
     let named_are = ready.named_is c.args.script.now c.args.planner.now c.args.line r.0 c.args.job.now r.1.table r.1.begun r.1.n r.1.found r.1.step r.1.stands
-    named c.deref.result.now c.deref.ensures.value c.jobs_of_all-named.ensures in
+    named c.deref.result.now c.deref.ensures.value c.jobs_of_all-deps.ensures in
     let given = ready.are_given c.args.script.now c.args.planner.now c.args.line r.0 c.args.job.now r.1.table r.1.begun r.1.n r.1.found r.1.step r.1.stands
     c.index.result.now (read_some c.args.script.now.kernels c.args.job.now.kernel c.index.result.now
     (ready.kernel_below c.args.script.now c.args.planner.now c.args.line r.0 c.args.job.now r.1.table r.1.begun r.1.n r.1.found r.1.step r.1.stands)
@@ -162,9 +162,9 @@ pub add_job-requires-clause-uses : goal.add_job-requires-clause-uses
 add_job-requires-clause-uses c =
     let r = c.requires.ready in
     let uses = c.in_ok-uses.uses.items in
-    let named = jobs_of c.jobs_of_all-named.result in
+    let named = jobs_of c.jobs_of_all-deps.result in
     let named_are = ready.named_is c.args.script.now c.args.planner.now c.args.line r.0 c.args.job.now r.1.table r.1.begun r.1.n r.1.found r.1.step r.1.stands
-    named c.deref.result.now c.deref.ensures.value c.jobs_of_all-named.ensures in
+    named c.deref.result.now c.deref.ensures.value c.jobs_of_all-deps.ensures in
     let given = ready.are_given c.args.script.now c.args.planner.now c.args.line r.0 c.args.job.now r.1.table r.1.begun r.1.n r.1.found r.1.step r.1.stands
     c.index.result.now (read_some c.args.script.now.kernels c.args.job.now.kernel c.index.result.now
     (ready.kernel_below c.args.script.now c.args.planner.now c.args.line r.0 c.args.job.now r.1.table r.1.begun r.1.n r.1.found r.1.step r.1.stands)
@@ -203,9 +203,9 @@ pub add_job-requires-clause-deps : goal.add_job-requires-clause-deps
 add_job-requires-clause-deps c =
     let r = c.requires.ready in
     let uses = c.in_ok-uses.uses.items in
-    let named = jobs_of c.jobs_of_all-named.result in
+    let named = jobs_of c.jobs_of_all-deps.result in
     let named_are = ready.named_is c.args.script.now c.args.planner.now c.args.line r.0 c.args.job.now r.1.table r.1.begun r.1.n r.1.found r.1.step r.1.stands
-    named c.deref.result.now c.deref.ensures.value c.jobs_of_all-named.ensures in
+    named c.deref.result.now c.deref.ensures.value c.jobs_of_all-deps.ensures in
     let given = ready.are_given c.args.script.now c.args.planner.now c.args.line r.0 c.args.job.now r.1.table r.1.begun r.1.n r.1.found r.1.step r.1.stands
     c.index.result.now (read_some c.args.script.now.kernels c.args.job.now.kernel c.index.result.now
     (ready.kernel_below c.args.script.now c.args.planner.now c.args.line r.0 c.args.job.now r.1.table r.1.begun r.1.n r.1.found r.1.step r.1.stands)
@@ -216,20 +216,20 @@ add_job-requires-clause-deps c =
     (ready.kernel_below c.args.script.now c.args.planner.now c.args.line r.0 c.args.job.now r.1.table r.1.begun r.1.n r.1.found r.1.step r.1.stands)
     c.index-2.ensures) c.deref-4.result.now c.deref-4.ensures.value c.refusal_of.result c.refusal_of.ensures)
     ∙ ap as_refused (no_cause c.refusal_of.result c.in_default.not-Some) in
-    subst (λ (k : Planner). AreUpTo (count_of k.world.jobs) (jobs_of c.in_ok-deps.deps))
+    subst (λ (k : Planner). AreUpTo (count_of k.world.jobs) (jobs_of c.add_automatic.new.deps))
     (sym (moved c.args.script.now c.args.planner.now c.plain_run.new.planner c.args.job.now.kernel c.in_ok-run.run'.kernel c.in_ok-run.ensures.copied))
     (ready.deps_up c.args.script.now c.args.planner.now c.args.line r.0 c.args.job.now r.1.table r.1.begun r.1.n r.1.found r.1.step r.1.stands uses named
     named_are
-    given none (jobs_of c.in_ok-deps.deps) (subst (λ us. AreDeps c.args.job.now.auto named c.args.planner.now.world.jobs c.args.planner.now.world.safety
+    given none (jobs_of c.add_automatic.new.deps) (subst (λ us. AreDeps c.args.job.now.auto named c.args.planner.now.world.jobs c.args.planner.now.world.safety
     (tags_of us)
-    (jobs_of c.in_ok-deps.deps)) c.deref-5.ensures.value c.in_ok-deps.ensures))
+    (jobs_of c.add_automatic.new.deps)) c.deref-5.ensures.value c.in_ok-add_automatic.ensures))
 
 pub returns-in-Some-clause-goes_on : goal.returns-in-Some-clause-goes_on
 returns-in-Some-clause-goes_on c home table begun n found step st =
     let uses = c.in_ok-uses.uses.items in
-    let named = jobs_of c.jobs_of_all-named.result in
+    let named = jobs_of c.jobs_of_all-deps.result in
     let named_are = ready.named_is c.args.script.now c.args.planner.now c.args.line home c.args.job.now table begun n found step st named c.deref.result.now
-    c.deref.ensures.value c.jobs_of_all-named.ensures in
+    c.deref.ensures.value c.jobs_of_all-deps.ensures in
     let given = ready.are_given c.args.script.now c.args.planner.now c.args.line home c.args.job.now table begun n found step st c.index.result.now
     (read_some c.args.script.now.kernels c.args.job.now.kernel c.index.result.now
     (ready.kernel_below c.args.script.now c.args.planner.now c.args.line home c.args.job.now table begun n found step st) c.index.ensures) named
@@ -245,9 +245,9 @@ returns-in-Some-clause-goes_on c home table begun n found step st =
 pub returns-clause-goes_on : goal.returns-clause-goes_on
 returns-clause-goes_on c = on_ok c.add_job.result (λ is home table begun n found step st.
     let uses = c.in_ok-uses.uses.items in
-    let named = jobs_of c.jobs_of_all-named.result in
+    let named = jobs_of c.jobs_of_all-deps.result in
     let named_are = ready.named_is c.args.script.now c.args.planner.now c.args.line home c.args.job.now table begun n found step st named c.deref.result.now
-    c.deref.ensures.value c.jobs_of_all-named.ensures in
+    c.deref.ensures.value c.jobs_of_all-deps.ensures in
     let given = ready.are_given c.args.script.now c.args.planner.now c.args.line home c.args.job.now table begun n found step st c.index.result.now
     (read_some c.args.script.now.kernels c.args.job.now.kernel c.index.result.now
     (ready.kernel_below c.args.script.now c.args.planner.now c.args.line home c.args.job.now table begun n found step st) c.index.ensures) named
@@ -258,17 +258,17 @@ returns-clause-goes_on c = on_ok c.add_job.result (λ is home table begun n foun
     c.deref-4.result.now c.deref-4.ensures.value c.refusal_of.result c.refusal_of.ensures)
     ∙ ap as_refused (no_cause c.refusal_of.result c.in_default.not-Some) in
     ready.goes_on c.args.script.now c.args.planner.now c.args.line home c.args.job.now table begun n found step st uses named named_are given none
-    c.plain_run.new.planner c.add_job.new.planner c.in_ok-run.run' (jobs_of c.in_ok-deps.deps) c.deref-6.result.now c.deref-7.result.now
+    c.plain_run.new.planner c.add_job.new.planner c.in_ok-run.run' (jobs_of c.add_automatic.new.deps) c.deref-6.result.now c.deref-7.result.now
     c.deref-8.result.now c.deref-6.ensures.value c.deref-7.ensures.value c.deref-8.ensures.value
-    (subst (λ us. AreDeps c.args.job.now.auto named c.args.planner.now.world.jobs c.args.planner.now.world.safety (tags_of us) (jobs_of c.in_ok-deps.deps))
-    c.deref-5.ensures.value c.in_ok-deps.ensures) c.in_ok-run.ensures is) c.add_job.ensures.done
+    (subst (λ us. AreDeps c.args.job.now.auto named c.args.planner.now.world.jobs c.args.planner.now.world.safety (tags_of us)
+    (jobs_of c.add_automatic.new.deps)) c.deref-5.ensures.value c.in_ok-add_automatic.ensures) c.in_ok-run.ensures is) c.add_job.ensures.done
 
 pub returns-clause-fails : goal.returns-clause-fails
 returns-clause-fails c = if_err c.add_job.result (λ fault full home table begun n found step st.
     let uses = c.in_ok-uses.uses.items in
-    let named = jobs_of c.jobs_of_all-named.result in
+    let named = jobs_of c.jobs_of_all-deps.result in
     let named_are = ready.named_is c.args.script.now c.args.planner.now c.args.line home c.args.job.now table begun n found step st named c.deref.result.now
-    c.deref.ensures.value c.jobs_of_all-named.ensures in
+    c.deref.ensures.value c.jobs_of_all-deps.ensures in
     let given = ready.are_given c.args.script.now c.args.planner.now c.args.line home c.args.job.now table begun n found step st c.index.result.now
     (read_some c.args.script.now.kernels c.args.job.now.kernel c.index.result.now
     (ready.kernel_below c.args.script.now c.args.planner.now c.args.line home c.args.job.now table begun n found step st) c.index.ensures) named

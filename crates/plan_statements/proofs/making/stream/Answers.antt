@@ -1,58 +1,66 @@
-use Rattle.std.proofs.Common.{refl, subst, None}
+use Rattle.std.proofs.Common.{◌<◌, sym, subst, None}
+use Rattle.std.specs.Prelude.{vec_len}
 use Rattle.frame_ast.specs.Orders.{new_stream}
-use Rattle.plan_statements.specs.Making.{TakesOrRefuses}
+use Rattle.plan_state.specs.declared.state.World.{World}
+use Rattle.plan_statements.specs.Making.{TakesUnlessFull}
 use Rattle.plan_statements.proofs.Ranges.Makings.{stream_makes, stream_bind, stream_given}
 use Rattle.plan_statements.proofs.Ranges.NewContainers.{ready_name, ready_slots, ready_containers, as_many_names, as_many_containers, lost_goes_on, goes_on, fails, handed_on}
 use Rattle.plan_statements.proofs.making.stream.Goals as goal
 
-pub take_words-requires-clause-name : goal.take_words-requires-clause-name
-take_words-requires-clause-name c =
-    let b = c.requires.ready.1 in
-    ready_name c.requires.ready.0 _ c.args.planner.now b c.args.name (stream_makes c.requires.ready.0 b.table b.n c.args.line c.args.name c.args.count
-    c.args.room
-    c.args.life b.step).below
-
 pub take_words-requires-clause-slots : goal.take_words-requires-clause-slots
-take_words-requires-clause-slots c = ready_slots c.requires.ready.0 _ c.args.planner.now c.requires.ready.1
+take_words-requires-clause-slots c = ready_slots c.requires.ready.0 _ (record c.requires.ready.1.0 { world = c.args.world.now }) c.requires.ready.1.1
 
 pub returns-in_err-take_words-clause-fails : goal.returns-in_err-take_words-clause-fails
 returns-in_err-take_words-clause-fails c = handed_on c.from_residual.result c.in_err-take_words.field-0.0 _ c.from_residual.ensures.1
-    (λ script table begun n found step st.
-    fails script table begun n _ found c.args.planner.now step st c.args.name c.args.life (new_stream c.args.count c.args.room)
+    (λ script table p begun n found step st.
+    fails script table begun n _ found (record p { world = c.args.world.now }) step st c.args.name c.args.life
+    (new_stream c.args.count c.args.room)
     (stream_makes script table n c.args.line c.args.name c.args.count c.args.room c.args.life step)
-    c.in_err-take_words.field-0.0 c.words_of.result c.words_of.ensures.words c.in_err-take_words.ensures.fails)
+    c.in_err-take_words.field-0.0 c.words_of.result c.words_of.ensures.words
+    c.in_err-take_words.ensures.fails)
 
-pub add_container-requires-clause-name : goal.add_container-requires-clause-name
-add_container-requires-clause-name c =
-    let b = c.requires.ready.1 in
-    as_many_names c.args.planner.now c.take_words.new.planner c.take_words.new.planner c.words_of.result c.in-Some.taken None None
-    (subst (λ o. TakesOrRefuses c.args.planner.now c.take_words.new.planner c.args.line c.args.name c.words_of.result o) c.in-Some.is
-    c.in_ok-take_words.ensures.taken) refl c.args.name
-    (ready_name c.requires.ready.0 _ c.args.planner.now b c.args.name (stream_makes c.requires.ready.0 b.table b.n c.args.line c.args.name c.args.count
-    c.args.room
-    c.args.life b.step).below)
+pub refuse_full-requires : goal.refuse_full-requires
+refuse_full-requires c =
+    let full = (subst (TakesUnlessFull c.args.world.now c.take_words.new.world c.words_of.result) c.in-None.is c.in_ok-take_words.ensures.taken) in
+    subst (λ (z : World). c.args.name < vec_len z.values) (sym full.1)
+    (ready_name c.requires.ready.0 _ (record c.requires.ready.1.0 { world = c.args.world.now }) c.requires.ready.1.1 c.args.name
+    (stream_makes c.requires.ready.0 c.requires.ready.1.1.table c.requires.ready.1.1.n c.args.line c.args.name c.args.count c.args.room c.args.life
+    c.requires.ready.1.1.step).below)
 
-pub add_container-requires-clause-few : goal.add_container-requires-clause-few
-add_container-requires-clause-few c =
-    as_many_containers c.args.planner.now c.take_words.new.planner c.take_words.new.planner c.words_of.result c.in-Some.taken None None
-    (subst (λ o. TakesOrRefuses c.args.planner.now c.take_words.new.planner c.args.line c.args.name c.words_of.result o) c.in-Some.is
-    c.in_ok-take_words.ensures.taken) refl
-    (ready_containers c.requires.ready.0 _ c.args.planner.now c.requires.ready.1)
-
-pub returns-in-None-clause-goes_on : goal.returns-in-None-clause-goes_on
-returns-in-None-clause-goes_on c script table begun n found step st =
-    let lost = subst (λ o. TakesOrRefuses c.args.planner.now c.take_words.new.planner c.args.line c.args.name c.words_of.result o) c.in-None.is
-    c.in_ok-take_words.ensures.taken in
-    lost_goes_on script table begun n _ found c.args.planner.now step st c.args.name c.args.life (new_stream c.args.count c.args.room)
-    (stream_makes script table n c.args.line c.args.name c.args.count c.args.room c.args.life step) c.take_words.new.planner c.words_of.result
-    c.words_of.ensures.words lost.0 lost.1
-
-pub returns-in_ok-add_container-in-Some-clause-goes_on : goal.returns-in_ok-add_container-in-Some-clause-goes_on
-returns-in_ok-add_container-in-Some-clause-goes_on c script table begun n found step st =
-    let took = subst (λ o. TakesOrRefuses c.args.planner.now c.take_words.new.planner c.args.line c.args.name c.words_of.result o) c.in-Some.is
-    c.in_ok-take_words.ensures.taken in
-    goes_on script table begun n _ found c.args.planner.now step st c.args.name c.args.life (new_stream c.args.count c.args.room)
+pub returns-in-None-clause-answers : goal.returns-in-None-clause-answers
+returns-in-None-clause-answers c = λ script table p draft took begun n found step st.
+    lost_goes_on script table begun n _ found (record p { world = c.args.world.now }) step st c.args.name c.args.life
+    (new_stream c.args.count c.args.room)
     (stream_makes script table n c.args.line c.args.name c.args.count c.args.room c.args.life step)
-    c.take_words.new.planner c.take_words.new.planner c.add_container.new.planner c.in-Some.taken c.words_of.result c.words_of.ensures.words took _
-    (stream_bind c.in-Some.taken.span.start c.args.count c.args.room) None (stream_given c.args.count c.args.room) None refl
-    c.in_ok-add_container-in-Some.ensures
+    c.take_words.new.world c.refuse_full.new.world draft c.words_of.result c.refuse_full.result
+    c.words_of.ensures.words
+    (subst (TakesUnlessFull c.args.world.now c.take_words.new.world c.words_of.result) c.in-None.is c.in_ok-take_words.ensures.taken)
+    c.refuse_full.ensures.renames c.refuse_full.ensures.answers took
+
+pub enter-requires-clause-name : goal.enter-requires-clause-name
+enter-requires-clause-name c =
+    as_many_names c.args.world.now c.take_words.new.world c.words_of.result c.in-Some.taken
+    (subst (TakesUnlessFull c.args.world.now c.take_words.new.world c.words_of.result) c.in-Some.is c.in_ok-take_words.ensures.taken) c.args.name
+    (ready_name c.requires.ready.0 _ (record c.requires.ready.1.0 { world = c.args.world.now }) c.requires.ready.1.1 c.args.name
+    (stream_makes c.requires.ready.0 c.requires.ready.1.1.table c.requires.ready.1.1.n c.args.line c.args.name c.args.count c.args.room c.args.life
+    c.requires.ready.1.1.step).below)
+
+pub enter-requires-clause-few : goal.enter-requires-clause-few
+enter-requires-clause-few c =
+    as_many_containers c.args.world.now c.take_words.new.world c.words_of.result c.in-Some.taken
+    (subst (TakesUnlessFull c.args.world.now c.take_words.new.world c.words_of.result) c.in-Some.is c.in_ok-take_words.ensures.taken)
+    (ready_containers c.requires.ready.0 _ (record c.requires.ready.1.0 { world = c.args.world.now }) c.requires.ready.1.1)
+
+pub returns-in_ok-enter-in-Some-clause-answers : goal.returns-in_ok-enter-in-Some-clause-answers
+returns-in_ok-enter-in-Some-clause-answers c = λ script table p draft took begun n found step st.
+    let words = (subst (TakesUnlessFull c.args.world.now c.take_words.new.world c.words_of.result) c.in-Some.is c.in_ok-take_words.ensures.taken) in
+    goes_on script table begun n _ found (record p { world = c.args.world.now }) step st c.args.name c.args.life
+    (new_stream c.args.count c.args.room)
+    (stream_makes script table n c.args.line c.args.name c.args.count c.args.room c.args.life step)
+    c.take_words.new.world c.enter.new.world draft c.in-Some.taken c.words_of.result
+    c.words_of.ensures.words
+    words _
+    (stream_bind c.in-Some.taken.span.start c.args.count c.args.room)
+    None
+    (stream_given c.args.count c.args.room)
+    c.in_ok-enter-in-Some.ensures took
