@@ -1,8 +1,7 @@
 //! Worked scripts on both boards, by the public calls from `parse_script` to `run`, each with its output and status at
 //! 1, 4 and 64 workers: on the board without locks, which the program uses, and on the one with a lock, which has to
-//! give the same. Two workers that run at once, and sinks that fail, on each board. And worked scripts that are planned
-//! and then looked at, replayed and measured: what plans say, legal and illegal events, a board before a run and after
-//! runs, footprints, guards, depths and limits. Tests alone.
+//! give the same. Two workers that run at once, and sinks that fail, on each board. A board before a run and after
+//! runs, runs by turns, and scripts that are run section by section. Tests alone.
 //!
 //! **Which rows.** Those of `worked_rows` whose scripts are accepted and have one plan. A script with a block that is
 //! decided has a plan for each section, and what is printed of all of them is told by the top call.
@@ -17,21 +16,9 @@
 #[cfg(test)]
 mod boards;
 #[cfg(test)]
-mod depths;
-#[cfg(test)]
-mod footprints;
-#[cfg(test)]
-mod guards;
-#[cfg(test)]
-mod limits;
-#[cfg(test)]
 mod meeting;
 #[cfg(test)]
 mod outcomes;
-#[cfg(test)]
-mod plans;
-#[cfg(test)]
-mod replays;
 #[cfg(test)]
 mod runs;
 #[cfg(test)]

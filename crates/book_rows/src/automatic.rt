@@ -4,7 +4,7 @@ ghost use Rattle.job_handle.specs.Sets.{jobs_of};
 ghost use Rattle.job_handle.specs.Books.{count_of};
 ghost use Rattle.auto_deps.specs.Needs.{AreNoted};
 
-use crate::sets::set;
+use crate::sets::{number, numbers, set, text_of};
 use auto_deps::automatic;
 use job_base::limits::MOST_JOBS;
 use job_base::{Access, JobId, NoMemory};
@@ -87,80 +87,97 @@ fn schedule(
     Ok(answer)
 }
 
-// The uses of a job, what it waits for, and its automatic set; or a completion.
-enum Step {
-    Job(&'static [(u32, Access)], &'static [u32], &'static [u32]),
-    Completes(&'static [u32]),
+// The uses of a job, as a row writes them: `read:0,both:2`.
+fn uses_of(alloc: Global, row: &str) -> Result<Vec<(Tag, Access)>, Fail> {
+    let mut uses = Vec::new(alloc);
+    for one in row.split(',') {
+        let (access, slot) = one.split_once(':').ok_or("no use")?;
+        let access = match access {
+            "read" => Access::Read,
+            "write" => Access::Write,
+            "both" => Access::Both,
+            _ => return Err(Fail::new("no such access")),
+        };
+        uses.push((tag(number(slot)?), access))?;
+    }
+    Ok(uses)
 }
 
-const READ: Access = Access::Read;
+// Schedules a job that waits for these jobs and its automatic set, and gives that.
+fn job(
+    alloc: Global,
+    uses: &str,
+    after: &str,
+    book: &mut SafetyBook,
+    jobs: &mut JobBook,
+    rt: &impl Abort,
+) -> Result<String, Fail>
+    requires noted { AreNoted (count_of jobs.old) book.old }
+    ensures noted { AreNoted (count_of jobs.new) book.new }
+{
+    let uses = uses_of(alloc, uses)?;
+    let after = set(jobs, &numbers(alloc, after)?);
+    let answer = schedule(&uses, &after, book, jobs, rt)?;
+    text_of(alloc, &answer, MOST_JOBS)
+}
 
-const WRITE: Access = Access::Write;
-
-const BOTH: Access = Access::Both;
-
-// Two kernels in a row; a writer, two readers, a writer; a blocker that is an ancestor of another; what is waited for
-// and what was completed; readers that don't block a reader.
-const SCRIPTS: [&[Step]; 5] = [
-    &[
-        Step::Job(&[(0, READ), (1, WRITE)], &[], &[]),
-        Step::Job(&[(1, READ), (2, BOTH)], &[], &[1]),
-        Step::Completes(&[2]),
-        Step::Job(&[(2, BOTH)], &[], &[]),
-    ],
-    &[
-        Step::Job(&[(0, BOTH)], &[], &[]),
-        Step::Job(&[(0, READ), (1, BOTH)], &[], &[1]),
-        Step::Job(&[(0, READ), (2, BOTH)], &[], &[1]),
-        Step::Job(&[(0, BOTH)], &[], &[2, 3]),
-        Step::Job(&[(0, BOTH)], &[], &[4]),
-    ],
-    &[
-        Step::Job(&[(0, BOTH)], &[], &[]),
-        Step::Job(&[(0, READ), (1, BOTH)], &[], &[1]),
-        Step::Job(&[(0, BOTH), (1, READ)], &[], &[2]),
-        Step::Job(&[(2, BOTH)], &[], &[]),
-        Step::Job(&[(1, BOTH), (2, READ)], &[], &[3, 4]),
-    ],
-    &[
-        Step::Job(&[(0, BOTH)], &[], &[]),
-        Step::Job(&[(1, BOTH)], &[], &[]),
-        Step::Job(&[(0, READ), (1, READ)], &[1], &[2]),
-        Step::Completes(&[2]),
-        Step::Job(&[(1, READ)], &[], &[]),
-    ],
-    &[
-        Step::Job(&[(0, READ)], &[], &[]),
-        Step::Job(&[(0, READ)], &[], &[]),
-        Step::Job(&[(0, READ)], &[], &[]),
-        Step::Job(&[(0, WRITE)], &[2], &[1, 3]),
-    ],
-];
-
-#[test]
-fn scripts(rt: HostRuntime) -> Result<(), Fail> {
-    for script in SCRIPTS {
-        let mut jobs = JobBook::new(rt.alloc());
-        let mut book = containers(rt.alloc())?;
-        for step in script {
-            match step {
-                Step::Job(pairs, after, expected) => {
-                    let mut uses = Vec::new(rt.alloc());
-                    for (slot, access) in pairs.iter() {
-                        uses.push((tag(*slot), *access))?;
-                    }
-                    let after = set(&jobs, after);
-                    let answer = schedule(&uses, &after, &mut book, &mut jobs, &rt)?;
-                    for j in 1..6u32 {
-                        assert_eq!(rt; answer.has(JobId(j)), expected.contains(&j));
-                    }
-                }
-                Step::Completes(h) => {
-                    let h = set(&jobs, h);
-                    jobs.complete(&h);
-                }
-            }
+// A script: the uses of each job and what it waits for, and its automatic set; or a completion.
+fn compare(rt: &impl Abort, alloc: Global, script: &str) -> Result<(), Fail> {
+    let mut jobs = JobBook::new(alloc);
+    let mut book = containers(alloc)?;
+    for row in script.lines() {
+        if let Some(done) = row.strip_prefix("complete ") {
+            let done = set(&jobs, &numbers(alloc, done)?);
+            jobs.complete(&done);
+        } else {
+            let (of, want) = row.split_once(" = ").ok_or("no row")?;
+            let (uses, after) = of.split_once(" after ").ok_or("no set")?;
+            let told = job(alloc, uses, after, &mut book, &mut jobs, rt)?;
+            assert_eq!(rt; told.as_str(), want, "{row}");
         }
     }
     Ok(())
+}
+
+const TWO_KERNELS_IN_A_ROW: &str = "read:0,write:1 after - = -
+read:1,both:2 after - = 1
+complete 2
+both:2 after - = -
+";
+
+const A_WRITER_TWO_READERS_A_WRITER: &str = "both:0 after - = -
+read:0,both:1 after - = 1
+read:0,both:2 after - = 1
+both:0 after - = 2,3
+both:0 after - = 4
+";
+
+const A_BLOCKER_BEFORE_ANOTHER: &str = "both:0 after - = -
+read:0,both:1 after - = 1
+both:0,read:1 after - = 2
+both:2 after - = -
+both:1,read:2 after - = 3,4
+";
+
+const WAITED_FOR_AND_COMPLETED: &str = "both:0 after - = -
+both:1 after - = -
+read:0,read:1 after 1 = 2
+complete 2
+read:1 after - = -
+";
+
+const READERS: &str = "read:0 after - = -
+read:0 after - = -
+read:0 after - = -
+write:0 after 2 = 1,3
+";
+
+#[test]
+fn scripts(rt: HostRuntime) -> Result<(), Fail> {
+    let alloc = rt.alloc();
+    compare(&rt, alloc, TWO_KERNELS_IN_A_ROW)?;
+    compare(&rt, alloc, A_WRITER_TWO_READERS_A_WRITER)?;
+    compare(&rt, alloc, A_BLOCKER_BEFORE_ANOTHER)?;
+    compare(&rt, alloc, WAITED_FOR_AND_COMPLETED)?;
+    compare(&rt, alloc, READERS)
 }

@@ -4,74 +4,14 @@ ghost use Rattle.job_handle.specs.Sets.{jobs_of};
 ghost use Rattle.job_handle.specs.Books.{count_of};
 ghost use Rattle.safety_handle.specs.Entries.{state_of};
 
-use crate::sets::set;
-use job_base::JobId;
+use crate::sets::{numbers, set, text_of};
+use job_base::limits::MOST_JOBS;
 use job_handle::{BookFault, Handle, JobBook};
 use safety_handle::{Blocked, SafetyBook, Tag};
 use slot_store::{Slot, Version};
+use std::alloc::Global;
 use std::process::Abort;
 use std::test::Fail;
-
-// A statement on one container, and the job that it is pending on, or 0.
-enum Step {
-    Reads(&'static [u32], u32),
-    Writes(&'static [u32], u32),
-    Disposes(&'static [u32], u32),
-    Completes(&'static [u32]),
-}
-
-// Writers through another container, readers since a writer, a chain that misses its end, two readers and a script that
-// writes, and a disposal.
-const SCRIPTS: [&[Step]; 5] = [
-    &[
-        Step::Writes(&[], 0),
-        Step::Writes(&[], 1),
-        Step::Writes(&[1], 0),
-        Step::Writes(&[2], 0),
-        Step::Completes(&[3]),
-        Step::Writes(&[], 0),
-    ],
-    &[
-        Step::Writes(&[], 0),
-        Step::Reads(&[1], 0),
-        Step::Reads(&[1], 0),
-        Step::Writes(&[3], 2),
-        Step::Writes(&[2], 3),
-        Step::Completes(&[3]),
-        Step::Writes(&[], 2),
-        Step::Reads(&[], 0),
-        Step::Writes(&[2, 4], 0),
-    ],
-    &[
-        Step::Writes(&[], 0),
-        Step::Writes(&[1], 0),
-        Step::Writes(&[], 2),
-        Step::Reads(&[1], 2),
-        Step::Completes(&[2]),
-        Step::Reads(&[], 0),
-    ],
-    &[
-        Step::Reads(&[], 0),
-        Step::Reads(&[], 0),
-        Step::Writes(&[], 2),
-        Step::Writes(&[2], 1),
-        Step::Completes(&[2]),
-        Step::Writes(&[], 1),
-    ],
-    &[
-        Step::Reads(&[], 0),
-        Step::Disposes(&[], 1),
-        Step::Disposes(&[1], 0),
-    ],
-];
-
-fn pending(j: u32) -> Result<(), Blocked> {
-    if j == 0 {
-        Ok(())
-    } else {
-        Err(Blocked::Pending(JobId(j)))
-    }
-}
 
 const SLOT: Slot = Slot(1);
 
@@ -108,34 +48,105 @@ fn schedule(
     Ok(answer)
 }
 
-#[test]
-fn scripts(rt: HostRuntime) -> Result<(), Fail> {
-    for script in SCRIPTS {
-        let mut jobs = JobBook::new(rt.alloc());
-        let mut book = SafetyBook::new(rt.alloc())?;
-        book.enroll(SLOT, Version(7))?;
-        for step in script {
-            match step {
-                Step::Reads(after, j) => {
-                    let answer = schedule(&mut book, &mut jobs, after, false)?;
-                    assert_eq!(rt; answer, pending(*j));
-                }
-                Step::Writes(after, j) => {
-                    let answer = schedule(&mut book, &mut jobs, after, true)?;
-                    assert_eq!(rt; answer, pending(*j));
-                }
-                Step::Disposes(after, j) => {
-                    let after = set(&jobs, after);
-                    assert_eq!(rt; book.check_dispose(&TAG, &after, &jobs), pending(*j));
-                }
-                Step::Completes(h) => {
-                    let h = set(&jobs, h);
-                    jobs.complete(&h);
-                }
-            }
+// What a check says, as a row writes it: the job that is pending, or `free`.
+fn text(alloc: Global, answer: Result<(), Blocked>) -> Result<String, Fail> {
+    Ok(match answer {
+        Ok(()) => String::from_str(alloc, "free")?,
+        Err(Blocked::Pending(job)) => format!(in alloc; "{}", job.0)?,
+        Err(other) => format!(in alloc; "{other:?}")?,
+    })
+}
+
+// A statement on the container, and what it waits for: what it says.
+fn step(
+    alloc: Global,
+    book: &mut SafetyBook,
+    jobs: &mut JobBook,
+    name: &str,
+    after: &[u32],
+) -> Result<String, Fail>
+    requires { (state_of book.old 1).live ≡ true }
+    ensures { (state_of book.new 1).live ≡ true }
+{
+    match name {
+        "reads" => text(alloc, schedule(book, jobs, after, false)?),
+        "writes" => text(alloc, schedule(book, jobs, after, true)?),
+        "disposes" => {
+            let after = set(jobs, after);
+            text(alloc, book.check_dispose(&TAG, &after, jobs))
         }
+        "complete" => {
+            let done = set(jobs, after);
+            jobs.complete(&done);
+            Ok(String::from_str(alloc, "done")?)
+        }
+        _ => Err(Fail::new("no such statement")),
+    }
+}
+
+// A script of statements on one container.
+fn compare(rt: &impl Abort, alloc: Global, script: &str) -> Result<(), Fail> {
+    let mut jobs = JobBook::new(alloc);
+    let mut book = SafetyBook::new(alloc)?;
+    book.enroll(SLOT, Version(7))?;
+    for row in script.lines() {
+        let (of, want) = row.split_once(" = ").ok_or("no row")?;
+        let (name, after) = of.split_once(' ').ok_or("no set")?;
+        let after = numbers(alloc, after)?;
+        let told = step(alloc, &mut book, &mut jobs, name, &after)?;
+        assert_eq!(rt; told.as_str(), want, "{row}");
     }
     Ok(())
+}
+
+const WRITERS_THROUGH_ANOTHER_CONTAINER: &str = "writes - = free
+writes - = 1
+writes 1 = free
+writes 2 = free
+complete 3 = done
+writes - = free
+";
+
+const READERS_SINCE_A_WRITER: &str = "writes - = free
+reads 1 = free
+reads 1 = free
+writes 3 = 2
+writes 2 = 3
+complete 3 = done
+writes - = 2
+reads - = free
+writes 2,4 = free
+";
+
+const A_CHAIN_THAT_MISSES_ITS_END: &str = "writes - = free
+writes 1 = free
+writes - = 2
+reads 1 = 2
+complete 2 = done
+reads - = free
+";
+
+const TWO_READERS_AND_A_WRITER: &str = "reads - = free
+reads - = free
+writes - = 2
+writes 2 = 1
+complete 2 = done
+writes - = 1
+";
+
+const A_DISPOSAL: &str = "reads - = free
+disposes - = 1
+disposes 1 = free
+";
+
+#[test]
+fn scripts(rt: HostRuntime) -> Result<(), Fail> {
+    let alloc = rt.alloc();
+    compare(&rt, alloc, WRITERS_THROUGH_ANOTHER_CONTAINER)?;
+    compare(&rt, alloc, READERS_SINCE_A_WRITER)?;
+    compare(&rt, alloc, A_CHAIN_THAT_MISSES_ITS_END)?;
+    compare(&rt, alloc, TWO_READERS_AND_A_WRITER)?;
+    compare(&rt, alloc, A_DISPOSAL)
 }
 
 // The slots 0 to 2 with their versions, one after the other: what a tag of slot 1 answers.
@@ -177,28 +188,27 @@ fn versions_and_views(rt: HostRuntime) -> Result<(), Fail> {
     Ok(())
 }
 
-// Of the first jobs a set has just these.
-fn is_set(set: &Handle, jobs: &[u32], rt: &impl Abort) {
-    for j in 1..9 {
-        assert_eq!(rt; set.has(JobId(j)), jobs.contains(&j));
-    }
+fn is_set(rt: &impl Abort, alloc: Global, found: &Handle, want: &str) -> Result<(), Fail> {
+    let told = text_of(alloc, found, MOST_JOBS)?;
+    assert_eq!(rt; told.as_str(), want);
+    Ok(())
 }
 
 // The last writer and the readers since, and what conflicts with a use that only reads.
 #[test]
 fn users(rt: HostRuntime) -> Result<(), Fail> {
-    let mut jobs = JobBook::new(rt.alloc());
-    let mut book = SafetyBook::new(rt.alloc())?;
-    is_set(&book.users(SLOT), &[], &rt);
+    let alloc = rt.alloc();
+    let mut jobs = JobBook::new(alloc);
+    let mut book = SafetyBook::new(alloc)?;
+    is_set(&rt, alloc, &book.users(SLOT), "-")?;
     book.enroll(SLOT, Version(7))?;
-    is_set(&book.users(SLOT), &[], &rt);
+    is_set(&rt, alloc, &book.users(SLOT), "-")?;
     assert_eq!(rt; schedule(&mut book, &mut jobs, &[], true)?, Ok(()));
     assert_eq!(rt; schedule(&mut book, &mut jobs, &[1], false)?, Ok(()));
     assert_eq!(rt; schedule(&mut book, &mut jobs, &[1], false)?, Ok(()));
-    is_set(&book.users(SLOT), &[1, 2, 3], &rt);
-    is_set(&book.conflicting(SLOT, false), &[1], &rt);
+    is_set(&rt, alloc, &book.users(SLOT), "1,2,3")?;
+    is_set(&rt, alloc, &book.conflicting(SLOT, false), "1")?;
     assert_eq!(rt; schedule(&mut book, &mut jobs, &[2, 3], true)?, Ok(()));
-    is_set(&book.users(SLOT), &[4], &rt);
-    is_set(&book.users(Slot(0)), &[], &rt);
-    Ok(())
+    is_set(&rt, alloc, &book.users(SLOT), "4")?;
+    is_set(&rt, alloc, &book.users(Slot(0)), "-")
 }

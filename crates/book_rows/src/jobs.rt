@@ -3,83 +3,54 @@ ghost use Rattle.frame_ast.specs.Laws.{AreUpTo};
 ghost use Rattle.job_handle.specs.Sets.{jobs_of};
 ghost use Rattle.job_handle.specs.Books.{count_of};
 
-use crate::sets::set;
+use crate::sets::{completed_in, led_to, numbers, set, several, text_of};
 use job_base::JobId;
 use job_base::limits::MOST_JOBS;
 use job_handle::{BookFault, Handle, JobBook};
-use std::process::Abort;
+use std::alloc::Global;
 use std::test::Fail;
 
-// Each job that the book has is completed where it is one of these, and not otherwise.
-fn completed(book: &JobBook, jobs: &[u32], rt: &impl Abort) {
-    for j in 1..book.count() + 1 {
-        assert_eq!(rt; book.is_completed(JobId(j)), jobs.contains(&j));
+// The dependency sets of the jobs 1, 2, .., a set, and what it leads to. No job, a chain through another container,
+// readers after a writer, two readers, a diamond, and sets over several words.
+const BOOKS: &str = " from - = -
+- 1 2 from 3 = 1,2,3
+- 1 1 from 3 = 1,3
+- - from 1 = 1
+- 1 1 2,3 - from 4 = 1,2,3,4
+- 1 1 2,3 - from 2,5 = 1,2,5
+";
+
+fn book_of(alloc: Global, all: &[Vec<u32>]) -> Result<JobBook, Fail> {
+    let mut book = JobBook::new(alloc);
+    for deps in all {
+        let deps = set(&book, deps);
+        book.add(&deps)?;
     }
+    Ok(book)
 }
 
-// A set leads to these jobs and to no other.
-fn leads_to(book: &JobBook, h: &[u32], jobs: &[u32], rt: &impl Abort) {
-    let h = set(book, h);
-    for j in 1..book.count() + 1 {
-        assert_eq!(rt; book.depends(&h, JobId(j)), jobs.contains(&j));
+// What a set leads to is what is completed with it, and nothing is completed before.
+fn completed_with(alloc: Global, book: &mut JobBook, from: &[u32]) -> Result<String, Fail> {
+    let from = set(book, from);
+    let to = led_to(alloc, book, &from)?;
+    let before = completed_in(alloc, book)?;
+    book.complete(&from);
+    let after = completed_in(alloc, book)?;
+    if before.as_str() != "-" || after.as_str() != to.as_str() {
+        return Ok(format!(in alloc; "{to}, completed {before} and then {after}")?);
     }
+    Ok(to)
 }
-
-struct Row {
-    // the dependency sets of the jobs 1, 2, ..
-    deps: &'static [&'static [u32]],
-    // a set, and what it leads to
-    from: &'static [u32],
-    to: &'static [u32],
-}
-
-// A chain through another container, readers after a writer, two readers, a diamond, and sets over several words.
-const ROWS: [Row; 6] = [
-    Row {
-        deps: &[],
-        from: &[],
-        to: &[],
-    },
-    Row {
-        deps: &[&[], &[1], &[2]],
-        from: &[3],
-        to: &[1, 2, 3],
-    },
-    Row {
-        deps: &[&[], &[1], &[1]],
-        from: &[3],
-        to: &[1, 3],
-    },
-    Row {
-        deps: &[&[], &[]],
-        from: &[1],
-        to: &[1],
-    },
-    Row {
-        deps: &[&[], &[1], &[1], &[2, 3], &[]],
-        from: &[4],
-        to: &[1, 2, 3, 4],
-    },
-    Row {
-        deps: &[&[], &[1], &[1], &[2, 3], &[]],
-        from: &[2, 5],
-        to: &[1, 2, 5],
-    },
-];
 
 #[test]
 fn books(rt: HostRuntime) -> Result<(), Fail> {
-    for row in &ROWS {
-        let mut book = JobBook::new(rt.alloc());
-        for deps in row.deps {
-            let deps = set(&book, deps);
-            book.add(&deps)?;
-        }
-        leads_to(&book, row.from, row.to, &rt);
-        completed(&book, &[], &rt);
-        let from = set(&book, row.from);
-        book.complete(&from);
-        completed(&book, row.to, &rt);
+    let alloc = rt.alloc();
+    for row in BOOKS.lines() {
+        let (of, want) = row.split_once(" = ").ok_or("no row")?;
+        let (deps, from) = of.split_once(" from ").ok_or("no set")?;
+        let mut book = book_of(alloc, &several(alloc, deps)?)?;
+        let told = completed_with(alloc, &mut book, &numbers(alloc, from)?)?;
+        assert_eq!(rt; told.as_str(), want, "{row}");
     }
     Ok(())
 }
@@ -109,19 +80,31 @@ fn a_full_book(rt: HostRuntime) -> Result<(), Fail> {
     Ok(())
 }
 
-// A set has just the jobs that it was made of, at the edges of words too.
-#[test]
-fn sets(rt: HostRuntime) {
-    let table: [&[u32]; 4] = [&[1], &[64, 65], &[1, 63, 128, 4_032], &[4_033, 4_096]];
-    for jobs in table {
-        let mut all = Handle::empty();
-        for j in jobs {
-            if 0 < *j && *j <= MOST_JOBS {
-                all = all.combine(&Handle::of(JobId(*j)));
-            }
-        }
-        for j in 1..MOST_JOBS + 1 {
-            assert_eq!(rt; all.has(JobId(j)), jobs.contains(&j));
+// At the edges of words too.
+const SETS: &str = "1
+64,65
+1,63,128,4032
+4033,4096
+";
+
+fn set_of(jobs: &[u32]) -> Handle {
+    let mut all = Handle::empty();
+    for j in jobs {
+        if 0 < *j && *j <= MOST_JOBS {
+            all = all.combine(&Handle::of(JobId(*j)));
         }
     }
+    all
+}
+
+// A set has just the jobs that it was made of.
+#[test]
+fn sets(rt: HostRuntime) -> Result<(), Fail> {
+    let alloc = rt.alloc();
+    for row in SETS.lines() {
+        let all = set_of(&numbers(alloc, row)?);
+        let told = text_of(alloc, &all, MOST_JOBS)?;
+        assert_eq!(rt; told.as_str(), row);
+    }
+    Ok(())
 }

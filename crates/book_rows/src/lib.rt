@@ -1,5 +1,8 @@
 //! The books: batches, sets of jobs, the jobs of a script, ranges of words, uses of containers, automatic dependencies
 //! and the fewest jobs that lead to others, each as rows of calls and what they give. Tests alone.
+//!
+//! Rows are lines of constants: the checker goes through an array of calls and answers one by one, and a row of one
+//! costs it some 30 times what a line does.
 #![tactic(auto)]
 
 #[cfg(test)]

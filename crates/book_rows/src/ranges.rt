@@ -5,180 +5,48 @@ ghost use Rattle.job_handle.specs.Books.{count_of};
 ghost use Rattle.slot_store.specs.Places.{users_of};
 ghost use Rattle.slot_store.specs.Stores.{place_of, slots_in_use};
 
-use crate::sets::set;
+use crate::sets::{number, numbers, set};
 use job_base::{JobId, Span};
 use job_handle::{Handle, JobBook};
-use slot_store::{Slot, SlotStore, StoreFault, Taken, Version};
+use slot_store::{SlotStore, StoreFault, Taken};
 use std::alloc::Global;
 use std::process::Abort;
 use std::test::Fail;
 
-// A call, and what it has to answer. Ranges go by the order in which they were taken, from 0.
+// A call. Ranges go by the order in which they were taken, from 0.
+#[derive(Drop)]
 enum Call {
-    // so many words, and the slot, the version and the start that are due
-    Take(u32, u32, u32, u32),
-    // so many words, for which the store is full
-    Full(u32),
-    // which range gets so many words, and the start that is due
-    Regrow(usize, u32, u32),
+    // so many words
+    Take(u32),
+    // which range gets so many words
+    Regrow(usize, u32),
     Give(usize),
     // which range is held, and for which jobs
-    Hold(usize, &'static [u32]),
-    Complete(&'static [u32]),
+    Hold(usize, Vec<u32>),
+    Complete(Vec<u32>),
     Settle,
-    // which range, and whether it is live by its slot and version
-    Live(usize, bool),
-    // how many words are live, and the greatest end of any range so far
-    Words(u32, u32),
+    // which range is asked for, by its slot and version
+    Live(usize),
+    Words,
 }
 
-use Call::{Complete, Full, Give, Hold, Live, Regrow, Settle, Take, Words};
+// A call as a row writes it.
+fn call_of(alloc: Global, row: &str) -> Result<Call, Fail> {
+    let words: Vec<&str> = row.split_whitespace().collect(alloc)?;
+    match *words {
+        ["take", len] => Ok(Call::Take(number(len)?)),
+        ["regrow", i, len] => Ok(Call::Regrow(number(i)? as usize, number(len)?)),
+        ["give", i] => Ok(Call::Give(number(i)? as usize)),
+        ["hold", i, jobs] => Ok(Call::Hold(number(i)? as usize, numbers(alloc, jobs)?)),
+        ["complete", jobs] => Ok(Call::Complete(numbers(alloc, jobs)?)),
+        ["settle"] => Ok(Call::Settle),
+        ["live", i] => Ok(Call::Live(number(i)? as usize)),
+        ["words"] => Ok(Call::Words),
+        _ => Err(Fail::new("no such call")),
+    }
+}
 
-const TABLES: [&[Call]; 9] = [
-    // A range that came back is given again with its slot, which has the next version then.
-    &[
-        Take(2, 0, 0, 0),
-        Give(0),
-        Live(0, false),
-        Take(2, 0, 1, 0),
-        Live(1, true),
-        Words(2, 2),
-    ],
-    // A range that is held for a job isn't given before that job is completed.
-    &[
-        Take(2, 0, 0, 0),
-        Take(1, 1, 0, 2),
-        Hold(0, &[1]),
-        Settle,
-        Live(0, false),
-        Take(2, 2, 0, 3),
-        Words(5, 5),
-        Complete(&[1]),
-        Settle,
-        Words(3, 5),
-        Take(2, 0, 1, 0),
-        Words(5, 5),
-    ],
-    // The new range is taken while the old one is live. Slot and version stay.
-    &[
-        Take(2, 0, 0, 0),
-        Regrow(0, 3, 2),
-        Live(0, true),
-        Words(3, 5),
-        Take(2, 1, 0, 0),
-        Words(5, 5),
-    ],
-    // Versions after reuse.
-    &[
-        Take(4, 0, 0, 0),
-        Give(0),
-        Take(4, 0, 1, 0),
-        Hold(1, &[]),
-        Live(1, false),
-        Settle,
-        Take(4, 0, 2, 0),
-        Give(2),
-        Take(1, 0, 3, 0),
-        Live(0, false),
-        Live(1, false),
-        Live(2, false),
-        Live(3, true),
-    ],
-    // An empty range starts at 0, and has no word.
-    &[
-        Take(3, 0, 0, 0),
-        Take(0, 1, 0, 0),
-        Words(3, 3),
-        Take(1, 2, 0, 3),
-        Regrow(2, 0, 0),
-        Words(3, 4),
-        Give(1),
-        Hold(2, &[2]),
-        Settle,
-        Words(3, 4),
-        Take(0, 1, 1, 0),
-        Complete(&[2]),
-        Settle,
-        Take(1, 2, 1, 3),
-        Words(4, 4),
-    ],
-    // The last word, and no more. What is refused takes nothing.
-    &[
-        Take(1_048_575, 0, 0, 0),
-        Full(2),
-        Take(1, 1, 0, 1_048_575),
-        Full(1),
-        Take(0, 2, 0, 0),
-        Words(1_048_576, 1_048_576),
-        Give(0),
-        Full(1_048_576),
-        Take(1_048_575, 0, 1, 0),
-        Give(1),
-        Give(3),
-        Take(1_048_576, 0, 2, 0),
-        Words(1_048_576, 1_048_576),
-    ],
-    // The first hole that is large enough, not the one that fits best; and a hole that fits exactly.
-    &[
-        Take(4, 0, 0, 0),
-        Take(1, 1, 0, 4),
-        Take(2, 2, 0, 5),
-        Take(1, 3, 0, 7),
-        Give(0),
-        Give(2),
-        Take(2, 0, 1, 0),
-        Take(3, 2, 1, 8),
-        Take(2, 4, 0, 2),
-        Take(2, 5, 0, 5),
-        Words(11, 11),
-        Take(1, 6, 0, 11),
-    ],
-    // Holes that touch are one, on either side and at the end.
-    &[
-        Take(2, 0, 0, 0),
-        Take(2, 1, 0, 2),
-        Take(2, 2, 0, 4),
-        Take(2, 3, 0, 6),
-        Take(2, 4, 0, 8),
-        Give(0),
-        Give(2),
-        Give(1),
-        Take(6, 0, 1, 0),
-        Give(4),
-        Give(3),
-        Take(9, 1, 1, 6),
-        Words(15, 15),
-    ],
-    // Held ranges come back in the order of their users, whatever the order in which they were held.
-    &[
-        Take(2, 0, 0, 0),
-        Take(2, 1, 0, 2),
-        Take(2, 2, 0, 4),
-        Take(2, 3, 0, 6),
-        Hold(0, &[1, 3]),
-        Hold(1, &[2]),
-        Hold(2, &[3, 4]),
-        Settle,
-        Words(8, 8),
-        Complete(&[2]),
-        Settle,
-        Words(6, 8),
-        Take(2, 1, 1, 2),
-        Complete(&[3]),
-        Settle,
-        Words(8, 8),
-        Complete(&[4]),
-        Settle,
-        Words(6, 8),
-        Take(2, 2, 1, 4),
-        Complete(&[1]),
-        Settle,
-        Take(2, 0, 1, 0),
-        Words(8, 8),
-    ],
-];
-
-// The jobs of each table.
+// The jobs of each store.
 const JOBS: u32 = 4;
 
 // A store, the jobs that its ranges can be held for, and what was taken so far. A count of takes bounds the slots.
@@ -242,60 +110,209 @@ impl Run {
         self.book.complete(&done);
     }
 
-    // Takes a range, which has to be the one that is due.
-    fn take_due(&mut self, due: Taken, rt: &impl Abort) -> Result<(), Fail> {
-        let taken = self.take(due.span.len, rt);
-        assert_eq!(rt; taken, Ok(due));
-        self.taken.push(due)?;
-        Ok(())
+    // Takes a range, and says its slot, its version and its start.
+    fn tell_taken(&mut self, alloc: Global, len: u32, rt: &impl Abort) -> Result<String, Fail> {
+        match self.take(len, rt) {
+            Ok(taken) => {
+                assert_eq!(rt; taken.span.len, len);
+                self.taken.push(taken)?;
+                let (slot, version) = (taken.slot.0, taken.version.0);
+                Ok(format!(in alloc; "{slot} {version} {}", taken.span.start)?)
+            }
+            Err(StoreFault::Full) => Ok(String::from_str(alloc, "full")?),
+            Err(StoreFault::NoMemory) => Err(Fail::new("no memory")),
+        }
     }
 
-    fn check(&mut self, call: &Call, rt: &impl Abort) -> Result<(), Fail> {
+    // Makes a call, and says what it answers: of a regrown range its start and its length, of the words how many are
+    // live and the greatest end of any range so far.
+    fn perform(&mut self, alloc: Global, call: &Call, rt: &impl Abort) -> Result<String, Fail> {
         match call {
-            Take(len, slot, version, start) => {
-                let span = Span {
-                    start: *start,
-                    len: *len,
-                };
-                let due = Taken {
-                    slot: Slot(*slot),
-                    version: Version(*version),
-                    span,
-                };
-                self.take_due(due, rt)?;
+            Call::Take(len) => return self.tell_taken(alloc, *len, rt),
+            Call::Regrow(i, len) => {
+                let span = self.regrow(self.named(*i, rt), *len, rt)?;
+                return Ok(format!(in alloc; "{} {}", span.start, span.len)?);
             }
-            Full(len) => assert_eq!(rt; self.take(*len, rt), Err(StoreFault::Full)),
-            Regrow(i, len, start) => {
-                let span = Span {
-                    start: *start,
-                    len: *len,
-                };
-                assert_eq!(rt; self.regrow(self.named(*i, rt), *len, rt), Ok(span));
-            }
-            Give(i) => self.give(self.named(*i, rt), rt),
-            Hold(i, jobs) => self.hold(self.named(*i, rt), jobs, rt),
-            Complete(jobs) => self.complete(jobs),
-            Settle => self.store.settle(&self.book),
-            Live(i, due) => {
+            Call::Give(i) => self.give(self.named(*i, rt), rt),
+            Call::Hold(i, jobs) => self.hold(self.named(*i, rt), jobs, rt),
+            Call::Complete(jobs) => self.complete(jobs),
+            Call::Settle => self.store.settle(&self.book),
+            Call::Live(i) => {
                 let t = self.named(*i, rt);
-                assert_eq!(rt; self.store.live(t.slot, t.version), *due);
+                let live = self.store.live(t.slot, t.version);
+                return Ok(format!(in alloc; "{live}")?);
             }
-            Words(live, peak) => {
-                assert_eq!(rt; self.store.live_words(), *live);
-                assert_eq!(rt; self.store.peak(), *peak);
+            Call::Words => {
+                let (live, peak) = (self.store.live_words(), self.store.peak());
+                return Ok(format!(in alloc; "{live} {peak}")?);
             }
         }
-        Ok(())
+        Ok(String::from_str(alloc, "done")?)
     }
 }
 
-#[test]
-fn tables(rt: HostRuntime) -> Result<(), Fail> {
-    for table in &TABLES {
-        let mut run = Run::new(rt.alloc())?;
-        for call in *table {
-            run.check(call, &rt)?;
-        }
+// Calls on a new store.
+fn compare(rt: &impl Abort, alloc: Global, rows: &str) -> Result<(), Fail> {
+    let mut run = Run::new(alloc)?;
+    for row in rows.lines() {
+        let (call, want) = row.split_once(" = ").ok_or("no row")?;
+        let told = run.perform(alloc, &call_of(alloc, call)?, rt)?;
+        assert_eq!(rt; told.as_str(), want, "{row}");
     }
     Ok(())
+}
+
+// A range that came back is given again with its slot, which has the next version then.
+const A_RANGE_THAT_CAME_BACK: &str = "take 2 = 0 0 0
+give 0 = done
+live 0 = false
+take 2 = 0 1 0
+live 1 = true
+words = 2 2
+";
+
+// A range that is held for a job isn't given before that job is completed.
+const A_RANGE_THAT_IS_HELD: &str = "take 2 = 0 0 0
+take 1 = 1 0 2
+hold 0 1 = done
+settle = done
+live 0 = false
+take 2 = 2 0 3
+words = 5 5
+complete 1 = done
+settle = done
+words = 3 5
+take 2 = 0 1 0
+words = 5 5
+";
+
+// The new range is taken while the old one is live. Slot and version stay.
+const REGROWN: &str = "take 2 = 0 0 0
+regrow 0 3 = 2 3
+live 0 = true
+words = 3 5
+take 2 = 1 0 0
+words = 5 5
+";
+
+// Versions after reuse.
+const VERSIONS_AFTER_REUSE: &str = "take 4 = 0 0 0
+give 0 = done
+take 4 = 0 1 0
+hold 1 - = done
+live 1 = false
+settle = done
+take 4 = 0 2 0
+give 2 = done
+take 1 = 0 3 0
+live 0 = false
+live 1 = false
+live 2 = false
+live 3 = true
+";
+
+// An empty range starts at 0, and has no word.
+const EMPTY_RANGES: &str = "take 3 = 0 0 0
+take 0 = 1 0 0
+words = 3 3
+take 1 = 2 0 3
+regrow 2 0 = 0 0
+words = 3 4
+give 1 = done
+hold 2 2 = done
+settle = done
+words = 3 4
+take 0 = 1 1 0
+complete 2 = done
+settle = done
+take 1 = 2 1 3
+words = 4 4
+";
+
+// The last word, and no more. What is refused takes nothing.
+const THE_LAST_WORD: &str = "take 1048575 = 0 0 0
+take 2 = full
+take 1 = 1 0 1048575
+take 1 = full
+take 0 = 2 0 0
+words = 1048576 1048576
+give 0 = done
+take 1048576 = full
+take 1048575 = 0 1 0
+give 1 = done
+give 3 = done
+take 1048576 = 0 2 0
+words = 1048576 1048576
+";
+
+// The first hole that is large enough, not the one that fits best; and a hole that fits exactly.
+const THE_FIRST_HOLE: &str = "take 4 = 0 0 0
+take 1 = 1 0 4
+take 2 = 2 0 5
+take 1 = 3 0 7
+give 0 = done
+give 2 = done
+take 2 = 0 1 0
+take 3 = 2 1 8
+take 2 = 4 0 2
+take 2 = 5 0 5
+words = 11 11
+take 1 = 6 0 11
+";
+
+// Holes that touch are one, on either side and at the end.
+const HOLES_THAT_TOUCH: &str = "take 2 = 0 0 0
+take 2 = 1 0 2
+take 2 = 2 0 4
+take 2 = 3 0 6
+take 2 = 4 0 8
+give 0 = done
+give 2 = done
+give 1 = done
+take 6 = 0 1 0
+give 4 = done
+give 3 = done
+take 9 = 1 1 6
+words = 15 15
+";
+
+// Held ranges come back in the order of their users, whatever the order in which they were held.
+const ORDER_OF_USERS: &str = "take 2 = 0 0 0
+take 2 = 1 0 2
+take 2 = 2 0 4
+take 2 = 3 0 6
+hold 0 1,3 = done
+hold 1 2 = done
+hold 2 3,4 = done
+settle = done
+words = 8 8
+complete 2 = done
+settle = done
+words = 6 8
+take 2 = 1 1 2
+complete 3 = done
+settle = done
+words = 8 8
+complete 4 = done
+settle = done
+words = 6 8
+take 2 = 2 1 4
+complete 1 = done
+settle = done
+take 2 = 0 1 0
+words = 8 8
+";
+
+#[test]
+fn tables(rt: HostRuntime) -> Result<(), Fail> {
+    let alloc = rt.alloc();
+    compare(&rt, alloc, A_RANGE_THAT_CAME_BACK)?;
+    compare(&rt, alloc, A_RANGE_THAT_IS_HELD)?;
+    compare(&rt, alloc, REGROWN)?;
+    compare(&rt, alloc, VERSIONS_AFTER_REUSE)?;
+    compare(&rt, alloc, EMPTY_RANGES)?;
+    compare(&rt, alloc, THE_LAST_WORD)?;
+    compare(&rt, alloc, THE_FIRST_HOLE)?;
+    compare(&rt, alloc, HOLES_THAT_TOUCH)?;
+    compare(&rt, alloc, ORDER_OF_USERS)
 }

@@ -3,8 +3,11 @@ ghost use Rattle.std.specs.Prelude.{◌≡◌, ◌^◌, ◌<◌, ◌≤◌};
 ghost use Rattle.job_base.specs.Forms.{AreAllowed};
 ghost use Rattle.native_array.specs.Layout.{end_of};
 
-use job_base::{FlatMem, Mem, Trap, Word};
+use crate::calls::{Answer, done, halves, number, value};
+use job_base::{FlatMem, Mem, Word};
 use native_array::{ArrayAt, RefAt};
+use std::alloc::Global;
+use std::fmt::Write;
 use std::process::Abort;
 use std::test::Fail;
 
@@ -19,15 +22,8 @@ fn fill<M: Mem>(mem: &mut M)
     }
 }
 
-// Gets place `i` from the words 10 to 15, and then sets it to 77.
-fn row<M: Mem>(
-    rt: &impl Abort,
-    mem: &mut M,
-    at: ArrayAt,
-    i: i64,
-    got: Result<i64, Trap>,
-    after: [i64; 6],
-)
+// What getting place `i` answers and what setting it to 77 does, and then the words, which were 10 to 15.
+fn change<M: Mem>(alloc: Global, mem: &mut M, at: ArrayAt, i: i64) -> Result<String, Fail>
     requires within { end_of at ≤ 6 }
     requires readable { AreAllowed 0 6 (M.readable mem.old) }
     requires writable { AreAllowed 0 6 (M.writable mem.old) }
@@ -35,94 +31,121 @@ fn row<M: Mem>(
     ensures writable { M.writable mem.new ≡ M.writable mem.old }
 {
     fill(mem);
-    assert_eq!(rt; at.get(mem, i), got, "get {i} of {at:?}");
-    let done = at.set(mem, i, 77);
-    assert_eq!(rt; done.is_ok(), got.is_ok(), "set {i} of {at:?}");
+    let mut told = value(at.get(mem, i)).text(alloc)?;
+    let set = done(at.set(mem, i, 77)).text(alloc)?;
+    write!(told, " {set}:")?;
     for w in 0..6 {
-        assert_eq!(rt;
-            mem.load(Word(w)),
-            after[w as usize],
-            "word {w} after set {i} of {at:?}"
-        );
+        let word = mem.load(Word(w));
+        write!(told, " {word}")?;
     }
+    Ok(told)
 }
 
-fn rows<M: Mem>(rt: &impl Abort, mem: &mut M)
+fn compare<M: Mem>(
+    rt: &impl Abort,
+    alloc: Global,
+    mem: &mut M,
+    at: ArrayAt,
+    rows: &str,
+) -> Result<(), Fail>
+    requires within { end_of at ≤ 6 }
+    requires readable { AreAllowed 0 6 (M.readable mem.old) }
+    requires writable { AreAllowed 0 6 (M.writable mem.old) }
+    ensures readable { M.readable mem.new ≡ M.readable mem.old }
+    ensures writable { M.writable mem.new ≡ M.writable mem.old }
+{
+    for row in rows.lines() {
+        let (place, want) = row.split_once(" = ").ok_or("no row")?;
+        let told = change(alloc, mem, at, number(place)?)?;
+        assert_eq!(rt; told.as_str(), want, "{row}");
+    }
+    Ok(())
+}
+
+const PLACES_OF_THREE: &str = "0 = 12 done: 10 11 77 13 14 15
+2 = 14 done: 10 11 12 13 77 15
+-1 = Range Range: 10 11 12 13 14 15
+3 = Range Range: 10 11 12 13 14 15
+4294967296 = Range Range: 10 11 12 13 14 15
+-9223372036854775808 = Range Range: 10 11 12 13 14 15
+9223372036854775807 = Range Range: 10 11 12 13 14 15
+";
+
+const PLACES_OF_NONE: &str = "0 = Range Range: 10 11 12 13 14 15";
+
+fn compare_all<M: Mem>(rt: &impl Abort, alloc: Global, mem: &mut M) -> Result<(), Fail>
     requires readable { AreAllowed 0 6 (M.readable mem.old) }
     requires writable { AreAllowed 0 6 (M.writable mem.old) }
 {
     let three = ArrayAt { start: 2, len: 3 };
     let none = ArrayAt { start: 6, len: 0 };
-    let same = [10, 11, 12, 13, 14, 15];
-    let range = Err(Trap::Range);
-    row(rt, mem, three, 0, Ok(12), [10, 11, 77, 13, 14, 15]);
-    row(rt, mem, three, 2, Ok(14), [10, 11, 12, 13, 77, 15]);
-    row(rt, mem, three, -1, range, same);
-    row(rt, mem, three, 3, range, same);
-    row(rt, mem, three, 4_294_967_296, range, same);
-    row(rt, mem, three, i64::MIN, range, same);
-    row(rt, mem, three, i64::MAX, range, same);
-    row(rt, mem, none, 0, range, same);
+    compare(rt, alloc, mem, three, PLACES_OF_THREE)?;
+    compare(rt, alloc, mem, none, PLACES_OF_NONE)
 }
 
 #[test]
 fn places(rt: HostRuntime) -> Result<(), Fail> {
-    let mut mem = FlatMem::new(rt.alloc(), 6)?;
-    rows(&rt, &mut mem);
+    let alloc = rt.alloc();
+    let mut mem = FlatMem::new(alloc, 6)?;
+    compare_all(&rt, alloc, &mut mem)
+}
+
+// Of a place and a length where so many elements from there on lie, if they are elements of the array.
+fn part(at: ArrayAt, words: &[&str]) -> Result<Answer, Fail>
+    requires { end_of at < 2 ^ 32 }
+{
+    let [start, len] = *words else {
+        return Err(Fail::new("no place and length"));
+    };
+    let start = start.parse::<u32>().ok().ok_or("no place")?;
+    let len = len.parse::<u32>().ok().ok_or("no length")?;
+    Ok(match at.slice(start, len) {
+        Some(part) => Answer::Pair(i64::from(part.start), i64::from(part.len)),
+        None => Answer::Nothing,
+    })
+}
+
+fn compare_slices(rt: &impl Abort, alloc: Global, at: ArrayAt, rows: &str) -> Result<(), Fail>
+    requires { end_of at < 2 ^ 32 }
+{
+    for row in rows.lines() {
+        let (words, want) = halves(alloc, row)?;
+        let told = part(at, &words)?.text(alloc)?;
+        assert_eq!(rt; told.as_str(), want, "{row}");
+    }
     Ok(())
 }
 
-fn slice(rt: &impl Abort, at: ArrayAt, start: u32, len: u32, part: Option<ArrayAt>)
-    requires { end_of at < 2 ^ 32 }
-{
-    assert_eq!(rt;
-        at.slice(start, len),
-        part,
-        "{len} from {start} on of {at:?}"
-    );
-}
+const SLICES_OF_THREE: &str = "0 3 = 2 3
+1 2 = 3 2
+3 0 = 5 0
+1 3 = none
+4 0 = none
+1 4294967295 = none
+4294967295 1 = none
+";
+
+const SLICES_OF_A_PART: &str = "1 1 = 4 1
+1 2 = none
+";
+
+const SLICES_OF_ALL: &str = "4294967293 1 = 4294967294 1
+4294967294 0 = 4294967295 0
+4294967293 2 = none
+";
 
 #[test]
-fn slices(rt: HostRuntime) {
+fn slices(rt: HostRuntime) -> Result<(), Fail> {
+    let alloc = rt.alloc();
     let three = ArrayAt { start: 2, len: 3 };
-    slice(&rt, three, 0, 3, Some(three));
-    slice(&rt, three, 1, 2, Some(ArrayAt { start: 3, len: 2 }));
-    slice(&rt, three, 3, 0, Some(ArrayAt { start: 5, len: 0 }));
-    slice(&rt, three, 1, 3, None);
-    slice(&rt, three, 4, 0, None);
-    slice(&rt, three, 1, u32::MAX, None);
-    slice(&rt, three, u32::MAX, 1, None);
-
+    compare_slices(&rt, alloc, three, SLICES_OF_THREE)?;
     let part = ArrayAt { start: 3, len: 2 };
-    slice(&rt, part, 1, 1, Some(ArrayAt { start: 4, len: 1 }));
-    slice(&rt, part, 1, 2, None);
-
-    let last = u32::MAX - 1;
-    let long = ArrayAt {
+    compare_slices(&rt, alloc, part, SLICES_OF_A_PART)?;
+    let all = ArrayAt {
         start: 1,
-        len: last,
+        len: u32::MAX - 1,
     };
-    slice(
-        &rt,
-        long,
-        last - 1,
-        1,
-        Some(ArrayAt {
-            start: last,
-            len: 1,
-        }),
-    );
-    slice(
-        &rt,
-        long,
-        last,
-        0,
-        Some(ArrayAt {
-            start: u32::MAX,
-            len: 0,
-        }),
-    );
-    slice(&rt, long, last - 1, 2, None);
+    compare_slices(&rt, alloc, all, SLICES_OF_ALL)
 }
 
 // The value between two words, before and after it is set, and then these words.

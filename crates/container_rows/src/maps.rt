@@ -2,13 +2,14 @@ ghost use Rattle.std.specs.Prelude.{◌≡◌, ◌+◌, ◌*◌, ◌^◌, ◌<�
 ghost use Rattle.job_base.specs.Forms.{AreAllowed};
 ghost use Rattle.native_map.specs.Table.{places, end_of};
 
-use job_base::{FlatMem, Mem, NoMemory, Trap};
+use crate::calls::{Answer, done, flag, halves, number, value};
+use job_base::{FlatMem, Mem, NoMemory};
 use native_map::{MapAt, words_of};
 use std::alloc::Global;
 use std::process::Abort;
 use std::test::Fail;
 
-#[derive(Clone, Copy, Debug)]
+#[derive(Clone, Copy)]
 enum Call {
     Put(i64, i64),
     Add(i64, i64),
@@ -21,42 +22,27 @@ enum Call {
     NextAfter(Option<i64>),
 }
 
-#[derive(Clone, Copy, Debug, PartialEq, Eq)]
-enum Answer {
-    Done,
-    Flag(bool),
-    Value(i64),
-    Count(u32),
-    Pair(i64, i64),
-    NoPair,
-    Trapped(Trap),
-}
-
-fn done(outcome: Result<(), Trap>) -> Answer {
-    match outcome {
-        Ok(()) => Answer::Done,
-        Err(trap) => Answer::Trapped(trap),
-    }
-}
-
-fn flag(outcome: Result<bool, Trap>) -> Answer {
-    match outcome {
-        Ok(flag) => Answer::Flag(flag),
-        Err(trap) => Answer::Trapped(trap),
-    }
-}
-
-fn value(outcome: Result<i64, Trap>) -> Answer {
-    match outcome {
-        Ok(value) => Answer::Value(value),
-        Err(trap) => Answer::Trapped(trap),
+// The call that these words are.
+fn call_in(words: &[&str]) -> Result<Call, Fail> {
+    match *words {
+        ["put", k, v] => Ok(Call::Put(number(k)?, number(v)?)),
+        ["add", k, v] => Ok(Call::Add(number(k)?, number(v)?)),
+        ["try_add", k, v] => Ok(Call::TryAdd(number(k)?, number(v)?)),
+        ["get", k] => Ok(Call::Get(number(k)?)),
+        ["has", k] => Ok(Call::Has(number(k)?)),
+        ["remove", k] => Ok(Call::Remove(number(k)?)),
+        ["clear"] => Ok(Call::Clear),
+        ["count"] => Ok(Call::Count),
+        ["first"] => Ok(Call::NextAfter(None)),
+        ["next", k] => Ok(Call::NextAfter(Some(number(k)?))),
+        _ => Err(Fail::new("no such call")),
     }
 }
 
 fn pair(found: Option<(i64, i64)>) -> Answer {
     match found {
         Some((k, v)) => Answer::Pair(k, v),
-        None => Answer::NoPair,
+        None => Answer::Nothing,
     }
 }
 
@@ -78,23 +64,32 @@ fn perform<M: Mem>(mem: &mut M, map: MapAt, call: Call) -> Answer
             map.clear(mem);
             Answer::Done
         }
-        Call::Count => Answer::Count(map.count(mem)),
+        Call::Count => Answer::Number(i64::from(map.count(mem))),
         Call::NextAfter(k) => pair(map.next_after(mem, k)),
     }
 }
 
 // Calls on one map, one after the other, each with the answer that is wanted.
-fn compare<M: Mem>(rt: &impl Abort, mem: &mut M, map: MapAt, table: &[(Call, Answer)])
+fn compare<M: Mem>(
+    rt: &impl Abort,
+    alloc: Global,
+    mem: &mut M,
+    map: MapAt,
+    rows: &str,
+) -> Result<(), Fail>
     requires fits { end_of map < 2 ^ 32 }
     requires readable { AreAllowed map.start (end_of map) (M.readable mem.old) }
     requires writable { AreAllowed map.start (end_of map) (M.writable mem.old) }
     ensures readable { M.readable mem.new ≡ M.readable mem.old }
     ensures writable { M.writable mem.new ≡ M.writable mem.old }
 {
-    for (call, want) in table {
-        let got = perform(mem, map, *call);
-        assert_eq!(rt; got, *want, "{call:?}");
+    for row in rows.lines() {
+        let (words, want) = halves(alloc, row)?;
+        let call = call_in(&words)?;
+        let told = perform(mem, map, call).text(alloc)?;
+        assert_eq!(rt; told.as_str(), want, "{row}");
     }
+    Ok(())
 }
 
 fn key(i: i64) -> i64 {
@@ -129,19 +124,20 @@ fn empty<M: Mem>(rt: &impl Abort, mem: &mut M, map: MapAt)
     }
 }
 
-fn fill_and_empty<M: Mem>(rt: &impl Abort, mem: &mut M, map: MapAt)
+fn fill_and_empty<M: Mem>(
+    rt: &impl Abort,
+    alloc: Global,
+    mem: &mut M,
+    map: MapAt,
+) -> Result<(), Fail>
     requires fits { end_of map < 2 ^ 32 }
     requires readable { AreAllowed map.start (end_of map) (M.readable mem.old) }
     requires writable { AreAllowed map.start (end_of map) (M.writable mem.old) }
 {
     fill(rt, mem, map);
-    let full = [
-        (Call::Count, Answer::Count(4096)),
-        (Call::Put(-1, 0), Answer::Trapped(Trap::Full)),
-    ];
-    compare(rt, mem, map, &full);
+    compare(rt, alloc, mem, map, "count = 4096\nput -1 0 = Full")?;
     empty(rt, mem, map);
-    compare(rt, mem, map, &[(Call::Count, Answer::Count(0))]);
+    compare(rt, alloc, mem, map, "count = 0")
 }
 
 // Each map has three cells before it and one behind it that aren't its own.
@@ -154,103 +150,103 @@ fn new_map(alloc: Global, cap: u32) -> Result<(FlatMem, MapAt), NoMemory>
     Ok((mem, MapAt::new(3, cap)))
 }
 
+const LEAST_AND_GREATEST_KEYS: &str = "count = 0
+get 0 = MissingKey
+first = none
+put 0 10 = done
+add -1 11 = done
+try_add -9223372036854775808 12 = true
+put 9223372036854775807 13 = done
+count = 4
+put 5 1 = Full
+add 5 1 = Full
+try_add 5 1 = Full
+add 0 1 = PresentKey
+try_add -1 1 = false
+put 0 20 = done
+count = 4
+get 0 = 20
+get -1 = 11
+first = -9223372036854775808 12
+next -9223372036854775808 = -1 11
+next -1 = 0 20
+next 0 = 9223372036854775807 13
+next 9223372036854775807 = none
+remove 5 = false
+remove -1 = true
+has -1 = false
+has -9223372036854775808 = true
+count = 3
+clear = done
+count = 0
+has 0 = false
+first = none
+";
+
 #[test]
 fn least_and_greatest_keys(rt: HostRuntime) -> Result<(), Fail> {
-    let (mut mem, map) = new_map(rt.alloc(), 4)?;
-    let table = [
-        (Call::Count, Answer::Count(0)),
-        (Call::Get(0), Answer::Trapped(Trap::MissingKey)),
-        (Call::NextAfter(None), Answer::NoPair),
-        (Call::Put(0, 10), Answer::Done),
-        (Call::Add(-1, 11), Answer::Done),
-        (Call::TryAdd(i64::MIN, 12), Answer::Flag(true)),
-        (Call::Put(i64::MAX, 13), Answer::Done),
-        (Call::Count, Answer::Count(4)),
-        (Call::Put(5, 1), Answer::Trapped(Trap::Full)),
-        (Call::Add(5, 1), Answer::Trapped(Trap::Full)),
-        (Call::TryAdd(5, 1), Answer::Trapped(Trap::Full)),
-        (Call::Add(0, 1), Answer::Trapped(Trap::PresentKey)),
-        (Call::TryAdd(-1, 1), Answer::Flag(false)),
-        (Call::Put(0, 20), Answer::Done),
-        (Call::Count, Answer::Count(4)),
-        (Call::Get(0), Answer::Value(20)),
-        (Call::Get(-1), Answer::Value(11)),
-        (Call::NextAfter(None), Answer::Pair(i64::MIN, 12)),
-        (Call::NextAfter(Some(i64::MIN)), Answer::Pair(-1, 11)),
-        (Call::NextAfter(Some(-1)), Answer::Pair(0, 20)),
-        (Call::NextAfter(Some(0)), Answer::Pair(i64::MAX, 13)),
-        (Call::NextAfter(Some(i64::MAX)), Answer::NoPair),
-        (Call::Remove(5), Answer::Flag(false)),
-        (Call::Remove(-1), Answer::Flag(true)),
-        (Call::Has(-1), Answer::Flag(false)),
-        (Call::Has(i64::MIN), Answer::Flag(true)),
-        (Call::Count, Answer::Count(3)),
-        (Call::Clear, Answer::Done),
-        (Call::Count, Answer::Count(0)),
-        (Call::Has(0), Answer::Flag(false)),
-        (Call::NextAfter(None), Answer::NoPair),
-    ];
-    compare(&rt, &mut mem, map, &table);
-    Ok(())
+    let alloc = rt.alloc();
+    let (mut mem, map) = new_map(alloc, 4)?;
+    compare(&rt, alloc, &mut mem, map, LEAST_AND_GREATEST_KEYS)
 }
 
 // The map has 8 places. By the hash, worked out apart from the program, the home place of 9, 19 and 33 is 7, that of 0
 // is 0 and that of 10 is 1. So each cluster here wraps round the end; 10 stands at its home place, and stays there.
+const CLUSTERS: &str = "put 9 1 = done
+put 19 2 = done
+put 33 3 = done
+put 0 4 = done
+remove 9 = true
+get 19 = 2
+get 33 = 3
+get 0 = 4
+remove 33 = true
+get 19 = 2
+get 0 = 4
+has 33 = false
+clear = done
+put 9 1 = done
+put 19 2 = done
+put 10 3 = done
+put 33 4 = done
+remove 9 = true
+get 19 = 2
+get 10 = 3
+get 33 = 4
+count = 3
+next 10 = 19 2
+";
+
 #[test]
 fn clusters_wrap_round(rt: HostRuntime) -> Result<(), Fail> {
-    let (mut mem, map) = new_map(rt.alloc(), 4)?;
-    let table = [
-        (Call::Put(9, 1), Answer::Done),
-        (Call::Put(19, 2), Answer::Done),
-        (Call::Put(33, 3), Answer::Done),
-        (Call::Put(0, 4), Answer::Done),
-        (Call::Remove(9), Answer::Flag(true)),
-        (Call::Get(19), Answer::Value(2)),
-        (Call::Get(33), Answer::Value(3)),
-        (Call::Get(0), Answer::Value(4)),
-        (Call::Remove(33), Answer::Flag(true)),
-        (Call::Get(19), Answer::Value(2)),
-        (Call::Get(0), Answer::Value(4)),
-        (Call::Has(33), Answer::Flag(false)),
-        (Call::Clear, Answer::Done),
-        (Call::Put(9, 1), Answer::Done),
-        (Call::Put(19, 2), Answer::Done),
-        (Call::Put(10, 3), Answer::Done),
-        (Call::Put(33, 4), Answer::Done),
-        (Call::Remove(9), Answer::Flag(true)),
-        (Call::Get(19), Answer::Value(2)),
-        (Call::Get(10), Answer::Value(3)),
-        (Call::Get(33), Answer::Value(4)),
-        (Call::Count, Answer::Count(3)),
-        (Call::NextAfter(Some(10)), Answer::Pair(19, 2)),
-    ];
-    compare(&rt, &mut mem, map, &table);
-    Ok(())
+    let alloc = rt.alloc();
+    let (mut mem, map) = new_map(alloc, 4)?;
+    compare(&rt, alloc, &mut mem, map, CLUSTERS)
 }
+
+const NO_ROOM: &str = "put 0 1 = Full
+add 0 1 = Full
+try_add 0 1 = Full
+get 0 = MissingKey
+remove 0 = false
+clear = done
+count = 0
+first = none
+";
 
 #[test]
 fn no_room(rt: HostRuntime) -> Result<(), Fail> {
-    let (mut mem, map) = new_map(rt.alloc(), 0)?;
-    let table = [
-        (Call::Put(0, 1), Answer::Trapped(Trap::Full)),
-        (Call::Add(0, 1), Answer::Trapped(Trap::Full)),
-        (Call::TryAdd(0, 1), Answer::Trapped(Trap::Full)),
-        (Call::Get(0), Answer::Trapped(Trap::MissingKey)),
-        (Call::Remove(0), Answer::Flag(false)),
-        (Call::Clear, Answer::Done),
-        (Call::Count, Answer::Count(0)),
-        (Call::NextAfter(None), Answer::NoPair),
-    ];
-    compare(&rt, &mut mem, map, &table);
-    Ok(())
+    let alloc = rt.alloc();
+    let (mut mem, map) = new_map(alloc, 0)?;
+    compare(&rt, alloc, &mut mem, map, NO_ROOM)
 }
 
 // As many keys as the language lets a map have.
 #[test]
 fn many_keys(rt: HostRuntime) -> Result<(), Fail> {
-    let (mut mem, map) = new_map(rt.alloc(), 4096)?;
-    fill_and_empty(&rt, &mut mem, map);
-    Ok(())
+    let alloc = rt.alloc();
+    let (mut mem, map) = new_map(alloc, 4096)?;
+    fill_and_empty(&rt, alloc, &mut mem, map)
 }
 
 // 1 + 3 T words, T being 2, 2, 8, 8 and 8,192.

@@ -3,13 +3,14 @@ ghost use Rattle.std.specs.Prelude.{◌≡◌, ◌+◌, ◌*◌, ◌^◌, ◌<�
 ghost use Rattle.job_base.specs.Forms.{AreAllowed};
 ghost use Rattle.native_stream.specs.Layout.{end_of};
 
+use crate::calls::{Answer, done, halves, number, value};
 use job_base::{FlatMem, Mem, NoMemory, Trap, Word};
 use native_stream::{StreamAt, words_of};
 use std::alloc::Global;
 use std::process::Abort;
 use std::test::Fail;
 
-#[derive(Clone, Copy, Debug)]
+#[derive(Clone, Copy)]
 enum Call {
     Begin(i64),
     Write(u32, i64),
@@ -18,37 +19,21 @@ enum Call {
     Clear,
 }
 
-#[derive(Clone, Copy, Debug, PartialEq, Eq)]
-enum Answer {
-    Done,
-    Count(u32),
-    Value(i64),
-    Trapped(Trap),
-}
-
-const RANGE: Answer = Answer::Trapped(Trap::Range);
-
-const FULL: Answer = Answer::Trapped(Trap::Full);
-
-const WRITTEN: Answer = Answer::Trapped(Trap::Written);
-
-fn done(outcome: Result<(), Trap>) -> Answer {
-    match outcome {
-        Ok(()) => Answer::Done,
-        Err(trap) => Answer::Trapped(trap),
+// The call that these words are.
+fn call_in(words: &[&str]) -> Result<Call, Fail> {
+    match *words {
+        ["begin", i] => Ok(Call::Begin(number(i)?)),
+        ["write", i, v] => Ok(Call::Write(i.parse::<u32>().ok().ok_or("no index")?, number(v)?)),
+        ["items", i] => Ok(Call::Items(number(i)?)),
+        ["at", i, k] => Ok(Call::At(number(i)?, number(k)?)),
+        ["clear"] => Ok(Call::Clear),
+        _ => Err(Fail::new("no such call")),
     }
 }
 
 fn count(outcome: Result<u32, Trap>) -> Answer {
     match outcome {
-        Ok(count) => Answer::Count(count),
-        Err(trap) => Answer::Trapped(trap),
-    }
-}
-
-fn value(outcome: Result<i64, Trap>) -> Answer {
-    match outcome {
-        Ok(value) => Answer::Value(value),
+        Ok(count) => Answer::Number(i64::from(count)),
         Err(trap) => Answer::Trapped(trap),
     }
 }
@@ -67,7 +52,7 @@ fn perform<M: Mem>(mem: &mut M, stream: StreamAt, call: Call) -> Answer
             if i < stream.count {
                 done(stream.write(mem, i, v))
             } else {
-                RANGE
+                Answer::Trapped(Trap::Range)
             }
         }
         Call::Items(i) => count(stream.items(mem, i)),
@@ -79,17 +64,26 @@ fn perform<M: Mem>(mem: &mut M, stream: StreamAt, call: Call) -> Answer
     }
 }
 
-fn compare<M: Mem>(rt: &impl Abort, mem: &mut M, stream: StreamAt, table: &[(Call, Answer)])
+fn compare<M: Mem>(
+    rt: &impl Abort,
+    alloc: Global,
+    mem: &mut M,
+    stream: StreamAt,
+    rows: &str,
+) -> Result<(), Fail>
     requires fits { end_of stream < 2 ^ 32 }
     requires readable { AreAllowed stream.start (end_of stream) (M.readable mem.old) }
     requires writable { AreAllowed stream.start (end_of stream) (M.writable mem.old) }
     ensures readable { M.readable mem.new ≡ M.readable mem.old }
     ensures writable { M.writable mem.new ≡ M.writable mem.old }
 {
-    for (call, want) in table {
-        let got = perform(mem, stream, *call);
-        assert_eq!(rt; got, *want, "{call:?}");
+    for row in rows.lines() {
+        let (words, want) = halves(alloc, row)?;
+        let call = call_in(&words)?;
+        let told = perform(mem, stream, call).text(alloc)?;
+        assert_eq!(rt; told.as_str(), want, "{row}");
     }
+    Ok(())
 }
 
 // Each stream has three cells before it and one behind it that aren't its own.
@@ -107,103 +101,113 @@ fn new_stream(alloc: Global, count: u32, room: u32) -> Result<(FlatMem, StreamAt
     Ok((mem, stream))
 }
 
+const TWO_INDEXES: &str = "items 0 = 0
+at 0 0 = Range
+begin -1 = Range
+begin 2 = Range
+begin 4294967296 = Range
+begin -9223372036854775808 = Range
+begin 9223372036854775807 = Range
+begin 0 = done
+begin 0 = Written
+items 0 = 0
+at 0 0 = Range
+write 0 7 = done
+begin 0 = Written
+write 0 8 = done
+write 0 9 = Full
+items 0 = 2
+items 1 = 0
+begin 1 = done
+write 1 -9223372036854775808 = done
+items 0 = 2
+items 1 = 1
+items -1 = Range
+items 2 = Range
+items -9223372036854775808 = Range
+items 9223372036854775807 = Range
+at 0 0 = 7
+at 0 1 = 8
+at 0 2 = Range
+at 0 -1 = Range
+at 0 -9223372036854775808 = Range
+at 0 9223372036854775807 = Range
+at 1 0 = -9223372036854775808
+at 1 1 = Range
+at -1 0 = Range
+at 2 0 = Range
+clear = done
+items 0 = 0
+items 1 = 0
+at 1 0 = Range
+begin 1 = done
+items 1 = 0
+begin 0 = done
+";
+
 #[test]
 fn two_indexes(rt: HostRuntime) -> Result<(), Fail> {
-    let (mut mem, stream) = new_stream(rt.alloc(), 2, 2)?;
-    let table = [
-        (Call::Items(0), Answer::Count(0)),
-        (Call::At(0, 0), RANGE),
-        (Call::Begin(-1), RANGE),
-        (Call::Begin(2), RANGE),
-        (Call::Begin(4_294_967_296), RANGE),
-        (Call::Begin(i64::MIN), RANGE),
-        (Call::Begin(i64::MAX), RANGE),
-        (Call::Begin(0), Answer::Done),
-        (Call::Begin(0), WRITTEN),
-        (Call::Items(0), Answer::Count(0)),
-        (Call::At(0, 0), RANGE),
-        (Call::Write(0, 7), Answer::Done),
-        (Call::Begin(0), WRITTEN),
-        (Call::Write(0, 8), Answer::Done),
-        (Call::Write(0, 9), FULL),
-        (Call::Items(0), Answer::Count(2)),
-        (Call::Items(1), Answer::Count(0)),
-        (Call::Begin(1), Answer::Done),
-        (Call::Write(1, i64::MIN), Answer::Done),
-        (Call::Items(0), Answer::Count(2)),
-        (Call::Items(1), Answer::Count(1)),
-        (Call::Items(-1), RANGE),
-        (Call::Items(2), RANGE),
-        (Call::Items(i64::MIN), RANGE),
-        (Call::Items(i64::MAX), RANGE),
-        (Call::At(0, 0), Answer::Value(7)),
-        (Call::At(0, 1), Answer::Value(8)),
-        (Call::At(0, 2), RANGE),
-        (Call::At(0, -1), RANGE),
-        (Call::At(0, i64::MIN), RANGE),
-        (Call::At(0, i64::MAX), RANGE),
-        (Call::At(1, 0), Answer::Value(i64::MIN)),
-        (Call::At(1, 1), RANGE),
-        (Call::At(-1, 0), RANGE),
-        (Call::At(2, 0), RANGE),
-        (Call::Clear, Answer::Done),
-        (Call::Items(0), Answer::Count(0)),
-        (Call::Items(1), Answer::Count(0)),
-        (Call::At(1, 0), RANGE),
-        (Call::Begin(1), Answer::Done),
-        (Call::Items(1), Answer::Count(0)),
-        (Call::Begin(0), Answer::Done),
-    ];
-    compare(&rt, &mut mem, stream, &table);
-    Ok(())
+    let alloc = rt.alloc();
+    let (mut mem, stream) = new_stream(alloc, 2, 2)?;
+    compare(&rt, alloc, &mut mem, stream, TWO_INDEXES)
 }
+
+const FIRST_ITEM_BEGINS: &str = "write 1 5 = done
+begin 1 = Written
+write 1 6 = Full
+at 1 0 = 5
+items 0 = 0
+items 2 = 0
+";
 
 #[test]
 fn first_item_begins(rt: HostRuntime) -> Result<(), Fail> {
-    let (mut mem, stream) = new_stream(rt.alloc(), 3, 1)?;
-    let table = [
-        (Call::Write(1, 5), Answer::Done),
-        (Call::Begin(1), WRITTEN),
-        (Call::Write(1, 6), FULL),
-        (Call::At(1, 0), Answer::Value(5)),
-        (Call::Items(0), Answer::Count(0)),
-        (Call::Items(2), Answer::Count(0)),
-    ];
-    compare(&rt, &mut mem, stream, &table);
-    Ok(())
+    let alloc = rt.alloc();
+    let (mut mem, stream) = new_stream(alloc, 3, 1)?;
+    compare(&rt, alloc, &mut mem, stream, FIRST_ITEM_BEGINS)
 }
+
+const NO_INDEX: &str = "begin 0 = Range
+items 0 = Range
+at 0 0 = Range
+clear = done
+";
 
 #[test]
 fn no_index(rt: HostRuntime) -> Result<(), Fail> {
-    let (mut mem, stream) = new_stream(rt.alloc(), 0, 5)?;
-    let table = [
-        (Call::Begin(0), RANGE),
-        (Call::Items(0), RANGE),
-        (Call::At(0, 0), RANGE),
-        (Call::Clear, Answer::Done),
-    ];
-    compare(&rt, &mut mem, stream, &table);
-    Ok(())
+    let alloc = rt.alloc();
+    let (mut mem, stream) = new_stream(alloc, 0, 5)?;
+    compare(&rt, alloc, &mut mem, stream, NO_INDEX)
 }
+
+const NO_ROOM: &str = "write 1 1 = Full
+begin 1 = done
+begin 1 = Written
+write 1 1 = Full
+items 1 = 0
+at 1 0 = Range
+begin 0 = done
+";
 
 #[test]
 fn no_room(rt: HostRuntime) -> Result<(), Fail> {
-    let (mut mem, stream) = new_stream(rt.alloc(), 2, 0)?;
-    let table = [
-        (Call::Write(1, 1), FULL),
-        (Call::Begin(1), Answer::Done),
-        (Call::Begin(1), WRITTEN),
-        (Call::Write(1, 1), FULL),
-        (Call::Items(1), Answer::Count(0)),
-        (Call::At(1, 0), RANGE),
-        (Call::Begin(0), Answer::Done),
-    ];
-    compare(&rt, &mut mem, stream, &table);
-    Ok(())
+    let alloc = rt.alloc();
+    let (mut mem, stream) = new_stream(alloc, 2, 0)?;
+    compare(&rt, alloc, &mut mem, stream, NO_ROOM)
 }
 
+const BROKEN: &str = "items 0 = 0
+items 1 = 1
+at 1 0 = 0
+write 1 4 = Full
+begin 1 = Written
+begin 0 = done
+write 0 3 = done
+at 0 0 = 3
+";
+
 // A mark that is none counts as the nearest one, and no word beside the stream changes.
-fn broken<M: Mem>(rt: &impl Abort, mem: &mut M)
+fn broken<M: Mem>(rt: &impl Abort, alloc: Global, mem: &mut M) -> Result<(), Fail>
     requires readable { AreAllowed 0 6 (M.readable mem.old) }
     requires writable { AreAllowed 0 6 (M.writable mem.old) }
 {
@@ -216,29 +220,20 @@ fn broken<M: Mem>(rt: &impl Abort, mem: &mut M)
         count: 2,
         room: 1,
     };
-    let table = [
-        (Call::Items(0), Answer::Count(0)),
-        (Call::Items(1), Answer::Count(1)),
-        (Call::At(1, 0), Answer::Value(0)),
-        (Call::Write(1, 4), FULL),
-        (Call::Begin(1), WRITTEN),
-        (Call::Begin(0), Answer::Done),
-        (Call::Write(0, 3), Answer::Done),
-        (Call::At(0, 0), Answer::Value(3)),
-    ];
-    compare(rt, mem, stream, &table);
+    compare(rt, alloc, mem, stream, BROKEN)?;
     assert_eq!(rt;
         (mem.load(Word(0)), mem.load(Word(5))),
         (-1, -1),
         "words beside the stream"
     );
+    Ok(())
 }
 
 #[test]
 fn broken_marks(rt: HostRuntime) -> Result<(), Fail> {
-    let mut mem = FlatMem::new(rt.alloc(), 6)?;
-    broken(&rt, &mut mem);
-    Ok(())
+    let alloc = rt.alloc();
+    let mut mem = FlatMem::new(alloc, 6)?;
+    broken(&rt, alloc, &mut mem)
 }
 
 #[test]

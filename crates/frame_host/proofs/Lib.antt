@@ -2,5 +2,6 @@ mod Beginning
 mod Ending
 mod Lines
 mod Making
-mod Turning
 pub mod Numbering
+pub mod Sent
+mod Turning

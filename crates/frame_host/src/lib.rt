@@ -21,6 +21,7 @@
 #![tactic(auto)]
 
 mod answer;
+mod crossing;
 mod frame;
 mod opening;
 mod reading;

@@ -1,2 +1,3 @@
 mod Rooms
 mod Seeing
+pub mod Sent

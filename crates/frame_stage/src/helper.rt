@@ -85,3 +85,10 @@ impl FrameHelper {
         }
     }
 }
+
+fn sent_to_threads<T: Send>(_it: &T) {}
+
+// A helper goes to the thread that helps. Nothing calls this: that it is accepted shows it.
+fn crosses(helper: &FrameHelper) {
+    sent_to_threads(helper);
+}

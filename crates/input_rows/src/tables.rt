@@ -1,125 +1,138 @@
 // Tables, each with what it gives.
+use row_texts::{halves, unescaped};
+use std::alloc::Global;
+use std::fmt::Write;
 use std::test::Fail;
 use table_in::{Table, TableFault, read_table};
 
-/// Each text with a name, and the values of the first column of that name.
-const COLUMNS: [(&[u8], &[u8], Option<&[i64]>); 30] = [
-    (b"a,b\n1,2\n3,4\n", b"b", Some(&[2, 4])),
-    (b"a,b\n1,2\n3,4", b"a", Some(&[1, 3])),
-    (b"a,b\n1,2\n", b"c", None),
-    (b"a,b\n1,2\n", b"", None),
-    (b"a,b\r\n1,2\r\n3,4\r\n", b"b", Some(&[2, 4])),
-    (b"a,b\r1,2\r3,4", b"b", Some(&[2, 4])),
-    (b"\n\na\n\n1\n\r\n\n2\n\n", b"a", Some(&[1, 2])),
-    (b"\xEF\xBB\xBFa\n7\n", b"a", Some(&[7])),
-    (b"\"a\"\n\"1\"\n", b"a", Some(&[1])),
-    (b"\"a \"\"b\"\",\",c\n1,2\n", b"a \"b\",", Some(&[1])),
-    (b"\"a\nb\"\n5\n", b"a\nb", Some(&[5])),
-    (b" a ,a\n1,2\n", b"a", Some(&[2])),
-    (b" a ,a\n1,2\n", b" a ", Some(&[1])),
-    (b"a,a\n1,2\n", b"a", Some(&[1])),
-    (b"a,b\n", b"b", Some(&[])),
-    (b"a\n  12  \n -3\n", b"a", Some(&[12, -3])),
-    (b"a\n-0\n007\n-007\n", b"a", Some(&[0, 7, -7])),
-    (
-        b"a\n9223372036854775807\n-9223372036854775808\n",
-        b"a",
-        Some(&[i64::MAX, i64::MIN]),
-    ),
-    (b"a\n00000000000000000000000000000001\n", b"a", Some(&[1])),
-    (b"a,\n1,2\n", b"", Some(&[2])),
-    // Spaces round numbers, and ends of lines of each kind.
-    (b"a,b\n 1 ,  -2 \n3,4\n", b"b", Some(&[-2, 4])),
-    (b"a\n\r\n\r1\r\r2", b"a", Some(&[1, 2])),
-    // Numbers of more digits than are sure to fit.
-    (
-        b"a\n999999999999999999\n1000000000000000000\n",
-        b"a",
-        Some(&[999_999_999_999_999_999, 1_000_000_000_000_000_000]),
-    ),
-    (
-        b"a\n-000000000000000000009223372036854775808\n",
-        b"a",
-        Some(&[i64::MIN]),
-    ),
-    // Names in quotes, with plain numbers below them.
-    (b"\"a,\nb\",c\n1,2\n", b"c", Some(&[2])),
-    (b"\"a\"\"\nb\",c\n1,2\n", b"a\"\nb", Some(&[1])),
-    (b"a\"b,c\n1,2\n", b"a\"b", Some(&[1])),
-    // A field in quotes after plain ones, and plain ones after it.
-    (b"a\n1\n\"2\"\n3\n", b"a", Some(&[1, 2, 3])),
-    (b"a,b\n1,2\n\"3\",\" 4\"\n5,6", b"b", Some(&[2, 4, 6])),
-    (b"a,b\n1,2\n\r\n3,\"4\"", b"a", Some(&[1, 3])),
-];
-
-/// Each text that is no table, with its fault. The record of names is number 1.
-const FAULTS: [(&[u8], TableFault); 31] = [
-    (b"", TableFault::Empty),
-    (b"\n\r\n\n", TableFault::Empty),
-    (b"\xEF\xBB\xBF", TableFault::Empty),
-    (b"a,b\n1,2\n3\n", TableFault::Unequal { row: 3 }),
-    (b"a,b\n1,2,3\n", TableFault::Unequal { row: 2 }),
-    (b"a,b\n\n1\n", TableFault::Unequal { row: 2 }),
-    (b"a,b\n1,x\n1\n", TableFault::NotNumber { row: 2 }),
-    (b"a,b\n1\n1,x\n", TableFault::Unequal { row: 2 }),
-    (b"a,b\nx\n", TableFault::Unequal { row: 2 }),
-    (b"a\n1\nx\ny\n", TableFault::NotNumber { row: 3 }),
-    (b"a\n   \n", TableFault::NotNumber { row: 2 }),
-    (b"a\n\"\"\n", TableFault::NotNumber { row: 2 }),
-    (b"a\n\n\"\"\n", TableFault::NotNumber { row: 2 }),
-    (b"a\n+5\n", TableFault::NotNumber { row: 2 }),
-    (b"a\n\t5\n", TableFault::NotNumber { row: 2 }),
-    (b"a\n- 5\n", TableFault::NotNumber { row: 2 }),
-    (b"a\n--5\n", TableFault::NotNumber { row: 2 }),
-    (b"a\n5 5\n", TableFault::NotNumber { row: 2 }),
-    (b"a\n-\n", TableFault::NotNumber { row: 2 }),
-    (
-        b"a\n9223372036854775808\n",
-        TableFault::NotNumber { row: 2 },
-    ),
-    (
-        b"a\n-9223372036854775809\n",
-        TableFault::NotNumber { row: 2 },
-    ),
-    (b"a\n1\n\xFF\n", TableFault::NotNumber { row: 3 }),
-    // A byte-order mark counts at the head alone.
-    (b"a\n\xEF\xBB\xBF7\n", TableFault::NotNumber { row: 2 }),
-    (b"a\n1\n\n\xEF\xBB\xBF7\n", TableFault::NotNumber { row: 3 }),
-    // Faults after plain records.
-    (b"a,b\n1,2\n1,\n", TableFault::NotNumber { row: 3 }),
-    (b"a,b\n1,2\n1,2,3\n", TableFault::Unequal { row: 3 }),
-    (b"a,b\n1,2\n1,2,\n", TableFault::Unequal { row: 3 }),
-    (b"a\n1\n\"2\"\nx\n", TableFault::NotNumber { row: 4 }),
-    (b"a\n1\n\"2\n3\"\n", TableFault::NotNumber { row: 3 }),
-    (b"a\n1-2\n", TableFault::NotNumber { row: 2 }),
-    (
-        b"a\n18446744073709551617\n",
-        TableFault::NotNumber { row: 2 },
-    ),
-];
-
-#[test]
-fn reads_columns(rt: HostRuntime) {
-    let alloc = rt.alloc();
-    for (text, name, values) in COLUMNS {
-        assert!(rt; text.len() < 100);
-        match read_table(alloc, text) {
-            Ok(table) => assert!(rt; table.column(name) == values),
-            Err(_) => assert!(rt; false),
-        }
+/// The values of the first column of that name in a short text, or that there is none, or why the text is no table.
+fn told(alloc: Global, text: &[u8], name: &[u8]) -> Result<String, Fail> {
+    let mut told = String::new(alloc);
+    if text.len() >= 100 {
+        return Ok(told);
     }
+    match read_table(alloc, text) {
+        Ok(table) => match table.column(name) {
+            Some(values) => {
+                for value in values {
+                    write!(told, "{value} ")?;
+                }
+            }
+            None => told.push_str("none")?,
+        },
+        Err(fault) => write!(told, "{fault}")?,
+    }
+    Ok(told)
 }
 
+/// The values of the first column of a name, the name, and the text.
+const COLUMNS: &str = r#"
+2 4 | b | a,b\n1,2\n3,4\n
+1 3 | a | a,b\n1,2\n3,4
+none | c | a,b\n1,2\n
+none |  | a,b\n1,2\n
+2 4 | b | a,b\r\n1,2\r\n3,4\r\n
+2 4 | b | a,b\r1,2\r3,4
+1 2 | a | \n\na\n\n1\n\r\n\n2\n\n
+7 | a | \xEF\xBB\xBFa\n7\n
+1 | a | "a"\n"1"\n
+1 | a "b", | "a ""b"",",c\n1,2\n
+5 | a\nb | "a\nb"\n5\n
+2 | a | \x20a ,a\n1,2\n
+1 | \x20a\x20 | \x20a ,a\n1,2\n
+1 | a | a,a\n1,2\n
+| b | a,b\n
+12 -3 | a | a\n  12  \n -3\n
+0 7 -7 | a | a\n-0\n007\n-007\n
+9223372036854775807 -9223372036854775808 | a | a\n9223372036854775807\n-9223372036854775808\n
+1 | a | a\n00000000000000000000000000000001\n
+2 |  | a,\n1,2\n
+
+# Spaces round numbers, and ends of lines of each kind.
+-2 4 | b | a,b\n 1 ,  -2 \n3,4\n
+1 2 | a | a\n\r\n\r1\r\r2
+
+# Numbers of more digits than are sure to fit.
+999999999999999999 1000000000000000000 | a | a\n999999999999999999\n1000000000000000000\n
+-9223372036854775808 | a | a\n-000000000000000000009223372036854775808\n
+
+# Names in quotes, with plain numbers below them.
+2 | c | "a,\nb",c\n1,2\n
+1 | a"\nb | "a""\nb",c\n1,2\n
+1 | a"b | a"b,c\n1,2\n
+
+# A field in quotes after plain ones, and plain ones after it.
+1 2 3 | a | a\n1\n"2"\n3\n
+2 4 6 | b | a,b\n1,2\n"3"," 4"\n5,6
+1 3 | a | a,b\n1,2\n\r\n3,"4"
+"#;
+
 #[test]
-fn finds_faults(rt: HostRuntime) {
+fn reads_columns(rt: HostRuntime) -> Result<(), Fail> {
     let alloc = rt.alloc();
-    for (text, wanted) in FAULTS {
-        assert!(rt; text.len() < 100);
-        match read_table(alloc, text) {
-            Ok(_) => assert!(rt; false),
-            Err(fault) => assert!(rt; fault == wanted),
+    for row in COLUMNS.lines() {
+        if let Some((wanted, table)) = halves(row) {
+            let (name, text) = halves(table).ok_or("a name")?;
+            let (name, text) = (unescaped(alloc, name)?, unescaped(alloc, text)?);
+            assert_eq!(rt;
+                told(alloc, &text, &name)?.as_str().trim_end(),
+                wanted,
+                "{row}"
+            );
         }
     }
+    Ok(())
+}
+
+/// The fault of a text that is no table, and the text. The record of names is number 1.
+const FAULTS: &str = r#"
+empty |
+empty | \n\r\n\n
+empty | \xEF\xBB\xBF
+row 3: unequal row | a,b\n1,2\n3\n
+row 2: unequal row | a,b\n1,2,3\n
+row 2: unequal row | a,b\n\n1\n
+row 2: not a number | a,b\n1,x\n1\n
+row 2: unequal row | a,b\n1\n1,x\n
+row 2: unequal row | a,b\nx\n
+row 3: not a number | a\n1\nx\ny\n
+row 2: not a number | a\n   \n
+row 2: not a number | a\n""\n
+row 2: not a number | a\n\n""\n
+row 2: not a number | a\n+5\n
+row 2: not a number | a\n\t5\n
+row 2: not a number | a\n- 5\n
+row 2: not a number | a\n--5\n
+row 2: not a number | a\n5 5\n
+row 2: not a number | a\n-\n
+row 2: not a number | a\n9223372036854775808\n
+row 2: not a number | a\n-9223372036854775809\n
+row 3: not a number | a\n1\n\xFF\n
+
+# A byte-order mark counts at the head alone.
+row 2: not a number | a\n\xEF\xBB\xBF7\n
+row 3: not a number | a\n1\n\n\xEF\xBB\xBF7\n
+
+# Faults after plain records.
+row 3: not a number | a,b\n1,2\n1,\n
+row 3: unequal row | a,b\n1,2\n1,2,3\n
+row 3: unequal row | a,b\n1,2\n1,2,\n
+row 4: not a number | a\n1\n"2"\nx\n
+row 3: not a number | a\n1\n"2\n3"\n
+row 2: not a number | a\n1-2\n
+row 2: not a number | a\n18446744073709551617\n
+"#;
+
+#[test]
+fn finds_faults(rt: HostRuntime) -> Result<(), Fail> {
+    let alloc = rt.alloc();
+    for row in FAULTS.lines() {
+        if let Some((wanted, text)) = halves(row) {
+            let text = unescaped(alloc, text)?;
+            assert_eq!(rt; told(alloc, &text, b"")?.as_str(), wanted, "{row}");
+        }
+    }
+    Ok(())
 }
 
 /// Each fault as it is told.

@@ -2,8 +2,10 @@ ghost use Rattle.std.specs.Prelude.{◌≤◌, length};
 
 use frame_ast::kernel::Kernel;
 use kernel_code::{KernelFault, TokenAt, check_kernel, lex, parse_kernel};
+use row_texts::{halves, unescaped};
 use std::alloc::Global;
 use std::fmt::Write;
+use std::process::Abort;
 use std::test::Fail;
 
 /// The kernel that a text begins with, or its first fault as a line and a kind.
@@ -65,162 +67,137 @@ fn repeated(
     Ok(text)
 }
 
-#[test]
-fn each_token_has_its_fault(rt: HostRuntime) -> Result<(), Fail> {
-    let rows: [(&[u8], &str); 38] = [
-        // Unknown names
-        (b"job a() { var x = y; }", "1: UnknownName"),
-        (b"job a() {\nvar x = x; }", "2: UnknownName"),
-        (b"job a() {\nvar x = index; }", "2: UnknownName"),
-        (
-            b"job a() { if 1 { var x = 1; }\nvar y = x; }",
-            "2: UnknownName",
-        ),
-        (
-            b"job a() { if 1 { var x = 1; } else {\nvar y = x; } }",
-            "2: UnknownName",
-        ),
-        (b"job a() { for k in 0..k { } }", "1: UnknownName"),
-        (
-            b"job a() { for k in 0..1 { }\nvar x = k; }",
-            "2: UnknownName",
-        ),
-        (b"job a(m: rw map) { y = remove(m, 1); }", "1: UnknownName"),
-        // Names that are taken
-        (b"job a(x: int,\nx: int) { }", "2: DuplicateName"),
-        (b"job a(x: int) { var x = 1; }", "1: DuplicateName"),
-        (
-            b"job a() { var x = 1; if 1 {\nvar x = y; } }",
-            "2: DuplicateName",
-        ),
-        (
-            b"job a() { for k in 0..1 {\nfor k in 0..1 { } } }",
-            "2: DuplicateName",
-        ),
-        // Kinds
-        (b"job a(x: ro array) { var y = x; }", "1: KindMismatch"),
-        (b"job a(x: rw stream) { }", "1: KindMismatch"),
-        (b"job a(x: wo array by 2) { }", "1: KindMismatch"),
-        (b"parallel a(x: ro array by 2) { }", "1: KindMismatch"),
-        (b"job a(s: wo stream) { write(s, 1); }", "1: KindMismatch"),
-        (
-            b"job a(s: wo stream) { begin s[0] {\nbegin s[0] { } } }",
-            "2: KindMismatch",
-        ),
-        (
-            b"job a(r: rw ref, m: rw map) { r = remove(m, 1); }",
-            "1: KindMismatch",
-        ),
-        (
-            b"job a(x: wo array by 99999999999999999999) { }",
-            "1: KindMismatch",
-        ),
-        (b"job a(n: int) { n[0] = 1; }", "1: KindMismatch"),
-        // Access
-        (
-            b"job a(x: wo array) {\nvar y = x[0]; }",
-            "2: ReadOfWriteOnly",
-        ),
-        (
-            b"job a(m: wo map) { var y = 1; y = remove(m, 1); }",
-            "1: ReadOfWriteOnly",
-        ),
-        (b"job a(x: ro array) { x[0] = 1; }", "1: WriteOfReadOnly"),
-        (b"job a(n: int) { n = 1; }", "1: WriteOfReadOnly"),
-        (
-            b"job a() { for k in 0..1 { k = 1; } }",
-            "1: WriteOfReadOnly",
-        ),
-        (
-            b"job a(m: ro map) { var y = 1; y = remove(m, 1); }",
-            "1: WriteOfReadOnly",
-        ),
-        (
-            b"job a(n: int, m: rw map) { n = try_add(m, 1, 1); }",
-            "1: WriteOfReadOnly",
-        ),
-        // Limits
-        (b"job a() { var x = 9223372036854775808; }", "1: Limit"),
-        (b"parallel a(x: wo array by 0) { }", "1: Limit"),
-        (b"parallel a(x: wo array by 1025) { }", "1: Limit"),
-        (
-            b"job z(a: int, b: int, c: int, d: int, e: int, f: int, g: int, h: int, i: int, j: int, \
-              k: int, l: int, m: int, n: int, o: int, p: int,\nq: int) { }",
-            "2: Limit",
-        ),
-        // None
-        (
-            b"job z(a: int, b: int, c: int, d: int, e: int, f: int, g: int, h: int, i: int, j: int, \
-              k: int, l: int, m: int, n: int, o: int, p: int) { }",
-            "16 and 0",
-        ),
-        (b"job a() { var x = 9223372036854775807; }", "0 and 1"),
-        (
-            b"parallel a(x: wo array by 1024) { x[index] = index; }",
-            "1 and 0",
-        ),
-        (
-            b"job a(s: wo stream) { begin s[0] { write(s, 1); } begin s[1] { } }",
-            "1 and 0",
-        ),
-        (
-            b"job a() { if 1 { var x = 1; } else { var x = 2; } var x = 3; }",
-            "0 and 3",
-        ),
-        (
-            b"job a(l: ro list, x: wo array) { for k in 0..len(x) { x[k] = l[k] + -1 * 2; } }",
-            "2 and 1",
-        ),
-    ];
-    for (source, expected) in rows {
-        if source.len() < 1000 {
-            assert_eq!(rt; outcome(rt.alloc(), source)?.as_str(), expected);
+/// Tries rows of a first fault, or of how many parameters and locals there are, and the text that they are of.
+fn try_rows(rt: &impl Abort, alloc: Global, rows: &str) -> Result<(), Fail> {
+    for row in rows.lines() {
+        if let Some((wanted, text)) = halves(row) {
+            let source = unescaped(alloc, text)?;
+            if source.len() < 1000 {
+                assert_eq!(rt; outcome(alloc, &source)?.as_str(), wanted, "{row}");
+            }
         }
     }
     Ok(())
 }
 
+const FAULTS: &str = r"
+# Unknown names
+1: UnknownName | job a() { var x = y; }
+2: UnknownName | job a() {\nvar x = x; }
+2: UnknownName | job a() {\nvar x = index; }
+2: UnknownName | job a() { if 1 { var x = 1; }\nvar y = x; }
+2: UnknownName | job a() { if 1 { var x = 1; } else {\nvar y = x; } }
+1: UnknownName | job a() { for k in 0..k { } }
+2: UnknownName | job a() { for k in 0..1 { }\nvar x = k; }
+1: UnknownName | job a(m: rw map) { y = remove(m, 1); }
+
+# Names that are taken
+2: DuplicateName | job a(x: int,\nx: int) { }
+1: DuplicateName | job a(x: int) { var x = 1; }
+2: DuplicateName | job a() { var x = 1; if 1 {\nvar x = y; } }
+2: DuplicateName | job a() { for k in 0..1 {\nfor k in 0..1 { } } }
+
+# Kinds
+1: KindMismatch | job a(x: ro array) { var y = x; }
+1: KindMismatch | job a(x: rw stream) { }
+1: KindMismatch | job a(x: wo array by 2) { }
+1: KindMismatch | parallel a(x: ro array by 2) { }
+1: KindMismatch | job a(s: wo stream) { write(s, 1); }
+2: KindMismatch | job a(s: wo stream) { begin s[0] {\nbegin s[0] { } } }
+1: KindMismatch | job a(r: rw ref, m: rw map) { r = remove(m, 1); }
+1: KindMismatch | job a(x: wo array by 99999999999999999999) { }
+1: KindMismatch | job a(n: int) { n[0] = 1; }
+
+# Access
+2: ReadOfWriteOnly | job a(x: wo array) {\nvar y = x[0]; }
+1: ReadOfWriteOnly | job a(m: wo map) { var y = 1; y = remove(m, 1); }
+1: WriteOfReadOnly | job a(x: ro array) { x[0] = 1; }
+1: WriteOfReadOnly | job a(n: int) { n = 1; }
+1: WriteOfReadOnly | job a() { for k in 0..1 { k = 1; } }
+1: WriteOfReadOnly | job a(m: ro map) { var y = 1; y = remove(m, 1); }
+1: WriteOfReadOnly | job a(n: int, m: rw map) { n = try_add(m, 1, 1); }
+
+# Limits
+1: Limit | job a() { var x = 9223372036854775808; }
+1: Limit | parallel a(x: wo array by 0) { }
+1: Limit | parallel a(x: wo array by 1025) { }
+
+# None
+0 and 1 | job a() { var x = 9223372036854775807; }
+1 and 0 | parallel a(x: wo array by 1024) { x[index] = index; }
+1 and 0 | job a(s: wo stream) { begin s[0] { write(s, 1); } begin s[1] { } }
+0 and 3 | job a() { if 1 { var x = 1; } else { var x = 2; } var x = 3; }
+2 and 1 | job a(l: ro list, x: wo array) { for k in 0..len(x) { x[k] = l[k] + -1 * 2; } }
+";
+
+const LONG_FAULTS: &str = "
+2: Limit | job z(a: int, b: int, c: int, d: int, e: int, f: int, g: int, h: int, i: int, j: int, k: int, l: \
+    int, m: int, n: int, o: int, p: int,\\nq: int) { }
+16 and 0 | job z(a: int, b: int, c: int, d: int, e: int, f: int, g: int, h: int, i: int, j: int, k: int, l: \
+    int, m: int, n: int, o: int, p: int) { }
+";
+
+#[test]
+fn each_token_has_its_fault(rt: HostRuntime) -> Result<(), Fail> {
+    try_rows(&rt, rt.alloc(), FAULTS)?;
+    try_rows(&rt, rt.alloc(), LONG_FAULTS)
+}
+
+/// The text of a row: its number, the text before the parts, the part and the text after them.
+fn text_of(alloc: Global, row: &str) -> Result<String, Fail> {
+    let (number, texts) = halves(row).ok_or("a number")?;
+    let (head, parts) = halves(texts).ok_or("a head")?;
+    let (part, tail) = halves(parts).ok_or("a part")?;
+    let (count, numbered) = match number.strip_suffix(" numbered") {
+        Some(count) => (count, true),
+        None => (number, false),
+    };
+    let count = count.parse::<u32>().ok().ok_or("a number")?;
+    let head = String::from_utf8(unescaped(alloc, head)?)
+        .ok()
+        .ok_or("a head")?;
+    let part = String::from_utf8(unescaped(alloc, part)?)
+        .ok()
+        .ok_or("a part")?;
+    let tail = String::from_utf8(unescaped(alloc, tail)?)
+        .ok()
+        .ok_or("a tail")?;
+    repeated(
+        alloc,
+        head.as_str(),
+        part.as_str(),
+        count,
+        numbered,
+        tail.as_str(),
+    )
+}
+
+const LENGTHS: &str = r"
+0 and 1 | 61 | job a() { var x =\x20 | - | 1; }
+0 and 1 | 62 | job a() { var x =\x20 | - | 1; }
+1: Limit | 63 | job a() { var x =\x20 | - | 1; }
+65: Limit | 5000 | job a() { var x = | \n- | 1; }
+0 and 1 | 62 | job a() { var x = 1 | \x20+ 1 | ; }
+1: Limit | 63 | job a() { var x = 1 | \x20+ 1 | ; }
+0 and 0 | 2048 | job a() {\x20 | if 1 { }\x20 | }
+2: Limit | 2048 | job a() {\x20 | if 1 { }\x20 | \nwhile 1 { } }
+2050: Limit | 5000 | job a() { | \nif 1 { } | \x20}
+0 and 64 | 64 numbered | job a() {\x20 | var v | }
+2: Limit | 64 numbered | job a() {\x20 | var v | \nvar w = y; }
+0 and 0 | 64 | job\x20 | a | () { }
+1: Limit | 65 | job\x20 | a | \n() { }
+";
+
 #[test]
 fn limits_are_met_at_one_more(rt: HostRuntime) -> Result<(), Fail> {
     let alloc = rt.alloc();
-    let rows: [(&str, &str, u32, bool, &str, &str); 13] = [
-        ("job a() { var x = ", "-", 61, false, "1; }", "0 and 1"),
-        ("job a() { var x = ", "-", 62, false, "1; }", "0 and 1"),
-        ("job a() { var x = ", "-", 63, false, "1; }", "1: Limit"),
-        ("job a() { var x =", "\n-", 5000, false, "1; }", "65: Limit"),
-        ("job a() { var x = 1", " + 1", 62, false, "; }", "0 and 1"),
-        ("job a() { var x = 1", " + 1", 63, false, "; }", "1: Limit"),
-        ("job a() { ", "if 1 { } ", 2048, false, "}", "0 and 0"),
-        (
-            "job a() { ",
-            "if 1 { } ",
-            2048,
-            false,
-            "\nwhile 1 { } }",
-            "2: Limit",
-        ),
-        ("job a() {", "\nif 1 { }", 5000, false, " }", "2050: Limit"),
-        ("job a() { ", "var v", 64, true, "}", "0 and 64"),
-        (
-            "job a() { ",
-            "var v",
-            64,
-            true,
-            "\nvar w = y; }",
-            "2: Limit",
-        ),
-        ("job ", "a", 64, false, "() { }", "0 and 0"),
-        ("job ", "a", 65, false, "\n() { }", "1: Limit"),
-    ];
-    for (head, part, count, numbered, tail, expected) in rows {
-        let text = repeated(alloc, head, part, count, numbered, tail)?;
-        let source = text.as_bytes();
-        if source.len() < 100_000 {
-            assert_eq!(rt;
-                outcome(alloc, source)?.as_str(),
-                expected,
-                "{head}{part} {count}"
-            );
+    for row in LENGTHS.lines() {
+        if let Some((wanted, parts)) = halves(row) {
+            let text = text_of(alloc, parts)?;
+            let source = text.as_bytes();
+            if source.len() < 100_000 {
+                assert_eq!(rt; outcome(alloc, source)?.as_str(), wanted, "{row}");
+            }
         }
     }
     Ok(())

@@ -4,8 +4,10 @@ ghost use Rattle.std.specs.Prelude.{◌≤◌, length};
 
 use frame_ast::script::{Arg, Order, Script};
 use frame_script::{LoadFault, parse_script};
+use row_texts::{halves, unescaped};
 use std::alloc::Global;
 use std::fmt::Write;
+use std::process::Abort;
 use std::test::Fail;
 
 /// The kernels that stand before each text, on three lines.
@@ -168,139 +170,83 @@ pub fn outcome(alloc: Global, source: &[u8]) -> Result<String, Fail>
     }
 }
 
-/// What a text gives behind the kernels.
-pub fn behind_kernels(alloc: Global, text: &str) -> Result<String, Fail> {
-    let mut whole = String::from_str(alloc, KERNELS)?;
-    whole.push_str(text)?;
-    let source = whole.as_bytes();
-    if source.len() < 100_000 {
-        return outcome(alloc, source);
+/// What a text gives after the kernels.
+fn after_kernels(alloc: Global, text: &[u8]) -> Result<String, Fail> {
+    let mut whole = Vec::from_slice(alloc, KERNELS.as_bytes())?;
+    whole.extend_from_slice(text)?;
+    if whole.len() < 100_000 {
+        return outcome(alloc, &whole);
     }
-    Ok(whole)
+    Ok(String::new(alloc))
 }
+
+/// Tries rows of what a text gives after the kernels, without the spaces at its end.
+pub fn try_rows(rt: &impl Abort, alloc: Global, rows: &str) -> Result<(), Fail> {
+    for row in rows.lines() {
+        if let Some((wanted, text)) = halves(row) {
+            let told = after_kernels(alloc, &unescaped(alloc, text)?)?;
+            assert_eq!(rt; told.as_str().trim_end(), wanted, "{row}");
+        }
+    }
+    Ok(())
+}
+
+const STATEMENTS: &str = r#"
+|
+| \n# nothing\n \t\r\n
+a ( -1 7 ) 4: array 0 2 TempJob Some(0); | array a 2 tempjob = -1 7
+a b 4: array 0 3 Persistent None; 5: array 1 0 Temp None; | array a 3\narray b 0 temp
+c 4: column 0 3 Persistent; | column c "p q" persistent
+l 4: list 0 1048576 Persistent; | list l 1048576
+r 4: reference 0 Temp Some(-9223372036854775808); | reference r temp = -9223372036854775808
+m 4: map 0 4096 Persistent; | map m 4096
+s 4: stream 0 65536 1024 Persistent; | stream s 65536 1024
+a b c 4: array 0 4 Persistent None; 5: slice 1 0 1 2; 6: slice 2 1 0 1; | array a 4\nslice b a 1 2\nslice c b 0 1
+l v w 4: list 0 1 Persistent; 5: view 1 0; 6: copy 2 1; | list l 1\nview v l\ncopy w v
+a 4: array 0 1 Persistent None; 5: set 0 Some(-1) 5; | array a 1\nset a -1 = 5
+r 4: reference 0 Persistent None; 5: set 0 None 5; | reference r\nset r = 5
+5: UnknownName | array a 1\nschedule h scale(a, a) 9 2 waive y after h
+l h 4: list 0 1 Persistent; 5: schedule false 1 1 0 0 defer 0 3[ ][ ]; | list l 1\nschedule h scale(l, l) defer l 3
+4: flush; 5: frame; | flush\nframe\n
+6: flush; 6: flush; 6: flush; 8: frame; | repeat 3 {\n\nflush\n}\nframe
+5: flush; 7: frame; 7: frame; 5: flush; 7: frame; 7: frame; | repeat 2 {\nflush\nrepeat 2 {\nframe\n}\n}
+r 4: reference 0 Persistent None; 6: when 0 Ne 0 0; 6: when 0 Ne 0 0; | reference r\nrepeat 2 {\nwhen r != 0 {\n}\n}
+6: KindMismatch | job late() { }\nschedule h late()\nprint h
+"#;
+
+const LONG_STATEMENTS: &str = "
+l 4: list 0 1 Persistent; 5: add 0 5 None; 6: remove 0 0; 7: clear 0; 8: setcapacity 0 2; \
+    | list l 1\\nadd l 5\\nremove l 0\\nclear l\\nsetcapacity l 2
+m 4: map 0 1 Persistent; 5: add 0 5 Some(6); 6: put 0 -5 7; 7: remove 0 5; 8: clear 0; \
+    | map m 1\\nadd m 5 6\\nput m -5 7\\nremove m 5\\nclear m
+a h 4: array 0 1 Persistent None; 5: schedule false 1 0 0 =-3[ ][ ]; 6: complete 1; 7: print 0; \
+    | array a 1\\nschedule h fill(a, -3)\\ncomplete h\\nprint a
+a g h 4: array 0 1 Persistent None; 5: combine 1[ ]; 6: schedule true 2 1 0 0 cut 9 2[ 1 ][ 1 1 ]; \
+    | array a 1\\ncombine g\\nschedule auto h scale(a, a) 9 2 waive y after g g
+l r m s h 4: list 0 1 Persistent; 5: reference 1 Persistent None; 6: map 2 1 Persistent; \
+    7: stream 3 1 1 Persistent; 8: schedule false 4 2 0 1 2 3[ ][ ]; \
+    | list l 1\\nreference r\\nmap m 1\\nstream s 1 1\\nschedule h each(l, r, m, s)
+a d e 4: array 0 1 Persistent None; 5: complete auto 0; 6: dispose auto 0 1; 7: dispose 0[ ]None; \
+    8: dispose 0[ 1 1 ]Some(2); 9: combine 1[ 2 ]; \
+    | array a 1\\ncomplete auto a\\ndispose auto a as d\\ndispose a\\ndispose a after d d as e\\ncombine d e
+a b ( 3 ) ( 4 ) 5: array 0 1 Persistent Some(0); 5: array 0 1 Persistent Some(0); \
+    7: array 1 1 Persistent Some(1); | repeat 2 {\\narray a 1 = 3\\n}\\narray b 1 = 4
+r l 4: reference 0 Persistent None; 5: when 0 Le -2 3; 7: flush; 7: flush; 9: list 1 1 Persistent; \
+    11: print 1; | reference r\\nwhen r <= -2 {\\nrepeat 2 {\\nflush\\n}\\nlist l 1\\n}\\nprint l
+r 4: reference 0 Persistent None; 6: when 0 Eq 0 3; 8: flush; 8: flush; 8: flush; 6: when 0 Eq 0 3; \
+    8: flush; 8: flush; 8: flush; 12: frame; | reference r\\nrepeat 2 {\\nwhen r == 0 {\\nrepeat 3 {\\n\
+    flush\\n}\\n}\\n}\\nframe
+a g h d e 4: array 0 1 Persistent None; 5: combine 1[ ]; 7: schedule false 2 1 0 0 cut 9 2[ 1 ][ 1 1 ]; \
+    8: combine 3[ 1 2 ]; 9: dispose 0[ 3 ]Some(4); 7: schedule false 2 1 0 0 cut 9 2[ 1 ][ 1 1 ]; \
+    8: combine 3[ 1 2 ]; 9: dispose 0[ 3 ]Some(4); \
+    | array a 1\\ncombine g\\nrepeat 2 {\\nschedule h scale(a, a) 9 2 waive y after g g\\ncombine d g h\\n\
+    dispose a after d as e\\n}
+";
 
 #[test]
 fn each_statement_is_read(rt: HostRuntime) -> Result<(), Fail> {
-    let alloc = rt.alloc();
-    let rows: [(&str, &str); 30] = [
-        ("", ""),
-        ("\n# nothing\n \t\r\n", ""),
-        (
-            "array a 2 tempjob = -1 7",
-            "a ( -1 7 ) 4: array 0 2 TempJob Some(0); ",
-        ),
-        (
-            "array a 3\narray b 0 temp",
-            "a b 4: array 0 3 Persistent None; 5: array 1 0 Temp None; ",
-        ),
-        (
-            "column c \"p q\" persistent",
-            "c 4: column 0 3 Persistent; ",
-        ),
-        ("list l 1048576", "l 4: list 0 1048576 Persistent; "),
-        (
-            "reference r temp = -9223372036854775808",
-            "r 4: reference 0 Temp Some(-9223372036854775808); ",
-        ),
-        ("map m 4096", "m 4: map 0 4096 Persistent; "),
-        (
-            "stream s 65536 1024",
-            "s 4: stream 0 65536 1024 Persistent; ",
-        ),
-        (
-            "array a 4\nslice b a 1 2\nslice c b 0 1",
-            "a b c 4: array 0 4 Persistent None; 5: slice 1 0 1 2; 6: slice 2 1 0 1; ",
-        ),
-        (
-            "list l 1\nview v l\ncopy w v",
-            "l v w 4: list 0 1 Persistent; 5: view 1 0; 6: copy 2 1; ",
-        ),
-        (
-            "array a 1\nset a -1 = 5",
-            "a 4: array 0 1 Persistent None; 5: set 0 Some(-1) 5; ",
-        ),
-        (
-            "reference r\nset r = 5",
-            "r 4: reference 0 Persistent None; 5: set 0 None 5; ",
-        ),
-        (
-            "list l 1\nadd l 5\nremove l 0\nclear l\nsetcapacity l 2",
-            "l 4: list 0 1 Persistent; 5: add 0 5 None; 6: remove 0 0; 7: clear 0; 8: setcapacity 0 2; ",
-        ),
-        (
-            "map m 1\nadd m 5 6\nput m -5 7\nremove m 5\nclear m",
-            "m 4: map 0 1 Persistent; 5: add 0 5 Some(6); 6: put 0 -5 7; 7: remove 0 5; 8: clear 0; ",
-        ),
-        (
-            "array a 1\nschedule h fill(a, -3)\ncomplete h\nprint a",
-            "a h 4: array 0 1 Persistent None; 5: schedule false 1 0 0 =-3[ ][ ]; 6: complete 1; 7: print 0; ",
-        ),
-        (
-            "array a 1\nschedule h scale(a, a) 9 2 waive y after h",
-            "5: UnknownName",
-        ),
-        (
-            "array a 1\ncombine g\nschedule auto h scale(a, a) 9 2 waive y after g g",
-            "a g h 4: array 0 1 Persistent None; 5: combine 1[ ]; 6: schedule true 2 1 0 0 cut 9 2[ 1 ][ 1 1 ]; ",
-        ),
-        (
-            "list l 1\nschedule h scale(l, l) defer l 3",
-            "l h 4: list 0 1 Persistent; 5: schedule false 1 1 0 0 defer 0 3[ ][ ]; ",
-        ),
-        (
-            "list l 1\nreference r\nmap m 1\nstream s 1 1\nschedule h each(l, r, m, s)",
-            "l r m s h 4: list 0 1 Persistent; 5: reference 1 Persistent None; 6: map 2 1 Persistent; 7: stream 3 1 1 \
-             Persistent; 8: schedule false 4 2 0 1 2 3[ ][ ]; ",
-        ),
-        (
-            "array a 1\ncomplete auto a\ndispose auto a as d\ndispose a\ndispose a after d d as e\ncombine d e",
-            "a d e 4: array 0 1 Persistent None; 5: complete auto 0; 6: dispose auto 0 1; 7: dispose 0[ ]None; 8: \
-             dispose 0[ 1 1 ]Some(2); 9: combine 1[ 2 ]; ",
-        ),
-        ("flush\nframe\n", "4: flush; 5: frame; "),
-        (
-            "repeat 3 {\n\nflush\n}\nframe",
-            "6: flush; 6: flush; 6: flush; 8: frame; ",
-        ),
-        (
-            "repeat 2 {\nflush\nrepeat 2 {\nframe\n}\n}",
-            "5: flush; 7: frame; 7: frame; 5: flush; 7: frame; 7: frame; ",
-        ),
-        (
-            "repeat 2 {\narray a 1 = 3\n}\narray b 1 = 4",
-            "a b ( 3 ) ( 4 ) 5: array 0 1 Persistent Some(0); 5: array 0 1 Persistent Some(0); 7: array 1 1 \
-             Persistent Some(1); ",
-        ),
-        (
-            "reference r\nwhen r <= -2 {\nrepeat 2 {\nflush\n}\nlist l 1\n}\nprint l",
-            "r l 4: reference 0 Persistent None; 5: when 0 Le -2 3; 7: flush; 7: flush; 9: list 1 1 Persistent; 11: \
-             print 1; ",
-        ),
-        (
-            "reference r\nrepeat 2 {\nwhen r != 0 {\n}\n}",
-            "r 4: reference 0 Persistent None; 6: when 0 Ne 0 0; 6: when 0 Ne 0 0; ",
-        ),
-        (
-            "reference r\nrepeat 2 {\nwhen r == 0 {\nrepeat 3 {\nflush\n}\n}\n}\nframe",
-            "r 4: reference 0 Persistent None; 6: when 0 Eq 0 3; 8: flush; 8: flush; 8: flush; \
-             6: when 0 Eq 0 3; 8: flush; 8: flush; 8: flush; 12: frame; ",
-        ),
-        (
-            "array a 1\ncombine g\nrepeat 2 {\nschedule h scale(a, a) 9 2 waive y after g g\ncombine d g h\n\
-             dispose a after d as e\n}",
-            "a g h d e 4: array 0 1 Persistent None; 5: combine 1[ ]; \
-             7: schedule false 2 1 0 0 cut 9 2[ 1 ][ 1 1 ]; 8: combine 3[ 1 2 ]; 9: dispose 0[ 3 ]Some(4); \
-             7: schedule false 2 1 0 0 cut 9 2[ 1 ][ 1 1 ]; 8: combine 3[ 1 2 ]; 9: dispose 0[ 3 ]Some(4); ",
-        ),
-        (
-            "job late() { }\nschedule h late()\nprint h",
-            "6: KindMismatch",
-        ),
-    ];
-    for (text, expected) in rows {
-        assert_eq!(rt; behind_kernels(alloc, text)?.as_str(), expected, "{text}");
-    }
-    Ok(())
+    try_rows(&rt, rt.alloc(), STATEMENTS)?;
+    try_rows(&rt, rt.alloc(), LONG_STATEMENTS)
 }
 
 #[test]

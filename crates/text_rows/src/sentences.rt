@@ -1,10 +1,12 @@
 ghost use Rattle.std.specs.Prelude.{◌<◌, length};
 ghost use Rattle.frame_grammar.specs.Sentences.{IsStart};
 
-use frame_grammar::Nonterminal;
-use frame_grammar::TokenKind::{self, *};
+use frame_grammar::{Nonterminal, TokenKind};
 use frame_parser::{ParseError, parse};
+use kernel_code::lex;
+use row_texts::{halves, unescaped};
 use std::alloc::Global;
+use std::process::Abort;
 use std::test::Fail;
 
 /// Where a fault is.
@@ -21,85 +23,74 @@ fn read(alloc: Global, start: Nonterminal, kinds: &[TokenKind]) -> Result<Result
     requires few { length kinds.now < 1000 }
 {
     let mut tokens = kinds.to_vec(alloc)?;
-    tokens.push(End)?;
+    tokens.push(TokenKind::End)?;
     match parse(alloc, start, tokens.as_slice()) {
         Ok(sentence) => Ok(Ok(sentence.read)),
         Err(error) => Ok(Err(place_of(error))),
     }
 }
 
-#[test]
-fn files_are_read_to_their_end(rt: HostRuntime) -> Result<(), Fail> {
-    let rows: [(&[TokenKind], Result<u32, u32>); 12] = [
-        (&[], Ok(1)),
-        (&[Line, Flush, Line], Ok(4)),
-        (&[Flush, Flush], Err(1)),
-        (
-            &[Array, Name, Number, Temp, Assign, Minus, Number, Number],
-            Ok(9),
-        ),
-        (&[Array, Name, Number, Assign, Line], Err(4)),
-        (
-            &[
-                Schedule, Auto, Name, Name, OpenParen, CloseParen, Defer, Name, Number, Waive,
-                Name, After, Name, Name,
-            ],
-            Ok(15),
-        ),
-        (&[Dispose, Auto, Name, As, Name], Ok(6)),
-        (&[Dispose, Name, After, Name], Err(4)),
-        (
-            &[
-                When, Name, LessEqual, Minus, Number, OpenBrace, Line, Frame, Line, CloseBrace,
-            ],
-            Ok(11),
-        ),
-        (&[Repeat, Number, OpenBrace, Frame], Err(3)),
-        (&[Print, Name, Bad], Err(2)),
-        (
-            &[
-                Job, Line, Name, OpenParen, CloseParen, OpenBrace, Line, CloseBrace, Line,
-            ],
-            Ok(10),
-        ),
-    ];
-    for (kinds, expected) in rows {
-        if kinds.len() < 1000 {
-            assert_eq!(rt; read(rt.alloc(), Nonterminal::File, kinds)?, expected);
+/// The kinds of the tokens of a small file, without its end.
+fn kinds_in(alloc: Global, source: &[u8]) -> Result<Vec<TokenKind>, Fail> {
+    let mut kinds = Vec::new(alloc);
+    if source.len() <= 1000 {
+        for mark in lex(alloc, source)? {
+            kinds.push(mark.kind())?;
+        }
+    }
+    let _end = kinds.pop();
+    Ok(kinds)
+}
+
+/// Tries rows of how many tokens a sentence has, its end with them, or at which one its fault is, and the text whose
+/// tokens it is.
+fn try_rows(rt: &impl Abort, alloc: Global, start: Nonterminal, rows: &str) -> Result<(), Fail>
+    requires start { IsStart start }
+{
+    for row in rows.lines() {
+        if let Some((wanted, text)) = halves(row) {
+            let kinds = kinds_in(alloc, &unescaped(alloc, text)?)?;
+            if kinds.len() < 1000 {
+                let told = match read(alloc, start, &kinds)? {
+                    Ok(count) => format!(in alloc; "{count}")?,
+                    Err(place) => format!(in alloc; "fault {place}")?,
+                };
+                assert_eq!(rt; told.as_str(), wanted, "{row}");
+            }
         }
     }
     Ok(())
 }
 
+const FILES: &str = r"
+1 |
+4 | \nflush\n
+fault 1 | flush flush
+9 | array a 3 temp = -1 2
+fault 4 | array a 3 =\n
+15 | schedule auto h k() defer l 3 waive y after g h
+6 | dispose auto a as d
+fault 4 | dispose a after h
+11 | when r <= -2 {\nframe\n}
+fault 3 | repeat 2 { frame
+fault 2 | print x $
+10 | job\nk() {\n}\n
+";
+
+#[test]
+fn files_are_read_to_their_end(rt: HostRuntime) -> Result<(), Fail> {
+    try_rows(&rt, rt.alloc(), Nonterminal::File, FILES)
+}
+
+const KERNELS: &str = r"
+6 | job k() { }\n$
+12 | parallel k(x: rw array by 4) { }
+fault 7 | job k(x: rw list by
+fault 9 | job k() { if 1 < 2 <
+fault 5 | job k() {
+";
+
 #[test]
 fn a_kernel_is_read_to_its_last_brace(rt: HostRuntime) -> Result<(), Fail> {
-    let rows: [(&[TokenKind], Result<u32, u32>); 5] = [
-        (
-            &[
-                Job, Name, OpenParen, CloseParen, OpenBrace, CloseBrace, Line, Bad,
-            ],
-            Ok(6),
-        ),
-        (
-            &[
-                Parallel, Name, OpenParen, Name, Colon, Rw, Array, By, Number, CloseParen,
-                OpenBrace, CloseBrace,
-            ],
-            Ok(12),
-        ),
-        (&[Job, Name, OpenParen, Name, Colon, Rw, List, By], Err(7)),
-        (
-            &[
-                Job, Name, OpenParen, CloseParen, OpenBrace, If, Number, Less, Number, Less,
-            ],
-            Err(9),
-        ),
-        (&[Job, Name, OpenParen, CloseParen, OpenBrace], Err(5)),
-    ];
-    for (kinds, expected) in rows {
-        if kinds.len() < 1000 {
-            assert_eq!(rt; read(rt.alloc(), Nonterminal::Kernel, kinds)?, expected);
-        }
-    }
-    Ok(())
+    try_rows(&rt, rt.alloc(), Nonterminal::Kernel, KERNELS)
 }

@@ -1,6 +1,8 @@
 use kernel_code::{TokenAt, lex, line_at};
+use row_texts::{halves, unescaped};
 use std::alloc::Global;
 use std::fmt::Write;
+use std::process::Abort;
 use std::test::Fail;
 
 /// The tokens of a small file as a text, each with its kind, its span and its line.
@@ -17,7 +19,10 @@ fn tokens_in(alloc: Global, source: &[u8]) -> Result<String, Fail> {
         let (kind, start) = (mark.kind(), mark.start() as usize);
         let end = start + mark.text(source).len();
         let line = line_at(&marks, 1, TokenAt::of(at as u32));
-        write!(text, "{kind:?} {start}-{end} {line}, ")?;
+        if at > 0 {
+            text.push_str(", ")?;
+        }
+        write!(text, "{kind:?} {start}-{end} {line}")?;
     }
     Ok(text)
 }
@@ -34,106 +39,88 @@ fn kinds_in(alloc: Global, source: &[u8]) -> Result<String, Fail> {
     Ok(text)
 }
 
-#[test]
-fn tokens_have_kinds_spans_and_lines(rt: HostRuntime) -> Result<(), Fail> {
-    let rows: [(&[u8], &str); 28] = [
-        (b"", "End 0-0 1, "),
-        (b"x", "Name 0-1 1, End 1-1 1, "),
-        (b"x\n", "Name 0-1 1, Line 1-2 1, End 2-2 2, "),
-        (b"\n\n", "Line 0-1 1, Line 1-2 2, End 2-2 3, "),
-        (
-            b"a\r\n\tb",
-            "Name 0-1 1, Line 2-3 1, Name 4-5 2, End 5-5 2, ",
-        ),
-        (b"\xEF\xBB\xBFx", "Name 3-4 1, End 4-4 1, "),
-        (b"\xEF\xBB", "Bad 0-1 1, End 1-1 1, "),
-        (b"x\xEF\xBB\xBF", "Name 0-1 1, Bad 1-2 1, End 2-2 1, "),
-        (b"# \xFF \"= job", "End 10-10 1, "),
-        (b"#\n#", "Line 1-2 1, End 3-3 2, "),
-        (
-            b"a<=b",
-            "Name 0-1 1, LessEqual 1-3 1, Name 3-4 1, End 4-4 1, ",
-        ),
-        (b"===", "Equal 0-2 1, Assign 2-3 1, End 3-3 1, "),
-        (b"!==", "NotEqual 0-2 1, Assign 2-3 1, End 3-3 1, "),
-        (
-            b"1..2",
-            "Number 0-1 1, DotDot 1-3 1, Number 3-4 1, End 4-4 1, ",
-        ),
-        (b"&|.", "Bad 0-1 1, End 1-1 1, "),
-        (b"|.&", "Bad 0-1 1, End 1-1 1, "),
-        (b".&|", "Bad 0-1 1, End 1-1 1, "),
-        (
-            b"&&..||",
-            "AndAnd 0-2 1, DotDot 2-4 1, OrOr 4-6 1, End 6-6 1, ",
-        ),
-        (
-            b"&&&&&",
-            "AndAnd 0-2 1, AndAnd 2-4 1, Bad 4-5 1, End 5-5 1, ",
-        ),
-        (b"...", "DotDot 0-2 1, Bad 2-3 1, End 3-3 1, "),
-        (b"|||", "OrOr 0-2 1, Bad 2-3 1, End 3-3 1, "),
-        (
-            b"x\n\n$ y\n",
-            "Name 0-1 1, Line 1-2 1, Line 2-3 2, Bad 3-4 3, End 4-4 3, ",
-        ),
-        (b"4temp", "Number 0-1 1, Temp 1-5 1, End 5-5 1, "),
-        (b"3{", "Number 0-1 1, OpenBrace 1-2 1, End 2-2 1, "),
-        (
-            b"_a1 jobs Job",
-            "Name 0-3 1, Name 4-8 1, Name 9-12 1, End 12-12 1, ",
-        ),
-        (b"\x00~\x7F", "Bad 0-1 1, End 1-1 1, "),
-        (b"~\x7F\x00", "Bad 0-1 1, End 1-1 1, "),
-        (b"\x7F\x00~", "Bad 0-1 1, End 1-1 1, "),
-    ];
-    for (source, expected) in rows {
-        assert_eq!(rt; tokens_in(rt.alloc(), source)?.as_str(), expected);
+/// Tries rows of tokens and the file that they are of.
+fn try_rows(rt: &impl Abort, alloc: Global, rows: &str) -> Result<(), Fail> {
+    for row in rows.lines() {
+        if let Some((wanted, text)) = halves(row) {
+            let source = unescaped(alloc, text)?;
+            assert_eq!(rt; tokens_in(alloc, &source)?.as_str(), wanted, "{row}");
+        }
     }
     Ok(())
 }
+
+const FILES: &str = r#"
+End 0-0 1 |
+Name 0-1 1, End 1-1 1 | x
+Name 0-1 1, Line 1-2 1, End 2-2 2 | x\n
+Line 0-1 1, Line 1-2 2, End 2-2 3 | \n\n
+Name 0-1 1, Line 2-3 1, Name 4-5 2, End 5-5 2 | a\r\n\tb
+Name 3-4 1, End 4-4 1 | \xEF\xBB\xBFx
+Bad 0-1 1, End 1-1 1 | \xEF\xBB
+Name 0-1 1, Bad 1-2 1, End 2-2 1 | x\xEF\xBB\xBF
+End 10-10 1 | # \xFF "= job
+Line 1-2 1, End 3-3 2 | #\n#
+Name 0-1 1, LessEqual 1-3 1, Name 3-4 1, End 4-4 1 | a<=b
+Equal 0-2 1, Assign 2-3 1, End 3-3 1 | ===
+NotEqual 0-2 1, Assign 2-3 1, End 3-3 1 | !==
+Number 0-1 1, DotDot 1-3 1, Number 3-4 1, End 4-4 1 | 1..2
+Bad 0-1 1, End 1-1 1 | &|.
+Bad 0-1 1, End 1-1 1 | |.&
+Bad 0-1 1, End 1-1 1 | .&|
+AndAnd 0-2 1, DotDot 2-4 1, OrOr 4-6 1, End 6-6 1 | &&..||
+AndAnd 0-2 1, AndAnd 2-4 1, Bad 4-5 1, End 5-5 1 | &&&&&
+DotDot 0-2 1, Bad 2-3 1, End 3-3 1 | ...
+OrOr 0-2 1, Bad 2-3 1, End 3-3 1 | |||
+Name 0-1 1, Line 1-2 1, Line 2-3 2, Bad 3-4 3, End 4-4 3 | x\n\n$ y\n
+Number 0-1 1, Temp 1-5 1, End 5-5 1 | 4temp
+Number 0-1 1, OpenBrace 1-2 1, End 2-2 1 | 3{
+Name 0-3 1, Name 4-8 1, Name 9-12 1, End 12-12 1 | _a1 jobs Job
+Bad 0-1 1, End 1-1 1 | \x00~\x7F
+Bad 0-1 1, End 1-1 1 | ~\x7F\x00
+Bad 0-1 1, End 1-1 1 | \x7F\x00~
+"#;
+
+#[test]
+fn tokens_have_kinds_spans_and_lines(rt: HostRuntime) -> Result<(), Fail> {
+    try_rows(&rt, rt.alloc(), FILES)
+}
+
+const TEXTS: &str = r#"
+Text 0-5 1, End 5-5 1 | " ~#"
+Text 0-3 1, Text 3-6 1, End 6-6 1 | "a""b"
+Bad 0-1 1, End 1-1 1 | ""
+Bad 0-1 1, End 1-1 1 | "a
+Bad 0-1 1, End 1-1 1 | "a\n"
+Bad 0-1 1, End 1-1 1 | "a\tb"
+Bad 0-1 1, End 1-1 1 | "a\xC3\xA4"
+"#;
 
 #[test]
 fn texts_are_closed_and_printable(rt: HostRuntime) -> Result<(), Fail> {
-    let rows: [(&[u8], &str); 7] = [
-        (b"\" ~#\"", "Text 0-5 1, End 5-5 1, "),
-        (b"\"a\"\"b\"", "Text 0-3 1, Text 3-6 1, End 6-6 1, "),
-        (b"\"\"", "Bad 0-1 1, End 1-1 1, "),
-        (b"\"a", "Bad 0-1 1, End 1-1 1, "),
-        (b"\"a\n\"", "Bad 0-1 1, End 1-1 1, "),
-        (b"\"a\tb\"", "Bad 0-1 1, End 1-1 1, "),
-        (b"\"a\xC3\xA4\"", "Bad 0-1 1, End 1-1 1, "),
-    ];
-    for (source, expected) in rows {
-        assert_eq!(rt; tokens_in(rt.alloc(), source)?.as_str(), expected);
-    }
-    Ok(())
+    try_rows(&rt, rt.alloc(), TEXTS)
 }
+
+const WORDS: &str = "
+OpenBrace CloseBrace OpenParen CloseParen OpenBracket CloseBracket Comma Semicolon Colon Assign Equal \
+    NotEqual Less LessEqual Greater GreaterEqual Plus Minus Star Slash Percent Not AndAnd OrOr DotDot End \
+    | { } ( ) [ ] , ; : = == != < <= > >= + - * / % ! && || ..
+Job Parallel Ro Wo Rw Int Array List Ref Map Stream By Var If Else For In While Begin Write Add Remove Clear \
+    TryAdd Len Has Count At Index End | job parallel ro wo rw int array list ref map stream by var if else \
+    for in while begin write add remove clear try_add len has count at index
+Column Reference Slice View Copy Set Put SetCapacity Schedule Waive After Combine Complete Dispose As Print \
+    Flush Repeat Frame Temp TempJob Persistent Defer Auto When End \
+    | column reference slice view copy set put setcapacity schedule waive after combine complete dispose as \
+    print flush repeat frame temp tempjob persistent defer auto when
+";
 
 #[test]
 fn each_symbol_and_reserved_word_has_its_kind(rt: HostRuntime) -> Result<(), Fail> {
-    let rows: [(&[u8], &str); 3] = [
-        (
-            b"{ } ( ) [ ] , ; : = == != < <= > >= + - * / % ! && || ..",
-            "OpenBrace CloseBrace OpenParen CloseParen OpenBracket CloseBracket Comma Semicolon Colon \
-             Assign Equal NotEqual Less LessEqual Greater GreaterEqual Plus Minus Star Slash Percent \
-             Not AndAnd OrOr DotDot End ",
-        ),
-        (
-            b"job parallel ro wo rw int array list ref map stream by var if else for in while begin \
-              write add remove clear try_add len has count at index",
-            "Job Parallel Ro Wo Rw Int Array List Ref Map Stream By Var If Else For In While Begin \
-             Write Add Remove Clear TryAdd Len Has Count At Index End ",
-        ),
-        (
-            b"column reference slice view copy set put setcapacity schedule waive after combine \
-              complete dispose as print flush repeat frame temp tempjob persistent defer auto when",
-            "Column Reference Slice View Copy Set Put SetCapacity Schedule Waive After Combine \
-             Complete Dispose As Print Flush Repeat Frame Temp TempJob Persistent Defer Auto When End ",
-        ),
-    ];
-    for (source, expected) in rows {
-        assert_eq!(rt; kinds_in(rt.alloc(), source)?.as_str(), expected);
+    for row in WORDS.lines() {
+        if let Some((wanted, text)) = halves(row) {
+            let kinds = kinds_in(rt.alloc(), text.as_bytes())?;
+            assert_eq!(rt; kinds.as_str().trim_end(), wanted, "{row}");
+        }
     }
     Ok(())
 }

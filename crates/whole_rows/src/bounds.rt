@@ -1,6 +1,7 @@
 // Hostile texts, and texts at their limits and one past them. Each is a whole file.
 
 use crate::frames::{Given, difference_at};
+use crate::texts::{row_of, unescaped};
 use std::alloc::Global;
 use std::sync::Wait;
 use std::test::Fail;
@@ -38,66 +39,43 @@ fn check<R: Threads + Wait + Sync + AllocGlobal>(
     difference_at(rt, "4", &["s"], &given, status, text)
 }
 
+const SHORT_TEXTS: &str = r"3 script refused line 1: limit\n | array a 9223372036854775808
+3 script refused line 2: kind mismatch\n | array a 1\nlist a 1
+3 script refused line 1: unknown name\n | print x
+3 script refused line 1: read of write-only\n | job f(a: wo array) { a[0] = a[0]; }
+3 script refused line 1: write of read-only\n | job f(a: ro array) { a[0] = 1; }
+3 script refused line 1: duplicate name\n | job f(i: int, i: int) { }
+3 script refused line 1: limit\n | parallel over(a: wo array by 0) { a[index * 2] = 7; }
+0 | parallel over(a: wo array by 1024) { a[index * 2] = 7; }
+3 script refused line 1: limit\n | parallel over(a: wo array by 1025) { a[index * 2] = 7; }
+0 | repeat 8 {\narray a 1048576\ndispose a\n}\n
+9 limit: words\n | repeat 8 {\narray a 1048576\ndispose a\n}\narray b 1\n
+";
+
+// A kernel without an end.
+const SPINS: &str = "job spin(a: rw array) { a[0] = 1; while 1 { } }
+array a 1
+schedule h spin(a)
+complete h
+print a
+";
+
 #[test]
 fn short_texts(rt: HostRuntime) -> Result<(), Fail> {
-    let rows: [(&[u8], u8, &str); 13] = [
-        (b"\xFF", 3, "script refused line 1: syntax\n"),
-        (
-            b"array a 9223372036854775808",
-            3,
-            "script refused line 1: limit\n",
-        ),
-        (
-            b"array a 1\nlist a 1",
-            3,
-            "script refused line 2: kind mismatch\n",
-        ),
-        (b"print x", 3, "script refused line 1: unknown name\n"),
-        (
-            b"job f(a: wo array) { a[0] = a[0]; }",
-            3,
-            "script refused line 1: read of write-only\n",
-        ),
-        (
-            b"job f(a: ro array) { a[0] = 1; }",
-            3,
-            "script refused line 1: write of read-only\n",
-        ),
-        (
-            b"job f(i: int, i: int) { }",
-            3,
-            "script refused line 1: duplicate name\n",
-        ),
-        (
-            b"parallel over(a: wo array by 0) { a[index * 2] = 7; }",
-            3,
-            "script refused line 1: limit\n",
-        ),
-        (
-            b"parallel over(a: wo array by 1024) { a[index * 2] = 7; }",
-            0,
-            "",
-        ),
-        (
-            b"parallel over(a: wo array by 1025) { a[index * 2] = 7; }",
-            3,
-            "script refused line 1: limit\n",
-        ),
-        (b"repeat 8 {\narray a 1048576\ndispose a\n}\n", 0, ""),
-        (
-            b"repeat 8 {\narray a 1048576\ndispose a\n}\narray b 1\n",
-            9,
-            "limit: words\n",
-        ),
-        (
-            b"job spin(a: rw array) { a[0] = 1; while 1 { } }\narray a 1\nschedule h spin(a)\ncomplete h\nprint a\n",
-            5,
-            "a = [1]\ntrap job 1 index 0: budget\ntraps 1\n",
-        ),
-    ];
-    for (script, status, text) in rows {
-        assert_eq!(rt; check(&rt, script, status, text)?, None, "{text}");
+    let alloc = rt.alloc();
+    for row in SHORT_TEXTS.lines() {
+        let (status, text, script) = row_of(alloc, row)?;
+        let script = unescaped(alloc, script)?;
+        assert_eq!(rt;
+            check(&rt, script.as_bytes(), status, &text)?,
+            None,
+            "{row}"
+        );
     }
+    let syntax = "script refused line 1: syntax\n";
+    assert_eq!(rt; check(&rt, b"\xFF", 3, syntax)?, None, "{syntax}");
+    let budget = "a = [1]\ntrap job 1 index 0: budget\ntraps 1\n";
+    assert_eq!(rt; check(&rt, SPINS.as_bytes(), 5, budget)?, None, "{budget}");
     Ok(())
 }
 

@@ -1,9 +1,12 @@
 // Frames whose files or sink fail.
 
 use crate::frames::{Given, WORKERS, difference, status_of, with_kernels};
+use crate::texts::row_of;
 use frame_rows::texts::TOTAL;
 use job_base::{CountingGate, MemSink, OpenGate, PieceId};
+use std::sync::Wait;
 use std::test::Fail;
+use std::thread::Threads;
 
 const TRIPLE: &str =
     "job triple(x: ro array, y: wo array) { for k in 0..len(x) { y[k] = x[k] * 3; } }
@@ -14,31 +17,45 @@ complete h
 print y
 ";
 
-// A sink that takes a byte at each write fails at each write in turn, and not at all.
-#[test]
-fn writes_that_fail(rt: HostRuntime) -> Result<(), Fail> {
+// What is left of a script's output at each number of workers, if something else is: a sink that takes a byte at each
+// write fails at the write of this number.
+fn difference_after<R: Threads + Wait + Sync + AllocGlobal>(
+    rt: &R,
+    script: &str,
+    row: &str,
+) -> Result<Option<String>, Fail> {
     let alloc = rt.alloc();
-    let total = with_kernels(alloc, TOTAL)?;
-    let rows: [(&str, u64, u8, &str); 9] = [
-        (&total, 0, 7, ""),
-        (&total, 1, 7, "t"),
-        (&total, 2, 7, "t "),
-        (&total, 3, 7, "t ="),
-        (&total, 4, 7, "t = "),
-        (&total, 5, 7, "t = 3"),
-        (&total, 6, 7, "t = 30"),
-        (&total, 7, 0, "t = 30\n"),
-        (TRIPLE, 2, 7, "y "),
-    ];
-    for (script, failing, status, text) in rows {
-        let given = Given::script(script);
-        for workers in WORKERS {
-            let mut sink = MemSink::new(alloc, 100, 1, vec![in alloc; failing]?)?;
-            let got = status_of(&rt, workers, &["s"], &given, &mut sink, &OpenGate)?;
-            assert_eq!(rt; got, status, "{failing}");
-            assert_eq!(rt; sink.bytes(), text.as_bytes());
+    let (status, text, failing) = row_of(alloc, row)?;
+    let failing = failing.parse::<u64>().ok().ok_or("no number")?;
+    let given = Given::script(script);
+    for workers in WORKERS {
+        let mut sink = MemSink::new(alloc, 100, 1, vec![in alloc; failing]?)?;
+        let got = status_of(rt, workers, &["s"], &given, &mut sink, &OpenGate)?;
+        if got != status || sink.bytes() != text.as_bytes() {
+            return Ok(Some(format!(in alloc; "status {} and {:?}", got, sink.bytes())?));
         }
     }
+    Ok(None)
+}
+
+const FAILING_WRITES: &str = r"7 | 0
+7 t | 1
+7 t  | 2
+7 t = | 3
+7 t =  | 4
+7 t = 3 | 5
+7 t = 30 | 6
+0 t = 30\n | 7
+";
+
+// Each write in turn, and none.
+#[test]
+fn writes_that_fail(rt: HostRuntime) -> Result<(), Fail> {
+    let total = with_kernels(rt.alloc(), TOTAL)?;
+    for row in FAILING_WRITES.lines() {
+        assert_eq!(rt; difference_after(&rt, &total, row)?, None, "{row}");
+    }
+    assert_eq!(rt; difference_after(&rt, TRIPLE, "7 y  | 2")?, None);
     Ok(())
 }
 

@@ -28,6 +28,15 @@ impl<'a> Given<'a> {
             failing: &[],
         }
     }
+
+    /// A script and a table, both of which can be read.
+    pub fn both(script: &'a str, table: &'a str) -> Given<'a> {
+        Given {
+            script: script.as_bytes(),
+            table: table.as_bytes(),
+            failing: &[],
+        }
+    }
 }
 
 /// The worked kernels, and then these lines.
@@ -48,6 +57,38 @@ fn files_of(alloc: Global, given: &Given) -> Result<MemFiles, Fail> {
     Ok(files.ok().ok_or("memory")?)
 }
 
+/// The status of a command line.
+pub fn answer<R: Threads + Wait + Sync + AllocGlobal, G: Gate + Sync>(
+    rt: &R,
+    words: &[&str],
+    given: &Given,
+    sink: &mut MemSink,
+    gate: &G,
+) -> Result<u8, Fail> {
+    let alloc = rt.alloc();
+    let mut all = Vec::new(alloc);
+    for word in words {
+        all.push(String::from_str(alloc, *word)?)?;
+    }
+    let mut files = files_of(alloc, given)?;
+    Ok(run_frame(rt, alloc, &all, &mut files, sink, gate))
+}
+
+// The words of a command line with so many workers.
+fn with_workers<'a>(
+    alloc: Global,
+    workers: &'a str,
+    words: &[&'a str],
+) -> Result<Vec<&'a str>, Fail> {
+    let mut all = Vec::new(alloc);
+    all.push("--workers")?;
+    all.push(workers)?;
+    for word in words {
+        all.push(*word)?;
+    }
+    Ok(all)
+}
+
 /// The status of a command line with so many workers.
 pub fn status_of<R: Threads + Wait + Sync + AllocGlobal, G: Gate + Sync>(
     rt: &R,
@@ -57,15 +98,8 @@ pub fn status_of<R: Threads + Wait + Sync + AllocGlobal, G: Gate + Sync>(
     sink: &mut MemSink,
     gate: &G,
 ) -> Result<u8, Fail> {
-    let alloc = rt.alloc();
-    let mut all = Vec::new(alloc);
-    all.push(String::from_str(alloc, "--workers")?)?;
-    all.push(String::from_str(alloc, workers)?)?;
-    for word in words {
-        all.push(String::from_str(alloc, *word)?)?;
-    }
-    let mut files = files_of(alloc, given)?;
-    Ok(run_frame(rt, alloc, &all, &mut files, sink, gate))
+    let all = with_workers(rt.alloc(), workers, words)?;
+    answer(rt, &all, given, sink, gate)
 }
 
 /// A sink with room for all that a frame writes here.
@@ -75,6 +109,23 @@ pub fn sink_of<R: AllocGlobal>(rt: &R) -> Result<MemSink, Fail> {
 }
 
 /// What a command line gives instead of a status and a text, if it gives something else.
+pub fn difference_of<R: Threads + Wait + Sync + AllocGlobal>(
+    rt: &R,
+    words: &[&str],
+    given: &Given,
+    status: u8,
+    text: &str,
+) -> Result<Option<String>, Fail> {
+    let mut sink = sink_of(rt)?;
+    let got = answer(rt, words, given, &mut sink, &OpenGate)?;
+    if got == status && sink.bytes() == text.as_bytes() {
+        return Ok(None);
+    }
+    let told = format!(in rt.alloc(); "status {} and {:?}", got, sink.bytes())?;
+    Ok(Some(told))
+}
+
+/// The same with so many workers.
 pub fn difference_at<R: Threads + Wait + Sync + AllocGlobal>(
     rt: &R,
     workers: &str,
@@ -83,18 +134,11 @@ pub fn difference_at<R: Threads + Wait + Sync + AllocGlobal>(
     status: u8,
     text: &str,
 ) -> Result<Option<String>, Fail> {
-    let mut sink = sink_of(rt)?;
-    let got = status_of(rt, workers, words, given, &mut sink, &OpenGate)?;
-    if got == status && sink.bytes() == text.as_bytes() {
-        return Ok(None);
+    let all = with_workers(rt.alloc(), workers, words)?;
+    match difference_of(rt, &all, given, status, text)? {
+        Some(told) => Ok(Some(format!(in rt.alloc(); "at {workers} workers {told}")?)),
+        None => Ok(None),
     }
-    let told = format!(in rt.alloc();
-        "at {} workers status {} and {:?}",
-        workers,
-        got,
-        sink.bytes()
-    )?;
-    Ok(Some(told))
 }
 
 /// The same at the first number of workers at which it does.

@@ -1,6 +1,6 @@
 //! Whole frames, by the top call: what `run_frame` answers to worked scripts at 1, 4 and 64 workers, to hostile texts
 //! and texts at their limits, to words, tables and files that it refuses, over files and sinks that fail, and where
-//! pieces come in each order. Then what is planned of each statement, and which scripts have no plan. Tests alone.
+//! pieces come in each order. Tests alone.
 #![tactic(auto)]
 
 #[cfg(test)]
@@ -12,8 +12,6 @@ mod faults;
 #[cfg(test)]
 mod frames;
 #[cfg(test)]
-mod limits;
-#[cfg(test)]
 mod orders;
 #[cfg(test)]
 mod pieces;
@@ -22,8 +20,8 @@ mod rows;
 #[cfg(test)]
 mod scripts;
 #[cfg(test)]
-mod statements;
-#[cfg(test)]
 mod tables;
+#[cfg(test)]
+mod texts;
 #[cfg(test)]
 mod waking;

@@ -1,0 +1,3 @@
+mod Filling
+mod HostValues
+pub mod Sent

@@ -1,0 +1,3 @@
+-- promises
+pub mod Bars
+pub mod Escapes
