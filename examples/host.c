@@ -130,10 +130,9 @@ static uint8_t run_section(frame_handle *frame, uint32_t helpers)
         if (frame_helper(frame, &workers[k].helper) == FRAME_JOBS_DONE)
             atomic_store(&workers[k].has, 1);
     while (frame_turn(frame) == FRAME_AGAIN) {}
-    uint8_t status;
-    do
-        status = frame_end(frame);
-    while (status == FRAME_BUSY);
+    uint8_t status = frame_end(frame);
+    for (; status == FRAME_BUSY; status = frame_end(frame))
+        sched_yield();
     return status;
 }
 
