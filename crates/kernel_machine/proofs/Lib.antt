@@ -1,4 +1,5 @@
 pub mod Quotients
+pub mod Products
 pub mod Ways
 pub mod Asking
 pub mod Turns
