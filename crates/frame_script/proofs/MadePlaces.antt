@@ -1,5 +1,5 @@
 -- The place of the name that a statement makes, in what the statement says.
-use Rattle.std.proofs.Common.{◌≡◌, ℕ, ◌<◌, List, ◌∷◌, [], ◌++◌, if◌then◌else◌, length, Option, Some, None, is_some, unwrap_or, refl, sym, ◌∙◌, ap, arith}
+use Rattle.std.proofs.Common.{◌≡◌, ℕ, ◌<◌, ◌≤◌, List, ◌∷◌, [], ◌++◌, if◌then◌else◌, length, Option, Some, None, is_some, unwrap_or, refl, sym, ◌∙◌, ap, arith}
 use Rattle.std.specs.Option.{option_map}
 use Rattle.frame_ast.specs.declared.kernel.Kernel.{Kernel}
 use Rattle.frame_ast.specs.declared.name_kind.NameKind.{NameKind}
@@ -11,7 +11,7 @@ use Rattle.script_checks.specs.Names.{Name, place_in, kind_in}
 use Rattle.script_checks.specs.Faults.{made_by, made_alike}
 use Rattle.script_checks.specs.Spelling.{Says, names_with, place_of}
 use Rattle.frame_script.specs.Made.{made_place}
-use Rattle.script_checks.proofs.PlaceLemmas.{first_made}
+use Rattle.script_checks.proofs.PlaceLemmas.{first_made, place_within, place_kept}
 
 -- the same token
 same_token : {a b : ℕ} {k l : NameKind} → ◌≡◌ {A = Option (ℕ × NameKind)} (Some (a, k)) (Some (b, l)) → a ≡ b
@@ -67,3 +67,18 @@ pub known_before : (s : Source) (names : List Name) (kind : NameKind) (at place 
     names ≡ names_with s names (Some (at, kind))
 known_before s names kind at place is within =
     before s names kind at place (ap (λ o. unwrap_or o 0) is) within (place_in names (text_at s at)) refl
+
+-- a name that stands behind those known before is a new one
+behind : (s : Source) (names : List Name) (kind : NameKind) (at place : ℕ) → place ≡ place_of s (names_with s names (Some (at, kind))) at
+    → length names ≤ place →
+    (o : Option ℕ) → place_in names (text_at s at) ≡ o → place_in names (text_at s at) ≡ None
+behind s names kind at place is past None none = none
+behind s names kind at place is past (Some n) found =
+    let same : place ≡ n = is ∙ ap (λ o. unwrap_or o 0) (place_kept names (text_at s at) (text_at s at) kind n found) in
+    absurd (omega (arith, same, past, place_within names (text_at s at) n found))
+
+pub new_behind : (s : Source) (names : List Name) (kind : NameKind) (at place : ℕ) → Some place ≡ Some (place_of s (names_with s names (Some (at, kind))) at)
+    → length names ≤ place →
+    place_in names (text_at s at) ≡ None
+new_behind s names kind at place is past =
+    behind s names kind at place (ap (λ o. unwrap_or o 0) is) past (place_in names (text_at s at)) refl

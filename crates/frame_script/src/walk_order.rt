@@ -92,9 +92,10 @@ pub fn bind_name<'a>(
     let Some((at, kind)) = name_bound(source, names, raw) else {
         return Ok(());
     };
-    if let Some(place) = place_bound(act)
-        && place < names.len()
-    {
+    let Some(place) = place_bound(act) else {
+        unreachable!()
+    };
+    if place < names.len() {
         return Ok(());
     }
     if names.len() == u32::MAX {

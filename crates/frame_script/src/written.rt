@@ -77,6 +77,8 @@ impl Written {
     }
 
     /// Writes a statement. The first for which there is no room is kept by its line, and none after it is written.
+    // In line, since a call would lay the statement into memory once more.
+    #[inline(always)]
     pub fn add(&mut self, line: u32, act: Order) -> Result<(), NoMemory>
         ensures { IfOk result (λ _. self.new ≡ put self.old (record { line = line; act = act })) }
     {

@@ -99,7 +99,28 @@ fn name_end(source: &[u8], from: usize) -> usize
     ensures within { result ≤ length source.now }
 {
     let mut end = from;
-    while end < source.len() && continues_name(source[end]) {
+    let mut rest = &source[from..];
+    // Four at a turn, with one look at where the file ends.
+    while rest.len() >= 4 {
+        if !continues_name(rest[0]) {
+            return end;
+        }
+        if !continues_name(rest[1]) {
+            return end + 1;
+        }
+        if !continues_name(rest[2]) {
+            return end + 2;
+        }
+        if !continues_name(rest[3]) {
+            return end + 3;
+        }
+        end += 4;
+        rest = &rest[4..];
+    }
+    for byte in rest {
+        if !continues_name(*byte) {
+            return end;
+        }
         end += 1;
     }
     end

@@ -11,7 +11,6 @@ use Rattle.std.proofs.lemmas.Bool.{cases_eq, eqb-true, eq-eqb, ne_eqb}
 use Rattle.std.proofs.lemmas.List.{length-map, map-append, length-set, get_or-set_same, get_or-set_other}
 use Rattle.std.proofs.lemmas.Map.Text.{btree_map_updates_str}
 use Rattle.script_checks.specs.declared.names.Entry.{Entry}
-use Rattle.frame_ast.specs.declared.name_kind.NameKind.{NameKind}
 use Rattle.std.proofs.lemmas.Option.{slice_get-get_or}
 use Rattle.script_checks.specs.Names.{Name, place_in, with_name}
 use Rattle.script_checks.specs.Index.{known_of, bucket_of, first_of, first_for, other_of, IsIndex}
@@ -223,9 +222,6 @@ found_other firsts others entries names q p first view index found is same =
     ∙ ap (λ b. cond b (Some p) (other_of others q)) same)
 
 -- THE NAMES AFTER ONE IS MADE
-
-pub named_known : (names : List Name) (text : List ℕ) (kind : NameKind) → is_some (place_in names text) ≡ true → names ≡ with_name names text kind
-named_known names text kind known = ap (λ b. cond b names (names ++ record { text = text; kind = kind } ∷ [])) (sym known)
 
 pub named_new : (entries : List Entry) (names : List Name) (e : Entry) → map known_of entries ≡ names → is_some (place_in names e.text.now) ≡ false →
     map known_of (entries ++ e ∷ []) ≡ with_name names e.text.now e.kind

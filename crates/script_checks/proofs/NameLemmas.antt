@@ -1,5 +1,5 @@
 -- A name that is added to those known.
-use Rattle.std.proofs.Common.{◌≡◌, ℕ, ◌+◌, ◌≤◌, Bool, true, false, cond, nat_lt, nat_eq, List, [], ◌∷◌, ◌++◌, length, Option, Some, None, refl, sym, ◌∙◌, subst, arith, length-append, is_some, Result, Ok, Err, OnOk, is_err}
+use Rattle.std.proofs.Common.{◌≡◌, ℕ, ◌+◌, ◌≤◌, Bool, true, false, cond, nat_lt, nat_eq, List, [], ◌∷◌, ◌++◌, length, Option, Some, None, refl, sym, ◌∙◌, subst, arith, length-append, Result, Ok, Err, OnOk, is_err}
 use Rattle.std.specs.Map.{update}
 use Rattle.std.specs.Str.{bytes_eq}
 use Rattle.std.specs.List.{position_or_len}
@@ -46,10 +46,6 @@ place_in-push names text kind none q =
 pub on_ok : {T E : Type 0} (r : Result T E) (P : Type 0) → is_err r ≡ false → OnOk r P → P
 on_ok (Ok x) P h p = p
 on_ok (Err e) P h p = cc
-
-pub none_from : (o : Option ℕ) → is_some o ≡ false → o ≡ None
-none_from None h = refl
-none_from (Some n) h = cc
 
 pub both : (b : Bool) (n m : ℕ) (x y : Option ℕ) → n ≡ m → x ≡ y → cond b (Some n) x ≡ cond b (Some m) y
 both b n m x y e f = cc

@@ -8,7 +8,6 @@ use Rattle.frame_grammar.specs.declared.symbols.Event.{Event}
 use Rattle.script_text.specs.declared.raw.RawNumber.{RawNumber}
 use Rattle.script_text.specs.declared.source.Source.{Source}
 use Rattle.script_checks.specs.declared.fault.OrderFault.{OrderFault}
-use Rattle.script_text.specs.Events.{none}
 use Rattle.script_text.specs.Raw.{number_after, signed_by, signed_from}
 use Rattle.script_text.specs.Sources.{signed_at}
 use Rattle.script_checks.specs.Faults.{signed_fault}

@@ -2,7 +2,7 @@
 
 ghost use Rattle.std.specs.Prelude.{◌≡◌, ℕ, All, ◌<◌, ◌-◌, ◌^◌, List, [], length, map, replicate, IfOk, None, IsUtf8, string_bytes};
 ghost use Rattle.script_checks.specs.Names.{Name, place_in, kind_in, with_name};
-ghost use Rattle.script_checks.specs.Index.{known_of, hash_of, bucket_of, first_for, IsIndex};
+ghost use Rattle.script_checks.specs.Index.{known_of, hash_of, bucket_of, first_of, first_for, IsIndex};
 
 use frame_ast::name_kind::NameKind;
 use job_base::NoMemory;
@@ -49,13 +49,21 @@ fn bucket_of(count: usize, text: &[u8]) -> usize
     ((u64::from(hash_of(text)) * count as u64) >> 32) as usize
 }
 
-// The place of the first name of a text's bucket, where the first ones have these places.
+// The place of the first name of a bucket, where the first ones have these places.
+fn first_of(firsts: &[Option<u32>], bucket: usize) -> Option<u32>
+    requires { bucket < length firsts.now }
+    ensures { result ≡ first_of firsts.now bucket }
+{
+    firsts[bucket]
+}
+
+// The same of a text's bucket.
 fn first_for(firsts: &[Option<u32>], text: &[u8]) -> Option<u32>
     requires some { 0 < length firsts.now }
     requires few { length firsts.now < 2 ^ 32 }
     ensures { result ≡ first_for firsts.now text.now }
 {
-    firsts[bucket_of(firsts.len(), text)]
+    first_of(firsts, bucket_of(firsts.len(), text))
 }
 
 // So many buckets without a name.
@@ -147,26 +155,20 @@ impl<'a> Names<'a> {
         Ok(texts)
     }
 
-    /// Makes a name: where it is known already, it stays as it is.
+    /// Makes a name that isn't known.
     pub fn make(&mut self, text: &'a [u8], kind: NameKind) -> Result<(), NoMemory>
-        requires { length self.old < 2 ^ 32 - 1 }
+        requires room { length self.old < 2 ^ 32 - 1 }
+        requires new { place_in self.old text.now ≡ None }
         ensures { IfOk result (λ _. self.new ≡ with_name self.old text.now kind) }
     {
         let place = self.entries.len() as u32;
-        match first_for(&self.firsts, text) {
+        let bucket = bucket_of(self.firsts.len(), text);
+        match first_of(&self.firsts, bucket) {
             None => {
                 self.entries.push(Entry { text, kind })?;
-                let bucket = bucket_of(self.firsts.len(), text);
                 self.firsts[bucket] = Some(place);
             }
-            Some(first) => {
-                let is_first = self.entries[first as usize].text == text;
-                if is_first {
-                    return Ok(());
-                }
-                if self.others.contains_key(text) {
-                    return Ok(());
-                }
+            Some(_) => {
                 self.entries.push(Entry { text, kind })?;
                 if self.others.insert(text, place).is_err() {
                     self.entries.pop();

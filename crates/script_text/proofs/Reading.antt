@@ -4,5 +4,6 @@ pub mod Values
 pub mod Orders
 pub mod Endings
 pub mod PlainScalars
+pub mod KnownOrders
 pub mod KernelEnds
 pub mod OpenItems

@@ -15,6 +15,7 @@ mod build_file;
 mod build_item;
 mod build_kernel;
 mod build_scalars;
+mod known_orders;
 mod line_cursor;
 mod raw;
 mod source;
