@@ -116,13 +116,10 @@ planner_fields_send = struct_send (shape planner.the_type) (
   (
     draft_fields_send,
     (
-      search sendable depth 60 fits 20000,
+      search (sendable, crosses) depth 60 fits 20000,
       (
         search (sendable, crosses) depth 60 fits 20000,
-        (
-          search (sendable, crosses) depth 60 fits 20000,
-          tt,
-        ),
+        tt,
       ),
     ),
   ),

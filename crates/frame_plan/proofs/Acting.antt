@@ -1,14 +1,13 @@
 -- A statement of a script that a planner stands before, and the planner after it.
 use Rattle.std.proofs.Common.{◌≡◌, ℕ, zero, suc, ◌<◌, ◌≤◌, ⊎_elim, true, false, ℤ, List, [], ◌∷◌, ◌++◌, length, None, Some, Result, Ok, Err, refl, sym, ap, subst, ◌∙◌, arith}
-use Rattle.std.specs.Prelude.{◌^◌, IfErr, IfOk, IsErrAnd, slice_get, vec_len}
+use Rattle.std.specs.Prelude.{◌^◌, IfErr, IsErrAnd, slice_get, vec_len}
 use Rattle.std.proofs.lemmas.Bool.{cases_eq}
 use Rattle.frame_ast.specs.declared.script.Order.{Order}
-use Rattle.frame_ast.specs.declared.script.Order.TheVariants.{Schedule, Complete, CompleteAuto, Frame, When}
+use Rattle.frame_ast.specs.declared.script.Order.TheVariants.{Schedule, When}
 use Rattle.frame_ast.specs.declared.script.Script.{Script}
 use Rattle.frame_ast.specs.declared.script.Sign.{Sign}
 use Rattle.frame_ast.specs.declared.script.Statement.{Statement}
 use Rattle.frame_ast.specs.Accepted.{is_when}
-use Rattle.frame_ast.specs.Checks.{refusal}
 use Rattle.frame_ast.specs.Orders.{Table, setting}
 use Rattle.frame_ast.specs.States.{ScriptState}
 use Rattle.frame_core.proofs.Small.{some_is, not_both}
@@ -17,7 +16,7 @@ use Rattle.plan_state.specs.declared.answer.Answer.{Answer}
 use Rattle.plan_state.specs.declared.state.Draft.{Draft}
 use Rattle.plan_state.specs.declared.state.Planner.{Planner}
 use Rattle.plan_state.specs.declared.state.World.{World}
-use Rattle.plan_state.specs.Answers.{Answers, AnswersIn, ExceedsIn, HasTaken, IsBeforeAt, IsReadyAt, IsReadyFor}
+use Rattle.plan_state.specs.Answers.{Answers, AnswersIn, ExceedsIn, HasTaken, IsReadyFor}
 use Rattle.plan_state.specs.Growth.{Grows}
 use Rattle.frame_plan.specs.Runs.{leaves_draft, IsActingTest, NoneActs, IsAtStatement, IsFurther, HasPassed, StopsAt, GoesPast, FailsAtPlace}
 use Rattle.plan_state.specs.Stands.{Stands}
@@ -94,6 +93,11 @@ module _ (script : Script) (table : Table) (p : Planner) (x : Statement) (at : I
     exceeds_in h = fails_in (h p)
 
 -- THE WORLD ALONE, before a statement of which the form is written out
+
+-- some planner with this world stands before it
+abbrev IsBeforeAt : Script → World → Statement → Type 0
+IsBeforeAt script w x = (p : Planner) × IsBefore script (record p { world = w }) x
+
 module _ (script : Script) (table : Table) (x : Statement) (a : Order) (is : x.act ≡ a) (old : World) where
   before_written : IsBeforeAt script old x → IsBeforeAt script old (written x a)
   before_written r = subst (IsBeforeAt script old) (is_written x a is) r
@@ -101,8 +105,8 @@ module _ (script : Script) (table : Table) (x : Statement) (a : Order) (is : x.a
   pub before_at : IsBeforeAt script old x → IsBeforeAt script old (written x a)
   before_at r = before_written r
 
-  pub ready_at : IsBeforeAt script old x → IsReadyAt old (written x a)
-  ready_at r = (script, before_written r)
+  pub ready_at : IsBeforeAt script old x → (of : Script) × (p : Planner) × IsBefore of (record p { world = old }) (written x a)
+  ready_at r = let b = before_written r in (script, b.0, b.1)
 
   pub ready_for : IsBeforeAt script old x → IsReadyFor old a
   ready_for r = let b = before_written r in (x.line, b.0, (script, b.1))
@@ -118,18 +122,10 @@ module _ (script : Script) (table : Table) (x : Statement) (a : Order) (is : x.a
   exceeding fault h = subst (λ y. ExceedsIn script table fault old y) (sym (is_written x a is)) h
 
 -- which statements leave the draft to their caller
-pub leaves : (a : Order) → ((job : _) → a ≡ Schedule job → ⊥) → ((name : ℕ) → a ≡ Complete name → ⊥) → ((name : ℕ) → a ≡ CompleteAuto name → ⊥)
-    → (a ≡ Frame → ⊥) → is_when a ≡ false → leaves_draft a ≡ true
-leaves (Schedule job) s c d f w = absurd (s job refl)
-leaves (Complete name) s c d f w = absurd (c name refl)
-leaves (CompleteAuto name) s c d f w = absurd (d name refl)
-leaves Frame s c d f w = absurd (f refl)
-leaves (When name sign value count) s c d f w = absurd (not_both refl w)
-leaves a s c d f w = refl
-
-pub if_ok : {T E : Type 0} (r : Result T E) {P Q : T → Type 0} → ((x : T) → P x → Q x) → IfOk r P → IfOk r Q
-if_ok (Ok x) f h = f x h
-if_ok (Err e) f h = tt
+pub leaves : (a : Order) → ((job : _) → a ≡ Schedule job → ⊥) → is_when a ≡ false → leaves_draft a ≡ true
+leaves (Schedule job) s w = absurd (s job refl)
+leaves (When name sign value count) s w = absurd (not_both refl w)
+leaves a s w = refl
 
 pub if_err : {T E : Type 0} (r : Result T E) {P Q : E → Type 0} → ((e : E) → P e → Q e) → IfErr r P → IfErr r Q
 if_err (Ok x) f h = tt

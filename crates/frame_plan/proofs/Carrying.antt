@@ -39,7 +39,7 @@ module _ (script : Script) (table : Table) (book : SectionBook) (n : ℕ) (carri
     (kernels : List Kernel) (codes : List Code) (q : Planner) (mem : List ℤ) (left : AreLeft mem carried len)
     (r : IsResumed kernels codes book.planner q mem) where
   resumed_is : q ≡ record b.old {
-    jobs_before = q.jobs_before;
+    world = record b.old.world { jobs_before = q.world.jobs_before };
     draft = record book.planner.draft {
       kernels = q.draft.kernels;
       codes = q.draft.codes;

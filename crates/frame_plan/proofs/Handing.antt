@@ -59,7 +59,7 @@ module _ (script : Script) (table : Table) (from : ℕ) (book : SectionBook) (re
   s = state_at script table book.at
 
   abbrev section : Section
-  section = record { plan = plan; jobs_before = book.planner.jobs_before; test = test }
+  section = record { plan = plan; jobs_before = book.planner.world.jobs_before; test = test }
 
   abbrev after : SectionBook
   after = record { planner = new; at = book.at }
@@ -151,7 +151,8 @@ module _ (script : Script) (table : Table) (from : ℕ) (book : SectionBook) (re
   is_at zero lt h = absurd (omega arith)
   is_at (suc n) lt h = h
 
-  pub is_next : IsNext (record { planner = new; at = book.at }) script table from (record { plan = plan; jobs_before = book.planner.jobs_before; test = test })
+  pub is_next : IsNext (record { planner = new; at = book.at }) script table from
+      (record { plan = plan; jobs_before = book.planner.world.jobs_before; test = test })
   is_next = record {
     to = book.at;
     place = refl;

@@ -107,7 +107,8 @@ module _ (script : Script) (table : Table) (old : Planner) (begun : ScriptState)
     (before_is : before ≡ (state_at script table n).book.count)
     (segments : w.segments.items ≡ []) (jobs : w.jobs.items ≡ []) (waits : w.waits.items ≡ []) (ops : w.ops.items ≡ carried_op (peak_of old.world.store) 0 ∷ [])
     (literals : map (λ v. v.items) w.literals.items ≡ cell_list carried 0 (peak_of old.world.store) ∷ []) (pieces : w.pieces ≡ 0)
-    (kernels : AreKernels (record old { jobs_before = before; draft = w }) (setting script table)) (kernels_few : length w.kernels.items ≤ n) where
+    (kernels : AreKernels (record old { world = record old.world { jobs_before = before }; draft = w }) (setting script table))
+    (kernels_few : length w.kernels.items ≤ n) where
   abbrev g : Setting
   g = setting script table
 
@@ -115,7 +116,7 @@ module _ (script : Script) (table : Table) (old : Planner) (begun : ScriptState)
   s = state_at script table n
 
   abbrev q : Planner
-  q = record old { jobs_before = before; draft = w }
+  q = record old { world = record old.world { jobs_before = before }; draft = w }
 
   abbrev len : ℕ
   len = peak_of old.world.store
@@ -206,7 +207,7 @@ module _ (script : Script) (table : Table) (old : Planner) (begun : ScriptState)
         let x_is : x' ≡ y = λ i. record { plan = y.plan; starts = y.starts; begun = b i } in
         subst (λ o. IsPlanned o s (draft_of q)) x_is begins
 
-  pub stands_resumed : StandsAt (record old { jobs_before = before; draft = w }) script table (state_at script table n) n found
+  pub stands_resumed : StandsAt (record old { world = record old.world { jobs_before = before }; draft = w }) script table (state_at script table n) n found
   stands_resumed =
       let m = st.numbers in record {
         knows = record {
@@ -284,7 +285,7 @@ module _ (script : Script) (table : Table) (book : SectionBook) (n : ℕ) (carri
     -- the planner of the section before, with another plan
     abbrev again : Planner
     again = record b.old {
-      jobs_before = q.jobs_before;
+      world = record b.old.world { jobs_before = q.world.jobs_before };
       draft = record book.planner.draft {
         kernels = q.draft.kernels;
         codes = q.draft.codes;
@@ -294,7 +295,7 @@ module _ (script : Script) (table : Table) (book : SectionBook) (n : ℕ) (carri
     }
 
     pub q_is : q ≡ record b.old {
-      jobs_before = q.jobs_before;
+      world = record b.old.world { jobs_before = q.world.jobs_before };
       draft = record book.planner.draft {
         kernels = q.draft.kernels;
         codes = q.draft.codes;
@@ -303,7 +304,7 @@ module _ (script : Script) (table : Table) (book : SectionBook) (n : ℕ) (carri
       };
     }
     q_is = r.rest ∙ ap (λ (k : Planner). record k {
-      jobs_before = q.jobs_before;
+      world = record k.world { jobs_before = q.world.jobs_before };
       draft = record book.planner.draft { kernels = q.draft.kernels; codes = q.draft.codes; literals = q.draft.literals; ops = q.draft.ops };
     }) b.emptied.rest
 
@@ -344,7 +345,7 @@ module _ (script : Script) (table : Table) (book : SectionBook) (n : ℕ) (carri
     stands_again : AreKernelsOf book script table kernels codes → StandsAt q script table (state_at script table n) n b.found
     stands_again ks =
         subst (λ p. StandsAt p script table (state_at script table n) n b.found) (sym q_is)
-        (stands_resumed script table b.old b.begun n b.found b.test b.stood b.accepted b.here b.acts carried b.held q.jobs_before
+        (stands_resumed script table b.old b.begun n b.found b.test b.stood b.accepted b.here b.acts carried b.held q.world.jobs_before
         (record book.planner.draft { kernels = q.draft.kernels; codes = q.draft.codes; literals = q.draft.literals; ops = q.draft.ops })
         (r.before ∙ ap (λ (k : Planner). count_of k.world.jobs) b.emptied.rest ∙ b.stood.knows.jobs.count)
         (ap (λ (d : Draft). d.segments) b.emptied.draft)

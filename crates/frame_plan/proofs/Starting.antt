@@ -52,7 +52,7 @@ pub record IsNew (p : Planner) (script : Script) : Type 0 where
   pub peak : peak_of p.world.store ≡ 0
   pub created : p.world.created ≡ 0
   pub passing : p.world.passing ≡ 0
-  pub before : p.jobs_before ≡ 0
+  pub before : p.world.jobs_before ≡ 0
   pub kernels : p.kernels.items ≡ replicate (length script.kernels.items) None
   pub guards : p.guards.items ≡ replicate (length script.kernels.items) None
   pub plan_kernels : p.draft.kernels.items ≡ []

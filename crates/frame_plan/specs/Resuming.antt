@@ -21,9 +21,9 @@ pub record IsResumed (kernels : List Kernel) (codes : List Code) (old new : Plan
   pub literals : map (λ v. v.items) new.draft.literals.items ≡ cell_list (cells_of mem) 0 (peak_of old.world.store) ∷ []
   pub kernels_are : new.draft.kernels.items ≡ kernels
   pub codes_are : new.draft.codes.items ≡ codes
-  pub before : new.jobs_before ≡ count_of old.world.jobs
+  pub before : new.world.jobs_before ≡ count_of old.world.jobs
   pub rest : new ≡ record old {
-    jobs_before = new.jobs_before;
+    world = record old.world { jobs_before = new.world.jobs_before };
     draft = record old.draft {
       kernels = new.draft.kernels;
       codes = new.draft.codes;

@@ -2,7 +2,7 @@
 use Rattle.std.specs.Prelude.{Bool, true, false, ℕ, suc, ◌≡◌, ◌<◌, ◌≤◌, List, [], ◌++◌, length, Option, None, Some, slice_get}
 use Rattle.job_base.specs.declared.limits.TheConstants.{MOST_JOBS, MOST_CREATED_WORDS}
 use Rattle.frame_ast.specs.declared.script.Order.{Order}
-use Rattle.frame_ast.specs.declared.script.Order.TheVariants.{Schedule, Complete, CompleteAuto, Frame, When}
+use Rattle.frame_ast.specs.declared.script.Order.TheVariants.{Schedule, When}
 use Rattle.frame_ast.specs.declared.script.Script.{Script}
 use Rattle.frame_ast.specs.declared.script.Statement.{Statement}
 use Rattle.frame_ast.specs.Accepted.{IsAccepted}
@@ -47,13 +47,9 @@ NoneActs script table from to = (n : ℕ) (x : Statement)
     → IsActingTest (setting script table) (state_at script table n) x.act
     → ⊥
 
--- WHO HAS A DRAFT: schedules, completions and frames do, a `when` is none of these, and all others leave it to their
--- caller
+-- WHO HAS A DRAFT: schedules do, a `when` is none of these, and all others leave it to their caller
 abbrev pub leaves_draft : Order → Bool
 leaves_draft (Schedule job) = false
-leaves_draft (Complete name) = false
-leaves_draft (CompleteAuto name) = false
-leaves_draft Frame = false
 leaves_draft (When name sign value count) = false
 leaves_draft _ = true
 

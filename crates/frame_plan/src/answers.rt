@@ -1,7 +1,9 @@
 // What statements answer that change what statements see, and leave the draft to their caller.
 ghost use Rattle.std.specs.Prelude.{◌≡◌, true, IfOk, IfErr};
 ghost use Rattle.frame_plan.specs.Runs.{leaves_draft};
-ghost use Rattle.plan_state.specs.Answers.{AnswersIn, ExceedsIn, IsBeforeAt};
+ghost use Rattle.plan_state.specs.declared.state.Planner.{Planner};
+ghost use Rattle.plan_state.specs.Answers.{AnswersIn, ExceedsIn};
+ghost use Rattle.plan_state.specs.Steps.{IsBefore};
 ghost use Rattle.plan_statements.specs.Tables.{columns_of};
 
 use frame_ast::script::{Order, Script, Statement};
@@ -9,7 +11,7 @@ use plan_state::{Answer, PlanFault, World};
 use std::alloc::Global;
 use table_in::Table;
 
-/// What a statement answers that is neither passed by nor a `when`, a schedule, a completion or a frame.
+/// What a statement answers that is neither passed by nor a `when` or a schedule.
 pub(crate) fn answer(
     world: &mut World,
     alloc: Global,
@@ -17,7 +19,7 @@ pub(crate) fn answer(
     table: &Table,
     statement: &Statement,
 ) -> Result<Answer, PlanFault>
-    requires ready { IsBeforeAt script.now world.old statement.now }
+    requires ready { (p : Planner) × IsBefore script.now (record p { world = world.old }) statement.now }
     requires leaves { leaves_draft statement.now.act ≡ true }
     ensures answers { IfOk result (AnswersIn script.now (columns_of table.now) world.old world.new statement.now) }
     ensures fails { IfErr result (λ fault.
@@ -64,6 +66,8 @@ pub(crate) fn answer(
         Order::Clear { name } => Ok(plan_statements::clear(world, *name)),
         Order::SetCapacity { name, cap } => plan_statements::set_capacity(world, *name, *cap),
         Order::Combine { name, of } => Ok(plan_statements::combine(world, *name, of)?),
+        Order::Complete { name } => Ok(plan_statements::complete(world, alloc, *name)?),
+        Order::CompleteAuto { name } => Ok(plan_statements::complete_auto(world, alloc, *name)?),
         Order::Dispose {
             name,
             after,
@@ -77,10 +81,7 @@ pub(crate) fn answer(
         )?),
         Order::Print { name } => Ok(plan_statements::print(world, *name)),
         Order::Flush => Ok(plan_statements::flush(world)),
-        Order::Schedule(_)
-        | Order::Complete { .. }
-        | Order::CompleteAuto { .. }
-        | Order::Frame
-        | Order::When { .. } => unreachable!(),
+        Order::Frame => Ok(plan_statements::frame(world, alloc, line)?),
+        Order::Schedule(_) | Order::When { .. } => unreachable!(),
     }
 }

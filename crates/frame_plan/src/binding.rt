@@ -6,7 +6,6 @@ ghost use Rattle.plan_state.specs.Stands.{tag_of};
 ghost use Rattle.frame_plan.specs.Bindings.{bind_in, bind_made};
 
 use crate::sections::SectionBook;
-use job_handle::Handle;
 use kernel_exec::Bind;
 use plan_state::{Container, Planner, Value};
 use safety_handle::{Blocked, Tag};
@@ -48,7 +47,7 @@ fn is_alive(planner: &Planner, container: &Container) -> bool
     match planner
         .world
         .safety
-        .check_read(&tag, &Handle::empty(), &planner.world.jobs)
+        .check_read(&tag, planner.world.jobs.nobody(), &planner.world.jobs)
     {
         Err(Blocked::Disposed) => false,
         Ok(()) | Err(Blocked::StaleView | Blocked::Pending(_)) => true,

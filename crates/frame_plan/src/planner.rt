@@ -31,13 +31,13 @@ pub(crate) fn at_start(alloc: Global, script: &Script) -> Result<Planner, NoMemo
             overdue: 0,
             frame: 0,
             jobs: JobBook::new(alloc),
+            jobs_before: 0,
             safety: SafetyBook::new(alloc)?,
             store: SlotStore::new(alloc)?,
             created: 0,
             passing: 0,
         },
         draft: Draft::none(alloc),
-        jobs_before: 0,
         kernels: no_copies(alloc, script.kernels.len())?,
         guards: no_copies(alloc, script.kernels.len())?,
     })
@@ -110,7 +110,7 @@ fn pass(
         ) {
             None => Ok(false),
             Some(answer) => {
-                planner.draft.take(statement.line, answer)?;
+                planner.draft.take(alloc, statement.line, answer)?;
                 Ok(true)
             }
         };
@@ -146,19 +146,11 @@ fn act(
                 defer,
             ),
         },
-        Order::Complete { name } => Ok(plan_statements::complete(planner, alloc, *name)?),
-        Order::CompleteAuto { name } => Ok(plan_statements::complete_auto(
-            planner,
-            alloc,
-            statement.line,
-            *name,
-        )?),
-        Order::Frame => Ok(plan_statements::frame(planner, statement.line)?),
         Order::When { .. } => unreachable!(),
         // All others leave the draft to this place, where what they answer is pushed.
         _ => {
             let answer = answer(&mut planner.world, alloc, script, table, statement)?;
-            planner.draft.take(statement.line, answer)?;
+            planner.draft.take(alloc, statement.line, answer)?;
             Ok(())
         }
     }

@@ -21,7 +21,7 @@ pub(crate) fn begin(
     ensures resumed { OnOk result (IsResumed kernels.items codes.items planner.old planner.new cells) }
 {
     let len = planner.world.store.peak();
-    planner.jobs_before = planner.world.jobs.count();
+    planner.world.jobs_before = planner.world.jobs.count();
     planner.draft.kernels = kernels;
     planner.draft.codes = codes;
     planner.draft.literals.push(first_cells(cells, len))?;

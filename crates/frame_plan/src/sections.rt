@@ -115,7 +115,7 @@ impl SectionBook {
             → IfOk result (IsNext self.new script.now table from) }
     {
         let test = self.test(script);
-        let jobs_before = self.planner.jobs_before;
+        let jobs_before = self.planner.world.jobs_before;
         let plan = finish(&mut self.planner, alloc, names)?;
         Ok(Section {
             plan,

@@ -64,12 +64,15 @@ zeros_read n k = ⊎_elim
 zero_bit : (w i : ℕ) → w ≡ 0 → nat_eq (bit_at w i) 1 ≡ false
 zero_bit w i e = ap (λ x. nat_eq (bit_at x i) 1) e ∙ ap (λ x. nat_eq x 1) (bit_at-zero i)
 
-pub empty_jobs : (n : ℕ) → jobs_in (replicate n 0) ≡ nobody
-empty_jobs n = λ i k. (none k) i
+pub no_jobs_in : (words : List ℕ) → ((k : ℕ) → slice_index words k ≡ 0) → jobs_in words ≡ nobody
+no_jobs_in words zero_words = λ i k. (none k) i
   where
-    none : (k : ℕ) → jobs_in (replicate n 0) k ≡ false
-    none k = and_right (nat_lt 0 k && nat_lt k 4097) (bit_of (replicate n 0) (k - 1))
-        (zero_bit (slice_index (replicate n 0) ((k - 1) / 64)) ((k - 1) % 64) (zeros_read n ((k - 1) / 64)))
+    none : (k : ℕ) → jobs_in words k ≡ false
+    none k = and_right (nat_lt 0 k && nat_lt k 4097) (bit_of words (k - 1))
+        (zero_bit (slice_index words ((k - 1) / 64)) ((k - 1) % 64) (zero_words ((k - 1) / 64)))
+
+pub empty_jobs : (n : ℕ) → jobs_in (replicate n 0) ≡ nobody
+empty_jobs n = no_jobs_in (replicate n 0) (zeros_read n)
 
 pub of_jobs : (n j : ℕ) (words : List ℕ) → 0 < j → j ≤ 4096 → (j - 1) / 64 < n → words ≡ set (replicate n 0) ((j - 1) / 64) (1 * 2 ^ ((j - 1) % 64) % 2 ^ 64)
     → jobs_in words ≡ only j

@@ -1,7 +1,8 @@
 // The jobs of a script, each with all that it waits for.
 ghost use Rattle.std.specs.Prelude.{◌≡◌, ℕ, ◌+◌, ◌<◌, ◌≤◌, ◌↔◌, IfOk, IfSome, OnOk, OnErr, Err, is_ok, if◌then◌else◌, vec_len, true};
 ghost use Rattle.job_base.specs.declared.limits.TheConstants.{MOST_JOBS};
-ghost use Rattle.job_handle.specs.Sets.{HaveOwnJobs};
+ghost use Rattle.frame_ast.specs.Jobs.{nobody};
+ghost use Rattle.job_handle.specs.Sets.{HaveOwnJobs, jobs_of};
 ghost use Rattle.job_handle.specs.declared.book.BookFault.TheVariants.{Full};
 
 use crate::handle::Handle;
@@ -27,6 +28,9 @@ pub struct JobBook {
     // Row j - 1 is that of job j.
     rows: Vec<Handle>,
     completed: Handle,
+    // The set without jobs, of which no more than one is ever made: that clears 528 bytes.
+    none: Handle,
+    ghost nobody: { jobs_of none ≡ nobody },
     ghost own: { HaveOwnJobs (vec_len rows) rows.items },
     ghost few: { vec_len rows ≤ MOST_JOBS },
 }
@@ -44,6 +48,7 @@ impl JobBook {
         JobBook {
             rows: Vec::new(alloc),
             completed: Handle::empty(),
+            none: Handle::empty(),
         }
     }
 
@@ -70,7 +75,8 @@ impl JobBook {
             return Err(BookFault::Full);
         }
         let j = JobId(self.count() + 1);
-        let mut row = self.closure(deps);
+        let mut row = Handle::empty();
+        self.set_to_closure(&mut row, deps);
         row.insert(j);
         match self.rows.push(row) {
             Ok(()) => Ok(j),
@@ -88,6 +94,13 @@ impl JobBook {
     {
         let all = self.closure(h);
         self.completed.add_all(&all);
+    }
+
+    /// The set without jobs, for who waits for none.
+    pub fn nobody(&self) -> &Handle
+        ensures { jobs_of result.now ≡ nobody }
+    {
+        &self.none
     }
 
     /// The jobs that were completed.
@@ -120,7 +133,7 @@ impl JobBook {
         requires job { (0 < j.0) × (j.0 ≤ count_of self.now) }
         ensures { (b : Book) → StandsFor self.now b → result ≡ ancestors_in b (jobs_of h.now) j.0 }
     {
-        self.closure(h).has(j)
+        self.is_in_closure(h, j)
     }
 
     /// The jobs of `h` and all their ancestors. For a statement, make it once.
@@ -130,16 +143,27 @@ impl JobBook {
             → jobs_of result k ≡ ancestors_in b (jobs_of h.now) k }
         ensures own { (k : ℕ) → jobs_of h.now k ≡ true → jobs_of result k ≡ true }
     {
+        let mut all = Handle::empty();
+        self.set_to_closure(&mut all, h);
+        all
+    }
+
+    /// `closure` in place: a set gets the jobs of `h` and all their ancestors, and no others.
+    pub fn set_to_closure(&self, all: &mut Handle, h: &Handle)
+        requires { AreUpTo (count_of self.now) (jobs_of h.now) }
+        ensures all { (b : Book) → StandsFor self.now b → (k : ℕ)
+            → jobs_of all.new k ≡ ancestors_in b (jobs_of h.now) k }
+        ensures own { (k : ℕ) → jobs_of h.now k ≡ true → jobs_of all.new k ≡ true }
+    {
         // From the newest job down: a row that is taken brings all that it leads to, so a job that is there already
         // adds nothing, and neither does a whole word of them. A job that waits for all earlier ones then takes few
         // rows.
-        let mut all = Handle::empty();
+        all.clear();
         let mut left = self.count();
-        while let Some(j) = h.latest_up_to(&all, left) {
+        while let Some(j) = h.latest_up_to(all, left) {
             all.add_all(&self.rows[j.0 as usize - 1]);
             left = j.0 - 1;
         }
-        all
     }
 
     /// Whether a job, 1 to [`MOST_JOBS`], happens before a statement that waits for `after`. Where it was completed or
@@ -149,7 +173,18 @@ impl JobBook {
         requires job { (0 < j.0) × (j.0 ≤ MOST_JOBS) }
         ensures { (b : Book) → StandsFor self.now b → result ≡ happens_before b (jobs_of after.now) j.0 }
     {
-        self.completed.has(j) || after.has(j) || self.closure(after).has(j)
+        self.completed.has(j) || after.has(j) || self.is_in_closure(after, j)
+    }
+
+    // Whether a job, 1 to `MOST_JOBS`, is in a set or an ancestor of a job of it. Inlined, it would clear a set also
+    // where its callers need none.
+    #[inline(never)]
+    fn is_in_closure(&self, h: &Handle, j: JobId) -> bool
+        requires jobs { AreUpTo (count_of self.now) (jobs_of h.now) }
+        requires job { (0 < j.0) × (j.0 ≤ MOST_JOBS) }
+        ensures { (b : Book) → StandsFor self.now b → result ≡ ancestors_in b (jobs_of h.now) j.0 }
+    {
+        self.closure(h).has(j)
     }
 
     /// What happens before a statement that waits for `after`: what was completed, and `after` with its ancestors.
@@ -158,8 +193,9 @@ impl JobBook {
         ensures { (b : Book) → StandsFor self.now b → (k : ℕ)
             → jobs_of result k ≡ happens_before b (jobs_of after.now) k }
     {
-        let mut all = self.completed;
-        all.add_all(&self.closure(after));
+        let mut all = Handle::empty();
+        self.set_to_closure(&mut all, after);
+        all.add_all(&self.completed);
         all
     }
 }

@@ -89,6 +89,34 @@ impl Handle {
         }
     }
 
+    /// No job is left. Like what follows it costs a step for each word that may have jobs, and not for all.
+    pub fn clear(&mut self)
+        ensures { jobs_of self.new ≡ nobody }
+    {
+        for i in self.low..self.high {
+            self.words[i] = 0;
+        }
+        self.low = WORDS;
+        self.high = 0;
+    }
+
+    /// It has the jobs of another set and no others: an assignment without a copy of 528 bytes.
+    pub fn set_to(&mut self, other: &Handle)
+        ensures { jobs_of self.new ≡ jobs_of other.now }
+    {
+        self.clear();
+        self.add_all(other);
+    }
+
+    /// It has one job, 1 to [`MOST_JOBS`], and no other.
+    pub fn set_to_job(&mut self, j: JobId)
+        requires { (0 < j.0) × (j.0 ≤ MOST_JOBS) }
+        ensures { jobs_of self.new ≡ only j.0 }
+    {
+        self.clear();
+        self.insert(j);
+    }
+
     /// A job, 1 to [`MOST_JOBS`], is added.
     pub fn insert(&mut self, j: JobId)
         requires { (0 < j.0) × (j.0 ≤ MOST_JOBS) }

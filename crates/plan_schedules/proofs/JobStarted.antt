@@ -359,7 +359,7 @@ module _ (script : Script) (table : Table) (begun : ScriptState) (n : ℕ) (foun
             → (run.parallel ≡ true → (kernel.parallel ≡ true) × (asked.waive.items ≡ []))
             → IsPlannedJob y (draft_of p) o (record { kernel = kernel; binds = b; indexes = i }) waited d.job
         job_as y a numbers cut b i checked binds indexes one parallel =
-            let begun_jobs : jobs_before y ≡ p.jobs_before = ap (λ (u : ScriptState). u.book.count) a.begins ∙ sym st.numbers.before in
+            let begun_jobs : jobs_before y ≡ p.world.jobs_before = ap (λ (u : ScriptState). u.book.count) a.begins ∙ sym st.numbers.before in
             record {
               jobs_later = a.jobs.0;
               jobs_are = a.jobs.1 ∙ ap (λ js. js ++ a.jobs.0) jobs_are;
@@ -381,7 +381,7 @@ module _ (script : Script) (table : Table) (begun : ScriptState) (n : ℕ) (foun
               parallel = λ h. parallel (sym (ap (λ (j : JobPlan). j.parallel) d.runs) ∙ h);
               known_deps = (
                 d.later_are.within.0,
-                up_to_all d.job.deps.items (count_of p.world.jobs - p.jobs_before) (length y.plan.jobs.items)
+                up_to_all d.job.deps.items (count_of p.world.jobs - p.world.jobs_before) (length y.plan.jobs.items)
                     (let c = (st.planned y (agrees y a)).ordered.count in let e = count_is in let f = begun_jobs in let h = ap length a.jobs.1 in
                     let i = ap length jobs_are in let j = length-append d.ended.draft.jobs.items a.jobs.0 in
                     let k = length-append p.draft.jobs.items (d.job ∷ []) in omega arith)

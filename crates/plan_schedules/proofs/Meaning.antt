@@ -6,7 +6,7 @@ use Rattle.std.specs.Result.{result_err}
 use Rattle.frame_ast.specs.declared.kernel.Param.{Param}
 use Rattle.frame_ast.specs.declared.script.Arg.{Arg}
 use Rattle.frame_ast.specs.declared.script.Arg.TheVariants.{Name, Number}
-use Rattle.frame_ast.specs.Conflicts.{blocker}
+use Rattle.frame_ast.specs.Conflicts.{Need, blocker}
 use Rattle.frame_ast.specs.Jobs.{Jobs}
 use Rattle.frame_ast.specs.Orders.{Setting}
 use Rattle.frame_ast.specs.Refusals.{is_temp}
@@ -28,7 +28,16 @@ use Rattle.plan_state.specs.declared.state.Planner.{Planner}
 use Rattle.plan_schedules.specs.declared.uses.NamedUse.{NamedUse}
 use Rattle.plan_state.specs.Stands.{jobs_at, value_for, tag_of, IsThere, IsContainer, Stands}
 use Rattle.plan_state.specs.Accesses.{tag_by, tag_in, tag_for}
-use Rattle.plan_schedules.specs.Uses.{number_of_value, is_temp_by, is_temp_in, IsBlockedBy, IsUse, ForNames, given_of, refused_need}
+use Rattle.plan_schedules.specs.Uses.{number_of_value, is_temp_by, is_temp_in, IsBlockedBy, IsUse, ForNames, given_of}
+
+-- why the script refuses a need to what waits for some jobs
+abbrev refused_need : ScriptState → Jobs → Need → Option Blocked
+refused_need s after n =
+    if not (is_alive s (s.values n.name))
+    then Some NotLive
+    else (if is_stale s (s.values n.name)
+    then Some Broken
+    else pending_on (job_numbered (blocker s.book (s.uses n.container) after n.writes)))
 
 -- A use as the script has it: the value of the schedule that it is, why it is refused, and whether its container, where
 -- it is alive, lives for one frame.

@@ -110,7 +110,7 @@ module _ (script : Script) (p : Planner) (line : ℕ) (home : Box NewJob Global)
     named_up jobs e = subst (AreUpTo (count_of p.world.jobs)) (sym e) (subst (λ k. AreUpTo k (jobs_named s asked.after.items)) (sym st.knows.jobs.count)
         (named_among s st.knows.known asked.after.items))
 
-    pub before_low : p.jobs_before ≤ count_of p.world.jobs
+    pub before_low : p.world.jobs_before ≤ count_of p.world.jobs
     before_low = rooms.jobs_after script table p begun n s found st
 
     pub room : count_of p.world.jobs ≢ MOST_JOBS → vec_len p.draft.jobs < MOST_JOBS

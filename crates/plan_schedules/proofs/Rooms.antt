@@ -44,7 +44,7 @@ module _ (script : Script) (table : Table) (p : Planner) (begun : ScriptState) (
   planned : IsPlanned (outline p script table begun n s found st) s (draft_of p)
   planned = st.planned (outline p script table begun n s found st) (agrees p script table begun n s found st)
 
-  counted : count_of p.world.jobs ≡ p.jobs_before + length p.draft.jobs.items
+  counted : count_of p.world.jobs ≡ p.world.jobs_before + length p.draft.jobs.items
   counted = let c = jobs_are p script table begun n s found st in let e = st.knows.jobs.count in let b = st.numbers.before in omega arith
 
   pub few_pieces : p.draft.pieces ≤ 64 * 4096
@@ -53,7 +53,7 @@ module _ (script : Script) (table : Table) (p : Planner) (begun : ScriptState) (
       job_few job.parallel job.cut.n job.cut.step f.2.cut.step.0 f.2.cut.pieces) in
       let e = st.numbers.pieces in let c = counted in let room = p.world.jobs.few in omega arith
 
-  pub jobs_after : p.jobs_before ≤ count_of p.world.jobs
+  pub jobs_after : p.world.jobs_before ≤ count_of p.world.jobs
   jobs_after = let c = counted in omega arith
 
   pub job_room : count_of p.world.jobs ≢ 4096 → vec_len p.draft.jobs < 4096

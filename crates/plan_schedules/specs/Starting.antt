@@ -152,7 +152,7 @@ pub record IsScheduled (old new : Planner) (handle : ℕ) (run : Run) (uses : Li
     deps = job.deps;
     first = job.first;
   }
-  pub later_are : AreLater old.jobs_before (count_of old.world.jobs) deps job.deps.items
+  pub later_are : AreLater old.world.jobs_before (count_of old.world.jobs) deps job.deps.items
   pub first : job.first.0 ≡ after.draft.pieces
   -- after it was started, and at last its name
   pub ended : Planner

@@ -1,20 +1,17 @@
 -- The uses of containers by a job: one for each name among the arguments of its schedule.
-use Rattle.std.specs.Prelude.{ℕ, ◌≡◌, ◌<◌, Bool, false, not, if◌then◌else◌, List, [], ◌∷◌, Option, None, Some, slice_get, All, Result}
+use Rattle.std.specs.Prelude.{ℕ, ◌≡◌, ◌<◌, Bool, false, List, [], ◌∷◌, Option, None, Some, slice_get, All, Result}
 use Rattle.std.specs.Result.{result_err}
 use Rattle.job_base.specs.declared.Access.{Access}
 use Rattle.frame_ast.specs.declared.kernel.Param.{Param}
 use Rattle.frame_ast.specs.declared.script.Arg.{Arg}
 use Rattle.frame_ast.specs.declared.script.Arg.TheVariants.{Name, Number}
-use Rattle.frame_ast.specs.Conflicts.{Need, blocker}
 use Rattle.frame_ast.specs.Jobs.{Jobs as JobSet}
 use Rattle.frame_ast.specs.Refusals.{is_temp}
 use Rattle.frame_ast.specs.Schedules.{Given, writes_to}
-use Rattle.frame_ast.specs.States.{ScriptState, is_alive, is_stale}
-use Rattle.job_handle.specs.Sets.{job_numbered}
 use Rattle.safety_handle.specs.declared.tag.Tag.{Tag}
 use Rattle.safety_handle.specs.declared.tag.Blocked.{Blocked}
-use Rattle.safety_handle.specs.declared.tag.Blocked.TheVariants.{Disposed as NotLive, StaleView as Broken}
-use Rattle.safety_handle.specs.Checks.{IsAnswer, pending_on}
+use Rattle.safety_handle.specs.declared.tag.Blocked.TheVariants.{Disposed as NotLive}
+use Rattle.safety_handle.specs.Checks.{IsAnswer}
 use Rattle.safety_handle.specs.Entries.{state_of}
 use Rattle.plan_state.specs.declared.state.Value.{Value}
 use Rattle.plan_state.specs.declared.state.Value.TheVariants.{Dead, Whole, Slice, View, Jobs}
@@ -84,15 +81,6 @@ given_of u = record {
   kind = u.kind;
   is_length = false;
 }
-
--- why the script refuses a need to what waits for some jobs
-abbrev pub refused_need : ScriptState → JobSet → Need → Option Blocked
-refused_need s after n =
-    if not (is_alive s (s.values n.name))
-    then Some NotLive
-    else (if is_stale s (s.values n.name)
-    then Some Broken
-    else pending_on (job_numbered (blocker s.book (s.uses n.container) after n.writes)))
 
 -- how the safety book knows the containers of uses, and how they are used
 

@@ -48,7 +48,7 @@ pub(crate) fn add_job(
     requires indexes { run.cut.n ≤ MOST_PIECES * run.cut.step }
     requires uses { MayNoteAll uses.now (state_of planner.old.world.safety) }
     requires deps { AreUpTo (count_of planner.old.world.jobs) (jobs_of deps.now) }
-    requires before { planner.old.jobs_before ≤ count_of planner.old.world.jobs }
+    requires before { planner.old.world.jobs_before ≤ count_of planner.old.world.jobs }
     requires room { count_of planner.old.world.jobs ≢ MOST_JOBS → vec_len planner.old.draft.jobs < MOST_JOBS }
     requires pieces { planner.old.draft.pieces ≤ MOST_PIECES * MOST_JOBS }
 
@@ -71,6 +71,6 @@ pub(crate) fn add_job(
         first: PieceId(planner.draft.pieces),
     };
     start(planner, alloc, plan)?;
-    planner.world.set_handle(handle, &Handle::of(job))?;
+    planner.world.set_handle_to_job(handle, job)?;
     Ok(())
 }

@@ -21,6 +21,7 @@ use crate::uses::uses;
 use frame_ast::kernel::Kernel;
 use frame_ast::script::{Arg, NewJob, Script};
 use job_base::NoMemory;
+use job_handle::Handle;
 use kernel_exec::Bind;
 use native_array::ArrayAt;
 use native_list::ListAt;
@@ -72,7 +73,8 @@ fn schedule_by_list(
 {
     let params = &script.kernels[job.kernel as usize].params;
     let parallel = script.kernels[job.kernel as usize].parallel;
-    let mut deps = planner.world.jobs_of_all(&job.after);
+    let mut deps = Handle::empty();
+    planner.world.set_to_jobs_of(&mut deps, &job.after);
     let uses = uses(planner, alloc, params, &job.args, &deps)?;
     let length = length_use(planner, list, &deps);
     let all = with_length(alloc, &uses, &length)?;

@@ -35,16 +35,16 @@ pub(crate) fn later_jobs(
     alloc: Global,
     jobs: &Handle,
 ) -> Result<Vec<JobId>, NoMemory>
-    requires before { planner.now.jobs_before ≤ count_of planner.now.world.jobs }
+    requires before { planner.now.world.jobs_before ≤ count_of planner.now.world.jobs }
     requires jobs { AreUpTo (count_of planner.now.world.jobs) (jobs_of jobs.now) }
     ensures { IfOk result (λ later.
-        AreLater planner.now.jobs_before (count_of planner.now.world.jobs) (jobs_of jobs.now) later.items) }
+        AreLater planner.now.world.jobs_before (count_of planner.now.world.jobs) (jobs_of jobs.now) later.items) }
 {
-    let none = Handle::empty();
+    let none = planner.world.jobs.nobody();
     let mut later = Vec::new(alloc);
-    let mut at = planner.jobs_before;
-    while let Some(job) = jobs.next_outside(&none, at, planner.world.jobs.count()) {
-        later.push(JobId(job.0 - planner.jobs_before))?;
+    let mut at = planner.world.jobs_before;
+    while let Some(job) = jobs.next_outside(none, at, planner.world.jobs.count()) {
+        later.push(JobId(job.0 - planner.world.jobs_before))?;
         at = job.0;
     }
     Ok(later)

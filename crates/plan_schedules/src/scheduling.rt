@@ -50,7 +50,8 @@ pub fn schedule(
 {
     let params = &script.kernels[job.kernel as usize].params;
     let parallel = script.kernels[job.kernel as usize].parallel;
-    let mut deps = planner.world.jobs_of_all(&job.after);
+    let mut deps = Handle::empty();
+    planner.world.set_to_jobs_of(&mut deps, &job.after);
     let uses = uses(planner, alloc, params, &job.args, &deps)?;
     if let Some(cause) = refusal_of(&uses, parallel, job.auto) {
         refuse_schedule(planner, line, job.handle, cause)?;
@@ -80,7 +81,7 @@ pub(crate) fn refuse_schedule(
         × (planner.new ≡ record said { world = planner.new.world })) }
 {
     planner.push_refusal(line, cause.name, cause.refusal)?;
-    planner.world.set_handle(handle, &Handle::empty())
+    planner.world.clear_handle(handle)
 }
 
 /// What the job waits for: the named jobs, and with `auto` all others that it has to, which are added to them.
@@ -98,9 +99,29 @@ pub(crate) fn add_automatic(
         AreDeps auto (jobs_of deps.old) planner.now.world.jobs planner.now.world.safety (tags_of uses.now)
         (jobs_of deps.new)) }
 {
-    if !auto {
-        return Ok(());
+    if auto {
+        add_needed(planner, alloc, deps, uses)
+    } else {
+        Ok(())
     }
+}
+
+/// What a job with `auto` waits for beside the named jobs is added to them. Inlined, its set of jobs would be cleared
+/// without `auto` too.
+#[inline(never)]
+fn add_needed(
+    planner: &Planner,
+    alloc: Global,
+    deps: &mut Handle,
+    uses: &[NamedUse],
+) -> Result<(), NoMemory>
+    requires named { AreUpTo (count_of planner.now.world.jobs) (jobs_of deps.old) }
+    requires noted { AreUpTo (count_of planner.now.world.jobs) (conflicting_with planner.now.world.safety
+        (tags_of uses.now)) }
+    ensures { OnOk result (
+        AreDeps true (jobs_of deps.old) planner.now.world.jobs planner.now.world.safety (tags_of uses.now)
+        (jobs_of deps.new)) }
+{
     let tags = tags(alloc, uses)?;
     let more = automatic(&tags, deps, &planner.world.safety, &planner.world.jobs);
     deps.add_all(&more);

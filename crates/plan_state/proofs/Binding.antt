@@ -1,6 +1,6 @@
 -- The words that a name stands for, in the planner and by where ranges start.
 use Rattle.std.proofs.Common.{◌≡◌, ℕ, ◌<◌, List, length, Option, Some, None, Result, Ok, Err, refl, sym, ap, subst, ◌∙◌, arith}
-use Rattle.std.specs.Prelude.{slice_get, OnOk, Vec, vec_len}
+use Rattle.std.specs.Prelude.{slice_get, IfOk, OnOk, Vec, vec_len}
 use Rattle.std.specs.declared.alloc.Global.{Global}
 use Rattle.frame_ast.specs.Contents.{Contents, Cells as Elements, Single, Items, Pairs, Entries}
 use Rattle.frame_ast.specs.Kinds.{kind_of}
@@ -23,6 +23,10 @@ use Rattle.plan_state.proofs.Accessing.{there}
 pub on_ok : {T E : Type 0} (r : Result T E) {P Q : Type 0} → (P → Q) → OnOk r P → OnOk r Q
 on_ok (Ok x) f h = f h
 on_ok (Err e) f h = tt
+
+pub if_ok : {T E : Type 0} (r : Result T E) {P Q : T → Type 0} → ((x : T) → P x → Q x) → IfOk r P → IfOk r Q
+if_ok (Ok x) f h = f x h
+if_ok (Err e) f h = tt
 
 pub long_enough : {A : Type 0} (v : Vec A Global) (n m : ℕ) → n < vec_len v → length v.items ≡ m → n < m
 long_enough v n m lt e = let len = v.ok.0 in omega arith

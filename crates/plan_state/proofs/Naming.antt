@@ -4,7 +4,7 @@ use Rattle.std.specs.Prelude.{slice_get, slice_set, get_or, option_map, Vec}
 use Rattle.std.specs.declared.alloc.Global.{Global}
 use Rattle.std.proofs.Math.Seq.{take-suc}
 use Rattle.std.proofs.lemmas.List.{length-append}
-use Rattle.frame_ast.specs.Jobs.{Jobs, both}
+use Rattle.frame_ast.specs.Jobs.{Jobs}
 use Rattle.frame_ast.specs.Refusals.{jobs_named}
 use Rattle.frame_ast.specs.States as states
 use Rattle.frame_ast.specs.States.{ScriptState}
@@ -53,13 +53,13 @@ get_other (x ∷ xs) (suc n) y (suc k) ne = get_other xs n y k (λ e. ne (ap suc
 -- ---- the handles of names
 
 -- a name has a place
-pub own_place : (old : World) (handles : Vec Handle Global) (name place : ℕ) (h : Handle) → slice_get old.values.items name ≡ Some (Handles place)
-    → place < length old.handles.items
-    → handles.items ≡ slice_set old.handles.items place h → HasHandle old (record old { handles = handles }) name (jobs_of h)
-own_place old handles name place h is lt set = record {
+pub own_place : (old : World) (handles : Vec Handle Global) (name place : ℕ) (h : Handle) (jobs : Jobs)
+    → slice_get old.values.items name ≡ Some (Handles place) → place < length old.handles.items
+    → handles.items ≡ slice_set old.handles.items place h → jobs_of h ≡ jobs → HasHandle old (record old { handles = handles }) name jobs
+own_place old handles name place h jobs is lt set them = record {
   place = place;
   values = sym (set_same old.values.items name (Handles place) is);
-  here = sym (ap (λ hs. option_map jobs_of (slice_get hs place)) set ∙ ap (option_map jobs_of) (get_set old.handles.items place h lt));
+  here = sym (ap (λ hs. option_map jobs_of (slice_get hs place)) set ∙ ap (option_map jobs_of) (get_set old.handles.items place h lt) ∙ ap Some them);
   others = λ k ne below. ap (λ hs. slice_get hs k) set ∙ get_other old.handles.items place h k ne;
   own = inl (is, ap length set ∙ set_long old.handles.items place h);
   rest = refl;
@@ -98,18 +98,27 @@ jobs_both handles values (x ∷ xs) n j =
     or_again true b c = refl
     or_again false b c = refl
 
-pub jobs_more : (handles : List Handle) (values : List Value) (names : List ℕ) (i n d : ℕ) (v : Value) (all more jobs : Handle)
+pub jobs_more : (handles : List Handle) (values : List Value) (names : List ℕ) (i n d : ℕ) (v : Value) (all more : Handle)
     → ((j : ℕ) → jobs_of all j ≡ jobs_by handles values (take i names) j) → i < length names → get_or names i d ≡ n → slice_get values n ≡ Some v
-    → jobs_of jobs ≡ jobs_of_value handles v → jobs_of more ≡ both (jobs_of all) (jobs_of jobs) → (j : ℕ)
+    → ((j : ℕ) → jobs_of more j ≡ (jobs_of all j || jobs_of_value handles v j)) → (j : ℕ)
     → jobs_of more j ≡ jobs_by handles values (take (i + 1) names) j
-jobs_more handles values names i n d v all more jobs so_far lt is read job joined j =
+jobs_more handles values names i n d v all more so_far lt is read joined j =
     let next : i + 1 ≡ suc i = omega arith in
     let split : take (i + 1) names ≡ take i names ++ n ∷ [] = ap (λ k. take k names) next ∙ take-suc names i d lt ∙ ap (λ m. take i names ++ m ∷ []) is in
-    ap (λ f. f j) joined
-    ∙ ap (λ b. b || jobs_of jobs j) (so_far j)
-    ∙ ap (λ f. jobs_by handles values (take i names) j || f j) (job ∙ ap (jobs_for handles) (sym read))
+    joined j
+    ∙ ap (λ b. b || jobs_of_value handles v j) (so_far j)
+    ∙ ap (λ f. jobs_by handles values (take i names) j || f j) (ap (jobs_for handles) (sym read))
     ∙ sym (jobs_both handles values (take i names) n j)
     ∙ ap (λ xs. jobs_by handles values xs j) (sym split)
+
+-- a value that stands for no jobs adds none
+pub none_joined : (handles : List Handle) (v : Value) → ((k : ℕ) → v ≡ Handles k → ⊥) → (b : Bool) (j : ℕ) → b ≡ (b || jobs_of_value handles v j)
+none_joined handles (Handles k) none b j = absurd (none k refl)
+none_joined handles v none b j = by b
+  where
+    by : (b : Bool) → b ≡ (b || false)
+    by true = refl
+    by false = refl
 
 -- the script's names but for one
 pub record IsNamed (s t : ScriptState) (name : ℕ) (v : states.Value) : Type 0 where

@@ -3,9 +3,9 @@
 --
 -- Such a statement has no draft. It goes on with every one that takes its answer, so what has to hold of the plan is
 -- argued where the answer is pushed.
-use Rattle.std.specs.Prelude.{ℕ, ◌≡◌, ℤ, [], ◌∷◌, ◌++◌, length, Option, None, Some, Vec}
+use Rattle.std.specs.Prelude.{ℕ, ◌≡◌, ℤ, List, [], ◌∷◌, ◌++◌, length, Option, None, Some, Vec}
 use Rattle.std.specs.declared.alloc.Global.{Global}
-use Rattle.job_base.specs.declared.Refusal.{Refusal}
+use Rattle.job_base.specs.declared.JobId.{JobId}
 use Rattle.job_base.specs.declared.Span.{Span}
 use Rattle.frame_ast.specs.declared.script.Order.{Order}
 use Rattle.frame_ast.specs.declared.script.Script.{Script}
@@ -13,21 +13,25 @@ use Rattle.frame_ast.specs.declared.script.Statement.{Statement}
 use Rattle.frame_ast.specs.Orders.{Table}
 use Rattle.frame_core.specs.declared.plan.Act.TheVariants.{Fill, Say}
 use Rattle.frame_core.specs.declared.plan.Op.{Op}
+use Rattle.frame_core.specs.declared.plan.Segment.{Segment}
 use Rattle.plan_state.specs.declared.answer.Answer.{Answer}
-use Rattle.plan_state.specs.declared.answer.Answer.TheVariants.{Nothing, Refused, Does, Fills}
+use Rattle.plan_state.specs.declared.answer.Answer.TheVariants.{Nothing, Refused, Does, Fills, Waits, Reports}
 use Rattle.plan_state.specs.declared.state.Draft.{Draft}
 use Rattle.plan_state.specs.declared.state.PlanFault.{PlanFault}
 use Rattle.plan_state.specs.declared.state.Planner.{Planner}
 use Rattle.plan_state.specs.declared.state.World.{World}
-use Rattle.plan_state.specs.Accesses.{IsRefusal}
-use Rattle.plan_state.specs.Steps.{IsBefore, IsReady, GoesOn, GoesOnIn, FailsIn}
+use Rattle.plan_state.specs.Steps.{IsReady, GoesOn, GoesOnIn, FailsIn}
 
 -- WHAT A DRAFT TAKES
 
--- The segment at hand has one operation more, and all else of the draft is as it was.
-pub record HasOp (old new : Draft) (op : Op) : Type 0 where
-  pub ops : new.ops.items ≡ old.ops.items ++ op ∷ []
+-- The segment at hand has some operations more, and all else of the draft is as it was.
+pub record HasOps (old new : Draft) (more : List Op) : Type 0 where
+  pub ops : new.ops.items ≡ old.ops.items ++ more
   pub rest : new ≡ record old { ops = new.ops }
+
+-- it has one more
+abbrev pub HasOp : Draft → Draft → Op → Type 0
+HasOp old new op = HasOps old new (op ∷ [])
 
 -- The plan has one literal more, and the segment at hand fills words with it.
 pub record HasLiteral (old new : Draft) (line name : ℕ) (span : Span) (literal : Vec ℤ Global) : Type 0 where
@@ -44,6 +48,17 @@ abbrev pub HasFilled : Draft → Draft → ℕ → ℕ → Span → Option (Vec 
 HasFilled old new line name span None = HasOp old new (record { line = line; name = name; act = Fill span None })
 HasFilled old new line name span (Some literal) = HasLiteral old new line name span literal
 
+-- The segment at hand is closed without starting a job, and the next one waits for some jobs.
+pub record IsClosed (old new : Draft) (after : List JobId) : Type 0 where
+  pub segment : Segment
+  pub waits_were : segment.waits.items ≡ old.waits.items
+  pub ops_were : segment.ops.items ≡ old.ops.items
+  pub starts : segment.starts ≡ None
+  pub segments : new.segments.items ≡ old.segments.items ++ segment ∷ []
+  pub waits : new.waits.items ≡ after
+  pub ops : new.ops.items ≡ []
+  pub rest : new ≡ record old { segments = new.segments; waits = new.waits; ops = new.ops }
+
 -- A draft took an answer, at the line of its statement.
 abbrev pub HasTaken : Draft → Draft → ℕ → Answer → Type 0
 HasTaken old new line Nothing = new ≡ old
@@ -51,18 +66,12 @@ HasTaken old new line (Refused name refusal) =
     HasOp old new (record { line = line; name = name; act = Say refusal })
 HasTaken old new line (Does name act) = HasOp old new (record { line = line; name = name; act = act })
 HasTaken old new line (Fills name span values) = HasFilled old new line name span values
+HasTaken old new line (Waits jobs) = IsClosed old new jobs.items
+HasTaken old new line (Reports ops) = HasOps old new ops.items
 
 -- WHAT SUCH A STATEMENT NEEDS: some planner with this world stands before it.
 abbrev pub IsReadyFor : World → Order → Type 0
 IsReadyFor w x = (line : ℕ) × (p : Planner) × IsReady (record p { world = w }) (record { line = line; act = x })
-
--- the same of this script, at its line, which a container keeps that it makes
-abbrev pub IsBeforeAt : Script → World → Statement → Type 0
-IsBeforeAt script w x = (p : Planner) × IsBefore script (record p { world = w }) x
-
--- of some script
-abbrev pub IsReadyAt : World → Statement → Type 0
-IsReadyAt w x = (script : Script) × IsBeforeAt script w x
 
 -- WHAT IT ANSWERS: each planner with this world goes on by it, where its draft takes the answer.
 abbrev pub Answers : World → World → Order → Answer → Type 0
@@ -70,24 +79,12 @@ Answers old new x answer = (line : ℕ) (p : Planner) (draft : Draft)
     → HasTaken p.draft draft line answer
     → GoesOn (record p { world = old }) (record p { world = new; draft = draft }) (record { line = line; act = x })
 
--- the same at its line, where it is of this script and has this table
+-- the same at its line, which a container keeps that it makes, where it is of this script and has this table
 abbrev pub AnswersIn : Script → Table → World → World → Statement → Answer → Type 0
 AnswersIn script table old new x answer = (p : Planner) (draft : Draft)
     → HasTaken p.draft draft x.line answer
     → GoesOnIn script table (record p { world = old }) (record p { world = new; draft = draft }) x
 
--- whatever they are
-abbrev pub AnswersAt : World → World → Statement → Answer → Type 0
-AnswersAt old new x answer = (script : Script) (table : Table) → AnswersIn script table old new x answer
-
 -- A fault comes where each planner with this world passes a limit by the statement.
 abbrev pub ExceedsIn : Script → Table → PlanFault → World → Statement → Type 0
 ExceedsIn script table fault w x = (p : Planner) → FailsIn script table fault (record p { world = w }) x
-
-abbrev pub ExceedsAt : PlanFault → World → Statement → Type 0
-ExceedsAt fault w x = (script : Script) (table : Table) → ExceedsIn script table fault w x
-
--- An answer is the refusal of such a statement, which names this name.
-abbrev pub IsRefusalOf : World → Order → ℕ → Option Refusal → Type 0
-IsRefusalOf w x name answer = (line : ℕ) (p : Planner)
-    → IsRefusal (record p { world = w }) (record { line = line; act = x }) name answer

@@ -183,7 +183,7 @@ pub record AreNumbers (p : Planner) (begun : ScriptState) (n : ℕ) (s : ScriptS
   pub frame : p.world.frame ≡ s.frame
   pub passing : p.world.passing ≡ s.passing
   pub created : p.world.created ≡ s.created
-  pub before : p.jobs_before ≡ begun.book.count
+  pub before : p.world.jobs_before ≡ begun.book.count
   pub pieces : p.draft.pieces ≡ pieces_before p.draft.jobs.items (length p.draft.jobs.items)
   pub live_words : live_words_of p.world.store ≡ live_words s
   -- what is small

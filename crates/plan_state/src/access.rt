@@ -6,7 +6,6 @@ ghost use Rattle.plan_state.specs.Accesses.{tag_in, tag_for, slice_in, view_in, 
 use crate::blocked::refusal_of_blocked;
 use crate::state::{Container, Value, World};
 use job_base::Refusal;
-use job_handle::Handle;
 use kernel_exec::Bind;
 use native_array::ArrayAt;
 use safety_handle::Tag;
@@ -67,11 +66,11 @@ impl World {
     fn refusal_of(&self, tag: &Tag, writes: bool) -> Option<Refusal>
         ensures { IsCause self.now tag.now writes result }
     {
-        let deps = Handle::empty();
+        let nobody = self.jobs.nobody();
         let answer = if writes {
-            self.safety.check_write(tag, &deps, &self.jobs)
+            self.safety.check_write(tag, nobody, &self.jobs)
         } else {
-            self.safety.check_read(tag, &deps, &self.jobs)
+            self.safety.check_read(tag, nobody, &self.jobs)
         };
         match answer {
             Ok(()) => None,

@@ -1,13 +1,15 @@
 // The small changes that every statement is made of: an operation more in the draft, and what a name stands for.
-ghost use Rattle.std.specs.Prelude.{◌≡◌, ◌<◌, ◌^◌, ℕ, All, OnOk, vec_len};
+ghost use Rattle.std.specs.Prelude.{◌≡◌, ◌<◌, ◌≤◌, ◌*◌, ◌^◌, ◌||◌, ℕ, All, OnOk, vec_len};
 ghost use Rattle.frame_core.specs.declared.plan.Act.TheVariants.{Say};
+ghost use Rattle.job_base.specs.declared.limits.TheConstants.{MOST_JOBS};
+ghost use Rattle.frame_ast.specs.Jobs.{nobody, only};
 ghost use Rattle.job_handle.specs.Sets.{jobs_of};
 ghost use Rattle.plan_state.specs.Stands.{IsThere};
 ghost use Rattle.plan_state.specs.Accesses.{AreThere, HasHandle, IsPushed, IsRenamed, jobs_by, jobs_of_value};
 
 use crate::state::{Planner, Value, World};
 use frame_core::{Act, Op};
-use job_base::{NoMemory, Refusal};
+use job_base::{JobId, NoMemory, Refusal};
 use job_handle::Handle;
 
 impl Planner {
@@ -43,7 +45,7 @@ impl World {
         ensures { OnOk result (HasHandle self.old self.new name (jobs_of jobs.now)) }
     {
         match self.values[name as usize] {
-            Value::Jobs(place) => self.handles[place as usize] = *jobs,
+            Value::Jobs(place) => self.handles[place as usize].set_to(jobs),
             _ => {
                 let place = self.handles.len() as u32;
                 self.handles.push(*jobs)?;
@@ -51,6 +53,39 @@ impl World {
             }
         }
         Ok(())
+    }
+
+    /// A name of a handle stands for one job.
+    pub fn set_handle_to_job(&mut self, name: u32, job: JobId) -> Result<(), NoMemory>
+        requires name { name < vec_len self.old.values }
+        requires there { AreThere (vec_len self.old.containers) (vec_len self.old.handles) self.old.values.items }
+        requires few { vec_len self.old.handles < 2 ^ 32 }
+        requires job { (0 < job.0) × (job.0 ≤ MOST_JOBS) }
+        ensures { OnOk result (HasHandle self.old self.new name (only job.0)) }
+    {
+        match self.values[name as usize] {
+            Value::Jobs(place) => {
+                self.handles[place as usize].set_to_job(job);
+                Ok(())
+            }
+            _ => self.set_handle(name, &Handle::of(job)),
+        }
+    }
+
+    /// A name of a handle stands for no job.
+    pub fn clear_handle(&mut self, name: u32) -> Result<(), NoMemory>
+        requires name { name < vec_len self.old.values }
+        requires there { AreThere (vec_len self.old.containers) (vec_len self.old.handles) self.old.values.items }
+        requires few { vec_len self.old.handles < 2 ^ 32 }
+        ensures { OnOk result (HasHandle self.old self.new name nobody) }
+    {
+        match self.values[name as usize] {
+            Value::Jobs(place) => {
+                self.handles[place as usize].clear();
+                Ok(())
+            }
+            _ => self.set_handle(name, &Handle::empty()),
+        }
     }
 
     /// The jobs of a value that stands for some.
@@ -65,17 +100,26 @@ impl World {
         }
     }
 
-    /// The jobs of some names of handles together.
-    pub fn jobs_of_all(&self, names: &[u32]) -> Handle
+    /// A set of jobs becomes that of some names of handles together.
+    pub fn set_to_jobs_of(&self, all: &mut Handle, names: &[u32])
         requires names { All (λ n. n < vec_len self.now.values) names.now }
         requires there { AreThere (vec_len self.now.containers) (vec_len self.now.handles) self.now.values.items }
-        ensures { (j : ℕ) → jobs_of result j ≡ jobs_by self.now.handles.items self.now.values.items names.now j }
+        ensures { (j : ℕ) → jobs_of all.new j ≡ jobs_by self.now.handles.items self.now.values.items names.now j }
     {
-        let mut all = Handle::empty();
+        all.clear();
         for name in names {
-            let jobs = self.jobs_of(self.values[*name as usize]);
-            all = all.combine(&jobs);
+            self.add_jobs_of(self.values[*name as usize], all);
         }
-        all
+    }
+
+    /// The jobs of a value that stands for some are added to others, in place: a set of jobs is 520 bytes.
+    fn add_jobs_of(&self, value: Value, all: &mut Handle)
+        requires there { IsThere (vec_len self.now.containers) (vec_len self.now.handles) value }
+        ensures { (j : ℕ) → jobs_of all.new j ≡ (jobs_of all.old j || jobs_of_value self.now.handles.items value j) }
+    {
+        match value {
+            Value::Jobs(place) => all.add_all(&self.handles[place as usize]),
+            _ => {}
+        }
     }
 }

@@ -121,6 +121,9 @@ pub struct World {
     pub overdue: u32,
     pub frame: u32,
     pub jobs: JobBook,
+    // How many jobs the sections before have, all completed: a job's number in the script is that much more than in
+    // the plan.
+    pub jobs_before: u32,
     pub safety: SafetyBook,
     pub store: SlotStore,
     // The words of all ranges taken so far.
@@ -134,8 +137,6 @@ pub struct World {
 pub struct Planner {
     pub world: World,
     pub draft: Draft,
-    // How many jobs the sections before have: a job's number in the script is that much more than in the plan.
-    pub jobs_before: u32,
     // By the script's kernels: the places of their copies among the plan's, plain and with the guard of `defer`.
     pub kernels: Vec<Option<u32>>,
     pub guards: Vec<Option<u32>>,

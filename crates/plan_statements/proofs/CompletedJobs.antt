@@ -1,10 +1,10 @@
 -- Jobs become completed: the ranges that were held for them come back, and what follows waits for those that are newly
 -- completed.
-use Rattle.std.proofs.Common.{◌≡◌, ℕ, zero, suc, ◌+◌, ◌-◌, ◌<◌, ◌≤◌, inl, ⊎_elim, Bool, true, false, eq-eqb, ne_eqb, ◌&&◌, ◌||◌, not, List, [], ◌∷◌, ◌++◌, length, refl, sym, ap, subst, ◌∙◌, arith, append-nil}
-use Rattle.std.specs.Prelude.{Vec, vec_len, nat_eq, if◌then◌else◌}
-use Rattle.std.specs.declared.alloc.Global.{Global}
+use Rattle.std.proofs.Common.{◌≡◌, ℕ, zero, suc, ◌+◌, ◌-◌, ◌<◌, ◌≤◌, ⊎_elim, Bool, true, false, eq-eqb, ne_eqb, ◌&&◌, ◌||◌, not, List, [], ◌∷◌, ◌++◌, length, Option, None, Some, refl, sym, ap, ◌∙◌, arith, append-nil}
+use Rattle.std.specs.Prelude.{nat_eq, if◌then◌else◌}
 use Rattle.std.specs.List.{All}
-use Rattle.std.proofs.lemmas.Bool.{cases_eq, eqb-true, or_left}
+use Rattle.std.specs.Option.{is_some}
+use Rattle.std.proofs.lemmas.Bool.{cases_eq, or_left}
 use Rattle.job_base.specs.declared.JobId.{JobId}
 use Rattle.frame_ast.specs.Conflicts.{has_pending}
 use Rattle.frame_ast.specs.Effects.{complete}
@@ -12,18 +12,17 @@ use Rattle.frame_ast.specs.Jobs.{Jobs, Book, ancestors_in, with_completed}
 use Rattle.frame_ast.specs.Laws.{AreUpTo, IsBook, AreUses, IsKnown}
 use Rattle.frame_ast.specs.States.{ScriptState}
 use Rattle.frame_ast.proofs.Known.{completed_book}
-use Rattle.slot_store.specs.declared.store.SlotStore.{SlotStore}
-use Rattle.slot_store.specs.Stores.{place_of, peak_of, slots_in_use, settled}
-use Rattle.job_handle.specs.declared.book.JobBook.{JobBook}
+use Rattle.slot_store.specs.Stores.{place_of, settled}
 use Rattle.job_handle.specs.Books.{StandsFor, count_of}
+use Rattle.job_handle.specs.Sets.{outside, IsNext}
 use Rattle.safety_handle.specs.Entries.{state_of}
 use Rattle.safety_handle.proofs.Latest.{completed_stands}
 use Rattle.frame_core.specs.Names.{has_job}
 use Rattle.frame_core.specs.Ordered.{IsAbove}
 use Rattle.frame_core.proofs.Small.{not_both, either_bool}
 use Rattle.plan_laws.specs.Planned.{AreJobsUpTo}
-use Rattle.plan_state.specs.declared.state.Planner.{Planner}
-use Rattle.plan_statements.specs.Completions.{newly_of, IsClosed, AreCompleted}
+use Rattle.plan_state.specs.declared.state.World.{World}
+use Rattle.plan_statements.specs.Completions.{newly_of, AreEnded}
 use Rattle.plan_state.specs.Growth.{rising_jobs}
 use Rattle.plan_state.specs.Stands.{IsHeldFor, AreContainers}
 use Rattle.plan_statements.proofs.Endings.Ending.{ended}
@@ -191,49 +190,31 @@ module _ (b : Book) (before : ℕ) (all : Jobs) where
       was ∙ sym (none_to (newly_of b before all) (at - before) (count - before) (omega arith)
       (λ k low high. moved k (before + k) refl ∙ none (before + k) (omega arith) (omega arith)))
 
-pub is_empty : (v : Vec JobId Global) → nat_eq (vec_len v) 0 ≡ true → v.items ≡ []
-is_empty v e = by v.items (let len = v.ok.0 in let none = eqb-true (vec_len v) 0 e in omega arith)
+-- Where the code finds none of a set that is open, all of this section are completed.
+pub ended_by : (w : World) (handle : Jobs) (next : Option JobId)
+    → ((b : Book) → StandsFor w.jobs b → IsNext (outside handle b.completed) w.jobs_before (count_of w.jobs) next)
+    → is_some next ≡ false → AreEnded w handle
+ended_by w handle None is e b stands j low high has = by (handle j) (b.completed j) has (is b stands j low high)
   where
-    by : (xs : List JobId) → length xs ≡ 0 → xs ≡ []
-    by [] e = refl
-    by (x ∷ xs) e = absurd (omega arith)
+    by : (a c : Bool) → a ≡ true → (a && not c) ≡ false → c ≡ true
+    by a true e f = refl
+    by true false e f = absurd (not_both refl f)
+    by false false e f = absurd (not_both e refl)
+ended_by w handle (Some first) is e b stands j low high has = absurd (not_both refl e)
 
-pub newly_set : (b : Book) (p : Planner) (handle all : Jobs) → ((k : ℕ) → all k ≡ ancestors_in b handle k) → (ids : List JobId)
-    → ids ≡ rising_jobs (newly_of b p.jobs_before all) (count_of p.world.jobs - p.jobs_before)
-    → ids ≡ rising_jobs (newly_of b p.jobs_before (ancestors_in b handle)) (count_of p.world.jobs - p.jobs_before)
-newly_set b p handle all same ids e = e ∙ (let path : all ≡ ancestors_in b handle = λ i k. same k i in
-    ap (λ f. rising_jobs (newly_of b p.jobs_before f) (count_of p.world.jobs - p.jobs_before)) path)
-
-pub closed_after : (old : Planner) (jobs : JobBook) (store : SlotStore) (new : Planner) (handle : Jobs) (newly : List JobId)
-    → ((b : Book) → StandsFor old.world.jobs b → newly ≡ rising_jobs (newly_of b old.jobs_before (ancestors_in b handle))
-    (count_of old.world.jobs - old.jobs_before))
-    → ((b : Book) → StandsFor old.world.jobs b → StandsFor jobs (with_completed b handle))
-    → ((b : Book) → StandsFor jobs b → (k : ℕ) → place_of store k ≡ settled b (place_of old.world.store k))
-    → slots_in_use store ≤ slots_in_use old.world.store
-    → peak_of store ≡ peak_of old.world.store
-    → IsClosed (record old { world = record old.world { jobs = jobs; store = store } }) new newly
-    → AreCompleted old new handle
-closed_after old jobs store new handle newly are book places used peak closed =
-    let same_jobs = ap (λ (k : Planner). k.world.jobs) closed.rest in
-    let same_store = ap (λ (k : Planner). k.world.store) closed.rest in
-    record {
-      newly = newly;
-      newly_are = are;
-      jobs = λ b stands. subst (λ j. StandsFor j (with_completed b handle)) (sym same_jobs) (book b stands);
-      places = λ b stands k. ap (λ z. place_of z k) same_store ∙ places b (subst (λ j. StandsFor j b) same_jobs stands) k;
-      used = (let u = used in let e = ap slots_in_use same_store in omega arith);
-      peak = ap peak_of same_store ∙ peak;
-      segment = inl (subst (λ z. IsClosed (record old { world = record old.world { jobs = new.world.jobs; store = z } }) new newly) (sym same_store)
-          (subst (λ j. IsClosed (record old { world = record old.world { jobs = j; store = store } }) new newly) (sym same_jobs) closed));
-    }
+pub newly_set : (b : Book) (w : World) (handle all : Jobs) → ((k : ℕ) → all k ≡ ancestors_in b handle k) → (ids : List JobId)
+    → ids ≡ rising_jobs (newly_of b w.jobs_before all) (count_of w.jobs - w.jobs_before)
+    → ids ≡ rising_jobs (newly_of b w.jobs_before (ancestors_in b handle)) (count_of w.jobs - w.jobs_before)
+newly_set b w handle all same ids e = e ∙ (let path : all ≡ ancestors_in b handle = λ i k. same k i in
+    ap (λ f. rising_jobs (newly_of b w.jobs_before f) (count_of w.jobs - w.jobs_before)) path)
 
 -- ---- the containers
 
-module _ (p q : Planner) (s : ScriptState) (found : List ℕ) (handle : Jobs) (was : AreContainers p.world s found) (known : IsKnown s)
+module _ (v w : World) (s : ScriptState) (found : List ℕ) (handle : Jobs) (was : AreContainers v s found) (known : IsKnown s)
     (up : AreUpTo s.book.count handle)
-    (containers : q.world.containers ≡ p.world.containers) (names : length q.world.values.items ≡ length p.world.values.items)
-    (safety : q.world.safety ≡ p.world.safety)
-    (places : (k : ℕ) → place_of q.world.store k ≡ settled (with_completed s.book handle) (place_of p.world.store k)) where
+    (containers : w.containers ≡ v.containers) (names : length w.values.items ≡ length v.values.items)
+    (safety : w.safety ≡ v.safety)
+    (places : (k : ℕ) → place_of w.store k ≡ settled (with_completed s.book handle) (place_of v.store k)) where
   abbrev book : Book
   book = with_completed s.book handle
 
@@ -255,7 +236,7 @@ module _ (p q : Planner) (s : ScriptState) (found : List ℕ) (handle : Jobs) (w
   still_held : (state : Rattle.slot_store.specs.declared.place.State.State) (c : ℕ) → IsHeldFor s.book state (s.uses c) → IsHeldFor book state (s.uses c)
   still_held state c h = record { held = h.held; latest = h.latest; stands = completed_stands s.book h.latest (s.uses c) h.stands handle; users = h.users }
 
-  between : AreBetween p.world q.world s t (place_of p.world.store)
+  between : AreBetween v w s t (place_of v.store)
   between = record {
     used = λ k u. u;
     rising = λ k. omega arith;
@@ -264,12 +245,12 @@ module _ (p q : Planner) (s : ScriptState) (found : List ℕ) (handle : Jobs) (w
         (state_of b k) tag) safety ∙ e;
     stays = λ c it has a. (refl, ap (λ (b : Rattle.safety_handle.specs.declared.book.SafetyBook.SafetyBook). state_of b it.slot.0) safety);
     ended = λ c it has a d. absurd (not_both a d);
-    held = λ c it has d live. (still_held (place_of p.world.store it.slot.0).state c ((was.each c it has).held d live), refl);
+    held = λ c it has d live. (still_held (place_of v.store it.slot.0).state c ((was.each c it has).held d live), refl);
   }
 
-  pub completed_stand : AreContainers q.world t found
+  pub completed_stand : AreContainers w t found
   completed_stand =
-      ended p.world q.world s found s.alive book s.frame s.values s.lines was containers names (λ c lt a. a) less_pending
+      ended v w s found s.alive book s.frame s.values s.lines was containers names (λ c lt a. a) less_pending
       (λ l u h. completed_stands s.book l u h handle)
-      (are_ended p.world q.world s found s.alive book s.frame s.values s.lines was (λ c a. a) less_pending book_known uses_known
-      (place_of p.world.store) between places)
+      (are_ended v w s found s.alive book s.frame s.values s.lines was (λ c a. a) less_pending book_known uses_known
+      (place_of v.store) between places)

@@ -1,9 +1,9 @@
 -- Completions go on: what follows waits for the jobs that are newly completed.
 use Rattle.std.proofs.Common.{◌≡◌, ℕ, suc, ◌+◌, ◌-◌, ◌<◌, ◌≤◌, ⊎_elim, Bool, true, false, ◌&&◌, ◌||◌, not, List, [], ◌∷◌, ◌++◌, length, Some, refl, sym, ap, subst, ◌∙◌, arith, append-nil}
-use Rattle.std.specs.Prelude.{Vec, vec_len, nat_lt, slice_get}
-use Rattle.std.specs.declared.alloc.Global.{Global}
+use Rattle.std.specs.Prelude.{vec_len, nat_lt, slice_get}
 use Rattle.std.proofs.lemmas.Bool.{cases_lt, lt-ltb}
 use Rattle.std.proofs.lemmas.List.{length-append}
+use Rattle.job_base.specs.declared.JobId.{JobId}
 use Rattle.frame_ast.specs.declared.script.Order.TheVariants.{Complete}
 use Rattle.frame_ast.specs.declared.script.Script.{Script}
 use Rattle.frame_ast.specs.declared.script.Statement.{Statement}
@@ -15,6 +15,7 @@ use Rattle.frame_ast.specs.Orders.{Table, Setting, setting}
 use Rattle.frame_ast.specs.Scripts.{act}
 use Rattle.frame_ast.specs.States as states
 use Rattle.frame_ast.specs.States.{ScriptState}
+use Rattle.frame_ast.proofs.Ancestry.{least}
 use Rattle.frame_ast.proofs.Known.{ancestors_among}
 use Rattle.job_handle.specs.declared.handle.Handle.{Handle}
 use Rattle.job_handle.specs.Sets.{jobs_of}
@@ -28,12 +29,16 @@ use Rattle.frame_core.proofs.Small.{not_both, either_bool}
 use Rattle.plan_laws.specs.Completing.{AreNewlyCompleted}
 use Rattle.plan_laws.specs.Planned.{Outline, jobs_before, AreJobsUpTo, IsPlanned}
 use Rattle.plan_laws.proofs.Completing.{completes_are_planned}
-use Rattle.plan_laws.proofs.Disposing.{others_are_planned}
+use Rattle.plan_state.specs.declared.answer.Answer.{Answer}
+use Rattle.plan_state.specs.declared.answer.Answer.TheVariants.{Nothing, Refused, Does, Fills, Waits, Reports}
+use Rattle.plan_state.specs.declared.state.Draft.{Draft}
 use Rattle.plan_state.specs.declared.state.Planner.{Planner}
 use Rattle.plan_state.specs.declared.state.Value.{Value}
+use Rattle.plan_state.specs.declared.state.World.{World}
 use Rattle.plan_state.specs.Accesses.{AreThere, jobs_of_value}
-use Rattle.plan_statements.specs.Completions.{newly_of, IsClosed, AreCompleted}
-use Rattle.plan_state.specs.Growth.{given_so_far, waits_so_far, HasWaited, rising_jobs, unless_none, waits_by, newly_in, newly_completed}
+use Rattle.plan_state.specs.Answers.{HasTaken, IsClosed}
+use Rattle.plan_statements.specs.Completions.{newly_of, AreEnded, AreCompleted, IsCompletion}
+use Rattle.plan_state.specs.Growth.{waits_so_far, HasWaited, rising_jobs, unless_none, waits_by, newly_in, newly_completed}
 use Rattle.plan_state.specs.Stands.{AreNames, AreContainers, AreTemps, AreTempJobs, Agrees, Stands, draft_of}
 use Rattle.plan_state.specs.Steps.{state_at, IsStep, StandsAt, HasStepped, GoesOn, IsReady}
 use Rattle.plan_state.proofs.Accessing.{are_there}
@@ -42,8 +47,8 @@ use Rattle.plan_statements.proofs.Endings.Continuing.{IsContinued, continued, sa
 use Rattle.plan_statements.proofs.DisposalsGoOn.{as_continued, value_jobs}
 use Rattle.plan_statements.proofs.Endings.Holding.{store_users}
 use Rattle.plan_state.proofs.Naming.{same_names}
-use Rattle.plan_state.proofs.Outlining.{jobs_are}
-use Rattle.plan_state.proofs.Quiet.{IsPlain, IsStill, each_closed, given_closed, still_steps, waits_closed}
+use Rattle.plan_state.proofs.Outlining.{outline, agrees, jobs_are}
+use Rattle.plan_state.proofs.Quiet.{IsPlain, IsStill, each_closed, given_closed, plain_steps, still_steps, waits_closed}
 use Rattle.plan_state.proofs.Reaching.{known_after, fits_at, used_below, within}
 use Rattle.plan_state.proofs.Restating.{accepted_state}
 
@@ -57,10 +62,10 @@ module _ (p : Planner) (script : Script) (table : Table) (begun : ScriptState) (
   jobs_count : count_of p.world.jobs ≡ s.book.count
   jobs_count = st.knows.jobs.count
 
-  pub section_low : p.jobs_before ≤ count_of p.world.jobs
+  pub section_low : p.world.jobs_before ≤ count_of p.world.jobs
   section_low = let are = jobs_are p script table begun n s found st in let before = st.numbers.before in let c = jobs_count in omega arith
 
-  pub section_jobs : count_of p.world.jobs - p.jobs_before ≡ length p.draft.jobs.items
+  pub section_jobs : count_of p.world.jobs - p.world.jobs_before ≡ length p.draft.jobs.items
   section_jobs = let are = jobs_are p script table begun n s found st in let before = st.numbers.before in let c = jobs_count in omega arith
 
   pub users_known : (k : ℕ) → AreUpTo (count_of p.world.jobs) (users_of (place_of p.world.store k).state)
@@ -68,9 +73,8 @@ module _ (p : Planner) (script : Script) (table : Table) (begun : ScriptState) (
       (store_users p.world s found st.knows.containers st.knows.known.book st.knows.known.uses k)
 
 -- ---- jobs are completed
-module _ (script : Script) (table : Table) (begun : ScriptState) (n : ℕ) (found : List ℕ) (x : Statement) (step : IsStep script table n x)
-    (p : Planner) (st : StandsAt p script table begun n found) (handle : Jobs) (up : AreUpTo (state_at script table n).book.count handle)
-    (q : Planner) (c : AreCompleted p q handle) where
+module _ (script : Script) (table : Table) (begun : ScriptState) (n : ℕ) (found : List ℕ)
+    (p : Planner) (st : StandsAt p script table begun n found) (handle : Jobs) (up : AreUpTo (state_at script table n).book.count handle) where
   abbrev g : Setting
   g = setting script table
 
@@ -80,257 +84,233 @@ module _ (script : Script) (table : Table) (begun : ScriptState) (n : ℕ) (foun
   abbrev t : ScriptState
   t = complete handle s
 
-  abbrev last : ℕ
-  last = count_of p.world.jobs - p.jobs_before
+  -- where some weren't
+  module _ (w : World) (d : Draft) (newly : List JobId) (c : AreCompleted p.world w handle newly) (i : IsClosed p.draft d newly) where
+    abbrev q : Planner
+    q = record p { world = w; draft = d }
 
-  abbrev set : Jobs
-  set = newly_of s.book p.jobs_before (ancestors_in s.book handle)
+    abbrev last : ℕ
+    last = count_of p.world.jobs - p.world.jobs_before
 
-  newly_is : c.newly ≡ rising_jobs set last
-  newly_is = c.newly_are s.book st.knows.jobs
+    abbrev set : Jobs
+    set = newly_of s.book p.world.jobs_before (ancestors_in s.book handle)
 
-  -- those after the last are none
-  none_later : (j : ℕ) → last < j → set j ≡ false
-  none_later j lt = ⊎_elim
-      (λ e. (let range = ancestors_among s.book st.knows.known.book handle up (p.jobs_before + j) e in
-      let count = jobs_count p script table begun n s found st in absurd (omega arith)))
-      (λ e. ap (λ b. b && not (s.book.completed (p.jobs_before + j))) e)
-      (either_bool (ancestors_in s.book handle (p.jobs_before + j)))
+    newly_is : newly ≡ rising_jobs set last
+    newly_is = c.newly_are s.book st.knows.jobs
 
-  has_newly : (j : ℕ) → 0 < j → has_job c.newly j ≡ set j
-  has_newly j pos =
-      ap (λ ids. has_job ids j) newly_is
-      ∙ ⊎_elim (λ lt. has_none set last j lt ∙ sym (none_later j lt)) (λ le. has_set set last j pos le) (cases_lt last j)
+    -- those after the last are none
+    none_later : (j : ℕ) → last < j → set j ≡ false
+    none_later j lt = ⊎_elim
+        (λ e. (let range = ancestors_among s.book st.knows.known.book handle up (p.world.jobs_before + j) e in
+        let count = jobs_count p script table begun n s found st in absurd (omega arith)))
+        (λ e. ap (λ b. b && not (s.book.completed (p.world.jobs_before + j))) e)
+        (either_bool (ancestors_in s.book handle (p.world.jobs_before + j)))
 
-  -- what follows waits for what is completed
-  waited : waits_so_far q ≡ waits_so_far p ++ c.newly → HasWaited begun.book.count s p → HasWaited begun.book.count t q
-  waited are h j pos =
-      ap (λ ids. has_job ids j) are
-      ∙ has_append (waits_so_far p) c.newly j
-      ∙ (let old = h j pos in
-      let new = has_newly j pos ∙ ap (λ b. newly_of s.book b (ancestors_in s.book handle) j) st.numbers.before in
-      λ i. old i || new i)
-      ∙ by (nat_lt 0 j) (s.book.completed (begun.book.count + j)) (ancestors_in s.book handle (begun.book.count + j)) (lt-ltb 0 j pos)
-    where
-      by : (x done now : Bool) → x ≡ true → ((x && done) || (now && not done)) ≡ (x && (done || now))
-      by false done now e = absurd (not_both e refl)
-      by true true now e = refl
-      by true false true e = refl
-      by true false false e = refl
+    has_newly : (j : ℕ) → 0 < j → has_job newly j ≡ set j
+    has_newly j pos =
+        ap (λ ids. has_job ids j) newly_is
+        ∙ ⊎_elim (λ lt. has_none set last j lt ∙ sym (none_later j lt)) (λ le. has_set set last j pos le) (cases_lt last j)
 
-  module _ (y : Outline) (a : Agrees p g begun found y) where
-    was : IsPlanned y s (draft_of p)
-    was = st.planned y a
+    -- what follows waits for what is completed
+    waited : waits_so_far q ≡ waits_so_far p ++ newly → HasWaited begun.book.count s p → HasWaited begun.book.count t q
+    waited are h j pos =
+        ap (λ ids. has_job ids j) are
+        ∙ has_append (waits_so_far p) newly j
+        ∙ (let old = h j pos in
+        let new = has_newly j pos ∙ ap (λ b. newly_of s.book b (ancestors_in s.book handle) j) st.numbers.before in
+        λ i. old i || new i)
+        ∙ by (nat_lt 0 j) (s.book.completed (begun.book.count + j)) (ancestors_in s.book handle (begun.book.count + j)) (lt-ltb 0 j pos)
+      where
+        by : (x done now : Bool) → x ≡ true → ((x && done) || (now && not done)) ≡ (x && (done || now))
+        by false done now e = absurd (not_both e refl)
+        by true true now e = refl
+        by true false true e = refl
+        by true false false e = refl
 
-    before_is : jobs_before y ≡ p.jobs_before
-    before_is = ap (λ (b : ScriptState). b.book.count) a.begins ∙ sym st.numbers.before
+    module _ (y : Outline) (a : Agrees p g begun found y) where
+      was : IsPlanned y s (draft_of p)
+      was = st.planned y a
 
-    news : AreNewlyCompleted y s handle c.newly
-    news j pos = has_newly j pos ∙ ap (λ b. newly_of s.book b (ancestors_in s.book handle) j) (sym before_is)
+      before_is : jobs_before y ≡ p.world.jobs_before
+      before_is = ap (λ (b : ScriptState). b.book.count) a.begins ∙ sym st.numbers.before
 
-    fits : AreJobsUpTo (length p.draft.jobs.items) c.newly
-    fits = subst (λ m. AreJobsUpTo m c.newly) (section_jobs p script table begun n s found st) (subst (AreJobsUpTo last) (sym newly_is) (rising_up_to set last))
+      news : AreNewlyCompleted y s handle newly
+      news j pos = has_newly j pos ∙ ap (λ b. newly_of s.book b (ancestors_in s.book handle) j) (sym before_is)
 
-    -- where the next segment waits for them
-    closed_planned : IsClosed (record p { world = record p.world { jobs = q.world.jobs; store = q.world.store } }) q c.newly → IsPlanned y t (draft_of q)
-    closed_planned i =
-        completes_are_planned y a.small s handle (draft_of p) (draft_of q) i.segment c.newly was st.knows.known up fits news i.starts
-        (record {
-          waits_were = i.waits_were;
-          ops_were = i.ops_were;
-          segments = i.segments;
-          jobs = ap (λ (k : Planner). k.draft.jobs.items) i.rest ∙ sym (append-nil p.draft.jobs.items);
-          waits = i.waits;
-          ops = i.ops;
-        })
+      fits : AreJobsUpTo (length p.draft.jobs.items) newly
+      fits = subst (λ m. AreJobsUpTo m newly) (section_jobs p script table begun n s found st) (subst (AreJobsUpTo last) (sym newly_is) (rising_up_to set last))
 
-    -- where there is none
-    module _ (none : c.newly ≡ []) where
-      all_done : (j : ℕ) → ancestors_in s.book handle j ≡ true → s.book.completed j ≡ true
-      all_done j e =
-          let range = ancestors_among s.book st.knows.known.book handle up j e in
-          ⊎_elim
-          (λ lt. (let k : ℕ = j - p.jobs_before in
-          let same : p.jobs_before + k ≡ j = omega arith in
-          let pos : 0 < k = omega arith in
-          let gone : set k ≡ false = sym (has_newly k pos) ∙ ap (λ ids. has_job ids k) none in
-          ends (ancestors_in s.book handle j) (s.book.completed j) e (ap (λ m. ancestors_in s.book handle m && not (s.book.completed m)) (sym same) ∙ gone)))
-          (λ le. was.ordered.before j range.0 (let e = before_is in omega arith))
-          (cases_lt p.jobs_before j)
-        where
-          ends : (a c : Bool) → a ≡ true → (a && not c) ≡ false → c ≡ true
-          ends a true e f = refl
-          ends true false e f = absurd (not_both refl f)
-          ends false false e f = absurd (not_both e refl)
+      planned : IsPlanned y t (draft_of q)
+      planned =
+          completes_are_planned y a.small s handle (draft_of p) (draft_of q) i.segment newly was st.knows.known up fits news i.starts
+          (record {
+            waits_were = i.waits_were;
+            ops_were = i.ops_were;
+            segments = i.segments;
+            jobs = ap (λ (k : Draft). k.jobs.items) i.rest ∙ sym (append-nil p.draft.jobs.items);
+            waits = i.waits;
+            ops = i.ops;
+          })
 
-      completed_same : (j : ℕ) → (s.book.completed j || ancestors_in s.book handle j) ≡ s.book.completed j
-      completed_same j = by (s.book.completed j) (ancestors_in s.book handle j) (all_done j)
-        where
-          by : (a b : Bool) → (b ≡ true → a ≡ true) → (a || b) ≡ a
-          by true b f = refl
-          by false true f = sym (f refl)
-          by false false f = refl
+    -- what is newly completed, as the states say it
+    newly_now : newly ≡ newly_completed begun.book.count s t
+    newly_now =
+        newly_is
+        ∙ (let before = st.numbers.before in
+        let count = jobs_count p script table begun n s found st in
+        λ i. rising_jobs (newly_of s.book (before i) (ancestors_in s.book handle)) (count i - before i))
+        ∙ (let path : newly_of s.book begun.book.count (ancestors_in s.book handle) ≡ newly_in begun.book.count s t =
+        λ i j. by (s.book.completed (begun.book.count + j)) (ancestors_in s.book handle (begun.book.count + j)) i in
+        ap (λ set. rising_jobs set (s.book.count - begun.book.count)) path)
+      where
+        by : (done now : Bool) → (now && not done) ≡ ((done || now) && not done)
+        by true true = refl
+        by true false = refl
+        by false true = refl
+        by false false = refl
 
-      open_planned : IsPlanned y t (draft_of p)
-      open_planned = others_are_planned y s t (draft_of p) (record {
-        made = refl;
-        contents = refl;
-        alive = refl;
-        uses = refl;
-        range = refl;
-        book = (let path : t.book.completed ≡ s.book.completed = λ i j. completed_same j i in λ i. record s.book { completed = path i });
-        traps = refl;
-        refused = refl;
-        lines = refl;
-      }) was
+    abbrev as_q : Planner
+    as_q = record p {
+      world = record p.world { jobs = w.jobs; store = w.store };
+      draft = record p.draft { segments = d.segments; waits = d.waits; ops = d.ops };
+    }
 
-  -- what is newly completed, as the states say it
-  newly_now : c.newly ≡ newly_completed begun.book.count s t
-  newly_now =
-      newly_is
-      ∙ (let before = st.numbers.before in
-      let count = jobs_count p script table begun n s found st in
-      λ i. rising_jobs (newly_of s.book (before i) (ancestors_in s.book handle)) (count i - before i))
-      ∙ (let path : newly_of s.book begun.book.count (ancestors_in s.book handle) ≡ newly_in begun.book.count s t =
-      λ i j. by (s.book.completed (begun.book.count + j)) (ancestors_in s.book handle (begun.book.count + j)) i in
-      ap (λ set. rising_jobs set (s.book.count - begun.book.count)) path)
-    where
-      by : (done now : Bool) → (now && not done) ≡ ((done || now) && not done)
-      by true true = refl
-      by true false = refl
-      by false true = refl
-      by false false = refl
+    is_q : q ≡ as_q
+    is_q = (let world = c.rest in let draft = i.rest in λ k. record p { world = world k; draft = draft k })
 
-  Fields : Type 0
-  Fields = (q ≡ record p {
-    world = record p.world {
-      values = q.world.values;
-      handles = q.world.handles;
-      temps = q.world.temps;
-      overdue = q.world.overdue;
-      frame = q.world.frame;
-      jobs = q.world.jobs;
-      safety = q.world.safety;
-      store = q.world.store;
-    };
-    draft = record p.draft { segments = q.draft.segments; waits = q.draft.waits; ops = q.draft.ops };
-  })
-
-  -- what each way of going on gives
-  module _ (r : Planner) (rest : q ≡ r) (values : r.world.values ≡ p.world.values) (handles : r.world.handles ≡ p.world.handles)
-      (temps : r.world.temps ≡ p.world.temps)
-      (overdue : r.world.overdue ≡ p.world.overdue)
-      (frame : r.world.frame ≡ p.world.frame) (safety : r.world.safety ≡ p.world.safety) (containers : r.world.containers ≡ p.world.containers)
-      (fields : r ≡ record p {
-        world = record p.world {
-          values = r.world.values;
-          handles = r.world.handles;
-          temps = r.world.temps;
-          overdue = r.world.overdue;
-          frame = r.world.frame;
-          jobs = r.world.jobs;
-          safety = r.world.safety;
-          store = r.world.store;
-        };
-        draft = record p.draft { segments = r.draft.segments; waits = r.draft.waits; ops = r.draft.ops };
-      })
-      (segments : length q.draft.segments.items ≤ suc (length p.draft.segments.items))
-      (ops : (ops_count q.draft.segments.items + length q.draft.ops.items) ≤ (ops_count p.draft.segments.items + length p.draft.ops.items))
-      (spans : given_so_far q ≡ given_so_far p)
-      (segments_later : List Segment)
-      (segments_are : q.draft.segments.items ≡ p.draft.segments.items ++ segments_later)
-      (waits : waits_so_far q ≡ waits_so_far p ++ c.newly)
-      (each : waits_by q ≡ waits_by p ++ unless_none c.newly)
-      (is : act g s x ≡ t)
-      (plain : IsPlain g x.act)
-      (planned : (y : Outline) → Agrees p g begun found y → IsPlanned y t (draft_of q)) where
-    values_are : q.world.values ≡ p.world.values
-    values_are = ap (λ (k : Planner). k.world.values) rest ∙ values
-
-    handles_are : q.world.handles ≡ p.world.handles
-    handles_are = ap (λ (k : Planner). k.world.handles) rest ∙ handles
-
-    stand : AreContainers q.world t found
-    stand = completed_stand p q s found handle st.knows.containers st.knows.known up
-        (ap (λ (k : Planner). k.world.containers) rest ∙ containers) (ap (λ (v : Vec Value Global). length v.items) values_are)
-        (ap (λ (k : Planner). k.world.safety) rest ∙ safety) (c.places (with_completed s.book handle) (c.jobs s.book st.knows.jobs))
+    stand : AreContainers w t found
+    stand = completed_stand p.world w s found handle st.knows.containers st.knows.known up
+        (ap (λ (k : World). k.containers) c.rest) (ap (λ (k : World). length k.values.items) c.rest)
+        (ap (λ (k : World). k.safety) c.rest) (c.places (with_completed s.book handle) (c.jobs s.book st.knows.jobs))
 
     goes : IsContinued p q s t found
-    goes = record {
-      planner = as_continued p q r rest fields;
+    goes =
+        let segments = ap length i.segments in
+        let one = length-append p.draft.segments.items (i.segment ∷ []) in
+        let counted = ap ops_count i.segments ∙ ops_more p.draft.segments.items i.segment in
+        let were = ap length i.ops_were in
+        let none = ap length i.ops in
+        let overdue = ap (λ (k : World). k.overdue) c.rest in
+        record {
+          planner = as_continued p q as_q is_q refl;
+          state = refl;
+          frame = ap (λ (k : World). k.frame) c.rest ∙ st.numbers.frame;
+          later = omega arith;
+          next = omega arith;
+          values = ap (λ (k : World). length k.values.items) c.rest;
+          handles = (let e = ap (λ (k : World). length k.handles.items) c.rest in omega arith);
+          peak = c.peak;
+          slots = c.used;
+          segments = omega arith;
+          ops = omega arith;
+          temps = subst (λ (k : World). AreTemps k.temps.items t) (sym c.rest)
+              (same_temps p.world.temps.items s s.alive (with_completed s.book handle) s.values s.lines (λ c a. a) st.knows.temps);
+          tempjobs = subst (λ (k : World). AreTempJobs p.world.tempjobs.items k.overdue t) (sym c.rest)
+              (same_tempjobs p.world.tempjobs.items p.world.overdue s s.alive (with_completed s.book handle) s.values s.lines st.knows.tempjobs);
+          jobs = c.jobs s.book st.knows.jobs;
+          containers = stand;
+        }
+
+    module _ (x : Statement) (step : IsStep script table n x) (is : act g s x ≡ t) (plain : IsPlain g x.act) where
+      still : IsStill g s x begun.book.count p q
+      still = record {
+        spans = given_closed p.draft.segments.items d.segments.items i.segment p.draft.ops.items d.ops.items i.segments i.ops_were i.ops;
+        peak = c.peak;
+        jobs = ap (λ (k : Draft). k.jobs.items) i.rest;
+        kernels = ap (λ (k : Draft). k.kernels.items) i.rest;
+        segments_later = i.segment ∷ [];
+        segments_are = i.segments;
+        waited = λ h. subst (λ u. HasWaited begun.book.count u q) (sym is) (waited
+            (waits_closed p.draft.segments.items d.segments.items i.segment p.draft.waits.items d.waits.items newly i.segments i.waits_were i.waits) h);
+        waits = each_closed p.draft.segments.items d.segments.items i.segment p.draft.waits.items d.waits.items newly i.segments i.waits_were i.waits
+            ∙ ap (λ ids. waits_by p ++ unless_none ids) (newly_now ∙ ap (newly_completed begun.book.count s) (sym is));
+      }
+
+      pub completes_on : HasStepped script table begun n found p q x
+      completes_on =
+          still_steps script table begun n found p q x step
+          (subst (λ u. Stands q g begun (suc n) u found) (sym is)
+          (continued p q g begun n s t found st goes (subst IsKnown is (known_after script table n x step))
+          (subst (λ (k : World). AreNames k.values.items k.handles.items (length p.world.containers.items) t) (sym c.rest)
+          (same_names p.world.values.items p.world.handles.items (length p.world.containers.items) s t refl st.knows.names))
+          planned))
+          still plain
+
+  -- where all were
+  module _ (ended : AreEnded p.world handle) where
+    -- so they are in the script, where sections end with all jobs completed
+    done : (j : ℕ) → handle j ≡ true → s.book.completed j ≡ true
+    done j e =
+        let range = up j e in
+        let high = range.1 in
+        let count = jobs_count p script table begun n s found st in
+        let a = agrees p script table begun n s found st in
+        let begins = ap (λ (b : ScriptState). b.book.count) a.begins in
+        let before = st.numbers.before in
+        ⊎_elim
+        (λ lt. ended s.book st.knows.jobs j lt (omega arith) e)
+        (λ le. (st.planned (outline p script table begun n s found st) a).ordered.before j range.0 (omega arith))
+        (cases_lt p.world.jobs_before j)
+
+    -- and their ancestors are completed with them
+    completed_same : (j : ℕ) → (s.book.completed j || ancestors_in s.book handle j) ≡ s.book.completed j
+    completed_same j = by (s.book.completed j) (ancestors_in s.book handle j)
+        (least s.book.deps (λ k. s.book.completed k ≡ true) st.knows.known.book.closed s.book.count handle done j)
+      where
+        by : (a b : Bool) → (b ≡ true → a ≡ true) → (a || b) ≡ a
+        by true b f = refl
+        by false true f = sym (f refl)
+        by false false f = refl
+
+    same : t ≡ s
+    same = (let path : t.book.completed ≡ s.book.completed = λ i j. completed_same j i in
+        λ i. record s { book = record s.book { completed = path i } })
+
+    stay : IsContinued p p s s found
+    stay = record {
+      planner = refl;
       state = refl;
-      frame = ap (λ (k : Planner). k.world.frame) rest ∙ frame ∙ st.numbers.frame;
+      frame = st.numbers.frame;
       later = omega arith;
       next = omega arith;
-      values = ap (λ (v : Vec Value Global). length v.items) values_are;
-      handles = (let e = ap (λ (v : Vec Handle Global). length v.items) handles_are in omega arith);
-      peak = c.peak;
-      slots = c.used;
-      segments = segments;
-      ops = (let o = ap (λ (k : Planner). k.world.overdue) rest ∙ overdue in let l = ops in omega arith);
-      temps = subst (λ (v : Vec ℕ Global). AreTemps v.items t) (sym (ap (λ (k : Planner). k.world.temps) rest ∙ temps))
-          (same_temps p.world.temps.items s s.alive (with_completed s.book handle) s.values s.lines (λ c a. a) st.knows.temps);
-      tempjobs = subst (λ o. AreTempJobs p.world.tempjobs.items o t) (sym (ap (λ (k : Planner). k.world.overdue) rest ∙ overdue))
-          (same_tempjobs p.world.tempjobs.items p.world.overdue s s.alive (with_completed s.book handle) s.values s.lines st.knows.tempjobs);
-      jobs = c.jobs s.book st.knows.jobs;
-      containers = stand;
+      values = refl;
+      handles = omega arith;
+      peak = refl;
+      slots = omega arith;
+      segments = omega arith;
+      ops = omega arith;
+      temps = st.knows.temps;
+      tempjobs = st.knows.tempjobs;
+      jobs = st.knows.jobs;
+      containers = st.knows.containers;
     }
 
-    still : IsStill g s x begun.book.count p q
-    still = record {
-      spans = spans;
-      peak = c.peak;
-      jobs = ap (λ (k : Planner). k.draft.jobs.items) goes.planner;
-      kernels = ap (λ (k : Planner). k.draft.kernels.items) goes.planner;
-      segments_later = segments_later;
-      segments_are = segments_are;
-      waited = λ h. subst (λ u. HasWaited begun.book.count u q) (sym is) (waited waits h);
-      waits = each ∙ ap (λ ids. waits_by p ++ unless_none ids) (newly_now ∙ ap (newly_completed begun.book.count s) (sym is));
-    }
+    pub ended_on : (x : Statement) → IsStep script table n x → act g s x ≡ t → IsPlain g x.act → HasStepped script table begun n found p p x
+    ended_on x step is plain =
+        plain_steps script table begun n found p p x step
+        (subst (λ u. Stands p g begun (suc n) u found) (sym (is ∙ same))
+        (continued p p g begun n s s found st stay st.knows.known st.knows.names (λ y a. st.planned y a)))
+        (record { spans = refl; peak = refl; jobs = refl; kernels = refl; segments = refl; waits = refl })
+        plain (ap (λ (u : ScriptState). u.book.completed) (is ∙ same))
 
-    onward : HasStepped script table begun n found p q x
-    onward =
-        still_steps script table begun n found p q x step
-        (subst (λ u. Stands q g begun (suc n) u found) (sym is)
-        (continued p q g begun n s t found st goes (subst IsKnown is (known_after script table n x step))
-        (subst (λ (v : Vec Value Global). AreNames v.items q.world.handles.items (length p.world.containers.items) t) (sym values_are)
-        (subst (λ (v : Vec Handle Global). AreNames p.world.values.items v.items (length p.world.containers.items) t) (sym handles_are)
-        (same_names p.world.values.items p.world.handles.items (length p.world.containers.items) s t refl st.knows.names)))
-        planned))
-        still plain
+-- ---- a statement that completes some jobs goes on by what that leaves to do
+module _ (script : Script) (table : Table) (begun : ScriptState) (n : ℕ) (found : List ℕ) (x : Statement) (step : IsStep script table n x)
+    (p : Planner) (st : StandsAt p script table begun n found) (handle : Jobs) (up : AreUpTo (state_at script table n).book.count handle) where
+  abbrev IsNext : World → Draft → Type 0
+  IsNext w d = HasStepped script table begun n found p (record p { world = w; draft = d }) x
 
-  pub completes_on : act g s x ≡ t → IsPlain g x.act → HasStepped script table begun n found p q x
-  completes_on is plain = ⊎_elim
-      (λ i.
-      let r : Planner = record p {
-        world = record p.world {
-          jobs = q.world.jobs;
-          store = q.world.store;
-        };
-        draft = record p.draft { segments = q.draft.segments; waits = q.draft.waits; ops = q.draft.ops };
-      } in
-      let segments = ap length i.segments in
-      let one = length-append p.draft.segments.items (i.segment ∷ []) in
-      let counted = ap ops_count i.segments ∙ ops_more p.draft.segments.items i.segment in
-      let were = ap length i.ops_were in
-      let none = ap length i.ops in
-      onward r i.rest refl refl refl refl refl refl refl refl (omega arith) (omega arith)
-      (given_closed p.draft.segments.items q.draft.segments.items i.segment p.draft.ops.items q.draft.ops.items i.segments i.ops_were i.ops)
-      (i.segment ∷ []) i.segments
-      (waits_closed p.draft.segments.items q.draft.segments.items i.segment p.draft.waits.items q.draft.waits.items c.newly i.segments i.waits_were i.waits)
-      (each_closed p.draft.segments.items q.draft.segments.items i.segment p.draft.waits.items q.draft.waits.items c.newly i.segments i.waits_were i.waits)
-      is plain (λ y a. closed_planned y a i))
-      (λ (i : (c.newly ≡ []) × (q ≡ record p { world = record p.world { jobs = q.world.jobs; store = q.world.store } })).
-      let r : Planner = record p { world = record p.world { jobs = q.world.jobs; store = q.world.store } } in
-      let segments = ap (λ (k : Planner). length k.draft.segments.items) i.1 in
-      let counted = ap (λ (k : Planner). ops_count k.draft.segments.items + length k.draft.ops.items) i.1 in
-      onward r i.1 refl refl refl refl refl refl refl refl (omega arith) (omega arith) (ap given_so_far i.1)
-      [] (ap (λ (k : Planner). k.draft.segments.items) i.1 ∙ sym (append-nil p.draft.segments.items))
-      (ap waits_so_far i.1 ∙ sym (append-nil (waits_so_far p)) ∙ ap (λ l. waits_so_far p ++ l) (sym i.0))
-      (ap waits_by i.1 ∙ sym (append-nil (waits_by p)) ∙ ap (λ ids. waits_by p ++ unless_none ids) (sym i.0))
-      is plain
-      (λ y a. subst (λ (k : Planner). IsPlanned y t (draft_of k)) (sym i.1) (open_planned y a i.0)))
-      c.segment
+  pub completion_on : (w : World) (d : Draft) (answer : Answer) → IsCompletion p.world w handle answer → HasTaken p.draft d x.line answer
+      → act (setting script table) (state_at script table n) x ≡ complete handle (state_at script table n) → IsPlain (setting script table) x.act
+      → IsNext w d
+  completion_on w d Nothing done took is plain =
+      subst (λ (v : World). IsNext v d) (sym done.1)
+      (subst (λ (e : Draft). IsNext p.world e) (sym took) (ended_on script table begun n found p st handle up done.0 x step is plain))
+  completion_on w d (Waits newly) done took is plain =
+      completes_on script table begun n found p st handle up w d newly.items done took x step is plain
+  completion_on w d (Refused name refusal) done took is plain = absurd done
+  completion_on w d (Does name what) done took is plain = absurd done
+  completion_on w d (Fills name span values) done took is plain = absurd done
+  completion_on w d (Reports ops) done took is plain = absurd done
 
 -- ---- `complete`
 module _ (p : Planner) (name : ℕ) where
@@ -341,7 +321,7 @@ module _ (p : Planner) (name : ℕ) where
   pub record CanComplete : Type 0 where
     pub name_in : name < vec_len p.world.values
     pub there : AreThere (vec_len p.world.containers) (vec_len p.world.handles) p.world.values.items
-    pub before : p.jobs_before ≤ count_of p.world.jobs
+    pub before : p.world.jobs_before ≤ count_of p.world.jobs
     pub users : (k : ℕ) → AreUpTo (count_of p.world.jobs) (users_of (place_of p.world.store k).state)
     pub jobs : (v : Value) → slice_get p.world.values.items name ≡ Some v → AreUpTo (count_of p.world.jobs) (jobs_of_value p.world.handles.items v)
 
@@ -363,14 +343,15 @@ module _ (p : Planner) (name : ℕ) where
             ∙ sym (value_jobs p.world.values.items p.world.handles.items (length p.world.containers.items) s b.stands.knows.names v j) ∙ e));
       }
 
-  pub complete_goes : (q : Planner) (jobs : Handle) (v : Value) → slice_get p.world.values.items name ≡ Some v
+  pub complete_goes : (w : World) (draft : Draft) (answer : Answer) (jobs : Handle) (v : Value) → slice_get p.world.values.items name ≡ Some v
       → jobs_of jobs ≡ jobs_of_value p.world.handles.items v
-      → AreCompleted p q (jobs_of jobs) → (line : ℕ) → GoesOn p q (statement line)
-  complete_goes q jobs v h are c line script table begun n found step st =
+      → IsCompletion p.world w (jobs_of jobs) answer → (line : ℕ) → HasTaken p.draft draft line answer
+      → GoesOn p (record p { world = w; draft = draft }) (statement line)
+  complete_goes w draft answer jobs v h are done line took script table begun n found step st =
       let s = state_at script table n in
       let same : jobs_of jobs ≡ states.jobs_of (s.values name) =
       are ∙ (λ i j. value_jobs p.world.values.items p.world.handles.items (length p.world.containers.items) s st.knows.names v j i)
       ∙ ap states.jobs_of (st.knows.names.are name v h) in
-      completes_on script table begun n found (statement line) step p st (states.jobs_of (s.values name)) (st.knows.known.handles name) q
-      (subst (AreCompleted p q) same c)
+      completion_on script table begun n found (statement line) step p st (states.jobs_of (s.values name)) (st.knows.known.handles name) w draft answer
+      (subst (λ js. IsCompletion p.world w js answer) same done) took
       (accepted_state (setting script table) s (statement line) step.acts refl) (refl, tt)

@@ -1,9 +1,10 @@
 -- A frame goes on: what is overdue is reported, and containers that live for one frame end.
 use Rattle.std.proofs.Common.{◌≡◌, ℕ, zero, suc, ◌+◌, ◌<◌, ◌≤◌, ⊎_elim, Bool, true, false, ◌&&◌, not, List, [], ◌∷◌, ◌++◌, length, Some, refl, sym, ap, subst, ◌∙◌, arith, append-nil}
-use Rattle.std.specs.Prelude.{Vec, vec_len, nat_eq, slice_get, get_or, if◌then◌else◌}
+use Rattle.std.specs.Prelude.{Vec, vec_len, slice_get, get_or, if◌then◌else◌}
 use Rattle.std.specs.declared.alloc.Global.{Global}
 use Rattle.std.specs.List.{All}
 use Rattle.std.proofs.lemmas.Bool.{cases_eq}
+use Rattle.std.proofs.lemmas.List.{length-append}
 use Rattle.frame_ast.specs.declared.script.Order.TheVariants.{Frame}
 use Rattle.frame_ast.specs.declared.script.Script.{Script}
 use Rattle.frame_ast.specs.declared.script.Statement.{Statement}
@@ -16,6 +17,7 @@ use Rattle.frame_ast.specs.States.{ScriptState, with_at}
 use Rattle.frame_ast.proofs.Unused.{temps_have_no_users}
 use Rattle.job_handle.specs.Books.{StandsFor}
 use Rattle.slot_store.specs.Stores.{peak_of, slots_in_use}
+use Rattle.frame_core.specs.declared.plan.Op.{Op}
 use Rattle.frame_core.specs.Ordered.{ops_count}
 use Rattle.frame_core.proofs.Small.{not_both, some_is, none_some, either_bool, get_below}
 use Rattle.plan_laws.specs.Disposing.{with_alive}
@@ -23,12 +25,14 @@ use Rattle.plan_laws.specs.Frames.{report_op, report_ops}
 use Rattle.plan_laws.specs.Planned.{Outline, IsPlanned}
 use Rattle.plan_laws.proofs.Frames.{frames_are_planned}
 use Rattle.plan_state.specs.declared.state.Container.{Container}
+use Rattle.plan_state.specs.declared.state.Draft.{Draft}
 use Rattle.plan_state.specs.declared.state.Planner.{Planner}
 use Rattle.plan_state.specs.declared.state.World.{World}
-use Rattle.plan_statements.specs.Frames.{is_kept, IsDue, AreSmall, IsOver, stays, AreUnused, AreSeen, AreReported, AreOver}
+use Rattle.plan_statements.specs.Frames.{is_kept, AreSmall, HaveRoom, IsOver, stays, AreUnused, AreSeen, AreReported, AreOver}
+use Rattle.plan_state.specs.Answers.{HasOps}
 use Rattle.plan_state.specs.Growth.{given_in, given_from, given_so_far}
 use Rattle.plan_state.specs.Stands.{AreNames, AreContainers, AreTemps, AreTempJobs, Agrees, Stands, draft_of}
-use Rattle.plan_state.specs.Steps.{state_at, IsStep, StandsAt, HasStepped, GoesOn, IsReady}
+use Rattle.plan_state.specs.Steps.{state_at, IsStep, StandsAt, HasStepped, GoesOnIn, IsReady}
 use Rattle.plan_state.proofs.Accessing.{read_some}
 use Rattle.plan_statements.proofs.Endings.Continuing.{IsContinued, continued, quiet_continued}
 use Rattle.plan_statements.proofs.DisposalsGoOn.{as_continued}
@@ -37,7 +41,7 @@ use Rattle.plan_statements.proofs.Endings.Giving.{at_here, at_other, fallen, giv
 use Rattle.plan_state.proofs.Naming.{same_names}
 use Rattle.plan_state.proofs.Quiet.{given_more, plain_steps}
 use Rattle.plan_state.proofs.Reaching.{known_after, statements_few}
-use Rattle.plan_statements.proofs.Reporting.{get_there, place_low, AreReportedSoFar}
+use Rattle.plan_statements.proofs.Reporting.{get_there, place_low}
 use Rattle.plan_state.proofs.Restating.{accepted_state, name_is, name_short}
 use Rattle.plan_statements.proofs.Endings.Settling.{all_done}
 
@@ -196,7 +200,7 @@ module _ (p : Planner) (line : ℕ) where
     pub tempjobs : All (λ c. c < vec_len p.world.containers) p.world.tempjobs.items
     pub small : AreSmall p.world.containers.items
     pub few : p.world.frame + 1 < 4294967296
-    pub places : (k c : ℕ) → slice_get p.world.tempjobs.items k ≡ Some c → k + 1 < 4294967296
+    pub room : HaveRoom p.world.tempjobs.items
 
   pub frame_ready : IsReady p statement → CanFrame
   frame_ready ready =
@@ -220,18 +224,12 @@ module _ (p : Planner) (line : ℕ) where
             let f = k.making.0 in
             (omega arith, omega arith);
         few = (let frames = st.numbers.frames_few in let f = st.numbers.frame in omega arith);
-        places = λ k c h. let le = place_low p line g b.begun b.n s b.found st k c h in let lt = (st.knows.tempjobs.each k c h).0 in omega arith;
+        room = λ k c h. let le = place_low p.world line g s b.found st.knows k c h in let lt = (st.knows.tempjobs.each k c h).0 in omega arith;
       }
 
--- the place of one that is due can go on
-pub place_fits : (p m : Planner) (line : ℕ) → IsReady p (statement p line) → AreReportedSoFar p m line → (it : Container) → IsDue m it
-    → m.world.overdue + 1 < 4294967296
-place_fits p m line ready so it due =
-    (frame_ready p line ready).places m.world.overdue due.number (ap (λ (k : Planner). slice_get k.world.tempjobs.items m.world.overdue) (sym so.rest) ∙ due.at)
-
 -- ---- a frame
-module _ (p r : Planner) (m : World) (q : Planner) (line : ℕ) (reported : AreReported p r line) (over : AreOver r.world m)
-    (last : q ≡ record r { world = record m { frame = m.frame + 1 } })
+module _ (p : Planner) (r m : World) (d : Draft) (reports : List Op) (line : ℕ) (reported : AreReported p.world r line reports) (over : AreOver r m)
+    (has : HasOps p.draft d reports)
     (script : Script) (table : Table) (begun : ScriptState) (n : ℕ) (found : List ℕ) (step : IsStep script table n (statement p line))
     (st : StandsAt p script table begun n found) where
   abbrev x : Statement
@@ -246,47 +244,45 @@ module _ (p r : Planner) (m : World) (q : Planner) (line : ℕ) (reported : AreR
   abbrev t : ScriptState
   t = next_frame g line s
 
-  said : (r.draft.ops.items ≡ p.draft.ops.items ++ report_ops s line s.made) × AreSeen p s r.world.overdue
-  said = reported.ops g begun n s found st
+  abbrev q : Planner
+  q = record p { world = record m { frame = m.frame + 1 }; draft = d }
 
-  is_m : record r { world = m } ≡ record p {
-    world = record p.world { overdue = r.world.overdue; temps = m.temps; safety = m.safety; store = m.store };
-    draft = record p.draft { ops = r.draft.ops };
-  }
-  is_m = ap (λ (k : World). record r { world = k }) over.rest ∙ ap {A = Planner} {B = Planner} (λ k. record k {
-    world = record k.world { temps = m.temps; safety = m.safety; store = m.store };
-  }) reported.rest
+  said : (d.ops.items ≡ p.draft.ops.items ++ report_ops s line s.made) × AreSeen p.world s r.overdue
+  said = (let are = reported.said g s found st.knows st.numbers.frame in (has.ops ∙ ap (λ o. p.draft.ops.items ++ o) are.0, are.1))
 
   abbrev as_q : Planner
   as_q = record p {
     world = record p.world {
-      overdue = r.world.overdue;
+      overdue = r.overdue;
       temps = m.temps;
       safety = m.safety;
       store = m.store;
       frame = p.world.frame + 1;
     };
-    draft = record p.draft { ops = r.draft.ops };
+    draft = record p.draft { ops = d.ops };
   }
 
+  is_m : m ≡ record p.world { overdue = r.overdue; temps = m.temps; safety = m.safety; store = m.store }
+  is_m = over.rest ∙ ap {A = World} {B = World} (λ k. record k { temps = m.temps; safety = m.safety; store = m.store }) reported.rest
+
   is_q : q ≡ as_q
-  is_q = last ∙ ap {A = Planner} {B = Planner} (λ k. record k { world = record k.world { frame = k.world.frame + 1 } }) is_m
+  is_q = (let world = ap {A = World} {B = World} (λ k. record k { frame = k.frame + 1 }) is_m in let draft = has.rest in
+      λ i. record p { world = world i; draft = draft i })
 
   unused : AreUnused s
   unused c j e = temps_have_no_users g (Rattle.std.specs.Prelude.take n script.statements.items) c j e
 
-  before : AreContainers r.world s found
-  before = still p.world r.world s found s.alive s.frame s.values s.lines st.knows.containers
-      (ap (λ (k : Planner). k.world.containers) reported.rest) (ap (λ (k : Planner). length k.world.values.items) reported.rest)
-      (ap (λ (k : Planner). k.world.store) reported.rest) (ap (λ (k : Planner). k.world.safety) reported.rest) (λ c lt. refl)
+  before : AreContainers r s found
+  before = still p.world r s found s.alive s.frame s.values s.lines st.knows.containers
+      (ap (λ (k : World). k.containers) reported.rest) (ap (λ (k : World). length k.values.items) reported.rest)
+      (ap (λ (k : World). k.store) reported.rest) (ap (λ (k : World). k.safety) reported.rest) (λ c lt. refl)
 
-  temps_of : AreTemps r.world.temps.items s
-  temps_of = subst (λ (k : Planner). AreTemps k.world.temps.items s) (sym reported.rest) st.knows.temps
+  temps_of : AreTemps r.temps.items s
+  temps_of = subst (λ (k : World). AreTemps k.temps.items s) (sym reported.rest) st.knows.temps
 
   stand : AreContainers q.world t found
   stand = still m q.world (with_alive (stays s) s) found (stays s) (s.frame + 1) s.values t.lines (over.containers s found before temps_of unused)
-      (ap (λ (k : Planner). k.world.containers) last) (ap (λ (k : Planner). length k.world.values.items) last)
-      (ap (λ (k : Planner). k.world.store) last) (ap (λ (k : Planner). k.world.safety) last) (λ c lt. refl)
+      refl refl refl refl (λ c lt. refl)
 
   no_temps : AreTemps [] t
   no_temps = record {
@@ -298,7 +294,7 @@ module _ (p r : Planner) (m : World) (q : Planner) (line : ℕ) (reported : AreR
       none true = refl
       none false = refl
 
-  tempjobs : AreTempJobs p.world.tempjobs.items r.world.overdue t
+  tempjobs : AreTempJobs p.world.tempjobs.items r.overdue t
   tempjobs = let o = st.knows.tempjobs in record {
     all = o.all;
     each = o.each;
@@ -317,12 +313,12 @@ module _ (p r : Planner) (m : World) (q : Planner) (line : ℕ) (reported : AreR
     next = omega arith;
     values = ap (λ (k : Planner). length k.world.values.items) is_q;
     handles = (let e = ap (λ (k : Planner). length k.world.handles.items) is_q in omega arith);
-    peak = ap (λ (k : Planner). peak_of k.world.store) is_q ∙ over.peak ∙ ap (λ (k : Planner). peak_of k.world.store) reported.rest;
+    peak = ap (λ (k : Planner). peak_of k.world.store) is_q ∙ over.peak ∙ ap (λ (k : World). peak_of k.store) reported.rest;
     slots = (let u = over.used in let a = ap (λ (k : Planner). slots_in_use k.world.store) is_q in let b = ap
-        (λ (k : Planner). slots_in_use k.world.store) reported.rest in
+        (λ (k : World). slots_in_use k.store) reported.rest in
         omega arith);
     segments = (let e = ap (λ (k : Planner). length k.draft.segments.items) is_q in omega arith);
-    ops = (let e = ap (λ (k : Planner). ops_count k.draft.segments.items) is_q in let f = ap (λ (k : Planner). length k.draft.ops.items) is_q in
+    ops = (let e = ap (λ (k : Planner). ops_count k.draft.segments.items) is_q in let l = ap length has.ops ∙ length-append p.draft.ops.items reports in
         let o = ap (λ (k : Planner). k.world.overdue) is_q in
         let count = reported.count in omega arith);
     temps = subst (λ ts. AreTemps ts t) (sym (ap (λ (k : Planner). k.world.temps.items) is_q ∙ over.temps)) no_temps;
@@ -380,7 +376,8 @@ module _ (p r : Planner) (m : World) (q : Planner) (line : ℕ) (reported : AreR
       (quiet_continued p q s t found goes spans (ap (λ (k : Planner). k.draft.segments) is_q) (ap (λ (k : Planner). k.draft.waits) is_q))
       (refl, tt) (ap (λ (u : ScriptState). u.book.completed) is)
 
-pub frame_goes : (p r : Planner) (m : World) (q : Planner) (line : ℕ) → AreReported p r line → AreOver r.world m
-    → q ≡ record r { world = record m { frame = m.frame + 1 } }
-    → GoesOn p q (statement p line)
-frame_goes p r m q line reported over last script table begun n found step st = frame_on p r m q line reported over last script table begun n found step st
+pub frame_goes : (p : Planner) (r m : World) (d : Draft) (reports : List Op) (line : ℕ) → AreReported p.world r line reports → AreOver r m
+    → HasOps p.draft d reports
+    → (script : Script) (table : Table) → GoesOnIn script table p (record p { world = record m { frame = m.frame + 1 }; draft = d }) (statement p line)
+frame_goes p r m d reports line reported over has script table begun n found step st =
+    frame_on p r m d reports line reported over has script table begun n found step st

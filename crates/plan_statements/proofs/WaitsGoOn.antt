@@ -21,7 +21,7 @@ use Rattle.frame_ast.specs.Orders.{Table, Setting, setting}
 use Rattle.frame_ast.specs.Refusals.{Refused, refused, disposed, stale, pending, pending_on, access}
 use Rattle.frame_ast.specs.Schedules.{need_of}
 use Rattle.frame_ast.specs.States as states
-use Rattle.frame_ast.specs.States.{ScriptState, with_name, is_alive, is_stale, container_at}
+use Rattle.frame_ast.specs.States.{ScriptState, with_name, is_alive, is_stale}
 use Rattle.frame_ast.proofs.Blocking.{blocking_among}
 use Rattle.frame_ast.proofs.Naming.{FitsThere}
 use Rattle.auto_deps.specs.Needs.{conflicting_with, ForNeeds, IsAutomatic}
@@ -33,18 +33,21 @@ use Rattle.slot_store.specs.Places.{users_of}
 use Rattle.slot_store.specs.Stores.{place_of}
 use Rattle.frame_core.specs.declared.plan.Act.TheVariants.{Say}
 use Rattle.frame_core.proofs.Small.{not_both, some_is, none_some, either_bool, get_below}
+use Rattle.plan_state.specs.declared.answer.Answer.{Answer}
 use Rattle.plan_state.specs.declared.state.Value.{Value}
 use Rattle.plan_state.specs.declared.state.Container.{Container}
+use Rattle.plan_state.specs.declared.state.Draft.{Draft}
 use Rattle.plan_state.specs.declared.state.Planner.{Planner}
 use Rattle.plan_state.specs.declared.state.World.{World}
 use Rattle.plan_state.specs.Accesses.{refused_as, tag_in, IsPushed, HasHandle, IsGone, MayUse, AreThere}
-use Rattle.plan_statements.specs.Completions.{AreCompleted}
+use Rattle.plan_state.specs.Answers.{HasTaken}
+use Rattle.plan_statements.specs.Completions.{IsCompletion}
 use Rattle.plan_statements.specs.Endings.{number_of, CanHold, IsHeldBack}
 use Rattle.plan_state.specs.Stands.{tag_of, Stands, Knows}
 use Rattle.plan_state.specs.Steps.{state_at, IsStep, GoesOn, IsReady}
 use Rattle.plan_statements.specs.Waiting.{IsLiveAt, IsLive, IsBroken, says_broken, IsCompletable, KnowsUsers, AreWaitedFor}
 use Rattle.plan_state.proofs.Accessing.{are_there}
-use Rattle.plan_statements.proofs.CompletesGoOn.{section_low, users_known, completes_on}
+use Rattle.plan_statements.proofs.CompletesGoOn.{section_low, users_known, completion_on}
 use Rattle.plan_statements.proofs.Disposals.{tagged, number_below, number_at, no_number, alive_container}
 use Rattle.plan_statements.proofs.DisposalsGoOn.{can_hold}
 use Rattle.plan_statements.proofs.Endings.Ending.{there}
@@ -315,7 +318,7 @@ module _ (p : Planner) (line name : ℕ) where
   pub record CanCompleteAuto : Type 0 where
     pub name_in : name < vec_len p.world.values
     pub there : AreThere (vec_len p.world.containers) (vec_len p.world.handles) p.world.values.items
-    pub before : p.jobs_before ≤ count_of p.world.jobs
+    pub before : p.world.jobs_before ≤ count_of p.world.jobs
     pub users : (k : ℕ) → AreUpTo (count_of p.world.jobs) (users_of (place_of p.world.store k).state)
     pub known : (c : ℕ) → IsCompletable p.world name (Ok c) → KnowsUsers p.world (slice_get p.world.containers.items c)
     pub jobs : (c : ℕ) → IsCompletable p.world name (Ok c) → (jobs : Jobs) → AreWaitedFor p.world (slice_get p.world.containers.items c) jobs
@@ -345,14 +348,14 @@ module _ (p : Planner) (line name : ℕ) where
       said script table begun n found completing step (record { cause = cause; name = name }) p st
       (sym (may (setting script table) (state_at script table n) found st.knows).0) (completing_below script table n step) q refl refl (inr (λ c. refl)) i
 
-  pub completing_goes : (q : Planner) (jobs : Jobs) (c : ℕ) → IsCompletable p.world name (Ok c)
+  pub completing_goes : (w : World) (draft : Draft) (answer : Answer) (jobs : Jobs) (c : ℕ) → IsCompletable p.world name (Ok c)
       → AreWaitedFor p.world (slice_get p.world.containers.items c) jobs
-      → AreCompleted p q jobs → GoesOn p q completing
-  completing_goes q jobs c may w done script table begun n found step st =
+      → IsCompletion p.world w jobs answer → HasTaken p.draft draft line answer → GoesOn p (record p { world = w; draft = draft }) completing
+  completing_goes w draft answer jobs c may wait done took script table begun n found step st =
       let g = setting script table in
       let s = state_at script table n in
       let m = may g s found st.knows in
-      completes_on script table begun n found completing step p st (automatic s.book s.uses nobody (need_of s name true ∷ []))
-      (set_known p g begun n s found st name c m.1) q
-      (subst (AreCompleted p q) (set_is p g begun n s found st name c m.1 jobs w) done)
+      completion_on script table begun n found completing step p st (automatic s.book s.uses nobody (need_of s name true ∷ []))
+      (set_known p g begun n s found st name c m.1) w draft answer
+      (subst (λ js. IsCompletion p.world w js answer) (set_is p g begun n s found st name c m.1 jobs wait) done) took
       (accepted_state g s completing step.acts (sym m.0)) (refl, tt)

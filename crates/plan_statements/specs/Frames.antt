@@ -6,13 +6,13 @@ use Rattle.frame_ast.specs.States.{ScriptState}
 use Rattle.slot_store.specs.Places.{is_taken}
 use Rattle.slot_store.specs.Stores.{place_of, peak_of, slots_in_use}
 use Rattle.frame_core.specs.declared.plan.Act.TheVariants.{Report}
+use Rattle.frame_core.specs.declared.plan.Op.{Op}
 use Rattle.plan_laws.specs.Disposing.{with_alive}
 use Rattle.plan_laws.specs.Frames.{report_ops}
 use Rattle.plan_state.specs.declared.state.Container.{Container}
-use Rattle.plan_state.specs.declared.state.Planner.{Planner}
 use Rattle.plan_state.specs.declared.state.World.{World}
 use Rattle.plan_statements.specs.Endings.{IsGiven}
-use Rattle.plan_state.specs.Stands.{AreContainers, AreTemps, Stands}
+use Rattle.plan_state.specs.Stands.{AreContainers, AreTemps, Knows}
 
 -- the store has the slot of a container with its version
 abbrev pub is_kept : World → Container → Bool
@@ -25,51 +25,52 @@ AreSmall containers = (c : ℕ) (it : Container)
     → slice_get containers c ≡ Some it
     → (it.version.0 < 4294967295) × (it.frame + 3 < 4294967296)
 
+-- the places of a list can be counted past
+abbrev pub HaveRoom : List ℕ → Type 0
+HaveRoom places = (k c : ℕ) → slice_get places k ≡ Some c → k + 1 < 4294967296
+
 -- OVERDUE CONTAINERS
 
 -- The container was made so long ago, and is the next of these.
-pub record IsDue (p : Planner) (it : Container) : Type 0 where
+pub record IsDue (w : World) (it : Container) : Type 0 where
   pub number : ℕ
-  pub at : slice_get p.world.tempjobs.items p.world.overdue ≡ Some number
-  pub has : slice_get p.world.containers.items number ≡ Some it
-  pub old : it.frame + 3 ≤ p.world.frame
+  pub at : slice_get w.tempjobs.items w.overdue ≡ Some number
+  pub has : slice_get w.containers.items number ≡ Some it
+  pub old : it.frame + 3 ≤ w.frame
 
 -- No container is: all were seen, or the next is younger.
-pub record IsYoung (p : Planner) : Type 0 where
+pub record IsYoung (w : World) : Type 0 where
   pub number : ℕ
   pub it : Container
-  pub at : slice_get p.world.tempjobs.items p.world.overdue ≡ Some number
-  pub has : slice_get p.world.containers.items number ≡ Some it
-  pub young : p.world.frame < it.frame + 3
+  pub at : slice_get w.tempjobs.items w.overdue ≡ Some number
+  pub has : slice_get w.containers.items number ≡ Some it
+  pub young : w.frame < it.frame + 3
 
-abbrev pub IsNextDue : Planner → Option Container → Type 0
-IsNextDue p None = (length p.world.tempjobs.items ≤ p.world.overdue) ⊎ IsYoung p
-IsNextDue p (Some it) = IsDue p it
+abbrev pub IsNextDue : World → Option Container → Type 0
+IsNextDue w None = (length w.tempjobs.items ≤ w.overdue) ⊎ IsYoung w
+IsNextDue w (Some it) = IsDue w it
 
 -- It is reported, where it is alive.
-pub record IsReported (old new : Planner) (line : ℕ) (it : Container) : Type 0 where
-  pub ops : new.draft.ops.items ≡ old.draft.ops.items
-      ++ (if is_kept old.world it then record { line = line; name = it.name; act = Report it.line } ∷ [] else [])
-  pub rest : new ≡ record old { draft = record old.draft { ops = new.draft.ops } }
+abbrev pub IsReported : World → List Op → List Op → ℕ → Container → Type 0
+IsReported w old new line it = new
+    ≡ old ++ (if is_kept w it then record { line = line; name = it.name; act = Report it.line } ∷ [] else [])
 
 -- those seen so far, in a frame from the one before
-pub record AreSeen (p : Planner) (s : ScriptState) (overdue : ℕ) : Type 0 where
-  pub within : overdue ≤ length p.world.tempjobs.items
-  pub past : (k c : ℕ) → k < overdue → slice_get p.world.tempjobs.items k ≡ Some c
+pub record AreSeen (w : World) (s : ScriptState) (overdue : ℕ) : Type 0 where
+  pub within : overdue ≤ length w.tempjobs.items
+  pub past : (k c : ℕ) → k < overdue → slice_get w.tempjobs.items k ≡ Some c
       → (s.making c).frame + 4 ≤ s.frame + 1
-  pub ahead : (k c : ℕ) → overdue ≤ k → slice_get p.world.tempjobs.items k ≡ Some c
+  pub ahead : (k c : ℕ) → overdue ≤ k → slice_get w.tempjobs.items k ≡ Some c
       → s.frame + 1 < (s.making c).frame + 4
 
--- Each container that is overdue now is reported, in the order of their making.
-pub record AreReported (old new : Planner) (line : ℕ) : Type 0 where
-  pub ops : (g : Setting) (begun : ScriptState) (n : ℕ) (s : ScriptState) (found : List ℕ)
-      → Stands old g begun n s found
-      → (new.draft.ops.items ≡ old.draft.ops.items ++ report_ops s line s.made) × AreSeen old s new.world.overdue
-  pub count : length new.draft.ops.items + old.world.overdue ≤ length old.draft.ops.items + new.world.overdue
-  pub rest : new ≡ record old {
-    world = record old.world { overdue = new.world.overdue };
-    draft = record old.draft { ops = new.draft.ops };
-  }
+-- Each container that is overdue now has its report, in the order of their making.
+pub record AreReported (old new : World) (line : ℕ) (ops : List Op) : Type 0 where
+  pub said : (g : Setting) (s : ScriptState) (found : List ℕ)
+      → Knows old g s found
+      → old.frame ≡ s.frame
+      → (ops ≡ report_ops s line s.made) × AreSeen old s new.overdue
+  pub count : length ops + old.overdue ≤ new.overdue
+  pub rest : new ≡ record old { overdue = new.overdue }
 
 -- CONTAINERS THAT LIVE FOR ONE FRAME
 

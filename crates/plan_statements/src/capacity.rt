@@ -7,7 +7,9 @@ ghost use Rattle.slot_store.specs.Places.{is_taken};
 ghost use Rattle.slot_store.specs.Stores.{peak_of, place_of};
 ghost use Rattle.safety_handle.specs.Entries.{state_of};
 ghost use Rattle.plan_state.specs.declared.state.Value.TheVariants.{Whole};
-ghost use Rattle.plan_state.specs.Answers.{Answers, IsReadyFor, ExceedsAt};
+ghost use Rattle.frame_ast.specs.declared.script.Script.{Script};
+ghost use Rattle.frame_ast.specs.Orders.{Table};
+ghost use Rattle.plan_state.specs.Answers.{Answers, IsReadyFor, ExceedsIn};
 ghost use Rattle.plan_statements.specs.Capacity.{IsWhole, IsList, IsMoved};
 
 use crate::containers::is_full_for;
@@ -22,8 +24,8 @@ use plan_state::{Answer, Container, PlanFault, Value, World};
 pub fn set_capacity(world: &mut World, name: u32, cap: u32) -> Result<Answer, PlanFault>
     requires ready { IsReadyFor world.old (SetCapacity name cap) }
     ensures answers { IfOk result (Answers world.old world.new (SetCapacity name cap)) }
-    ensures fails { IfErr result (λ fault. (line : ℕ) → ExceedsAt fault world.old
-        (record { line = line; act = SetCapacity name cap })) }
+    ensures fails { IfErr result (λ fault. (line : ℕ) (script : Script) (table : Table)
+        → ExceedsIn script table fault world.old (record { line = line; act = SetCapacity name cap })) }
 {
     if let Some(refusal) = world.blocked(name, true) {
         return Ok(Answer::Refused { name, refusal });

@@ -17,7 +17,7 @@ pub fn dispose(world: &mut World, name: u32) -> Answer
     requires ready { IsReadyToDispose world.old name }
     ensures answers { Disposes world.old world.new name result }
 {
-    match disposable(world, name, &Handle::empty()) {
+    match disposable(world, name, world.jobs.nobody()) {
         Err(refusal) => Answer::Refused { name, refusal },
         Ok(number) => {
             give_back(world, number);
@@ -36,10 +36,11 @@ pub fn dispose_after(
     requires ready { IsReadyFor world.old (DisposeOf name after.now (Some handle)) }
     ensures answers { IfOk result (Answers world.old world.new (DisposeOf name after.now (Some handle))) }
 {
-    let deps = world.jobs_of_all(after);
+    let mut deps = Handle::empty();
+    world.set_to_jobs_of(&mut deps, after);
     match disposable(world, name, &deps) {
         Err(refusal) => {
-            world.set_handle(handle, &Handle::empty())?;
+            world.clear_handle(handle)?;
             Ok(Answer::Refused { name, refusal })
         }
         Ok(number) => {

@@ -1,66 +1,76 @@
 // `frame`: containers that live for one frame end, and those that are overdue are reported.
-ghost use Rattle.std.specs.Prelude.{◌≡◌, ◌<◌, Some, All, OnOk, slice_get, vec_len};
+ghost use Rattle.std.specs.Prelude.{◌≡◌, ◌+◌, ◌<◌, Some, All, IfOk, OnOk, slice_get, vec_len};
 ghost use Rattle.frame_ast.specs.declared.script.Order.TheVariants.{Frame as FrameOf};
-ghost use Rattle.plan_statements.specs.Frames.{AreOver, AreReported, AreSmall, IsNextDue, IsOver, IsReported};
-ghost use Rattle.plan_state.specs.Steps.{GoesOn, IsReady};
+ghost use Rattle.frame_ast.specs.declared.script.Script.{Script};
+ghost use Rattle.frame_ast.specs.Orders.{Table};
+ghost use Rattle.plan_state.specs.declared.state.Planner.{Planner};
+ghost use Rattle.plan_state.specs.Answers.{AnswersIn};
+ghost use Rattle.plan_state.specs.Steps.{IsBefore};
+ghost use Rattle.plan_statements.specs.Frames.{AreOver, AreReported, AreSmall, HaveRoom, IsNextDue, IsOver, IsReported};
 
 use crate::disposing::give_back;
-use frame_core::Act;
+use frame_core::{Act, Op};
 use job_base::NoMemory;
-use plan_state::{Container, Planner, World};
+use plan_state::{Answer, Container, World};
+use std::alloc::Global;
 
 /// `frame`: what is overdue from now on is reported, and the `temp` containers end.
-pub fn frame(planner: &mut Planner, line: u32) -> Result<(), NoMemory>
-    requires ready { IsReady planner.old (record { line = line; act = FrameOf }) }
-    ensures goes_on { OnOk result (GoesOn planner.old planner.new (record { line = line; act = FrameOf })) }
+pub fn frame(world: &mut World, alloc: Global, line: u32) -> Result<Answer, NoMemory>
+    requires ready { (script : Script) × (p : Planner) × IsBefore script (record p { world = world.old })
+        (record { line = line; act = FrameOf }) }
+    ensures answers { IfOk result (λ answer. (script : Script) (table : Table)
+        → AnswersIn script table world.old world.new (record { line = line; act = FrameOf }) answer) }
 {
-    report_overdue(planner, line)?;
-    end_temps(&mut planner.world);
-    planner.world.frame += 1;
-    Ok(())
+    let ops = report_overdue(world, alloc, line)?;
+    end_temps(world);
+    world.frame += 1;
+    Ok(Answer::Reports { ops })
 }
 
-/// Reports each container that becomes overdue, where it is alive.
-fn report_overdue(planner: &mut Planner, line: u32) -> Result<(), NoMemory>
-    requires ready { IsReady planner.old (record { line = line; act = FrameOf }) }
-    ensures { OnOk result (AreReported planner.old planner.new line) }
+/// A report of each container that becomes overdue, where it is alive.
+fn report_overdue(world: &mut World, alloc: Global, line: u32) -> Result<Vec<Op>, NoMemory>
+    requires numbers { All (λ c. c < vec_len world.old.containers) world.old.tempjobs.items }
+    requires small { AreSmall world.old.containers.items }
+    requires room { HaveRoom world.old.tempjobs.items }
+    ensures { IfOk result (λ ops. AreReported world.old world.new line ops.items) }
 {
-    while let Some(container) = next_due(planner) {
-        report(planner, line, container)?;
-        planner.world.overdue += 1;
+    let mut ops = Vec::new(alloc);
+    while let Some(container) = next_due(world) {
+        report(world, line, container, &mut ops)?;
+        world.overdue += 1;
     }
-    Ok(())
+    Ok(ops)
 }
 
 /// The next container that was made so long ago that it is overdue from now on, if there is one.
-fn next_due(planner: &Planner) -> Option<Container>
-    requires numbers { All (λ c. c < vec_len planner.now.world.containers) planner.now.world.tempjobs.items }
-    requires small { AreSmall planner.now.world.containers.items }
-    ensures { IsNextDue planner.now result }
+fn next_due(world: &World) -> Option<Container>
+    requires numbers { All (λ c. c < vec_len world.now.containers) world.now.tempjobs.items }
+    requires small { AreSmall world.now.containers.items }
+    ensures { IsNextDue world.now result }
 {
-    if planner.world.overdue as usize >= planner.world.tempjobs.len() {
+    if world.overdue as usize >= world.tempjobs.len() {
         return None;
     }
-    let number = planner.world.tempjobs[planner.world.overdue as usize];
-    let container = planner.world.containers[number as usize];
-    if container.frame + 3 > planner.world.frame {
+    let number = world.tempjobs[world.overdue as usize];
+    let container = world.containers[number as usize];
+    if container.frame + 3 > world.frame {
         return None;
     }
     Some(container)
 }
 
 /// A container is reported, where it is alive.
-fn report(planner: &mut Planner, line: u32, container: Container) -> Result<(), NoMemory>
-    ensures { OnOk result (IsReported planner.old planner.new line container) }
+fn report(world: &World, line: u32, container: Container, ops: &mut Vec<Op>) -> Result<(), NoMemory>
+    ensures { OnOk result (IsReported world.now ops.old.items ops.new.items line container) }
 {
-    if planner.world.store.live(container.slot, container.version) {
-        planner.push(
+    if world.store.live(container.slot, container.version) {
+        ops.push(Op {
             line,
-            container.name,
-            Act::Report {
+            name: container.name,
+            act: Act::Report {
                 made: container.line,
             },
-        )?;
+        })?;
     }
     Ok(())
 }

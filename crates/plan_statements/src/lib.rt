@@ -2,10 +2,9 @@
 //!
 //! Each adds at most one operation to the plan, but for `frame`, which reports each container that is overdue. One that
 //! is refused whatever the cells are becomes a line to say; whether contents allow a change is seen when the operation
-//! is run. Nearly all are functions over a world: they change what statements see and answer what they add, which their
-//! caller pushes (`specs/Answers` of plan_state). Completions, which close a segment, and `frame`, which may report
-//! several containers, take the planner. A contract takes what the planner stands for from the state before the
-//! statement to the one after it (`specs/Steps` of plan_state).
+//! is run. All are functions over a world: they change what statements see and answer what they add, which their caller
+//! pushes (`specs/Answers` of plan_state). A contract takes what the planner stands for, whatever its draft, from the
+//! state before the statement to the one after it (`specs/Steps` of plan_state).
 //!
 //! | Statement | What the plan gets |
 //! |---|---|

@@ -4,7 +4,9 @@ ghost use Rattle.frame_ast.specs.declared.script.Order.TheVariants.{Array, Colum
 ghost use Rattle.frame_ast.specs.declared.script.Script.{Script as File};
 ghost use Rattle.frame_ast.specs.Orders.{Table as Columns};
 ghost use Rattle.plan_statements.specs.Tables.{columns_of};
-ghost use Rattle.plan_state.specs.Answers.{IsBeforeAt, IsReadyAt, AnswersAt, AnswersIn, ExceedsAt, ExceedsIn};
+ghost use Rattle.plan_state.specs.declared.state.Planner.{Planner};
+ghost use Rattle.plan_state.specs.Answers.{AnswersIn, ExceedsIn};
+ghost use Rattle.plan_state.specs.Steps.{IsBefore};
 
 use crate::containers::{copy_column, copy_literal, enter, one_value, refuse_full, take_words};
 use frame_ast::script::{Life, Script};
@@ -27,7 +29,8 @@ pub fn array(
     values: Option<u32>,
     script: &Script,
 ) -> Result<Answer, PlanFault>
-    requires ready { IsBeforeAt script.now world.old (record { line = line; act = Array name len life values }) }
+    requires ready { (p : Planner) × IsBefore script.now (record p { world = world.old })
+        (record { line = line; act = Array name len life values }) }
     ensures answers { IfOk result (λ answer. (table : Columns) → AnswersIn script.now table world.old world.new
         (record { line = line; act = Array name len life values }) answer) }
     ensures fails { IfErr result (λ fault. (table : Columns) → ExceedsIn script.now table fault world.old
@@ -61,7 +64,8 @@ pub fn column(
     life: Life,
     table: &Table,
 ) -> Result<Answer, PlanFault>
-    requires ready { IsReadyAt world.old (record { line = line; act = Column name column.now life }) }
+    requires ready { (script : File) × (p : Planner) × IsBefore script (record p { world = world.old })
+        (record { line = line; act = Column name column.now life }) }
     ensures answers { IfOk result (λ answer. (script : File)
         → AnswersIn script (columns_of table.now) world.old world.new
         (record { line = line; act = Column name column.now life }) answer) }
@@ -95,11 +99,12 @@ pub fn list(
     cap: u32,
     life: Life,
 ) -> Result<Answer, PlanFault>
-    requires ready { IsReadyAt world.old (record { line = line; act = NewList name cap life }) }
-    ensures answers { IfOk result (AnswersAt world.old world.new
-        (record { line = line; act = NewList name cap life })) }
-    ensures fails { IfErr result (λ fault. ExceedsAt fault world.old
-        (record { line = line; act = NewList name cap life })) }
+    requires ready { (script : File) × (p : Planner) × IsBefore script (record p { world = world.old })
+        (record { line = line; act = NewList name cap life }) }
+    ensures answers { IfOk result (λ answer. (script : File) (table : Columns)
+        → AnswersIn script table world.old world.new (record { line = line; act = NewList name cap life }) answer) }
+    ensures fails { IfErr result (λ fault. (script : File) (table : Columns)
+        → ExceedsIn script table fault world.old (record { line = line; act = NewList name cap life })) }
 {
     match take_words(world, u64::from(cap) + 1)? {
         None => Ok(refuse_full(world, name)),
@@ -127,11 +132,12 @@ pub fn reference(
     life: Life,
     value: Option<i64>,
 ) -> Result<Answer, PlanFault>
-    requires ready { IsReadyAt world.old (record { line = line; act = Reference name life value }) }
-    ensures answers { IfOk result (AnswersAt world.old world.new
-        (record { line = line; act = Reference name life value })) }
-    ensures fails { IfErr result (λ fault. ExceedsAt fault world.old
-        (record { line = line; act = Reference name life value })) }
+    requires ready { (script : File) × (p : Planner) × IsBefore script (record p { world = world.old })
+        (record { line = line; act = Reference name life value }) }
+    ensures answers { IfOk result (λ answer. (script : File) (table : Columns)
+        → AnswersIn script table world.old world.new (record { line = line; act = Reference name life value }) answer) }
+    ensures fails { IfErr result (λ fault. (script : File) (table : Columns)
+        → ExceedsIn script table fault world.old (record { line = line; act = Reference name life value })) }
 {
     match take_words(world, 1)? {
         None => Ok(refuse_full(world, name)),
@@ -158,10 +164,12 @@ pub fn map(
     cap: u32,
     life: Life,
 ) -> Result<Answer, PlanFault>
-    requires ready { IsReadyAt world.old (record { line = line; act = Map name cap life }) }
-    ensures answers { IfOk result (AnswersAt world.old world.new (record { line = line; act = Map name cap life })) }
-    ensures fails { IfErr result (λ fault. ExceedsAt fault world.old
-        (record { line = line; act = Map name cap life })) }
+    requires ready { (script : File) × (p : Planner) × IsBefore script (record p { world = world.old })
+        (record { line = line; act = Map name cap life }) }
+    ensures answers { IfOk result (λ answer. (script : File) (table : Columns)
+        → AnswersIn script table world.old world.new (record { line = line; act = Map name cap life }) answer) }
+    ensures fails { IfErr result (λ fault. (script : File) (table : Columns)
+        → ExceedsIn script table fault world.old (record { line = line; act = Map name cap life })) }
 {
     match take_words(world, native_map::words_of(cap))? {
         None => Ok(refuse_full(world, name)),
@@ -186,11 +194,13 @@ pub fn stream(
     room: u32,
     life: Life,
 ) -> Result<Answer, PlanFault>
-    requires ready { IsReadyAt world.old (record { line = line; act = Stream name count room life }) }
-    ensures answers { IfOk result (AnswersAt world.old world.new
-        (record { line = line; act = Stream name count room life })) }
-    ensures fails { IfErr result (λ fault. ExceedsAt fault world.old
-        (record { line = line; act = Stream name count room life })) }
+    requires ready { (script : File) × (p : Planner) × IsBefore script (record p { world = world.old })
+        (record { line = line; act = Stream name count room life }) }
+    ensures answers { IfOk result (λ answer. (script : File) (table : Columns)
+        → AnswersIn script table world.old world.new
+        (record { line = line; act = Stream name count room life }) answer) }
+    ensures fails { IfErr result (λ fault. (script : File) (table : Columns)
+        → ExceedsIn script table fault world.old (record { line = line; act = Stream name count room life })) }
 {
     match take_words(world, native_stream::words_of(count, room))? {
         None => Ok(refuse_full(world, name)),

@@ -2,10 +2,12 @@
 // does nothing: a job may run as soon as it is scheduled.
 ghost use Rattle.std.specs.Prelude.{◌≡◌, ◌+◌, ◌<◌, ◌^◌, ℕ, Some, IfOk};
 ghost use Rattle.frame_ast.specs.declared.script.Order.TheVariants.{Slice as SliceOf, View as ViewOf, Copy as CopyOf, Combine as CombineOf, Flush as FlushAll};
-ghost use Rattle.plan_state.specs.Accesses.{IsWholeAlive, length_in, part_by, start_of, view_by};
-ghost use Rattle.plan_state.specs.Answers.{Answers, IsReadyFor, IsRefusalOf};
+ghost use Rattle.plan_state.specs.declared.state.Planner.{Planner};
+ghost use Rattle.plan_state.specs.Accesses.{IsRefusal, IsWholeAlive, length_in, part_by, start_of, view_by};
+ghost use Rattle.plan_state.specs.Answers.{Answers, IsReadyFor};
 
 use job_base::{NoMemory, Refusal};
+use job_handle::Handle;
 use kernel_exec::Bind;
 use plan_state::{Answer, Value, World};
 
@@ -30,7 +32,8 @@ pub fn slice(world: &mut World, name: u32, of: u32, start: u32, len: u32) -> Ans
 /// Why a slice can't be taken: its container is disposed, or the slice ends past its elements.
 fn slice_refusal(world: &World, name: u32, of: u32, start: u32, len: u32) -> Option<Refusal>
     requires ready { IsReadyFor world.now (SliceOf name of start len) }
-    ensures { IsRefusalOf world.now (SliceOf name of start len) of result }
+    ensures { (line : ℕ) (p : Planner) → IsRefusal (record p { world = world.now })
+        (record { line = line; act = SliceOf name of start len }) of result }
 {
     if world.is_disposed(of) {
         return Some(Refusal::Disposed);
@@ -89,7 +92,8 @@ pub fn combine(world: &mut World, name: u32, of: &Vec<u32>) -> Result<Answer, No
     requires ready { IsReadyFor world.old (CombineOf name of.now) }
     ensures answers { IfOk result (Answers world.old world.new (CombineOf name of.now)) }
 {
-    let jobs = world.jobs_of_all(of);
+    let mut jobs = Handle::empty();
+    world.set_to_jobs_of(&mut jobs, of);
     world.set_handle(name, &jobs)?;
     Ok(Answer::Nothing)
 }

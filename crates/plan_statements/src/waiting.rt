@@ -1,10 +1,9 @@
 // The statements with `auto`: they wait for what they have to.
-ghost use Rattle.std.specs.Prelude.{◌≡◌, ◌<◌, slice_get, vec_len, IfOk, OnOk};
+ghost use Rattle.std.specs.Prelude.{◌≡◌, ◌<◌, slice_get, vec_len, IfOk};
 ghost use Rattle.frame_ast.specs.declared.script.Order.TheVariants.{CompleteAuto as CompleteAutoOf, DisposeAuto as DisposeAutoOf};
 ghost use Rattle.job_handle.specs.Sets.{jobs_of};
 ghost use Rattle.plan_state.specs.Accesses.{AreThere};
 ghost use Rattle.plan_state.specs.Answers.{Answers, IsReadyFor};
-ghost use Rattle.plan_state.specs.Steps.{GoesOn, IsReady};
 ghost use Rattle.plan_statements.specs.Waiting.{AreWaitedFor, IsBroken, IsCompletable, IsLive, KnowsUsers, is_broken};
 
 use crate::completing::complete_jobs;
@@ -12,7 +11,7 @@ use crate::disposing::{container_of, hold_back};
 use auto_deps::automatic;
 use job_base::{Access, NoMemory, Refusal};
 use job_handle::Handle;
-use plan_state::{Answer, Planner, World};
+use plan_state::{Answer, World};
 use std::alloc::Global;
 
 /// `dispose auto`. The handle's name stands for the jobs that have to be waited for.
@@ -22,7 +21,7 @@ pub fn dispose_auto(world: &mut World, name: u32, handle: u32) -> Result<Answer,
 {
     match live_container(world, name) {
         None => {
-            world.set_handle(handle, &Handle::empty())?;
+            world.clear_handle(handle)?;
             Ok(Answer::Refused {
                 name,
                 refusal: Refusal::Disposed,
@@ -38,20 +37,15 @@ pub fn dispose_auto(world: &mut World, name: u32, handle: u32) -> Result<Answer,
 }
 
 /// `complete auto`: the jobs are completed that a writing use of the container has to wait for.
-pub fn complete_auto(
-    planner: &mut Planner,
-    alloc: Global,
-    line: u32,
-    name: u32,
-) -> Result<(), NoMemory>
-    requires ready { IsReady planner.old (record { line = line; act = CompleteAutoOf name }) }
-    ensures goes_on { OnOk result (GoesOn planner.old planner.new (record { line = line; act = CompleteAutoOf name })) }
+pub fn complete_auto(world: &mut World, alloc: Global, name: u32) -> Result<Answer, NoMemory>
+    requires ready { IsReadyFor world.old (CompleteAutoOf name) }
+    ensures answers { IfOk result (Answers world.old world.new (CompleteAutoOf name)) }
 {
-    match completable(&planner.world, name) {
-        Err(refusal) => planner.push_refusal(line, name, refusal),
+    match completable(world, name) {
+        Err(refusal) => Ok(Answer::Refused { name, refusal }),
         Ok(number) => {
-            let jobs = waited_for(&planner.world, number);
-            complete_jobs(planner, alloc, &jobs)
+            let jobs = waited_for(world, number);
+            complete_jobs(world, alloc, &jobs)
         }
     }
 }
@@ -104,7 +98,7 @@ fn waited_for(world: &World, number: u32) -> Handle
     let tag = world.tag_of(number, None);
     automatic(
         &[(tag, Access::Write)],
-        &Handle::empty(),
+        world.jobs.nobody(),
         &world.safety,
         &world.jobs,
     )

@@ -311,9 +311,9 @@ impl SlotStore {
         ensures same { IsSame self.old self.new }
         ensures completed { (b : Book) → StandsFor book.now b → (j : ℕ) → jobs_of self.new.completed j ≡ b.completed j }
     {
-        let completed = *book.completed();
-        self.waiting = self.still_waiting(&completed);
-        self.completed = completed;
+        let completed = book.completed();
+        self.waiting = self.still_waiting(completed);
+        self.completed.set_to(completed);
     }
 
     /// How many of the first held slots needn't be looked at: where a job was completed since the last call, none.

@@ -2,7 +2,8 @@ use Rattle.std.proofs.Common.{◌≡◌, ap, sym, ◌∙◌, to_z, of_z, w64, ar
 use Rattle.std.proofs.lemmas.Int.{ints}
 use Rattle.frame_ast.specs.declared.script.Order.TheVariants as order
 use Rattle.plan_statements.specs.Tables.{columns_of}
-use Rattle.frame_plan.proofs.Acting.{before_at, ready_at, ready_for, answers_in, answers_for, exceeding, if_ok, if_err}
+use Rattle.plan_state.proofs.Binding.{if_ok}
+use Rattle.frame_plan.proofs.Acting.{before_at, ready_at, ready_for, answers_in, answers_for, exceeding, if_err}
 use Rattle.frame_plan.proofs.answers.answer.Goals as goal
 
 pub array-requires : goal.array-requires
@@ -217,6 +218,24 @@ returns-in_ok-combine-in-Combine-clause-answers c =
     answers_for c.args.script.now (columns_of c.args.table.now) c.args.statement.now _ c.in-Combine.is c.args.world.now c.combine.new.world _
     c.in_ok-combine-in-Combine.ensures.answers
 
+pub complete-requires : goal.complete-requires
+complete-requires c =
+    record { ready = ready_for c.args.script.now (columns_of c.args.table.now) c.args.statement.now _ c.in-Complete.is c.args.world.now c.requires.ready }
+
+pub returns-in_ok-complete-in-Complete-clause-answers : goal.returns-in_ok-complete-in-Complete-clause-answers
+returns-in_ok-complete-in-Complete-clause-answers c =
+    answers_for c.args.script.now (columns_of c.args.table.now) c.args.statement.now _ c.in-Complete.is c.args.world.now c.complete.new.world _
+    c.in_ok-complete-in-Complete.ensures.answers
+
+pub complete_auto-requires : goal.complete_auto-requires
+complete_auto-requires c =
+    record { ready = ready_for c.args.script.now (columns_of c.args.table.now) c.args.statement.now _ c.in-CompleteAuto.is c.args.world.now c.requires.ready }
+
+pub returns-in_ok-complete_auto-in-CompleteAuto-clause-answers : goal.returns-in_ok-complete_auto-in-CompleteAuto-clause-answers
+returns-in_ok-complete_auto-in-CompleteAuto-clause-answers c =
+    answers_for c.args.script.now (columns_of c.args.table.now) c.args.statement.now _ c.in-CompleteAuto.is c.args.world.now c.complete_auto.new.world _
+    c.in_ok-complete_auto-in-CompleteAuto.ensures.answers
+
 pub dispose_auto-requires : goal.dispose_auto-requires
 dispose_auto-requires c =
     record { ready = ready_for c.args.script.now (columns_of c.args.table.now) c.args.statement.now _ c.in-DisposeAuto.is c.args.world.now c.requires.ready }
@@ -254,3 +273,12 @@ returns-in_ok-dispose_after-in-Some-clause-answers c =
     answers_for c.args.script.now (columns_of c.args.table.now) c.args.statement.now _
     (c.in-Dispose.is ∙ ap (λ h. order.Dispose c.in-Dispose.name c.in-Dispose.after h) c.in-Some.is) c.args.world.now c.dispose_after.new.world _
     c.in_ok-dispose_after-in-Some.ensures.answers
+
+pub frame-requires : goal.frame-requires
+frame-requires c =
+    record { ready = ready_at c.args.script.now (columns_of c.args.table.now) c.args.statement.now _ c.in-Frame.is c.args.world.now c.requires.ready }
+
+pub returns-in_ok-frame-in-Frame-clause-answers : goal.returns-in_ok-frame-in-Frame-clause-answers
+returns-in_ok-frame-in-Frame-clause-answers c =
+    answers_in c.args.script.now (columns_of c.args.table.now) c.args.statement.now _ c.in-Frame.is c.args.world.now c.frame.new.world _
+    (c.in_ok-frame-in-Frame.ensures.answers c.args.script.now (columns_of c.args.table.now))

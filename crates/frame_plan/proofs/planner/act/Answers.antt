@@ -2,44 +2,9 @@ use Rattle.std.proofs.Common.{refl}
 use Rattle.plan_statements.specs.Tables.{columns_of}
 use Rattle.plan_statements.proofs.Ranges.NewContainers.{handed_on}
 use Rattle.plan_schedules.proofs.Forms.{without_list, with_list}
-use Rattle.frame_plan.proofs.Acting.{before, ready, taken_in, few_literals, passed, passed_in, fails_in, exceeds_in, leaves, if_err}
+use Rattle.frame_plan.proofs.Acting.{before, taken_in, few_literals, passed_in, fails_in, exceeds_in, leaves, if_err}
 use Rattle.plan_state.proofs.Binding.{on_ok}
 use Rattle.frame_plan.proofs.planner.act.Goals as goal
-
-pub complete-requires : goal.complete-requires
-complete-requires c = record {
-  ready = (
-    c.args.statement.now.line,
-    ready c.args.script.now
-        (columns_of c.args.table.now) c.args.planner.now c.args.statement.now c.requires.at c.requires.acts _ c.in-Complete.is,
-  );
-}
-
-pub returns-in_ok-complete-in-Complete-clause-passed : goal.returns-in_ok-complete-in-Complete-clause-passed
-returns-in_ok-complete-in-Complete-clause-passed c = passed c.args.script.now
-    (columns_of c.args.table.now) c.args.planner.now c.args.statement.now c.requires.at c.requires.acts _ c.in-Complete.is c.complete.new.planner
-    (c.in_ok-complete-in-Complete.ensures.goes_on c.args.statement.now.line)
-
-pub complete_auto-requires : goal.complete_auto-requires
-complete_auto-requires c = record {
-  ready = ready c.args.script.now (columns_of c.args.table.now) c.args.planner.now c.args.statement.now c.requires.at
-      c.requires.acts _ c.in-CompleteAuto.is;
-}
-
-pub returns-in_ok-complete_auto-in-CompleteAuto-clause-passed : goal.returns-in_ok-complete_auto-in-CompleteAuto-clause-passed
-returns-in_ok-complete_auto-in-CompleteAuto-clause-passed c = passed c.args.script.now
-    (columns_of c.args.table.now) c.args.planner.now c.args.statement.now c.requires.at c.requires.acts _ c.in-CompleteAuto.is c.complete_auto.new.planner
-    c.in_ok-complete_auto-in-CompleteAuto.ensures.goes_on
-
-pub frame-requires : goal.frame-requires
-frame-requires c = record {
-  ready = ready c.args.script.now (columns_of c.args.table.now) c.args.planner.now c.args.statement.now c.requires.at c.requires.acts _
-      c.in-Frame.is;
-}
-
-pub returns-in_ok-frame-in-Frame-clause-passed : goal.returns-in_ok-frame-in-Frame-clause-passed
-returns-in_ok-frame-in-Frame-clause-passed c = passed c.args.script.now (columns_of c.args.table.now) c.args.planner.now c.args.statement.now c.requires.at
-    c.requires.acts _ c.in-Frame.is c.frame.new.planner c.in_ok-frame-in-Frame.ensures.goes_on
 
 pub schedule-requires : goal.schedule-requires
 schedule-requires c =
@@ -101,13 +66,12 @@ answer-requires c = record {
     before c.args.script.now (columns_of c.args.table.now) c.args.planner.now c.args.statement.now c.requires.at c.requires.acts _
         refl,
   );
-  leaves = leaves c.args.statement.now.act c.in_default.not-Schedule c.in_default.not-Complete c.in_default.not-CompleteAuto c.in_default.not-Frame
-      c.requires.other;
+  leaves = leaves c.args.statement.now.act c.in_default.not-Schedule c.requires.other;
 }
 
 pub returns-in_err-answer-in_default-clause-fails : goal.returns-in_err-answer-in_default-clause-fails
-returns-in_err-answer-in_default-clause-fails c = handed_on c.from_residual-in_err-answer-in_default.result c.in_err-answer-in_default.field-0.0 _
-    c.from_residual-in_err-answer-in_default.ensures.1
+returns-in_err-answer-in_default-clause-fails c = handed_on c.from_residual.result c.in_err-answer-in_default.field-0.0 _
+    c.from_residual.ensures.1
     (exceeds_in c.args.script.now (columns_of c.args.table.now) c.args.planner.now c.args.statement.now c.requires.at c.requires.acts _
     refl c.in_err-answer-in_default.field-0.0 c.in_err-answer-in_default.ensures.fails)
 

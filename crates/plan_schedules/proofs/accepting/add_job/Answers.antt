@@ -33,7 +33,7 @@ returns-clause-done c =
       first = refl;
       ended = c.start.new.planner;
       started = c.in_ok-start.ensures;
-      named = subst (λ (j : Jobs). HasHandle c.start.new.planner.world c.set_handle.new.self c.args.handle j) (c.of.ensures ∙ ap only number)
-          c.in_ok-set_handle.ensures;
+      named = subst (λ (j : Jobs). HasHandle c.start.new.planner.world c.set_handle_to_job.new.self c.args.handle j) (ap only number)
+          c.in_ok-set_handle_to_job.ensures;
       at_last = refl;
     }

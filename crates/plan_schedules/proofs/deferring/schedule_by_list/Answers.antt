@@ -42,8 +42,8 @@ guarded_run-requires-clause-kernel c =
     ready.kernel_below c.args.script.now r.1.table r.1.begun r.1.n r.1.found c.args.line r.0 c.args.job.now c.args.list c.args.batch r.1.step c.args.planner.now
     r.1.stands
 
-pub jobs_of_all-deps-requires-clause-names : goal.jobs_of_all-deps-requires-clause-names
-jobs_of_all-deps-requires-clause-names c =
+pub set_to_jobs_of-requires-clause-names : goal.set_to_jobs_of-requires-clause-names
+set_to_jobs_of-requires-clause-names c =
     let r = c.requires.ready in
     ready.after_below c.args.script.now r.1.table r.1.begun r.1.n r.1.found c.args.line r.0 c.args.job.now c.args.list c.args.batch r.1.step c.args.planner.now
     r.1.stands c.deref.result.now c.deref.ensures.value
@@ -67,19 +67,19 @@ pub uses-requires-clause-jobs : goal.uses-requires-clause-jobs
 uses-requires-clause-jobs c =
     let r = c.requires.ready in
     ready.named_up c.args.script.now r.1.table r.1.begun r.1.n r.1.found c.args.line r.0 c.args.job.now c.args.list c.args.batch r.1.step c.args.planner.now
-    r.1.stands c.jobs_of_all-deps.result c.deref.result.now c.deref.ensures.value c.jobs_of_all-deps.ensures
+    r.1.stands c.set_to_jobs_of.new.all c.deref.result.now c.deref.ensures.value c.set_to_jobs_of.ensures
 
 pub length_use-length-requires-clause-jobs : goal.length_use-length-requires-clause-jobs
 length_use-length-requires-clause-jobs c =
     let r = c.requires.ready in
     ready.named_up c.args.script.now r.1.table r.1.begun r.1.n r.1.found c.args.line r.0 c.args.job.now c.args.list c.args.batch r.1.step c.args.planner.now
-    r.1.stands c.jobs_of_all-deps.result c.deref.result.now c.deref.ensures.value c.jobs_of_all-deps.ensures
+    r.1.stands c.set_to_jobs_of.new.all c.deref.result.now c.deref.ensures.value c.set_to_jobs_of.ensures
 
 pub add_automatic-requires-clause-named : goal.add_automatic-requires-clause-named
 add_automatic-requires-clause-named c =
     let r = c.requires.ready in
     ready.named_up c.args.script.now r.1.table r.1.begun r.1.n r.1.found c.args.line r.0 c.args.job.now c.args.list c.args.batch r.1.step c.args.planner.now
-    r.1.stands c.jobs_of_all-deps.result c.deref.result.now c.deref.ensures.value c.jobs_of_all-deps.ensures
+    r.1.stands c.set_to_jobs_of.new.all c.deref.result.now c.deref.ensures.value c.set_to_jobs_of.ensures
 
 pub length_use-length-requires-clause-name : goal.length_use-length-requires-clause-name
 length_use-length-requires-clause-name c =
@@ -144,7 +144,7 @@ add_automatic-requires-clause-noted c =
     subst (λ us. AreUpTo (count_of c.args.planner.now.world.jobs) (conflicting_with c.args.planner.now.world.safety (tags_of us))) (sym all)
     (ready.conflicts_up c.args.script.now r.1.table r.1.begun r.1.n r.1.found c.args.line r.0 c.args.job.now c.args.list c.args.batch r.1.step
     c.args.planner.now
-    r.1.stands c.jobs_of_all-deps.result c.deref.result.now c.deref.ensures.value c.jobs_of_all-deps.ensures c.index.result.now at c.deref-2.result.now
+    r.1.stands c.set_to_jobs_of.new.all c.deref.result.now c.deref.ensures.value c.set_to_jobs_of.ensures c.index.result.now at c.deref-2.result.now
     c.deref-2.ensures.value c.deref-3.result.now c.deref-3.ensures.value c.in_ok-uses.uses.items c.in_ok-uses.ensures c.length_use-length.result
     c.length_use-length.ensures c.index-2.result.now.parallel same unrefused)
 
@@ -190,7 +190,7 @@ guarded_run-requires-clause-is_list c =
     ∙ ap (λ us. deferred_refusal us c.length_use-length.result c.index-2.result.now.parallel c.args.job.now.auto)
     c.deref-5.ensures.value in
     ready.list_named c.args.script.now r.1.table r.1.begun r.1.n r.1.found c.args.line r.0 c.args.job.now c.args.list c.args.batch r.1.step c.args.planner.now
-    r.1.stands c.jobs_of_all-deps.result c.deref.result.now c.deref.ensures.value c.jobs_of_all-deps.ensures c.index.result.now at c.deref-2.result.now
+    r.1.stands c.set_to_jobs_of.new.all c.deref.result.now c.deref.ensures.value c.set_to_jobs_of.ensures c.index.result.now at c.deref-2.result.now
     c.deref-2.ensures.value c.deref-3.result.now c.deref-3.ensures.value c.in_ok-uses.uses.items c.in_ok-uses.ensures c.length_use-length.result
     c.length_use-length.ensures c.index-2.result.now.parallel same unrefused
 
@@ -216,7 +216,7 @@ add_job-requires-clause-uses c =
     (subst (λ us. MayNoteAll us (state_of c.args.planner.now.world.safety)) (sym (c.deref-10.ensures.value ∙ c.noted_uses-noted.ensures))
     (ready.may_note_all c.args.script.now r.1.table r.1.begun r.1.n r.1.found c.args.line r.0 c.args.job.now c.args.list c.args.batch r.1.step
     c.args.planner.now
-    r.1.stands c.jobs_of_all-deps.result c.deref.result.now c.deref.ensures.value c.jobs_of_all-deps.ensures c.index.result.now at c.deref-2.result.now
+    r.1.stands c.set_to_jobs_of.new.all c.deref.result.now c.deref.ensures.value c.set_to_jobs_of.ensures c.index.result.now at c.deref-2.result.now
     c.deref-2.ensures.value c.deref-3.result.now c.deref-3.ensures.value c.in_ok-uses.uses.items c.in_ok-uses.ensures c.length_use-length.result
     c.length_use-length.ensures c.index-2.result.now.parallel same unrefused))
 
@@ -232,20 +232,20 @@ add_job-requires-clause-deps c =
     ∙ ap (λ us. deferred_refusal us c.length_use-length.result c.index-2.result.now.parallel c.args.job.now.auto)
     c.deref-5.ensures.value in
     let all = c.deref-7.ensures.value ∙ c.in_ok-all.ensures ∙ ap (λ us. with_length us c.length_use-length.result) c.deref-4.ensures.value in
-    let waits = subst (λ us. AreDeps c.args.job.now.auto (jobs_of c.jobs_of_all-deps.result) c.args.planner.now.world.jobs c.args.planner.now.world.safety
+    let waits = subst (λ us. AreDeps c.args.job.now.auto (jobs_of c.set_to_jobs_of.new.all) c.args.planner.now.world.jobs c.args.planner.now.world.safety
     (tags_of us)
     (jobs_of c.add_automatic.new.deps)) all c.in_ok-add_automatic.ensures in
     subst (λ (k : Planner). AreUpTo (count_of k.world.jobs) (jobs_of c.add_automatic.new.deps))
     (sym (moved c.args.script.now c.args.planner.now c.guarded_run.new.planner c.args.job.now.kernel c.in_ok-run.run'.kernel c.in_ok-run.ensures.guarded))
     (ready.deps_up c.args.script.now r.1.table r.1.begun r.1.n r.1.found c.args.line r.0 c.args.job.now c.args.list c.args.batch r.1.step c.args.planner.now
-    r.1.stands c.jobs_of_all-deps.result c.deref.result.now c.deref.ensures.value c.jobs_of_all-deps.ensures c.index.result.now at c.deref-2.result.now
+    r.1.stands c.set_to_jobs_of.new.all c.deref.result.now c.deref.ensures.value c.set_to_jobs_of.ensures c.index.result.now at c.deref-2.result.now
     c.deref-2.ensures.value c.deref-3.result.now c.deref-3.ensures.value c.in_ok-uses.uses.items c.in_ok-uses.ensures c.length_use-length.result
     c.length_use-length.ensures c.index-2.result.now.parallel same unrefused (jobs_of c.add_automatic.new.deps) waits)
 
 pub add_job-requires-clause-before : goal.add_job-requires-clause-before
 add_job-requires-clause-before c =
     let r = c.requires.ready in
-    subst (λ (k : Planner). k.jobs_before ≤ count_of k.world.jobs)
+    subst (λ (k : Planner). k.world.jobs_before ≤ count_of k.world.jobs)
     (sym (moved c.args.script.now c.args.planner.now c.guarded_run.new.planner c.args.job.now.kernel c.in_ok-run.run'.kernel c.in_ok-run.ensures.guarded))
     (rooms.jobs_after c.args.script.now r.1.table c.args.planner.now r.1.begun r.1.n (state_at c.args.script.now r.1.table r.1.n) r.1.found r.1.stands)
 
@@ -273,7 +273,7 @@ returns-in-Some-clause-goes_on c home table begun n found step st =
     let at2 = read_some c.args.script.now.kernels c.args.job.now.kernel c.index-2.result.now below c.index-2.ensures in
     let same = ap (λ (k : Kernel). k.parallel) (some_is (sym at2 ∙ at)) in
     ready.refused_on c.args.script.now table begun n found c.args.line home c.args.job.now c.args.list c.args.batch step c.args.planner.now st
-    c.jobs_of_all-deps.result c.deref.result.now c.deref.ensures.value c.jobs_of_all-deps.ensures c.index.result.now at c.deref-2.result.now
+    c.set_to_jobs_of.new.all c.deref.result.now c.deref.ensures.value c.set_to_jobs_of.ensures c.index.result.now at c.deref-2.result.now
     c.deref-2.ensures.value c.deref-3.result.now c.deref-3.ensures.value c.in_ok-uses.uses.items c.in_ok-uses.ensures c.length_use-length.result
     c.length_use-length.ensures c.index-2.result.now.parallel same c.in-Some.cause
     (sym c.in-Some.is ∙ c.deferred_refusal.ensures
@@ -289,11 +289,11 @@ returns-clause-goes_on c = on_ok c.add_job.result (λ is home table begun n foun
     let unrefused = sym (no_cause c.deferred_refusal.result c.in_default.not-Some) ∙ c.deferred_refusal.ensures
     ∙ ap (λ us. deferred_refusal us c.length_use-length.result c.index-2.result.now.parallel c.args.job.now.auto) c.deref-5.ensures.value in
     let all = c.deref-7.ensures.value ∙ c.in_ok-all.ensures ∙ ap (λ us. with_length us c.length_use-length.result) c.deref-4.ensures.value in
-    let waits = subst (λ us. AreDeps c.args.job.now.auto (jobs_of c.jobs_of_all-deps.result) c.args.planner.now.world.jobs c.args.planner.now.world.safety
+    let waits = subst (λ us. AreDeps c.args.job.now.auto (jobs_of c.set_to_jobs_of.new.all) c.args.planner.now.world.jobs c.args.planner.now.world.safety
     (tags_of us)
     (jobs_of c.add_automatic.new.deps)) all c.in_ok-add_automatic.ensures in
     ready.accepted_on c.args.script.now table begun n found c.args.line home c.args.job.now c.args.list c.args.batch step c.args.planner.now st
-    c.jobs_of_all-deps.result c.deref.result.now c.deref.ensures.value c.jobs_of_all-deps.ensures c.index.result.now at c.deref-2.result.now
+    c.set_to_jobs_of.new.all c.deref.result.now c.deref.ensures.value c.set_to_jobs_of.ensures c.index.result.now at c.deref-2.result.now
     c.deref-2.ensures.value c.deref-3.result.now c.deref-3.ensures.value c.in_ok-uses.uses.items c.in_ok-uses.ensures c.length_use-length.result
     c.length_use-length.ensures c.index-2.result.now.parallel same
     unrefused (jobs_of c.add_automatic.new.deps) waits c.guarded_run.new.planner c.add_job.new.planner c.in_ok-run.run' c.deref-8.result.now
@@ -310,7 +310,7 @@ returns-clause-fails c = if_err c.add_job.result (λ fault full home table begun
     let unrefused = sym (no_cause c.deferred_refusal.result c.in_default.not-Some) ∙ c.deferred_refusal.ensures
     ∙ ap (λ us. deferred_refusal us c.length_use-length.result c.index-2.result.now.parallel c.args.job.now.auto) c.deref-5.ensures.value in
     ready.fails c.args.script.now table begun n found c.args.line home c.args.job.now c.args.list c.args.batch step c.args.planner.now st
-    c.jobs_of_all-deps.result c.deref.result.now c.deref.ensures.value c.jobs_of_all-deps.ensures c.index.result.now at c.deref-2.result.now
+    c.set_to_jobs_of.new.all c.deref.result.now c.deref.ensures.value c.set_to_jobs_of.ensures c.index.result.now at c.deref-2.result.now
     c.deref-2.ensures.value c.deref-3.result.now c.deref-3.ensures.value c.in_ok-uses.uses.items c.in_ok-uses.ensures c.length_use-length.result
     c.length_use-length.ensures c.index-2.result.now.parallel same unrefused fault
     (subst (λ (k : Planner). IsFull fault (count_of k.world.jobs))

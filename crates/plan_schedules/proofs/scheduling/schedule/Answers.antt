@@ -32,8 +32,8 @@ index-requires-2 c =
     let r = c.requires.ready in
     ready.kernel_below c.args.script.now c.args.planner.now c.args.line r.0 c.args.job.now r.1.table r.1.begun r.1.n r.1.found r.1.step r.1.stands
 
-pub jobs_of_all-deps-requires-clause-names : goal.jobs_of_all-deps-requires-clause-names
-jobs_of_all-deps-requires-clause-names c =
+pub set_to_jobs_of-requires-clause-names : goal.set_to_jobs_of-requires-clause-names
+set_to_jobs_of-requires-clause-names c =
     let r = c.requires.ready in
     ready.after_below c.args.script.now c.args.planner.now c.args.line r.0 c.args.job.now r.1.table r.1.begun r.1.n r.1.found r.1.step r.1.stands
     c.deref.result.now c.deref.ensures.value
@@ -57,8 +57,8 @@ pub uses-requires-clause-jobs : goal.uses-requires-clause-jobs
 uses-requires-clause-jobs c =
     let r = c.requires.ready in
     ready.named_up c.args.script.now c.args.planner.now c.args.line r.0 c.args.job.now r.1.table r.1.begun r.1.n r.1.found r.1.step r.1.stands
-    (jobs_of c.jobs_of_all-deps.result) (ready.named_is c.args.script.now c.args.planner.now c.args.line r.0 c.args.job.now r.1.table r.1.begun r.1.n
-    r.1.found r.1.step r.1.stands (jobs_of c.jobs_of_all-deps.result) c.deref.result.now c.deref.ensures.value c.jobs_of_all-deps.ensures)
+    (jobs_of c.set_to_jobs_of.new.all) (ready.named_is c.args.script.now c.args.planner.now c.args.line r.0 c.args.job.now r.1.table r.1.begun r.1.n
+    r.1.found r.1.step r.1.stands (jobs_of c.set_to_jobs_of.new.all) c.deref.result.now c.deref.ensures.value c.set_to_jobs_of.ensures)
 
 pub refuse_schedule-requires-clause-name : goal.refuse_schedule-requires-clause-name
 refuse_schedule-requires-clause-name c =
@@ -74,8 +74,8 @@ pub add_automatic-requires-clause-named : goal.add_automatic-requires-clause-nam
 add_automatic-requires-clause-named c =
     let r = c.requires.ready in
     ready.named_up c.args.script.now c.args.planner.now c.args.line r.0 c.args.job.now r.1.table r.1.begun r.1.n r.1.found r.1.step r.1.stands
-    (jobs_of c.jobs_of_all-deps.result) (ready.named_is c.args.script.now c.args.planner.now c.args.line r.0 c.args.job.now r.1.table r.1.begun r.1.n
-    r.1.found r.1.step r.1.stands (jobs_of c.jobs_of_all-deps.result) c.deref.result.now c.deref.ensures.value c.jobs_of_all-deps.ensures)
+    (jobs_of c.set_to_jobs_of.new.all) (ready.named_is c.args.script.now c.args.planner.now c.args.line r.0 c.args.job.now r.1.table r.1.begun r.1.n
+    r.1.found r.1.step r.1.stands (jobs_of c.set_to_jobs_of.new.all) c.deref.result.now c.deref.ensures.value c.set_to_jobs_of.ensures)
 
 pub plain_run-requires-clause-kernel : goal.plain_run-requires-clause-kernel
 plain_run-requires-clause-kernel c =
@@ -119,7 +119,7 @@ plain_run-requires-clause-cut c =
 pub add_job-requires-clause-before : goal.add_job-requires-clause-before
 add_job-requires-clause-before c =
     let r = c.requires.ready in
-    subst (λ (k : Planner). k.jobs_before ≤ count_of k.world.jobs)
+    subst (λ (k : Planner). k.world.jobs_before ≤ count_of k.world.jobs)
     (sym (moved c.args.script.now c.args.planner.now c.plain_run.new.planner c.args.job.now.kernel c.in_ok-run.run'.kernel c.in_ok-run.ensures.copied))
     (ready.before_low c.args.script.now c.args.planner.now c.args.line r.0 c.args.job.now r.1.table r.1.begun r.1.n r.1.found r.1.step r.1.stands)
 
@@ -141,9 +141,9 @@ pub add_automatic-requires-clause-noted : goal.add_automatic-requires-clause-not
 add_automatic-requires-clause-noted c =
     let r = c.requires.ready in
     let uses = c.in_ok-uses.uses.items in
-    let named = jobs_of c.jobs_of_all-deps.result in
+    let named = jobs_of c.set_to_jobs_of.new.all in
     let named_are = ready.named_is c.args.script.now c.args.planner.now c.args.line r.0 c.args.job.now r.1.table r.1.begun r.1.n r.1.found r.1.step r.1.stands
-    named c.deref.result.now c.deref.ensures.value c.jobs_of_all-deps.ensures in
+    named c.deref.result.now c.deref.ensures.value c.set_to_jobs_of.ensures in
     let given = ready.are_given c.args.script.now c.args.planner.now c.args.line r.0 c.args.job.now r.1.table r.1.begun r.1.n r.1.found r.1.step r.1.stands
     c.index.result.now (read_some c.args.script.now.kernels c.args.job.now.kernel c.index.result.now
     (ready.kernel_below c.args.script.now c.args.planner.now c.args.line r.0 c.args.job.now r.1.table r.1.begun r.1.n r.1.found r.1.step r.1.stands)
@@ -162,9 +162,9 @@ pub add_job-requires-clause-uses : goal.add_job-requires-clause-uses
 add_job-requires-clause-uses c =
     let r = c.requires.ready in
     let uses = c.in_ok-uses.uses.items in
-    let named = jobs_of c.jobs_of_all-deps.result in
+    let named = jobs_of c.set_to_jobs_of.new.all in
     let named_are = ready.named_is c.args.script.now c.args.planner.now c.args.line r.0 c.args.job.now r.1.table r.1.begun r.1.n r.1.found r.1.step r.1.stands
-    named c.deref.result.now c.deref.ensures.value c.jobs_of_all-deps.ensures in
+    named c.deref.result.now c.deref.ensures.value c.set_to_jobs_of.ensures in
     let given = ready.are_given c.args.script.now c.args.planner.now c.args.line r.0 c.args.job.now r.1.table r.1.begun r.1.n r.1.found r.1.step r.1.stands
     c.index.result.now (read_some c.args.script.now.kernels c.args.job.now.kernel c.index.result.now
     (ready.kernel_below c.args.script.now c.args.planner.now c.args.line r.0 c.args.job.now r.1.table r.1.begun r.1.n r.1.found r.1.step r.1.stands)
@@ -203,9 +203,9 @@ pub add_job-requires-clause-deps : goal.add_job-requires-clause-deps
 add_job-requires-clause-deps c =
     let r = c.requires.ready in
     let uses = c.in_ok-uses.uses.items in
-    let named = jobs_of c.jobs_of_all-deps.result in
+    let named = jobs_of c.set_to_jobs_of.new.all in
     let named_are = ready.named_is c.args.script.now c.args.planner.now c.args.line r.0 c.args.job.now r.1.table r.1.begun r.1.n r.1.found r.1.step r.1.stands
-    named c.deref.result.now c.deref.ensures.value c.jobs_of_all-deps.ensures in
+    named c.deref.result.now c.deref.ensures.value c.set_to_jobs_of.ensures in
     let given = ready.are_given c.args.script.now c.args.planner.now c.args.line r.0 c.args.job.now r.1.table r.1.begun r.1.n r.1.found r.1.step r.1.stands
     c.index.result.now (read_some c.args.script.now.kernels c.args.job.now.kernel c.index.result.now
     (ready.kernel_below c.args.script.now c.args.planner.now c.args.line r.0 c.args.job.now r.1.table r.1.begun r.1.n r.1.found r.1.step r.1.stands)
@@ -227,9 +227,9 @@ add_job-requires-clause-deps c =
 pub returns-in-Some-clause-goes_on : goal.returns-in-Some-clause-goes_on
 returns-in-Some-clause-goes_on c home table begun n found step st =
     let uses = c.in_ok-uses.uses.items in
-    let named = jobs_of c.jobs_of_all-deps.result in
+    let named = jobs_of c.set_to_jobs_of.new.all in
     let named_are = ready.named_is c.args.script.now c.args.planner.now c.args.line home c.args.job.now table begun n found step st named c.deref.result.now
-    c.deref.ensures.value c.jobs_of_all-deps.ensures in
+    c.deref.ensures.value c.set_to_jobs_of.ensures in
     let given = ready.are_given c.args.script.now c.args.planner.now c.args.line home c.args.job.now table begun n found step st c.index.result.now
     (read_some c.args.script.now.kernels c.args.job.now.kernel c.index.result.now
     (ready.kernel_below c.args.script.now c.args.planner.now c.args.line home c.args.job.now table begun n found step st) c.index.ensures) named
@@ -245,9 +245,9 @@ returns-in-Some-clause-goes_on c home table begun n found step st =
 pub returns-clause-goes_on : goal.returns-clause-goes_on
 returns-clause-goes_on c = on_ok c.add_job.result (λ is home table begun n found step st.
     let uses = c.in_ok-uses.uses.items in
-    let named = jobs_of c.jobs_of_all-deps.result in
+    let named = jobs_of c.set_to_jobs_of.new.all in
     let named_are = ready.named_is c.args.script.now c.args.planner.now c.args.line home c.args.job.now table begun n found step st named c.deref.result.now
-    c.deref.ensures.value c.jobs_of_all-deps.ensures in
+    c.deref.ensures.value c.set_to_jobs_of.ensures in
     let given = ready.are_given c.args.script.now c.args.planner.now c.args.line home c.args.job.now table begun n found step st c.index.result.now
     (read_some c.args.script.now.kernels c.args.job.now.kernel c.index.result.now
     (ready.kernel_below c.args.script.now c.args.planner.now c.args.line home c.args.job.now table begun n found step st) c.index.ensures) named
@@ -266,9 +266,9 @@ returns-clause-goes_on c = on_ok c.add_job.result (λ is home table begun n foun
 pub returns-clause-fails : goal.returns-clause-fails
 returns-clause-fails c = if_err c.add_job.result (λ fault full home table begun n found step st.
     let uses = c.in_ok-uses.uses.items in
-    let named = jobs_of c.jobs_of_all-deps.result in
+    let named = jobs_of c.set_to_jobs_of.new.all in
     let named_are = ready.named_is c.args.script.now c.args.planner.now c.args.line home c.args.job.now table begun n found step st named c.deref.result.now
-    c.deref.ensures.value c.jobs_of_all-deps.ensures in
+    c.deref.ensures.value c.set_to_jobs_of.ensures in
     let given = ready.are_given c.args.script.now c.args.planner.now c.args.line home c.args.job.now table begun n found step st c.index.result.now
     (read_some c.args.script.now.kernels c.args.job.now.kernel c.index.result.now
     (ready.kernel_below c.args.script.now c.args.planner.now c.args.line home c.args.job.now table begun n found step st) c.index.ensures) named

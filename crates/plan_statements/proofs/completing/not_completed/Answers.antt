@@ -8,7 +8,7 @@ use Rattle.plan_statements.proofs.completing.not_completed.Goals as goal
 
 pub loop-job-init : goal.loop-job-init
 loop-job-init c =
-    let before = c.args.planner.now.jobs_before in
+    let before = c.args.world.now.jobs_before in
     record {
       low = omega arith;
       high = c.requires;
@@ -32,12 +32,12 @@ loop-job-preserved c =
       high = within.1;
       ids = λ b stands.
           let is = c.in-Some.ensures.next b stands in
-          next_to b c.args.planner.now.jobs_before (jobs_of c.args.all.now) c.loop-job.at c.in-Some.job.0 was.low lt is.2 is.3
+          next_to b c.args.world.now.jobs_before (jobs_of c.args.all.now) c.loop-job.at c.in-Some.job.0 was.low lt is.2 is.3
           c.loop-job.ids.items c.push.new.self.items (was.ids b stands) c.in_ok-push.ensures.items;
     }
 
 pub returns : goal.returns
 returns c b stands =
     let was = c.loop-job.invariant in
-    none_left b c.args.planner.now.jobs_before (jobs_of c.args.all.now) c.loop-job.at (count_of c.args.planner.now.world.jobs) was.low was.high
+    none_left b c.args.world.now.jobs_before (jobs_of c.args.all.now) c.loop-job.at (count_of c.args.world.now.jobs) was.low was.high
     (c.in_default.ensures.next b stands) c.loop-job.ids.items (was.ids b stands)

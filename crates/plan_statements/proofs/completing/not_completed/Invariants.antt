@@ -8,12 +8,12 @@ use Rattle.plan_statements.proofs.completing.not_completed.Given as goal
 
 abbrev pub invariant-loop-job : goal.invariant-loop-job
 invariant-loop-job l = record {
-  low : l.planner.jobs_before ≤ l.at;
-  high : l.at ≤ count_of l.planner.world.jobs;
+  low : l.world.jobs_before ≤ l.at;
+  high : l.at ≤ count_of l.world.jobs;
   ids : (b : Book)
-      → StandsFor l.planner.world.jobs b
-      → l.ids.items ≡ rising_jobs (newly_of b l.planner.jobs_before (jobs_of l.all)) (l.at - l.planner.jobs_before);
+      → StandsFor l.world.jobs b
+      → l.ids.items ≡ rising_jobs (newly_of b l.world.jobs_before (jobs_of l.all)) (l.at - l.world.jobs_before);
 }
 
 abbrev pub decreases-loop-job : goal.decreases-loop-job
-decreases-loop-job l = count_of l.planner.world.jobs - l.at
+decreases-loop-job l = count_of l.world.jobs - l.at

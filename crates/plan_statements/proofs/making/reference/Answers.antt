@@ -8,7 +8,7 @@ use Rattle.plan_statements.proofs.Ranges.NewContainers.{IsGiven, ready_name, rea
 use Rattle.plan_statements.proofs.making.reference.Goals as goal
 
 pub take_words-requires-clause-slots : goal.take_words-requires-clause-slots
-take_words-requires-clause-slots c = ready_slots c.requires.ready.0 _ (record c.requires.ready.1.0 { world = c.args.world.now }) c.requires.ready.1.1
+take_words-requires-clause-slots c = ready_slots c.requires.ready.0 _ (record c.requires.ready.1 { world = c.args.world.now }) c.requires.ready.2
 
 pub returns-in_err-take_words-clause-fails : goal.returns-in_err-take_words-clause-fails
 returns-in_err-take_words-clause-fails c = handed_on c.from_residual.result c.in_err-take_words.field-0.0 _ c.from_residual.ensures.1
@@ -23,9 +23,9 @@ pub refuse_full-requires : goal.refuse_full-requires
 refuse_full-requires c =
     let full = (subst (TakesUnlessFull c.args.world.now c.take_words.new.world 1) c.in-None.is c.in_ok-take_words.ensures.taken) in
     subst (λ (z : World). c.args.name < vec_len z.values) (sym full.1)
-    (ready_name c.requires.ready.0 _ (record c.requires.ready.1.0 { world = c.args.world.now }) c.requires.ready.1.1 c.args.name
-    (reference_makes c.requires.ready.0 c.requires.ready.1.1.table c.requires.ready.1.1.n c.args.line c.args.name c.args.life c.args.value
-    c.requires.ready.1.1.step).below)
+    (ready_name c.requires.ready.0 _ (record c.requires.ready.1 { world = c.args.world.now }) c.requires.ready.2 c.args.name
+    (reference_makes c.requires.ready.0 c.requires.ready.2.table c.requires.ready.2.n c.args.line c.args.name c.args.life c.args.value
+    c.requires.ready.2.step).below)
 
 pub returns-in-None-clause-answers : goal.returns-in-None-clause-answers
 returns-in-None-clause-answers c = λ script table p draft took begun n found step st.
@@ -41,15 +41,15 @@ pub enter-requires-clause-name : goal.enter-requires-clause-name
 enter-requires-clause-name c =
     as_many_names c.args.world.now c.take_words.new.world 1 c.in-Some.taken
     (subst (TakesUnlessFull c.args.world.now c.take_words.new.world 1) c.in-Some.is c.in_ok-take_words.ensures.taken) c.args.name
-    (ready_name c.requires.ready.0 _ (record c.requires.ready.1.0 { world = c.args.world.now }) c.requires.ready.1.1 c.args.name
-    (reference_makes c.requires.ready.0 c.requires.ready.1.1.table c.requires.ready.1.1.n c.args.line c.args.name c.args.life c.args.value
-    c.requires.ready.1.1.step).below)
+    (ready_name c.requires.ready.0 _ (record c.requires.ready.1 { world = c.args.world.now }) c.requires.ready.2 c.args.name
+    (reference_makes c.requires.ready.0 c.requires.ready.2.table c.requires.ready.2.n c.args.line c.args.name c.args.life c.args.value
+    c.requires.ready.2.step).below)
 
 pub enter-requires-clause-few : goal.enter-requires-clause-few
 enter-requires-clause-few c =
     as_many_containers c.args.world.now c.take_words.new.world 1 c.in-Some.taken
     (subst (TakesUnlessFull c.args.world.now c.take_words.new.world 1) c.in-Some.is c.in_ok-take_words.ensures.taken)
-    (ready_containers c.requires.ready.0 _ (record c.requires.ready.1.0 { world = c.args.world.now }) c.requires.ready.1.1)
+    (ready_containers c.requires.ready.0 _ (record c.requires.ready.1 { world = c.args.world.now }) c.requires.ready.2)
 
 pub returns-in_ok-enter-in-Some-clause-answers : goal.returns-in_ok-enter-in-Some-clause-answers
 returns-in_ok-enter-in-Some-clause-answers c = λ script table p draft took begun n found step st.

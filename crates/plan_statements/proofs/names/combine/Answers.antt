@@ -7,14 +7,14 @@ use Rattle.plan_state.proofs.Answering.{nothing_taken}
 use Rattle.plan_statements.proofs.NewNames.{combine_ready, combined}
 use Rattle.plan_statements.proofs.names.combine.Goals as goal
 
-pub jobs_of_all-jobs-requires-clause-names : goal.jobs_of_all-jobs-requires-clause-names
-jobs_of_all-jobs-requires-clause-names c =
+pub set_to_jobs_of-requires-clause-names : goal.set_to_jobs_of-requires-clause-names
+set_to_jobs_of-requires-clause-names c =
     let r = c.requires.ready in
     subst (All (λ n. n < vec_len c.args.world.now.values)) (sym c.deref.ensures.value)
     (combine_ready r.0 c.args.name c.args.of.now (record r.1 { world = c.args.world.now }) r.2).of_in
 
-pub jobs_of_all-jobs-requires-clause-there : goal.jobs_of_all-jobs-requires-clause-there
-jobs_of_all-jobs-requires-clause-there c = let r = c.requires.ready in
+pub set_to_jobs_of-requires-clause-there : goal.set_to_jobs_of-requires-clause-there
+set_to_jobs_of-requires-clause-there c = let r = c.requires.ready in
     (combine_ready r.0 c.args.name c.args.of.now (record r.1 { world = c.args.world.now }) r.2).there
 
 pub set_handle-requires-clause-name : goal.set_handle-requires-clause-name
@@ -31,7 +31,7 @@ set_handle-requires-clause-few c = let r = c.requires.ready in (combine_ready r.
 pub returns : goal.returns
 returns c = record {
   answers = λ line p draft t. nothing_taken p c.args.world.now c.set_handle.new.self (record { line = line; act = CombineOf c.args.name c.args.of.now }) draft t
-      (combined line c.args.name c.args.of.now (record p { world = c.args.world.now }) c.set_handle.new.self c.jobs_of_all-jobs.result
-      (λ j. c.jobs_of_all-jobs.ensures j ∙ ap (λ ns. jobs_by c.args.world.now.handles.items c.args.world.now.values.items ns j) c.deref.ensures.value)
+      (combined line c.args.name c.args.of.now (record p { world = c.args.world.now }) c.set_handle.new.self c.set_to_jobs_of.new.all
+      (λ j. c.set_to_jobs_of.ensures j ∙ ap (λ ns. jobs_by c.args.world.now.handles.items c.args.world.now.values.items ns j) c.deref.ensures.value)
       c.in_ok-set_handle.ensures);
 }

@@ -16,13 +16,13 @@ returns-in-Ok-clause-book c =
     let deps = c.args.deps.now in
     subst₂ (λ (n : ℕ) (rows : List Handle). (b : Book) → StandsFor book b → AreRowsOf n rows book.completed (with_job b (jobs_of deps)))
     (sym c.in-Ok.ensures.len) (sym c.in-Ok.ensures.items)
-    (adds (vec_len book.rows) book.rows.items book.completed deps c.closure-row.result c.insert.new.self (sym book.rows.ok.0) c.closure-row.ensures.all
-    (row_is c.count.result (vec_len book.rows) c.closure-row.result c.insert.new.self c.count.ensures.count c.insert.ensures) c.requires)
+    (adds (vec_len book.rows) book.rows.items book.completed deps c.set_to_closure.new.all c.insert.new.self (sym book.rows.ok.0) c.set_to_closure.ensures.all
+    (row_is c.count.result (vec_len book.rows) c.set_to_closure.new.all c.insert.new.self c.count.ensures.count c.insert.ensures) c.requires)
 
 pub invariant_of-self-clause-own : goal.invariant_of-self-clause-own
 invariant_of-self-clause-own c =
     let book = c.args.self.now in
-    own_grown (is_ok c.push.result) (vec_len book.rows) (vec_len c.push.new.self) book.rows.items c.push.new.self.items c.closure-row.result
+    own_grown (is_ok c.push.result) (vec_len book.rows) (vec_len c.push.new.self) book.rows.items c.push.new.self.items c.set_to_closure.new.all
     c.insert.new.self (sym book.rows.ok.0) book.own
-    (row_is c.count.result (vec_len book.rows) c.closure-row.result c.insert.new.self c.count.ensures.count c.insert.ensures) c.push.ensures.len
+    (row_is c.count.result (vec_len book.rows) c.set_to_closure.new.all c.insert.new.self c.count.ensures.count c.insert.ensures) c.push.ensures.len
     c.push.ensures.items

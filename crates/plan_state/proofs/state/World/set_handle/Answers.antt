@@ -1,4 +1,5 @@
 use Rattle.std.proofs.Common.{ap, refl, ◌∙◌, Some, arith}
+use Rattle.job_handle.specs.Sets.{jobs_of}
 use Rattle.plan_state.specs.declared.state.Value.TheVariants.{Jobs}
 use Rattle.plan_state.proofs.Accessing.{read_some}
 use Rattle.plan_state.proofs.Naming.{new_place, own_place}
@@ -16,7 +17,7 @@ returns-in-Jobs c =
     let read = read_some s.values c.args.name c.index.result.now c.requires.name c.index.ensures ∙ ap Some c.in-Jobs.is in
     let lt = c.requires.there c.args.name (Jobs c.in-Jobs.place) read in
     let len = s.handles.ok.0 in
-    own_place s _ c.args.name c.in-Jobs.place c.args.jobs.now read (omega arith) refl
+    own_place s _ c.args.name c.in-Jobs.place c.set_to.new.self (jobs_of c.args.jobs.now) read (omega arith) refl c.set_to.ensures
 
 pub returns-in_ok-push-in_default : goal.returns-in_ok-push-in_default
 returns-in_ok-push-in_default c =

@@ -1,6 +1,6 @@
 use Rattle.std.proofs.Common.{◌≤◌, vec_len}
 use Rattle.job_handle.specs.Books.{IsUnion}
-use Rattle.job_handle.proofs.book.JobBook.closure.Given as goal
+use Rattle.job_handle.proofs.book.JobBook.set_to_closure.Given as goal
 
 abbrev pub invariant-loop-j : goal.invariant-loop-j
 invariant-loop-j l = record {

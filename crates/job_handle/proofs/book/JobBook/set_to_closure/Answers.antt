@@ -3,15 +3,15 @@ use Rattle.job_handle.specs.declared.handle.Handle.{Handle}
 use Rattle.job_handle.specs.Sets.{jobs_of}
 use Rattle.job_handle.specs.Books.{IsUnion}
 use Rattle.job_handle.proofs.Rows.{none_yet, next_row, none_left, all_there, all_own}
-use Rattle.job_handle.proofs.book.JobBook.closure.Goals as goal
+use Rattle.job_handle.proofs.book.JobBook.set_to_closure.Goals as goal
 
 pub loop-j-init : goal.loop-j-init
 loop-j-init c =
     let book = c.args.self.now in
     record {
       within = let count = c.count-left.ensures.count in omega arith;
-      union = subst (λ n. IsUnion (vec_len book.rows) book.rows.items book.completed c.args.h.now c.empty-all.result n) (sym c.count-left.ensures.count)
-          (none_yet (vec_len book.rows) book.rows.items book.completed c.args.h.now c.empty-all.result c.empty-all.ensures);
+      union = subst (λ n. IsUnion (vec_len book.rows) book.rows.items book.completed c.args.h.now c.clear.new.self n) (sym c.count-left.ensures.count)
+          (none_yet (vec_len book.rows) book.rows.items book.completed c.args.h.now c.clear.new.self c.clear.ensures);
     }
 
 pub loop-j-preserved : goal.loop-j-preserved

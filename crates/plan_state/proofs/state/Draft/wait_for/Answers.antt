@@ -3,7 +3,7 @@ use Rattle.std.specs.Prelude.{Vec}
 use Rattle.std.specs.declared.alloc.Global.{Global}
 use Rattle.job_base.specs.declared.JobId.{JobId}
 use Rattle.frame_core.specs.declared.plan.Op.{Op}
-use Rattle.plan_statements.proofs.completing.begin_segment.Goals as goal
+use Rattle.plan_state.proofs.state.Draft.wait_for.Goals as goal
 
 pub returns : goal.returns
 returns c = record {

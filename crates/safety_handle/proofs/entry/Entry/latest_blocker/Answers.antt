@@ -1,0 +1,10 @@
+use Rattle.safety_handle.specs.Entries.{writer_in, readers_in}
+use Rattle.safety_handle.proofs.Conflicting.{blocks}
+use Rattle.safety_handle.proofs.entry.Entry.latest_blocker.Goals as goal
+
+pub returns : goal.returns
+returns c =
+    let e = c.args.self.now in
+    blocks c.args.jobs.now (record { writer = writer_in e.writer; readers = readers_in e.readers }) c.conflicting.result c.before-before.result c.args.deps.now
+    c.args.writes c.latest_outside.result
+    c.conflicting.ensures c.before-before.ensures c.latest_outside.ensures
