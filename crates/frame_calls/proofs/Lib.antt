@@ -1,3 +1,4 @@
 mod Filling
 mod HostValues
 pub mod Sent
+mod Walks

@@ -16,6 +16,6 @@ pub data Fills (out : List ℕ) (len : ℕ) (a : Answer) (result : ℕ) : Type 0
       → Fills out len a result
   NotFound : result ≡ NO_MEMORY → Fills out len a result
 
--- what a run comes to before its text is copied: the answer, or memory wasn't found for the run or for its text
+-- what a run and its text come to before the room is looked at: the answer, or memory wasn't found
 abbrev pub Comes : ℕ → Text → Answer → Type 0
 Comes status text a = (status ≡ a.status) × (text ≡ a.text) ⊎ ((status ≡ UNWRITTEN) ⊎ (status ≡ NO_MEMORY))

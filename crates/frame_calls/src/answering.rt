@@ -1,10 +1,11 @@
 // What a frame came to.
-ghost use Rattle.std.specs.Prelude.{◌≡◌, ◌≤◌, length, take, Some};
+ghost use Rattle.std.specs.Prelude.{◌≡◌, Some};
 ghost use Rattle.frame_ast.specs.States.{ScriptState};
 ghost use Rattle.frame_host.specs.Reports.{IsFrameReport};
 ghost use Rattle.frame_calls.specs.Holding.{IsSoundHeld};
 ghost use Rattle.frame_calls.specs.Hosting.{IsLeft, IsReported, Prints, Reads, Reports, trap_number};
 
+use crate::copying::copy_items;
 use crate::held::Held;
 use crate::host::HostHandle;
 use crate::status::{NONE, NOT_NOW};
@@ -28,16 +29,6 @@ pub struct HostReport {
     pub trap: u32,
 }
 
-// Copies items to the front of a buffer that has room for them.
-fn copy_items<T: Copy>(from: &[T], out: &mut [T])
-    requires room { length from.now ≤ length out.old }
-    ensures front { take (length from.now) out.new ≡ from.now }
-    ensures room { length out.new ≡ length out.old }
-{
-    let (front, _) = out.split_at_mut(from.len());
-    front.copy_from_slice(from);
-}
-
 // Leaves items in a buffer, or the first of them where it has no room for all.
 fn leave<T: Copy>(items: &[T], out: &mut [T], out_len: &mut usize) -> u8
     ensures left { IsLeft items.now out.new out_len.new result }
@@ -45,10 +36,10 @@ fn leave<T: Copy>(items: &[T], out: &mut [T], out_len: &mut usize) -> u8
     *out_len = items.len();
     let room = out.len();
     if items.len() > room {
-        copy_items(&items[..room], out);
+        copy_items(&items[..room], 0, out);
         return UNWRITTEN;
     }
-    copy_items(items, out);
+    copy_items(items, 0, out);
     DONE
 }
 

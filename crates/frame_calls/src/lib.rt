@@ -12,13 +12,16 @@
 //! handle but that the program gives it to one call at a time, and uses no copy of it. A handle may go from thread to
 //! thread: it is `Send`, which is proved for all that one can have (`proofs/Sent`).
 //!
-//! *Cost.* The text of [`run_script`] is kept in memory until the script has run, and is copied once. A call on a
-//! handle moves what it has out of its block and back, and takes no memory for that.
+//! *Cost.* The text of [`run_script`] goes from the run's own buffer straight into the caller's, and no memory is taken
+//! for it. What finds no room is counted alone. A call on a handle moves what it has out of its block and back, and
+//! takes no memory for that.
 //!
 //! It starts no thread, waits for nobody, takes no lock and reads no file.
 #![tactic(auto)]
 
 mod answering;
+mod buffer;
+mod copying;
 mod framing;
 mod held;
 mod helping;
@@ -26,6 +29,7 @@ mod host;
 mod opening;
 mod run;
 pub mod status;
+mod written;
 
 pub use answering::{HostReport, read, report, text};
 pub use framing::{begin, end, next, turn};

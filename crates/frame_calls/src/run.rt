@@ -1,14 +1,16 @@
-// The call, and how its text is left in the caller's buffer.
-ghost use Rattle.std.specs.Prelude.{◌≡◌, ◌≢◌, ◌<◌, ◌≤◌, length, take, option_copied, None, Some, false};
+// The call, whose text goes straight into the caller's buffer.
+ghost use Rattle.std.specs.Prelude.{◌≡◌, ◌≢◌, ◌<◌, ◌≤◌, length, option_copied, None, Some, false};
 ghost use Rattle.frame_ast.specs.declared.script.Script.{Script};
 ghost use Rattle.frame_ast.specs.Scripts.{output_of, status_of};
+ghost use Rattle.command_words.specs.Words.{Text};
 ghost use Rattle.frame_top.specs.Inputs.{Accepts};
 ghost use Rattle.frame_top.specs.Refusals.{Answer, Refuses, answer, frame_refusal, table_of, table_refusal};
 ghost use Rattle.frame_top.specs.Sources.{IsAcceptedFrame};
 ghost use Rattle.frame_top.specs.declared.status.TheConstants.{NO_MEMORY, UNWRITTEN};
 ghost use Rattle.frame_calls.specs.Calls.{Comes, Fills, given};
+ghost use Rattle.frame_calls.specs.Filled.{IsFilled};
 
-use frame_host::KeptText;
+use crate::buffer::BufferSink;
 use frame_top::run_source;
 use frame_top::status::{NO_MEMORY, UNWRITTEN};
 use std::alloc::Global;
@@ -20,35 +22,22 @@ fn given_table(has_table: bool, table: &[u8]) -> Option<&[u8]>
     if has_table { Some(table) } else { None }
 }
 
-// Copies bytes to the front of a buffer that has room for them.
-fn copy_to(from: &[u8], out: &mut [u8])
-    requires room { length from.now ≤ length out.old }
-    ensures front { take (length from.now) out.new ≡ from.now }
-    ensures room { length out.new ≡ length out.old }
-{
-    let (front, _) = out.split_at_mut(from.len());
-    front.copy_from_slice(from);
-}
-
-// Leaves a text in a buffer, and answers its status; another one where the buffer has no room for the text, or memory
-// wasn't found for the whole text.
-fn leave_text(status: u8, text: &[u8], out: &mut [u8], out_len: &mut usize) -> u8
-    ensures fills { (a : Answer) → Comes status text.now a → Fills out.new out_len.new a result }
-    ensures longer { result ≡ UNWRITTEN → length out.new < out_len.new }
-    ensures within { result ≢ UNWRITTEN → out_len.new ≤ length out.new }
-    ensures room { length out.new ≡ length out.old }
+// The status of a run whose text, of `len` bytes, was written into a buffer of `room` bytes; another one where the
+// buffer has no room for the text, or memory wasn't found for the whole run.
+fn status_of_text(status: u8, len: usize, room: usize, out_len: &mut usize) -> u8
+    ensures fills { (a : Answer) (out text : Text) → length out ≡ room → IsFilled out text len → Comes status text a
+        → Fills out out_len.new a result }
+    ensures longer { result ≡ UNWRITTEN → room < out_len.new }
+    ensures within { result ≢ UNWRITTEN → out_len.new ≤ room }
 {
     if status == UNWRITTEN || status == NO_MEMORY {
         *out_len = 0;
         return NO_MEMORY;
     }
-    *out_len = text.len();
-    let room = out.len();
-    if text.len() > room {
-        copy_to(&text[..room], out);
+    *out_len = len;
+    if len > room {
         return UNWRITTEN;
     }
-    copy_to(text, out);
     status
 }
 
@@ -82,7 +71,8 @@ pub fn run_script(
     ensures within { result ≢ UNWRITTEN → out_len.new ≤ length out.new }
     ensures room { length out.new ≡ length out.old }
 {
-    let mut text = KeptText::new(alloc);
-    let status = run_source(alloc, script, given_table(has_table, table), &mut text);
-    leave_text(status, &text.bytes, out, out_len)
+    let room = out.len();
+    let mut sink = BufferSink::over(out);
+    let status = run_source(alloc, script, given_table(has_table, table), &mut sink);
+    status_of_text(status, sink.len, room, out_len)
 }

@@ -1,5 +1,5 @@
 -- What the bytes of a script answer.
-use Rattle.std.proofs.Common.{◌≡◌, ◌≢◌, ◌⊎◌, inl, inr, ⊎_elim, refl, sym, ap, ◌∙◌, subst, ℕ, ◌≤◌, true, false, List, length, Option, None, Some, arith}
+use Rattle.std.proofs.Common.{◌≡◌, ◌≢◌, ◌⊎◌, inl, inr, ⊎_elim, refl, sym, ap, ◌∙◌, subst, ℕ, ◌≤◌, true, false, List, [], length, take, Option, None, Some, arith}
 use Rattle.std.specs.Prelude.{IfSome, if◌then◌else◌, nat_lt, option_map}
 use Rattle.std.proofs.lemmas.Bool.Decides.{nat_tests}
 use Rattle.std.specs.Io.KnownBytes.{Appends}
@@ -45,6 +45,14 @@ given cause cut old new before now result a same (Caused b why (Whole is app e))
 given cause cut old new before now result a same (Caused b why (Part is n app rose)) = inr (NotTaken is rose)
 given cause cut old new before now result a same (Early is app e) = inr (NotFound is)
 given cause cut old new before now result a same (Midway is text why n app e) = inr (NotFound is)
+
+-- whatever is answered, something was added to what was taken, and nothing else became of it
+pub grown : (cause : Answer → Type 0) (cut : Text → Type 0) (old new : Option Text) (before now result : ℕ)
+    → Answers cause cut old new before now result → (more : Text) × Appends old new more
+grown cause cut old new before now result (Caused a why (Whole is app e)) = (a.text, app)
+grown cause cut old new before now result (Caused a why (Part is n app rose)) = (take n a.text, app)
+grown cause cut old new before now result (Early is app e) = ([], app)
+grown cause cut old new before now result (Midway is text why n app e) = (take n text, app)
 
 -- TABLES THAT ARE TOO LONG, or not
 

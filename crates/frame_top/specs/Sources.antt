@@ -31,3 +31,7 @@ pub record CanBeCutOf (source : Text) (table : Option Text) (text : Text) : Type
 abbrev pub GivesSource : {S : Type 0} → (S → Option Text) → (S → ℕ) → S → S → Answer → ℕ → Type 0
 GivesSource taken faults sink sink' a result = (result ≡ a.status) × Appends (taken sink) (taken sink') a.text
     ⊎ Hindered ⊥ (Rose (faults sink) (faults sink')) result
+
+-- What a sink took is only added to.
+abbrev pub Grows : {S : Type 0} → (S → Option Text) → S → S → Type 0
+Grows taken sink sink' = (more : Text) × Appends (taken sink) (taken sink') more

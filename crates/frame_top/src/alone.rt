@@ -13,7 +13,7 @@ ghost use Rattle.frame_top.specs.Answers.{AnswersTo, FrameCause, IsCut, has_when
 ghost use Rattle.frame_top.specs.Inputs.{Accepts};
 ghost use Rattle.frame_top.specs.Refusals.{Answer, Refuses, answer, frame_refusal, named_columns, refused_table, table_of, table_refusal};
 ghost use Rattle.frame_top.specs.Running.{HasRun, RunsOn};
-ghost use Rattle.frame_top.specs.Sources.{CanBeCutOf, GivesSource, IsAcceptedFrame, SourceCause};
+ghost use Rattle.frame_top.specs.Sources.{CanBeCutOf, GivesSource, Grows, IsAcceptedFrame, SourceCause};
 ghost use Rattle.frame_top.specs.declared.status.TheConstants.{PAST_LIMIT};
 
 use crate::frame::refuse_missing;
@@ -191,6 +191,9 @@ pub fn run_source<S: Sink>(alloc: Global, source: &[u8], table: Option<&[u8]>, s
         → table_refusal (option_copied table.entry) ≡ None
         → frame_refusal script (table_of (option_copied table.entry)) false ≡ Some a
         → GivesSource S.taken S.faults sink.old sink.new a result }
+
+    // Whatever is answered, after a fault too.
+    ensures grows { Grows S.taken sink.old sink.new }
     ensures later { S.faults sink.old ≤ S.faults sink.new }
 {
     answer_source(alloc, source, table, sink)

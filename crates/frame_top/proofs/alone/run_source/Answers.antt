@@ -1,4 +1,4 @@
-use Rattle.frame_top.proofs.Sources.{given, refuses_same, table_same, run_same, frame_same}
+use Rattle.frame_top.proofs.Sources.{given, grown, refuses_same, table_same, run_same, frame_same}
 use Rattle.frame_top.proofs.alone.run_source.Goals as goal
 
 pub returns-clause-headline : goal.returns-clause-headline
@@ -14,3 +14,6 @@ returns-clause-table_due g c script a accepted refuses =
 pub returns-clause-frame_due : goal.returns-clause-frame_due
 returns-clause-frame_due g c script a accepted stands refuses =
     given _ _ _ _ _ _ _ a (λ b why. frame_same _ _ script accepted a b stands refuses why) c.answer_source.ensures.answer
+
+pub returns-clause-grows : goal.returns-clause-grows
+returns-clause-grows g c = grown _ _ _ _ _ _ _ c.answer_source.ensures.answer
