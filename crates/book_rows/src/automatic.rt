@@ -8,11 +8,11 @@ use crate::sets::{number, numbers, set, text_of};
 use auto_deps::automatic;
 use job_base::limits::MOST_JOBS;
 use job_base::{Access, JobId, NoMemory};
-use job_handle::{BookFault, Handle, JobBook};
+use job_handle::{Handle, JobBook};
+use row_texts::{row, same, table};
 use safety_handle::{SafetyBook, Tag};
 use slot_store::{Slot, Version};
 use std::alloc::Global;
-use std::process::Abort;
 use std::test::Fail;
 
 fn tag(slot: u32) -> Tag {
@@ -68,8 +68,7 @@ fn schedule(
     after: &Handle,
     book: &mut SafetyBook,
     jobs: &mut JobBook,
-    rt: &impl Abort,
-) -> Result<Handle, BookFault>
+) -> Result<Handle, Fail>
     requires after { AreUpTo (count_of jobs.old) (jobs_of after.now) }
     requires noted { AreNoted (count_of jobs.old) book.old }
     ensures noted { AreNoted (count_of jobs.new) book.new }
@@ -82,7 +81,9 @@ fn schedule(
             Access::Read => reads(tag, &deps, j, book, jobs),
             Access::Write | Access::Both => writes(tag, &deps, j, book, jobs),
         };
-        assert!(rt; free);
+        if !free {
+            return Err(Fail::new("a use is blocked"));
+        }
     }
     Ok(answer)
 }
@@ -110,74 +111,77 @@ fn job(
     after: &str,
     book: &mut SafetyBook,
     jobs: &mut JobBook,
-    rt: &impl Abort,
 ) -> Result<String, Fail>
     requires noted { AreNoted (count_of jobs.old) book.old }
     ensures noted { AreNoted (count_of jobs.new) book.new }
 {
     let uses = uses_of(alloc, uses)?;
     let after = set(jobs, &numbers(alloc, after)?);
-    let answer = schedule(&uses, &after, book, jobs, rt)?;
+    let answer = schedule(&uses, &after, book, jobs)?;
     text_of(alloc, &answer, MOST_JOBS)
 }
 
 // A script: the uses of each job and what it waits for, and its automatic set; or a completion.
-fn compare(rt: &impl Abort, alloc: Global, script: &str) -> Result<(), Fail> {
+fn compare(alloc: Global, script: &str) -> Result<(), Fail> {
     let mut jobs = JobBook::new(alloc);
     let mut book = containers(alloc)?;
-    for row in script.lines() {
-        if let Some(done) = row.strip_prefix("complete ") {
+    for line in table(script)?.lines() {
+        if let Some(done) = line.strip_prefix("complete ") {
             let done = set(&jobs, &numbers(alloc, done)?);
             jobs.complete(&done);
-        } else {
-            let (of, want) = row.split_once(" = ").ok_or("no row")?;
+        } else if let Some((of, wanted)) = row(line)? {
             let (uses, after) = of.split_once(" after ").ok_or("no set")?;
-            let told = job(alloc, uses, after, &mut book, &mut jobs, rt)?;
-            assert_eq!(rt; told.as_str(), want, "{row}");
+            let told = job(alloc, uses, after, &mut book, &mut jobs)?;
+            same(line, &told, wanted)?;
         }
     }
     Ok(())
 }
 
-const TWO_KERNELS_IN_A_ROW: &str = "read:0,write:1 after - = -
-read:1,both:2 after - = 1
+const TWO_KERNELS_IN_A_ROW: &str = "
+read:0,write:1 after - | -
+read:1,both:2 after - | 1
 complete 2
-both:2 after - = -
+both:2 after - | -
 ";
 
-const A_WRITER_TWO_READERS_A_WRITER: &str = "both:0 after - = -
-read:0,both:1 after - = 1
-read:0,both:2 after - = 1
-both:0 after - = 2,3
-both:0 after - = 4
+const A_WRITER_TWO_READERS_A_WRITER: &str = "
+both:0 after - | -
+read:0,both:1 after - | 1
+read:0,both:2 after - | 1
+both:0 after - | 2,3
+both:0 after - | 4
 ";
 
-const A_BLOCKER_BEFORE_ANOTHER: &str = "both:0 after - = -
-read:0,both:1 after - = 1
-both:0,read:1 after - = 2
-both:2 after - = -
-both:1,read:2 after - = 3,4
+const A_BLOCKER_BEFORE_ANOTHER: &str = "
+both:0 after - | -
+read:0,both:1 after - | 1
+both:0,read:1 after - | 2
+both:2 after - | -
+both:1,read:2 after - | 3,4
 ";
 
-const WAITED_FOR_AND_COMPLETED: &str = "both:0 after - = -
-both:1 after - = -
-read:0,read:1 after 1 = 2
+const WAITED_FOR_AND_COMPLETED: &str = "
+both:0 after - | -
+both:1 after - | -
+read:0,read:1 after 1 | 2
 complete 2
-read:1 after - = -
+read:1 after - | -
 ";
 
-const READERS: &str = "read:0 after - = -
-read:0 after - = -
-read:0 after - = -
-write:0 after 2 = 1,3
+const READERS: &str = "
+read:0 after - | -
+read:0 after - | -
+read:0 after - | -
+write:0 after 2 | 1,3
 ";
 
 #[test]
 fn scripts(rt: HostRuntime) -> Result<(), Fail> {
     let alloc = rt.alloc();
-    compare(&rt, alloc, TWO_KERNELS_IN_A_ROW)?;
-    compare(&rt, alloc, A_WRITER_TWO_READERS_A_WRITER)?;
-    compare(&rt, alloc, A_BLOCKER_BEFORE_ANOTHER)?;
-    compare(&rt, alloc, WAITED_FOR_AND_COMPLETED)?;
-    compare(&rt, alloc, READERS)
+    compare(alloc, TWO_KERNELS_IN_A_ROW)?;
+    compare(alloc, A_WRITER_TWO_READERS_A_WRITER)?;
+    compare(alloc, A_BLOCKER_BEFORE_ANOTHER)?;
+    compare(alloc, WAITED_FOR_AND_COMPLETED)?;
+    compare(alloc, READERS)
 }

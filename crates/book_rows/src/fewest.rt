@@ -9,6 +9,7 @@ use job_base::limits::MOST_JOBS;
 use job_base::{JobId, NoMemory};
 use job_fewest::fewest;
 use job_handle::Handle;
+use row_texts::{row, same, table};
 use std::alloc::Global;
 use std::test::Fail;
 
@@ -43,21 +44,22 @@ fn fewest_of(alloc: Global, before: &str, wanted: &str) -> Result<String, Fail> 
 // All that the jobs 1, 2, .. wait for, and a set; the fewest jobs that lead to it, and what these lead to. No job, a
 // chain, a diamond with and without its lower half, two that nothing ties, and a job that waits for another through one
 // that isn't wanted.
-const GRAPHS: &str = " to - = - -
-- 1 1,2 to 1,2,3 = 3 1,2,3
-- 1 1 1,2,3 to 1,2,3 = 3,2 1,2,3
-- 1 1 1,2,3 to 1,2,3,4 = 4 1,2,3,4
-- - - to 1,3 = 3,1 1,3
-- 1 1,2 - to 1,3,4 = 4,3 1,2,3,4
+const GRAPHS: &str = "
+ to - | - -
+- 1 1,2 to 1,2,3 | 3 1,2,3
+- 1 1 1,2,3 to 1,2,3 | 3,2 1,2,3
+- 1 1 1,2,3 to 1,2,3,4 | 4 1,2,3,4
+- - - to 1,3 | 3,1 1,3
+- 1 1,2 - to 1,3,4 | 4,3 1,2,3,4
 ";
 
 #[test]
 fn graphs(rt: HostRuntime) -> Result<(), Fail> {
-    for row in GRAPHS.lines() {
-        let (of, want) = row.split_once(" = ").ok_or("no row")?;
-        let (before, wanted) = of.split_once(" to ").ok_or("no set")?;
-        let told = fewest_of(rt.alloc(), before, wanted)?;
-        assert_eq!(rt; told.as_str(), want, "{row}");
+    for line in table(GRAPHS)?.lines() {
+        if let Some((of, wanted)) = row(line)? {
+            let (before, jobs) = of.split_once("to ").ok_or("no set")?;
+            same(line, &fewest_of(rt.alloc(), before, jobs)?, wanted)?;
+        }
     }
     Ok(())
 }

@@ -7,17 +7,19 @@ use crate::sets::{completed_in, led_to, numbers, set, several, text_of};
 use job_base::JobId;
 use job_base::limits::MOST_JOBS;
 use job_handle::{BookFault, Handle, JobBook};
+use row_texts::{row, same, table};
 use std::alloc::Global;
 use std::test::Fail;
 
 // The dependency sets of the jobs 1, 2, .., a set, and what it leads to. No job, a chain through another container,
 // readers after a writer, two readers, a diamond, and sets over several words.
-const BOOKS: &str = " from - = -
-- 1 2 from 3 = 1,2,3
-- 1 1 from 3 = 1,3
-- - from 1 = 1
-- 1 1 2,3 - from 4 = 1,2,3,4
-- 1 1 2,3 - from 2,5 = 1,2,5
+const BOOKS: &str = "
+ from - | -
+- 1 2 from 3 | 1,2,3
+- 1 1 from 3 | 1,3
+- - from 1 | 1
+- 1 1 2,3 - from 4 | 1,2,3,4
+- 1 1 2,3 - from 2,5 | 1,2,5
 ";
 
 fn book_of(alloc: Global, all: &[Vec<u32>]) -> Result<JobBook, Fail> {
@@ -45,12 +47,13 @@ fn completed_with(alloc: Global, book: &mut JobBook, from: &[u32]) -> Result<Str
 #[test]
 fn books(rt: HostRuntime) -> Result<(), Fail> {
     let alloc = rt.alloc();
-    for row in BOOKS.lines() {
-        let (of, want) = row.split_once(" = ").ok_or("no row")?;
-        let (deps, from) = of.split_once(" from ").ok_or("no set")?;
-        let mut book = book_of(alloc, &several(alloc, deps)?)?;
-        let told = completed_with(alloc, &mut book, &numbers(alloc, from)?)?;
-        assert_eq!(rt; told.as_str(), want, "{row}");
+    for line in table(BOOKS)?.lines() {
+        if let Some((of, wanted)) = row(line)? {
+            let (deps, from) = of.split_once("from ").ok_or("no set")?;
+            let mut book = book_of(alloc, &several(alloc, deps)?)?;
+            let told = completed_with(alloc, &mut book, &numbers(alloc, from)?)?;
+            same(line, &told, wanted)?;
+        }
     }
     Ok(())
 }
@@ -65,8 +68,7 @@ fn a_full_book(rt: HostRuntime) -> Result<(), Fail> {
         let one = Handle::of(j);
         all = all.combine(&one);
     }
-    assert_eq!(rt; book.add(&all), Err(BookFault::Full));
-    assert_eq!(rt; book.count(), MOST_JOBS);
+    assert!(rt; book.add(&all) == Err(BookFault::Full) && book.count() == MOST_JOBS);
     let last = set(&book, &[MOST_JOBS]);
     let first = set(&book, &[1, 64, 65]);
     assert!(rt; book.depends(&last, JobId(1)));
@@ -101,10 +103,9 @@ fn set_of(jobs: &[u32]) -> Handle {
 #[test]
 fn sets(rt: HostRuntime) -> Result<(), Fail> {
     let alloc = rt.alloc();
-    for row in SETS.lines() {
-        let all = set_of(&numbers(alloc, row)?);
-        let told = text_of(alloc, &all, MOST_JOBS)?;
-        assert_eq!(rt; told.as_str(), row);
+    for line in SETS.lines() {
+        let all = set_of(&numbers(alloc, line)?);
+        same(line, &text_of(alloc, &all, MOST_JOBS)?, line)?;
     }
     Ok(())
 }

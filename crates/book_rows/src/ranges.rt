@@ -8,6 +8,7 @@ ghost use Rattle.slot_store.specs.Stores.{place_of, slots_in_use};
 use crate::sets::{number, numbers, set};
 use job_base::{JobId, Span};
 use job_handle::{Handle, JobBook};
+use row_texts::{row, same, table};
 use slot_store::{SlotStore, StoreFault, Taken};
 use std::alloc::Global;
 use std::process::Abort;
@@ -114,7 +115,7 @@ impl Run {
     fn tell_taken(&mut self, alloc: Global, len: u32, rt: &impl Abort) -> Result<String, Fail> {
         match self.take(len, rt) {
             Ok(taken) => {
-                assert_eq!(rt; taken.span.len, len);
+                assert!(rt; taken.span.len == len);
                 self.taken.push(taken)?;
                 let (slot, version) = (taken.slot.0, taken.version.0);
                 Ok(format!(in alloc; "{slot} {version} {}", taken.span.start)?)
@@ -154,153 +155,163 @@ impl Run {
 // Calls on a new store.
 fn compare(rt: &impl Abort, alloc: Global, rows: &str) -> Result<(), Fail> {
     let mut run = Run::new(alloc)?;
-    for row in rows.lines() {
-        let (call, want) = row.split_once(" = ").ok_or("no row")?;
-        let told = run.perform(alloc, &call_of(alloc, call)?, rt)?;
-        assert_eq!(rt; told.as_str(), want, "{row}");
+    for line in table(rows)?.lines() {
+        if let Some((call, wanted)) = row(line)? {
+            let told = run.perform(alloc, &call_of(alloc, call)?, rt)?;
+            same(line, &told, wanted)?;
+        }
     }
     Ok(())
 }
 
 // A range that came back is given again with its slot, which has the next version then.
-const A_RANGE_THAT_CAME_BACK: &str = "take 2 = 0 0 0
-give 0 = done
-live 0 = false
-take 2 = 0 1 0
-live 1 = true
-words = 2 2
+const A_RANGE_THAT_CAME_BACK: &str = "
+take 2 | 0 0 0
+give 0 | done
+live 0 | false
+take 2 | 0 1 0
+live 1 | true
+words | 2 2
 ";
 
 // A range that is held for a job isn't given before that job is completed.
-const A_RANGE_THAT_IS_HELD: &str = "take 2 = 0 0 0
-take 1 = 1 0 2
-hold 0 1 = done
-settle = done
-live 0 = false
-take 2 = 2 0 3
-words = 5 5
-complete 1 = done
-settle = done
-words = 3 5
-take 2 = 0 1 0
-words = 5 5
+const A_RANGE_THAT_IS_HELD: &str = "
+take 2 | 0 0 0
+take 1 | 1 0 2
+hold 0 1 | done
+settle | done
+live 0 | false
+take 2 | 2 0 3
+words | 5 5
+complete 1 | done
+settle | done
+words | 3 5
+take 2 | 0 1 0
+words | 5 5
 ";
 
 // The new range is taken while the old one is live. Slot and version stay.
-const REGROWN: &str = "take 2 = 0 0 0
-regrow 0 3 = 2 3
-live 0 = true
-words = 3 5
-take 2 = 1 0 0
-words = 5 5
+const REGROWN: &str = "
+take 2 | 0 0 0
+regrow 0 3 | 2 3
+live 0 | true
+words | 3 5
+take 2 | 1 0 0
+words | 5 5
 ";
 
 // Versions after reuse.
-const VERSIONS_AFTER_REUSE: &str = "take 4 = 0 0 0
-give 0 = done
-take 4 = 0 1 0
-hold 1 - = done
-live 1 = false
-settle = done
-take 4 = 0 2 0
-give 2 = done
-take 1 = 0 3 0
-live 0 = false
-live 1 = false
-live 2 = false
-live 3 = true
+const VERSIONS_AFTER_REUSE: &str = "
+take 4 | 0 0 0
+give 0 | done
+take 4 | 0 1 0
+hold 1 - | done
+live 1 | false
+settle | done
+take 4 | 0 2 0
+give 2 | done
+take 1 | 0 3 0
+live 0 | false
+live 1 | false
+live 2 | false
+live 3 | true
 ";
 
 // An empty range starts at 0, and has no word.
-const EMPTY_RANGES: &str = "take 3 = 0 0 0
-take 0 = 1 0 0
-words = 3 3
-take 1 = 2 0 3
-regrow 2 0 = 0 0
-words = 3 4
-give 1 = done
-hold 2 2 = done
-settle = done
-words = 3 4
-take 0 = 1 1 0
-complete 2 = done
-settle = done
-take 1 = 2 1 3
-words = 4 4
+const EMPTY_RANGES: &str = "
+take 3 | 0 0 0
+take 0 | 1 0 0
+words | 3 3
+take 1 | 2 0 3
+regrow 2 0 | 0 0
+words | 3 4
+give 1 | done
+hold 2 2 | done
+settle | done
+words | 3 4
+take 0 | 1 1 0
+complete 2 | done
+settle | done
+take 1 | 2 1 3
+words | 4 4
 ";
 
 // The last word, and no more. What is refused takes nothing.
-const THE_LAST_WORD: &str = "take 1048575 = 0 0 0
-take 2 = full
-take 1 = 1 0 1048575
-take 1 = full
-take 0 = 2 0 0
-words = 1048576 1048576
-give 0 = done
-take 1048576 = full
-take 1048575 = 0 1 0
-give 1 = done
-give 3 = done
-take 1048576 = 0 2 0
-words = 1048576 1048576
+const THE_LAST_WORD: &str = "
+take 1048575 | 0 0 0
+take 2 | full
+take 1 | 1 0 1048575
+take 1 | full
+take 0 | 2 0 0
+words | 1048576 1048576
+give 0 | done
+take 1048576 | full
+take 1048575 | 0 1 0
+give 1 | done
+give 3 | done
+take 1048576 | 0 2 0
+words | 1048576 1048576
 ";
 
 // The first hole that is large enough, not the one that fits best; and a hole that fits exactly.
-const THE_FIRST_HOLE: &str = "take 4 = 0 0 0
-take 1 = 1 0 4
-take 2 = 2 0 5
-take 1 = 3 0 7
-give 0 = done
-give 2 = done
-take 2 = 0 1 0
-take 3 = 2 1 8
-take 2 = 4 0 2
-take 2 = 5 0 5
-words = 11 11
-take 1 = 6 0 11
+const THE_FIRST_HOLE: &str = "
+take 4 | 0 0 0
+take 1 | 1 0 4
+take 2 | 2 0 5
+take 1 | 3 0 7
+give 0 | done
+give 2 | done
+take 2 | 0 1 0
+take 3 | 2 1 8
+take 2 | 4 0 2
+take 2 | 5 0 5
+words | 11 11
+take 1 | 6 0 11
 ";
 
 // Holes that touch are one, on either side and at the end.
-const HOLES_THAT_TOUCH: &str = "take 2 = 0 0 0
-take 2 = 1 0 2
-take 2 = 2 0 4
-take 2 = 3 0 6
-take 2 = 4 0 8
-give 0 = done
-give 2 = done
-give 1 = done
-take 6 = 0 1 0
-give 4 = done
-give 3 = done
-take 9 = 1 1 6
-words = 15 15
+const HOLES_THAT_TOUCH: &str = "
+take 2 | 0 0 0
+take 2 | 1 0 2
+take 2 | 2 0 4
+take 2 | 3 0 6
+take 2 | 4 0 8
+give 0 | done
+give 2 | done
+give 1 | done
+take 6 | 0 1 0
+give 4 | done
+give 3 | done
+take 9 | 1 1 6
+words | 15 15
 ";
 
 // Held ranges come back in the order of their users, whatever the order in which they were held.
-const ORDER_OF_USERS: &str = "take 2 = 0 0 0
-take 2 = 1 0 2
-take 2 = 2 0 4
-take 2 = 3 0 6
-hold 0 1,3 = done
-hold 1 2 = done
-hold 2 3,4 = done
-settle = done
-words = 8 8
-complete 2 = done
-settle = done
-words = 6 8
-take 2 = 1 1 2
-complete 3 = done
-settle = done
-words = 8 8
-complete 4 = done
-settle = done
-words = 6 8
-take 2 = 2 1 4
-complete 1 = done
-settle = done
-take 2 = 0 1 0
-words = 8 8
+const ORDER_OF_USERS: &str = "
+take 2 | 0 0 0
+take 2 | 1 0 2
+take 2 | 2 0 4
+take 2 | 3 0 6
+hold 0 1,3 | done
+hold 1 2 | done
+hold 2 3,4 | done
+settle | done
+words | 8 8
+complete 2 | done
+settle | done
+words | 6 8
+take 2 | 1 1 2
+complete 3 | done
+settle | done
+words | 8 8
+complete 4 | done
+settle | done
+words | 6 8
+take 2 | 2 1 4
+complete 1 | done
+settle | done
+take 2 | 0 1 0
+words | 8 8
 ";
 
 #[test]

@@ -1,8 +1,7 @@
 //! The containers over flat memory: arrays and references, lists, maps and streams, each as rows of calls and what they
 //! give. Tests alone.
 //!
-//! Rows are lines of constants: the checker goes through an array of calls and answers one by one, and a row of one
-//! costs it some 30 times what a line does.
+//! Rows are lines of constants, as `row_texts` reads them: a call, a bar, and the answer as Rust writes it.
 #![tactic(auto)]
 
 #[cfg(test)]

@@ -1,250 +1,190 @@
-// Calls on streams over flat memory, one after another, each with the answer that is wanted.
-ghost use Rattle.std.specs.Prelude.{◌≡◌, ◌+◌, ◌*◌, ◌^◌, ◌<◌, ◌≤◌, length, IfOk};
+// Calls on streams over flat memory, one after another, each with what it answers.
+ghost use Rattle.std.specs.Prelude.{◌≡◌, ◌+◌, ◌*◌, ◌^◌, ◌<◌, ◌≤◌};
 ghost use Rattle.job_base.specs.Forms.{AreAllowed};
 ghost use Rattle.native_stream.specs.Layout.{end_of};
 
-use crate::calls::{Answer, done, halves, number, value};
-use job_base::{FlatMem, Mem, NoMemory, Trap, Word};
+use crate::calls::{number, place, told};
+use job_base::{FlatMem, Mem, Trap, Word};
 use native_stream::{StreamAt, words_of};
+use row_texts::{row, same, table};
 use std::alloc::Global;
-use std::process::Abort;
 use std::test::Fail;
 
-#[derive(Clone, Copy)]
-enum Call {
-    Begin(i64),
-    Write(u32, i64),
-    Items(i64),
-    At(i64, i64),
-    Clear,
+// Writes to an index. A write to one that the stream doesn't have isn't made, and has the answer of such an index.
+fn write<M: Mem>(mem: &mut M, stream: StreamAt, i: u32, v: i64) -> Result<(), Trap>
+    requires fits { end_of stream < 2 ^ 32 }
+    requires readable { AreAllowed stream.start (end_of stream) (M.readable mem.old) }
+    requires writable { AreAllowed stream.start (end_of stream) (M.writable mem.old) }
+    ensures readable { M.readable mem.new ≡ M.readable mem.old }
+    ensures writable { M.writable mem.new ≡ M.writable mem.old }
+{
+    if i >= stream.count {
+        return Err(Trap::Range);
+    }
+    stream.write(mem, i, v)
 }
 
-// The call that these words are.
-fn call_in(words: &[&str]) -> Result<Call, Fail> {
+// Makes a call, and says what it answers.
+fn perform<M: Mem>(alloc: Global, mem: &mut M, stream: StreamAt, call: &str) -> Result<String, Fail>
+    requires fits { end_of stream < 2 ^ 32 }
+    requires readable { AreAllowed stream.start (end_of stream) (M.readable mem.old) }
+    requires writable { AreAllowed stream.start (end_of stream) (M.writable mem.old) }
+    ensures readable { M.readable mem.new ≡ M.readable mem.old }
+    ensures writable { M.writable mem.new ≡ M.writable mem.old }
+{
+    let words: Vec<&str> = call.split_whitespace().collect(alloc)?;
     match *words {
-        ["begin", i] => Ok(Call::Begin(number(i)?)),
-        ["write", i, v] => Ok(Call::Write(i.parse::<u32>().ok().ok_or("no index")?, number(v)?)),
-        ["items", i] => Ok(Call::Items(number(i)?)),
-        ["at", i, k] => Ok(Call::At(number(i)?, number(k)?)),
-        ["clear"] => Ok(Call::Clear),
+        ["begin", i] => told(alloc, stream.begin(mem, number(i)?)),
+        ["write", i, v] => told(alloc, write(mem, stream, place(i)?, number(v)?)),
+        ["items", i] => told(alloc, stream.items(mem, number(i)?)),
+        ["at", i, k] => told(alloc, stream.at(mem, number(i)?, number(k)?)),
+        ["clear"] => told(alloc, stream.clear(mem)),
+        ["words", count, room] => told(alloc, words_of(place(count)?, place(room)?)),
         _ => Err(Fail::new("no such call")),
     }
 }
 
-fn count(outcome: Result<u32, Trap>) -> Answer {
-    match outcome {
-        Ok(count) => Answer::Number(i64::from(count)),
-        Err(trap) => Answer::Trapped(trap),
-    }
-}
-
-// A write to an index that the stream doesn't have isn't made, and has the answer of such an index.
-fn perform<M: Mem>(mem: &mut M, stream: StreamAt, call: Call) -> Answer
+fn compare<M: Mem>(alloc: Global, mem: &mut M, stream: StreamAt, rows: &str) -> Result<(), Fail>
     requires fits { end_of stream < 2 ^ 32 }
     requires readable { AreAllowed stream.start (end_of stream) (M.readable mem.old) }
     requires writable { AreAllowed stream.start (end_of stream) (M.writable mem.old) }
     ensures readable { M.readable mem.new ≡ M.readable mem.old }
     ensures writable { M.writable mem.new ≡ M.writable mem.old }
 {
-    match call {
-        Call::Begin(i) => done(stream.begin(mem, i)),
-        Call::Write(i, v) => {
-            if i < stream.count {
-                done(stream.write(mem, i, v))
-            } else {
-                Answer::Trapped(Trap::Range)
-            }
+    for line in table(rows)?.lines() {
+        if let Some((call, wanted)) = row(line)? {
+            let told = perform(alloc, mem, stream, call)?;
+            same(line, &told, wanted)?;
         }
-        Call::Items(i) => count(stream.items(mem, i)),
-        Call::At(i, k) => value(stream.at(mem, i, k)),
-        Call::Clear => {
-            stream.clear(mem);
-            Answer::Done
-        }
-    }
-}
-
-fn compare<M: Mem>(
-    rt: &impl Abort,
-    alloc: Global,
-    mem: &mut M,
-    stream: StreamAt,
-    rows: &str,
-) -> Result<(), Fail>
-    requires fits { end_of stream < 2 ^ 32 }
-    requires readable { AreAllowed stream.start (end_of stream) (M.readable mem.old) }
-    requires writable { AreAllowed stream.start (end_of stream) (M.writable mem.old) }
-    ensures readable { M.readable mem.new ≡ M.readable mem.old }
-    ensures writable { M.writable mem.new ≡ M.writable mem.old }
-{
-    for row in rows.lines() {
-        let (words, want) = halves(alloc, row)?;
-        let call = call_in(&words)?;
-        let told = perform(mem, stream, call).text(alloc)?;
-        assert_eq!(rt; told.as_str(), want, "{row}");
     }
     Ok(())
 }
 
-// Each stream has three cells before it and one behind it that aren't its own.
-fn new_stream(alloc: Global, count: u32, room: u32) -> Result<(FlatMem, StreamAt), NoMemory>
+// Calls on a new stream, which has three cells before it and one behind it that aren't its own.
+fn compare_new(alloc: Global, count: u32, room: u32, rows: &str) -> Result<(), Fail>
     requires { count * (room + 1) ≤ 4096 }
-    ensures fits { IfOk result (λ r. end_of r.1 < 2 ^ 32) }
-    ensures within { IfOk result (λ r. end_of r.1 ≤ length r.0) }
 {
-    let mem = FlatMem::new(alloc, 4 + words_of(count, room) as u32)?;
+    let mut mem = FlatMem::new(alloc, 4 + words_of(count, room) as u32)?;
     let stream = StreamAt {
         start: 3,
         count,
         room,
     };
-    Ok((mem, stream))
+    compare(alloc, &mut mem, stream, rows)
 }
 
-const TWO_INDEXES: &str = "items 0 = 0
-at 0 0 = Range
-begin -1 = Range
-begin 2 = Range
-begin 4294967296 = Range
-begin -9223372036854775808 = Range
-begin 9223372036854775807 = Range
-begin 0 = done
-begin 0 = Written
-items 0 = 0
-at 0 0 = Range
-write 0 7 = done
-begin 0 = Written
-write 0 8 = done
-write 0 9 = Full
-items 0 = 2
-items 1 = 0
-begin 1 = done
-write 1 -9223372036854775808 = done
-items 0 = 2
-items 1 = 1
-items -1 = Range
-items 2 = Range
-items -9223372036854775808 = Range
-items 9223372036854775807 = Range
-at 0 0 = 7
-at 0 1 = 8
-at 0 2 = Range
-at 0 -1 = Range
-at 0 -9223372036854775808 = Range
-at 0 9223372036854775807 = Range
-at 1 0 = -9223372036854775808
-at 1 1 = Range
-at -1 0 = Range
-at 2 0 = Range
-clear = done
-items 0 = 0
-items 1 = 0
-at 1 0 = Range
-begin 1 = done
-items 1 = 0
-begin 0 = done
+const TWO_INDEXES: &str = "
+items 0 | Ok(0)
+at 0 0 | Err(Range)
+begin -1 | Err(Range)
+begin 2 | Err(Range)
+begin 4294967296 | Err(Range)
+begin -9223372036854775808 | Err(Range)
+begin 9223372036854775807 | Err(Range)
+begin 0 | Ok(())
+begin 0 | Err(Written)
+items 0 | Ok(0)
+at 0 0 | Err(Range)
+write 0 7 | Ok(())
+begin 0 | Err(Written)
+write 0 8 | Ok(())
+write 0 9 | Err(Full)
+items 0 | Ok(2)
+items 1 | Ok(0)
+begin 1 | Ok(())
+write 1 -9223372036854775808 | Ok(())
+items 0 | Ok(2)
+items 1 | Ok(1)
+items -1 | Err(Range)
+items 2 | Err(Range)
+items -9223372036854775808 | Err(Range)
+items 9223372036854775807 | Err(Range)
+at 0 0 | Ok(7)
+at 0 1 | Ok(8)
+at 0 2 | Err(Range)
+at 0 -1 | Err(Range)
+at 0 -9223372036854775808 | Err(Range)
+at 0 9223372036854775807 | Err(Range)
+at 1 0 | Ok(-9223372036854775808)
+at 1 1 | Err(Range)
+at -1 0 | Err(Range)
+at 2 0 | Err(Range)
+clear | ()
+items 0 | Ok(0)
+items 1 | Ok(0)
+at 1 0 | Err(Range)
+begin 1 | Ok(())
+items 1 | Ok(0)
+begin 0 | Ok(())
 ";
 
-#[test]
-fn two_indexes(rt: HostRuntime) -> Result<(), Fail> {
-    let alloc = rt.alloc();
-    let (mut mem, stream) = new_stream(alloc, 2, 2)?;
-    compare(&rt, alloc, &mut mem, stream, TWO_INDEXES)
-}
-
-const FIRST_ITEM_BEGINS: &str = "write 1 5 = done
-begin 1 = Written
-write 1 6 = Full
-at 1 0 = 5
-items 0 = 0
-items 2 = 0
+const FIRST_ITEM_BEGINS: &str = "
+write 1 5 | Ok(())
+begin 1 | Err(Written)
+write 1 6 | Err(Full)
+at 1 0 | Ok(5)
+items 0 | Ok(0)
+items 2 | Ok(0)
 ";
 
-#[test]
-fn first_item_begins(rt: HostRuntime) -> Result<(), Fail> {
-    let alloc = rt.alloc();
-    let (mut mem, stream) = new_stream(alloc, 3, 1)?;
-    compare(&rt, alloc, &mut mem, stream, FIRST_ITEM_BEGINS)
-}
-
-const NO_INDEX: &str = "begin 0 = Range
-items 0 = Range
-at 0 0 = Range
-clear = done
+const NO_INDEX: &str = "
+begin 0 | Err(Range)
+items 0 | Err(Range)
+at 0 0 | Err(Range)
+clear | ()
 ";
 
-#[test]
-fn no_index(rt: HostRuntime) -> Result<(), Fail> {
-    let alloc = rt.alloc();
-    let (mut mem, stream) = new_stream(alloc, 0, 5)?;
-    compare(&rt, alloc, &mut mem, stream, NO_INDEX)
-}
-
-const NO_ROOM: &str = "write 1 1 = Full
-begin 1 = done
-begin 1 = Written
-write 1 1 = Full
-items 1 = 0
-at 1 0 = Range
-begin 0 = done
+const NO_ROOM: &str = "
+write 1 1 | Err(Full)
+begin 1 | Ok(())
+begin 1 | Err(Written)
+write 1 1 | Err(Full)
+items 1 | Ok(0)
+at 1 0 | Err(Range)
+begin 0 | Ok(())
+words 4 2 | 12
+words 0 4294967295 | 0
+words 4294967295 0 | 4294967295
+words 4294967295 4294967295 | 18446744069414584320
 ";
 
-#[test]
-fn no_room(rt: HostRuntime) -> Result<(), Fail> {
-    let alloc = rt.alloc();
-    let (mut mem, stream) = new_stream(alloc, 2, 0)?;
-    compare(&rt, alloc, &mut mem, stream, NO_ROOM)
-}
-
-const BROKEN: &str = "items 0 = 0
-items 1 = 1
-at 1 0 = 0
-write 1 4 = Full
-begin 1 = Written
-begin 0 = done
-write 0 3 = done
-at 0 0 = 3
+const BROKEN: &str = "
+items 0 | Ok(0)
+items 1 | Ok(1)
+at 1 0 | Ok(0)
+write 1 4 | Err(Full)
+begin 1 | Err(Written)
+begin 0 | Ok(())
+write 0 3 | Ok(())
+at 0 0 | Ok(3)
 ";
 
-// A mark that is none counts as the nearest one, and no word beside the stream changes.
-fn broken<M: Mem>(rt: &impl Abort, alloc: Global, mem: &mut M) -> Result<(), Fail>
+// A mark that is none counts as the nearest one, and no word beside the stream changes: what these are afterwards.
+fn broken<M: Mem>(alloc: Global, mem: &mut M) -> Result<(i64, i64), Fail>
     requires readable { AreAllowed 0 6 (M.readable mem.old) }
     requires writable { AreAllowed 0 6 (M.writable mem.old) }
 {
     mem.store(Word(0), -1);
     mem.store(Word(1), i64::MIN);
     mem.store(Word(3), i64::MAX);
-    mem.store(Word(5), -1);
+    mem.store(Word(5), -2);
     let stream = StreamAt {
         start: 1,
         count: 2,
         room: 1,
     };
-    compare(rt, alloc, mem, stream, BROKEN)?;
-    assert_eq!(rt;
-        (mem.load(Word(0)), mem.load(Word(5))),
-        (-1, -1),
-        "words beside the stream"
-    );
-    Ok(())
+    compare(alloc, mem, stream, BROKEN)?;
+    Ok((mem.load(Word(0)), mem.load(Word(5))))
 }
 
 #[test]
-fn broken_marks(rt: HostRuntime) -> Result<(), Fail> {
+fn streams(rt: HostRuntime) -> Result<(), Fail> {
     let alloc = rt.alloc();
+    compare_new(alloc, 2, 2, TWO_INDEXES)?;
+    compare_new(alloc, 3, 1, FIRST_ITEM_BEGINS)?;
+    compare_new(alloc, 0, 5, NO_INDEX)?;
+    compare_new(alloc, 2, 0, NO_ROOM)?;
     let mut mem = FlatMem::new(alloc, 6)?;
-    broken(&rt, alloc, &mut mem)
-}
-
-#[test]
-fn words(rt: HostRuntime) {
-    let most = u32::MAX;
-    for (count, room, want) in [
-        (4, 2, 12),
-        (0, most, 0),
-        (most, 0, 4_294_967_295),
-        (most, most, 18_446_744_069_414_584_320),
-    ] {
-        assert_eq!(rt; words_of(count, room), want, "{count} indexes, room {room}");
-    }
+    assert_eq!(rt; broken(alloc, &mut mem)?, (-1, -2));
+    Ok(())
 }

@@ -1,7 +1,7 @@
 // Word lists and what they are read as.
 use command_words::Command;
 use graph_words::{GraphCommand, read_graph_words};
-use row_texts::halves;
+use row_texts::{row, same, table};
 use std::alloc::{AllocError, Global};
 use std::test::Fail;
 
@@ -52,10 +52,9 @@ the words are not of the command | --dot --depth s
 
 #[test]
 fn words(rt: HostRuntime) -> Result<(), Fail> {
-    let alloc = rt.alloc();
-    for row in ROWS.lines() {
-        if let Some((wanted, words)) = halves(row) {
-            assert_eq!(rt; read(alloc, words)?.as_str(), wanted, "{row}");
+    for line in table(ROWS)?.lines() {
+        if let Some((wanted, words)) = row(line)? {
+            same(line, &read(rt.alloc(), words)?, wanted)?;
         }
     }
     Ok(())

@@ -53,7 +53,7 @@ print t
 #[test]
 fn number_one_with_one_mix(rt: HostRuntime) -> Result<(), Fail> {
     let text = gen_script(rt.alloc(), 1, 1)?;
-    assert_eq!(rt; text.as_slice(), SCRIPT.as_bytes());
+    assert!(rt; text.as_slice() == SCRIPT.as_bytes());
     Ok(())
 }
 
@@ -62,6 +62,6 @@ fn the_most_mixes(rt: HostRuntime) -> Result<(), Fail> {
     let alloc = rt.alloc();
     let text = gen_script(alloc, MOST_SEED, MOST_GENERATED_JOBS)?;
     let lines = text.iter().filter(|b| **b == b'\n').count();
-    assert_eq!(rt; lines, 3 + 24 + 2 + 4 * 4_000 + 8 + 2);
+    assert!(rt; lines == 3 + 24 + 2 + 4 * 4_000 + 8 + 2);
     Ok(())
 }

@@ -1,5 +1,5 @@
 // Tables, each with what it gives.
-use row_texts::{halves, unescaped};
+use row_texts::{halves, row, same, table, unescaped};
 use std::alloc::Global;
 use std::fmt::Write;
 use std::test::Fail;
@@ -9,7 +9,7 @@ use table_in::{Table, TableFault, read_table};
 fn told(alloc: Global, text: &[u8], name: &[u8]) -> Result<String, Fail> {
     let mut told = String::new(alloc);
     if text.len() >= 100 {
-        return Ok(told);
+        return Err(Fail::new("a long text"));
     }
     match read_table(alloc, text) {
         Ok(table) => match table.column(name) {
@@ -70,15 +70,11 @@ none |  | a,b\n1,2\n
 #[test]
 fn reads_columns(rt: HostRuntime) -> Result<(), Fail> {
     let alloc = rt.alloc();
-    for row in COLUMNS.lines() {
-        if let Some((wanted, table)) = halves(row) {
-            let (name, text) = halves(table).ok_or("a name")?;
+    for line in table(COLUMNS)?.lines() {
+        if let Some((wanted, of)) = row(line)? {
+            let (name, text) = halves(of).ok_or("a name")?;
             let (name, text) = (unescaped(alloc, name)?, unescaped(alloc, text)?);
-            assert_eq!(rt;
-                told(alloc, &text, &name)?.as_str().trim_end(),
-                wanted,
-                "{row}"
-            );
+            same(line, told(alloc, &text, &name)?.as_str().trim_end(), wanted)?;
         }
     }
     Ok(())
@@ -125,45 +121,39 @@ row 2: not a number | a\n18446744073709551617\n
 
 #[test]
 fn finds_faults(rt: HostRuntime) -> Result<(), Fail> {
-    let alloc = rt.alloc();
-    for row in FAULTS.lines() {
-        if let Some((wanted, text)) = halves(row) {
-            let text = unescaped(alloc, text)?;
-            assert_eq!(rt; told(alloc, &text, b"")?.as_str(), wanted, "{row}");
+    for line in table(FAULTS)?.lines() {
+        if let Some((wanted, text)) = row(line)? {
+            let text = unescaped(rt.alloc(), text)?;
+            same(line, &told(rt.alloc(), &text, b"")?, wanted)?;
         }
     }
     Ok(())
 }
 
-/// Each fault as it is told.
-const TEXTS: [(TableFault, &str); 4] = [
-    (TableFault::Empty, "empty"),
-    (TableFault::Unequal { row: 3 }, "row 3: unequal row"),
-    (
-        TableFault::NotNumber { row: 67_108_864 },
-        "row 67108864: not a number",
-    ),
-    (TableFault::NoMemory, "out of memory"),
+/// Each fault, and how it is told.
+const KINDS: [TableFault; 4] = [
+    TableFault::Empty,
+    TableFault::Unequal { row: 3 },
+    TableFault::NotNumber { row: 67_108_864 },
+    TableFault::NoMemory,
 ];
+
+const TEXTS: &str = "empty; row 3: unequal row; row 67108864: not a number; out of memory; ";
 
 #[test]
 fn tells_faults(rt: HostRuntime) -> Result<(), Fail> {
-    for (fault, text) in TEXTS {
-        let told = format!(in rt.alloc(); "{fault}")?;
-        assert_eq!(rt; told.as_str(), text);
+    let mut told = String::new(rt.alloc());
+    for fault in KINDS {
+        write!(told, "{fault}; ")?;
     }
-    Ok(())
+    same("each fault", &told, TEXTS)
 }
 
 #[test]
 fn takes_a_column(rt: HostRuntime) -> Result<(), Fail> {
     let mut table = Table::none(rt.alloc());
+    assert!(rt; table.column(b"a".as_slice()).is_none());
     table.push_column(rt.alloc(), b"a".as_slice(), [7i64, -8].as_slice())?;
     assert!(rt; table.column(b"a".as_slice()) == Some([7i64, -8].as_slice()));
     Ok(())
-}
-
-#[test]
-fn has_no_column(rt: HostRuntime) {
-    assert!(rt; Table::none(rt.alloc()).column(b"a".as_slice()).is_none());
 }

@@ -13,8 +13,6 @@ pub mod limits;
 mod mem;
 mod order_gate;
 mod sink;
-#[cfg(test)]
-mod tests;
 
 pub use counting_gate::CountingGate;
 pub use files::{FileFault, Files, MemFiles};

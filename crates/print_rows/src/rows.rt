@@ -16,7 +16,6 @@ use native_list::ListAt;
 use native_map::MapAt;
 use native_stream::StreamAt;
 use std::alloc::Global;
-use std::process::Abort;
 use std::test::Fail;
 
 // Cells of 0.
@@ -29,17 +28,16 @@ fn zeros(alloc: Global, n: u32) -> Result<FlatMem, NoMemory>
 
 // A sink for short lines, that takes 7 bytes at a time.
 fn sevens(alloc: Global) -> Result<MemSink, NoMemory> {
-    MemSink::new(alloc, 200, 7, Vec::new(alloc))
+    MemSink::new(alloc, 1000, 7, Vec::new(alloc))
 }
 
 // The line of a container named `x`.
 fn line<M: Mem>(
-    rt: &impl Abort,
-    alloc: Global,
     at: &Bind,
     mem: &mut M,
-    want: &str,
-) -> Result<(), NoMemory>
+    out: &mut Outgoing,
+    sink: &mut MemSink,
+) -> Result<(), SinkFault>
     requires container { kind_of at.now ≢ IntKind }
     requires fits { end_of at.now < 2 ^ 32 }
     requires readable { AreAllowed (start_of at.now) (end_of at.now) (M.readable mem.old) }
@@ -47,19 +45,11 @@ fn line<M: Mem>(
     ensures cells { M.cells mem.new ≡ M.cells mem.old }
     ensures readable { M.readable mem.new ≡ M.readable mem.old }
 {
-    let mut out = Outgoing::new(alloc)?;
-    let mut sink = sevens(alloc)?;
-    assert_eq!(rt;
-        out.put_container(b"x", at, mem, &mut sink),
-        Ok(()),
-        "{want}"
-    );
-    assert_eq!(rt; out.flush(&mut sink), Ok(()), "{want}");
-    assert_eq!(rt; sink.bytes(), want.as_bytes(), "{want}");
-    Ok(())
+    out.put_container(b"x", at, mem, sink)?;
+    out.flush(sink)
 }
 
-fn array(rt: &impl Abort, alloc: Global, values: &[i64], want: &str) -> Result<(), NoMemory>
+fn array(alloc: Global, values: &[i64], out: &mut Outgoing, sink: &mut MemSink) -> Result<(), Fail>
     requires { length values.now < 10 }
 {
     let len = values.len() as u32;
@@ -68,60 +58,69 @@ fn array(rt: &impl Abort, alloc: Global, values: &[i64], want: &str) -> Result<(
         mem.store(Word(i as u32), *value);
     }
     let at = ArrayAt { start: 0, len };
-    line(rt, alloc, &Bind::Array { at, own: 0 }, &mut mem, want)
+    line(&Bind::Array { at, own: 0 }, &mut mem, out, sink)?;
+    Ok(())
 }
 
-fn reference(rt: &impl Abort, alloc: Global, value: i64, want: &str) -> Result<(), NoMemory> {
+fn reference(
+    alloc: Global,
+    value: i64,
+    out: &mut Outgoing,
+    sink: &mut MemSink,
+) -> Result<(), Fail> {
     let mut mem = zeros(alloc, 2)?;
     mem.store(Word(1), value);
-    line(rt, alloc, &Bind::Ref(RefAt { start: 1 }), &mut mem, want)
+    line(&Bind::Ref(RefAt { start: 1 }), &mut mem, out, sink)?;
+    Ok(())
 }
 
 // A list, and a view of it.
 fn list(
-    rt: &impl Abort,
     alloc: Global,
     cap: u32,
     values: &[i64],
-    want: &str,
-) -> Result<(), NoMemory>
+    out: &mut Outgoing,
+    sink: &mut MemSink,
+) -> Result<(), Fail>
     requires { cap < 10 }
 {
     native_list::laws::zero_words_are_empty();
     let at = ListAt { start: 0, cap };
     let mut mem = zeros(alloc, cap + 1)?;
     for value in values {
-        assert_eq!(rt; at.add(&mut mem, *value), Ok(()), "{want}");
+        at.add(&mut mem, *value)?;
     }
-    line(rt, alloc, &Bind::List(at), &mut mem, want)?;
-    line(rt, alloc, &Bind::View { at, own: 0 }, &mut mem, want)
+    line(&Bind::List(at), &mut mem, out, sink)?;
+    line(&Bind::View { at, own: 0 }, &mut mem, out, sink)?;
+    Ok(())
 }
 
 fn map(
-    rt: &impl Abort,
     alloc: Global,
     cap: u32,
     pairs: &[(i64, i64)],
-    want: &str,
-) -> Result<(), NoMemory>
+    out: &mut Outgoing,
+    sink: &mut MemSink,
+) -> Result<(), Fail>
     requires { cap < 10 }
 {
     let at = MapAt::new(0, cap);
     let mut mem = zeros(alloc, native_map::words_of(cap) as u32)?;
     for (key, value) in pairs {
-        assert_eq!(rt; at.put(&mut mem, *key, *value), Ok(()), "{want}");
+        at.put(&mut mem, *key, *value)?;
     }
-    line(rt, alloc, &Bind::Map(at), &mut mem, want)
+    line(&Bind::Map(at), &mut mem, out, sink)?;
+    Ok(())
 }
 
 // A stream of 3 indexes. Each of `begun` is begun, and then each item is written to its index.
 fn stream(
-    rt: &impl Abort,
     alloc: Global,
     begun: &[i64],
     items: &[(u32, i64)],
-    want: &str,
-) -> Result<(), NoMemory> {
+    out: &mut Outgoing,
+    sink: &mut MemSink,
+) -> Result<(), Fail> {
     let at = StreamAt {
         start: 0,
         count: 3,
@@ -129,181 +128,198 @@ fn stream(
     };
     let mut mem = zeros(alloc, native_stream::words_of(3, 2) as u32)?;
     for i in begun {
-        assert_eq!(rt; at.begin(&mut mem, *i), Ok(()), "{want}");
+        at.begin(&mut mem, *i)?;
     }
     for (i, item) in items {
-        assert_eq!(rt; at.write(&mut mem, *i % 3, *item), Ok(()), "{want}");
+        at.write(&mut mem, *i % 3, *item)?;
     }
-    line(rt, alloc, &Bind::Stream { at, own: true }, &mut mem, want)
+    line(&Bind::Stream { at, own: true }, &mut mem, out, sink)?;
+    Ok(())
 }
+
+// Numbers of each length that is written in place, and the first that isn't, are among those of the third array.
+const CONTAINERS: &str = "x = [-9223372036854775808, 0, 9223372036854775807]
+x = []
+x = [0, 9, 10, 99, 100, 999, 1000, 9999, 10000]
+x = -5
+x = [8, -7]
+x = [8, -7]
+x = []
+x = []
+x = {-2: 21, 7: 0, 9223372036854775807: 1}
+x = {}
+x = [[7], [], [9, 8]]
+x = [[], [], []]
+";
 
 #[test]
 fn containers(rt: HostRuntime) -> Result<(), Fail> {
     let alloc = rt.alloc();
     let (least, greatest) = (i64::MIN, i64::MAX);
-    array(
-        &rt,
-        alloc,
-        &[least, 0, greatest],
-        "x = [-9223372036854775808, 0, 9223372036854775807]\n",
-    )?;
-    array(&rt, alloc, &[], "x = []\n")?;
-    // numbers of each length that is written in place, and the first that isn't
-    array(
-        &rt,
-        alloc,
-        &[0, 9, 10, 99, 100, 999, 1_000, 9_999, 10_000],
-        "x = [0, 9, 10, 99, 100, 999, 1000, 9999, 10000]\n",
-    )?;
-    reference(&rt, alloc, -5, "x = -5\n")?;
-    list(&rt, alloc, 3, &[8, -7], "x = [8, -7]\n")?;
-    list(&rt, alloc, 0, &[], "x = []\n")?;
-    map(
-        &rt,
-        alloc,
-        3,
-        &[(greatest, 1), (-2, 20), (7, 0), (-2, 21)],
-        "x = {-2: 21, 7: 0, 9223372036854775807: 1}\n",
-    )?;
-    map(&rt, alloc, 0, &[], "x = {}\n")?;
-    stream(
-        &rt,
-        alloc,
-        &[2, 0],
-        &[(2, 9), (0, 7), (2, 8)],
-        "x = [[7], [], [9, 8]]\n",
-    )?;
-    stream(&rt, alloc, &[], &[], "x = [[], [], []]\n")?;
+    let numbers = [0, 9, 10, 99, 100, 999, 1_000, 9_999, 10_000];
+    let mut out = Outgoing::new(alloc)?;
+    let mut sink = sevens(alloc)?;
+    array(alloc, &[least, 0, greatest], &mut out, &mut sink)?;
+    array(alloc, &[], &mut out, &mut sink)?;
+    array(alloc, &numbers, &mut out, &mut sink)?;
+    reference(alloc, -5, &mut out, &mut sink)?;
+    list(alloc, 3, &[8, -7], &mut out, &mut sink)?;
+    list(alloc, 0, &[], &mut out, &mut sink)?;
+    let pairs = [(greatest, 1), (-2, 20), (7, 0), (-2, 21)];
+    map(alloc, 3, &pairs, &mut out, &mut sink)?;
+    map(alloc, 0, &[], &mut out, &mut sink)?;
+    let items = [(2, 9), (0, 7), (2, 8)];
+    stream(alloc, &[2, 0], &items, &mut out, &mut sink)?;
+    stream(alloc, &[], &[], &mut out, &mut sink)?;
+    assert_eq!(rt; sink.bytes(), CONTAINERS.as_bytes());
     Ok(())
 }
 
+const REFUSALS: [Refusal; 12] = [
+    Refusal::Disposed,
+    Refusal::StaleView,
+    Refusal::NotParallel,
+    Refusal::Alias,
+    Refusal::Pending(JobId(4096)),
+    Refusal::StoreFull,
+    Refusal::Range,
+    Refusal::Full,
+    Refusal::MissingKey,
+    Refusal::PresentKey,
+    Refusal::TempInJob,
+    Refusal::Busy(JobId(2)),
+];
+
+const REFUSED: &str = "refused 15: disposed x
+refused 15: stale view x
+refused 15: not parallel x
+refused 15: alias x
+refused 15: pending job 4096 on x
+refused 15: store full
+refused 15: range
+refused 15: full
+refused 15: missing key
+refused 15: present key
+refused 15: temp x
+refused 15: busy job 2
+";
+
+const FAULTS: [FaultKind; 7] = [
+    FaultKind::Syntax,
+    FaultKind::UnknownName,
+    FaultKind::DuplicateName,
+    FaultKind::KindMismatch,
+    FaultKind::ReadOfWriteOnly,
+    FaultKind::WriteOfReadOnly,
+    FaultKind::Limit,
+];
+
+const FAULTY: &str = "script refused line 12: syntax
+script refused line 12: unknown name
+script refused line 12: duplicate name
+script refused line 12: kind mismatch
+script refused line 12: read of write-only
+script refused line 12: write of read-only
+script refused line 12: limit
+";
+
+// A line of each kind.
 #[test]
 fn refusals(rt: HostRuntime) -> Result<(), Fail> {
     let alloc = rt.alloc();
-    let table = [
-        (Refusal::Disposed, "refused 15: disposed x\n"),
-        (Refusal::StaleView, "refused 15: stale view x\n"),
-        (Refusal::NotParallel, "refused 15: not parallel x\n"),
-        (Refusal::Alias, "refused 15: alias x\n"),
-        (
-            Refusal::Pending(JobId(4096)),
-            "refused 15: pending job 4096 on x\n",
-        ),
-        (Refusal::StoreFull, "refused 15: store full\n"),
-        (Refusal::Range, "refused 15: range\n"),
-        (Refusal::Full, "refused 15: full\n"),
-        (Refusal::MissingKey, "refused 15: missing key\n"),
-        (Refusal::PresentKey, "refused 15: present key\n"),
-        (Refusal::TempInJob, "refused 15: temp x\n"),
-        (Refusal::Busy(JobId(2)), "refused 15: busy job 2\n"),
-    ];
     let mut out = Outgoing::new(alloc)?;
-    for (refusal, want) in table {
-        let mut sink = sevens(alloc)?;
-        assert_eq!(rt;
-            out.put_refusal(15, refusal, b"x", &mut sink),
-            Ok(()),
-            "{want}"
-        );
-        assert_eq!(rt; out.flush(&mut sink), Ok(()), "{want}");
-        assert_eq!(rt; sink.bytes(), want.as_bytes(), "{want}");
+    let mut sink = sevens(alloc)?;
+    for refusal in REFUSALS {
+        out.put_refusal(15, refusal, b"x", &mut sink)?;
+        out.flush(&mut sink)?;
     }
+    assert_eq!(rt; sink.bytes(), REFUSED.as_bytes());
+    let mut sink = sevens(alloc)?;
+    for kind in FAULTS {
+        print_script_refusal(12, kind, &mut sink)?;
+    }
+    assert_eq!(rt; sink.bytes(), FAULTY.as_bytes());
     Ok(())
 }
 
+const TRAPS: [Trap; 9] = [
+    Trap::Overflow,
+    Trap::ZeroDivisor,
+    Trap::Range,
+    Trap::OwnIndex,
+    Trap::Full,
+    Trap::MissingKey,
+    Trap::PresentKey,
+    Trap::Written,
+    Trap::Budget,
+];
+
+const TRAPPED: &str = "trap job 3 index 7: overflow
+traps 1
+trap job 3 index 7: overflow
+traps 2
+trap job 3 index 7: zero-divisor
+traps 2
+trap job 3 index 7: range
+traps 2
+trap job 3 index 7: own-index
+traps 2
+trap job 3 index 7: full
+traps 2
+trap job 3 index 7: missing-key
+traps 2
+trap job 3 index 7: present-key
+traps 2
+trap job 3 index 7: written
+traps 2
+trap job 3 index 7: budget
+traps 2
+trap job 3 index 7: budget
+traps 40
+";
+
+fn trapped(
+    traps: u64,
+    trap: Trap,
+    out: &mut Outgoing,
+    sink: &mut MemSink,
+) -> Result<(), SinkFault> {
+    let report = Report {
+        traps,
+        refused: 5,
+        job: JobId(3),
+        index: 7,
+        trap,
+    };
+    out.put_traps(&report, sink)?;
+    out.flush(sink)
+}
+
+// No trap, one, two of each kind, and many.
 #[test]
 fn traps(rt: HostRuntime) -> Result<(), Fail> {
     let alloc = rt.alloc();
-    let table = [
-        (0, Trap::Overflow, ""),
-        (1, Trap::Overflow, "trap job 3 index 7: overflow\ntraps 1\n"),
-        (
-            2,
-            Trap::ZeroDivisor,
-            "trap job 3 index 7: zero-divisor\ntraps 2\n",
-        ),
-        (2, Trap::Range, "trap job 3 index 7: range\ntraps 2\n"),
-        (
-            2,
-            Trap::OwnIndex,
-            "trap job 3 index 7: own-index\ntraps 2\n",
-        ),
-        (2, Trap::Full, "trap job 3 index 7: full\ntraps 2\n"),
-        (
-            2,
-            Trap::MissingKey,
-            "trap job 3 index 7: missing-key\ntraps 2\n",
-        ),
-        (
-            2,
-            Trap::PresentKey,
-            "trap job 3 index 7: present-key\ntraps 2\n",
-        ),
-        (2, Trap::Written, "trap job 3 index 7: written\ntraps 2\n"),
-        (40, Trap::Budget, "trap job 3 index 7: budget\ntraps 40\n"),
-    ];
     let mut out = Outgoing::new(alloc)?;
-    for (traps, trap, want) in table {
-        let report = Report {
-            traps,
-            refused: 5,
-            job: JobId(3),
-            index: 7,
-            trap,
-        };
-        let mut sink = sevens(alloc)?;
-        assert_eq!(rt; out.put_traps(&report, &mut sink), Ok(()), "{want}");
-        assert_eq!(rt; out.flush(&mut sink), Ok(()), "{want}");
-        assert_eq!(rt; sink.bytes(), want.as_bytes(), "{want}");
+    let mut sink = sevens(alloc)?;
+    trapped(0, Trap::Overflow, &mut out, &mut sink)?;
+    trapped(1, Trap::Overflow, &mut out, &mut sink)?;
+    for trap in TRAPS {
+        trapped(2, trap, &mut out, &mut sink)?;
     }
+    trapped(40, Trap::Budget, &mut out, &mut sink)?;
+    assert_eq!(rt; sink.bytes(), TRAPPED.as_bytes());
     Ok(())
 }
 
-#[test]
-fn script_refusals(rt: HostRuntime) -> Result<(), Fail> {
-    let alloc = rt.alloc();
-    let table = [
-        (FaultKind::Syntax, "script refused line 12: syntax\n"),
-        (
-            FaultKind::UnknownName,
-            "script refused line 12: unknown name\n",
-        ),
-        (
-            FaultKind::DuplicateName,
-            "script refused line 12: duplicate name\n",
-        ),
-        (
-            FaultKind::KindMismatch,
-            "script refused line 12: kind mismatch\n",
-        ),
-        (
-            FaultKind::ReadOfWriteOnly,
-            "script refused line 12: read of write-only\n",
-        ),
-        (
-            FaultKind::WriteOfReadOnly,
-            "script refused line 12: write of read-only\n",
-        ),
-        (FaultKind::Limit, "script refused line 12: limit\n"),
-    ];
-    for (kind, want) in table {
-        let mut sink = sevens(alloc)?;
-        assert_eq!(rt; print_script_refusal(12, kind, &mut sink), Ok(()), "{want}");
-        assert_eq!(rt; sink.bytes(), want.as_bytes(), "{want}");
-    }
-    Ok(())
-}
-
-// The line of a status, which is written at once, and one of an overdue container, which waits.
 #[test]
 fn other_texts(rt: HostRuntime) -> Result<(), Fail> {
     let alloc = rt.alloc();
     let mut out = Outgoing::new(alloc)?;
     let mut sink = sevens(alloc)?;
-    assert_eq!(rt; out.put_overdue(18, b"a", 13, &mut sink), Ok(()));
-    assert_eq!(rt; print_text(b"table refused: empty\n", &mut sink), Ok(()));
-    assert_eq!(rt; out.flush(&mut sink), Ok(()));
-    assert_eq!(rt; print_parts(&[b"no", b" ", b"more\n"], &mut sink), Ok(()));
+    out.put_overdue(18, b"a", 13, &mut sink)?;
+    print_text(b"table refused: empty\n", &mut sink)?;
+    out.flush(&mut sink)?;
+    print_parts(&[b"no", b" ", b"more\n"], &mut sink)?;
     assert_eq!(rt;
         sink.bytes(),
         b"table refused: empty\noverdue 18: a made on line 13\nno more\n".as_slice()
@@ -311,36 +327,34 @@ fn other_texts(rt: HostRuntime) -> Result<(), Fail> {
     Ok(())
 }
 
+// Of a line whose write of a number fails, at steps of so many bytes, just what fits before that write is taken.
+fn fails_there(alloc: Global, step: u32, failing: u64) -> Result<bool, Fail>
+    requires { (1 ≤ step) × (step ≤ 100) × (failing < 25) }
+{
+    let text = b"refused 9: alias ab\n".as_slice();
+    let mut out = Outgoing::new(alloc)?;
+    let mut sink = MemSink::new(alloc, 200, step, [failing].to_vec(alloc)?)?;
+    out.put_refusal(9, Refusal::Alias, b"ab", &mut sink)?;
+    let waits = sink.bytes().is_empty();
+    let written = out.flush(&mut sink);
+    let before = failing as usize * step as usize;
+    let fails = before < text.len();
+    let taken = text.len().min(before);
+    Ok(
+        waits
+            && written.is_err() == fails
+            && sink.faults() == u64::from(fails)
+            && sink.bytes() == &text[..taken],
+    )
+}
+
 // A write of each number fails, at steps of 1, of 2 and of more than the text.
 #[test]
 fn faults(rt: HostRuntime) -> Result<(), Fail> {
-    let alloc = rt.alloc();
-    let text = b"refused 9: alias ab\n".as_slice();
-    for step in [1, 2, 100] {
-        for failing in 0..25u64 {
-            let mut out = Outgoing::new(alloc)?;
-            let mut sink = MemSink::new(alloc, 200, step, [failing].to_vec(alloc)?)?;
-            assert_eq!(rt;
-                out.put_refusal(9, Refusal::Alias, b"ab", &mut sink),
-                Ok(())
-            );
-            assert_eq!(rt; sink.bytes(), [].as_slice());
-            let written = out.flush(&mut sink);
-            let taken = text.len().min(failing as usize * step as usize);
-            let fails = failing as usize * (step as usize) < text.len();
-            assert_eq!(rt;
-                written.is_err(),
-                fails,
-                "write {failing} in steps of {step}"
-            );
-            assert_eq!(rt;
-                sink.faults(),
-                u64::from(fails),
-                "write {failing} in steps of {step}"
-            );
-            assert_eq!(rt;
-                sink.bytes(),
-                &text[..taken],
+    for failing in 0..25u64 {
+        for step in [1, 2, 100] {
+            assert!(rt;
+                fails_there(rt.alloc(), step, failing)?,
                 "write {failing} in steps of {step}"
             );
         }
@@ -368,7 +382,7 @@ impl Sink for Counter {
 }
 
 // Prints an array of the numbers from 0 on.
-fn count(rt: &impl Abort, alloc: Global, len: u32) -> Result<Counter, NoMemory> {
+fn count(alloc: Global, len: u32) -> Result<Counter, Fail> {
     let mut mem = zeros(alloc, len)?;
     for i in 0..len {
         mem.store(Word(i), i64::from(i));
@@ -379,35 +393,28 @@ fn count(rt: &impl Abort, alloc: Global, len: u32) -> Result<Counter, NoMemory> 
         writes: 0,
         bytes: 0,
     };
-    let printed = out.put_container(b"x", &Bind::Array { at, own: 0 }, &mut mem, &mut sink);
-    assert_eq!(rt; printed, Ok(()));
-    assert_eq!(rt; out.flush(&mut sink), Ok(()));
+    out.put_container(b"x", &Bind::Array { at, own: 0 }, &mut mem, &mut sink)?;
+    out.flush(&mut sink)?;
     Ok(sink)
 }
 
-// The numbers 0 to 1,048,575 have 6,228,922 digits. A short line is one write.
+// The numbers 0 to 1,048,575 have 6,228,922 digits. A short line is one write, and so are many lines.
 #[test]
 fn few_writes(rt: HostRuntime) -> Result<(), Fail> {
-    let line = count(&rt, rt.alloc(), 20)?;
-    assert_eq!(rt; (line.writes, line.bytes), (1, 30 + 2 * 19 + 7));
-    let sink = count(&rt, rt.alloc(), 1_048_576)?;
-    assert_eq!(rt; sink.bytes, 6_228_922 + 2 * 1_048_575 + 7);
-    assert!(rt; sink.writes < 140, "{} writes", sink.writes);
-    Ok(())
-}
-
-#[test]
-fn many_lines_are_one_write(rt: HostRuntime) -> Result<(), Fail> {
+    let line = count(rt.alloc(), 20)?;
+    assert!(rt; line.writes == 1 && line.bytes == 30 + 2 * 19 + 7);
+    let long = count(rt.alloc(), 1_048_576)?;
+    assert!(rt; long.bytes == 6_228_922 + 2 * 1_048_575 + 7 && long.writes < 140);
     let mut out = Outgoing::new(rt.alloc())?;
     let mut sink = Counter {
         writes: 0,
         bytes: 0,
     };
     for line in 0..1_000 {
-        assert_eq!(rt; out.put_overdue(line, b"a", 1, &mut sink), Ok(()));
+        out.put_overdue(line, b"a", 1, &mut sink)?;
     }
-    assert_eq!(rt; sink.writes, 0);
-    assert_eq!(rt; out.flush(&mut sink), Ok(()));
-    assert_eq!(rt; sink.writes, 1);
+    assert!(rt; sink.writes == 0);
+    out.flush(&mut sink)?;
+    assert!(rt; sink.writes == 1);
     Ok(())
 }

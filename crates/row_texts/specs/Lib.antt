@@ -1,3 +1,4 @@
 -- promises
 pub mod Bars
 pub mod Escapes
+pub mod Rows

@@ -1,5 +1,5 @@
 //! The halves of a row.
-ghost use Rattle.std.specs.Prelude.{◌≡◌, MatchOption, length};
+ghost use Rattle.std.specs.Prelude.{◌≡◌, ◌<◌, MatchOption, length};
 ghost use Rattle.std.specs.List.{before_first, after_first, position_or_len};
 ghost use Rattle.std.specs.Str.{trim};
 ghost use Rattle.row_texts.specs.Bars.{is_bar};
@@ -8,7 +8,9 @@ ghost use Rattle.row_texts.specs.Bars.{is_bar};
 /// line without a bar, which is no row: an empty one, or a comment.
 pub fn halves(line: &str) -> Option<(&str, &str)>
     ensures { MatchOption result (position_or_len is_bar line.now ≡ length line.now) (λ found.
-        (found.0.now ≡ trim (before_first is_bar line.now)) × (found.1.now ≡ trim (after_first is_bar line.now))) }
+        (position_or_len is_bar line.now < length line.now)
+        × (found.0.now ≡ trim (before_first is_bar line.now))
+        × (found.1.now ≡ trim (after_first is_bar line.now))) }
 {
     match line.split_once('|') {
         Some((before, after)) => Some((before.trim(), after.trim())),

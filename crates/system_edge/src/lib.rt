@@ -8,8 +8,6 @@
 
 mod disk;
 mod output;
-#[cfg(test)]
-mod tests;
 mod words;
 
 pub use disk::DiskFiles;

@@ -1,21 +1,23 @@
-ghost use Rattle.std.specs.Prelude.{◌≤◌, length};
-
+use crate::script_faults::repeated;
 use frame_ast::kernel::Kernel;
 use kernel_code::{KernelFault, TokenAt, check_kernel, lex, parse_kernel};
-use row_texts::{halves, unescaped};
+use row_texts::{row, same, table, unescaped};
 use std::alloc::Global;
 use std::fmt::Write;
-use std::process::Abort;
 use std::test::Fail;
 
-/// The kernel that a text begins with, or its first fault as a line and a kind.
-fn checked(alloc: Global, source: &[u8], earlier: &[Kernel]) -> Result<Result<Kernel, String>, Fail>
-    requires { length source.now ≤ 16777216 }
-{
-    let mut told = String::new(alloc);
+/// The kernel that a text of less than 100,000 bytes begins with, or its first fault as a line and a kind.
+fn checked(
+    alloc: Global,
+    source: &[u8],
+    earlier: &[Kernel],
+) -> Result<Result<Kernel, String>, Fail> {
+    if source.len() >= 100_000 {
+        return Err(Fail::new("a long text"));
+    }
     let marks = lex(alloc, source)?;
     if marks.is_empty() {
-        return Ok(Err(told));
+        return Err(Fail::new("no token"));
     }
     let fault = match parse_kernel(alloc, source, &marks, TokenAt::of(0)) {
         Ok((raw, _)) => match check_kernel(alloc, &raw, earlier) {
@@ -25,56 +27,28 @@ fn checked(alloc: Global, source: &[u8], earlier: &[Kernel]) -> Result<Result<Ke
         Err(fault) => fault,
     };
     match fault {
-        KernelFault::Refused { line, kind } => write!(told, "{line}: {kind:?}")?,
-        KernelFault::NoMemory => write!(told, "no memory")?,
+        KernelFault::Refused { line, kind } => Ok(Err(format!(in alloc; "{line}: {kind:?}")?)),
+        KernelFault::NoMemory => Err(Fail::new("no memory")),
     }
-    Ok(Err(told))
 }
 
 /// The first fault of a text, or how many parameters and locals its kernel has.
-fn outcome(alloc: Global, source: &[u8]) -> Result<String, Fail>
-    requires { length source.now ≤ 16777216 }
-{
-    match checked(alloc, source, &[])? {
+fn outcome(alloc: Global, source: &[u8], earlier: &[Kernel]) -> Result<String, Fail> {
+    match checked(alloc, source, earlier)? {
         Ok(kernel) => {
-            let mut told = String::new(alloc);
             let (params, locals) = (kernel.params.len(), kernel.locals);
-            write!(told, "{params} and {locals}")?;
-            Ok(told)
+            Ok(format!(in alloc; "{params} and {locals}")?)
         }
         Err(told) => Ok(told),
     }
 }
 
-/// A text with a part so many times, each time with its number if that is wanted.
-fn repeated(
-    alloc: Global,
-    head: &str,
-    part: &str,
-    count: u32,
-    numbered: bool,
-    tail: &str,
-) -> Result<String, Fail> {
-    let mut text = String::new(alloc);
-    text.push_str(head)?;
-    for i in 0..count {
-        text.push_str(part)?;
-        if numbered {
-            write!(text, "{i} = 1; ")?;
-        }
-    }
-    text.push_str(tail)?;
-    Ok(text)
-}
-
 /// Tries rows of a first fault, or of how many parameters and locals there are, and the text that they are of.
-fn try_rows(rt: &impl Abort, alloc: Global, rows: &str) -> Result<(), Fail> {
-    for row in rows.lines() {
-        if let Some((wanted, text)) = halves(row) {
+fn try_rows(alloc: Global, rows: &str) -> Result<(), Fail> {
+    for line in table(rows)?.lines() {
+        if let Some((wanted, text)) = row(line)? {
             let source = unescaped(alloc, text)?;
-            if source.len() < 1000 {
-                assert_eq!(rt; outcome(alloc, &source)?.as_str(), wanted, "{row}");
-            }
+            same(line, &outcome(alloc, &source, &[])?, wanted)?;
         }
     }
     Ok(())
@@ -135,43 +109,32 @@ const LONG_FAULTS: &str = "
     int, m: int, n: int, o: int, p: int,\\nq: int) { }
 16 and 0 | job z(a: int, b: int, c: int, d: int, e: int, f: int, g: int, h: int, i: int, j: int, k: int, l: \
     int, m: int, n: int, o: int, p: int) { }
+0 and 64 | job a() { var v0 = 1; var v1 = 1; var v2 = 1; var v3 = 1; var v4 = 1; var v5 = 1; var v6 = 1; var v7 \
+    = 1; var v8 = 1; var v9 = 1; var v10 = 1; var v11 = 1; var v12 = 1; var v13 = 1; var v14 = 1; var v15 = 1; \
+    var v16 = 1; var v17 = 1; var v18 = 1; var v19 = 1; var v20 = 1; var v21 = 1; var v22 = 1; var v23 = 1; var \
+    v24 = 1; var v25 = 1; var v26 = 1; var v27 = 1; var v28 = 1; var v29 = 1; var v30 = 1; var v31 = 1; var v32 \
+    = 1; var v33 = 1; var v34 = 1; var v35 = 1; var v36 = 1; var v37 = 1; var v38 = 1; var v39 = 1; var v40 = 1; \
+    var v41 = 1; var v42 = 1; var v43 = 1; var v44 = 1; var v45 = 1; var v46 = 1; var v47 = 1; var v48 = 1; var \
+    v49 = 1; var v50 = 1; var v51 = 1; var v52 = 1; var v53 = 1; var v54 = 1; var v55 = 1; var v56 = 1; var v57 \
+    = 1; var v58 = 1; var v59 = 1; var v60 = 1; var v61 = 1; var v62 = 1; var v63 = 1; }
+2: Limit | job a() { var v0 = 1; var v1 = 1; var v2 = 1; var v3 = 1; var v4 = 1; var v5 = 1; var v6 = 1; var v7 \
+    = 1; var v8 = 1; var v9 = 1; var v10 = 1; var v11 = 1; var v12 = 1; var v13 = 1; var v14 = 1; var v15 = 1; \
+    var v16 = 1; var v17 = 1; var v18 = 1; var v19 = 1; var v20 = 1; var v21 = 1; var v22 = 1; var v23 = 1; var \
+    v24 = 1; var v25 = 1; var v26 = 1; var v27 = 1; var v28 = 1; var v29 = 1; var v30 = 1; var v31 = 1; var v32 \
+    = 1; var v33 = 1; var v34 = 1; var v35 = 1; var v36 = 1; var v37 = 1; var v38 = 1; var v39 = 1; var v40 = 1; \
+    var v41 = 1; var v42 = 1; var v43 = 1; var v44 = 1; var v45 = 1; var v46 = 1; var v47 = 1; var v48 = 1; var \
+    v49 = 1; var v50 = 1; var v51 = 1; var v52 = 1; var v53 = 1; var v54 = 1; var v55 = 1; var v56 = 1; var v57 \
+    = 1; var v58 = 1; var v59 = 1; var v60 = 1; var v61 = 1; var v62 = 1; var v63 = 1; \\nvar w = y; }
 ";
 
+// Each token has its fault.
 #[test]
-fn each_token_has_its_fault(rt: HostRuntime) -> Result<(), Fail> {
-    try_rows(&rt, rt.alloc(), FAULTS)?;
-    try_rows(&rt, rt.alloc(), LONG_FAULTS)
+fn kernels(rt: HostRuntime) -> Result<(), Fail> {
+    try_rows(rt.alloc(), FAULTS)?;
+    try_rows(rt.alloc(), LONG_FAULTS)
 }
 
-/// The text of a row: its number, the text before the parts, the part and the text after them.
-fn text_of(alloc: Global, row: &str) -> Result<String, Fail> {
-    let (number, texts) = halves(row).ok_or("a number")?;
-    let (head, parts) = halves(texts).ok_or("a head")?;
-    let (part, tail) = halves(parts).ok_or("a part")?;
-    let (count, numbered) = match number.strip_suffix(" numbered") {
-        Some(count) => (count, true),
-        None => (number, false),
-    };
-    let count = count.parse::<u32>().ok().ok_or("a number")?;
-    let head = String::from_utf8(unescaped(alloc, head)?)
-        .ok()
-        .ok_or("a head")?;
-    let part = String::from_utf8(unescaped(alloc, part)?)
-        .ok()
-        .ok_or("a part")?;
-    let tail = String::from_utf8(unescaped(alloc, tail)?)
-        .ok()
-        .ok_or("a tail")?;
-    repeated(
-        alloc,
-        head.as_str(),
-        part.as_str(),
-        count,
-        numbered,
-        tail.as_str(),
-    )
-}
-
+// Of texts with a part so many times.
 const LENGTHS: &str = r"
 0 and 1 | 61 | job a() { var x =\x20 | - | 1; }
 0 and 1 | 62 | job a() { var x =\x20 | - | 1; }
@@ -182,8 +145,6 @@ const LENGTHS: &str = r"
 0 and 0 | 2048 | job a() {\x20 | if 1 { }\x20 | }
 2: Limit | 2048 | job a() {\x20 | if 1 { }\x20 | \nwhile 1 { } }
 2050: Limit | 5000 | job a() { | \nif 1 { } | \x20}
-0 and 64 | 64 numbered | job a() {\x20 | var v | }
-2: Limit | 64 numbered | job a() {\x20 | var v | \nvar w = y; }
 0 and 0 | 64 | job\x20 | a | () { }
 1: Limit | 65 | job\x20 | a | \n() { }
 ";
@@ -191,13 +152,10 @@ const LENGTHS: &str = r"
 #[test]
 fn limits_are_met_at_one_more(rt: HostRuntime) -> Result<(), Fail> {
     let alloc = rt.alloc();
-    for row in LENGTHS.lines() {
-        if let Some((wanted, parts)) = halves(row) {
-            let text = text_of(alloc, parts)?;
-            let source = text.as_bytes();
-            if source.len() < 100_000 {
-                assert_eq!(rt; outcome(alloc, source)?.as_str(), wanted, "{row}");
-            }
+    for line in table(LENGTHS)?.lines() {
+        if let Some((wanted, parts)) = row(line)? {
+            let source = repeated(alloc, parts)?;
+            same(line, &outcome(alloc, &source, &[])?, wanted)?;
         }
     }
     Ok(())
@@ -205,14 +163,22 @@ fn limits_are_met_at_one_more(rt: HostRuntime) -> Result<(), Fail> {
 
 /// A sum of 2048 numbers, in parentheses, no number of which stands under more than 11 operators.
 fn wide_sum(alloc: Global) -> Result<String, Fail> {
-    let mut sum = String::new(alloc);
-    sum.push_str("1")?;
+    let mut sum = String::from_str(alloc, "1")?;
     for _ in 0..11 {
-        let mut twice = String::new(alloc);
-        write!(twice, "({sum}+{sum})")?;
-        sum = twice;
+        sum = format!(in alloc; "({sum}+{sum})")?;
     }
     Ok(sum)
+}
+
+/// Two such sums, and so many numbers behind them.
+fn two_sums(alloc: Global, count: u32) -> Result<String, Fail> {
+    let sum = wide_sum(alloc)?;
+    let mut text = format!(in alloc; "job a() {{ var x =\n{sum}\n+ {sum}")?;
+    for _ in 0..count {
+        text.push_str(" + 1")?;
+    }
+    text.push_str("; }")?;
+    Ok(text)
 }
 
 // The `+` between the two sums is one node too many. Operators behind it can make the first number too deep.
@@ -221,54 +187,29 @@ fn operators_behind_too_many_nodes_count_in_the_depth_of_the_first(
     rt: HostRuntime,
 ) -> Result<(), Fail> {
     let alloc = rt.alloc();
-    let sum = wide_sum(alloc)?;
-    for (count, expected) in [(50, "3: Limit"), (51, "2: Limit")] {
-        let mut head = String::new(alloc);
-        head.push_str("job a() { var x =\n")?;
-        write!(head, "{sum}\n+ {sum}")?;
-        let text = repeated(alloc, &head, " + 1", count, false, "; }")?;
-        let source = text.as_bytes();
-        if source.len() < 100_000 {
-            assert_eq!(rt; outcome(alloc, source)?.as_str(), expected, "{count}");
-        }
+    for (count, wanted) in [(50, "3: Limit"), (51, "2: Limit")] {
+        let text = two_sums(alloc, count)?;
+        same("two sums", &outcome(alloc, text.as_bytes(), &[])?, wanted)?;
     }
     Ok(())
 }
 
+// A file has at most 256 kernels, and a name of an earlier one is taken.
 #[test]
-fn a_name_of_an_earlier_kernel_is_taken(rt: HostRuntime) -> Result<(), Fail> {
-    let alloc = rt.alloc();
-    let mut earlier = Vec::new(alloc);
-    if let Ok(kernel) = checked(alloc, b"job a() { }", &[])? {
-        earlier.push(kernel)?;
-    }
-    assert_eq!(rt; earlier.len(), 1);
-    match checked(alloc, b"job\na() { }", &earlier)? {
-        Ok(_) => assert!(rt; false, "taken"),
-        Err(told) => assert_eq!(rt; told.as_str(), "2: DuplicateName"),
-    }
-    Ok(())
-}
-
-#[test]
-fn a_file_has_at_most_256_kernels(rt: HostRuntime) -> Result<(), Fail> {
+fn earlier_kernels(rt: HostRuntime) -> Result<(), Fail> {
     let alloc = rt.alloc();
     let mut earlier = Vec::new(alloc);
     for i in 0..256u32 {
-        let mut text = String::new(alloc);
-        write!(text, "job k{i}() ")?;
-        text.push_str("{ }")?;
-        let source = text.as_bytes();
-        if source.len() < 100 {
-            if let Ok(kernel) = checked(alloc, source, &earlier)? {
-                earlier.push(kernel)?;
-            }
+        let text = format!(in alloc; "job k{i}() {{ }}")?;
+        let Ok(kernel) = checked(alloc, text.as_bytes(), &earlier)? else {
+            return Err(Fail::new("it is refused"));
+        };
+        earlier.push(kernel)?;
+        if i == 0 {
+            let told = outcome(alloc, b"job\nk0() { }", &earlier)?;
+            same("a name that is taken", &told, "2: DuplicateName")?;
         }
     }
-    assert_eq!(rt; earlier.len(), 256);
-    match checked(alloc, b"job\na() { }", &earlier)? {
-        Ok(_) => assert!(rt; false, "too many"),
-        Err(told) => assert_eq!(rt; told.as_str(), "2: Limit"),
-    }
-    Ok(())
+    let told = outcome(alloc, b"job\na() { }", &earlier)?;
+    same("one kernel too many", &told, "2: Limit")
 }

@@ -1,10 +1,9 @@
 ghost use Rattle.std.specs.Prelude.{◌≤◌, length};
 
 use kernel_code::{KernelFault, RawKernel, TokenAt, lex, parse_kernel};
-use row_texts::{halves, unescaped};
+use row_texts::{row, same, table, unescaped};
 use std::alloc::Global;
 use std::fmt::Write;
-use std::process::Abort;
 use std::test::Fail;
 
 /// The place of a token, or 0 for none.
@@ -40,12 +39,13 @@ fn told(alloc: Global, raw: &RawKernel) -> Result<String, Fail> {
     Ok(text)
 }
 
-/// What a text begins with: a kernel and the place of the token behind it, or its first fault.
-fn parsed(alloc: Global, source: &[u8]) -> Result<String, Fail>
-    requires { length source.now ≤ 16777216 }
-{
-    let marks = lex(alloc, source)?;
+/// What a small text begins with: a kernel and the place of the token behind it, or its first fault.
+fn parsed(alloc: Global, source: &[u8]) -> Result<String, Fail> {
     let mut text = String::new(alloc);
+    if source.len() > 1000 {
+        return Err(Fail::new("a long text"));
+    }
+    let marks = lex(alloc, source)?;
     if marks.is_empty() {
         return Ok(text);
     }
@@ -76,13 +76,11 @@ fn count(alloc: Global, source: &[u8]) -> Result<Option<usize>, Fail>
 }
 
 /// Tries rows of what a text begins with, and the text.
-fn try_rows(rt: &impl Abort, alloc: Global, rows: &str) -> Result<(), Fail> {
-    for row in rows.lines() {
-        if let Some((wanted, text)) = halves(row) {
+fn try_rows(alloc: Global, rows: &str) -> Result<(), Fail> {
+    for line in table(rows)?.lines() {
+        if let Some((wanted, text)) = row(line)? {
             let source = unescaped(alloc, text)?;
-            if source.len() <= 1000 {
-                assert_eq!(rt; parsed(alloc, &source)?.as_str(), wanted, "{row}");
-            }
+            same(line, &parsed(alloc, &source)?, wanted)?;
         }
     }
     Ok(())
@@ -116,11 +114,6 @@ false 1; While 5 5 0 7 5 2; Has 6 8 0 4 0 0; Count 10 12 0 3 0 0; Item 14 16 0 2
     Length 20 22 0 0 0 0; SetRemove 28 32 0 1 1 0 in 0; Number 34 34 0 0 0 0; next 39 \
     | job k() { while has(m, count(s, at(s, 0, len(s)))) { y = remove(m, 1); } }
 ";
-
-#[test]
-fn kernels_have_their_raw_forms(rt: HostRuntime) -> Result<(), Fail> {
-    try_rows(&rt, rt.alloc(), KERNELS)
-}
 
 /// For each production of kernels a text in which no kernel goes on by it, and the line of the fault.
 const FAULTS: &str = r"
@@ -189,9 +182,11 @@ const FAULTS: &str = r"
 2: Syntax | job k()\n; $
 ";
 
+// Kernels have their raw forms, and a fault has the line of its token.
 #[test]
-fn a_fault_has_the_line_of_its_token(rt: HostRuntime) -> Result<(), Fail> {
-    try_rows(&rt, rt.alloc(), FAULTS)
+fn kernels(rt: HostRuntime) -> Result<(), Fail> {
+    try_rows(rt.alloc(), KERNELS)?;
+    try_rows(rt.alloc(), FAULTS)
 }
 
 /// A kernel with these bytes so many times before a Number, and these behind it.
@@ -214,17 +209,17 @@ fn deep_text_is_read(rt: HostRuntime) -> Result<(), Fail> {
     let rows: [(u8, &[u8], usize); 3] = [(b'(', b")", 2), (b'-', b"", 4097), (b'!', b"", 4097)];
     for (before, after, nodes) in rows {
         let text = deep(rt.alloc(), before, after, 1000000)?;
-        if text.len() <= 16777216 {
-            assert_eq!(rt; count(rt.alloc(), &text)?, Some(nodes));
-        }
+        assert!(rt; text.len() <= 16777216);
+        assert!(rt; count(rt.alloc(), &text)? == Some(nodes));
     }
     Ok(())
 }
 
-/// How many nodes the kernels have that stand in the first lines of a file, one in each.
-fn counts(alloc: Global, source: &[u8], lines: usize) -> Result<String, Fail>
-    requires { length source.now ≤ 16777216 }
-{
+/// How many parameters and nodes the kernels have that stand in the first lines of a small file, one in each.
+fn counts(alloc: Global, source: &[u8], lines: usize) -> Result<String, Fail> {
+    if source.len() > 2000 {
+        return Err(Fail::new("a long file"));
+    }
     let marks = lex(alloc, source)?;
     let mut text = String::new(alloc);
     let mut at: u32 = 0;
@@ -256,11 +251,6 @@ job quick(a: rw array) { a[9] = 1; }
 job keys(m: rw map, t: wo ref) { var r = 0; r = try_add(m, 1, 9); t = r; add(m, 3, 3); }
 parallel push(l: rw list) { add(l, index); }
 ";
-    if source.len() <= 2000 {
-        assert_eq!(rt;
-            counts(rt.alloc(), source, 12)?.as_str(),
-            "2 6, 2 12, 1 6, 2 3, 1 8, 2 4, 3 6, 1 9, 1 15, 1 3, 2 10, 1 2, "
-        );
-    }
-    Ok(())
+    let wanted = "2 6, 2 12, 1 6, 2 3, 1 8, 2 4, 3 6, 1 9, 1 15, 1 3, 2 10, 1 2, ";
+    same("the kernels", &counts(rt.alloc(), source, 12)?, wanted)
 }

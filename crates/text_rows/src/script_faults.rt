@@ -1,12 +1,12 @@
 //! Whole files: the line and kind of the first fault of each.
 
 use crate::scripts::{outcome, try_rows};
-use row_texts::{halves, unescaped};
+use row_texts::{halves, row, same, table, unescaped};
 use std::alloc::Global;
-use std::process::Abort;
 use std::test::Fail;
 
-const NAMES: &str = r"
+const FAULTS: &str = r"
+# Unknown names, and kinds
 4: UnknownName | print x
 5: UnknownName | array a 1\nprint x
 4: UnknownName | copy b a
@@ -48,14 +48,8 @@ const NAMES: &str = r"
 6: KindMismatch | list l 1\nview v l\ndispose v
 6: KindMismatch | list l 1\ncopy m l\nmap m 1
 5: KindMismatch | array a 1\nwhen a == 1 {\nflush\n}
-";
 
-#[test]
-fn unknown_names_and_kinds_are_refused(rt: HostRuntime) -> Result<(), Fail> {
-    try_rows(&rt, rt.alloc(), NAMES)
-}
-
-const LIMITS: &str = r"
+# Limits
 4: Limit | array a 1048577
 4: Limit | list l 1048577
 4: Limit | map m 4097
@@ -75,28 +69,8 @@ const LIMITS: &str = r"
 7: TooLong | repeat 65536 {\nflush\n}\nframe
 8: UnknownName | repeat 65536 {\nflush\n}\nframe\nprint x
 7: TooLong | reference r\nrepeat 1025 {\nflush\nwhen r == 0 {\n}\n}
-";
 
-const LONG_LIMITS: &str = "
-12: flush; | repeat 1 {\\nrepeat 1 {\\nrepeat 1 {\\nrepeat 1 {\\nrepeat 1 {\\nrepeat 1 {\\nrepeat 1 {\\n\
-    repeat 1 {\\nflush\\n}\\n}\\n}\\n}\\n}\\n}\\n}\\n}
-12: Limit | repeat 1 {\\nrepeat 1 {\\nrepeat 1 {\\nrepeat 1 {\\nrepeat 1 {\\nrepeat 1 {\\nrepeat 1 {\\n\
-    repeat 1 {\\nrepeat 1 {\\n}\\n}\\n}\\n}\\n}\\n}\\n}\\n}\\n}
-13: Limit | reference r\\nrepeat 1 {\\nrepeat 1 {\\nrepeat 1 {\\nrepeat 1 {\\nrepeat 1 {\\nrepeat 1 {\\n\
-    repeat 1 {\\nrepeat 1 {\\nwhen r == 0 {\\n}\\n}\\n}\\n}\\n}\\n}\\n}\\n}\\n}
-| repeat 65536 {\\nrepeat 65536 {\\nrepeat 65536 {\\nrepeat 65536 {\\nrepeat 65536 {\\nrepeat 65536 {\\n\
-    repeat 65536 {\\nrepeat 65536 {\\n}\\n}\\n}\\n}\\n}\\n}\\n}\\n}
-12: TooLong | repeat 65536 {\\nrepeat 65536 {\\nrepeat 65536 {\\nrepeat 65536 {\\nrepeat 65536 {\\n\
-    repeat 65536 {\\nrepeat 65536 {\\nrepeat 65536 {\\nflush\\n}\\n}\\n}\\n}\\n}\\n}\\n}\\n}
-";
-
-#[test]
-fn limits_are_refused(rt: HostRuntime) -> Result<(), Fail> {
-    try_rows(&rt, rt.alloc(), LIMITS)?;
-    try_rows(&rt, rt.alloc(), LONG_LIMITS)
-}
-
-const SYNTAX: &str = r"
+# Syntax, which comes before every other fault
 4: Syntax | array a
 5: Syntax | print x\narray
 5: Syntax | print x\narray\n
@@ -125,13 +99,27 @@ const SYNTAX: &str = r"
 4: Syntax | job bad() { } flush
 ";
 
+const LONG_LIMITS: &str = "
+12: flush; | repeat 1 {\\nrepeat 1 {\\nrepeat 1 {\\nrepeat 1 {\\nrepeat 1 {\\nrepeat 1 {\\nrepeat 1 {\\n\
+    repeat 1 {\\nflush\\n}\\n}\\n}\\n}\\n}\\n}\\n}\\n}
+12: Limit | repeat 1 {\\nrepeat 1 {\\nrepeat 1 {\\nrepeat 1 {\\nrepeat 1 {\\nrepeat 1 {\\nrepeat 1 {\\n\
+    repeat 1 {\\nrepeat 1 {\\n}\\n}\\n}\\n}\\n}\\n}\\n}\\n}\\n}
+13: Limit | reference r\\nrepeat 1 {\\nrepeat 1 {\\nrepeat 1 {\\nrepeat 1 {\\nrepeat 1 {\\nrepeat 1 {\\n\
+    repeat 1 {\\nrepeat 1 {\\nwhen r == 0 {\\n}\\n}\\n}\\n}\\n}\\n}\\n}\\n}\\n}
+| repeat 65536 {\\nrepeat 65536 {\\nrepeat 65536 {\\nrepeat 65536 {\\nrepeat 65536 {\\nrepeat 65536 {\\n\
+    repeat 65536 {\\nrepeat 65536 {\\n}\\n}\\n}\\n}\\n}\\n}\\n}\\n}
+12: TooLong | repeat 65536 {\\nrepeat 65536 {\\nrepeat 65536 {\\nrepeat 65536 {\\nrepeat 65536 {\\n\
+    repeat 65536 {\\nrepeat 65536 {\\nrepeat 65536 {\\nflush\\n}\\n}\\n}\\n}\\n}\\n}\\n}\\n}
+";
+
 #[test]
-fn syntax_comes_before_every_other_fault(rt: HostRuntime) -> Result<(), Fail> {
-    try_rows(&rt, rt.alloc(), SYNTAX)
+fn faults(rt: HostRuntime) -> Result<(), Fail> {
+    try_rows(rt.alloc(), FAULTS)?;
+    try_rows(rt.alloc(), LONG_LIMITS)
 }
 
 /// A text with a part so many times: the row's number, the text before the parts, the part and the text after them.
-fn repeated(alloc: Global, row: &str) -> Result<Vec<u8>, Fail> {
+pub fn repeated(alloc: Global, row: &str) -> Result<Vec<u8>, Fail> {
     let (count, texts) = halves(row).ok_or("a number")?;
     let (head, parts) = halves(texts).ok_or("a head")?;
     let (part, tail) = halves(parts).ok_or("a part")?;
@@ -152,6 +140,7 @@ c 1: column 0 256 Persistent; | 256 | column c " | a | "
 65537: TooLong | 65537 |  | flush\n |
 2: DuplicateName | 2 |  | job k() { }\n |
 4: flush; | 3 | \xEF\xBB\xBF | \n | flush
+1: Syntax | 1 |  | \xFF |
 "#;
 
 const LONG_LENGTHS: &str = "
@@ -161,14 +150,11 @@ const LONG_LENGTHS: &str = "
     defer z 1
 ";
 
-fn try_lengths(rt: &impl Abort, alloc: Global, rows: &str) -> Result<(), Fail> {
-    for row in rows.lines() {
-        if let Some((wanted, parts)) = halves(row) {
-            let source = repeated(alloc, parts)?;
-            if source.len() < 1_000_000 {
-                let told = outcome(alloc, &source)?;
-                assert_eq!(rt; told.as_str().trim_end(), wanted, "{row}");
-            }
+fn try_lengths(alloc: Global, rows: &str) -> Result<(), Fail> {
+    for line in table(rows)?.lines() {
+        if let Some((wanted, parts)) = row(line)? {
+            let told = outcome(alloc, &repeated(alloc, parts)?)?;
+            same(line, told.as_str().trim_end(), wanted)?;
         }
     }
     Ok(())
@@ -176,8 +162,6 @@ fn try_lengths(rt: &impl Abort, alloc: Global, rows: &str) -> Result<(), Fail> {
 
 #[test]
 fn limits_of_length_are_met_at_one_more(rt: HostRuntime) -> Result<(), Fail> {
-    try_lengths(&rt, rt.alloc(), LENGTHS)?;
-    try_lengths(&rt, rt.alloc(), LONG_LENGTHS)?;
-    assert_eq!(rt; outcome(rt.alloc(), b"\xFF")?.as_str(), "1: Syntax");
-    Ok(())
+    try_lengths(rt.alloc(), LENGTHS)?;
+    try_lengths(rt.alloc(), LONG_LENGTHS)
 }

@@ -1,13 +1,10 @@
 //! Whole files: the script that each spells.
 
-ghost use Rattle.std.specs.Prelude.{◌≤◌, length};
-
 use frame_ast::script::{Arg, Order, Script};
 use frame_script::{LoadFault, parse_script};
-use row_texts::{halves, unescaped};
+use row_texts::{row, same, table, unescaped};
 use std::alloc::Global;
 use std::fmt::Write;
-use std::process::Abort;
 use std::test::Fail;
 
 /// The kernels that stand before each text, on three lines.
@@ -155,10 +152,11 @@ fn shown(alloc: Global, script: &Script) -> Result<String, Fail> {
     Ok(text)
 }
 
-/// What a file gives: its script, or its refusal.
-pub fn outcome(alloc: Global, source: &[u8]) -> Result<String, Fail>
-    requires { length source.now ≤ 16777216 }
-{
+/// What a file of less than a million bytes gives: its script, or its refusal.
+pub fn outcome(alloc: Global, source: &[u8]) -> Result<String, Fail> {
+    if source.len() >= 1_000_000 {
+        return Err(Fail::new("a long file"));
+    }
     match parse_script(alloc, source) {
         Ok(script) => shown(alloc, &script),
         Err(LoadFault::Refused { line, kind }) => {
@@ -174,18 +172,15 @@ pub fn outcome(alloc: Global, source: &[u8]) -> Result<String, Fail>
 fn after_kernels(alloc: Global, text: &[u8]) -> Result<String, Fail> {
     let mut whole = Vec::from_slice(alloc, KERNELS.as_bytes())?;
     whole.extend_from_slice(text)?;
-    if whole.len() < 100_000 {
-        return outcome(alloc, &whole);
-    }
-    Ok(String::new(alloc))
+    outcome(alloc, &whole)
 }
 
 /// Tries rows of what a text gives after the kernels, without the spaces at its end.
-pub fn try_rows(rt: &impl Abort, alloc: Global, rows: &str) -> Result<(), Fail> {
-    for row in rows.lines() {
-        if let Some((wanted, text)) = halves(row) {
+pub fn try_rows(alloc: Global, rows: &str) -> Result<(), Fail> {
+    for line in table(rows)?.lines() {
+        if let Some((wanted, text)) = row(line)? {
             let told = after_kernels(alloc, &unescaped(alloc, text)?)?;
-            assert_eq!(rt; told.as_str().trim_end(), wanted, "{row}");
+            same(line, told.as_str().trim_end(), wanted)?;
         }
     }
     Ok(())
@@ -243,20 +238,17 @@ a g h d e 4: array 0 1 Persistent None; 5: combine 1[ ]; 7: schedule false 2 1 0
     dispose a after d as e\\n}
 ";
 
+// Each statement is read, and as many as there may be.
 #[test]
-fn each_statement_is_read(rt: HostRuntime) -> Result<(), Fail> {
-    try_rows(&rt, rt.alloc(), STATEMENTS)?;
-    try_rows(&rt, rt.alloc(), LONG_STATEMENTS)
-}
-
-#[test]
-fn as_many_statements_as_there_may_be(rt: HostRuntime) -> Result<(), Fail> {
+fn statements(rt: HostRuntime) -> Result<(), Fail> {
     let alloc = rt.alloc();
+    try_rows(alloc, STATEMENTS)?;
+    try_rows(alloc, LONG_STATEMENTS)?;
     match parse_script(
         alloc,
         b"reference r\nrepeat 1024 {\nwhen r == 0 {\nrepeat 62 {\nflush\n}\n}\n}\nrepeat 1023 {\nframe\n}",
     ) {
-        Ok(script) => assert_eq!(rt; script.statements.len(), 65_536),
+        Ok(script) => assert!(rt; script.statements.len() == 65_536),
         Err(_) => assert!(rt; false, "refused"),
     }
     Ok(())

@@ -4,9 +4,8 @@ ghost use Rattle.frame_grammar.specs.Sentences.{IsStart};
 use frame_grammar::{Nonterminal, TokenKind};
 use frame_parser::{ParseError, parse};
 use kernel_code::lex;
-use row_texts::{halves, unescaped};
+use row_texts::{row, same, table, unescaped};
 use std::alloc::Global;
-use std::process::Abort;
 use std::test::Fail;
 
 /// Where a fault is.
@@ -33,30 +32,38 @@ fn read(alloc: Global, start: Nonterminal, kinds: &[TokenKind]) -> Result<Result
 /// The kinds of the tokens of a small file, without its end.
 fn kinds_in(alloc: Global, source: &[u8]) -> Result<Vec<TokenKind>, Fail> {
     let mut kinds = Vec::new(alloc);
-    if source.len() <= 1000 {
-        for mark in lex(alloc, source)? {
-            kinds.push(mark.kind())?;
-        }
+    if source.len() > 1000 {
+        return Err(Fail::new("a long file"));
+    }
+    for mark in lex(alloc, source)? {
+        kinds.push(mark.kind())?;
     }
     let _end = kinds.pop();
     Ok(kinds)
 }
 
-/// Tries rows of how many tokens a sentence has, its end with them, or at which one its fault is, and the text whose
-/// tokens it is.
-fn try_rows(rt: &impl Abort, alloc: Global, start: Nonterminal, rows: &str) -> Result<(), Fail>
+/// How many tokens the sentence of a text has, or where its fault is.
+fn outcome(alloc: Global, start: Nonterminal, text: &str) -> Result<String, Fail>
     requires start { IsStart start }
 {
-    for row in rows.lines() {
-        if let Some((wanted, text)) = halves(row) {
-            let kinds = kinds_in(alloc, &unescaped(alloc, text)?)?;
-            if kinds.len() < 1000 {
-                let told = match read(alloc, start, &kinds)? {
-                    Ok(count) => format!(in alloc; "{count}")?,
-                    Err(place) => format!(in alloc; "fault {place}")?,
-                };
-                assert_eq!(rt; told.as_str(), wanted, "{row}");
-            }
+    let kinds = kinds_in(alloc, &unescaped(alloc, text)?)?;
+    if kinds.len() >= 1000 {
+        return Err(Fail::new("many tokens"));
+    }
+    match read(alloc, start, &kinds)? {
+        Ok(count) => Ok(format!(in alloc; "{count}")?),
+        Err(place) => Ok(format!(in alloc; "fault {place}")?),
+    }
+}
+
+/// Tries rows of how many tokens a sentence has, its end with them, or at which one its fault is, and the text whose
+/// tokens it is.
+fn try_rows(alloc: Global, start: Nonterminal, rows: &str) -> Result<(), Fail>
+    requires start { IsStart start }
+{
+    for line in table(rows)?.lines() {
+        if let Some((wanted, text)) = row(line)? {
+            same(line, &outcome(alloc, start, text)?, wanted)?;
         }
     }
     Ok(())
@@ -77,11 +84,6 @@ fault 2 | print x $
 10 | job\nk() {\n}\n
 ";
 
-#[test]
-fn files_are_read_to_their_end(rt: HostRuntime) -> Result<(), Fail> {
-    try_rows(&rt, rt.alloc(), Nonterminal::File, FILES)
-}
-
 const KERNELS: &str = r"
 6 | job k() { }\n$
 12 | parallel k(x: rw array by 4) { }
@@ -90,7 +92,9 @@ fault 9 | job k() { if 1 < 2 <
 fault 5 | job k() {
 ";
 
+// Files are read to their end, and a kernel to its last brace.
 #[test]
-fn a_kernel_is_read_to_its_last_brace(rt: HostRuntime) -> Result<(), Fail> {
-    try_rows(&rt, rt.alloc(), Nonterminal::Kernel, KERNELS)
+fn sentences(rt: HostRuntime) -> Result<(), Fail> {
+    try_rows(rt.alloc(), Nonterminal::File, FILES)?;
+    try_rows(rt.alloc(), Nonterminal::Kernel, KERNELS)
 }

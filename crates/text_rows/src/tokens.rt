@@ -1,19 +1,18 @@
 use kernel_code::{TokenAt, lex, line_at};
-use row_texts::{halves, unescaped};
+use row_texts::{row, same, table, unescaped};
 use std::alloc::Global;
 use std::fmt::Write;
-use std::process::Abort;
 use std::test::Fail;
 
 /// The tokens of a small file as a text, each with its kind, its span and its line.
 fn tokens_in(alloc: Global, source: &[u8]) -> Result<String, Fail> {
     let mut text = String::new(alloc);
     if source.len() > 1000 {
-        return Ok(text);
+        return Err(Fail::new("a long file"));
     }
     let marks = lex(alloc, source)?;
     if marks.len() > 2000 {
-        return Ok(text);
+        return Err(Fail::new("many tokens"));
     }
     for (at, mark) in marks.iter().enumerate() {
         let (kind, start) = (mark.kind(), mark.start() as usize);
@@ -30,24 +29,14 @@ fn tokens_in(alloc: Global, source: &[u8]) -> Result<String, Fail> {
 /// The kinds of the tokens of a small file.
 fn kinds_in(alloc: Global, source: &[u8]) -> Result<String, Fail> {
     let mut text = String::new(alloc);
-    if source.len() <= 1000 {
-        for mark in lex(alloc, source)? {
-            let kind = mark.kind();
-            write!(text, "{kind:?} ")?;
-        }
+    if source.len() > 1000 {
+        return Err(Fail::new("a long file"));
+    }
+    for mark in lex(alloc, source)? {
+        let kind = mark.kind();
+        write!(text, "{kind:?} ")?;
     }
     Ok(text)
-}
-
-/// Tries rows of tokens and the file that they are of.
-fn try_rows(rt: &impl Abort, alloc: Global, rows: &str) -> Result<(), Fail> {
-    for row in rows.lines() {
-        if let Some((wanted, text)) = halves(row) {
-            let source = unescaped(alloc, text)?;
-            assert_eq!(rt; tokens_in(alloc, &source)?.as_str(), wanted, "{row}");
-        }
-    }
-    Ok(())
 }
 
 const FILES: &str = r#"
@@ -79,14 +68,8 @@ Name 0-3 1, Name 4-8 1, Name 9-12 1, End 12-12 1 | _a1 jobs Job
 Bad 0-1 1, End 1-1 1 | \x00~\x7F
 Bad 0-1 1, End 1-1 1 | ~\x7F\x00
 Bad 0-1 1, End 1-1 1 | \x7F\x00~
-"#;
 
-#[test]
-fn tokens_have_kinds_spans_and_lines(rt: HostRuntime) -> Result<(), Fail> {
-    try_rows(&rt, rt.alloc(), FILES)
-}
-
-const TEXTS: &str = r#"
+# Texts, which are closed and printable.
 Text 0-5 1, End 5-5 1 | " ~#"
 Text 0-3 1, Text 3-6 1, End 6-6 1 | "a""b"
 Bad 0-1 1, End 1-1 1 | ""
@@ -95,11 +78,6 @@ Bad 0-1 1, End 1-1 1 | "a\n"
 Bad 0-1 1, End 1-1 1 | "a\tb"
 Bad 0-1 1, End 1-1 1 | "a\xC3\xA4"
 "#;
-
-#[test]
-fn texts_are_closed_and_printable(rt: HostRuntime) -> Result<(), Fail> {
-    try_rows(&rt, rt.alloc(), TEXTS)
-}
 
 const WORDS: &str = "
 OpenBrace CloseBrace OpenParen CloseParen OpenBracket CloseBracket Comma Semicolon Colon Assign Equal \
@@ -115,11 +93,22 @@ Column Reference Slice View Copy Set Put SetCapacity Schedule Waive After Combin
 ";
 
 #[test]
+fn tokens(rt: HostRuntime) -> Result<(), Fail> {
+    for line in table(FILES)?.lines() {
+        if let Some((wanted, text)) = row(line)? {
+            let source = unescaped(rt.alloc(), text)?;
+            same(line, &tokens_in(rt.alloc(), &source)?, wanted)?;
+        }
+    }
+    Ok(())
+}
+
+#[test]
 fn each_symbol_and_reserved_word_has_its_kind(rt: HostRuntime) -> Result<(), Fail> {
-    for row in WORDS.lines() {
-        if let Some((wanted, text)) = halves(row) {
+    for line in table(WORDS)?.lines() {
+        if let Some((wanted, text)) = row(line)? {
             let kinds = kinds_in(rt.alloc(), text.as_bytes())?;
-            assert_eq!(rt; kinds.as_str().trim_end(), wanted, "{row}");
+            same(line, kinds.as_str().trim_end(), wanted)?;
         }
     }
     Ok(())

@@ -3,4 +3,4 @@ use Rattle.auto_deps.specs.Needs.{AreNoted}
 use Rattle.book_rows.proofs.automatic.schedule.Given as goal
 
 abbrev pub invariant-loop-tag : goal.invariant-loop-tag
-invariant-loop-tag g l = AreNoted (count_of l.jobs) l.book
+invariant-loop-tag l = AreNoted (count_of l.jobs) l.book

@@ -2,4 +2,4 @@ use Rattle.std.proofs.Common.{◌≡◌, length}
 use Rattle.print_rows.proofs.rows.array.Given as goal
 
 abbrev pub invariant-loop-i : goal.invariant-loop-i
-invariant-loop-i g l = length l.mem ≡ length l.values
+invariant-loop-i l = length l.mem ≡ length l.values

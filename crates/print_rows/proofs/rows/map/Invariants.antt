@@ -7,7 +7,7 @@ use Rattle.native_map.specs.Layout.{StandsFor}
 use Rattle.print_rows.proofs.rows.map.Given as goal
 
 abbrev pub invariant-loop-key : goal.invariant-loop-key
-invariant-loop-key g l = record {
+invariant-loop-key l = record {
   allowed : AreAllowed l.at.start (end_of l.at) (λ w. nat_lt w (length l.mem));
   stands : (contents : Contents) × StandsFor l.at (cells_of l.mem) contents;
 }

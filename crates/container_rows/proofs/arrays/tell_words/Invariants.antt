@@ -1,5 +1,5 @@
 use Rattle.std.proofs.Common.{◌≡◌}
-use Rattle.container_rows.proofs.arrays.fill.Given as goal
+use Rattle.container_rows.proofs.arrays.tell_words.Given as goal
 
 abbrev pub invariant-loop-w : goal.invariant-loop-w
 invariant-loop-w g l = record {
