@@ -162,7 +162,7 @@ def prove_all(program):
     uses = crates_under(program)
     began = time.monotonic()
     say(program, f"proving and building {len(uses)} crates, up to {os.cpu_count()} side by side. From nothing that takes "
-        "some 100 processor minutes; what is proved stays, and later runs start at once")
+        "some 45 minutes on 4 processors; what is proved stays, and later runs start at once")
     done, running = set(), {}
     with concurrent.futures.ThreadPoolExecutor(os.cpu_count()) as pool:
         while len(done) < len(uses):
