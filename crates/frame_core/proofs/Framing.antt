@@ -24,7 +24,7 @@ use Rattle.frame_core.specs.Names.{job_at, segment_at, kernel_of, ops_in, indexe
 use Rattle.frame_core.specs.Pieces.{own_word}
 use Rattle.frame_core.specs.Touches.{has_word, reads_in, writes_in, binds_touch, ops_touch}
 use Rattle.frame_core.specs.Operations.{ops_cells}
-use Rattle.frame_core.specs.Effects.{params_in, part_touches, is_last, all_own_words, segment_touches, touches, trap_number, noted, part_ran, job_ran, part_run, with_notes, piece_cells}
+use Rattle.frame_core.specs.Effects.{params_in, part_touches, is_last, all_own_words, segment_touches, touches, note_of, noted, part_ran, job_ran, part_run, with_notes, piece_cells}
 use Rattle.frame_core.specs.Ordered.{OpFits, AreJobsFitting, AreOpsFitting}
 use Rattle.frame_core.specs.Framed.{Frames, PartsKeepToTouches}
 use Rattle.frame_core.proofs.Small.{not_both, or_false_left, or_false_right}
@@ -34,21 +34,16 @@ use Rattle.frame_core.proofs.Acting.{AllFit, ops_keep, ops_same}
 -- OWN WORDS
 
 abbrev own_touch : ℕ → Touch
-own_touch own = record { from = own; end = own + 3; written = true }
+own_touch own = record { from = own; end = own + 1; written = true }
 
 noted_keep : (own : ℕ) (ts : List (ℕ × Trap)) (a : Cells) (w : ℕ) → has_word (own_touch own) w ≡ false → noted own ts a w ≡ a w
 noted_keep own [] a w out = refl
 noted_keep own (t ∷ more) a w out =
-    let ne : (k : ℕ) → k < 3 → w ≢ own + k = λ k lt e. not_both (has_it (own_touch own) w (omega arith) (omega arith)) out in
-    let n0 : w ≢ own = λ e. ne 0 (omega arith) (omega arith) in
-    let one : Cells = with_cell a own (pos (length more + 1)) in
-    with_cell-other (with_cell one (own + 1) (pos t.0)) (own + 2) (pos (trap_number t.1)) w (ne 2 (omega arith))
-    ∙ (with_cell-other one (own + 1) (pos t.0) w (ne 1 (omega arith)) ∙ with_cell-other a own (pos (length more + 1)) w n0)
+    with_cell-other a own (pos (note_of (t ∷ more))) w (λ e. not_both (has_it (own_touch own) w (omega arith) (omega arith)) out)
 
 noted_same : (own : ℕ) (ts : List (ℕ × Trap)) (a b : Cells) (w : ℕ) → b w ≡ a w → noted own ts b w ≡ noted own ts a w
 noted_same own [] a b w e = e
-noted_same own (t ∷ more) a b w e = λ i. cond (eqb w (own + 2)) (pos (trap_number t.1))
-    (cond (eqb w (own + 1)) (pos t.0) (cond (eqb w own) (pos (length more + 1)) (e i)))
+noted_same own (t ∷ more) a b w e = λ i. cond (eqb w own) (pos (note_of (t ∷ more))) (e i)
 
 with_notes_frames : (own : ℕ) (ts : List Touch) (run : Cells → Ran Cells)
     → ((a : Cells) (w : ℕ) → writes_in ts w ≡ false → (run a).store w ≡ a w)

@@ -1,4 +1,4 @@
--- The own words of a piece tell its traps.
+-- The own word of a piece tells its traps.
 use Rattle.std.proofs.Common.{◌≡◌, ◌≢◌, ℕ, zero, suc, ◌+◌, ◌-◌, ◌*◌, ◌<◌, ◌≤◌, ◌⊎◌, inl, inr, ⊎_elim, Bool, true, false, cond, pos, List, [], ◌∷◌, length, Option, Some, None, refl, sym, ap, subst, ◌∙◌, arith}
 use Rattle.std.specs.Prelude.{slice_get}
 use Rattle.job_base.specs.declared.Trap.{Trap}
@@ -22,31 +22,19 @@ use Rattle.frame_core.specs.declared.plan.Plan.{Plan}
 use Rattle.frame_core.specs.Names.{job_at, kernel_of, indexes_of, has_job, waits_in, segment_at}
 use Rattle.frame_core.specs.Pieces.{script_order, place_of, number_of, piece_numbered, own_word, IsPieceOf}
 use Rattle.frame_core.specs.Touches.{reads_in, writes_in}
-use Rattle.frame_core.specs.Effects.{touches, trap_number, noted, part_ran, job_ran, part_run, piece_cells}
+use Rattle.frame_core.specs.Effects.{touches, note_of, noted, part_ran, job_ran, part_run, piece_cells}
 use Rattle.frame_core.specs.Graphs.{piece_at, touches_at, precedes_at, cells_at, graph_of, before_piece, cells_after}
 use Rattle.frame_core.specs.Ordered.{IsWellOrderedPlan}
-use Rattle.frame_core.specs.Laws.{IsOwn, TellTraps, AreIndexesBelow, TrapsAreTold}
+use Rattle.frame_core.specs.Laws.{IsOwn, TellsTraps, AreIndexesBelow, TrapsAreTold}
 use Rattle.frame_core.proofs.Small.{get_below}
 use Rattle.frame_core.proofs.Touching.{writes_read, written_touched}
 use Rattle.frame_core.proofs.Within.{read_below, binds_below, pieces_stay_within}
 use Rattle.frame_core.proofs.Planned.{graph_ordered, pieces_are_named}
 
 -- what notes leave
-told : (own : ℕ) (traps : List (ℕ × Trap)) (c : Cells) → c own ≡ pos 0 → TellTraps own traps (noted own traps c)
+told : (own : ℕ) (traps : List (ℕ × Trap)) (c : Cells) → c own ≡ pos 0 → TellsTraps own traps (noted own traps c)
 told own [] c e = e
-told own (t ∷ more) c e =
-    let one : Cells = with_cell c own (pos (length more + 1)) in
-    let two : Cells = with_cell one (own + 1) (pos t.0) in (
-      with_cell-other two (own + 2) (pos (trap_number t.1)) own (omega arith)
-          ∙ (with_cell-other one (own + 1) (pos t.0) own (omega arith) ∙ with_cell-same c own (pos (length more + 1))),
-      with_cell-other two (own + 2) (pos (trap_number t.1)) (own + 1) (omega arith) ∙ with_cell-same one (own + 1) (pos t.0),
-      with_cell-same two (own + 2) (pos (trap_number t.1)),
-    )
-
-told_as : (own : ℕ) (traps : List (ℕ × Trap)) (a b : Cells) → ((w : ℕ) → own ≤ w → w < own + 3 → b w ≡ a w) → TellTraps own traps a → TellTraps own traps b
-told_as own [] a b same t = same own (omega arith) (omega arith) ∙ t
-told_as own (u ∷ more) a b same t =
-    (same own (omega arith) (omega arith) ∙ t.0, same (own + 1) (omega arith) (omega arith) ∙ t.1, same (own + 2) (omega arith) (omega arith) ∙ t.2)
+told own (t ∷ more) c e = with_cell-same c own (pos (note_of (t ∷ more)))
 
 -- HOW MANY
 
@@ -136,45 +124,42 @@ module _ (plan : Plan) (well : IsWellOrderedPlan plan) where
     abbrev g : PieceGraph
     g = graph_of plan
 
-    -- two pieces with an own word in common are one
-    own_once : (x : Piece) (w : ℕ) → IsPieceOf plan x → own ≤ w → w < own + 3 → IsOwn plan x w → x ≡ OfJob j i
-    own_once (OfScript k) w h lo hi o = absurd o
-    own_once (OfJob d h) w p lo hi o =
-        let lo' = o.0 in
-        let hi' = o.1 in
-        let same : number_of plan (OfJob d h) ≡ number_of plan (OfJob j i) = omega arith in
+    -- two pieces with the same own word are one
+    own_once : (x : Piece) → IsPieceOf plan x → IsOwn plan x own → x ≡ OfJob j i
+    own_once (OfScript k) h o = absurd o
+    own_once (OfJob d h) p o =
+        let same : number_of plan (OfJob d h) ≡ number_of plan (OfJob j i) = omega (arith, o) in
         sym ((pieces_are_named plan well).number (OfJob d h) p).1 ∙ (ap (piece_numbered plan) same ∙ ((pieces_are_named plan well).number (OfJob j i) is).1)
 
-    piece_misses : (x : Piece) (w : ℕ) → IsPieceOf plan x → (x ≡ OfJob j i → ⊥) → own ≤ w → w < own + 3 → (b : Bool) → writes_in (touches plan x) w ≡ b
-        → b ≡ false
-    piece_misses x w h ne lo hi false e = refl
-    piece_misses x w h ne lo hi true e = ⊎_elim
+    piece_misses : (x : Piece) → IsPieceOf plan x → (x ≡ OfJob j i → ⊥) → (b : Bool) → writes_in (touches plan x) own ≡ b → b ≡ false
+    piece_misses x h ne false e = refl
+    piece_misses x h ne true e = ⊎_elim
         (λ l. absurd (omega arith))
-        (λ r. absurd (ne (own_once x w h lo hi r)))
-        ((pieces_stay_within plan well x h).written w e)
+        (λ r. absurd (ne (own_once x h r)))
+        ((pieces_stay_within plan well x h).written own e)
 
-    place_misses : (p w : ℕ) (o : Option Piece) → piece_at plan p ≡ o → p ≢ q → own ≤ w → w < own + 3 → writes_in (touches_at plan o) w ≡ false
-    place_misses p w None e ne lo hi = refl
-    place_misses p w (Some x) e ne lo hi =
+    place_misses : (p : ℕ) (o : Option Piece) → piece_at plan p ≡ o → p ≢ q → writes_in (touches_at plan o) own ≡ false
+    place_misses p None e ne = refl
+    place_misses p (Some x) e ne =
         let a = (pieces_are_named plan well).placed p x e in
-        piece_misses x w a.0 (λ same. ne (sym a.1 ∙ ap (place_of plan) same)) lo hi (writes_in (touches plan x) w) refl
+        piece_misses x a.0 (λ same. ne (sym a.1 ∙ ap (place_of plan) same)) (writes_in (touches plan x) own) refl
 
-    misses : (p w : ℕ) → p ≢ q → own ≤ w → w < own + 3 → g.writes p w ≡ false
+    misses : (p : ℕ) → p ≢ q → g.writes p own ≡ false
     unfolding graph_of
-    misses p w ne lo hi = place_misses p w (piece_at plan p) refl ne lo hi
+    misses p ne = place_misses p (piece_at plan p) refl ne
 
-    before : (p w : ℕ) → p ≤ q → p ≤ g.count → own ≤ w → w < own + 3 → cells_before g p w ≡ pos 0
-    before zero w le lt lo hi = refl
-    before (suc p) w le lt lo hi =
-        (graph_ordered plan well).writes_only p w (omega arith) (misses p w (λ e. omega arith) lo hi) ∙ before p w (omega arith) (omega arith) lo hi
+    before : (p : ℕ) → p ≤ q → p ≤ g.count → cells_before g p own ≡ pos 0
+    before zero le lt = refl
+    before (suc p) le lt =
+        (graph_ordered plan well).writes_only p own (omega arith) (misses p (λ e. omega arith)) ∙ before p (omega arith) (omega arith)
 
-    after : (d w : ℕ) → suc (q + d) ≤ g.count → own ≤ w → w < own + 3 → cells_before g (suc (q + d)) w ≡ cells_before g (suc q) w
-    after zero w le lo hi = let e : q + 0 ≡ q = omega arith in ap (λ n. cells_before g (suc n) w) e
-    after (suc d) w le lo hi =
+    after : (d : ℕ) → suc (q + d) ≤ g.count → cells_before g (suc (q + d)) own ≡ cells_before g (suc q) own
+    after zero le = let e : q + 0 ≡ q = omega arith in ap (λ n. cells_before g (suc n) own) e
+    after (suc d) le =
         let e : suc (q + suc d) ≡ suc (suc (q + d)) = omega arith in
-        ap (λ n. cells_before g n w) e
-        ∙ ((graph_ordered plan well).writes_only (suc (q + d)) w (omega arith) (misses (suc (q + d)) w (λ e. omega arith) lo hi)
-        ∙ after d w (omega arith) lo hi)
+        ap (λ n. cells_before g n own) e
+        ∙ ((graph_ordered plan well).writes_only (suc (q + d)) own (omega arith) (misses (suc (q + d)) (λ e. omega arith))
+        ∙ after d (omega arith))
 
     stands : slice_get (script_order plan) q ≡ Some (OfJob j i)
     stands = (pieces_are_named plan well).place (OfJob j i) is
@@ -199,19 +184,18 @@ module _ (plan : Plan) (well : IsWellOrderedPlan plan) where
     kept = run_keeps j i (job_at plan j) old own refl (omega arith)
 
     old_zero : old own ≡ pos 0
-    old_zero = ap (λ c. c own) old_is ∙ before q own (omega arith) (let lt = q_below in omega arith) (omega arith) (omega arith)
+    old_zero = ap (λ c. c own) old_is ∙ before q (omega arith) (let lt = q_below in omega arith)
 
     abbrev traps : List (ℕ × Trap)
     traps = (part_run plan j i old).traps
 
-    next_tells : TellTraps own traps (cells_before g (suc q))
-    next_tells = subst (λ c. TellTraps own traps c) (sym here) (told own traps (part_run plan j i old).store (kept ∙ old_zero))
+    next_tells : TellsTraps own traps (cells_before g (suc q))
+    next_tells = subst (λ c. TellsTraps own traps c) (sym here) (told own traps (part_run plan j i old).store (kept ∙ old_zero))
 
-    later_tells : (r : ℕ) → q < r → r ≤ g.count → TellTraps own traps (cells_before g r)
+    later_tells : (r : ℕ) → q < r → r ≤ g.count → TellsTraps own traps (cells_before g r)
     later_tells r lt le =
         let e : r ≡ suc (q + (r - suc q)) = omega arith in
-        subst (λ n. TellTraps own traps (cells_before g n)) (sym e)
-        (told_as own traps (cells_before g (suc q)) (cells_before g (suc (q + (r - suc q)))) (λ w lo hi. after (r - suc q) w (omega arith) lo hi) next_tells)
+        subst (λ n. TellsTraps own traps (cells_before g n)) (sym e) (after (r - suc q) (omega arith) ∙ next_tells)
 
     module _ (k : ℕ) (last : suc k ≡ length plan.segments.items) where
       abbrev r : ℕ
@@ -233,7 +217,7 @@ module _ (plan : Plan) (well : IsWellOrderedPlan plan) where
       unfolding graph_of
       precedes = ap (λ o. precedes_at plan o (piece_at plan r)) stands ∙ (ap (λ o. precedes_at plan (Some (OfJob j i)) o) r_stands ∙ waited)
 
-      last_tells : TellTraps own traps (before_piece plan (OfScript k))
+      last_tells : TellsTraps own traps (before_piece plan (OfScript k))
       unfolding before_piece
       last_tells = later_tells r (well.order.earlier q r r_below precedes) (let lt = r_below in omega arith)
 
@@ -241,7 +225,7 @@ module _ (plan : Plan) (well : IsWellOrderedPlan plan) where
     unfolding part_run
     few = few_run j i (job_at plan j) old refl
 
-    end_tells : TellTraps own traps (cells_after plan)
+    end_tells : TellsTraps own traps (cells_after plan)
     unfolding cells_after graph_of
     end_tells = later_tells (length (script_order plan)) q_below (omega arith)
 

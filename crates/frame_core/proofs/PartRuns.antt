@@ -30,7 +30,7 @@ use Rattle.frame_core.proofs.Numbered.{pieces_within, pieces_next, part_numbered
 
 module _ (plan : Plan) (well : IsWellOrderedPlan plan) (j i : ℕ) (x : JobPlan) (k : Kernel) (hx : job_at plan j ≡ Some x) (hk : kernel_of plan x ≡ Some k) where
   abbrev own : Touch
-  own = record { from = own_word plan j i; end = own_word plan j i + 3; written = true }
+  own = record { from = own_word plan j i; end = own_word plan j i + 1; written = true }
 
   abbrev from : ℕ
   from = (indexes_of x i).start
@@ -66,7 +66,7 @@ module _ (plan : Plan) (well : IsWellOrderedPlan plan) (j i : ℕ) (x : JobPlan)
       ∙ or_right (has_word own w) (writes_in (binds_touch x.parallel k.params.items x.binds.items from to) w)
       (written_touched x.parallel from to k.params.items x.binds.items w h))
 
-  pub may_note : (writable : ℕ → Bool) → MayWriteIn (touches plan (OfJob j i)) writable → (w : ℕ) → own_word plan j i ≤ w → w < own_word plan j i + 3
+  pub may_note : (writable : ℕ → Bool) → MayWriteIn (touches plan (OfJob j i)) writable → (w : ℕ) → own_word plan j i ≤ w → w < own_word plan j i + 1
       → IsTrue (writable w)
   may_note writable may w lo hi = may w (ap (λ (ts : List Touch). writes_in ts w) touches_are
       ∙ or_left (has_word own w) (writes_in (binds_touch x.parallel k.params.items x.binds.items from to) w) (has_it own w lo hi))
@@ -75,7 +75,7 @@ module _ (plan : Plan) (well : IsWellOrderedPlan plan) (j i : ℕ) (x : JobPlan)
   own_is = well.order.firsts j x hx
 
   -- the own words are among the plan's
-  pub own_within : i < pieces_of x → plan.cells + 3 * (x.first.0 + i) + 3 ≤ plan.words
+  pub own_within : i < pieces_of x → plan.cells + (x.first.0 + i) + 1 ≤ plan.words
   own_within lt =
       let first = own_is in
       let all = pieces_within plan.jobs.items j x hx in
@@ -119,8 +119,8 @@ module _ (plan : Plan) (well : IsWellOrderedPlan plan) (j i : ℕ) (x : JobPlan)
         ∙ (ap (λ (o : ℕ). noted o ran.traps ran.store) own_at
         ∙ (ap (λ (r : Ran Cells). noted (own_word plan j i) r.traps r.store) (ran_as old) ∙ sym (cells_are old))))
 
-    pub own_as : x.first.0 ≡ pieces_before plan.jobs.items j → plan.cells + 3 * (x.first.0 + i) ≡ own_word plan j i
-    own_as e = ap (λ f. plan.cells + 3 * (f + i)) e
+    pub own_as : x.first.0 ≡ pieces_before plan.jobs.items j → plan.cells + (x.first.0 + i) ≡ own_word plan j i
+    own_as e = ap (λ f. plan.cells + (f + i)) e
 
 -- what a piece of the plan has: its job and its kernel
 pub record HasJob (plan : Plan) (j i : ℕ) (x : JobPlan) : Type 0 where

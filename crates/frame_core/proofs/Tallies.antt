@@ -1,7 +1,8 @@
 -- Traps and refused statements that a report counts.
-use Rattle.std.proofs.Common.{◌≡◌, ◌≢◌, ℕ, zero, suc, ◌+◌, ◌-◌, ◌*◌, ◌<◌, ◌≤◌, ◌^◌, pos, ◌+ℤ◌, List, [], ◌∷◌, ◌++◌, length, map, drop, Option, Some, None, refl, sym, ap, subst, ◌∙◌, arith}
+use Rattle.std.proofs.Common.{◌≡◌, ◌≢◌, ℕ, zero, suc, ◌+◌, ◌-◌, ◌*◌, ◌<◌, ◌≤◌, ◌^◌, pos, List, [], ◌∷◌, ◌++◌, length, map, drop, Option, Some, None, refl, sym, ap, subst, ◌∙◌, arith}
 use Rattle.std.specs.Prelude.{slice_get}
 use Rattle.std.proofs.lemmas.Grind.{common_steps}
+use Rattle.std.proofs.lemmas.Nat.{mod-mul-add}
 use Rattle.job_base.specs.declared.Trap.{Trap}
 use Rattle.job_base.specs.declared.limits.TheConstants.{MOST_INDEXES}
 use Rattle.job_base.specs.declared.Refusal.{Refusal}
@@ -14,21 +15,25 @@ use Rattle.frame_core.specs.declared.plan.Plan.{Plan}
 use Rattle.frame_core.specs.Names.{job_pieces, ops_in, segment_at}
 use Rattle.frame_core.specs.Pieces.{piece_numbered, number_of, own_word, IsPieceOf}
 use Rattle.frame_core.specs.Operations.{op_answer, op_cells, one_if_refused, ops_refused}
-use Rattle.frame_core.specs.Effects.{part_run}
+use Rattle.frame_core.specs.declared.trap_numbers.TheConstants.{NOTE_UNIT}
+use Rattle.frame_core.specs.Effects.{trap_number, part_run}
 use Rattle.frame_core.specs.Graphs.{before_piece, cells_after}
 use Rattle.frame_core.specs.Output.{job_trap, piece_traps, first_traps, plan_traps, refused_of, plan_refused}
 use Rattle.frame_core.specs.Ordered.{ops_count, IsWellOrderedPlan}
-use Rattle.frame_core.specs.Laws.{TellTraps}
-use Rattle.frame_core.specs.Tallies.{own_words, said, TellsNext, TellsFirst, TellsAll, ReportsTally, RefusalsAreFew}
+use Rattle.frame_core.specs.Laws.{TellsTraps}
+use Rattle.frame_core.specs.Tallies.{own_word_numbered, noted_count, said, TellsNext, TellsFirst, TellsAll, ReportsTally, RefusalsAreFew}
 use Rattle.frame_core.proofs.Numbered.{of_job, number_numbered}
 use Rattle.frame_core.proofs.OwnWords.{traps_are_told}
 use Rattle.frame_core.proofs.Traps.{traps_come_by_number}
 
 -- ONE PIECE
 
-told_count : (own : ℕ) (ts : List (ℕ × Trap)) (cells : Cells) → TellTraps own ts cells → cells own ≡ pos (length ts)
-told_count own [] cells t = t
-told_count own (u ∷ more) cells t = let e : length more + 1 ≡ suc (length more) = omega arith in t.0 ∙ ap pos e
+told_count : (own : ℕ) (ts : List (ℕ × Trap)) (cells : Cells) → length ts ≤ MOST_INDEXES → TellsTraps own ts cells
+    → noted_count (cells own) ≡ length ts
+told_count own [] cells few t = ap noted_count t
+told_count own (u ∷ more) cells few t =
+    let e : length more + 1 ≡ suc (length more) = omega arith in
+    ap noted_count t ∙ (mod-mul-add (trap_number u.1 * NOTE_UNIT + u.0) NOTE_UNIT (length more + 1) (omega arith) ∙ e)
 
 -- an empty list has no length, and goes on as what follows
 behind_empty : (xs ys : List JobTrap) (x : JobTrap) → length xs ≡ 0 → slice_get ys 0 ≡ Some x → slice_get (xs ++ ys) 0 ≡ Some x
@@ -42,11 +47,8 @@ first_stays [] ys x e = absurd (none_some e)
     none_some e = cc
 first_stays (y ∷ xs) ys x e = e
 
-pos_zero : (n : ℕ) → pos n ≡ pos 0 → n ≡ 0
-pos_zero n e = cc
-
 module _ (plan : Plan) (well : IsWellOrderedPlan plan) (cells : Cells)
-    (tells : (j i : ℕ) → IsPieceOf plan (OfJob j i) → TellTraps (own_word plan j i) (part_run plan j i (before_piece plan (OfJob j i))).traps cells) where
+    (tells : (j i : ℕ) → IsPieceOf plan (OfJob j i) → TellsTraps (own_word plan j i) (part_run plan j i (before_piece plan (OfJob j i))).traps cells) where
   each : (p : ℕ) → p < job_pieces plan → TellsNext plan cells p
   each p lt =
       let n = of_job plan p lt in
@@ -61,7 +63,7 @@ module _ (plan : Plan) (well : IsWellOrderedPlan plan) (cells : Cells)
         is = n.2;
         traps = traps;
         next = ap (λ y. first_traps plan p ++ piece_traps plan y) n.2;
-        told = subst (λ k. TellTraps (plan.cells + 3 * k) traps cells) (sym number) (tells n.0 n.1 is);
+        told = subst (λ k. TellsTraps (plan.cells + k) traps cells) (sym number) (tells n.0 n.1 is);
         few = told.few;
         below = told.below;
       }
@@ -71,13 +73,12 @@ module _ (plan : Plan) (well : IsWellOrderedPlan plan) (cells : Cells)
       let split : length (first_traps plan p ++ map (job_trap t.job) t.traps) ≡ length (first_traps plan p) + length t.traps = grind (arith, common_steps) in
       ap length t.next ∙ split
 
-  counted : (p : ℕ) → p ≤ job_pieces plan → said plan cells p ≡ pos (length (first_traps plan p))
+  counted : (p : ℕ) → p ≤ job_pieces plan → said plan cells p ≡ length (first_traps plan p)
   counted zero le = refl
   counted (suc p) le =
       let t = each p (omega arith) in
-      ap (λ n. n +ℤ cells (own_words plan p)) (counted p (omega arith))
-      ∙ (ap (λ n. pos (length (first_traps plan p)) +ℤ n) (told_count (own_words plan p) t.traps cells t.told)
-      ∙ ap pos (sym (longer p t)))
+      ap (λ n. n + noted_count (cells (own_word_numbered plan p))) (counted p (omega arith))
+      ∙ (ap (λ n. length (first_traps plan p) + n) (told_count (own_word_numbered plan p) t.traps cells t.few t.told) ∙ sym (longer p t))
 
   so_far : (p : ℕ) → p ≤ job_pieces plan → length (first_traps plan p) ≤ MOST_INDEXES * p
   so_far zero le = omega arith
@@ -99,12 +100,12 @@ module _ (plan : Plan) (well : IsWellOrderedPlan plan) (cells : Cells)
       ap (λ n. slice_get (first_traps plan n) 0) up
       ∙ first_stays (first_traps plan (p + d)) (piece_traps plan (piece_numbered plan (p + d))) x (lasts d p x e)
 
-  first_by : (p : ℕ) → p < job_pieces plan → said plan cells p ≡ pos 0 → (t : TellsNext plan cells p) → (ts : List (ℕ × Trap)) → ts ≡ t.traps
-      → TellTraps (own_words plan p) ts cells → cells (own_words plan p) ≢ pos 0 → TellsFirst plan cells p
+  first_by : (p : ℕ) → p < job_pieces plan → said plan cells p ≡ 0 → (t : TellsNext plan cells p) → (ts : List (ℕ × Trap)) → ts ≡ t.traps
+      → TellsTraps (own_word_numbered plan p) ts cells → cells (own_word_numbered plan p) ≢ pos 0 → TellsFirst plan cells p
   first_by p lt none t [] at told some = absurd (some told)
   first_by p lt none t (u ∷ more) at told some =
       let x = job_trap t.job u in
-      let empty : length (first_traps plan p) ≡ 0 = pos_zero (length (first_traps plan p)) (sym (counted p (omega arith)) ∙ none) in
+      let empty : length (first_traps plan p) ≡ 0 = sym (counted p (omega arith)) ∙ none in
       let here : slice_get (first_traps plan (suc p)) 0 ≡ Some x =
       ap (λ l. slice_get l 0) (t.next ∙ ap (λ l. first_traps plan p ++ map (job_trap t.job) l) (sym at))
       ∙ behind_empty (first_traps plan p) (map (job_trap t.job) (u ∷ more)) x empty refl in
@@ -116,8 +117,8 @@ module _ (plan : Plan) (well : IsWellOrderedPlan plan) (cells : Cells)
         trap = x;
         first = ap (λ l. slice_get l 0) (sym all ∙ ap (first_traps plan) (sym far)) ∙ lasts (job_pieces plan - suc p) (suc p) x here;
         of_job = refl;
-        index = told.1;
-        number = told.2;
+        more = more;
+        told = told;
       }
 
   few : MOST_INDEXES * job_pieces plan < 2 ^ 64
@@ -127,7 +128,7 @@ module _ (plan : Plan) (well : IsWellOrderedPlan plan) (cells : Cells)
   tells_all = record {
     each = each;
     all = all;
-    number = counted (job_pieces plan) (omega arith) ∙ ap (λ l. pos (length l)) all;
+    number = counted (job_pieces plan) (omega arith) ∙ ap length all;
     first = λ p lt none some. let t = each p lt in first_by p lt none t t.traps refl t.told some;
     so_far = so_far;
     few = few;

@@ -1,5 +1,5 @@
 -- What each piece touches, and what it makes of the cells.
-use Rattle.std.specs.Prelude.{ℕ, suc, ◌+◌, Bool, true, false, nat_eq, if◌then◌else◌, pos, List, [], ◌∷◌, ◌++◌, length, Option, None, Some}
+use Rattle.std.specs.Prelude.{ℕ, suc, ◌+◌, ◌*◌, Bool, true, false, nat_eq, if◌then◌else◌, pos, List, [], ◌∷◌, ◌++◌, length, Option, None, Some}
 use Rattle.job_base.specs.declared.Trap.{Trap}
 use Rattle.job_base.specs.declared.Trap.TheVariants.{Overflow, ZeroDivisor, Range, OwnIndex, Full, MissingKey, PresentKey, Written, Budget}
 use Rattle.job_base.specs.Cells.{with_cell}
@@ -11,7 +11,7 @@ use Rattle.merge_laws.specs.Graph.{Cells}
 use Rattle.frame_core.specs.declared.plan.JobPlan.{JobPlan}
 use Rattle.frame_core.specs.declared.plan.Plan.{Plan}
 use Rattle.frame_core.specs.declared.touch.Touch.{Touch}
-use Rattle.frame_core.specs.declared.trap_numbers.TheConstants.{OVERFLOW, ZERO_DIVISOR, RANGE, OWN_INDEX, FULL, MISSING_KEY, PRESENT_KEY, WRITTEN, BUDGET}
+use Rattle.frame_core.specs.declared.trap_numbers.TheConstants.{OVERFLOW, ZERO_DIVISOR, RANGE, OWN_INDEX, FULL, MISSING_KEY, PRESENT_KEY, WRITTEN, BUDGET, NOTE_UNIT}
 use Rattle.frame_core.specs.Names.{job_at, segment_at, kernel_of, ops_in, indexes_of}
 use Rattle.frame_core.specs.declared.piece.Piece.{Piece}
 use Rattle.frame_core.specs.declared.piece.Piece.TheVariants.{OfScript, OfJob}
@@ -25,14 +25,14 @@ abbrev pub params_in : Option Kernel → List Param
 params_in None = []
 params_in (Some k) = k.params.items
 
--- A piece of a job writes its own words, beside what its indexes touch of the binds.
+-- A piece of a job writes its own word, beside what its indexes touch of the binds.
 abbrev pub part_touches : Plan → ℕ → ℕ → Option JobPlan → List Touch
 part_touches plan j i None = []
 part_touches plan j i (Some x) =
     let own = own_word plan j i in
     let span = indexes_of x i in
     let to = span.start + span.len in
-    record { from = own; end = own + 3; written = true }
+    record { from = own; end = own + 1; written = true }
     ∷ binds_touch x.parallel (params_in (kernel_of plan x)) x.binds.items span.start to
 
 -- The last segment also reads the own words of all pieces.
@@ -64,12 +64,15 @@ trap_number PresentKey = PRESENT_KEY
 trap_number Written = WRITTEN
 trap_number Budget = BUDGET
 
--- A piece without traps leaves its own words as they are.
+-- Traps in one word: how many, and of the first one its index and its number. A job has fewer indexes than NOTE_UNIT.
+abbrev pub note_of : List (ℕ × Trap) → ℕ
+note_of [] = 0
+note_of (t ∷ more) = (trap_number t.1 * NOTE_UNIT + t.0) * NOTE_UNIT + (length more + 1)
+
+-- A piece without traps leaves its own word as it is.
 abbrev pub noted : ℕ → List (ℕ × Trap) → Cells → Cells
 noted own [] cells = cells
-noted own (t ∷ more) cells =
-    let counted = with_cell cells own (pos (length more + 1)) in
-    with_cell (with_cell counted (own + 1) (pos t.0)) (own + 2) (pos (trap_number t.1))
+noted own (t ∷ more) cells = with_cell cells own (pos (note_of (t ∷ more)))
 
 -- the run of a job's piece: its indexes, in order
 abbrev pub part_ran : JobPlan → ℕ → Option Kernel → Cells → Ran Cells

@@ -15,7 +15,7 @@ use Rattle.frame_core.specs.declared.plan.JobPlan.{JobPlan}
 use Rattle.frame_core.specs.Names.{job_at, pieces_of, job_pieces}
 use Rattle.frame_core.specs.Pieces.{script_order, place_of, number_of, piece_numbered, own_word, IsPieceOf}
 use Rattle.frame_core.specs.Touches.{reads_in, writes_in}
-use Rattle.frame_core.specs.Effects.{touches, trap_number, part_run}
+use Rattle.frame_core.specs.Effects.{touches, trap_number, note_of, part_run}
 use Rattle.frame_core.specs.Graphs.{graph_of, jobs_of, before_piece, cells_after}
 use Rattle.frame_core.specs.Know.{piece_count, reads}
 use Rattle.frame_core.specs.Reading.{contents_in}
@@ -60,12 +60,12 @@ PiecesAreNamed = (plan : Plan) → IsWellOrderedPlan plan → IsNamed plan
 abbrev pub ContentsAreRead : Type 0
 ContentsAreRead = (b : Bind) (cells : ℕ → ℤ) (c : Contents) → Holds cells b c → contents_in b cells ≡ c
 
--- one of the own words of a piece
+-- the own word of a piece
 abbrev pub IsOwn : Plan → Piece → ℕ → Type 0
 IsOwn plan (OfScript k) w = ⊥
-IsOwn plan (OfJob j i) w = (own_word plan j i ≤ w) × (w < own_word plan j i + 3)
+IsOwn plan (OfJob j i) w = w ≡ own_word plan j i
 
--- A piece touches words of the plan alone. It writes words of containers and its own words.
+-- A piece touches words of the plan alone. It writes words of containers and its own word.
 pub record StaysWithin (plan : Plan) (x : Piece) : Type 0 where
   pub read : (w : ℕ) → reads_in (touches plan x) w ≡ true → w < plan.words
   pub written : (w : ℕ) → writes_in (touches plan x) w ≡ true → (w < plan.cells) ⊎ IsOwn plan x w
@@ -95,21 +95,19 @@ pub record TrapNumbersAreThese : Type 0 where
   pub written : trap_number Written ≡ 8
   pub budget : trap_number Budget ≡ 9
 
--- the own words tell how many traps there are, and the first of them
-abbrev pub TellTraps : ℕ → List (ℕ × Trap) → Cells → Type 0
-TellTraps own [] cells = cells own ≡ pos 0
-TellTraps own (t ∷ more) cells =
-    (cells own ≡ pos (length more + 1)) × (cells (own + 1) ≡ pos t.0) × (cells (own + 2) ≡ pos (trap_number t.1))
+-- the own word notes the traps
+abbrev pub TellsTraps : ℕ → List (ℕ × Trap) → Cells → Type 0
+TellsTraps own traps cells = cells own ≡ pos (note_of traps)
 
 abbrev pub AreIndexesBelow : ℕ → List (ℕ × Trap) → Type 0
 AreIndexesBelow n [] = Unit {0}
 AreIndexesBelow n (t ∷ more) = (t.0 < n) × AreIndexesBelow n more
 
--- In the run in script order the own words of each piece tell its traps, before the last segment and after all pieces.
+-- In the run in script order the own word of each piece tells its traps, before the last segment and after all pieces.
 pub record AreTold (plan : Plan) (j i : ℕ) (traps : List (ℕ × Trap)) : Type 0 where
   pub last : (k : ℕ) → suc k ≡ length plan.segments.items
-      → TellTraps (own_word plan j i) traps (before_piece plan (OfScript k))
-  pub after : TellTraps (own_word plan j i) traps (cells_after plan)
+      → TellsTraps (own_word plan j i) traps (before_piece plan (OfScript k))
+  pub after : TellsTraps (own_word plan j i) traps (cells_after plan)
   -- no more of them, and no greater indexes, than jobs have indexes
   pub few : length traps ≤ MOST_INDEXES
   pub below : AreIndexesBelow MOST_INDEXES traps

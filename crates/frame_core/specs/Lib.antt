@@ -7,6 +7,7 @@ pub mod Effects
 pub mod Graphs
 pub mod Reading
 pub mod Output
+pub mod Reports
 pub mod Ordered
 pub mod Know
 pub mod Laws

@@ -35,7 +35,7 @@ ops_count (s ∷ more) = length s.ops.items + ops_count more
 -- 1. SIZES: at most 4,096 jobs, and what is counted fits 32 bits.
 pub record IsSized (plan : Plan) : Type 0 where
   pub jobs : length plan.jobs.items ≤ MOST_JOBS
-  pub words_are : plan.words ≡ plan.cells + 3 * job_pieces plan
+  pub words_are : plan.words ≡ plan.cells + job_pieces plan
   pub words : plan.words < 2 ^ 32
   pub pieces : job_pieces plan + length plan.segments.items < 2 ^ 32
   pub ops : ops_count plan.segments.items < 2 ^ 32

@@ -68,9 +68,9 @@ piece_among (x ∷ more) j p = if nat_lt p (pieces_of x) then OfJob j p else pie
 abbrev pub piece_numbered : Plan → ℕ → Piece
 piece_numbered plan p = piece_among plan.jobs.items 0 p
 
--- THE OWN WORDS of a piece of a job: its number of traps, the index of the first one and that trap's number.
+-- THE OWN WORD of a piece of a job, which notes its traps.
 abbrev pub own_word : Plan → ℕ → ℕ → ℕ
-own_word plan j i = plan.cells + 3 * (pieces_before plan.jobs.items j + i)
+own_word plan j i = plan.cells + (pieces_before plan.jobs.items j + i)
 
 -- the piece is one of the plan's
 abbrev pub IsPieceOf : Plan → Piece → Type 0

@@ -1,5 +1,5 @@
 -- What a report of a run counts: the traps, as own words say them piece by piece, and the refused statements.
-use Rattle.std.specs.Prelude.{◌≡◌, ◌≢◌, ℕ, zero, suc, ◌+◌, ◌*◌, ◌<◌, ◌≤◌, ◌^◌, ℤ, pos, ◌+ℤ◌, ◌⊎◌, List, [], ◌∷◌, ◌++◌, map, length, Some, slice_get}
+use Rattle.std.specs.Prelude.{◌≡◌, ◌≢◌, ℕ, zero, suc, ◌+◌, ◌*◌, ◌%◌, ◌<◌, ◌≤◌, ◌^◌, ℤ, pos, negsuc, ◌⊎◌, List, [], ◌∷◌, ◌++◌, map, length, Some, slice_get}
 use Rattle.job_base.specs.declared.Trap.{Trap}
 use Rattle.job_base.specs.declared.limits.TheConstants.{MOST_INDEXES}
 use Rattle.frame_ast.specs.States.{JobTrap}
@@ -8,35 +8,41 @@ use Rattle.frame_core.specs.declared.piece.Piece.TheVariants.{OfScript, OfJob}
 use Rattle.frame_core.specs.declared.plan.Plan.{Plan}
 use Rattle.frame_core.specs.Names.{job_pieces}
 use Rattle.frame_core.specs.Pieces.{piece_numbered}
+use Rattle.frame_core.specs.declared.trap_numbers.TheConstants.{NOTE_UNIT}
 use Rattle.frame_core.specs.Effects.{trap_number}
 use Rattle.frame_core.specs.Graphs.{before_piece, cells_after}
 use Rattle.frame_core.specs.Output.{job_trap, first_traps, plan_traps, refused_of, plan_refused}
 use Rattle.frame_core.specs.Ordered.{IsWellOrderedPlan}
-use Rattle.frame_core.specs.Laws.{TellTraps, AreIndexesBelow}
+use Rattle.frame_core.specs.Laws.{TellsTraps, AreIndexesBelow}
 
--- TRAPS. A report goes over the pieces of jobs by their numbers, and reads the own words of each.
+-- TRAPS. A report goes over the pieces of jobs by their numbers, and reads the own word of each.
 
--- the first own word of a piece
-abbrev pub own_words : Plan → ℕ → ℕ
-own_words plan p = plan.cells + 3 * p
+-- the own word of the piece of that number
+abbrev pub own_word_numbered : Plan → ℕ → ℕ
+own_word_numbered plan p = plan.cells + p
+
+-- how many traps a word notes
+abbrev pub noted_count : ℤ → ℕ
+noted_count (pos n) = n % NOTE_UNIT
+noted_count (negsuc n) = 0
 
 -- how many traps the first pieces say
-abbrev pub said : Plan → Cells → ℕ → ℤ
-said plan cells zero = pos 0
-said plan cells (suc p) = said plan cells p +ℤ cells (own_words plan p)
+abbrev pub said : Plan → Cells → ℕ → ℕ
+said plan cells zero = 0
+said plan cells (suc p) = said plan cells p + noted_count (cells (own_word_numbered plan p))
 
--- The traps of one piece: the plan's traps so far go on with them, and its own words tell them.
+-- The traps of one piece: the plan's traps so far go on with them, and its own word tells them.
 pub record TellsNext (plan : Plan) (cells : Cells) (p : ℕ) : Type 0 where
   pub job : ℕ
   pub part : ℕ
   pub is : piece_numbered plan p ≡ OfJob job part
   pub traps : List (ℕ × Trap)
   pub next : first_traps plan (suc p) ≡ first_traps plan p ++ map (job_trap job) traps
-  pub told : TellTraps (own_words plan p) traps cells
+  pub told : TellsTraps (own_word_numbered plan p) traps cells
   pub few : length traps ≤ MOST_INDEXES
   pub below : AreIndexesBelow MOST_INDEXES traps
 
--- The own words of one piece say the first of the plan's traps: the index, and the trap's number.
+-- The own word of one piece says the first of the plan's traps, beside how many it notes.
 pub record TellsFirst (plan : Plan) (cells : Cells) (p : ℕ) : Type 0 where
   pub job : ℕ
   pub part : ℕ
@@ -44,8 +50,8 @@ pub record TellsFirst (plan : Plan) (cells : Cells) (p : ℕ) : Type 0 where
   pub trap : JobTrap
   pub first : slice_get (plan_traps plan) 0 ≡ Some trap
   pub of_job : trap.job ≡ suc job
-  pub index : cells (own_words plan p + 1) ≡ pos trap.index
-  pub number : cells (own_words plan p + 2) ≡ pos (trap_number trap.trap)
+  pub more : List (ℕ × Trap)
+  pub told : TellsTraps (own_word_numbered plan p) ((trap.index, trap.trap) ∷ more) cells
 
 -- These cells tell all traps of the plan.
 pub record TellsAll (plan : Plan) (cells : Cells) : Type 0 where
@@ -53,9 +59,9 @@ pub record TellsAll (plan : Plan) (cells : Cells) : Type 0 where
   pub each : (p : ℕ) → p < job_pieces plan → TellsNext plan cells p
   pub all : first_traps plan (job_pieces plan) ≡ plan_traps plan
   -- Together they say how many there are,
-  pub number : said plan cells (job_pieces plan) ≡ pos (length (plan_traps plan))
+  pub number : said plan cells (job_pieces plan) ≡ length (plan_traps plan)
   -- and the first piece that says any says the first of them.
-  pub first : (p : ℕ) → p < job_pieces plan → said plan cells p ≡ pos 0 → cells (own_words plan p) ≢ pos 0
+  pub first : (p : ℕ) → p < job_pieces plan → said plan cells p ≡ 0 → cells (own_word_numbered plan p) ≢ pos 0
       → TellsFirst plan cells p
   -- a count of 64 bits holds them
   pub so_far : (p : ℕ) → p ≤ job_pieces plan → length (first_traps plan p) ≤ MOST_INDEXES * p

@@ -58,7 +58,7 @@ fn list_ops(out: &mut Vec<Touch>, ops: &[Op]) -> Result<(), NoMemory>
     Ok(())
 }
 
-// A piece of a job: its own words, and what its indexes touch words through.
+// A piece of a job: its own word, and what its indexes touch words through.
 #[derive(Drop)]
 struct Part<'a> {
     own: Touch,
@@ -227,13 +227,13 @@ impl Plan {
             (result.span.start + result.span.len) }
     {
         let job = &self.jobs[j as usize];
-        let own = self.cells + 3 * (job.first.0 + i);
+        let own = self.cells + (job.first.0 + i);
         let kernel = &self.kernels[job.kernel as usize];
         let span = job.indexes(i);
         Part {
             own: Touch {
                 from: own,
-                end: own + 3,
+                end: own + 1,
                 written: true,
             },
             parallel: job.parallel,

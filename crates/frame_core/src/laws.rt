@@ -24,7 +24,7 @@ pub fn contents_are_read()
     ensures { ContentsAreRead }
 {}
 
-/// A piece touches words of its plan alone, and writes words of containers and its own words.
+/// A piece touches words of its plan alone, and writes words of containers and its own word.
 pub fn pieces_stay_within()
     ensures { PiecesStayWithin }
 {}
@@ -59,7 +59,7 @@ pub fn trap_numbers_are_these()
     ensures { TrapNumbersAreThese }
 {}
 
-/// In the run in script order the own words of each piece hold its traps, before the last segment and after all pieces.
+/// In the run in script order the own word of each piece notes its traps, before the last segment and after all pieces.
 pub fn traps_are_told()
     ensures { TrapsAreTold }
 {}

@@ -8,7 +8,7 @@
 //! A piece has three names, which give one another (`laws::pieces_are_named`): most calls take its number, the laws of
 //! the merge its place in script order, and definitions what it is of ([`Piece`]).
 //!
-//! [`touches`] alone takes memory. [`apply_op`] is one match. [`write_notes`] writes three words where an index trapped
+//! [`touches`] alone takes memory. [`apply_op`] is one match. [`write_notes`] writes one word where an index trapped
 //! and none else. A lease tests nothing: what a piece may touch is known before.
 //!
 //! A script reaches this crate as a plan alone, and that the plan is well ordered is a condition of the calls. `specs/`
@@ -29,6 +29,7 @@ mod operations;
 mod piece;
 mod plan;
 mod plan_name;
+mod report;
 mod spans;
 mod touch;
 mod trap_numbers;
@@ -42,4 +43,5 @@ pub use operations::apply_op;
 pub use piece::Piece;
 pub use plan::{Act, JobPlan, Op, Plan, Segment};
 pub use plan_name::PlanName;
+pub use report::Report;
 pub use touch::Touch;

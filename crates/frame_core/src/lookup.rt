@@ -42,7 +42,7 @@ impl Plan {
         requires sized { IsSized self.now }
         ensures { result ≡ job_pieces self.now }
     {
-        (self.words - self.cells) / 3
+        self.words - self.cells
     }
 
     /// The piece that a number names. It looks among the jobs by halving.

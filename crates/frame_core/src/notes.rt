@@ -1,13 +1,14 @@
-//! How the own words of a piece say what is noted of its traps.
+//! How the own word of a piece says what is noted of its traps.
 ghost use Rattle.std.specs.Prelude.{◌≡◌, ◌≤◌, ◌<◌, ◌+◌, ◌++◌, ◌^◌, ◌∷◌, [], ℕ, List, length, pos, IsTrue};
 ghost use Rattle.job_base.specs.declared.Trap.{Trap};
 ghost use Rattle.job_base.specs.declared.limits.TheConstants.{MOST_INDEXES};
-ghost use Rattle.frame_core.specs.Effects.{trap_number, noted};
+ghost use Rattle.frame_core.specs.Effects.{trap_number, note_of, noted};
 ghost use Rattle.kernel_exec.specs.Notes.{IsNoteOf};
-ghost use Rattle.frame_core.specs.Laws.{TellTraps, AreIndexesBelow};
+ghost use Rattle.frame_core.specs.Laws.{TellsTraps, AreIndexesBelow};
 
 use crate::trap_numbers::{
-    BUDGET, FULL, MISSING_KEY, OVERFLOW, OWN_INDEX, PRESENT_KEY, RANGE, WRITTEN, ZERO_DIVISOR,
+    BUDGET, FULL, MISSING_KEY, NOTE_UNIT, OVERFLOW, OWN_INDEX, PRESENT_KEY, RANGE, WRITTEN,
+    ZERO_DIVISOR,
 };
 use job_base::{Mem, Trap, Word};
 use kernel_exec::Notes;
@@ -46,54 +47,54 @@ fn trap_of(n: u32) -> Trap
     }
 }
 
-// A number of 32 bits, and 0 for any other.
-fn to_u32(v: i64) -> u32
-    ensures { (n : ℕ) → v ≡ pos n → n < 2 ^ 32 → result ≡ n }
+// What a word that isn't 0 notes.
+fn notes_in(word: u64) -> Notes
+    ensures { (t : ℕ × Trap) (more : List (ℕ × Trap)) → word ≡ note_of (t ∷ more) → length (t ∷ more) ≤ MOST_INDEXES
+        → t.0 < MOST_INDEXES → IsNoteOf (t ∷ more) result }
 {
-    u32::try_from(v).unwrap_or(0)
+    let first = word / NOTE_UNIT;
+    Notes {
+        count: (word % NOTE_UNIT) as u32,
+        first: Some((
+            (first % NOTE_UNIT) as u32,
+            trap_of((first / NOTE_UNIT) as u32),
+        )),
+    }
 }
 
-// The trap that a word says.
-fn read_trap(v: i64) -> Trap
-    ensures { (trap : Trap) → v ≡ pos (trap_number trap) → result ≡ trap }
+// The word that notes so many traps, of which this is the first.
+fn word_of(count: u32, index: u32, trap: Trap) -> i64
+    ensures { (more : List (ℕ × Trap)) → count ≡ length more + 1 → result ≡ pos (note_of ((index, trap) ∷ more)) }
 {
-    trap_of(to_u32(v))
+    let first = u64::from(number_of(trap)) * NOTE_UNIT + u64::from(index);
+    (first * NOTE_UNIT + u64::from(count)) as i64
 }
 
-/// Reads what a piece's own words say of its traps. They begin at the word `own`, which is `cells + 3 p` for piece p.
+/// Reads what a piece's own word says of its traps: the word `cells + p` for piece p.
 pub fn read_notes<M: Mem>(own: u32, mem: &mut M) -> Notes
-    requires fits { own + 2 < 2 ^ 32 }
-    requires readable { (k : ℕ) → k < 3 → IsTrue (M.readable mem.old (own + k)) }
-    ensures note { (traps : List (ℕ × Trap)) → TellTraps own traps (M.cells mem.old) → length traps ≤ MOST_INDEXES
+    requires readable { IsTrue (M.readable mem.old own) }
+    ensures note { (traps : List (ℕ × Trap)) → TellsTraps own traps (M.cells mem.old) → length traps ≤ MOST_INDEXES
         → AreIndexesBelow MOST_INDEXES traps → IsNoteOf traps result }
     ensures cells { M.cells mem.new ≡ M.cells mem.old }
     ensures readable { M.readable mem.new ≡ M.readable mem.old }
     ensures writable { M.writable mem.new ≡ M.writable mem.old }
 {
-    let count = mem.load(Word(own));
-    if count <= 0 {
+    let word = mem.load(Word(own));
+    if word <= 0 {
         return Notes::none();
     }
-    let index = mem.load(Word(own + 1));
-    let trap = mem.load(Word(own + 2));
-    Notes {
-        count: to_u32(count),
-        first: Some((to_u32(index), read_trap(trap))),
-    }
+    notes_in(word as u64)
 }
 
-/// Notes the traps of a piece in its own words, which begin at the word `own`. Without a trap it writes nothing.
+/// Notes the traps of a piece in its own word. Without a trap it writes nothing.
 pub fn write_notes<M: Mem>(own: u32, notes: &Notes, mem: &mut M)
-    requires fits { own + 2 < 2 ^ 32 }
-    requires writable { (k : ℕ) → k < 3 → IsTrue (M.writable mem.old (own + k)) }
+    requires writable { IsTrue (M.writable mem.old own) }
     ensures cells { (traps : List (ℕ × Trap)) → IsNoteOf traps notes.now
         → M.cells mem.new ≡ noted own traps (M.cells mem.old) }
     ensures readable { M.readable mem.new ≡ M.readable mem.old }
     ensures writable { M.writable mem.new ≡ M.writable mem.old }
 {
     if let Some((index, trap)) = notes.first {
-        mem.store(Word(own), i64::from(notes.count));
-        mem.store(Word(own + 1), i64::from(index));
-        mem.store(Word(own + 2), i64::from(number_of(trap)));
+        mem.store(Word(own), word_of(notes.count, index, trap));
     }
 }

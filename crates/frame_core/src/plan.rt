@@ -8,7 +8,7 @@ use kernel_exec::Bind;
 
 /// A planned frame. Its pieces are those of its jobs, numbered from 0, and after them its segments.
 ///
-/// Beyond the words of containers each piece of a job has three words of its own, which `specs/Pieces` names.
+/// Beyond the words of containers each piece of a job has a word of its own, which `specs/Pieces` names.
 #[derive(Drop)]
 pub struct Plan {
     pub kernels: Vec<Kernel>,
@@ -21,7 +21,7 @@ pub struct Plan {
     pub segments: Vec<Segment>,
     /// How many words the containers have.
     pub cells: u32,
-    /// How many words there are: `cells`, and three for each piece of a job.
+    /// How many words there are: `cells`, and one for each piece of a job.
     pub words: u32,
 }
 

@@ -17,3 +17,7 @@ pub const PRESENT_KEY: u32 = 7;
 pub const WRITTEN: u32 = 8;
 
 pub const BUDGET: u32 = 9;
+
+/// A note is a number in this base: above the number of traps stands the index of the first one, above that the number
+/// of that trap. A job has fewer indexes.
+pub const NOTE_UNIT: u64 = 16_777_216;

@@ -20,7 +20,7 @@ use Rattle.plan_state.specs.contracts.state.Planner as planner
 use Rattle.frame_plan.specs.contracts.sections.SectionBook as book
 use Rattle.frame_plan.specs.contracts.copies.Copies as copies
 use Rattle.frame_print.proofs.outgoing.Outgoing.TheSendSync as outgoing
-use Rattle.frame_print.proofs.report.Report.TheSendSync as report
+use Rattle.frame_core.proofs.report.Report.TheSendSync as report
 use Rattle.plan_run.proofs.run_end.RunEnd.TheSendSync as run_end
 use Rattle.steal_pool.proofs.place.Place.TheSendSync as place
 use Rattle.steal_pool.proofs.standing.Standing.TheSendSync as standing

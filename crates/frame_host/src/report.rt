@@ -3,7 +3,7 @@ ghost use Rattle.frame_ast.specs.States.{ScriptState};
 ghost use Rattle.frame_top.specs.Running.{IsReportAt};
 ghost use Rattle.frame_host.specs.Reports.{IsFrameReport};
 
-use frame_print::Report;
+use frame_core::Report;
 use job_base::{JobId, Trap};
 
 /// A trap, and which run of a kernel it ended.

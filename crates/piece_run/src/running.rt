@@ -39,7 +39,7 @@ pub fn visit_job<'a>(plan: &'a Plan, j: u32, scratch: &mut Scratch) -> JobVisit<
 }
 
 /// Runs piece i of the job that is visited: its indexes in order, whether the earlier ones trapped or not. How many
-/// trapped, and the first of them, stand in the piece's own words afterwards.
+/// trapped, and the first of them, stand in the piece's own word afterwards.
 pub fn run_visited<M: Mem>(
     plan: &Plan,
     visit: &mut JobVisit<'_>,
@@ -62,7 +62,7 @@ pub fn run_visited<M: Mem>(
 {
     let span = visit.job.indexes(i);
     let notes = execute_span(&mut visit.visit, &span, scratch, mem);
-    write_notes(plan.cells + 3 * (visit.job.first.0 + i), &notes, mem);
+    write_notes(plan.cells + (visit.job.first.0 + i), &notes, mem);
 }
 
 /// Runs piece i of the job at place j, both from 0, on a visit of its own.

@@ -25,10 +25,10 @@ use Rattle.plan_laws.specs.Apart.{PartsAreApart}
 use Rattle.frame_core.specs.Touched.{IsBound}
 use Rattle.frame_core.proofs.Touched.{touched_words_are_used}
 
--- a piece's own words and the words of its binds
+-- a piece's own word and the words of its binds
 abbrev pub job_touches : Plan → ℕ → JobPlan → Kernel → ℕ → List Touch
 job_touches plan n job kernel i =
-    record { from = own_word plan n i; end = own_word plan n i + 3; written = true }
+    record { from = own_word plan n i; end = own_word plan n i + 1; written = true }
     ∷ binds_touch job.parallel kernel.params.items job.binds.items (indexes_of job i).start ((indexes_of job i).start + (indexes_of job i).len)
 
 pub touches_are : (plan : Plan) (n : ℕ) (job : JobPlan) (kernel : Kernel) → job_at plan n ≡ Some job → kernel_of plan job ≡ Some kernel → (i : ℕ)
@@ -36,7 +36,7 @@ pub touches_are : (plan : Plan) (n : ℕ) (job : JobPlan) (kernel : Kernel) → 
 unfolding touches
 touches_are plan n job kernel has has_kernel i =
     ap (part_touches plan n i) has
-    ∙ ap (λ k. record { from = own_word plan n i; end = own_word plan n i + 3; written = true }
+    ∙ ap (λ k. record { from = own_word plan n i; end = own_word plan n i + 1; written = true }
     ∷ binds_touch job.parallel (params_in k) job.binds.items (indexes_of job i).start ((indexes_of job i).start + (indexes_of job i).len)) has_kernel
 
 or_cases : (a b : Bool) → (a || b) ≡ true → (a ≡ true) ⊎ (b ≡ true)
@@ -46,7 +46,7 @@ or_cases false b e = inr e
 module _ (x : Outline) (n : ℕ) (job : JobPlan) (kernel : Kernel) (has : job_at x.plan n ≡ Some job) (has_kernel : kernel_of x.plan job ≡ Some kernel)
     (fits : JobFits x.plan job kernel) where
   abbrev own : ℕ → Touch
-  own i = record { from = own_word x.plan n i; end = own_word x.plan n i + 3; written = true }
+  own i = record { from = own_word x.plan n i; end = own_word x.plan n i + 1; written = true }
 
   abbrev binds : ℕ → List Touch
   binds i = binds_touch job.parallel kernel.params.items job.binds.items (indexes_of job i).start ((indexes_of job i).start + (indexes_of job i).len)

@@ -41,20 +41,20 @@ use Rattle.plan_laws.proofs.Enrolling.{next_before}
 use Rattle.plan_laws.proofs.Owners.{owner_own}
 
 -- whose own word it is
-whose : (plan : Plan) (n w : ℕ) → own_word plan 0 0 ≤ w → w < plan.cells + 3 * pieces_before plan.jobs.items n
+whose : (plan : Plan) (n w : ℕ) → own_word plan 0 0 ≤ w → w < plan.cells + pieces_before plan.jobs.items n
     → (j : ℕ) × (j < n) × (is_own_word plan (suc j) w ≡ true)
 whose plan zero w lo hi = let z = nothing plan.jobs.items in absurd (omega arith)
   where
     nothing : (jobs : List JobPlan) → pieces_before jobs 0 ≡ 0
     nothing [] = refl
     nothing (x ∷ jobs) = refl
-whose plan (suc n) w lo hi = by (whose plan n w lo) (cases_lt w (plan.cells + 3 * pieces_before plan.jobs.items n))
+whose plan (suc n) w lo hi = by (whose plan n w lo) (cases_lt w (plan.cells + pieces_before plan.jobs.items n))
   where
     here : (a b w : ℕ) → a ≤ w → w < b → (nat_le a w && nat_lt w b) ≡ true
     here a b w le lt = λ i. (let f : nat_le a w ≡ true = grind arith in f) i && (let f : nat_lt w b ≡ true = grind arith in f) i
 
-    by : (w < plan.cells + 3 * pieces_before plan.jobs.items n → (j : ℕ) × (j < n) × (is_own_word plan (suc j) w ≡ true))
-        → (w < plan.cells + 3 * pieces_before plan.jobs.items n) ⊎ (plan.cells + 3 * pieces_before plan.jobs.items n ≤ w)
+    by : (w < plan.cells + pieces_before plan.jobs.items n → (j : ℕ) × (j < n) × (is_own_word plan (suc j) w ≡ true))
+        → (w < plan.cells + pieces_before plan.jobs.items n) ⊎ (plan.cells + pieces_before plan.jobs.items n ≤ w)
         → (j : ℕ) × (j < suc n) × (is_own_word plan (suc j) w ≡ true)
     by more (inl lt) = let r = more lt in (r.0, (let l = r.1 in omega arith), r.2)
     by more (inr ge) = (
@@ -65,7 +65,7 @@ whose plan (suc n) w lo hi = by (whose plan n w lo) (cases_lt w (plan.cells + 3 
     )
 
 module _ (x : Outline) (small : x.plan.cells < 2 ^ 32) (s : ScriptState) (d : Draft) (last final : Segment) (is_known : IsKnown s) (was : IsPlanned x s d)
-    (from : IsPlanFrom x d last final) (words : x.plan.words ≡ x.plan.cells + 3 * job_pieces x.plan) where
+    (from : IsPlanFrom x d last final) (words : x.plan.words ≡ x.plan.cells + job_pieces x.plan) where
   abbrev n : ℕ
   n = length d.jobs
 

@@ -163,10 +163,10 @@ module _ (x : Outline) (s : ScriptState) (o : Schedule) (k : Kernel) (run : Plan
 
   -- ---- what its pieces touch
 
-  own_is : (i w : ℕ) → i < N → has_word (record { from = own_word x.plan n i; end = own_word x.plan n i + 3; written = true }) w ≡ true
+  own_is : (i w : ℕ) → i < N → has_word (record { from = own_word x.plan n i; end = own_word x.plan n i + 1; written = true }) w ≡ true
       → is_own_word x.plan (suc n) w ≡ true
   own_is i w lt e =
-      let b = it_has (record { from = own_word x.plan n i; end = own_word x.plan n i + 3; written = true }) w e in
+      let b = it_has (record { from = own_word x.plan n i; end = own_word x.plan n i + 1; written = true }) w e in
       let lo = b.0 in
       let hi = b.1 in
       let here : pieces_in (job_at x.plan n) ≡ N = ap pieces_in has_job in

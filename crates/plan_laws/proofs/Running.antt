@@ -28,7 +28,7 @@ use Rattle.frame_core.specs.declared.plan.JobPlan.{JobPlan}
 use Rattle.frame_core.specs.declared.plan.Plan.{Plan}
 use Rattle.frame_core.specs.Names.{job_at, kernel_of, pieces_of, indexes_of}
 use Rattle.frame_core.specs.Pieces.{own_word}
-use Rattle.frame_core.specs.Effects.{noted, trap_number, part_run, part_ran, job_ran, piece_cells}
+use Rattle.frame_core.specs.Effects.{note_of, noted, part_run, part_ran, job_ran, piece_cells}
 use Rattle.frame_core.specs.Output.{job_trap}
 use Rattle.frame_core.specs.Ordered.{JobFits}
 use Rattle.plan_laws.specs.Drafts.{parts}
@@ -115,11 +115,7 @@ reads_word false b from to w u = ⊎_elim (uses_word b from to w) (length_word b
 -- notes lie behind the words of containers
 noted_keeps : (own : ℕ) (ts : List (ℕ × Trap)) (cells : Cells) (w : ℕ) → w < own → noted own ts cells w ≡ cells w
 noted_keeps own [] cells w lt = refl
-noted_keeps own (t ∷ more) cells w lt =
-    let one : Cells = with_cell cells own (Rattle.std.proofs.Common.pos (length more + 1)) in
-    with_cell-other (with_cell one (own + 1) (Rattle.std.proofs.Common.pos t.0)) (own + 2) (Rattle.std.proofs.Common.pos (trap_number t.1)) w (λ e. omega arith)
-    ∙ (with_cell-other one (own + 1) (Rattle.std.proofs.Common.pos t.0) w (λ e. omega arith)
-    ∙ with_cell-other cells own (Rattle.std.proofs.Common.pos (length more + 1)) w (λ e. omega arith))
+noted_keeps own (t ∷ more) cells w lt = with_cell-other cells own (Rattle.std.proofs.Common.pos (note_of (t ∷ more))) w (λ e. omega arith)
 
 module _ (plan : Plan) (j : ℕ) (job : JobPlan) (kernel : Kernel) (has_job : job_at plan j ≡ Some job) (has_kernel : kernel_of plan job ≡ Some kernel)
     (checked : IsChecked kernel) (fits : JobFits plan job kernel) where

@@ -31,7 +31,7 @@ FinishedPlansAreOrdered = (x : Outline) (s : ScriptState) (d : Draft) (last fina
     → IsKnown s
     → IsPlanned x s d
     → IsPlanFrom x d last final
-    → x.plan.words ≡ x.plan.cells + 3 * job_pieces x.plan
+    → x.plan.words ≡ x.plan.cells + job_pieces x.plan
     → ConflictsLead (graph_of x.plan)
 
 -- The finished plan is well ordered. Its run in script order gives the output of the script from where the section

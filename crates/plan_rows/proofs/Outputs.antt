@@ -65,8 +65,8 @@ module _ (at : Place) where
   unfolding plan_lines op_line op_answer op_cells contents_in before_piece graph_of script_order place_of piece_cells digits fresh full_steps
   lines_past = rw (past_0, past_1, past_2) refl
 
-  -- the own words of the last piece: one trap, at index 4, and it is Range
-  notes_past : map (cells_after (past_the_end at)) (9 ∷ 12 ∷ 15 ∷ 16 ∷ 17 ∷ []) ≡ pos 0 ∷ pos 0 ∷ pos 1 ∷ pos 4 ∷ pos 3 ∷ []
+  -- the own word of the last piece: one trap, at index 4, and it is Range, 3 * 2 ^ 48 + 4 * 2 ^ 24 + 1
+  notes_past : map (cells_after (past_the_end at)) (9 ∷ 10 ∷ 11 ∷ []) ≡ pos 0 ∷ pos 0 ∷ pos 844424997240833 ∷ []
   unfolding cells_after op_cells graph_of script_order piece_cells fresh full_steps
   notes_past = rw (past_0, past_1, past_2) refl
 

@@ -29,8 +29,8 @@ module _ (at : Place) where
   unfolding plan_lines plan_traps op_line op_answer op_cells contents_in before_piece graph_of script_order place_of piece_cells digits fresh full_steps
   output_restricted = rw restricted_0 refl
 
-  -- the own words: three traps, the first at index 0, and it is OwnIndex
-  notes_restricted : map (cells_after (restricted at)) (4 ∷ 5 ∷ 6 ∷ []) ≡ pos 3 ∷ pos 0 ∷ pos 4 ∷ []
+  -- the own word: three traps, the first at index 0, and it is OwnIndex, 4 * 2 ^ 48 + 3
+  notes_restricted : map (cells_after (restricted at)) (4 ∷ []) ≡ pos 1125899906842627 ∷ []
   unfolding cells_after op_cells graph_of script_order piece_cells fresh full_steps
   notes_restricted = rw restricted_0 refl
 
@@ -75,12 +75,12 @@ module _ (at : Place) where
   abbrev before_3 : Cells
   before_3 = with_cell (with_cell (with_cell (with_cell (with_cell before_2 6 (pos 1)) 7 (pos 2)) 6 (pos 2)) 8 (pos 2)) 6 (pos 3)
 
-  -- the third item of index 3 finds no room: one trap, at index 3, and it is Full
+  -- the third item of index 3 finds no room: one trap, at index 3, and it is Full, 5 * 2 ^ 48 + 3 * 2 ^ 24 + 1
   abbrev stored_3 : Cells
   stored_3 = with_cell (with_cell (with_cell (with_cell (with_cell before_3 9 (pos 1)) 10 (pos 3)) 9 (pos 2)) 11 (pos 3)) 9 (pos 3)
 
   abbrev all_after : Cells
-  all_after = with_cell (with_cell (with_cell stored_3 21 (pos 1)) 22 (pos 3)) 23 (pos 5)
+  all_after = with_cell stored_3 15 (pos 1407374933884929)
 
   after_0 : ◌≡◌ {A = Cells} (piece_cells (emitted at) (OfJob 0 0) before_0) before_1
   unfolding piece_cells fresh full_steps

@@ -91,7 +91,7 @@ chained at = plan at (scale ∷ total ∷ []) ("x" ∷ "y" ∷ "t" ∷ "h1" ∷ 
     ∷ segment at [] [] (Some 2)
     ∷ segment at (1 ∷ 2 ∷ []) (print 19 2 (ref 8) ∷ []) None
     ∷ segment at (1 ∷ 2 ∷ []) [] None
-    ∷ []) 9 18
+    ∷ []) 9 12
 
 -- array a 2 = 1 2 / reference t / schedule h peek(a, t) / dispose a after h as d / array b 2 = 8 9 / complete d / array c 2 / print t / print b
 abbrev pub reused : Place → Plan
@@ -101,7 +101,7 @@ reused at = plan at (peek ∷ []) ("a" ∷ "t" ∷ "h" ∷ "d" ∷ "b" ∷ "c" �
     ∷ segment at [] (fill_of 17 4 3 2 1 ∷ []) None
     ∷ segment at (1 ∷ []) (fill 19 5 0 2 ∷ print 20 1 (ref 2) ∷ print 21 4 (array 3 2 0) ∷ []) None
     ∷ segment at (1 ∷ []) [] None
-    ∷ []) 5 8
+    ∷ []) 5 6
 
 -- array x 5 = 1 2 3 4 5 / array y 4 / schedule h scale(x, y) 5 2 / complete h / print y
 abbrev pub past_the_end : Place → Plan
@@ -110,7 +110,7 @@ past_the_end at = plan at (scale ∷ []) ("x" ∷ "y" ∷ "h" ∷ []) (numbers (
     (segment at [] (fill_of 13 0 0 5 0 ∷ fill 14 1 5 4 ∷ []) (Some 1)
     ∷ segment at (1 ∷ []) (print 17 1 (array 5 4 0) ∷ []) None
     ∷ segment at (1 ∷ []) [] None
-    ∷ []) 9 18
+    ∷ []) 9 12
 
 -- array a 1 / array b 1 / schedule h1 slow(a) / schedule h2 quick(b)
 abbrev pub two_traps : Place → Plan
@@ -120,7 +120,7 @@ two_traps at = plan at (slow ∷ quick ∷ []) ("a" ∷ "b" ∷ "h1" ∷ "h2" �
     ∷ segment at [] [] (Some 2)
     ∷ segment at [] [] None
     ∷ segment at (1 ∷ 2 ∷ []) [] None
-    ∷ []) 2 8
+    ∷ []) 2 4
 
 -- array b 4 = 1 0 0 0 / schedule h shift(b) 3 64 / complete h / print b
 abbrev pub restricted : Place → Plan
@@ -129,7 +129,7 @@ restricted at = plan at (shift ∷ []) ("b" ∷ "h" ∷ []) (numbers (1 ∷ 0 �
     (segment at [] (fill_of 13 0 0 4 0 ∷ []) (Some 1)
     ∷ segment at (1 ∷ []) (print 16 0 (array 0 4 0) ∷ []) None
     ∷ segment at (1 ∷ []) [] None
-    ∷ []) 4 7
+    ∷ []) 4 5
 
 -- a job of a parallel kernel with a waiver: one piece, in which no own-index rule holds
 abbrev pub waived_job : Place → ℕ → List Bind → ℕ → ℕ → List ℕ → ℕ → JobPlan
@@ -149,7 +149,7 @@ waived at = plan at (shift ∷ []) ("b" ∷ "h" ∷ []) (numbers (1 ∷ 0 ∷ 0 
     (segment at [] (fill_of 13 0 0 4 0 ∷ []) (Some 1)
     ∷ segment at (1 ∷ []) (print 16 0 (array 0 4 0) ∷ []) None
     ∷ segment at (1 ∷ []) [] None
-    ∷ []) 4 7
+    ∷ []) 4 5
 
 -- stream s 4 2 / schedule h emit(s) 4 1 / complete h / print s
 abbrev pub emitted : Place → Plan
@@ -158,4 +158,4 @@ emitted at = plan at (emit ∷ []) ("s" ∷ "h" ∷ []) []
     (segment at [] (fill 13 0 0 12 ∷ []) (Some 1)
     ∷ segment at (1 ∷ []) (print 16 0 (stream 0 4 2 false) ∷ []) None
     ∷ segment at (1 ∷ []) [] None
-    ∷ []) 12 24
+    ∷ []) 12 16

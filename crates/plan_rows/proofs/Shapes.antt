@@ -45,23 +45,23 @@ module _ (at : Place) where
   predecessors_chained = refl
 
   reads_chained : map (λ x. read_words (chained at) x 20) (OfJob 0 0 ∷ OfJob 0 1 ∷ OfJob 1 0 ∷ OfScript 1 ∷ OfScript 2 ∷ OfScript 3 ∷ [])
-      ≡ (0 ∷ 1 ∷ 2 ∷ 3 ∷ 4 ∷ 5 ∷ 9 ∷ 10 ∷ 11 ∷ []) ∷ (0 ∷ 1 ∷ 2 ∷ 3 ∷ 6 ∷ 7 ∷ 12 ∷ 13 ∷ 14 ∷ []) ∷ (4 ∷ 5 ∷ 6 ∷ 7 ∷ 8 ∷ 15 ∷ 16 ∷ 17 ∷ []) ∷ [] ∷ (8 ∷ [])
-      ∷ (9 ∷ 10 ∷ 11 ∷ 12 ∷ 13 ∷ 14 ∷ 15 ∷ 16 ∷ 17 ∷ []) ∷ []
+      ≡ (0 ∷ 1 ∷ 2 ∷ 3 ∷ 4 ∷ 5 ∷ 9 ∷ []) ∷ (0 ∷ 1 ∷ 2 ∷ 3 ∷ 6 ∷ 7 ∷ 10 ∷ []) ∷ (4 ∷ 5 ∷ 6 ∷ 7 ∷ 8 ∷ 11 ∷ []) ∷ [] ∷ (8 ∷ [])
+      ∷ (9 ∷ 10 ∷ 11 ∷ []) ∷ []
   unfolding touches
   reads_chained = refl
 
   writes_chained : map (λ x. written_words (chained at) x 20) (OfJob 0 0 ∷ OfJob 0 1 ∷ OfJob 1 0 ∷ OfScript 0 ∷ OfScript 2 ∷ OfScript 3 ∷ [])
-      ≡ (4 ∷ 5 ∷ 9 ∷ 10 ∷ 11 ∷ []) ∷ (6 ∷ 7 ∷ 12 ∷ 13 ∷ 14 ∷ []) ∷ (8 ∷ 15 ∷ 16 ∷ 17 ∷ []) ∷ (0 ∷ 1 ∷ 2 ∷ 3 ∷ 4 ∷ 5 ∷ 6 ∷ 7 ∷ 8 ∷ []) ∷ [] ∷ [] ∷ []
+      ≡ (4 ∷ 5 ∷ 9 ∷ []) ∷ (6 ∷ 7 ∷ 10 ∷ []) ∷ (8 ∷ 11 ∷ []) ∷ (0 ∷ 1 ∷ 2 ∷ 3 ∷ 4 ∷ 5 ∷ 6 ∷ 7 ∷ 8 ∷ []) ∷ [] ∷ [] ∷ []
   unfolding touches
   writes_chained = refl
 
   -- the segment that makes c touches the words that a had, after the job that used them
-  writes_reused : map (λ x. written_words (reused at) x 9) (OfScript 0 ∷ OfJob 0 0 ∷ OfScript 1 ∷ OfScript 2 ∷ []) ≡ (0 ∷ 1 ∷ 2 ∷ []) ∷ (2 ∷ 5 ∷ 6 ∷ 7 ∷ [])
+  writes_reused : map (λ x. written_words (reused at) x 9) (OfScript 0 ∷ OfJob 0 0 ∷ OfScript 1 ∷ OfScript 2 ∷ []) ≡ (0 ∷ 1 ∷ 2 ∷ []) ∷ (2 ∷ 5 ∷ [])
       ∷ (3 ∷ 4 ∷ []) ∷ (0 ∷ 1 ∷ []) ∷ []
   unfolding touches
   writes_reused = refl
 
-  reads_reused : map (λ x. read_words (reused at) x 9) (OfJob 0 0 ∷ OfScript 2 ∷ []) ≡ (0 ∷ 1 ∷ 2 ∷ 5 ∷ 6 ∷ 7 ∷ []) ∷ (0 ∷ 1 ∷ 2 ∷ 3 ∷ 4 ∷ []) ∷ []
+  reads_reused : map (λ x. read_words (reused at) x 9) (OfJob 0 0 ∷ OfScript 2 ∷ []) ≡ (0 ∷ 1 ∷ 2 ∷ 5 ∷ []) ∷ (0 ∷ 1 ∷ 2 ∷ 3 ∷ 4 ∷ []) ∷ []
   unfolding touches
   reads_reused = refl
 
@@ -70,8 +70,8 @@ module _ (at : Place) where
   predecessors_reused = refl
 
   -- the last piece has no place of y
-  writes_past : map (λ x. written_words (past_the_end at) x 18) (OfJob 0 0 ∷ OfJob 0 1 ∷ OfJob 0 2 ∷ []) ≡ (5 ∷ 6 ∷ 9 ∷ 10 ∷ 11 ∷ [])
-      ∷ (7 ∷ 8 ∷ 12 ∷ 13 ∷ 14 ∷ []) ∷ (15 ∷ 16 ∷ 17 ∷ []) ∷ []
+  writes_past : map (λ x. written_words (past_the_end at) x 18) (OfJob 0 0 ∷ OfJob 0 1 ∷ OfJob 0 2 ∷ []) ≡ (5 ∷ 6 ∷ 9 ∷ [])
+      ∷ (7 ∷ 8 ∷ 10 ∷ []) ∷ (11 ∷ []) ∷ []
   unfolding touches
   writes_past = refl
 
@@ -80,11 +80,11 @@ module _ (at : Place) where
   predecessors_traps = refl
 
   -- the index range of the only piece, and the whole array where the rule is waived
-  writes_restricted : written_words (restricted at) (OfJob 0 0) 7 ≡ 0 ∷ 1 ∷ 2 ∷ 4 ∷ 5 ∷ 6 ∷ []
+  writes_restricted : written_words (restricted at) (OfJob 0 0) 7 ≡ 0 ∷ 1 ∷ 2 ∷ 4 ∷ []
   unfolding touches
   writes_restricted = refl
 
-  writes_waived : written_words (waived at) (OfJob 0 0) 7 ≡ 0 ∷ 1 ∷ 2 ∷ 3 ∷ 4 ∷ 5 ∷ 6 ∷ []
+  writes_waived : written_words (waived at) (OfJob 0 0) 7 ≡ 0 ∷ 1 ∷ 2 ∷ 3 ∷ 4 ∷ []
   unfolding touches
   writes_waived = refl
 
@@ -100,15 +100,15 @@ module _ (at : Place) where
   unfolding script_order
   order_emitted = refl
 
-  -- each piece has the three words of its index, and its own words
+  -- each piece has the three words of its index, and its own word
   writes_emitted : map (λ x. written_words (emitted at) x 24) (OfJob 0 0 ∷ OfJob 0 1 ∷ OfJob 0 3 ∷ [])
-      ≡ (0 ∷ 1 ∷ 2 ∷ 12 ∷ 13 ∷ 14 ∷ []) ∷ (3 ∷ 4 ∷ 5 ∷ 15 ∷ 16 ∷ 17 ∷ []) ∷ (9 ∷ 10 ∷ 11 ∷ 21 ∷ 22 ∷ 23 ∷ []) ∷ []
+      ≡ (0 ∷ 1 ∷ 2 ∷ 12 ∷ []) ∷ (3 ∷ 4 ∷ 5 ∷ 13 ∷ []) ∷ (9 ∷ 10 ∷ 11 ∷ 15 ∷ []) ∷ []
   unfolding touches
   writes_emitted = refl
 
   -- the print reads the whole stream, and the last segment all own words
   reads_emitted : map (λ x. read_words (emitted at) x 24) (OfScript 1 ∷ OfScript 2 ∷ [])
-      ≡ (0 ∷ 1 ∷ 2 ∷ 3 ∷ 4 ∷ 5 ∷ 6 ∷ 7 ∷ 8 ∷ 9 ∷ 10 ∷ 11 ∷ []) ∷ (12 ∷ 13 ∷ 14 ∷ 15 ∷ 16 ∷ 17 ∷ 18 ∷ 19 ∷ 20 ∷ 21 ∷ 22 ∷ 23 ∷ []) ∷ []
+      ≡ (0 ∷ 1 ∷ 2 ∷ 3 ∷ 4 ∷ 5 ∷ 6 ∷ 7 ∷ 8 ∷ 9 ∷ 10 ∷ 11 ∷ []) ∷ (12 ∷ 13 ∷ 14 ∷ 15 ∷ []) ∷ []
   unfolding touches
   reads_emitted = refl
 

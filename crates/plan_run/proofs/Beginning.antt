@@ -18,7 +18,7 @@ use Rattle.frame_core.specs.Names.{name_of, ops_in, segment_at}
 use Rattle.frame_core.specs.Pieces.{own_word}
 use Rattle.frame_core.specs.Effects.{part_run, piece_cells}
 use Rattle.frame_core.specs.Graphs.{before_piece}
-use Rattle.frame_core.specs.Laws.{TellTraps}
+use Rattle.frame_core.specs.Laws.{TellsTraps}
 use Rattle.frame_core.specs.Operations.{first_cells, act_cells, act_answer, cells_or, op_cells, op_answer, ops_cells, ops_refused, one_if_refused}
 use Rattle.frame_core.specs.Ordered.{IsWellOrderedPlan, IsLiteral, ActFits, ActStands, OpFits, OpsStand}
 use Rattle.frame_core.specs.Output.{answer_line, op_line, ops_lines}
@@ -168,9 +168,8 @@ filled_below : (plan : Plan) (ops : List Op) → All (OpFits plan) ops → fille
 filled_below plan [] fits = omega arith
 filled_below plan (op ∷ more) fits = filled_act plan op.act (fits 0 op (omega arith)).act
 
-tell_same : (own : ℕ) (traps : List (ℕ × Trap)) (a b : Cells) → Meet own a b → TellTraps own traps b → TellTraps own traps a
-tell_same own [] a b h p = h own (omega arith) ∙ p
-tell_same own (t ∷ more) a b h p = (h own (omega arith) ∙ p.0, h (own + 1) (omega arith) ∙ p.1, h (own + 2) (omega arith) ∙ p.2)
+tell_same : (own : ℕ) (traps : List (ℕ × Trap)) (a b : Cells) → Meet own a b → TellsTraps own traps b → TellsTraps own traps a
+tell_same own traps a b h p = h own (omega arith) ∙ p
 
 module _ (plan : Plan) (well : IsWellOrderedPlan plan) where
   alike_at : (i : ℕ) (cells : Cells) → Alike plan (ops_in (segment_at plan i)) cells (before_piece plan (OfScript i))

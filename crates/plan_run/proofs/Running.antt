@@ -1,9 +1,9 @@
 -- Segments that are run one after another.
 use Rattle.std.proofs.Common.{◌≡◌, ℕ, suc, ◌+◌, ◌<◌, ◌^◌, false, List, [], ◌++◌, length, take, Option, sym, ap, subst, ◌∙◌, arith, append-nil}
 use Rattle.std.specs.Io.KnownBytes.{Appends}
-use Rattle.frame_print.specs.declared.report.Report.{Report}
+use Rattle.frame_core.specs.declared.report.Report.{Report}
 use Rattle.frame_print.specs.Gathering.{Joins}
-use Rattle.frame_print.specs.Reports.{IsReportOf}
+use Rattle.frame_core.specs.Reports.{IsReportOf}
 use Rattle.frame_core.specs.declared.plan.Plan.{Plan}
 use Rattle.frame_core.specs.Output.{lines_of, segment_lines, refused_of, segment_refused, plan_lines, plan_refused, plan_traps}
 use Rattle.frame_core.specs.Ordered.{IsWellOrderedPlan}

@@ -5,8 +5,8 @@ use Rattle.std.proofs.lemmas.Grind.{common_steps}
 use Rattle.job_base.specs.declared.Trap.{Trap}
 use Rattle.job_base.specs.declared.limits.TheConstants.{MOST_INDEXES}
 use Rattle.frame_ast.specs.States.{JobTrap}
-use Rattle.frame_print.specs.declared.report.Report.{Report}
-use Rattle.frame_print.specs.Reports.{Names, IsReportOf}
+use Rattle.frame_core.specs.declared.report.Report.{Report}
+use Rattle.frame_core.specs.Reports.{Names, IsReportOf}
 use Rattle.merge_laws.specs.Graph.{Cells}
 use Rattle.frame_core.specs.declared.piece.Piece.{Piece}
 use Rattle.frame_core.specs.declared.piece.Piece.TheVariants.{OfScript, OfJob}
@@ -17,7 +17,7 @@ use Rattle.frame_core.specs.Pieces.{piece_numbered, number_of, own_word, IsPiece
 use Rattle.frame_core.specs.Output.{job_trap, piece_traps, first_traps, plan_traps}
 use Rattle.kernel_exec.specs.Notes.{IsNoteOf}
 use Rattle.frame_core.specs.Ordered.{IsWellOrderedPlan}
-use Rattle.frame_core.specs.Laws.{TellTraps, AreIndexesBelow}
+use Rattle.frame_core.specs.Laws.{TellsTraps, AreIndexesBelow}
 use Rattle.frame_core.proofs.Small.{some_is, none_some, get_below}
 use Rattle.frame_core.proofs.Numbered.{of_job, number_numbered}
 use Rattle.frame_core.proofs.OwnWords.{traps_are_told}
@@ -100,16 +100,16 @@ module _ (plan : Plan) (p : ℕ) (lt : p < job_pieces plan) where
         let n = of_job plan p lt in
         subst (λ (y : Piece). length (piece_run plan y) ≤ MOST_INDEXES) (sym n.2) (traps_are_told plan well n.0 n.1 (is_piece n.0 n.1 n.2)).few
 
-    pub told_piece : (own : ℕ) (cells : Cells) (notes : Notes) → own ≡ plan.cells + 3 * p → TellAll plan cells
-        → ((traps : List (ℕ × Trap)) → TellTraps own traps cells → length traps ≤ MOST_INDEXES → AreIndexesBelow MOST_INDEXES traps → IsNoteOf traps notes)
+    pub told_piece : (own : ℕ) (cells : Cells) (notes : Notes) → own ≡ plan.cells + p → TellAll plan cells
+        → ((traps : List (ℕ × Trap)) → TellsTraps own traps cells → length traps ≤ MOST_INDEXES → AreIndexesBelow MOST_INDEXES traps → IsNoteOf traps notes)
         → NotesPiece plan p notes
     told_piece own cells notes at tells f =
         let n = of_job plan p lt in
         let is = is_piece n.0 n.1 n.2 in
         let told = traps_are_told plan well n.0 n.1 is in
         let number : p ≡ number_of plan (OfJob n.0 n.1) = (number_numbered plan p (omega (arith, lt))).number ∙ ap (number_of plan) n.2 in
-        let same : own ≡ own_word plan n.0 n.1 = at ∙ ap (λ k. plan.cells + 3 * k) number in
-        let here = subst (λ k. TellTraps k (piece_run plan (OfJob n.0 n.1)) cells) (sym same) (tells n.0 n.1 is) in
+        let same : own ≡ own_word plan n.0 n.1 = at ∙ ap (λ k. plan.cells + k) number in
+        let here = subst (λ k. TellsTraps k (piece_run plan (OfJob n.0 n.1)) cells) (sym same) (tells n.0 n.1 is) in
         subst (λ (y : Piece). IsNoteOf (piece_run plan y) notes) (sym n.2) (f (piece_run plan (OfJob n.0 n.1)) here told.few told.below)
 
 pub all_counted : (plan : Plan) (p : ℕ) (report : Report) → p ≡ job_pieces plan → IsReportOf (first_traps plan p) report → IsReportOf (plan_traps plan) report

@@ -19,7 +19,7 @@ use Rattle.frame_core.specs.Output.{answer_line, ops_lines, segment_lines, segme
 use Rattle.frame_core.specs.Pieces.{own_word, IsPieceOf, piece_numbered}
 use Rattle.frame_core.specs.Effects.{part_run, piece_cells}
 use Rattle.frame_core.specs.Graphs.{before_piece}
-use Rattle.frame_core.specs.Laws.{TellTraps}
+use Rattle.frame_core.specs.Laws.{TellsTraps}
 use Rattle.kernel_exec.specs.Notes.{IsNoteOf}
 
 -- the words of a container stand for contents where it is printed
@@ -34,7 +34,7 @@ MayReadOwn plan readable = (w : ℕ) → plan.cells ≤ w → w < plan.words →
 -- the own words of all pieces of jobs tell the traps of the run in script order
 abbrev pub TellAll : Plan → Cells → Type 0
 TellAll plan cells = (j i : ℕ) → IsPieceOf plan (OfJob j i)
-    → TellTraps (own_word plan j i) (part_run plan j i (before_piece plan (OfJob j i))).traps cells
+    → TellsTraps (own_word plan j i) (part_run plan j i (before_piece plan (OfJob j i))).traps cells
 
 abbrev pub one_if : Bool → ℕ
 one_if b = if b then 1 else 0

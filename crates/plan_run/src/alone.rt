@@ -12,8 +12,8 @@ ghost use Rattle.plan_run.specs.ScriptOrder.{AllowsAll, AreFresh, IsJobOf, befor
 
 use crate::segment::run_alike;
 use crate::tally::{no_traps, with_refused};
-use frame_core::Plan;
-use frame_print::{Outgoing, Report};
+use frame_core::{Plan, Report};
+use frame_print::Outgoing;
 use job_base::{JobId, Mem, Sink};
 use kernel_machine::Scratch;
 use piece_run::run_piece;

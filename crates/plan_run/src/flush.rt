@@ -2,10 +2,11 @@
 ghost use Rattle.std.specs.Prelude.{◌≡◌, ◌≤◌, List, [], false};
 ghost use Rattle.frame_ast.specs.States.{JobTrap};
 ghost use Rattle.frame_ast.specs.Texts.{traps_text};
-ghost use Rattle.frame_print.specs.Reports.{IsReportOf};
+ghost use Rattle.frame_core.specs.Reports.{IsReportOf};
 ghost use Rattle.plan_run.specs.Says.{SaysTo};
 
-use frame_print::{Outgoing, Report};
+use frame_core::Report;
+use frame_print::Outgoing;
 use job_base::{Sink, SinkFault};
 
 /// Writes the lines that wait, unless a write failed before.

@@ -1,6 +1,6 @@
 // How a run ended.
 
-use frame_print::Report;
+use frame_core::Report;
 
 /// How a run ended. The report is that of the whole run, whatever was written.
 #[derive(Clone, Copy, Debug, PartialEq, Eq)]

@@ -1,6 +1,6 @@
 // A segment, on any memory.
 ghost use Rattle.std.specs.Prelude.{◌≡◌, ◌<◌, ◌≤◌, ◌+◌, ◌^◌, true, length};
-ghost use Rattle.frame_print.specs.Reports.{IsReportOf};
+ghost use Rattle.frame_core.specs.Reports.{IsReportOf};
 ghost use Rattle.frame_core.specs.declared.piece.Piece.TheVariants.{OfScript};
 ghost use Rattle.frame_core.specs.Effects.{touches};
 ghost use Rattle.frame_core.specs.Graphs.{before_piece};
@@ -12,8 +12,8 @@ ghost use Rattle.plan_run.specs.Says.{SaysTo};
 
 use crate::lines::run_ops;
 use crate::tally::{count_traps, no_traps};
-use frame_core::Plan;
-use frame_print::{Outgoing, Report};
+use frame_core::{Plan, Report};
+use frame_print::Outgoing;
 use job_base::{Mem, Sink};
 
 // Counts the traps, at the last segment alone.

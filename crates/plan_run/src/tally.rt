@@ -1,16 +1,15 @@
 // The traps of a run, counted in the own words of its pieces.
-ghost use Rattle.std.specs.Prelude.{◌≡◌, ◌≤◌, ◌<◌, ◌+◌, ◌*◌, List, []};
+ghost use Rattle.std.specs.Prelude.{◌≡◌, ◌≤◌, ◌<◌, ◌+◌, ◌*◌, List, [], Some};
 ghost use Rattle.job_base.specs.declared.Trap.{Trap};
 ghost use Rattle.job_base.specs.declared.limits.TheConstants.{MOST_INDEXES};
 ghost use Rattle.frame_ast.specs.States.{JobTrap};
-ghost use Rattle.frame_print.specs.Reports.{IsReportOf};
+ghost use Rattle.frame_core.specs.Reports.{IsReportOf};
 ghost use Rattle.frame_core.specs.Names.{job_pieces};
 ghost use Rattle.frame_core.specs.Output.{first_traps, plan_traps};
 ghost use Rattle.frame_core.specs.Ordered.{IsWellOrderedPlan};
 ghost use Rattle.plan_run.specs.Lines.{MayReadOwn, TellAll, NotesPiece};
 
-use frame_core::{Piece, Plan, read_notes};
-use frame_print::Report;
+use frame_core::{Piece, Plan, Report, read_notes};
 use job_base::{JobId, Mem, PieceId, Trap};
 use kernel_exec::Notes;
 
@@ -36,19 +35,20 @@ pub fn with_refused(report: &Report, refused: u64) -> Report
     Report { refused, ..*report }
 }
 
-// The report with the traps of piece p.
-fn with_notes(plan: &Plan, p: u32, notes: &Notes, report: &Report) -> Report
+// The report with the traps of piece p, of which the first one is handed in. Few pieces have any, so this stands apart
+// from the loop over all of them.
+#[inline(never)]
+fn with_traps(plan: &Plan, p: u32, notes: &Notes, first: (u32, Trap), report: &Report) -> Report
     requires well { IsWellOrderedPlan plan.now }
     requires piece { p < job_pieces plan.now }
     requires notes { NotesPiece plan.now p notes.now }
+    requires first { notes.now.first ≡ Some first }
     requires few { report.now.traps ≤ MOST_INDEXES * p }
     requires report { IsReportOf (first_traps plan.now p) report.now }
     ensures few { result.traps ≤ MOST_INDEXES * (p + 1) }
     ensures report { IsReportOf (first_traps plan.now (p + 1)) result }
 {
-    let Some((index, trap)) = notes.first else {
-        return *report;
-    };
+    let (index, trap) = first;
     let traps = report.traps + u64::from(notes.count);
     if report.traps > 0 {
         return Report { traps, ..*report };
@@ -65,7 +65,22 @@ fn with_notes(plan: &Plan, p: u32, notes: &Notes, report: &Report) -> Report
     }
 }
 
-// Reads what the own words of piece p say of its traps.
+// Adds the traps of piece p to the report.
+fn add_notes(plan: &Plan, p: u32, notes: &Notes, report: &mut Report)
+    requires well { IsWellOrderedPlan plan.now }
+    requires piece { p < job_pieces plan.now }
+    requires notes { NotesPiece plan.now p notes.now }
+    requires few { report.old.traps ≤ MOST_INDEXES * p }
+    requires report { IsReportOf (first_traps plan.now p) report.old }
+    ensures few { report.new.traps ≤ MOST_INDEXES * (p + 1) }
+    ensures report { IsReportOf (first_traps plan.now (p + 1)) report.new }
+{
+    if let Some(first) = notes.first {
+        *report = with_traps(plan, p, notes, first, report);
+    }
+}
+
+// Reads what the own word of piece p says of its traps.
 fn read_piece<M: Mem>(plan: &Plan, p: u32, mem: &mut M) -> Notes
     requires well { IsWellOrderedPlan plan.now }
     requires piece { p < job_pieces plan.now }
@@ -76,7 +91,7 @@ fn read_piece<M: Mem>(plan: &Plan, p: u32, mem: &mut M) -> Notes
     ensures readable { M.readable mem.new ≡ M.readable mem.old }
     ensures writable { M.writable mem.new ≡ M.writable mem.old }
 {
-    read_notes(plan.cells + 3 * p, mem)
+    read_notes(plan.cells + p, mem)
 }
 
 /// Counts the traps of all pieces, and finds the first one.
@@ -92,7 +107,7 @@ pub fn count_traps<M: Mem>(plan: &Plan, mem: &mut M) -> Report
     let mut report = no_traps();
     for p in 0..plan.job_pieces() {
         let notes = read_piece(plan, p, mem);
-        report = with_notes(plan, p, &notes, &report);
+        add_notes(plan, p, &notes, &mut report);
     }
     report
 }

@@ -1,4 +1,4 @@
-use Rattle.std.proofs.Common.{ℕ, ◌+◌, ◌*◌, ◌<◌, ◌∙◌, IsTrue, Bool, sym, ap, subst, arith}
+use Rattle.std.proofs.Common.{ℕ, ◌+◌, ◌<◌, ◌∙◌, IsTrue, Bool, sym, ap, subst, arith}
 use Rattle.frame_core.specs.Names.{pieces_of}
 use Rattle.frame_core.proofs.PartRuns as part
 use Rattle.kernel_machine.specs.Visits.{binds_in, kernel_in}
@@ -73,19 +73,6 @@ overflow_add-visit g c =
     let words = c.requires.well.sized.words in
     omega arith
 
-pub overflow_mul-visit : goal.overflow_mul-visit
-overflow_mul-visit g c =
-    let plan = c.args.plan.now in
-    let visit = c.args.visit.now in
-    let v = c.requires.visit in
-    let k = kernel_in visit.visit in
-    let i = c.args.i in
-    let x = visit.job.now in
-    let low : i < pieces_of x = below_pieces plan visit.place i x v.job c.requires.piece in
-    let within = part.own_within plan c.requires.well visit.place i x k v.job v.kernel low in
-    let words = c.requires.well.sized.words in
-    omega arith
-
 pub overflow_add-plan : goal.overflow_add-plan
 overflow_add-plan g c =
     let plan = c.args.plan.now in
@@ -99,21 +86,8 @@ overflow_add-plan g c =
     let words = c.requires.well.sized.words in
     omega arith
 
-pub write_notes-requires-clause-fits : goal.write_notes-requires-clause-fits
-write_notes-requires-clause-fits g c =
-    let plan = c.args.plan.now in
-    let visit = c.args.visit.now in
-    let v = c.requires.visit in
-    let k = kernel_in visit.visit in
-    let i = c.args.i in
-    let x = visit.job.now in
-    let low : i < pieces_of x = below_pieces plan visit.place i x v.job c.requires.piece in
-    let within = part.own_within plan c.requires.well visit.place i x k v.job v.kernel low in
-    let words = c.requires.well.sized.words in
-    omega arith
-
-pub write_notes-requires-clause-writable : goal.write_notes-requires-clause-writable
-write_notes-requires-clause-writable g c n lt =
+pub write_notes-requires : goal.write_notes-requires
+write_notes-requires g c =
     let plan = c.args.plan.now in
     let visit = c.args.visit.now in
     let v = c.requires.visit in
@@ -121,9 +95,11 @@ write_notes-requires-clause-writable g c n lt =
     let i = c.args.i in
     let x = visit.job.now in
     let first = part.own_is plan c.requires.well visit.place i x k v.job v.kernel in
-    subst (λ (f : ℕ → Bool). IsTrue (f (plan.cells + 3 * (x.first.0 + i) + n))) (sym c.execute_span-notes.ensures.writable)
-    (part.may_note plan c.requires.well visit.place i x k v.job v.kernel (g.M.Mem.writable c.args.mem.now) c.requires.writable
-    (plan.cells + 3 * (x.first.0 + i) + n) (omega arith) (omega arith))
+    record {
+      writable = subst (λ (f : ℕ → Bool). IsTrue (f (plan.cells + (x.first.0 + i)))) (sym c.execute_span-notes.ensures.writable)
+          (part.may_note plan c.requires.well visit.place i x k v.job v.kernel (g.M.Mem.writable c.args.mem.now) c.requires.writable
+          (plan.cells + (x.first.0 + i)) (omega arith) (omega arith));
+    }
 
 pub returns-clause-cells : goal.returns-clause-cells
 returns-clause-cells g c =
@@ -137,7 +113,7 @@ returns-clause-cells g c =
     let first = part.own_is plan c.requires.well visit.place i x k v.job v.kernel in
     part.cells_as plan c.requires.well visit.place i x k v.job v.kernel (binds_in visit.visit) span v.binds c.indexes-span.ensures.indexes
     (g.M.Mem.cells c.args.mem.now) (g.M.Mem.cells c.execute_span-notes.new.mem) (g.M.Mem.cells c.write_notes.new.mem) c.execute_span-notes.result
-    (plan.cells + 3 * (x.first.0 + i)) (ap (λ (f : ℕ). plan.cells + 3 * (f + i)) first) c.execute_span-notes.ensures.cells
+    (plan.cells + (x.first.0 + i)) (ap (λ (f : ℕ). plan.cells + (f + i)) first) c.execute_span-notes.ensures.cells
     c.execute_span-notes.ensures.note c.write_notes.ensures.cells
 
 pub returns-clause-visit : goal.returns-clause-visit

@@ -1,5 +1,5 @@
 use Rattle.std.proofs.Common.{◌≡◌, ◌<◌, ◌≤◌, length}
-use Rattle.frame_print.specs.Reports.{IsReportOf}
+use Rattle.frame_core.specs.Reports.{IsReportOf}
 use Rattle.frame_core.specs.Graphs.{cells_after}
 use Rattle.frame_core.specs.Output.{lines_of, refused_of, plan_traps}
 use Rattle.plan_run.specs.Lines.{RunsAlike}

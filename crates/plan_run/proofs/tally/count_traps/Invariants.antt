@@ -1,6 +1,6 @@
 use Rattle.std.proofs.Common.{◌≡◌, ◌*◌, ◌≤◌}
 use Rattle.job_base.specs.declared.limits.TheConstants.{MOST_INDEXES}
-use Rattle.frame_print.specs.Reports.{IsReportOf}
+use Rattle.frame_core.specs.Reports.{IsReportOf}
 use Rattle.frame_core.specs.Output.{first_traps}
 use Rattle.plan_run.proofs.tally.count_traps.Given as goal
 

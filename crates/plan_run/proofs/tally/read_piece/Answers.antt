@@ -3,5 +3,5 @@ use Rattle.plan_run.proofs.Tallies.{told_piece}
 use Rattle.plan_run.proofs.tally.read_piece.Goals as goal
 
 pub returns-clause-notes : goal.returns-clause-notes
-returns-clause-notes g c = told_piece c.args.plan.now c.args.p c.requires.piece c.requires.well (c.args.plan.now.cells + 3 * c.args.p)
+returns-clause-notes g c = told_piece c.args.plan.now c.args.p c.requires.piece c.requires.well (c.args.plan.now.cells + c.args.p)
     (g.M.Mem.cells c.args.mem.now) c.read_notes.result refl c.requires.told c.read_notes.ensures.note

@@ -1,4 +1,4 @@
-use Rattle.std.proofs.Common.{◌≡◌, ◌+◌, ◌*◌, length, sym, ap, ◌∙◌, arith, rules}
+use Rattle.std.proofs.Common.{◌≡◌, ◌+◌, length, sym, ap, ◌∙◌, arith, rules}
 use Rattle.std.specs.Prelude.{slice_get}
 use Rattle.frame_core.specs.Pieces.{own_word}
 use Rattle.frame_core.proofs.PartRuns as part
@@ -9,14 +9,6 @@ use Rattle.frame_core.proofs.plan.Plan.part.Goals as goal
 
 pub overflow_add-own : goal.overflow_add-own
 overflow_add-own c =
-    let plan = c.args.self.now in
-    let x = c.index-job.result.now in
-    let within = own_there plan c.requires.well c.args.j c.args.i x c.requires.piece c.index-job.ensures in
-    let words = c.requires.well.sized.words in
-    omega arith
-
-pub overflow_mul-own : goal.overflow_mul-own
-overflow_mul-own c =
     let plan = c.args.self.now in
     let x = c.index-job.result.now in
     let within = own_there plan c.requires.well c.args.j c.args.i x c.requires.piece c.index-job.ensures in
@@ -97,8 +89,8 @@ returns-clause-touches c =
     let h = job_of_piece plan c.args.j c.args.i x c.requires.piece c.index-job.ensures in
     let k = c.index-kernel.result.now in
     let hk = kernel_there plan c.args.j x k c.requires.well h.job c.index-kernel.ensures in
-    let own : plan.cells + 3 * (x.first.0 + c.args.i) ≡ own_word plan c.args.j c.args.i =
-    ap (λ f. plan.cells + 3 * (f + c.args.i)) (part.own_is plan c.requires.well c.args.j c.args.i x k h.job hk) in
+    let own : plan.cells + (x.first.0 + c.args.i) ≡ own_word plan c.args.j c.args.i =
+    ap (λ f. plan.cells + (f + c.args.i)) (part.own_is plan c.requires.well c.args.j c.args.i x k h.job hk) in
     part_are plan c.requires.well c.args.j c.args.i x k h.job hk c.deref.result.now c.deref-2.result.now c.indexes-span.result
-    (plan.cells + 3 * (x.first.0 + c.args.i)) own
+    (plan.cells + (x.first.0 + c.args.i)) own
     c.deref.ensures.value c.deref-2.ensures.value c.indexes-span.ensures.indexes

@@ -1,6 +1,6 @@
 use Rattle.std.proofs.Common.{◌+◌, refl, sym, ap, ◌∙◌, arith}
 use Rattle.plan_run.proofs.Tallies.{few_more, more_next, first_next, job_below}
-use Rattle.plan_run.proofs.tally.with_notes.Goals as goal
+use Rattle.plan_run.proofs.tally.with_traps.Goals as goal
 
 pub returns-then-report-gt0-clause-few : goal.returns-then-report-gt0-clause-few
 returns-then-report-gt0-clause-few c =
@@ -30,7 +30,7 @@ returns-clause-report c =
       traps = c.args.report.now.traps + c.from.result;
       refused = c.args.report.now.refused;
       job = record { 0 = c.in-OfJob.j + 1 };
-      index = c.in-Some.index;
-      trap = c.in-Some.trap;
-    } c.args.notes.now c.requires.notes c.requires.report c.in-OfJob.j c.in-OfJob.field-1 c.in-Some.index c.in-Some.trap c.piece.result c.piece.ensures
-    c.in-OfJob.is c.in-Some.is c.if-report-gt0.false (ap (λ n. c.args.report.now.traps + n) c.from.ensures) refl refl refl
+      index = c.args.first.0;
+      trap = c.args.first.1;
+    } c.args.notes.now c.requires.notes c.requires.report c.in-OfJob.j c.in-OfJob.field-1 c.args.first.0 c.args.first.1 c.piece.result c.piece.ensures
+    c.in-OfJob.is c.requires.first c.if-report-gt0.false (ap (λ n. c.args.report.now.traps + n) c.from.ensures) refl refl refl
