@@ -5,8 +5,8 @@ use Rattle.std.proofs.lemmas.Grind.{common_steps}
 use Rattle.job_base.specs.declared.Trap.{Trap}
 use Rattle.job_base.specs.declared.limits.TheConstants.{MOST_INDEXES}
 use Rattle.frame_ast.specs.States.{JobTrap}
-use Rattle.frame_print.specs.declared.report.Report.{Report}
-use Rattle.frame_print.specs.Reports.{Names, IsReportOf}
+use Rattle.frame_core.specs.declared.report.Report.{Report}
+use Rattle.frame_core.specs.Reports.{Names, IsReportOf}
 use Rattle.frame_core.specs.declared.plan.Plan.{Plan}
 use Rattle.frame_core.specs.Names.{job_pieces, job_at}
 use Rattle.frame_core.specs.Output.{job_trap, first_traps, part_traps, parts_traps, jobs_traps, pieces_in, plan_traps}

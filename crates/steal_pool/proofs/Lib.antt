@@ -1,6 +1,7 @@
 mod Seating
 mod Placed
 mod Ready
+mod Chains
 mod Following
 mod Opening
 mod Leased

@@ -2,7 +2,7 @@
 use Rattle.std.specs.Prelude.{ℕ, ◌+◌, ◌*◌, ◌<◌, ◌≤◌, ◌^◌, List, map, length}
 use Rattle.job_base.specs.declared.limits.TheConstants.{MOST_INDEXES}
 use Rattle.frame_ast.specs.States.{JobTrap}
-use Rattle.frame_print.specs.declared.report.Report.{Report}
+use Rattle.frame_core.specs.declared.report.Report.{Report}
 use Rattle.frame_core.specs.declared.plan.Plan.{Plan}
 use Rattle.frame_core.specs.Names.{job_pieces}
 use Rattle.frame_core.specs.Ordered.{IsWellOrderedPlan}

@@ -1,7 +1,7 @@
 -- A run by turns: how far the script's thread is between two of its turns, what was said until then, and what a turn
 -- answers. Who calls the turns, and when, is decided by the caller alone.
 use Rattle.std.specs.Prelude.{◌≡◌, ℕ, ◌<◌, ◌≤◌, Bool, true, false, List, length, take, Option, Some}
-use Rattle.frame_print.specs.Reports.{IsReportOf}
+use Rattle.frame_core.specs.Reports.{IsReportOf}
 use Rattle.frame_core.specs.declared.plan.Plan.{Plan}
 use Rattle.frame_core.specs.Know.{Know}
 use Rattle.frame_core.specs.Names.{has_job, segment_at, waits_in}

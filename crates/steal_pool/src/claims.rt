@@ -16,6 +16,10 @@ pub type Token = Seat<u8, View>;
 /// How many indexes a small piece has at most. What a claim costs counts only where pieces are small.
 const SMALL_PIECE: u32 = 64;
 
+/// How many instructions of kernels are little work: some 10 µs. To share so little costs more than it gains, since
+/// each worker that comes to a job fetches the words of the job and of its pieces from the others.
+const LITTLE_WORK: u64 = 2048;
+
 /// For each job how many of its pieces were given out. So each piece is given to one worker, the first ones first.
 #[derive(Drop)]
 pub struct Claims {
@@ -68,6 +72,18 @@ fn most_of(entry: &JobPlan, most: u32) -> u64
     }
 }
 
+// How many pieces of a job are little work together. An index may be much work where its kernel has a loop.
+fn little_of(plan: &Plan, entry: &JobPlan) -> u64 {
+    let Some(code) = plan.codes.get(entry.kernel as usize) else {
+        return 0;
+    };
+    if !code.blocks.is_empty() {
+        return 0;
+    }
+    let work = u64::from(entry.cut.step).saturating_mul(code.body.len() as u64);
+    LITTLE_WORK / work.max(1)
+}
+
 impl Claims {
     ghost use Rattle.steal_pool.specs.Claims.{AreClaimsOf, HasPlaces, IsOwn, IsSpent, SawAll};
 
@@ -82,20 +98,24 @@ impl Claims {
         Ok(Claims { table, workers })
     }
 
-    // How many of the places that are left of a job are claimed at once. It is some half of a worker's share of them,
-    // so that what is left evens out what the workers get; a single one leaves none for others.
-    fn share_of(&self, left: u64, most: u64) -> u64
+    // How many of the places that are left of a job are claimed at once: all, where they are little work. Else it is
+    // some half of a worker's share of them, so that what is left evens out what the workers get; a single one leaves
+    // none for others.
+    fn share_of(&self, left: u64, most: u64, little: u64) -> u64
         requires left { 0 < left }
         requires most { 0 < most }
         ensures some { 0 < result }
         ensures within { result ≤ left }
     {
+        if left <= little {
+            return left;
+        }
         (left / (2 * u64::from(self.workers) - 1)).min(most).max(1)
     }
 
     // The next places of the job at that index, which has so many. It looks once, and then tries again only where
     // another worker was given places meanwhile.
-    fn next_places(&self, job: usize, count: u64, most: u64) -> Result<Places, Token>
+    fn next_places(&self, job: usize, count: u64, most: u64, little: u64) -> Result<Places, Token>
         requires job { job < self.now.table.shared.key }
         requires most { 0 < most }
         ensures given { IfOk result (λ r. HasPlaces self.now job r.first r.count r.token) }
@@ -106,7 +126,7 @@ impl Claims {
         let counts = &self.table.shared;
         let (mut place, mut token) = counts.load_new_seat::<Looking>(job);
         while place < count {
-            let taken = self.share_of(count - place, most);
+            let taken = self.share_of(count - place, most, little);
             let found = counts.compare_exchange::<Claiming>(&mut token, job, place, place + taken);
             if found == place {
                 return Ok(Places {
@@ -120,7 +140,8 @@ impl Claims {
         Err(token)
     }
 
-    /// The next pieces of a job, if some are left, and no more than a worker takes at once.
+    /// The next pieces of a job, if some are left: one, where a worker takes no more at once, and else no more than
+    /// that, or than are little work.
     pub fn next(&self, plan: &Plan, job: JobId, most: u32) -> Result<Claimed, Spent>
         requires well { IsWellOrderedPlan plan.now }
         requires claims { AreClaimsOf plan.now self.now }
@@ -138,7 +159,12 @@ impl Claims {
         let index = job.0 as usize - 1;
         let entry = &plan.jobs[index];
         let count = u64::from(entry.pieces());
-        match self.next_places(index, count, most_of(entry, most)) {
+        let little = if most > 1 && count > 1 {
+            little_of(plan, entry)
+        } else {
+            0
+        };
+        match self.next_places(index, count, most_of(entry, most), little) {
             Ok(places) => {
                 let Places {
                     first,

@@ -1,6 +1,6 @@
 // What is run on a seat's lease.
 ghost use Rattle.std.specs.Prelude.{◌≡◌, ◌<◌, ◌≤◌, ◌+◌, ◌^◌, Some, length};
-ghost use Rattle.frame_print.specs.Reports.{IsReportOf};
+ghost use Rattle.frame_core.specs.Reports.{IsReportOf};
 ghost use Rattle.frame_core.specs.declared.piece.Piece.TheVariants.{OfScript, OfJob};
 ghost use Rattle.frame_core.specs.Names.{job_pieces};
 ghost use Rattle.frame_core.specs.Pieces.{IsPieceOf, number_of, piece_numbered};
@@ -13,8 +13,8 @@ ghost use Rattle.piece_run.specs.Visits.{IsVisitOf};
 ghost use Rattle.plan_run.specs.Lines.{segment_cells};
 ghost use Rattle.plan_run.specs.Says.{SaysTo};
 
-use frame_core::{Board, Holding, Lease, Plan};
-use frame_print::{Outgoing, Report};
+use frame_core::{Board, Holding, Lease, Plan, Report};
+use frame_print::Outgoing;
 use job_base::{PieceId, Sink};
 use kernel_machine::Scratch;
 use piece_run::{JobVisit, run_visited};

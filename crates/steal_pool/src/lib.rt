@@ -3,9 +3,10 @@
 //! The script thread runs the segments one after another ([`plan_run`]). While it waits for jobs it helps: like every
 //! worker it takes an open job from its own deque, the newest first, or steals the oldest one of another's, and offers
 //! it again where it has more pieces than those that it runs then. It goes on with this job, claim by claim, until all
-//! pieces are given out. A claim is of one piece, and of up to sixteen where pieces are small and enough are left for
-//! the other workers. Who runs which piece and when says nothing of what is printed: the board gives each piece the
-//! cells of the run in script order. So what [`run`] promises is proved of the first seat alone.
+//! pieces are given out. A claim is of one piece, of up to sixteen where pieces are small and enough are left for the
+//! other workers, and of all that are left where these are little work (some 10 µs, and no loops). Who runs which piece
+//! and when says nothing of what is printed: the board gives each piece the cells of the run in script order. So what
+//! [`run`] promises is proved of the first seat alone.
 //!
 //! **Cost.** A claim costs a load and an exchange of its job's count, one exchange more for each worker that was
 //! quicker, and a visit of the job ([`piece_run`]); a piece costs the steps of its board and its indexes. A job costs

@@ -7,12 +7,13 @@ ghost use Rattle.frame_core.specs.Pieces.{IsPieceOf, number_of};
 ghost use Rattle.steal_pool.specs.Claims.{AreClaimsOf, IsGiven};
 ghost use Rattle.piece_run.specs.Visits.{IsVisitOf};
 ghost use Rattle.plan_run.specs.ScriptOrder.{IsJobOf};
-ghost use Rattle.steal_pool.specs.Followers.{AreFollowers};
+ghost use Rattle.steal_pool.specs.Followers.{AreFollowers, followers_of};
 ghost use Rattle.steal_pool.specs.Crews.{IsCrewOf};
 ghost use Rattle.steal_pool.specs.Seats.{IsIdle, IsOn, IsSteady, IsReleased, MayOpenFrom, MayOpenNone, HasDues};
 
 use crate::claims::{Claimed, Claims};
 use crate::crew::{Crew, Shared};
+use crate::followers::Followers;
 use crate::held::run_piece_leased;
 use crate::idling::Waking;
 use crate::place::Tools;
@@ -83,24 +84,27 @@ fn release_after<B: Board>(
     board: &B,
     seat: &mut B::Seat,
     queue: &mut Queue,
-    jobs: &[JobId],
+    followers: &Followers,
+    job: JobId,
 )
     requires plan { plan.now ≡ B.plan board.now }
     requires well { IsWellOrderedPlan plan.now }
-    requires jobs { All (IsJobOf plan.now) jobs.now }
+    requires followers { AreFollowers plan.now followers.now }
+    requires job { IsJobOf plan.now job }
     requires home { B.home seat.old ≡ B.name board.now }
     requires lease { (B.know seat.old).lease ≡ None }
     requires owed { (B.know seat.old).owed ≡ None }
-    requires dues { HasDues jobs.now (B.know seat.old) }
+    requires dues { HasDues (followers_of followers.now job.0) (B.know seat.old) }
     requires none { MayOpenNone (B.know seat.old) }
     ensures home { B.home seat.new ≡ B.home seat.old }
     ensures idle { IsIdle (B.know seat.new) }
     ensures on { IsOn (B.know seat.old) (B.know seat.new) }
 {
-    let mut rest = jobs;
-    while let Some((job, tail)) = rest.split_first() {
-        release_job(plan, board, seat, queue, *job);
-        rest = tail;
+    let mut at = followers.first(job);
+    while at > 0 {
+        let link = followers.link(at);
+        release_job(plan, board, seat, queue, link.job);
+        at = link.next;
     }
 }
 
@@ -131,7 +135,7 @@ fn end_piece<W: Waking, B: Board>(
     ensures on { IsOn (B.know seat.old) (B.know seat.new) }
 {
     if let Some(job) = board.count(seat) {
-        release_after(plan, board, seat, queue, shared.followers.of(job));
+        release_after(plan, board, seat, queue, &shared.followers, job);
         W::end_job(shared, job);
     }
 }

@@ -1,6 +1,6 @@
 // The script thread: the segments one after another.
 ghost use Rattle.std.specs.Prelude.{◌≡◌, ◌<◌, ◌≤◌, ◌+◌, ◌^◌, None, IfSome, ℕ, length};
-ghost use Rattle.frame_print.specs.Reports.{IsReportOf};
+ghost use Rattle.frame_core.specs.Reports.{IsReportOf};
 ghost use Rattle.frame_core.specs.Know.{due_once};
 ghost use Rattle.frame_core.specs.Output.{plan_lines, plan_traps, segment_lines, segment_refused};
 ghost use Rattle.frame_core.specs.Ordered.{IsWellOrderedPlan};

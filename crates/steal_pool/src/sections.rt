@@ -1,10 +1,10 @@
 // Reports of a frame that is run in sections.
 ghost use Rattle.std.specs.Prelude.{◌≡◌, ◌+◌, ◌<◌, ◌^◌, ◌++◌, List};
 ghost use Rattle.frame_ast.specs.States.{JobTrap};
-ghost use Rattle.frame_print.specs.Reports.{IsReportOf};
+ghost use Rattle.frame_core.specs.Reports.{IsReportOf};
 ghost use Rattle.steal_pool.specs.Sections.{shifted};
 
-use frame_print::Report;
+use frame_core::Report;
 use job_base::JobId;
 
 /// The report of a frame's earlier sections, joined with that of the next one. The sections before it have so many

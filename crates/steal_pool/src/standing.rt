@@ -1,6 +1,6 @@
 // How far the script's thread is in a run by turns.
 
-use frame_print::Report;
+use frame_core::Report;
 use plan_run::no_traps;
 
 /// How far the script's thread is in a run by turns, between two of its turns.

@@ -19,9 +19,10 @@ use Rattle.frame_core.specs.Laws.{IsNamed}
 use Rattle.frame_core.proofs.Small.{some_is, none_some}
 use Rattle.frame_core.proofs.Planned.{pieces_are_named}
 use Rattle.word_board.specs.declared.view.View.{View}
-use Rattle.word_board.specs.Words.{rest_base, wait_base, rest_word, wait_word, states_in, rests_in, waits_in}
+use Rattle.word_board.specs.Words.{rest_base, wait_base, rest_word, wait_word, rests_in, waits_in}
 use Rattle.word_board.specs.Views.{places, claims, owed_place, dues_on, duties_in, with_followers, counted_view, released_view}
-use Rattle.word_board.specs.Rule.{moment, Holds}
+use Rattle.word_board.specs.Rule.{states_at, moment, Holds}
+use Rattle.word_board.proofs.Leases.{states_stay}
 use Rattle.word_board.specs.Plays.{Counts as CountPlay, Releases as ReleasePlay}
 use Rattle.word_board.proofs.Lists.{window_at}
 use Rattle.word_board.proofs.Showing.{lease_kept, claims_at, claims_changed, states_far, cells_far, rests_far, waits_far, rests_put, waits_put, step_kept}
@@ -90,7 +91,7 @@ module _ (slots id : ℕ) (me : Me ℕ View) (j : ℕ) where
       let owed_is : owed_place me.0.owed ≡ Some j = ap owed_place owed in
       let one : owes j v ≡ 1 = ap (owed_for j) owed_is ∙ ap (λ (b : Bool). cond b 1 0) (eq-eqb j j refl) in
       let some_owed = total_at (owes j) cs id v mine in
-      let left : ℕ = unended_parts (jobs_of plan) (states_in plan s.words) j in
+      let left : ℕ = unended_parts (jobs_of plan) (states_at plan s) j in
       let c : rests_in plan s.words j ≡ left + total (owes j) cs = H.ruled.exact.rest_is j in_plan in
       let pre = pred_of n (omega arith) in
       let m : ℕ = pre.0 in
@@ -134,7 +135,7 @@ module _ (slots id : ℕ) (me : Me ℕ View) (j : ℕ) where
           segments = record { number = refl; spent = refl; ended = refl; opened = refl };
         };
         core = record {
-          state = states_far plan s.words i x (inr (omega arith));
+          state = states_stay plan s id me.0 new at (set s.words i x) (states_far plan s.words i x (inr (omega arith))) (λ q. refl);
           cells = cells_far plan s.words i x (omega arith);
           lease = lease_kept plan s.views id me.0 new at refl;
         };
@@ -163,7 +164,7 @@ module _ (slots id : ℕ) (me : Me ℕ View) (j : ℕ) where
       let in_plan : j < (jobs_of plan).jobs = subst (λ k. j < k) (sym (jobs_are plan)) low in
       let due' : dues j v ≡ dues_on me.0.duties (suc j) = duties_are j me.0.duties in
       let some_due = total_at (dues j) cs id v mine in
-      let U : ℕ = unfinished (jobs_of plan) (states_in plan s.words) (rests_in plan s.words) j in
+      let U : ℕ = unfinished (jobs_of plan) (states_at plan s) (rests_in plan s.words) j in
       let c : waits_in plan s.words j ≡ U + total (dues j) cs = H.ruled.exact.wait_is j in_plan in
       let pre = pred_of n (omega arith) in
       let m : ℕ = pre.0 in
@@ -201,7 +202,7 @@ module _ (slots id : ℕ) (me : Me ℕ View) (j : ℕ) where
           segments = record { number = refl; spent = refl; ended = refl; opened = refl };
         };
         core = record {
-          state = states_far plan s.words i x (inr (omega arith));
+          state = states_stay plan s id me.0 new at (set s.words i x) (states_far plan s.words i x (inr (omega arith))) (λ q. refl);
           cells = cells_far plan s.words i x (omega arith);
           lease = lease_kept plan s.views id me.0 new at refl;
         };

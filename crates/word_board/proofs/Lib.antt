@@ -1,5 +1,6 @@
 pub mod Lists
-pub mod Showing
+pub mod Leases
+mod Showing
 pub mod Claiming
 pub mod Starters
 pub mod Cells

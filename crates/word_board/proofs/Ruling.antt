@@ -20,7 +20,8 @@ use Rattle.word_board.specs.declared.view.View.{View}
 use Rattle.word_board.specs.Words.{state_word, states_in}
 use Rattle.frame_core.specs.Events.{place_numbered}
 use Rattle.word_board.specs.Views.{claims, know, local_cells}
-use Rattle.word_board.specs.Rule.{Holds}
+use Rattle.word_board.specs.Rule.{is_leased, states_at, Holds}
+use Rattle.word_board.proofs.Leases.{word_begun, word_closed}
 use Rattle.word_board.specs.Laws.{LeasedWordsHoldTheirCells, LeasedPiecesAreBegun, PiecesAreLeasedOnce, OpenPiecesAreReady, PiecesToOpenAreClosed, RightsAreHeldOnce, CountdownsAreExact}
 use Rattle.word_board.proofs.Cells.{lease_at}
 use Rattle.word_board.proofs.Claiming.{right_there}
@@ -39,7 +40,8 @@ leased_words_hold_their_cells plan s H k h L w r =
 pub leased_pieces_are_begun : LeasedPiecesAreBegun
 leased_pieces_are_begun plan s H k h L =
     sym (state_is plan s.words H.size (pieces_are_named plan H.well) h.piece L.below)
-    ∙ (H.ruled.held.begun k (lease_here plan h) (lease_at plan s.views k L.view h L.there L.held)).0
+    ∙ word_begun (states_in plan s.words (place_numbered plan h.piece)) (is_leased plan s.views (place_numbered plan h.piece))
+    (H.ruled.held.begun k (lease_here plan h) (lease_at plan s.views k L.view h L.there L.held)).0
 
 pub pieces_are_leased_once : PiecesAreLeasedOnce
 pieces_are_leased_once plan s H i k g h L M same =
@@ -61,9 +63,10 @@ precedes_there plan named q p lq lp =
 pub open_pieces_are_ready : OpenPiecesAreReady
 open_pieces_are_ready plan s H q p lq lp up before =
     let named : IsNamed plan = pieces_are_named plan H.well in
-    let ended = H.ruled.held.ready (place_numbered plan p) (λ closed. up (sym (state_is plan s.words H.size named p lp) ∙ closed))
+    let ended = H.ruled.held.ready (place_numbered plan p) (λ closed. up (sym (state_is plan s.words H.size named p lp)
+    ∙ word_closed (states_in plan s.words (place_numbered plan p)) (is_leased plan s.views (place_numbered plan p)) closed))
     (place_numbered plan q) (precedes_there plan named q p lq lp ∙ before) in
-    sym (state_is plan s.words H.size named q lq) ∙ eqb-true (states_in plan s.words (place_numbered plan q)) 3 ended
+    eqb-true (states_at plan s (place_numbered plan q)) 3 ended
 
 -- the first seat's claims are those of the one first participant
 led_by : (plan : Plan) (s : State ℕ View) (H : Holds plan s) (k : ℕ) (v : View) → get_elem? s.views k ≡ some v → v.first ≡ true
@@ -75,25 +78,28 @@ led_by plan s H k v at first =
 
 -- the next segment is closed, where it wasn't opened
 next_is_closed : (plan : Plan) (s : State ℕ View) (H : Holds plan s) (k n : ℕ) (v : View) → get_elem? s.views k ≡ some v → MayOpenSegment plan (know v) n
-    → states_in plan s.words ((jobs_of plan).segment_at n) ≡ 0
+    → states_at plan s ((jobs_of plan).segment_at n) ≡ 0
 next_is_closed plan s H k n v at may =
     let led = H.ruled.exact.led in
     let is = (led_by plan s H k v at may.first).1 in
     let next : n ≡ led.first.ended = may.next ∙ sym (ap (λ (c : Claims). c.ended) is) in
     let below : led.first.ended < (jobs_of plan).segments = subst (λ m. led.first.ended < m) (sym (segments_are plan))
     (subst (λ m. m < length plan.segments.items) next may.below) in
-    ap (λ m. states_in plan s.words ((jobs_of plan).segment_at m)) next ∙ led.next_closed below (ap (λ (c : Claims). c.opened) is ∙ may.unopened)
+    ap (λ m. states_at plan s ((jobs_of plan).segment_at m)) next ∙ led.next_closed below (ap (λ (c : Claims). c.opened) is ∙ may.unopened)
 
 pub pieces_to_open_are_closed : PiecesToOpenAreClosed
 pieces_to_open_are_closed plan s H k p v at low may = by (piece_numbered plan p) refl may
   where
+    closed_word : states_at plan s (place_numbered plan p) ≡ 0 → get_or s.words (state_word plan p) 0 ≡ 0
+    closed_word e = sym (state_is plan s.words H.size (pieces_are_named plan H.well) p low)
+        ∙ word_closed (states_in plan s.words (place_numbered plan p)) (is_leased plan s.views (place_numbered plan p)) e
+
     by : (x : Piece) → piece_numbered plan p ≡ x → MayOpen plan (know v) p x → get_or s.words (state_word plan p) 0 ≡ 0
     by (OfJob j i) is right =
-        sym (state_is plan s.words H.size (pieces_are_named plan H.well) p low)
-        ∙ (H.ruled.exact.rights_are k (place_numbered plan p) (claims plan v) (claims_at plan s.views k v v at) (right_there plan p v.rights low right)).0
+        closed_word (H.ruled.exact.rights_are k (place_numbered plan p) (claims plan v) (claims_at plan s.views k v v at)
+        (right_there plan p v.rights low right)).0
     by (OfScript n) is next =
-        sym (state_is plan s.words H.size (pieces_are_named plan H.well) p low)
-        ∙ (ap (states_in plan s.words) (segment_there plan (pieces_are_named plan H.well) p low n is) ∙ next_is_closed plan s H k n v at next)
+        closed_word (ap (states_at plan s) (segment_there plan (pieces_are_named plan H.well) p low n is) ∙ next_is_closed plan s H k n v at next)
 
 pub rights_are_held_once : RightsAreHeldOnce
 rights_are_held_once plan s H i k p u v at_u at_v low may_u may_v = by (piece_numbered plan p) may_u may_v

@@ -7,13 +7,14 @@ use Rattle.atomic_table.specs.Seated.{TableId}
 use Rattle.merge_laws.specs.Countdowns.{AreExact, begun_state, closed_state, ended_state}
 use Rattle.frame_core.specs.declared.plan.Plan.{Plan}
 use Rattle.frame_core.specs.Pieces.{piece_numbered}
+use Rattle.frame_core.specs.Events.{place_numbered}
 use Rattle.frame_core.specs.Graphs.{cells_after, is_predecessor, jobs_of}
 use Rattle.frame_core.specs.Know.{MayOpen, piece_count, reads}
 use Rattle.word_board.specs.declared.view.Held.{Held}
 use Rattle.word_board.specs.declared.view.View.{View}
-use Rattle.word_board.specs.Words.{cells_in, rests_in, state_word, states_in, waits_in}
+use Rattle.word_board.specs.Words.{cells_in, rests_in, state_word, waits_in}
 use Rattle.word_board.specs.Views.{claims, know, local_cells}
-use Rattle.word_board.specs.Rule.{Holds}
+use Rattle.word_board.specs.Rule.{Holds, states_at}
 use Rattle.word_board.specs.Naming.{board_name}
 
 -- One of the views of a state has a lease, of a piece of the plan.
@@ -28,7 +29,7 @@ abbrev pub LeasedWordsHoldTheirCells : Type 0
 LeasedWordsHoldTheirCells = (plan : Plan) (s : State ℕ View) → Holds plan s → (k : ℕ) (h : Held) → IsLease plan s k h
     → (w : ℕ) → reads plan h.piece w ≡ true → cells_in plan s.words w ≡ local_cells plan h w
 
--- The state of a leased piece is begun.
+-- The word of a leased piece says that it was begun.
 abbrev pub LeasedPiecesAreBegun : Type 0
 LeasedPiecesAreBegun = (plan : Plan) (s : State ℕ View) → Holds plan s → (k : ℕ) (h : Held) → IsLease plan s k h
     → slice_index s.words (state_word plan h.piece) ≡ begun_state
@@ -43,10 +44,10 @@ abbrev pub OpenPiecesAreReady : Type 0
 OpenPiecesAreReady = (plan : Plan) (s : State ℕ View) → Holds plan s → (q p : ℕ) → q < piece_count plan
     → p < piece_count plan → slice_index s.words (state_word plan p) ≢ closed_state
     → is_predecessor plan (piece_numbered plan q) (piece_numbered plan p) ≡ true
-    → slice_index s.words (state_word plan q) ≡ ended_state
+    → states_at plan s (place_numbered plan q) ≡ ended_state
 
--- A piece that some seat may open is closed. So each step that changes a state takes it to the next one: an opening
--- from closed to open, a begin from open to begun, an end from begun to ended.
+-- The word of a piece that some seat may open says closed. So each step that changes a state takes it to the next one:
+-- an opening from closed to open, a begin from open to begun, an end from begun to ended.
 abbrev pub PiecesToOpenAreClosed : Type 0
 PiecesToOpenAreClosed = (plan : Plan) (s : State ℕ View) → Holds plan s → (k p : ℕ) (v : View)
     → get_elem? s.views k ≡ some v → p < piece_count plan → MayOpen plan (know v) p (piece_numbered plan p)
@@ -62,7 +63,7 @@ RightsAreHeldOnce = (plan : Plan) (s : State ℕ View) → Holds plan s → (i k
 -- `wait` its predecessors that aren't finished or for which there is a duty.
 abbrev pub CountdownsAreExact : Type 0
 CountdownsAreExact = (plan : Plan) (s : State ℕ View) → Holds plan s
-    → AreExact (jobs_of plan) (states_in plan s.words) (rests_in plan s.words) (waits_in plan s.words)
+    → AreExact (jobs_of plan) (states_at plan s) (rests_in plan s.words) (waits_in plan s.words)
     (map (claims plan) s.views)
 
 -- Where the first seat ended all segments, the cells are those after the run in script order.

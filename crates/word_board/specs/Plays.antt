@@ -3,7 +3,7 @@ use Rattle.std.specs.Prelude.{◌≡◌, ℕ, suc, true, nat_eq, Some}
 use Rattle.std.specs.Int.{cast_signed}
 use mir.Syntax.{w64}
 use Rattle.atomic_table.specs.Table.{Me, Step}
-use Rattle.merge_laws.specs.Countdowns.{open_state}
+use Rattle.merge_laws.specs.Countdowns.{begun_state, open_state}
 use Rattle.frame_core.specs.Pieces.{piece_numbered}
 use Rattle.frame_core.specs.Know.{reads}
 use Rattle.word_board.specs.declared.view.Held.{Held}
@@ -25,8 +25,8 @@ Begins t me n me' = (p : ℕ) → state_word me.0.plan p ≡ t.word
     → me' ≡ (begun_view me.0 p (nat_eq n open_state) t.word n, me.1)
 
 abbrev pub Ends : Step ℕ → Me ℕ View → ℕ → Me ℕ View → Type 0
-Ends t me n me' = (p : ℕ) → state_word me.0.plan p ≡ t.word
-    → me' ≡ (ended_view me.0 (piece_numbered me.0.plan p) t.word n, me.1)
+Ends t me n me' = ((p : ℕ) → state_word me.0.plan p ≡ t.word
+    → me' ≡ (ended_view me.0 (piece_numbered me.0.plan p) t.word n, me.1)) × (n ≡ begun_state)
 
 abbrev pub Counts : Step ℕ → Me ℕ View → ℕ → Me ℕ View → Type 0
 Counts t me n me' = (j : ℕ) → rest_word me.0.plan j ≡ t.word

@@ -13,7 +13,7 @@ impl Board for WordBoard {
     ghost use Rattle.std.specs.Prelude.{◌≡◌, ℕ, suc, ◌+◌, ◌-◌, ◌<◌, true, nat_eq, length, None, Some, IfSome, is_some};
     ghost use Rattle.std.specs.Int.{cast_signed};
     ghost use mir.Syntax.{w64};
-    ghost use Rattle.merge_laws.specs.Countdowns.{ended_state, open_state};
+    ghost use Rattle.merge_laws.specs.Countdowns.{begun_state, open_state};
     ghost use Rattle.frame_core.specs.Effects.{piece_cells};
     ghost use Rattle.frame_core.specs.Graphs.{before_number};
     ghost use Rattle.frame_core.specs.Know.{IsFree, MayBegin, MayOpen, begun, counted, ended, found, opened, piece_count, reads, released, stored, writes};
@@ -82,7 +82,7 @@ impl Board for WordBoard {
         steps::store(&self.table.shared, &mut seat.token, w.0, v)
     }
 
-    /// One store.
+    /// One load: the word of the piece says that it was begun, and goes on to say so.
     fn end(&self, seat: &mut WordSeat)
         requires home { home_of seat.old ≡ name_of self.now }
         requires counted { (know_of seat.old).owed ≡ None }
@@ -94,7 +94,7 @@ impl Board for WordBoard {
         ensures step { (p : ℕ) × ((know_of seat.old).lease ≡ Some p)
             × (view_of seat.new
             ≡ ended_view (view_of seat.old) (piece_numbered (plan_of self.now) p)
-            (state_word (plan_of self.now) p) ended_state) }
+            (state_word (plan_of self.now) p) begun_state) }
         ensures know { (p : ℕ) × ((know_of seat.old).lease ≡ Some p)
             × (know_of seat.new ≡ ended (plan_of self.now) (know_of seat.old) p) }
         ensures home { home_of seat.new ≡ home_of seat.old }

@@ -116,7 +116,7 @@ impl WordBoard {
         ensures count { IfOk result (λ r. length r.1.items ≡ seats) }
         ensures seats { IfOk result (λ r. AreNewSeats r.0 r.1.items) }
     {
-        let parts = (plan.words - plan.cells) / 3;
+        let parts = plan.words - plan.cells;
         let jobs = number_jobs(alloc, plan, parts)?;
         let words = first_words(alloc, plan, parts)?;
         let (table, token) = Table::of_words(alloc, words.as_slice(), plan)?;

@@ -1,7 +1,6 @@
-//! The states of a piece that steps write. A piece goes from closed, which is 0, through them in this order.
+//! What steps write into the word of a piece, which is 0 while the piece is closed. A piece that was begun is ended
+//! where no seat leases it, so its end writes nothing.
 
 pub const OPEN: u64 = 1;
 
 pub const BEGUN: u64 = 2;
-
-pub const ENDED: u64 = 3;

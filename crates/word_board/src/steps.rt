@@ -3,7 +3,7 @@
 ghost use Rattle.std.specs.Prelude.{◌≡◌, ℕ, suc, ◌+◌, ◌<◌, true, false, Some, None, nat_eq, length};
 ghost use Rattle.std.specs.Int.{cast_signed};
 ghost use mir.Syntax.{w64};
-ghost use Rattle.merge_laws.specs.Countdowns.{ended_state, open_state};
+ghost use Rattle.merge_laws.specs.Countdowns.{begun_state, open_state};
 ghost use Rattle.frame_core.specs.Effects.{piece_cells};
 ghost use Rattle.frame_core.specs.Graphs.{before_number};
 ghost use Rattle.frame_core.specs.Know.{MayBegin, MayOpen, piece_count, reads, writes};
@@ -17,7 +17,7 @@ ghost use Rattle.word_board.specs.Words.{cell_word, rest_word, state_word, wait_
 use crate::plays::{
     Beginning, Counting, Ending, Loading, Opening, Releasing, Ruled, Seeing, Splitting, Storing,
 };
-use crate::state::{BEGUN, ENDED, OPEN};
+use crate::state::{BEGUN, OPEN};
 use crate::view::View;
 use atomic_table::{Seat, Shared};
 use frame_core::Plan;
@@ -80,7 +80,7 @@ pub fn begin(board: &Words, seat: &mut Seat<u8, View>, word: usize, piece: u32) 
     board.compare_exchange::<Beginning>(seat, word, OPEN, BEGUN) == OPEN
 }
 
-/// Ends the lease of the piece. One store.
+/// Ends the lease of the piece, whose word stays. One load.
 pub fn end(board: &Words, seat: &mut Seat<u8, View>, word: usize, piece: u32)
     requires seat { IsSeatOf board.now.table_id board.now.key seat.old }
     requires word { word ≡ state_word board.now.key piece }
@@ -90,10 +90,10 @@ pub fn end(board: &Words, seat: &mut Seat<u8, View>, word: usize, piece: u32)
     requires cells { (w : ℕ) → writes board.now.key piece w ≡ true → (know (view seat.old)).cells w
         ≡ piece_cells board.now.key (piece_numbered board.now.key piece) (before_number board.now.key piece) w }
 
-    ensures view { view seat.new ≡ ended_view (view seat.old) (piece_numbered board.now.key piece) word ended_state }
+    ensures view { view seat.new ≡ ended_view (view seat.old) (piece_numbered board.now.key piece) word begun_state }
     ensures seat { IsSeatOf board.now.table_id board.now.key seat.new }
 {
-    board.store::<Ending>(seat, word, ENDED);
+    board.load::<Ending>(seat, word);
 }
 
 /// Whether this was the last piece of the job at a place, from 0. One fetch-and-sub.

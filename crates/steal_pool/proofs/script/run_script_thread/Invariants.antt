@@ -1,5 +1,5 @@
 use Rattle.std.proofs.Common.{◌≡◌, ◌<◌, ◌≤◌, false, length}
-use Rattle.frame_print.specs.Reports.{IsReportOf}
+use Rattle.frame_core.specs.Reports.{IsReportOf}
 use Rattle.frame_core.specs.Output.{lines_of, refused_of, plan_traps}
 use Rattle.plan_run.specs.Says.{SaysTo}
 use Rattle.steal_pool.specs.Seats.{IsAt}
