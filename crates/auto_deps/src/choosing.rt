@@ -47,8 +47,9 @@ fn conflicting(uses: &[(Tag, Access)], book: &SafetyBook) -> Handle
     ensures { (j : ℕ) → jobs_of result j ≡ conflicting_with book.now uses.now j }
 {
     let mut all = Handle::empty();
+    let mut jobs = Handle::empty();
     for (tag, access) in uses {
-        let jobs = book.conflicting(tag.slot, writes_to(*access));
+        book.set_to_conflicting(&mut jobs, tag.slot, writes_to(*access));
         all.add_all(&jobs);
     }
     all

@@ -92,7 +92,8 @@ impl JobBook {
         ensures count { count_of self.new ≡ count_of self.old }
         ensures book { (b : Book) → StandsFor self.old b → StandsFor self.new (with_completed b (jobs_of h.now)) }
     {
-        let all = self.closure(h);
+        let mut all = Handle::empty();
+        self.set_to_closure(&mut all, h);
         self.completed.add_all(&all);
     }
 
@@ -184,7 +185,9 @@ impl JobBook {
         requires job { (0 < j.0) × (j.0 ≤ MOST_JOBS) }
         ensures { (b : Book) → StandsFor self.now b → result ≡ ancestors_in b (jobs_of h.now) j.0 }
     {
-        self.closure(h).has(j)
+        let mut all = Handle::empty();
+        self.set_to_closure(&mut all, h);
+        all.has(j)
     }
 
     /// What happens before a statement that waits for `after`: what was completed, and `after` with its ancestors.

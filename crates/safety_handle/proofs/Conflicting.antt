@@ -1,5 +1,5 @@
 -- A set of the jobs whose use conflicts, and the greatest of them that doesn't happen before.
-use Rattle.std.proofs.Common.{◌≡◌, ℕ, zero, suc, ◌+◌, ◌-◌, ◌<◌, ◌≤◌, ⊎_elim, Bool, true, false, ◌&&◌, ◌||◌, Option, None, Some, is_some, refl, sym, ap, subst, ◌∙◌, arith}
+use Rattle.std.proofs.Common.{◌≡◌, ℕ, zero, suc, ◌+◌, ◌-◌, ◌<◌, ◌≤◌, ⊎_elim, Bool, true, false, ◌&&◌, ◌||◌, Option, None, Some, refl, sym, ap, subst, ◌∙◌, arith}
 use Rattle.std.specs.Prelude.{not, nat_eq, nat_lt, if◌then◌else◌}
 use Rattle.std.proofs.lemmas.Bool.{cond-false, or_left, or_right, or_cases, and_parts, and_from, eqb-true, eq-eqb, ltb-true, lt-ltb, not_from_true, not_from_false, false_from_ne_true}
 use Rattle.job_base.specs.declared.JobId.{JobId}
@@ -14,7 +14,7 @@ use Rattle.job_handle.specs.Sets.{bit_of, jobs_of, outside, job_numbered}
 use Rattle.job_handle.specs.Books.{StandsFor}
 use Rattle.job_handle.proofs.Booleans.{not_both, same_test}
 use Rattle.safety_handle.specs.Uses.{Latest, StandForUses, latest_blockers}
-use Rattle.safety_handle.specs.Entries.{conflicting_in, readers_in}
+use Rattle.safety_handle.specs.Entries.{conflicting_in}
 use Rattle.safety_handle.proofs.Latest.{latest_decide}
 
 -- SETS
@@ -174,7 +174,3 @@ unread_same book l after writes unread b u F U S =
     ∙ alike (latest_blockers b l (jobs_of after) false) (latest_blockers b l (jobs_of after) writes) b.count
     (λ k some. ap (λ x. (nat_eq k l.writer || x) && not (happens_before b (jobs_of after) k)) (sym (unread k)))
     ∙ latest_decide b l u F.known U S (jobs_of after) writes
-
-pub no_readers : (readers : Option Handle) → is_some readers ≡ false → (k : ℕ) → readers_in readers k ≡ false
-no_readers None none k = refl
-no_readers (Some h) none k = absurd (not_both refl none)

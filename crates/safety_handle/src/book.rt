@@ -1,11 +1,7 @@
 // The entries of all slots.
-ghost use Rattle.std.specs.Prelude.{◌≡◌, ◌≢◌, ℕ, ◌+◌, ◌<◌, ◌≤◌, true, false, IfOk, OnOk, OnErr};
-ghost use Rattle.frame_ast.specs.Laws.{AreUpTo};
+ghost use Rattle.std.specs.Prelude.{◌≡◌, ◌≢◌, ℕ, ◌+◌, ◌<◌, ◌≤◌, ◌^◌, true, false, slice_get, vec_len, vec_capacity, IfOk, OnOk, OnErr};
+ghost use Rattle.frame_ast.specs.Jobs.{nobody};
 ghost use Rattle.job_handle.specs.Sets.{jobs_of};
-ghost use Rattle.job_handle.specs.Books.{count_of};
-ghost use Rattle.safety_handle.specs.Uses.{users_of, noted_read, noted_write};
-ghost use Rattle.safety_handle.specs.Entries.{state_of, no_state, fresh, conflicting_in};
-ghost use Rattle.safety_handle.specs.Checks.{IsAnswer};
 
 use crate::entry::Entry;
 use crate::tag::{Blocked, Tag};
@@ -19,15 +15,30 @@ use std::alloc::Global;
 #[derive(Drop)]
 pub struct SafetyBook {
     entries: Vec<Entry>,
+    // By slot, the set of those that read its container since, where there are some. A set has 528 bytes, so none is
+    // made for slots past the last that was read.
+    readers: Vec<Handle>,
+    // The set without jobs, for these.
+    none: Handle,
+    ghost nobody: { jobs_of none ≡ nobody },
+    ghost room: { vec_len entries ≤ vec_capacity readers },
 }
 
 impl SafetyBook {
+    ghost use Rattle.frame_ast.specs.Laws.{AreUpTo};
+    ghost use Rattle.job_handle.specs.Books.{count_of};
+    ghost use Rattle.safety_handle.specs.Uses.{users_of, noted_read, noted_write};
+    ghost use Rattle.safety_handle.specs.Entries.{state_of, set_in, no_state, fresh, conflicting_in};
+    ghost use Rattle.safety_handle.specs.Checks.{IsAnswer};
+
     /// No container.
     pub fn new(alloc: Global) -> Result<SafetyBook, NoMemory>
         ensures { IfOk result (λ book. (k : ℕ) → state_of book k ≡ no_state) }
     {
         Ok(SafetyBook {
             entries: Vec::new(alloc),
+            readers: Vec::new(alloc),
+            none: Handle::empty(),
         })
     }
 
@@ -39,11 +50,54 @@ impl SafetyBook {
         ensures others { (k : ℕ) → (k ≢ slot.0) → state_of self.new k ≡ state_of self.old k }
     {
         let at = slot.0 as usize;
+        if self.entries.len() <= at {
+            self.reach(at)?;
+        }
+        let entry = &mut self.entries[at];
+        entry.begin(version);
+        Ok(())
+    }
+
+    // Makes entries up to that of a slot, and room for as many sets.
+    #[inline(never)]
+    fn reach(&mut self, at: usize) -> Result<(), NoMemory>
+        requires { at < 2 ^ 32 }
+        ensures there { OnOk result (at < vec_len self.new.entries) }
+        ensures same { (k : ℕ) → state_of self.new k ≡ state_of self.old k }
+    {
+        self.readers
+            .reserve((at + 1).saturating_sub(self.readers.len()))?;
         while self.entries.len() <= at {
             self.entries.push(Entry::dead())?;
         }
-        self.entries[at] = Entry::live(version);
         Ok(())
+    }
+
+    // Makes sets up to that of a slot that has an entry. Inlined, one would be cleared at each call.
+    #[inline(never)]
+    fn add_sets(&mut self, at: usize)
+        requires { at < vec_len self.old.entries }
+        ensures there { at < vec_len self.new.readers }
+        ensures entries { self.new.entries ≡ self.old.entries }
+        ensures same { (k : ℕ) → state_of self.new k ≡ state_of self.old k }
+    {
+        while self.readers.len() <= at {
+            match self.readers.push(Handle::empty()) {
+                Ok(()) => {}
+                Err(_) => unreachable!(),
+            }
+        }
+    }
+
+    // The set of those that read the container since. It says nothing where its entry says that there is none.
+    fn readers_of(&self, at: usize) -> &Handle
+        ensures { jobs_of result.now ≡ set_in (slice_get self.now.readers.items at) }
+    {
+        if at < self.readers.len() {
+            &self.readers[at]
+        } else {
+            &self.none
+        }
     }
 
     // The answer to a use of either kind.
@@ -54,7 +108,8 @@ impl SafetyBook {
         let at = tag.slot.0 as usize;
         if at < self.entries.len() {
             let entry = &self.entries[at];
-            entry.check(tag, deps, jobs, writes)
+            let readers = self.readers_of(at);
+            entry.check(tag, readers, deps, jobs, writes)
         } else {
             Err(Blocked::Disposed)
         }
@@ -107,8 +162,13 @@ impl SafetyBook {
         } }
         ensures others { (k : ℕ) → (k ≢ slot.0) → state_of self.new k ≡ state_of self.old k }
     {
-        let entry = &mut self.entries[slot.0 as usize];
-        entry.note_read(j);
+        let at = slot.0 as usize;
+        if self.readers.len() <= at {
+            self.add_sets(at);
+        }
+        let readers = &mut self.readers[at];
+        let entry = &mut self.entries[at];
+        entry.note_read(readers, j);
     }
 
     /// The newest job, 1 to [`MOST_JOBS`], writes the container; its check answered Ok.
@@ -130,20 +190,39 @@ impl SafetyBook {
     pub fn conflicting(&self, slot: Slot, writes: bool) -> Handle
         ensures { jobs_of result ≡ conflicting_in (state_of self.now slot.0).latest writes }
     {
+        let mut all = Handle::empty();
+        self.set_to_conflicting(&mut all, slot, writes);
+        all
+    }
+
+    /// `conflicting` in place: a set gets these jobs, and no others.
+    pub fn set_to_conflicting(&self, all: &mut Handle, slot: Slot, writes: bool)
+        ensures { jobs_of all.new ≡ conflicting_in (state_of self.now slot.0).latest writes }
+    {
         let at = slot.0 as usize;
-        if at < self.entries.len() {
-            let entry = &self.entries[at];
-            entry.conflicting(writes)
-        } else {
-            Handle::empty()
+        if at >= self.entries.len() {
+            all.clear();
+            return;
         }
+        let entry = &self.entries[at];
+        let readers = self.readers_of(at);
+        entry.set_to_conflicting(all, readers, writes);
     }
 
     /// The last writer and the readers since. Once these are completed, every user is.
     pub fn users(&self, slot: Slot) -> Handle
         ensures { jobs_of result ≡ users_of (state_of self.now slot.0).latest }
     {
-        self.conflicting(slot, true)
+        let mut all = Handle::empty();
+        self.set_to_users(&mut all, slot);
+        all
+    }
+
+    /// `users` in place: a set gets these jobs, and no others.
+    pub fn set_to_users(&self, all: &mut Handle, slot: Slot)
+        ensures { jobs_of all.new ≡ users_of (state_of self.now slot.0).latest }
+    {
+        self.set_to_conflicting(all, slot, true);
     }
 
     /// The views of the list are broken. A statement does it once, so at most [`MOST_STATEMENTS`] times after an

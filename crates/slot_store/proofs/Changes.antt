@@ -1,5 +1,5 @@
 -- A slot comes back, is held, or gets another range.
-use Rattle.std.proofs.Common.{◌≡◌, ℕ, zero, suc, ◌+◌, ◌-◌, ◌<◌, ◌≤◌, max, ⊎_elim, Bool, true, false, ◌&&◌, ◌||◌, not, nat_eq, if◌then◌else◌, List, [], ◌∷◌, ◌++◌, length, get_or, set, refl, ap, sym, ◌∙◌, subst, arith}
+use Rattle.std.proofs.Common.{◌≡◌, ℕ, ◌+◌, ◌-◌, ◌<◌, ◌≤◌, max, ⊎_elim, Bool, true, false, ◌&&◌, ◌||◌, not, nat_eq, if◌then◌else◌, List, [], ◌∷◌, ◌++◌, length, set, refl, ap, sym, ◌∙◌, subst, arith}
 use Rattle.std.proofs.lemmas.List.Sums.{sum_by-set, sum_by_push}
 use Rattle.std.proofs.lemmas.Bool.{cases_eq, cases_Bool, both_ways, eq-eqb, eqb-true, ne_eqb, cond-true, cond-false}
 use Rattle.job_base.specs.declared.Span.{Span}
@@ -227,11 +227,6 @@ listed ps waiting s job p known is_now now held t = sum_by_push (λ (x : Waiting
     let d : held_once (place_at (set ps s p) t) ≡ held_once (place_at ps t) = ap held_once (there ps s p known t n) in
     let f : cond-one (nat_eq s t) ≡ 0 = cond-false (nat_eq s t) 1 0 (ne_eqb s t (λ e. n (sym e))) in omega arith)
     (cases_eq t s)
-
-pub place_is : (ps : List Place) (i : ℕ) (x : Place) → i < length ps → x ≡ get_or ps i x → x ≡ place_at ps i
-place_is [] i x lt e = absurd (omega arith)
-place_is (y ∷ ps) zero x lt e = e
-place_is (y ∷ ps) (suc i) x lt e = place_is ps i x (omega arith) e
 
 pub kept_listed : (ps : List Place) (space numbers : FreeSpace) (waiting waiting' : List Waiting) (count peak : ℕ) → AreKept ps space numbers waiting count peak
     → ((s : ℕ) → times waiting' s ≡ times waiting s) → AreKept ps space numbers waiting' count peak

@@ -3,6 +3,7 @@ pub mod Cuts
 pub mod Gives
 pub mod Bounding
 pub mod Placing
+pub mod Lots
 pub mod Rooms
 pub mod Changes
 pub mod Settling

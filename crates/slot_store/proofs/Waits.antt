@@ -237,13 +237,3 @@ found_none users done None e = λ j u.
     let r = b.1 j u in
     let z = none_by (outside (jobs_of users) (jobs_of done)) b.0 (greatest (outside (jobs_of users) (jobs_of done)) b.0) refl (e b.0 b.1) j r.0 r.1 in
     ⊎_elim (λ t. t) (λ d. absurd (both_ways (outside (jobs_of users) (jobs_of done) j) z (and_from _ _ u (not_from_false _ d)))) (cases_Bool (jobs_of done j))
-
--- the same for a place that is known to be held for some users
-pub held_some : (q : State) (users done : Handle) (o : Option JobId) → q ≡ Held users
-    → IfSome o (λ j. (0 < j.0) × (jobs_of users j.0 ≡ true) × (jobs_of done j.0 ≡ false))
-    → IfSome o (λ j. (0 < j.0) × (users_of q j.0 ≡ true) × (jobs_of done j.0 ≡ false))
-held_some q users done o is f = subst (λ (r : State). IfSome o (λ j. (0 < j.0) × (users_of r j.0 ≡ true) × (jobs_of done j.0 ≡ false))) (sym is) f
-
-pub held_none : (q : State) (users done : Handle) (o : Option JobId) → q ≡ Held users → IfNone o ((j : ℕ) → jobs_of users j ≡ true → jobs_of done j ≡ true)
-    → IfNone o ((j : ℕ) → users_of q j ≡ true → jobs_of done j ≡ true)
-held_none q users done o is f = subst (λ (r : State). IfNone o ((j : ℕ) → users_of r j ≡ true → jobs_of done j ≡ true)) (sym is) f

@@ -5,8 +5,25 @@ use Rattle.job_handle.specs.Sets.{jobs_of}
 use Rattle.slot_store.specs.declared.place.State.{State}
 use Rattle.slot_store.specs.declared.place.State.TheVariants.{Free, Taken, Held}
 use Rattle.slot_store.specs.declared.place.Place.{Place}
+use Rattle.slot_store.specs.declared.lot.Lot.{Lot}
+use Rattle.slot_store.specs.declared.lot.Standing.{Standing}
+use Rattle.slot_store.specs.declared.lot.Standing.TheVariants.{Free as Unused, Taken as Used, Held as Waits}
+use Rattle.job_handle.specs.declared.handle.Handle.{Handle}
 use Rattle.slot_store.specs.declared.place.Waiting.{Waiting}
 use Rattle.slot_store.specs.Spaces.{no_span, has_word}
+
+-- what a lot says: the jobs that it has count where the range is held
+abbrev pub state_by : Standing → Handle → State
+state_by Unused users = Free
+state_by Used users = Taken
+state_by Waits users = Held users
+
+abbrev pub placed : Lot → Place
+placed x = record { state = state_by x.standing x.users; version = x.version; span = x.span }
+
+abbrev pub places_in : List Lot → List Place
+places_in [] = []
+places_in (x ∷ more) = placed x ∷ places_in more
 
 -- a slot that was never taken
 abbrev pub unused : Place

@@ -19,6 +19,7 @@
 #![tactic(auto)]
 
 mod blocks;
+mod lot;
 mod pending;
 mod place;
 mod room;
@@ -27,5 +28,6 @@ mod slot;
 mod space;
 mod store;
 
+pub use place::{Place, State};
 pub use slot::{Slot, StoreFault, Taken, Version};
 pub use store::SlotStore;

@@ -1,10 +1,10 @@
-// What the store knows of a slot.
+// What a slot stands for, and what is kept of one that is held.
 use job_base::Span;
 use job_handle::Handle;
 
 /// What a slot stands for now.
 #[derive(Clone, Copy)]
-pub(crate) enum State {
+pub enum State {
     /// It is given with the next take that comes to it.
     Free,
     /// A container has it, and the words of the slot's range.
@@ -13,9 +13,10 @@ pub(crate) enum State {
     Held(Handle),
 }
 
-/// A slot's state, its version, and the range of words that it has, or had before it was free.
+/// A slot's state, its version, and the range of words that it has, or had before it was free. Contracts speak of
+/// places. What is kept is a `Lot`, which says the same.
 #[derive(Clone, Copy)]
-pub(crate) struct Place {
+pub struct Place {
     pub(crate) state: State,
     pub(crate) version: u32,
     pub(crate) span: Span,

@@ -1,9 +1,11 @@
 // The store: slots, the ranges of words that they have, and those that are held until jobs are completed.
 ghost use Rattle.std.specs.Prelude.{◌≡◌, ℕ, ◌+◌, ◌<◌, ◌≤◌, ◌^◌, ◌&&◌, ◌↔◌, max, nat_eq, true, false, if◌then◌else◌, IfOk, OnOk, OnErr, IsTrue, IfSome, IfNone, vec_len, vec_capacity};
 ghost use Rattle.slot_store.specs.Kept.{AreKept, AreWaiting, HaveRoom};
+ghost use Rattle.slot_store.specs.Places.{places_in};
 
+use crate::lot::{Lot, Standing};
 use crate::pending::pending_of;
-use crate::place::{Place, State, Waiting};
+use crate::place::Waiting;
 use crate::room::reserve_all;
 use crate::slot::{Slot, StoreFault, Taken, Version};
 use crate::space::FreeSpace;
@@ -16,7 +18,7 @@ use std::alloc::Global;
 #[derive(Drop)]
 pub struct SlotStore {
     // By slot. Slots beyond the last were never taken.
-    places: Vec<Place>,
+    lots: Vec<Lot>,
     words: FreeSpace,
     slots: FreeSpace,
     // Each of the first `waiting` waits for a job that isn't in `completed`. The others are to be looked at.
@@ -26,9 +28,9 @@ pub struct SlotStore {
     completed: Handle,
     live_words: u32,
     peak: u32,
-    ghost kept: { AreKept places.items words slots held.items live_words peak },
-    ghost room: { HaveRoom places.items words slots held },
-    ghost waits: { AreWaiting places.items held.items waiting completed },
+    ghost kept: { AreKept (places_in lots.items) words slots held.items live_words peak },
+    ghost room: { HaveRoom (places_in lots.items) words slots held },
+    ghost waits: { AreWaiting (places_in lots.items) held.items waiting completed },
 }
 
 impl SlotStore {
@@ -48,7 +50,7 @@ impl SlotStore {
         ensures peak { IfOk result (λ store. peak_of store ≡ 0) }
     {
         Ok(SlotStore {
-            places: Vec::new(alloc),
+            lots: Vec::new(alloc),
             words: FreeSpace::new(alloc)?,
             slots: FreeSpace::new(alloc)?,
             held: Vec::new(alloc),
@@ -124,18 +126,14 @@ impl SlotStore {
         ensures peak { peak_of self.new ≡ peak_of self.old }
     {
         let at = slot.0 as usize;
-        let span = self.places[at].span;
-        let version = self.places[at].version;
+        let span = self.lots[at].span;
         self.words.give(span);
         self.slots.give(Span {
             start: slot.0,
             len: 1,
         });
-        self.places[at] = Place {
-            state: State::Free,
-            version: version + 1,
-            span,
-        };
+        let lot = &mut self.lots[at];
+        lot.set_given();
         self.live_words -= span.len;
     }
 
@@ -150,9 +148,6 @@ impl SlotStore {
         ensures used { slots_in_use self.new ≡ slots_in_use self.old }
         ensures peak { peak_of self.new ≡ peak_of self.old }
     {
-        let at = slot.0 as usize;
-        let span = self.places[at].span;
-        let version = self.places[at].version;
         let waiting = Waiting {
             slot: slot.0,
             job: 0,
@@ -161,11 +156,8 @@ impl SlotStore {
             Ok(()) => {}
             Err(_) => unreachable!(),
         }
-        self.places[at] = Place {
-            state: State::Held(*users),
-            version: version + 1,
-            span,
-        };
+        let lot = &mut self.lots[slot.0 as usize];
+        lot.set_held(users);
     }
 
     /// Each held range whose users are all completed comes back with its slot, and no other. It looks at those that
@@ -186,9 +178,32 @@ impl SlotStore {
             return;
         }
         self.note_completed(book);
+        self.pass_waiting();
         while self.waiting < self.held.len() {
             self.settle_next();
+            self.pass_waiting();
         }
+    }
+
+    /// Passes by the held slots that wait for the job that was noted with them.
+    fn pass_waiting(&mut self)
+        ensures same { IsSame self.old self.new }
+        ensures completed { self.new.completed ≡ self.old.completed }
+        ensures length { vec_len self.new.held ≡ vec_len self.old.held }
+        ensures waiting { self.old.waiting ≤ self.new.waiting }
+    {
+        let mut passed = self.waiting;
+        while passed < self.held.len() {
+            let job = self.held[passed].job;
+            if job == 0 {
+                break;
+            }
+            if self.completed.has(JobId(job)) {
+                break;
+            }
+            passed += 1;
+        }
+        self.waiting = passed;
     }
 
     /// Whether the slot is taken, not held, and has this version.
@@ -197,12 +212,14 @@ impl SlotStore {
             && nat_eq (place_of self.now slot.0).version version.0) }
     {
         let at = slot.0 as usize;
-        if at >= self.places.len() {
+        if at >= self.lots.len() {
             return false;
         }
-        match self.places[at].state {
-            State::Taken => self.places[at].version == version.0,
-            _ => false,
+        let lot = &self.lots[at];
+        match lot.standing {
+            Standing::Taken => lot.version == version.0,
+            Standing::Free => false,
+            Standing::Held => false,
         }
     }
 
@@ -218,24 +235,29 @@ impl SlotStore {
         ensures same { IsSame self.old self.new }
         ensures ready { OnOk result (IsReady self.new) }
     {
-        self.add_place()?;
-        let most = self.places.len() + 1;
+        self.have_lot()?;
+        let most = self.lots.len() + 1;
         reserve_all(&mut self.words, &mut self.slots, &mut self.held, most)
     }
 
-    /// Makes a place for the next slot, where each has been taken or held.
-    fn add_place(&mut self) -> Result<(), NoMemory>
+    /// Makes a lot for the next slot, where each has been taken or held.
+    fn have_lot(&mut self) -> Result<(), NoMemory>
         ensures same { IsSame self.old self.new }
-        ensures known { OnOk result (self.new.slots.top < vec_len self.new.places) }
+        ensures known { OnOk result (self.new.slots.top < vec_len self.new.lots) }
     {
-        if (self.slots.top() as usize) < self.places.len() {
+        if (self.slots.top() as usize) < self.lots.len() {
             return Ok(());
         }
-        self.places.push(Place {
-            state: State::Free,
-            version: 0,
-            span: Span { start: 0, len: 0 },
-        })?;
+        self.add_lot()
+    }
+
+    // Inlined, a lot would be cleared at each take.
+    #[inline(never)]
+    fn add_lot(&mut self) -> Result<(), NoMemory>
+        ensures same { IsSame self.old self.new }
+        ensures known { OnOk result (self.new.slots.top < vec_len self.new.lots) }
+    {
+        self.lots.push(Lot::unused())?;
         Ok(())
     }
 
@@ -260,12 +282,9 @@ impl SlotStore {
         let slot = self.slots.take(1);
         let start = self.words.take(len);
         let span = Span { start, len };
-        let version = self.places[slot as usize].version;
-        self.places[slot as usize] = Place {
-            state: State::Taken,
-            version,
-            span,
-        };
+        let lot = &mut self.lots[slot as usize];
+        lot.set_taken(span);
+        let version = lot.version;
         self.live_words += len;
         self.peak = self.peak.max(start + len);
         Taken {
@@ -291,16 +310,12 @@ impl SlotStore {
         ensures peak { peak_of self.new ≡ max (peak_of self.old) (result.start + len) }
     {
         let at = slot.0 as usize;
-        let old = self.places[at].span;
-        let version = self.places[at].version;
+        let old = self.lots[at].span;
         let start = self.words.take(len);
         let span = Span { start, len };
         self.words.give(old);
-        self.places[at] = Place {
-            state: State::Taken,
-            version,
-            span,
-        };
+        let lot = &mut self.lots[at];
+        lot.set_taken(span);
         self.live_words = self.live_words + len - old.len;
         self.peak = self.peak.max(start + len);
         span
@@ -318,7 +333,7 @@ impl SlotStore {
 
     /// How many of the first held slots needn't be looked at: where a job was completed since the last call, none.
     fn still_waiting(&self, completed: &Handle) -> usize
-        ensures { AreWaiting self.now.places.items self.now.held.items result completed.now }
+        ensures { AreWaiting (places_in self.now.lots.items) self.now.held.items result completed.now }
     {
         match completed.latest_outside(&self.completed) {
             Some(_) => 0,
@@ -360,10 +375,8 @@ impl SlotStore {
         if held.job > 0 && !self.completed.has(noted) {
             return Some(noted);
         }
-        match &self.places[held.slot as usize].state {
-            State::Held(users) => pending_of(users, &self.completed, held.job),
-            _ => None,
-        }
+        let lot = &self.lots[held.slot as usize];
+        pending_of(&lot.users, &self.completed, held.job)
     }
 
     /// The slot waits for a job.
@@ -398,19 +411,15 @@ impl SlotStore {
         ensures peak { peak_of self.new ≡ peak_of self.old }
     {
         let place = slot as usize;
-        let span = self.places[place].span;
-        let version = self.places[place].version;
+        let span = self.lots[place].span;
         self.words.give(span);
         self.slots.give(Span {
             start: slot,
             len: 1,
         });
         self.held.swap_remove(at);
-        self.places[place] = Place {
-            state: State::Free,
-            version,
-            span,
-        };
+        let lot = &mut self.lots[place];
+        lot.set_freed();
         self.live_words -= span.len;
     }
 
