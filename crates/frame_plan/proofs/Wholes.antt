@@ -159,7 +159,7 @@ module _ (script : Script) (table : Table) (p : Planner) (begun : ScriptState) (
       → plan.kernels.items ≡ p.draft.kernels.items → plan.codes.items ≡ p.draft.codes.items
       → plan.literals.items ≡ p.draft.literals.items → plan.jobs.items ≡ p.draft.jobs.items
       → plan.cells ≡ peak_of p.world.store
-      → plan.words ≡ plan.cells + 3 * p.draft.pieces
+      → plan.words ≡ plan.cells + p.draft.pieces
       → plan.segments.items ≡ (p.draft.segments.items ++ last ∷ []) ++ final ∷ []
       → last.waits.items ≡ p.draft.waits.items
       → last.ops.items ≡ p.draft.ops.items
@@ -200,7 +200,7 @@ module _ (script : Script) (table : Table) (p : Planner) (begun : ScriptState) (
       })
       (record {
         jobs = omega arith;
-        words_are = words ∙ ap (λ k. plan.cells + 3 * k) (sym pieces_is);
+        words_are = words ∙ ap (λ k. plan.cells + k) (sym pieces_is);
         words = omega arith;
         pieces = omega arith;
         ops = omega arith;

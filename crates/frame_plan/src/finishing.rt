@@ -61,7 +61,7 @@ pub(crate) fn finish(
         jobs,
         segments,
         cells,
-        words: cells + 3 * pieces,
+        words: cells + pieces,
     })
 }
 

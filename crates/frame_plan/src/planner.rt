@@ -11,6 +11,7 @@ use crate::answers::answer;
 use frame_ast::script::{Order, Script, Statement};
 use job_base::NoMemory;
 use job_handle::JobBook;
+use plan_schedules::Gathered;
 use plan_state::{Draft, PlanFault, Planner, Value, World};
 use safety_handle::SafetyBook;
 use slot_store::SlotStore;
@@ -60,10 +61,11 @@ pub(crate) fn run(
         → HasRun script.now (columns_of table.now) planner.old planner.new begun from found to) }
     ensures fails { IfErr result (λ fault. PassesOnce fault script.now (columns_of table.now)) }
 {
+    let mut gathered = Gathered::none(alloc);
     let mut at = from;
     while (at as usize) < script.statements.len() {
         let statement = &script.statements[at as usize];
-        if !pass(planner, alloc, script, table, statement)? {
+        if !pass(planner, alloc, script, table, statement, &mut gathered)? {
             return Ok(at);
         }
         at += 1;
@@ -78,6 +80,7 @@ fn pass(
     script: &Script,
     table: &Table,
     statement: &Statement,
+    gathered: &mut Gathered,
 ) -> Result<bool, PlanFault>
     requires { IsAtStatement script.now (columns_of table.now) planner.old statement.now }
     ensures passed { IfOk result (λ went. went ≡ true
@@ -115,7 +118,7 @@ fn pass(
             }
         };
     }
-    act(planner, alloc, script, table, statement)?;
+    act(planner, alloc, script, table, statement, gathered)?;
     Ok(true)
 }
 
@@ -126,6 +129,7 @@ fn act(
     script: &Script,
     table: &Table,
     statement: &Statement,
+    gathered: &mut Gathered,
 ) -> Result<(), PlanFault>
     requires at { IsAtStatement script.now (columns_of table.now) planner.old statement.now }
     requires acts { planner.old.world.passing ≡ 0 }
@@ -136,7 +140,7 @@ fn act(
 {
     match &statement.act {
         Order::Schedule(job) => match job.defer {
-            None => plan_schedules::schedule(planner, alloc, script, statement.line, job),
+            None => plan_schedules::schedule(planner, alloc, script, statement.line, job, gathered),
             Some(defer) => plan_schedules::schedule_deferred(
                 planner,
                 alloc,
@@ -149,9 +153,11 @@ fn act(
         Order::When { .. } => unreachable!(),
         // All others leave the draft to this place, where what they answer is pushed.
         _ => {
-            let answer = answer(&mut planner.world, alloc, script, table, statement)?;
-            planner.draft.take(alloc, statement.line, answer)?;
-            Ok(())
+            // By `?` an answer would be copied once more.
+            match answer(&mut planner.world, alloc, script, table, statement) {
+                Ok(answer) => Ok(planner.draft.take(alloc, statement.line, answer)?),
+                Err(fault) => Err(fault),
+            }
         }
     }
 }

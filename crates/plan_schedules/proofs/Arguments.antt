@@ -116,18 +116,18 @@ module _ (s : ScriptState) (d : Bool) where
 module _ (p : Planner) (g : Setting) (begun : ScriptState) (n : ℕ) (s : ScriptState) (found : List ℕ) (st : Stands p g begun n s found) (x : Outline)
     (a : Agrees p g begun found x) (defer : Option (ℕ × ℕ)) where
   arg_is : (q : Param) (width : ℕ) (arg : Arg) → IsNameBelow (length p.world.values.items) arg → ArgFits s defer q arg
-      → job_bind p q.kind width arg ≡ bind_by x.starts s q width arg
+      → job_bind p.world q.kind width arg ≡ bind_by x.starts s q width arg
   arg_is q width (Number z) below fit = refl
   arg_is q width (Name m) below fit =
       let v = some_at p.world.values.items m below in
       let usable : IsUsable s m = record { below = fit.made; fits = fits_contents s (is_deferred defer m) q.kind (s.values m) fit.value } in
-      ap (λ o. as_kind q.kind width (bind_of_value p o)) v.1
+      ap (λ o. as_kind q.kind width (bind_of_value p.world o)) v.1
       ∙ ap (as_kind q.kind width) (binds_at p g begun n s found st x a m v.0 v.1 usable)
       ∙ kind_is s (is_deferred defer m) q.kind width (start_at x.starts s m) (s.values m) fit.value
 
   pub args_are : (parallel : Bool) (waive : List ℕ) (y : ℕ) (qs : List Param) (args : List Arg) → EachBelow (length p.world.values.items) args
       → ArgsFit s defer qs args
-      → job_binds p parallel waive y qs args ≡ binds_by x.starts s qs (widths_from parallel waive y qs) args
+      → job_binds p.world parallel waive y qs args ≡ binds_by x.starts s qs (widths_from parallel waive y qs) args
   args_are parallel waive y [] args below fit = refl
   args_are parallel waive y (q ∷ qs) [] below fit = absurd fit
   args_are parallel waive y (q ∷ qs) (arg ∷ args) below fit =
@@ -138,7 +138,7 @@ module _ (p : Planner) (g : Setting) (begun : ScriptState) (n : ℕ) (s : Script
 -- ---- parameters that are the same
 
 pub same_job_binds : (p : Planner) (parallel : Bool) (waive : List ℕ) (y : ℕ) (ps qs : List Param) (args : List Arg) → Pairwise SameParam ps qs
-    → job_binds p parallel waive y ps args ≡ job_binds p parallel waive y qs args
+    → job_binds p.world parallel waive y ps args ≡ job_binds p.world parallel waive y qs args
 same_job_binds p parallel waive y [] [] args same = refl
 same_job_binds p parallel waive y [] (r ∷ qs) args same = absurd same
 same_job_binds p parallel waive y (q ∷ ps) [] args same = absurd same
@@ -148,7 +148,7 @@ same_job_binds p parallel waive y (q ∷ ps) (r ∷ qs) (a ∷ args) same =
     let access = same.0.access in
     let by = same.0.by in
     let more = same_job_binds p parallel waive (y + 1) ps qs args same.1 in
-    λ i. job_bind p (kinds i) (width_at parallel waive y (record r { kind = kinds i; access = access i; by = by i })) a ∷ more i
+    λ i. job_bind p.world (kinds i) (width_at parallel waive y (record r { kind = kinds i; access = access i; by = by i })) a ∷ more i
 
 pub same_args_fit : (s : ScriptState) (ps qs : List Param) (args : List Arg) → Pairwise SameParam ps qs → ArgsFit s None ps args → ArgsFit s None qs args
 same_args_fit s [] [] args same fit = fit

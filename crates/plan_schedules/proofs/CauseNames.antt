@@ -28,7 +28,7 @@ pub named_more : (m : ℕ) (us : List NamedUse) (u : NamedUse) → AreNamed m us
 named_more m [] u are lt = (lt, tt)
 named_more m (x ∷ us) u are lt = (are.0, named_more m us u are.1 lt)
 
-pub uses_named : (p : Planner) (after : Jobs) (m : ℕ) (ps : List Param) (args : List Arg) (us : List NamedUse) → ForNames (IsUse p after) ps args us
+pub uses_named : (p : Planner) (after : Jobs) (m : ℕ) (ps : List Param) (args : List Arg) (us : List NamedUse) → ForNames (IsUse p.world after) ps args us
     → EachBelow m args → AreNamed m us
 uses_named p after m [] args us e below = subst (AreNamed m) (sym e) tt
 uses_named p after m (q ∷ ps) [] us e below = subst (AreNamed m) (sym e) tt

@@ -94,7 +94,7 @@ module _ (p : Planner) (g : Setting) (begun : ScriptState) (m : ℕ) (s : Script
             ∙ ap (λ b. reason b (checks.is_stale view (state_of p.world.safety it.slot.0).view)) (kept.alive)
             ∙ ap (λ v. reason (s.alive c) (checks.is_stale view v)) (kept.view alive)
 
-    blocked_for : (o : Option Container) → o ≡ Some it → (b : Option Blocked) → IsBlockedBy p after (tag_by view o) writes b
+    blocked_for : (o : Option Container) → o ≡ Some it → (b : Option Blocked) → IsBlockedBy p.world after (tag_by view o) writes b
         → b ≡ reason (s.alive c) (checks.is_stale view (s.view c))
     blocked_for None e b h = absurd (none_some e)
     blocked_for (Some other) e b h =
@@ -106,7 +106,7 @@ module _ (p : Planner) (g : Setting) (begun : ScriptState) (m : ℕ) (s : Script
   pub record MeansValue (v : Value) : Type 0 where
     pub container : number_of_value v ≡ container_of (value_for p.world.handles.items v)
     pub temp : is_alive s (value_for p.world.handles.items v) ≡ true → is_temp_in p.world.containers.items v ≡ is_temp (s.life (number_of_value v))
-    pub blocked : (writes : Bool) (b : Option Blocked) → IsBlockedBy p after (tag_for p.world.containers.items v) writes b
+    pub blocked : (writes : Bool) (b : Option Blocked) → IsBlockedBy p.world after (tag_for p.world.containers.items v) writes b
         → b ≡ refused_value (value_for p.world.handles.items v) writes
     pub known_by : is_alive s (value_for p.world.handles.items v) ≡ true → (it : Container)
         × (slice_get p.world.containers.items (number_of_value v) ≡ Some it)
@@ -156,7 +156,7 @@ module _ (p : Planner) (g : Setting) (begun : ScriptState) (m : ℕ) (s : Script
         known_by = λ a. absurd (not_both a (ap (is_alive s) e));
       }
 
-  use_meant : (q : Param) (n : ℕ) (u : NamedUse) → IsUse p after q n u → IsMeant p s after u
+  use_meant : (q : Param) (n : ℕ) (u : NamedUse) → IsUse p.world after q n u → IsMeant p s after u
       (record { need = need_of s n (writes_to q.access); kind = q.kind; is_length = false })
   use_meant q n u is =
       let v = st.knows.names.are n is.value is.has in
@@ -170,7 +170,7 @@ module _ (p : Planner) (g : Setting) (begun : ScriptState) (m : ℕ) (s : Script
         };
         container_is = refl;
         blocked =
-            m.blocked (writes_to u.access) u.blocked (subst (λ o. IsBlockedBy p after o (writes_to u.access) u.blocked) is.tag is.blocked)
+            m.blocked (writes_to u.access) u.blocked (subst (λ o. IsBlockedBy p.world after o (writes_to u.access) u.blocked) is.tag is.blocked)
             ∙ (λ i. refused_value (v i) (writes_to (is.access i)));
         temp = λ alive.
             is.temp ∙ m.temp (ap (is_alive s) v ∙ alive) ∙ ap (λ c. is_temp (s.life c)) at;
@@ -183,7 +183,8 @@ module _ (p : Planner) (g : Setting) (begun : ScriptState) (m : ℕ) (s : Script
             );
       }
 
-  pub uses_meant : (qs : List Param) (args : List Arg) (us : List NamedUse) → ForNames (IsUse p after) qs args us → AreMeant p s after us (given_args s qs args)
+  pub uses_meant : (qs : List Param) (args : List Arg) (us : List NamedUse) → ForNames (IsUse p.world after) qs args us
+      → AreMeant p s after us (given_args s qs args)
   uses_meant [] args us e = subst (λ us. AreMeant p s after us []) (sym e) tt
   uses_meant (q ∷ qs) [] us e = subst (λ us. AreMeant p s after us []) (sym e) tt
   uses_meant (q ∷ qs) (Number z ∷ args) us h = uses_meant qs args us h

@@ -72,7 +72,7 @@ module _ (script : Script) (table : Table) (begun : ScriptState) (n : ℕ) (foun
   waited = deps_of g s o
 
   module _ (step : IsStep script table n x) (text : IsText script table n line home asked step) (p : Planner) (st : StandsAt p script table begun n found)
-      (uses : List NamedUse) (named : Jobs) (are : ForNames (IsUse p named) text.source.params.items asked.args.items uses)
+      (uses : List NamedUse) (named : Jobs) (are : ForNames (IsUse p.world named) text.source.params.items asked.args.items uses)
       (none : refusal g s x.act ≡ None) where
     accepted_as : IsAcceptedSchedule g s o
     accepted_as = started.accepted_as script table begun n found line home (undeferred asked) step p st none
@@ -157,14 +157,14 @@ module _ (script : Script) (table : Table) (begun : ScriptState) (n : ℕ) (foun
       args_fit : ArgsFit s None ps asked.args.items
       args_fit = subst (λ k. ArgsFit s None (kernel_params k) asked.args.items) text.has accepted_as.args_fit
 
-      source_binds : run.binds.items ≡ job_binds p text.source.parallel asked.waive.items 0 ps asked.args.items
-      source_binds = r.binds ∙ ap (λ (k : Kernel). job_binds p k.parallel asked.waive.items 0 k.params.items asked.args.items) source_same
+      source_binds : run.binds.items ≡ job_binds p.world text.source.parallel asked.waive.items 0 ps asked.args.items
+      source_binds = r.binds ∙ ap (λ (k : Kernel). job_binds p.world k.parallel asked.waive.items 0 k.params.items asked.args.items) source_same
 
       copy_binds : (y : Outline) → Agrees p g begun found y → run.binds.items ≡ argument_binds y.starts s o copy.copy
       copy_binds y a =
           source_binds
           ∙ same_job_binds p text.source.parallel asked.waive.items 0 ps copy.copy.params.items asked.args.items copy.same.params
-          ∙ ap (λ b. job_binds p b asked.waive.items 0 copy.copy.params.items asked.args.items) copy.same.parallel
+          ∙ ap (λ b. job_binds p.world b asked.waive.items 0 copy.copy.params.items asked.args.items) copy.same.parallel
           ∙ args_are p g begun n s found st y a None copy.copy.parallel asked.waive.items 0 copy.copy.params.items asked.args.items names_below
           (same_args_fit s ps copy.copy.params.items asked.args.items copy.same.params args_fit)
 

@@ -130,15 +130,15 @@ module _ (script : Script) (p : Planner) (line : ℕ) (home : Box NewJob Global)
 
     pub are_given : (k : Kernel) → slice_get script.kernels.items asked.kernel ≡ Some k
         → (named : Jobs) (qs : List Param) (xs : List Arg) (uses : List NamedUse) → qs ≡ k.params.items → xs ≡ asked.args.items
-        → ForNames (IsUse p named) qs xs uses → ForNames (IsUse p named) text.source.params.items asked.args.items uses
+        → ForNames (IsUse p.world named) qs xs uses → ForNames (IsUse p.world named) text.source.params.items asked.args.items uses
     are_given k h named qs xs uses e f are =
-        subst (λ qs. ForNames (IsUse p named) qs asked.args.items uses) (e ∙ ap (λ (k : Kernel). k.params.items) (sym (source_at k h)))
-        (subst (λ xs. ForNames (IsUse p named) qs xs uses) f are)
+        subst (λ qs. ForNames (IsUse p.world named) qs asked.args.items uses) (e ∙ ap (λ (k : Kernel). k.params.items) (sym (source_at k h)))
+        (subst (λ xs. ForNames (IsUse p.world named) qs xs uses) f are)
 
     -- ---- with its uses
 
     module _ (uses : List NamedUse) (named : Jobs) (named_are : named ≡ jobs_named s asked.after.items)
-        (are : ForNames (IsUse p named) text.source.params.items asked.args.items uses) where
+        (are : ForNames (IsUse p.world named) text.source.params.items asked.args.items uses) where
       abbrev gs : List Given
       gs = given_args s text.source.params.items asked.args.items
 

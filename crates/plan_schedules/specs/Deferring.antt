@@ -24,6 +24,7 @@ use Rattle.native_list.specs.declared.ListAt.{ListAt}
 use Rattle.plan_schedules.specs.declared.accepting.Run.{Run}
 use Rattle.plan_state.specs.declared.state.Value.{Value}
 use Rattle.plan_state.specs.declared.state.Planner.{Planner}
+use Rattle.plan_state.specs.declared.state.World.{World}
 use Rattle.plan_schedules.specs.declared.causes.Cause.{Cause}
 use Rattle.plan_schedules.specs.declared.uses.NamedUse.{NamedUse}
 use Rattle.plan_state.specs.Accesses.{tag_for}
@@ -46,16 +47,16 @@ deferring line home asked cut defer = record { line = line; act = Schedule (in_b
 -- THE USE OF THE LIST
 
 -- The list after `defer` is used like one that is given to an `ro` parameter.
-pub record IsLengthUse (p : Planner) (after : JobSet) (name : ℕ) (u : NamedUse) : Type 0 where
+pub record IsLengthUse (w : World) (after : JobSet) (name : ℕ) (u : NamedUse) : Type 0 where
   pub value : Value
-  pub has : slice_get p.world.values.items name ≡ Some value
+  pub has : slice_get w.values.items name ≡ Some value
   pub named : u.name ≡ name
   pub container : u.container ≡ number_of_value value
   pub kind : u.kind ≡ ListKind
   pub access : u.access ≡ Read
-  pub temp : u.is_temp ≡ is_temp_in p.world.containers.items value
-  pub tag : u.tag ≡ tag_for p.world.containers.items value
-  pub blocked : IsBlockedBy p after u.tag false u.blocked
+  pub temp : u.is_temp ≡ is_temp_in w.containers.items value
+  pub tag : u.tag ≡ tag_for w.containers.items value
+  pub blocked : IsBlockedBy w after u.tag false u.blocked
 
 -- It is the length among the values of the schedule.
 abbrev pub length_given : NamedUse → Given
@@ -142,12 +143,12 @@ IsListBind (WholeList at) = at.cap ≤ MOST_INDEXES
 IsListBind _ = ⊥
 
 -- The name stands for a whole list, which has at most as many elements as a job has indexes.
-abbrev pub IsListName : Planner → ℕ → Type 0
-IsListName p name = IsListBind (bind_of_value p (slice_get p.world.values.items name))
+abbrev pub IsListName : World → ℕ → Type 0
+IsListName w name = IsListBind (bind_of_value w (slice_get w.values.items name))
 
 -- the words of the list of a name
-abbrev pub IsListAt : Planner → ℕ → ListAt → Type 0
-IsListAt p name at = bind_of_value p (slice_get p.world.values.items name) ≡ WholeList at
+abbrev pub IsListAt : World → ℕ → ListAt → Type 0
+IsListAt w name at = bind_of_value w (slice_get w.values.items name) ≡ WholeList at
 
 -- ITS JOB
 
@@ -158,9 +159,9 @@ pub record IsGuardedRun (script : Script) (old new : Planner) (kernel : ℕ) (ar
   pub source : Kernel
   pub is_source : slice_get script.kernels.items kernel ≡ Some source
   pub at : ListAt
-  pub list_at : IsListAt old list at
+  pub list_at : IsListAt old.world list at
   pub guarded : IsGuardedAt script old new kernel run.kernel
   pub binds : run.binds.items
-      ≡ job_binds old source.parallel waive 0 source.params.items args ++ word_at at.start ∷ []
+      ≡ job_binds old.world source.parallel waive 0 source.params.items args ++ word_at at.start ∷ []
   pub cut_by : IsCutBy (Some (at.cap, batch)) run.cut
   pub parallel : run.parallel ≡ (source.parallel && is_none waive)

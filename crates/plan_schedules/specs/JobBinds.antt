@@ -9,7 +9,7 @@ use Rattle.frame_ast.specs.Schedules.{width_at}
 use Rattle.kernel_exec.specs.declared.binds.Bind.{Bind}
 use Rattle.kernel_exec.specs.declared.binds.Bind.TheVariants.{Int, Array, View, List as WholeList, Ref, Map, Stream}
 use Rattle.plan_state.specs.declared.state.Value.{Value}
-use Rattle.plan_state.specs.declared.state.Planner.{Planner}
+use Rattle.plan_state.specs.declared.state.World.{World}
 use Rattle.plan_state.specs.Accesses.{no_words, bind_by}
 
 -- the elements of an array, a slice, a view or a list
@@ -39,17 +39,17 @@ as_kind RefKind width b = b
 as_kind MapKind width b = b
 as_kind StreamKind width b = as_stream width b
 
-abbrev pub bind_of_value : Planner → Option Value → Bind
-bind_of_value p None = no_words
-bind_of_value p (Some v) = bind_by p.world.containers.items v
+abbrev pub bind_of_value : World → Option Value → Bind
+bind_of_value w None = no_words
+bind_of_value w (Some v) = bind_by w.containers.items v
 
-abbrev pub job_bind : Planner → ParamKind → ℕ → Arg → Bind
-job_bind p kind width (Name n) = as_kind kind width (bind_of_value p (slice_get p.world.values.items n))
-job_bind p kind width (Number z) = Int z
+abbrev pub job_bind : World → ParamKind → ℕ → Arg → Bind
+job_bind w kind width (Name n) = as_kind kind width (bind_of_value w (slice_get w.values.items n))
+job_bind w kind width (Number z) = Int z
 
 -- the binds of a job, from the parameter at a place on
-abbrev pub job_binds : Planner → Bool → List ℕ → ℕ → List Param → List Arg → List Bind
-job_binds p parallel waive x [] args = []
-job_binds p parallel waive x (q ∷ qs) [] = []
-job_binds p parallel waive x (q ∷ qs) (a ∷ as_) =
-    job_bind p q.kind (width_at parallel waive x q) a ∷ job_binds p parallel waive (x + 1) qs as_
+abbrev pub job_binds : World → Bool → List ℕ → ℕ → List Param → List Arg → List Bind
+job_binds w parallel waive x [] args = []
+job_binds w parallel waive x (q ∷ qs) [] = []
+job_binds w parallel waive x (q ∷ qs) (a ∷ as_) =
+    job_bind w q.kind (width_at parallel waive x q) a ∷ job_binds w parallel waive (x + 1) qs as_

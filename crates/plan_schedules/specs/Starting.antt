@@ -129,7 +129,7 @@ pub record IsPlainRun (script : Script) (old new : Planner) (kernel : ℕ) (args
   pub source : Kernel
   pub is_source : slice_get script.kernels.items kernel ≡ Some source
   pub copied : IsCopied script old new kernel run.kernel
-  pub binds : run.binds.items ≡ job_binds old source.parallel waive 0 source.params.items args
+  pub binds : run.binds.items ≡ job_binds old.world source.parallel waive 0 source.params.items args
   pub cut_by : IsCutBy cut run.cut
   pub parallel : run.parallel ≡ (source.parallel && is_none waive)
 

@@ -16,7 +16,7 @@ use Rattle.safety_handle.specs.Entries.{state_of}
 use Rattle.plan_state.specs.declared.state.Value.{Value}
 use Rattle.plan_state.specs.declared.state.Value.TheVariants.{Dead, Whole, Slice, View, Jobs}
 use Rattle.plan_state.specs.declared.state.Container.{Container}
-use Rattle.plan_state.specs.declared.state.Planner.{Planner}
+use Rattle.plan_state.specs.declared.state.World.{World}
 use Rattle.plan_schedules.specs.declared.uses.NamedUse.{NamedUse}
 use Rattle.plan_state.specs.Accesses.{tag_for}
 
@@ -41,23 +41,23 @@ is_temp_in containers (View c number) = is_temp_by (slice_get containers c)
 is_temp_in containers (Jobs k) = false
 
 -- Why a use through a tag is refused to what waits for some jobs; without a tag there is no container.
-abbrev pub IsBlockedBy : Planner → JobSet → Option Tag → Bool → Option Blocked → Type 0
-IsBlockedBy p after None writes blocked = blocked ≡ Some NotLive
-IsBlockedBy p after (Some tag) writes blocked = (r : Result (Unit {0}) Blocked)
-    × IsAnswer (state_of p.world.safety tag.slot.0) tag p.world.jobs after writes r
+abbrev pub IsBlockedBy : World → JobSet → Option Tag → Bool → Option Blocked → Type 0
+IsBlockedBy w after None writes blocked = blocked ≡ Some NotLive
+IsBlockedBy w after (Some tag) writes blocked = (r : Result (Unit {0}) Blocked)
+    × IsAnswer (state_of w.safety tag.slot.0) tag w.jobs after writes r
     × (blocked ≡ result_err r)
 
 -- A use of the container of a name, as a parameter makes it, by a job that waits for some jobs.
-pub record IsUse (p : Planner) (after : JobSet) (param : Param) (name : ℕ) (u : NamedUse) : Type 0 where
+pub record IsUse (w : World) (after : JobSet) (param : Param) (name : ℕ) (u : NamedUse) : Type 0 where
   pub value : Value
-  pub has : slice_get p.world.values.items name ≡ Some value
+  pub has : slice_get w.values.items name ≡ Some value
   pub named : u.name ≡ name
   pub container : u.container ≡ number_of_value value
   pub kind : u.kind ≡ param.kind
   pub access : u.access ≡ param.access
-  pub temp : u.is_temp ≡ is_temp_in p.world.containers.items value
-  pub tag : u.tag ≡ tag_for p.world.containers.items value
-  pub blocked : IsBlockedBy p after u.tag (writes_to u.access) u.blocked
+  pub temp : u.is_temp ≡ is_temp_in w.containers.items value
+  pub tag : u.tag ≡ tag_for w.containers.items value
+  pub blocked : IsBlockedBy w after u.tag (writes_to u.access) u.blocked
 
 -- something of each name among the arguments, with its parameter, in their order
 abbrev pub ForNames : (Param → ℕ → NamedUse → Type 0) → List Param → List Arg → List NamedUse → Type 0

@@ -55,13 +55,13 @@ pub(crate) fn add_job(
     ensures done { OnOk result (IsScheduled planner.old planner.new handle run uses.now (jobs_of deps.now)) }
     ensures full { IfErr result (λ fault. IsFull fault (count_of planner.old.world.jobs)) }
 {
-    let later = later_jobs(planner, alloc, deps)?;
+    let later = later_jobs(&planner.world, alloc, deps)?;
     let job = match planner.world.jobs.add(deps) {
         Ok(job) => job,
         Err(BookFault::Full) => return Err(PlanFault::Jobs),
         Err(BookFault::NoMemory) => return Err(PlanFault::NoMemory),
     };
-    note_all(planner, uses, job);
+    note_all(&mut planner.world, uses, job);
     let plan = JobPlan {
         kernel: run.kernel,
         binds: run.binds,

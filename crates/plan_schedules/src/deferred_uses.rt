@@ -17,39 +17,39 @@ use job_base::{Access, NoMemory, Refusal};
 use job_handle::Handle;
 use kernel_exec::Bind;
 use native_list::ListAt;
-use plan_state::Planner;
+use plan_state::World;
 use std::alloc::Global;
 
 /// The use of the list after `defer` by a job that waits for `named`.
-pub(crate) fn length_use(planner: &Planner, name: u32, named: &Handle) -> NamedUse
-    requires name { name < vec_len planner.now.world.values }
-    requires there { AreThere (vec_len planner.now.world.containers) (vec_len planner.now.world.handles)
-        planner.now.world.values.items }
-    requires jobs { AreUpTo (count_of planner.now.world.jobs) (jobs_of named.now) }
-    ensures { IsLengthUse planner.now (jobs_of named.now) name result }
+pub(crate) fn length_use(world: &World, name: u32, named: &Handle) -> NamedUse
+    requires name { name < vec_len world.now.values }
+    requires there { AreThere (vec_len world.now.containers) (vec_len world.now.handles)
+        world.now.values.items }
+    requires jobs { AreUpTo (count_of world.now.jobs) (jobs_of named.now) }
+    ensures { IsLengthUse world.now (jobs_of named.now) name result }
 {
-    let value = planner.world.values[name as usize];
-    let tag = planner.world.tag(value);
+    let value = world.values[name as usize];
+    let tag = world.tag(value);
     NamedUse {
         name,
         container: number_of(value),
         kind: ParamKind::List,
         access: Access::Read,
-        is_temp: is_temp(planner, value),
+        is_temp: is_temp(world, value),
         tag,
-        blocked: blocked_for(planner, tag, false, named),
+        blocked: blocked_for(world, tag, false, named),
     }
 }
 
 /// The words of a list.
-pub(crate) fn list_at(planner: &Planner, name: u32) -> ListAt
-    requires name { name < vec_len planner.now.world.values }
-    requires there { AreThere (vec_len planner.now.world.containers) (vec_len planner.now.world.handles)
-        planner.now.world.values.items }
-    requires list { IsListName planner.now name }
-    ensures { IsListAt planner.now name result }
+pub(crate) fn list_at(world: &World, name: u32) -> ListAt
+    requires name { name < vec_len world.now.values }
+    requires there { AreThere (vec_len world.now.containers) (vec_len world.now.handles)
+        world.now.values.items }
+    requires list { IsListName world.now name }
+    ensures { IsListAt world.now name result }
 {
-    match planner.world.bind(planner.world.values[name as usize]) {
+    match world.bind(world.values[name as usize]) {
         Bind::List(at) => at,
         // The name stands for a list: `list`.
         _ => unreachable!(),

@@ -25,7 +25,7 @@ use job_handle::Handle;
 use kernel_exec::Bind;
 use native_array::ArrayAt;
 use native_list::ListAt;
-use plan_state::{PlanFault, Planner};
+use plan_state::{PlanFault, Planner, World};
 use std::alloc::Global;
 
 /// `schedule [auto] handle kernel(args) defer list BATCH [waive p ..] [after h ..]`
@@ -75,14 +75,14 @@ fn schedule_by_list(
     let parallel = script.kernels[job.kernel as usize].parallel;
     let mut deps = Handle::empty();
     planner.world.set_to_jobs_of(&mut deps, &job.after);
-    let uses = uses(planner, alloc, params, &job.args, &deps)?;
-    let length = length_use(planner, list, &deps);
+    let uses = uses(&planner.world, alloc, params, &job.args, &deps)?;
+    let length = length_use(&planner.world, list, &deps);
     let all = with_length(alloc, &uses, &length)?;
     if let Some(cause) = deferred_refusal(&uses, &length, &all, parallel, job.auto) {
         refuse_schedule(planner, line, job.handle, cause)?;
         return Ok(());
     }
-    add_automatic(planner, alloc, job.auto, &mut deps, &all)?;
+    add_automatic(&planner.world, alloc, job.auto, &mut deps, &all)?;
     let noted = noted_uses(uses, all, &length);
     let run = guarded_run(
         planner,
@@ -98,7 +98,7 @@ fn schedule_by_list(
 
 /// The binds of the arguments, and the word that holds the length of the list.
 fn deferred_binds(
-    planner: &Planner,
+    world: &World,
     alloc: Global,
     kernel: &Kernel,
     args: &[Arg],
@@ -107,14 +107,14 @@ fn deferred_binds(
 ) -> Result<Vec<Bind>, NoMemory>
     requires each { length args.now ≡ vec_len kernel.now.params }
     requires few { length args.now ≤ MOST_PARAMS }
-    requires names { AreNamesBelow (vec_len planner.now.world.values) args.now }
-    requires there { AreThere (vec_len planner.now.world.containers) (vec_len planner.now.world.handles)
-        planner.now.world.values.items }
+    requires names { AreNamesBelow (vec_len world.now.values) args.now }
+    requires there { AreThere (vec_len world.now.containers) (vec_len world.now.handles)
+        world.now.values.items }
     ensures { IfOk result (λ binds. binds.items
-        ≡ job_binds planner.now kernel.now.parallel waive.now 0 kernel.now.params.items args.now
+        ≡ job_binds world.now kernel.now.parallel waive.now 0 kernel.now.params.items args.now
         ++ deferred.word_at at.start ∷ []) }
 {
-    let mut binds = job_binds(planner, alloc, kernel, args, waive)?;
+    let mut binds = job_binds(world, alloc, kernel, args, waive)?;
     binds.push(word_at(at.start))?;
     Ok(binds)
 }
@@ -140,14 +140,14 @@ fn guarded_run(
     requires there { AreThere (vec_len planner.old.world.containers) (vec_len planner.old.world.handles)
         planner.old.world.values.items }
     requires list { defer.0 < vec_len planner.old.world.values }
-    requires is_list { IsListName planner.old defer.0 }
+    requires is_list { IsListName planner.old.world defer.0 }
     requires batch { (1 ≤ defer.1) × (defer.1 ≤ MOST_INDEXES) }
     ensures { IfOk result (λ run.
         IsGuardedRun script.now planner.old planner.new kernel args.now waive.now defer.0 defer.1 run) }
 {
     let of = &script.kernels[kernel as usize];
-    let at = list_at(planner, defer.0);
-    let binds = deferred_binds(planner, alloc, of, args, waive, at)?;
+    let at = list_at(&planner.world, defer.0);
+    let binds = deferred_binds(&planner.world, alloc, of, args, waive, at)?;
     let place = guarded_copy_of(planner, alloc, script, kernel)?;
     Ok(Run {
         kernel: place,

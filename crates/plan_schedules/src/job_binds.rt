@@ -11,12 +11,12 @@ use frame_ast::kernel::{Kernel, Param, ParamKind, writes_to};
 use frame_ast::script::Arg;
 use job_base::NoMemory;
 use kernel_exec::Bind;
-use plan_state::Planner;
+use plan_state::World;
 use std::alloc::Global;
 
 /// The binds of a job's arguments, with the widths of the own-index rule; `waive` are places among the parameters.
 pub(crate) fn job_binds(
-    planner: &Planner,
+    world: &World,
     alloc: Global,
     kernel: &Kernel,
     args: &[Arg],
@@ -24,35 +24,31 @@ pub(crate) fn job_binds(
 ) -> Result<Vec<Bind>, NoMemory>
     requires each { length args.now ≡ vec_len kernel.now.params }
     requires few { length args.now ≤ MOST_PARAMS }
-    requires names { AreNamesBelow (vec_len planner.now.world.values) args.now }
-    requires there { AreThere (vec_len planner.now.world.containers) (vec_len planner.now.world.handles)
-        planner.now.world.values.items }
+    requires names { AreNamesBelow (vec_len world.now.values) args.now }
+    requires there { AreThere (vec_len world.now.containers) (vec_len world.now.handles)
+        world.now.values.items }
     ensures { IfOk result (λ binds. binds.items
-        ≡ job_binds planner.now kernel.now.parallel waive.now 0 kernel.now.params.items args.now) }
+        ≡ job_binds world.now kernel.now.parallel waive.now 0 kernel.now.params.items args.now) }
 {
     let mut binds = Vec::with_capacity(alloc, args.len())?;
     for i in 0..args.len() {
         let param = &kernel.params[i];
         let width = width_of(kernel.parallel, param, i as u32, waive);
-        binds.push(job_bind(planner, param.kind, width, args[i]))?;
+        binds.push(job_bind(world, param.kind, width, args[i]))?;
     }
     Ok(binds)
 }
 
 /// What a job is given for an argument of a parameter of that kind.
-fn job_bind(planner: &Planner, kind: ParamKind, width: u32, arg: Arg) -> Bind
-    requires name { IsNameBelow (vec_len planner.now.world.values) arg }
-    requires there { AreThere (vec_len planner.now.world.containers) (vec_len planner.now.world.handles)
-        planner.now.world.values.items }
-    ensures { result ≡ job_bind planner.now kind width arg }
+fn job_bind(world: &World, kind: ParamKind, width: u32, arg: Arg) -> Bind
+    requires name { IsNameBelow (vec_len world.now.values) arg }
+    requires there { AreThere (vec_len world.now.containers) (vec_len world.now.handles)
+        world.now.values.items }
+    ensures { result ≡ job_bind world.now kind width arg }
 {
     match arg {
         Arg::Number(number) => Bind::Int(number),
-        Arg::Name(name) => as_kind(
-            kind,
-            width,
-            planner.world.bind(planner.world.values[name as usize]),
-        ),
+        Arg::Name(name) => as_kind(kind, width, world.bind(world.values[name as usize])),
     }
 }
 

@@ -9,7 +9,8 @@
 //! after it (`specs/Steps` of plan_state). Why the job does what its schedule says is shown in `plan_laws`.
 //!
 //! *Cost.* A job costs a set of 4,096 bits, and for each argument a look at the safety book and one at each argument
-//! before it. The kernels that jobs run are copied and compiled once (`copies`).
+//! before it. The kernels that jobs run are copied and compiled once (`copies`). What a schedule without `defer`
+//! gathers stands in memory that one schedule leaves to the next ([`Gathered`]), so one that is refused takes none.
 #![tactic(auto)]
 
 mod accepting;
@@ -17,6 +18,7 @@ mod causes;
 mod copies;
 mod deferred_uses;
 mod deferring;
+mod gathered;
 mod guards;
 mod job_binds;
 mod new_job;
@@ -25,4 +27,5 @@ mod scheduling;
 mod uses;
 
 pub use deferring::schedule_deferred;
+pub use gathered::Gathered;
 pub use scheduling::schedule;

@@ -11,7 +11,7 @@ use batch_cut::Cut;
 use frame_core::{JobPlan, Segment};
 use job_base::{JobId, NoMemory};
 use job_handle::Handle;
-use plan_state::Planner;
+use plan_state::{Planner, World};
 use std::alloc::Global;
 use std::mem;
 
@@ -31,20 +31,20 @@ pub(crate) fn cut_of(cut: Option<(u32, u32)>) -> Cut
 
 /// The jobs of this section among some jobs, by their numbers in the plan.
 pub(crate) fn later_jobs(
-    planner: &Planner,
+    world: &World,
     alloc: Global,
     jobs: &Handle,
 ) -> Result<Vec<JobId>, NoMemory>
-    requires before { planner.now.world.jobs_before ≤ count_of planner.now.world.jobs }
-    requires jobs { AreUpTo (count_of planner.now.world.jobs) (jobs_of jobs.now) }
+    requires before { world.now.jobs_before ≤ count_of world.now.jobs }
+    requires jobs { AreUpTo (count_of world.now.jobs) (jobs_of jobs.now) }
     ensures { IfOk result (λ later.
-        AreLater planner.now.world.jobs_before (count_of planner.now.world.jobs) (jobs_of jobs.now) later.items) }
+        AreLater world.now.jobs_before (count_of world.now.jobs) (jobs_of jobs.now) later.items) }
 {
-    let none = planner.world.jobs.nobody();
+    let none = world.jobs.nobody();
     let mut later = Vec::new(alloc);
-    let mut at = planner.world.jobs_before;
-    while let Some(job) = jobs.next_outside(none, at, planner.world.jobs.count()) {
-        later.push(JobId(job.0 - planner.world.jobs_before))?;
+    let mut at = world.jobs_before;
+    while let Some(job) = jobs.next_outside(none, at, world.jobs.count()) {
+        later.push(JobId(job.0 - world.jobs_before))?;
         at = job.0;
     }
     Ok(later)

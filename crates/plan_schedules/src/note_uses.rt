@@ -7,20 +7,19 @@ ghost use Rattle.plan_schedules.specs.Noting.{MayNote, MayNoteAll, noted, noted_
 use crate::uses::NamedUse;
 use frame_ast::kernel::writes_to;
 use job_base::JobId;
-use plan_state::Planner;
+use plan_state::World;
 use safety_handle::SafetyBook;
 
 /// A new job has these uses. The views of the lists that it may write are broken.
-pub(crate) fn note_all(planner: &mut Planner, uses: &[NamedUse], job: JobId)
+pub(crate) fn note_all(world: &mut World, uses: &[NamedUse], job: JobId)
     requires job { (0 < job.0) × (job.0 ≤ MOST_JOBS) }
-    requires may { MayNoteAll uses.now (state_of planner.old.world.safety) }
-    ensures noted { (k : ℕ) → state_of planner.new.world.safety k
-        ≡ noted_all job.0 uses.now (state_of planner.old.world.safety) k }
-    ensures rest { planner.new
-        ≡ record planner.old { world = record planner.old.world { safety = planner.new.world.safety } } }
+    requires may { MayNoteAll uses.now (state_of world.old.safety) }
+    ensures noted { (k : ℕ) → state_of world.new.safety k
+        ≡ noted_all job.0 uses.now (state_of world.old.safety) k }
+    ensures rest { world.new ≡ record world.old { safety = world.new.safety } }
 {
     for i in 0..uses.len() {
-        note(&mut planner.world.safety, &uses[i], job);
+        note(&mut world.safety, &uses[i], job);
     }
 }
 

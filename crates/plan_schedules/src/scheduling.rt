@@ -21,14 +21,15 @@ ghost use Rattle.plan_schedules.specs.Uses.{AreNamesBelow, tags_of};
 use crate::accepting::{Run, add_job};
 use crate::causes::{Cause, refusal_of};
 use crate::copies::plan_copy_of;
+use crate::gathered::Gathered;
 use crate::job_binds::job_binds;
 use crate::new_job::cut_of;
-use crate::uses::{NamedUse, uses};
+use crate::uses::{NamedUse, gather};
 use auto_deps::automatic;
 use frame_ast::script::{Arg, NewJob, Script};
 use job_base::{Access, NoMemory};
 use job_handle::Handle;
-use plan_state::{PlanFault, Planner};
+use plan_state::{PlanFault, Planner, World};
 use safety_handle::Tag;
 use std::alloc::Global;
 
@@ -39,6 +40,7 @@ pub fn schedule(
     script: &Script,
     line: u32,
     job: &NewJob,
+    gathered: &mut Gathered,
 ) -> Result<(), PlanFault>
     // The statement has its job in a box, whichever that is.
     requires ready { (home : Box NewJob Global) × IsBefore script.now planner.old (scheduling line home job.now) }
@@ -50,18 +52,36 @@ pub fn schedule(
 {
     let params = &script.kernels[job.kernel as usize].params;
     let parallel = script.kernels[job.kernel as usize].parallel;
-    let mut deps = Handle::empty();
-    planner.world.set_to_jobs_of(&mut deps, &job.after);
-    let uses = uses(planner, alloc, params, &job.args, &deps)?;
-    if let Some(cause) = refusal_of(&uses, parallel, job.auto) {
+    planner.world.set_to_jobs_of(&mut gathered.deps, &job.after);
+    gather(
+        &planner.world,
+        params,
+        &job.args,
+        &gathered.deps,
+        &mut gathered.uses,
+    )?;
+    if let Some(cause) = refusal_of(&gathered.uses, parallel, job.auto) {
         refuse_schedule(planner, line, job.handle, cause)?;
         return Ok(());
     }
-    add_automatic(planner, alloc, job.auto, &mut deps, &uses)?;
+    add_automatic(
+        &planner.world,
+        alloc,
+        job.auto,
+        &mut gathered.deps,
+        &gathered.uses,
+    )?;
     let run = plain_run(
         planner, alloc, script, job.kernel, &job.args, job.cut, &job.waive,
     )?;
-    add_job(planner, alloc, job.handle, run, &uses, &deps)
+    add_job(
+        planner,
+        alloc,
+        job.handle,
+        run,
+        &gathered.uses,
+        &gathered.deps,
+    )
 }
 
 /// A refused schedule makes no job.
@@ -86,21 +106,21 @@ pub(crate) fn refuse_schedule(
 
 /// What the job waits for: the named jobs, and with `auto` all others that it has to, which are added to them.
 pub(crate) fn add_automatic(
-    planner: &Planner,
+    world: &World,
     alloc: Global,
     auto: bool,
     deps: &mut Handle,
     uses: &[NamedUse],
 ) -> Result<(), NoMemory>
-    requires named { AreUpTo (count_of planner.now.world.jobs) (jobs_of deps.old) }
-    requires noted { AreUpTo (count_of planner.now.world.jobs) (conflicting_with planner.now.world.safety
+    requires named { AreUpTo (count_of world.now.jobs) (jobs_of deps.old) }
+    requires noted { AreUpTo (count_of world.now.jobs) (conflicting_with world.now.safety
         (tags_of uses.now)) }
     ensures { OnOk result (
-        AreDeps auto (jobs_of deps.old) planner.now.world.jobs planner.now.world.safety (tags_of uses.now)
+        AreDeps auto (jobs_of deps.old) world.now.jobs world.now.safety (tags_of uses.now)
         (jobs_of deps.new)) }
 {
     if auto {
-        add_needed(planner, alloc, deps, uses)
+        add_needed(world, alloc, deps, uses)
     } else {
         Ok(())
     }
@@ -110,20 +130,20 @@ pub(crate) fn add_automatic(
 /// without `auto` too.
 #[inline(never)]
 fn add_needed(
-    planner: &Planner,
+    world: &World,
     alloc: Global,
     deps: &mut Handle,
     uses: &[NamedUse],
 ) -> Result<(), NoMemory>
-    requires named { AreUpTo (count_of planner.now.world.jobs) (jobs_of deps.old) }
-    requires noted { AreUpTo (count_of planner.now.world.jobs) (conflicting_with planner.now.world.safety
+    requires named { AreUpTo (count_of world.now.jobs) (jobs_of deps.old) }
+    requires noted { AreUpTo (count_of world.now.jobs) (conflicting_with world.now.safety
         (tags_of uses.now)) }
     ensures { OnOk result (
-        AreDeps true (jobs_of deps.old) planner.now.world.jobs planner.now.world.safety (tags_of uses.now)
+        AreDeps true (jobs_of deps.old) world.now.jobs world.now.safety (tags_of uses.now)
         (jobs_of deps.new)) }
 {
     let tags = tags(alloc, uses)?;
-    let more = automatic(&tags, deps, &planner.world.safety, &planner.world.jobs);
+    let more = automatic(&tags, deps, &world.safety, &world.jobs);
     deps.add_all(&more);
     Ok(())
 }
@@ -152,7 +172,7 @@ fn plain_run(
     ensures { IfOk result (λ run. IsPlainRun script.now planner.old planner.new kernel args.now cut waive.now run) }
 {
     let of = &script.kernels[kernel as usize];
-    let binds = job_binds(planner, alloc, of, args, waive)?;
+    let binds = job_binds(&planner.world, alloc, of, args, waive)?;
     let place = plan_copy_of(planner, alloc, script, kernel)?;
     Ok(Run {
         kernel: place,

@@ -27,7 +27,7 @@ module _ (p : Planner) (g : Setting) (begun : ScriptState) (n : ℕ) (s : Script
   -- the words of a whole list
   pub record IsList (list : ℕ) : Type 0 where
     pub at : ListAt
-    pub is : IsListAt p list at
+    pub is : IsListAt p.world list at
     pub start : at.start ≡ get_or found (s.range (container_at s list)) 0
     pub range : s.range (container_at s list) < length found
     pub cap : at.cap ≡ capacity_of (contents_at s list)
@@ -72,7 +72,7 @@ module _ (p : Planner) (g : Setting) (begun : ScriptState) (n : ℕ) (s : Script
         let v = some_at p.world.values.items list below in
         let same = st.knows.names.are list v.0 v.1 in
         let f = subst (λ w. Found w v.0) same (list_value v.0 (st.knows.names.there list v.0 v.1) (subst (IsWhole s kind.List) (sym same) h)) in
-        record { at = f.0; is = ap (bind_of_value p) v.1 ∙ f.1; start = f.2; range = f.3; cap = f.4 }
+        record { at = f.0; is = ap (bind_of_value p.world) v.1 ∙ f.1; start = f.2; range = f.3; cap = f.4 }
 
-    pub list_name : (l : IsList list) → capacity_of (contents_at s list) ≤ MOST_INDEXES → IsListName p list
+    pub list_name : (l : IsList list) → capacity_of (contents_at s list) ≤ MOST_INDEXES → IsListName p.world list
     list_name l few = subst IsListBind (sym l.is) (let e = l.cap in omega arith)

@@ -132,13 +132,13 @@ module _ (script : Script) (table : Table) (begun : ScriptState) (n : ℕ) (foun
 
       module _ (source : Kernel) (at : slice_get script.kernels.items asked.kernel ≡ Some source) (params : List Param)
           (params_are : params ≡ source.params.items) (given : List Arg) (given_is : given ≡ asked.args.items)
-          (uses : List NamedUse) (are_uses : ForNames (IsUse p (jobs_of named)) params given uses) (length_use : NamedUse)
-          (is_length : IsLengthUse p (jobs_of named) list length_use) where
-        in_text : ForNames (IsUse p (jobs_of named)) the_text.source.params.items asked.args.items uses
+          (uses : List NamedUse) (are_uses : ForNames (IsUse p.world (jobs_of named)) params given uses) (length_use : NamedUse)
+          (is_length : IsLengthUse p.world (jobs_of named) list length_use) where
+        in_text : ForNames (IsUse p.world (jobs_of named)) the_text.source.params.items asked.args.items uses
         in_text =
-            subst (λ qs. ForNames (IsUse p (jobs_of named)) qs asked.args.items uses)
+            subst (λ qs. ForNames (IsUse p.world (jobs_of named)) qs asked.args.items uses)
             (params_are ∙ ap (λ (k : Kernel). k.params.items) (some_is (sym at ∙ the_text.has)))
-            (subst (λ as_. ForNames (IsUse p (jobs_of named)) params as_ uses) given_is are_uses)
+            (subst (λ as_. ForNames (IsUse p.world (jobs_of named)) params as_ uses) given_is are_uses)
 
         module _ (parallel : Bool) (parallel_is : parallel ≡ source.parallel) where
           pub refusal_as : as_refused (deferred_refusal uses length_use parallel asked.auto) ≡ refusal g s x.act
@@ -182,7 +182,7 @@ module _ (script : Script) (table : Table) (begun : ScriptState) (n : ℕ) (foun
             may_note_all = started.may_note_all script table begun n found line home asked list batch step the_text p st uses length_use
                 (jobs_of named) named_is in_text is_length none
 
-            pub list_named : Rattle.plan_schedules.specs.Deferring.IsListName p list
+            pub list_named : Rattle.plan_schedules.specs.Deferring.IsListName p.world list
             list_named = started.list_named script table begun n found line home asked list batch step the_text p st uses length_use
                 (jobs_of named) named_is in_text is_length none
 

@@ -87,7 +87,7 @@ module _ (script : Script) (table : Table) (begun : ScriptState) (n : ℕ) (foun
   module _ (step : IsStep script table n x) (is_text : IsDeferredText script table n line home asked list batch step) (p : Planner)
       (st : StandsAt p script table begun n found)
       (uses : List NamedUse) (length_use : NamedUse) (named : Jobs) (named_is : named ≡ jobs_named s asked.after.items)
-      (are : ForNames (IsUse p named) is_text.source.params.items asked.args.items uses) (is : IsLengthUse p named list length_use)
+      (are : ForNames (IsUse p.world named) is_text.source.params.items asked.args.items uses) (is : IsLengthUse p.world named list length_use)
       (none : refusal g s x.act ≡ None) where
     accepted_as : IsAcceptedSchedule g s o
     accepted_as = started.accepted_as script table begun n found line home here step p st none
@@ -170,7 +170,7 @@ module _ (script : Script) (table : Table) (begun : ScriptState) (n : ℕ) (foun
     pub list_few : capacity_of (contents_at s list) ≤ MOST_INDEXES
     list_few = let h = capacities_are_small script step.accepted table n (container_at s list) accepted_as.list_fits.made in omega arith
 
-    pub list_named : IsListName p list
+    pub list_named : IsListName p.world list
     list_named = lists.list_name p g begun n s found st list the_list list_few
 
     -- ---- the planner afterwards
@@ -208,7 +208,7 @@ module _ (script : Script) (table : Table) (begun : ScriptState) (n : ℕ) (foun
       binds_are : (y : Outline) → Agrees p g begun found y → run.binds.items ≡ argument_binds y.starts s o r.source ++ length_bind y.starts s list ∷ []
       binds_are y a = r.binds ∙ (λ i. args_now i ++ word_at (start_now i) ∷ [])
         where
-          args_now : job_binds p r.source.parallel asked.waive.items 0 r.source.params.items asked.args.items ≡ argument_binds y.starts s o r.source
+          args_now : job_binds p.world r.source.parallel asked.waive.items 0 r.source.params.items asked.args.items ≡ argument_binds y.starts s o r.source
           args_now = args_are p g begun n s found st y a (Some (list, batch)) r.source.parallel asked.waive.items 0 r.source.params.items asked.args.items
               (each_lower (length g.names) (length p.world.values.items) (let e = st.knows.each in omega arith) asked.args.items is_text.below)
               (subst (λ k. ArgsFit s (Some (list, batch)) (kernel_params k) asked.args.items) r.is_source accepted_as.args_fit)

@@ -15,7 +15,7 @@ use Rattle.slot_store.specs.declared.place.State.{State}
 use Rattle.slot_store.specs.declared.place.State.TheVariants.{Free, Taken, Held}
 use Rattle.slot_store.specs.declared.store.SlotStore.{SlotStore}
 use Rattle.slot_store.specs.Places.{in_use, is_held, is_taken}
-use Rattle.slot_store.specs.Stores.{place_of, live_words_of}
+use Rattle.slot_store.specs.Stores.{place_of, places_of, live_words_of}
 use Rattle.safety_handle.specs.declared.tag.Tag.{Tag}
 use Rattle.safety_handle.specs.declared.book.SafetyBook.{SafetyBook}
 use Rattle.safety_handle.specs.Entries.{SlotState, state_of}
@@ -230,7 +230,7 @@ module _ (p : World) (s : ScriptState) (found : List ℕ) (is : AreContainers p 
   pub one_of : (c : ℕ) → c < s.made → (it : Container) × (slice_get p.containers.items c ≡ Some it)
   one_of c lt = there p.containers.items c (let m = is.made in omega arith)
 
-  owners : AreOwnedBy p.store.places.items s slot
+  owners : AreOwnedBy (places_of p.store) s slot
   owners = record {
     used = λ c lt live. let it = one_of c lt in ap (λ k. in_use (place_of p.store k).state) (slot_is c it.0 it.1) ∙ (is.each c it.0 it.1).in_use live;
     len = λ c lt live. let it = one_of c lt in ap (λ k. (place_of p.store k).span.len) (slot_is c it.0 it.1)
@@ -243,4 +243,4 @@ module _ (p : World) (s : ScriptState) (found : List ℕ) (is : AreContainers p 
   }
 
   pub words_counted : live_words_of p.store ≡ live_words s
-  words_counted = words_are_counted_alike p.store.places.items s slot owners
+  words_counted = words_are_counted_alike (places_of p.store) s slot owners

@@ -9,7 +9,7 @@ use Rattle.frame_ast.specs.Ranges.{Starts, live_word_below}
 use Rattle.frame_ast.specs.States.{ScriptState, is_live}
 use Rattle.slot_store.specs.Places.{in_use}
 use Rattle.slot_store.specs.Spaces as spaces
-use Rattle.slot_store.specs.Stores.{place_of, is_live_word}
+use Rattle.slot_store.specs.Stores.{place_of, places_of, is_live_word}
 use Rattle.slot_store.proofs.Placing.{live_at, at_live}
 use Rattle.frame_core.proofs.Small.{not_both}
 use Rattle.plan_state.specs.declared.state.Container.{Container}
@@ -56,7 +56,7 @@ module _ (p : Planner) (g : Setting) (begun : ScriptState) (n : ℕ) (s : Script
     where
       forth : is_live_word p.world.store w ≡ true → ranges.is_live_word starts s w ≡ true
       forth e =
-          let at = at_live p.world.store.places.items w e in
+          let at = at_live (places_of p.world.store) w e in
           let b = and_both (in_use (place_of p.world.store at.0).state) (spaces.has_word (place_of p.world.store at.0).span w) at.1 in
           let o = st.knows.containers.slots at.0 b.0 in
           word_is_live starts s s.made o.container w (live_below s o.container o.live) o.live
@@ -67,7 +67,7 @@ module _ (p : Planner) (g : Setting) (begun : ScriptState) (n : ℕ) (s : Script
           let c = below_word starts s s.made w e in
           let it = there p.world.containers.items c.0 (let lt = live_below s c.0 c.1 in let m = st.knows.containers.made in omega arith) in
           let used = (st.knows.containers.each c.0 it.0 it.1).in_use c.1 in
-          live_at p.world.store.places.items it.0.slot.0 w (λ i. used i && (words_alike c.0 it.0 it.1 c.1 w ∙ c.2) i)
+          live_at (places_of p.world.store) it.0.slot.0 w (λ i. used i && (words_alike c.0 it.0 it.1 c.1 w ∙ c.2) i)
 
 pub live_words_are_alike : (p : Planner) (g : Setting) (begun : ScriptState) (n : ℕ) (s : ScriptState) (found : List ℕ) (starts : Starts)
     → Stands p g begun n s found → StartAs starts found → (w : ℕ) → is_live_word p.world.store w ≡ ranges.is_live_word starts s w

@@ -1,4 +1,4 @@
-use Rattle.std.proofs.Common.{◌≡◌, ◌+◌, ◌*◌, ◌≤◌, ◌++◌, ◌∷◌, [], length, None, true, refl, sym, ap, subst, ◌∙◌, arith}
+use Rattle.std.proofs.Common.{◌≡◌, ◌+◌, ◌≤◌, ◌++◌, ◌∷◌, [], length, None, true, refl, sym, ap, subst, ◌∙◌, arith}
 use Rattle.std.proofs.lemmas.List.{append_assoc}
 use Rattle.frame_core.specs.declared.plan.Segment.{Segment}
 use Rattle.frame_core.specs.Names.{has_job}
@@ -19,13 +19,6 @@ overflow_cast-len c =
     let few = jobs_few r.0 r.1 c.args.planner.now r.2 r.3 r.4 r.5 r.7 r.6 in
     let len = c.args.planner.now.draft.jobs.ok.0 in
     let e = c.len.ensures in
-    omega arith
-
-pub overflow_mul-result : goal.overflow_mul-result
-overflow_mul-result c =
-    let r = c.requires in
-    let few = pieces_small r.0 r.1 c.args.planner.now r.2 r.3 r.4 r.5 r.7 r.6 in
-    let is : c.replace-kernels.result.pieces ≡ c.args.planner.now.draft.pieces = ap (λ (w : Draft). w.pieces) c.replace-kernels.ensures.value in
     omega arith
 
 pub overflow_add-result : goal.overflow_add-result
@@ -65,7 +58,7 @@ returns-clause-plan c script accepted names =
           (ap (λ (w : Draft). w.literals.items) v)
           (ap (λ (w : Draft). w.jobs.items) v)
           c.peak-cells.ensures
-          (ap (λ (w : Draft). c.peak-cells.result + 3 * w.pieces) v)
+          (ap (λ (w : Draft). c.peak-cells.result + w.pieces) v)
           segments
           (ap (λ (w : Draft). w.waits.items) v)
           (ap (λ (w : Draft). w.ops.items) v)

@@ -1,6 +1,5 @@
 use Rattle.std.proofs.Common.{refl}
 use Rattle.plan_statements.specs.Tables.{columns_of}
-use Rattle.plan_statements.proofs.Ranges.NewContainers.{handed_on}
 use Rattle.plan_schedules.proofs.Forms.{without_list, with_list}
 use Rattle.frame_plan.proofs.Acting.{before, taken_in, few_literals, passed_in, fails_in, exceeds_in, leaves, if_err}
 use Rattle.plan_state.proofs.Binding.{on_ok}
@@ -69,11 +68,9 @@ answer-requires c = record {
   leaves = leaves c.args.statement.now.act c.in_default.not-Schedule c.requires.other;
 }
 
-pub returns-in_err-answer-in_default-clause-fails : goal.returns-in_err-answer-in_default-clause-fails
-returns-in_err-answer-in_default-clause-fails c = handed_on c.from_residual.result c.in_err-answer-in_default.field-0.0 _
-    c.from_residual.ensures.1
-    (exceeds_in c.args.script.now (columns_of c.args.table.now) c.args.planner.now c.args.statement.now c.requires.at c.requires.acts _
-    refl c.in_err-answer-in_default.field-0.0 c.in_err-answer-in_default.ensures.fails)
+pub returns-in-Err-clause-fails : goal.returns-in-Err-clause-fails
+returns-in-Err-clause-fails c = exceeds_in c.args.script.now (columns_of c.args.table.now) c.args.planner.now c.args.statement.now c.requires.at
+    c.requires.acts _ refl c.in-Err.fault c.in-Err.ensures.fails
 
 pub take-requires : goal.take-requires
 take-requires c = record {
@@ -81,7 +78,7 @@ take-requires c = record {
       c.requires.acts _ refl;
 }
 
-pub returns-in_ok-take-in_default-clause-passed : goal.returns-in_ok-take-in_default-clause-passed
-returns-in_ok-take-in_default-clause-passed c = taken_in c.args.script.now (columns_of c.args.table.now) c.args.planner.now c.args.statement.now
+pub returns-in_ok-take-in-Ok-clause-passed : goal.returns-in_ok-take-in-Ok-clause-passed
+returns-in_ok-take-in-Ok-clause-passed c = taken_in c.args.script.now (columns_of c.args.table.now) c.args.planner.now c.args.statement.now
     c.requires.at c.requires.acts _ refl c.answer.new.world
-    c.take.new.self c.in_ok-answer-in_default.answer c.in_ok-answer-in_default.ensures.answers c.in_ok-take-in_default.ensures
+    c.take.new.self c.in-Ok.answer c.in-Ok.ensures.answers c.in_ok-take-in-Ok.ensures

@@ -6,7 +6,7 @@ use Rattle.plan_schedules.proofs.new_job.later_jobs.Goals as goal
 
 pub loop-job-init : goal.loop-job-init
 loop-job-init c =
-    let before = c.args.planner.now.world.jobs_before in
+    let before = c.args.world.now.jobs_before in
     let len = c.new-later.ensures.items in
     record {
       low = omega arith;
@@ -34,7 +34,7 @@ loop-job-preserved c =
     let lt = is.0 in
     let le = is.1 in
     let count = c.count.ensures.count in
-    let so = number_reached c.args.planner.now.world.jobs_before c.loop-job.at c.in-Some.job.0 jobs c.loop-job.later.items c.push.new.self.items was.low lt
+    let so = number_reached c.args.world.now.jobs_before c.loop-job.at c.in-Some.job.0 jobs c.loop-job.later.items c.push.new.self.items was.low lt
     (was.within, was.are)
     (without_none jobs none c.nobody-none.ensures c.in-Some.job.0 true is.2)
     (λ k low high. without_none jobs none c.nobody-none.ensures k false (is.3 k low high))
@@ -49,8 +49,8 @@ loop-job-preserved c =
 pub returns : goal.returns
 returns c =
     let was = c.loop-job.invariant in
-    let before = c.args.planner.now.world.jobs_before in
-    let count = count_of c.args.planner.now.world.jobs in
+    let before = c.args.world.now.jobs_before in
+    let count = count_of c.args.world.now.jobs in
     let jobs = jobs_of c.args.jobs.now in
     let none = jobs_of c.nobody-none.result.now in
     let same = c.count.ensures.count in

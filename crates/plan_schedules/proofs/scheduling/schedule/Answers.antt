@@ -38,8 +38,8 @@ set_to_jobs_of-requires-clause-names c =
     ready.after_below c.args.script.now c.args.planner.now c.args.line r.0 c.args.job.now r.1.table r.1.begun r.1.n r.1.found r.1.step r.1.stands
     c.deref.result.now c.deref.ensures.value
 
-pub uses-requires-clause-each : goal.uses-requires-clause-each
-uses-requires-clause-each c =
+pub gather-requires-clause-each : goal.gather-requires-clause-each
+gather-requires-clause-each c =
     let r = c.requires.ready in
     ready.length_is c.args.script.now c.args.planner.now c.args.line r.0 c.args.job.now r.1.table r.1.begun r.1.n r.1.found r.1.step r.1.stands
     c.index.result.now
@@ -47,14 +47,14 @@ uses-requires-clause-each c =
     (ready.kernel_below c.args.script.now c.args.planner.now c.args.line r.0 c.args.job.now r.1.table r.1.begun r.1.n r.1.found r.1.step r.1.stands)
     c.index.ensures) c.deref-2.result.now c.deref-3.result.now c.deref-2.ensures.value c.deref-3.ensures.value
 
-pub uses-requires-clause-names : goal.uses-requires-clause-names
-uses-requires-clause-names c =
+pub gather-requires-clause-names : goal.gather-requires-clause-names
+gather-requires-clause-names c =
     let r = c.requires.ready in
     ready.names_below c.args.script.now c.args.planner.now c.args.line r.0 c.args.job.now r.1.table r.1.begun r.1.n r.1.found r.1.step r.1.stands
     c.deref-3.result.now c.deref-3.ensures.value
 
-pub uses-requires-clause-jobs : goal.uses-requires-clause-jobs
-uses-requires-clause-jobs c =
+pub gather-requires-clause-jobs : goal.gather-requires-clause-jobs
+gather-requires-clause-jobs c =
     let r = c.requires.ready in
     ready.named_up c.args.script.now c.args.planner.now c.args.line r.0 c.args.job.now r.1.table r.1.begun r.1.n r.1.found r.1.step r.1.stands
     (jobs_of c.set_to_jobs_of.new.all) (ready.named_is c.args.script.now c.args.planner.now c.args.line r.0 c.args.job.now r.1.table r.1.begun r.1.n
@@ -140,15 +140,15 @@ add_job-requires-clause-pieces c =
 pub add_automatic-requires-clause-noted : goal.add_automatic-requires-clause-noted
 add_automatic-requires-clause-noted c =
     let r = c.requires.ready in
-    let uses = c.in_ok-uses.uses.items in
+    let uses = c.gather.new.uses.items in
     let named = jobs_of c.set_to_jobs_of.new.all in
     let named_are = ready.named_is c.args.script.now c.args.planner.now c.args.line r.0 c.args.job.now r.1.table r.1.begun r.1.n r.1.found r.1.step r.1.stands
     named c.deref.result.now c.deref.ensures.value c.set_to_jobs_of.ensures in
     let given = ready.are_given c.args.script.now c.args.planner.now c.args.line r.0 c.args.job.now r.1.table r.1.begun r.1.n r.1.found r.1.step r.1.stands
     c.index.result.now (read_some c.args.script.now.kernels c.args.job.now.kernel c.index.result.now
     (ready.kernel_below c.args.script.now c.args.planner.now c.args.line r.0 c.args.job.now r.1.table r.1.begun r.1.n r.1.found r.1.step r.1.stands)
-    c.index.ensures) named c.deref-2.result.now c.deref-3.result.now c.in_ok-uses.uses.items c.deref-2.ensures.value c.deref-3.ensures.value
-    c.in_ok-uses.ensures in
+    c.index.ensures) named c.deref-2.result.now c.deref-3.result.now c.gather.new.uses.items c.deref-2.ensures.value c.deref-3.ensures.value
+    c.in_ok-gather.ensures in
     let none = sym (ready.refused_by c.args.script.now c.args.planner.now c.args.line r.0 c.args.job.now r.1.table r.1.begun r.1.n r.1.found r.1.step r.1.stands
     uses named named_are given c.index-2.result.now (read_some c.args.script.now.kernels c.args.job.now.kernel c.index-2.result.now
     (ready.kernel_below c.args.script.now c.args.planner.now c.args.line r.0 c.args.job.now r.1.table r.1.begun r.1.n r.1.found r.1.step r.1.stands)
@@ -161,15 +161,15 @@ add_automatic-requires-clause-noted c =
 pub add_job-requires-clause-uses : goal.add_job-requires-clause-uses
 add_job-requires-clause-uses c =
     let r = c.requires.ready in
-    let uses = c.in_ok-uses.uses.items in
+    let uses = c.gather.new.uses.items in
     let named = jobs_of c.set_to_jobs_of.new.all in
     let named_are = ready.named_is c.args.script.now c.args.planner.now c.args.line r.0 c.args.job.now r.1.table r.1.begun r.1.n r.1.found r.1.step r.1.stands
     named c.deref.result.now c.deref.ensures.value c.set_to_jobs_of.ensures in
     let given = ready.are_given c.args.script.now c.args.planner.now c.args.line r.0 c.args.job.now r.1.table r.1.begun r.1.n r.1.found r.1.step r.1.stands
     c.index.result.now (read_some c.args.script.now.kernels c.args.job.now.kernel c.index.result.now
     (ready.kernel_below c.args.script.now c.args.planner.now c.args.line r.0 c.args.job.now r.1.table r.1.begun r.1.n r.1.found r.1.step r.1.stands)
-    c.index.ensures) named c.deref-2.result.now c.deref-3.result.now c.in_ok-uses.uses.items c.deref-2.ensures.value c.deref-3.ensures.value
-    c.in_ok-uses.ensures in
+    c.index.ensures) named c.deref-2.result.now c.deref-3.result.now c.gather.new.uses.items c.deref-2.ensures.value c.deref-3.ensures.value
+    c.in_ok-gather.ensures in
     let none = sym (ready.refused_by c.args.script.now c.args.planner.now c.args.line r.0 c.args.job.now r.1.table r.1.begun r.1.n r.1.found r.1.step r.1.stands
     uses named named_are given c.index-2.result.now (read_some c.args.script.now.kernels c.args.job.now.kernel c.index-2.result.now
     (ready.kernel_below c.args.script.now c.args.planner.now c.args.line r.0 c.args.job.now r.1.table r.1.begun r.1.n r.1.found r.1.step r.1.stands)
@@ -202,15 +202,15 @@ plain_run-requires-clause-names c =
 pub add_job-requires-clause-deps : goal.add_job-requires-clause-deps
 add_job-requires-clause-deps c =
     let r = c.requires.ready in
-    let uses = c.in_ok-uses.uses.items in
+    let uses = c.gather.new.uses.items in
     let named = jobs_of c.set_to_jobs_of.new.all in
     let named_are = ready.named_is c.args.script.now c.args.planner.now c.args.line r.0 c.args.job.now r.1.table r.1.begun r.1.n r.1.found r.1.step r.1.stands
     named c.deref.result.now c.deref.ensures.value c.set_to_jobs_of.ensures in
     let given = ready.are_given c.args.script.now c.args.planner.now c.args.line r.0 c.args.job.now r.1.table r.1.begun r.1.n r.1.found r.1.step r.1.stands
     c.index.result.now (read_some c.args.script.now.kernels c.args.job.now.kernel c.index.result.now
     (ready.kernel_below c.args.script.now c.args.planner.now c.args.line r.0 c.args.job.now r.1.table r.1.begun r.1.n r.1.found r.1.step r.1.stands)
-    c.index.ensures) named c.deref-2.result.now c.deref-3.result.now c.in_ok-uses.uses.items c.deref-2.ensures.value c.deref-3.ensures.value
-    c.in_ok-uses.ensures in
+    c.index.ensures) named c.deref-2.result.now c.deref-3.result.now c.gather.new.uses.items c.deref-2.ensures.value c.deref-3.ensures.value
+    c.in_ok-gather.ensures in
     let none = sym (ready.refused_by c.args.script.now c.args.planner.now c.args.line r.0 c.args.job.now r.1.table r.1.begun r.1.n r.1.found r.1.step r.1.stands
     uses named named_are given c.index-2.result.now (read_some c.args.script.now.kernels c.args.job.now.kernel c.index-2.result.now
     (ready.kernel_below c.args.script.now c.args.planner.now c.args.line r.0 c.args.job.now r.1.table r.1.begun r.1.n r.1.found r.1.step r.1.stands)
@@ -226,14 +226,14 @@ add_job-requires-clause-deps c =
 
 pub returns-in-Some-clause-goes_on : goal.returns-in-Some-clause-goes_on
 returns-in-Some-clause-goes_on c home table begun n found step st =
-    let uses = c.in_ok-uses.uses.items in
+    let uses = c.gather.new.uses.items in
     let named = jobs_of c.set_to_jobs_of.new.all in
     let named_are = ready.named_is c.args.script.now c.args.planner.now c.args.line home c.args.job.now table begun n found step st named c.deref.result.now
     c.deref.ensures.value c.set_to_jobs_of.ensures in
     let given = ready.are_given c.args.script.now c.args.planner.now c.args.line home c.args.job.now table begun n found step st c.index.result.now
     (read_some c.args.script.now.kernels c.args.job.now.kernel c.index.result.now
     (ready.kernel_below c.args.script.now c.args.planner.now c.args.line home c.args.job.now table begun n found step st) c.index.ensures) named
-    c.deref-2.result.now c.deref-3.result.now c.in_ok-uses.uses.items c.deref-2.ensures.value c.deref-3.ensures.value c.in_ok-uses.ensures in
+    c.deref-2.result.now c.deref-3.result.now c.gather.new.uses.items c.deref-2.ensures.value c.deref-3.ensures.value c.in_ok-gather.ensures in
     ready.refused_on c.args.script.now c.args.planner.now c.args.line home c.args.job.now table begun n found step st uses named named_are given
     c.refuse_schedule.new.planner c.in_ok-refuse_schedule.ensures.0 c.in-Some.cause c.index-2.result.now
     (read_some c.args.script.now.kernels c.args.job.now.kernel c.index-2.result.now
@@ -244,14 +244,14 @@ returns-in-Some-clause-goes_on c home table begun n found step st =
 
 pub returns-clause-goes_on : goal.returns-clause-goes_on
 returns-clause-goes_on c = on_ok c.add_job.result (λ is home table begun n found step st.
-    let uses = c.in_ok-uses.uses.items in
+    let uses = c.gather.new.uses.items in
     let named = jobs_of c.set_to_jobs_of.new.all in
     let named_are = ready.named_is c.args.script.now c.args.planner.now c.args.line home c.args.job.now table begun n found step st named c.deref.result.now
     c.deref.ensures.value c.set_to_jobs_of.ensures in
     let given = ready.are_given c.args.script.now c.args.planner.now c.args.line home c.args.job.now table begun n found step st c.index.result.now
     (read_some c.args.script.now.kernels c.args.job.now.kernel c.index.result.now
     (ready.kernel_below c.args.script.now c.args.planner.now c.args.line home c.args.job.now table begun n found step st) c.index.ensures) named
-    c.deref-2.result.now c.deref-3.result.now c.in_ok-uses.uses.items c.deref-2.ensures.value c.deref-3.ensures.value c.in_ok-uses.ensures in
+    c.deref-2.result.now c.deref-3.result.now c.gather.new.uses.items c.deref-2.ensures.value c.deref-3.ensures.value c.in_ok-gather.ensures in
     let none = sym (ready.refused_by c.args.script.now c.args.planner.now c.args.line home c.args.job.now table begun n found step st uses named named_are given
     c.index-2.result.now (read_some c.args.script.now.kernels c.args.job.now.kernel c.index-2.result.now
     (ready.kernel_below c.args.script.now c.args.planner.now c.args.line home c.args.job.now table begun n found step st) c.index-2.ensures)
@@ -265,14 +265,14 @@ returns-clause-goes_on c = on_ok c.add_job.result (λ is home table begun n foun
 
 pub returns-clause-fails : goal.returns-clause-fails
 returns-clause-fails c = if_err c.add_job.result (λ fault full home table begun n found step st.
-    let uses = c.in_ok-uses.uses.items in
+    let uses = c.gather.new.uses.items in
     let named = jobs_of c.set_to_jobs_of.new.all in
     let named_are = ready.named_is c.args.script.now c.args.planner.now c.args.line home c.args.job.now table begun n found step st named c.deref.result.now
     c.deref.ensures.value c.set_to_jobs_of.ensures in
     let given = ready.are_given c.args.script.now c.args.planner.now c.args.line home c.args.job.now table begun n found step st c.index.result.now
     (read_some c.args.script.now.kernels c.args.job.now.kernel c.index.result.now
     (ready.kernel_below c.args.script.now c.args.planner.now c.args.line home c.args.job.now table begun n found step st) c.index.ensures) named
-    c.deref-2.result.now c.deref-3.result.now c.in_ok-uses.uses.items c.deref-2.ensures.value c.deref-3.ensures.value c.in_ok-uses.ensures in
+    c.deref-2.result.now c.deref-3.result.now c.gather.new.uses.items c.deref-2.ensures.value c.deref-3.ensures.value c.in_ok-gather.ensures in
     let none = sym (ready.refused_by c.args.script.now c.args.planner.now c.args.line home c.args.job.now table begun n found step st uses named named_are given
     c.index-2.result.now (read_some c.args.script.now.kernels c.args.job.now.kernel c.index-2.result.now
     (ready.kernel_below c.args.script.now c.args.planner.now c.args.line home c.args.job.now table begun n found step st) c.index-2.ensures)
