@@ -1,6 +1,6 @@
 -- A text that is gathered part by part.
-use Rattle.std.proofs.Common.{◌≡◌, ℕ, zero, suc, ◌+◌, ◌<◌, ◌≤◌, List, [], ◌∷◌, ◌++◌, length, get_or, take, drop, Option, Result, Ok, Err, refl, sym, ap, subst, ◌∙◌, arith, append_assoc, append-nil}
-use Rattle.std.specs.Prelude.{IsErr, OnOk}
+use Rattle.std.proofs.Common.{◌≡◌, ℕ, zero, suc, ◌+◌, ◌<◌, ◌≤◌, List, [], ◌∷◌, ◌++◌, length, get_or, take, drop, Option, Result, Ok, Err, refl, sym, ap, subst, ◌∙◌, arith, append_assoc, append-nil, true≢false}
+use Rattle.std.specs.Prelude.{IsErr, IsOk, OnOk}
 use Rattle.std.specs.Borrow.{Bor}
 use Rattle.std.specs.Io.KnownBytes.{Appends}
 use Rattle.std.proofs.lemmas.Grind.{common_steps}
@@ -88,6 +88,17 @@ keeps old w new w' w'' part p e = record {
   taken = p.taken;
   whole = ap (λ l. l ++ part) (sym (append-nil w) ∙ p.whole) ∙ append_assoc p.bytes w' part ∙ ap (λ l. p.bytes ++ l) (sym e);
 }
+
+-- a part waits for which there was room, and then another was tried
+pub gathers_kept : {T E : Type 0} (old : Option (List ℕ)) (w w1 : List ℕ) (new : Option (List ℕ)) (w' : List ℕ) (r : Result T E) (a b : List ℕ)
+    → w1 ≡ w ++ a → Gathers old w1 new w' r b → Gathers old w new w' r (a ++ b)
+gathers_kept old w w1 new w' r a b e p = gathers_after old w old w1 new w' r a b (keeps old w old w w1 a (joins_none old w) e) p
+
+-- a part waits for which there was room, and nothing more was put
+pub gathers_ended : {T E : Type 0} (old : Option (List ℕ)) (w w' : List ℕ) (r : Result T E) (part : List ℕ) → IsOk r → w' ≡ w ++ part
+    → Gathers old w old w' r part
+gathers_ended old w w' (Ok x) part is e = keeps old w old w w' part (joins_none old w) e
+gathers_ended old w w' (Err e) part is p = absurd (true≢false (sym is))
 
 -- ---- a text with an end
 

@@ -13,12 +13,9 @@ use Rattle.frame_ast.specs.Texts.{pair_text, overdue_line, refusal_text, refused
 pub writes_as : {T E : Type 0} (old new : Option (List ℕ)) (r : Result T E) (t text : List ℕ) → t ≡ text → Writes old new r t → Writes old new r text
 writes_as old new r t text e p = subst (λ l. Writes old new r l) e p
 
-pub overdue_is : (x y : List ℕ) (line : ℕ) (name : List ℕ) (made : ℕ) → x ≡ decimal line → y ≡ decimal made
-    → codes "overdue " ++ (x ++ (codes ": " ++ (name ++ (codes " made on line " ++ (y ++ (codes "\n" ++ [])))))) ≡ overdue_line line name made
-overdue_is x y line name made p q = simp (p, q, append_assoc)
-
-pub two_parts : (a b : List ℕ) → a ++ (b ++ []) ≡ a ++ b
-two_parts a b = simp append-nil
+pub overdue_is : (line : ℕ) (name : List ℕ) (made : ℕ)
+    → (((codes "overdue " ++ decimal line) ++ codes ": ") ++ name) ++ (codes " made on line " ++ (decimal made ++ codes "\n")) ≡ overdue_line line name made
+overdue_is line name made = simp append_assoc
 
 -- ---- numbers
 
@@ -34,16 +31,17 @@ pair_kept w comma k v w1 w2 w3 w4 pair p q r s ks vs =
 
 -- ---- refusals
 
-pub pending_is : (x : List ℕ) (job : JobId) (name : List ℕ) → x ≡ decimal job.0
-    → codes "pending job " ++ (x ++ (codes " on " ++ (name ++ []))) ≡ refusal_text (Pending job) name
-pending_is x job name p = simp (p, append_assoc, append-nil)
+pub pending_is : (job : JobId) (name : List ℕ)
+    → codes ": pending job " ++ (decimal job.0 ++ (codes " on " ++ (name ++ codes "\n"))) ≡ codes ": " ++ (refusal_text (Pending job) name ++ codes "\n")
+pending_is job name = simp append_assoc
 
-pub busy_is : (x : List ℕ) (job : JobId) (name : List ℕ) → x ≡ decimal job.0 → codes "busy job " ++ (x ++ []) ≡ refusal_text (Busy job) name
-busy_is x job name p = simp (p, append-nil)
+pub busy_is : (job : JobId) (name : List ℕ)
+    → codes ": busy job " ++ (decimal job.0 ++ codes "\n") ≡ codes ": " ++ (refusal_text (Busy job) name ++ codes "\n")
+busy_is job name = simp append_assoc
 
-pub refused_is : (x : List ℕ) (line : ℕ) (refusal : Refusal) (name : List ℕ) → x ≡ decimal line
-    → ((codes "refused " ++ (x ++ (codes ": " ++ []))) ++ refusal_text refusal name) ++ codes "\n" ≡ refused_line line refusal name
-refused_is x line refusal name p = simp (p, append_assoc)
+pub refused_is : (line : ℕ) (refusal : Refusal) (name : List ℕ)
+    → (codes "refused " ++ decimal line) ++ (codes ": " ++ (refusal_text refusal name ++ codes "\n")) ≡ refused_line line refusal name
+refused_is line refusal name = simp append_assoc
 
 pub script_refused_is : (x y : List ℕ) (line : ℕ) (kind : FaultKind) → x ≡ decimal line → y ≡ fault_text kind
     → codes "script refused line " ++ (x ++ (codes ": " ++ (y ++ (codes "\n" ++ [])))) ≡ script_refused_line line kind

@@ -1,3 +1,2 @@
 -- promises
 pub mod Gathering
-pub mod Reports

@@ -27,9 +27,7 @@ impl Waiting {
     {
         self.put(name, sink)?;
         self.make_room(3, sink)?;
-        self.keep_byte(b' ');
-        self.keep_byte(b'=');
-        self.keep_byte(b' ');
+        self.keep(b" = ");
         Ok(())
     }
 

@@ -17,12 +17,10 @@ mod numbers;
 mod outgoing;
 mod pairs;
 mod refusal;
-mod report;
 mod script_refusal;
 mod texts;
 mod waiting;
 
 pub use outgoing::Outgoing;
-pub use report::Report;
 pub use script_refusal::print_script_refusal;
 pub use texts::{print_parts, print_text};

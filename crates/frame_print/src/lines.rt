@@ -1,13 +1,15 @@
 // The lines that end a frame and a run: overdue containers, and traps.
-ghost use Rattle.std.specs.Prelude.{◌≡◌, ◌≤◌, List, OnOk, OnErr};
+ghost use Rattle.std.specs.Prelude.{◌≡◌, ◌≤◌, ◌++◌, List, codes, decimal, OnOk, OnErr};
 ghost use Rattle.job_base.specs.Faults.{Rose};
 ghost use Rattle.frame_ast.specs.States.{JobTrap};
 ghost use Rattle.frame_ast.specs.Texts.{overdue_line, trap_text, traps_text};
 ghost use Rattle.frame_print.specs.Gathering.{Gathers};
-ghost use Rattle.frame_print.specs.Reports.{IsReportOf};
+ghost use Rattle.frame_core.specs.Reports.{IsReportOf};
 
+use crate::numbers::LONGEST_NUMBER;
 use crate::outgoing::Outgoing;
-use crate::report::Report;
+use crate::waiting::Waiting;
+use frame_core::Report;
 use itoa::Buffer;
 use job_base::{Sink, SinkFault, Trap};
 
@@ -28,6 +30,45 @@ fn trap_words(trap: Trap) -> &'static [u8]
     }
 }
 
+impl Waiting {
+    // Puts where an overdue container was made, which ends its line.
+    fn put_made<S: Sink>(&mut self, made: u32, sink: &mut S) -> Result<(), SinkFault>
+        ensures text { Gathers (S.taken sink.old) self.old (S.taken sink.new) self.new result
+            (codes " made on line " ++ decimal made ++ codes "\n") }
+        ensures count { OnOk result (S.faults sink.new ≡ S.faults sink.old) }
+        ensures cause { OnErr result (Rose (S.faults sink.old) (S.faults sink.new)) }
+        ensures later { S.faults sink.old ≤ S.faults sink.new }
+    {
+        self.make_room(15 + LONGEST_NUMBER, sink)?;
+        self.keep(b" made on line ");
+        self.keep_count(made);
+        self.keep_byte(b'\n');
+        Ok(())
+    }
+
+    // Puts the line of an overdue container.
+    fn put_overdue_line<S: Sink>(
+        &mut self,
+        line: u32,
+        name: &[u8],
+        made: u32,
+        sink: &mut S,
+    ) -> Result<(), SinkFault>
+        ensures text { Gathers (S.taken sink.old) self.old (S.taken sink.new) self.new result
+            (overdue_line line name.now made) }
+        ensures count { OnOk result (S.faults sink.new ≡ S.faults sink.old) }
+        ensures cause { OnErr result (Rose (S.faults sink.old) (S.faults sink.new)) }
+        ensures later { S.faults sink.old ≤ S.faults sink.new }
+    {
+        self.make_room(10 + LONGEST_NUMBER, sink)?;
+        self.keep(b"overdue ");
+        self.keep_count(line);
+        self.keep(b": ");
+        self.put(name, sink)?;
+        self.put_made(made, sink)
+    }
+}
+
 impl Outgoing {
     /// Puts the line of a container that is overdue at the `frame` of line `line`: `name` and `made` are those of the
     /// statement that made it.
@@ -44,20 +85,7 @@ impl Outgoing {
         ensures cause { OnErr result (Rose (S.faults sink.old) (S.faults sink.new)) }
         ensures later { S.faults sink.old ≤ S.faults sink.new }
     {
-        let mut line_digits = Buffer::new();
-        let mut made_digits = Buffer::new();
-        let line_text = line_digits.format(line).as_bytes();
-        let made_text = made_digits.format(made).as_bytes();
-        let parts = [
-            b"overdue ",
-            line_text,
-            b": ",
-            name,
-            b" made on line ",
-            made_text,
-            b"\n",
-        ];
-        self.put_all(&parts, sink)
+        self.waiting.put_overdue_line(line, name, made, sink)
     }
 
     /// Puts the two lines of a run with traps: the first trap, and how many there are. Without a trap it puts nothing.

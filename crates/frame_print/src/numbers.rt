@@ -53,6 +53,29 @@ impl Waiting {
         self.keep(digits.format(n).as_bytes());
     }
 
+    // Lets a line or a job wait that `itoa` writes, as a copy.
+    fn keep_long_count(&mut self, n: u32)
+        requires { length self.old + LONGEST_NUMBER ≤ ROOM }
+        ensures text { self.new ≡ self.old ++ decimal n }
+        ensures most { length self.new ≤ length self.old + LONGEST_NUMBER }
+    {
+        let mut digits = Buffer::new();
+        self.keep(digits.format(n).as_bytes());
+    }
+
+    /// Lets the number of a line or of a job wait, one of up to four digits in place.
+    #[inline(always)]
+    pub fn keep_count(&mut self, n: u32)
+        requires { length self.old + LONGEST_NUMBER ≤ ROOM }
+        ensures text { self.new ≡ self.old ++ decimal n }
+        ensures most { length self.new ≤ length self.old + LONGEST_NUMBER }
+    {
+        if n >= 10_000 {
+            return self.keep_long_count(n);
+        }
+        self.keep_short_number(u64::from(n));
+    }
+
     /// Lets a number wait. One of up to four digits that isn't negative is written in place, which costs less than a
     /// copy, and without a call, which is a fifth of what a number costs.
     #[inline(always)]

@@ -47,10 +47,12 @@ impl Waiting {
         ROOM - self.bytes.len()
     }
 
-    /// Lets a part wait for which there is room.
+    /// Lets a part wait for which there is room. Fixed words are written in place, without a copy's call.
+    #[inline(always)]
     pub fn keep(&mut self, part: &[u8])
         requires { length self.old + length part.now ≤ ROOM }
-        ensures { self.new ≡ self.old ++ part.now }
+        ensures text { self.new ≡ self.old ++ part.now }
+        ensures most { length self.new ≡ length self.old + length part.now }
     {
         let Ok(()) = self.bytes.extend_from_slice(part) else {
             unreachable!()

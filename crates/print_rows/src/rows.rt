@@ -8,7 +8,8 @@ ghost use Rattle.kernel_exec.specs.Binds.{kind_of, start_of, end_of};
 ghost use Rattle.kernel_exec.specs.Layout.{Holds};
 
 use frame_ast::kernel::FaultKind;
-use frame_print::{Outgoing, Report, print_parts, print_script_refusal, print_text};
+use frame_core::Report;
+use frame_print::{Outgoing, print_parts, print_script_refusal, print_text};
 use job_base::{FlatMem, JobId, Mem, MemSink, NoMemory, Refusal, Sink, SinkFault, Trap, Word};
 use kernel_exec::Bind;
 use native_array::{ArrayAt, RefAt};

@@ -15,4 +15,4 @@ returns-in_err-make_room-clause-text g c = gathers_stops _ _ _ _ _ _ c.from_resi
     (stops_before _ _ _ [] c.args.part.now c.in_err-make_room.ensures.text)
 
 pub returns-clause-text : goal.returns-clause-text
-returns-clause-text g c = keeps _ _ _ _ _ _ c.in_ok-make_room.ensures.text c.keep.ensures
+returns-clause-text g c = keeps _ _ _ _ _ _ c.in_ok-make_room.ensures.text c.keep.ensures.text

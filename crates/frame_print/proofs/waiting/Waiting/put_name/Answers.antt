@@ -1,7 +1,6 @@
-use Rattle.std.proofs.Common.{[], refl}
+use Rattle.std.proofs.Common.{[]}
 use Rattle.std.specs.Prelude.{codes}
 use Rattle.frame_print.proofs.Gathering.{gathers_stops, stops_before, stops_after, joins_more, keeps}
-use Rattle.frame_print.proofs.Digits.{kept_two}
 use Rattle.frame_print.proofs.waiting.Waiting.put_name.Goals as goal
 
 pub returns-in_err-put-clause-text : goal.returns-in_err-put-clause-text
@@ -17,6 +16,5 @@ returns-in_err-make_room-clause-text g c =
 
 pub returns-clause-text : goal.returns-clause-text
 returns-clause-text g c =
-    let both = kept_two _ _ _ _ _ (codes " =") c.keep_byte.ensures c.keep_byte-2.ensures refl in
     joins_more _ _ _ _ _ _ c.args.name.now (codes " = ") c.in_ok-put.ensures.text
-    (keeps _ _ _ _ _ _ c.in_ok-make_room.ensures.text (kept_two _ _ _ _ _ (codes " = ") both c.keep_byte-3.ensures refl))
+    (keeps _ _ _ _ _ _ c.in_ok-make_room.ensures.text c.keep.ensures.text)
