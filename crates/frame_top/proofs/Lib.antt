@@ -7,6 +7,8 @@ pub mod Looping
 mod OnCells
 mod Rooms
 pub mod Clauses
+mod Tables
+mod Naming
 pub mod Saying
 mod Sectioning
 pub mod Seeing

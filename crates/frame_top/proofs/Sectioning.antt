@@ -17,8 +17,8 @@ use Rattle.frame_ast.specs.States.{JobTrap, ScriptState, contents_at}
 use Rattle.frame_core.specs.declared.plan.Plan.{Plan}
 use Rattle.frame_core.specs.Graphs.{cells_after}
 use Rattle.frame_core.specs.Output.{plan_lines, plan_traps}
-use Rattle.frame_print.specs.declared.report.Report.{Report}
-use Rattle.frame_print.specs.Reports.{IsReportOf}
+use Rattle.frame_core.specs.declared.report.Report.{Report}
+use Rattle.frame_core.specs.Reports.{IsReportOf}
 use Rattle.plan_run.specs.Runs.{IsReport}
 use Rattle.plan_run.specs.Says.{SaysTo}
 use Rattle.steal_pool.specs.Sections.{shifted, ReportsAreWithin}

@@ -3,7 +3,7 @@ use Rattle.std.proofs.Common.{◌≡◌, ◌⊎◌, ⊎_elim, refl, sym, ap, ◌
 use Rattle.frame_ast.specs.declared.script.Script.{Script}
 use Rattle.frame_ast.specs.Orders.{Table}
 use Rattle.merge_laws.specs.Graph.{Cells}
-use Rattle.frame_print.specs.declared.report.Report.{Report}
+use Rattle.frame_core.specs.declared.report.Report.{Report}
 use Rattle.frame_plan.specs.declared.section.Section.{Section}
 use Rattle.frame_plan.specs.declared.sections.SectionBook.{SectionBook}
 use Rattle.frame_plan.specs.Sections.{IsAt, IsOutcome, IsSectionOf, place_of}
@@ -14,7 +14,9 @@ use Rattle.frame_top.specs.declared.extent.Extent.{Extent}
 use Rattle.frame_top.specs.declared.sections.Progress.{Progress}
 use Rattle.frame_top.specs.declared.status.TheConstants.{UNWRITTEN}
 use Rattle.frame_top.specs.Inputs.{Told, Reads}
-use Rattle.frame_top.specs.Refusals.{table_refusal, named_columns}
+use Rattle.frame_top.specs.Refusals.{table_refusal, table_of}
+use Rattle.table_laws.specs.Laws.{AnswerAllAlike}
+use Rattle.frame_top.proofs.Tables.{same_seen}
 use Rattle.frame_top.specs.Running.{Closes, GoesOn, HasRun, IsMade}
 use Rattle.frame_top.specs.Seen.{SectionAt, section_at, IsSectionAt, IsTested, Lead, HasSeenTo, SeesOne, HasSeen, HasSeenAsked, has_run}
 
@@ -110,14 +112,15 @@ module _ (script : Script) (table : Table) where
 
 -- the script and the table that the words ask for
 pub asked_seen : (saw : Script → List SectionAt → Type 0) (words : List Text) (told : Told) (script : Script) (table : Option Text)
-    (columns : List NamedColumn) → Reads words told script table → table_refusal table ≡ None → columns ≡ named_columns table
+    (columns : List NamedColumn) → Reads words told script table → table_refusal table ≡ None
+    → AnswerAllAlike (columns_of columns) (table_of table) script.statements.items
     → HasSeen (saw script) script (columns_of columns) → HasSeenAsked saw words told
 asked_seen saw words told script table columns read stands same seen = record {
   script = script;
   table = table;
   read = read;
   table_stands = stands;
-  has_seen = subst (λ (cs : List NamedColumn). HasSeen (saw script) script (columns_of cs)) same seen;
+  has_seen = same_seen script (columns_of columns) (table_of table) same (saw script) seen;
 }
 
 -- WHERE NO SCRIPT RAN

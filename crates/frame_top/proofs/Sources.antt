@@ -21,11 +21,13 @@ use Rattle.table_in.specs.Columns.{NamedColumn}
 use Rattle.table_in.specs.Rows.{rows_in, table_fault}
 use Rattle.command_words.specs.Words.{Text}
 use Rattle.frame_top.specs.Inputs.{Accepts}
-use Rattle.frame_top.specs.Refusals.{Answer, answer, Refuses, Fault, Statements, frame_refusal, named_columns, refused_table, table_of, table_refusal}
+use Rattle.frame_top.specs.Refusals.{Answer, answer, Refuses, Fault, Statements, frame_refusal, refused_table, table_of, table_refusal}
 use Rattle.frame_top.specs.Answers.{Answers, AnswersTo, Caused, Early, Midway, Whole, Part, FrameCause, Refused, Ran, Reported, IsCut, SaidTo, Hindered, NotTaken, NotFound}
 use Rattle.frame_top.specs.Sources.{SourceCause, BadSource, WithBadTable, WithTable, CanBeCutOf, IsAcceptedFrame}
 use Rattle.frame_top.specs.declared.status.TheConstants.{NO_MEMORY, PAST_LIMIT, SCRIPT_REFUSED}
 use Rattle.frame_top.proofs.Alike.{same_frame_refusal}
+use Rattle.table_laws.specs.Laws.{AnswerAllAlike}
+use Rattle.frame_top.proofs.Tables.{same_cause, same_cut}
 use Rattle.frame_top.proofs.Framing.{by_cause, none_said}
 use Rattle.frame_top.proofs.Settling.{refused_once, never_both}
 use Rattle.frame_top.proofs.Telling.{is_many}
@@ -117,13 +119,14 @@ module _ (source : Text) (table : Option Text) where
 
   module _ (script : Script) (accepted : Accepts source script) where
     -- what script and table answer
-    pub of_frame : (columns : List NamedColumn) (old new : Option Text) (before now result : ℕ) → table_refusal table ≡ None → columns ≡ named_columns table
+    pub of_frame : (columns : List NamedColumn) (old new : Option Text) (before now result : ℕ) → table_refusal table ≡ None
+        → AnswerAllAlike (columns_of columns) (table_of table) script.statements.items
         → Answers (FrameCause script (columns_of columns) false 1) (IsCut script (columns_of columns) false) old new before now result
         → Answers (SourceCause source table) (CanBeCutOf source table) old new before now result
     of_frame columns old new before now result stands cs a =
         by_cause _ _ _ _ old new before now result
-        (λ b why. WithTable script accepted stands (subst (λ (c : List NamedColumn). FrameCause script (columns_of c) false 1 b) cs why))
-        (λ t cut. record { script = script; accepted = accepted; cut = subst (λ (c : List NamedColumn). IsCut script (columns_of c) false t) cs cut })
+        (λ b why. WithTable script accepted stands (same_cause script (columns_of columns) (table_of table) cs false 1 b why))
+        (λ t cut. record { script = script; accepted = accepted; cut = same_cut script (columns_of columns) (table_of table) cs false t cut })
         a
 
     -- a table that is refused

@@ -16,9 +16,11 @@ use Rattle.table_in.specs.Rows.{rows_in, table_fault}
 use Rattle.command_words.specs.Words.{Text}
 use Rattle.frame_top.specs.Words.{asks_depth, workers_in}
 use Rattle.frame_top.specs.Inputs.{Told, ReadsSource, Reads, IsUnreadOf}
-use Rattle.frame_top.specs.Refusals.{answer, Fault, Statements, table_refusal, refused_table, named_columns}
+use Rattle.frame_top.specs.Refusals.{answer, Fault, Statements, table_refusal, refused_table, table_of}
 use Rattle.frame_top.specs.Answers.{AnswersTo, Answers, Caused, Cause, BadScript, BadTable, OfFrame, FrameCause, IsCut, CanBeCut, SaidTo}
 use Rattle.frame_top.specs.declared.status.TheConstants.{NO_MEMORY, PAST_LIMIT, SCRIPT_REFUSED}
+use Rattle.table_laws.specs.Laws.{AnswerAllAlike}
+use Rattle.frame_top.proofs.Tables.{same_cause, same_cut}
 use Rattle.frame_top.proofs.Framing.{by_cause, none_said}
 
 pub too_long_refused : (bytes : Text) → MOST_TABLE_BYTES < length bytes → table_refusal (Some bytes) ≡ Some (answer PAST_LIMIT table_size_line)
@@ -64,19 +66,20 @@ module _ (words : List Text) (told : Told) (risen : Type 0) (failed : Option Tex
   -- a script and its table
   pub of_frame : (script : Script) (table : Option Text) (columns : List NamedColumn) (depth : Bool) (workers : ℕ) (old new : Option Text)
       (before now result : ℕ)
-      → Reads words told script table → table_refusal table ≡ None → columns ≡ named_columns table → depth ≡ asks_depth words → workers ≡ workers_in words
+      → Reads words told script table → table_refusal table ≡ None → AnswerAllAlike (columns_of columns) (table_of table) script.statements.items
+      → depth ≡ asks_depth words → workers ≡ workers_in words
       → Answers (FrameCause script (columns_of columns) depth workers) (IsCut script (columns_of columns) depth) old new before now result
       → Answers (Cause words told risen failed) (CanBeCut words told) old new before now result
   of_frame script table columns depth workers old new before now result read stands cs ds ws a =
       by_cause _ _ _ _ old new before now result
-      (λ b why. OfFrame script table read stands (subst (λ (c : List NamedColumn). FrameCause script (columns_of c) (asks_depth words) (workers_in words) b) cs
+      (λ b why. OfFrame script table read stands (same_cause script (columns_of columns) (table_of table) cs (asks_depth words) (workers_in words) b
       (subst (λ w. FrameCause script (columns_of columns) (asks_depth words) w b) ws (subst (λ d. FrameCause script (columns_of columns) d workers b) ds why))))
       (λ t cut. record {
         script = script;
         table = table;
         read = read;
         table_stands = stands;
-        cut = subst (λ (c : List NamedColumn). IsCut script (columns_of c) (asks_depth words) t) cs
+        cut = same_cut script (columns_of columns) (table_of table) cs (asks_depth words) t
             (subst (λ d. IsCut script (columns_of columns) d t) ds cut);
       })
       a

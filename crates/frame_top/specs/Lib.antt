@@ -9,4 +9,5 @@ pub mod Seen
 -- for this crate's own contracts
 pub mod Asking
 pub mod Cells
+pub mod Columns
 pub mod Running

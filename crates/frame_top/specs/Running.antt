@@ -6,8 +6,8 @@ use Rattle.frame_ast.specs.Accepted.{is_when}
 use Rattle.frame_ast.specs.Orders.{Table}
 use Rattle.frame_ast.specs.States.{ScriptState}
 use Rattle.merge_laws.specs.Graph.{Cells}
-use Rattle.frame_print.specs.declared.report.Report.{Report}
-use Rattle.frame_print.specs.Reports.{IsReportOf}
+use Rattle.frame_core.specs.declared.report.Report.{Report}
+use Rattle.frame_core.specs.Reports.{IsReportOf}
 use Rattle.plan_run.specs.Says.{SaysTo}
 use Rattle.frame_plan.specs.declared.section.Section.{Section}
 use Rattle.frame_plan.specs.declared.sections.SectionBook.{SectionBook}

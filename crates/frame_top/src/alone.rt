@@ -8,14 +8,16 @@ ghost use Rattle.frame_ast.specs.Scripts.{output_of, status_of};
 ghost use Rattle.merge_laws.specs.Graph.{Cells};
 ghost use Rattle.frame_plan.specs.Sections.{IsAt};
 ghost use Rattle.plan_statements.specs.Tables.{columns_of};
+ghost use Rattle.table_laws.specs.Laws.{AnswerAllAlike};
 ghost use Rattle.command_words.specs.Words.{Text};
 ghost use Rattle.frame_top.specs.Answers.{AnswersTo, FrameCause, IsCut, has_when};
 ghost use Rattle.frame_top.specs.Inputs.{Accepts};
-ghost use Rattle.frame_top.specs.Refusals.{Answer, Refuses, answer, frame_refusal, named_columns, refused_table, table_of, table_refusal};
+ghost use Rattle.frame_top.specs.Refusals.{Answer, Refuses, answer, frame_refusal, refused_table, table_of, table_refusal};
 ghost use Rattle.frame_top.specs.Running.{HasRun, RunsOn};
 ghost use Rattle.frame_top.specs.Sources.{CanBeCutOf, GivesSource, Grows, IsAcceptedFrame, SourceCause};
 ghost use Rattle.frame_top.specs.declared.status.TheConstants.{PAST_LIMIT};
 
+use crate::columns::read_for;
 use crate::frame::refuse_missing;
 use crate::on_cells::run_on_cells;
 use crate::sections::{Progress, begin_frame, close, finish, next_section, take_run};
@@ -28,7 +30,7 @@ use job_base::limits::{MOST_SCRIPT_BYTES, MOST_TABLE_BYTES, MOST_TESTS};
 use job_base::{NoMemory, Sink};
 use std::alloc::Global;
 use std::mem;
-use table_in::{Table, TableFault, read_table};
+use table_in::{Table, TableFault};
 
 // Runs the next section, and says whether there is one after it.
 fn run_next_section<S: Sink>(
@@ -110,17 +112,18 @@ fn answer_frame<S: Sink>(alloc: Global, script: &Script, table: &Table, sink: &m
     }
 }
 
-// The table of these bytes; one without columns where none are given.
-fn read_given(alloc: Global, table: Option<&[u8]>) -> Result<Table, TableFault>
+// The table of these bytes for a script; one without columns where none are given.
+fn read_given(alloc: Global, script: &Script, table: Option<&[u8]>) -> Result<Table, TableFault>
     requires within { IfSome (option_copied table) (λ bytes. length bytes ≤ MOST_TABLE_BYTES) }
     ensures sound { IfOk result (λ t. table_refusal (option_copied table.entry) ≡ None) }
-    ensures columns { IfOk result (λ t. t ≡ named_columns (option_copied table.entry)) }
+    ensures columns { IfOk result (λ t. AnswerAllAlike (columns_of t) (table_of (option_copied table.entry))
+        script.now.statements.items) }
     ensures fault { IfErr result (λ fault. (fault ≡ TableFault.NoMemory)
         ⊎ (fault ≢ TableFault.NoMemory) × (table_refusal (option_copied table.entry) ≡ Some (refused_table fault))) }
 {
     match table {
         None => Ok(Table::none(alloc)),
-        Some(bytes) => read_table(alloc, bytes),
+        Some(bytes) => read_for(alloc, script, bytes),
     }
 }
 
@@ -147,7 +150,7 @@ fn answer_script<S: Sink>(alloc: Global, script: &Script, table: Option<&[u8]>, 
     if is_too_long(table) {
         return say(PAST_LIMIT, b"limit: table size\n", sink);
     }
-    match read_given(alloc, table) {
+    match read_given(alloc, script, table) {
         Ok(columns) => answer_frame(alloc, script, &columns, sink),
         Err(fault) => refuse_table(fault, sink),
     }

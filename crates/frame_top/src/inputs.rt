@@ -2,14 +2,18 @@
 ghost use Rattle.std.specs.Prelude.{◌≡◌, ◌≢◌, ◌<◌, ◌≤◌, ◌⊎◌, List, length, None, Some, option_map, string_bytes, IfOk, IfErr, IfSome, IsErrOf, Err};
 ghost use Rattle.job_base.specs.declared.limits.TheConstants.{MOST_GENERATED_JOBS, MOST_SCRIPT_BYTES, MOST_SEED, MOST_TABLE_BYTES, MOST_WORKERS};
 ghost use Rattle.job_base.specs.Faults.{Rose};
+ghost use Rattle.plan_statements.specs.Tables.{columns_of};
+ghost use Rattle.table_laws.specs.Laws.{AnswerAllAlike};
 ghost use Rattle.command_words.specs.Words.{Text};
 ghost use Rattle.script_gen.specs.Scripts.{script_text};
 ghost use Rattle.frame_top.specs.Asking.{IsAsked, bytes_in};
 ghost use Rattle.frame_top.specs.Inputs.{CanBeTable, IsUnread, ReadsSource};
-ghost use Rattle.frame_top.specs.Refusals.{named_columns, refused_table, table_refusal};
+ghost use Rattle.frame_top.specs.Refusals.{named_columns, refused_table, table_of, table_refusal};
 ghost use Rattle.frame_top.specs.Words.{asks_depth, script_name, table_name, workers_in};
 
+use crate::columns::read_for;
 use command_words::Command;
+use frame_ast::script::Script;
 use job_base::limits::{MOST_SCRIPT_BYTES, MOST_TABLE_BYTES};
 use job_base::{FileFault, Files, NoMemory};
 use script_gen::gen_script;
@@ -137,7 +141,27 @@ pub fn read_table_file<F: Files>(
     }
 }
 
-/// The table of these bytes; one without columns where none is given.
+/// The table of these bytes for a script; one without columns where none is given. It answers as the table of the bytes
+/// does for each column that the script names.
+pub fn parse_table_for(
+    alloc: Global,
+    script: &Script,
+    bytes: &Option<Vec<u8>>,
+) -> Result<Table, TableFault>
+    requires within { IfSome bytes.now (λ b. length b.items ≤ MOST_TABLE_BYTES) }
+    ensures sound { IfOk result (λ table. table_refusal (bytes_in bytes.now) ≡ None) }
+    ensures columns { IfOk result (λ table. AnswerAllAlike (columns_of table) (table_of (bytes_in bytes.now))
+        script.now.statements.items) }
+    ensures fault { IfErr result (λ fault. (fault ≡ TableFault.NoMemory)
+        ⊎ (fault ≢ TableFault.NoMemory) × (table_refusal (bytes_in bytes.now) ≡ Some (refused_table fault))) }
+{
+    match bytes {
+        None => Ok(Table::none(alloc)),
+        Some(bytes) => read_for(alloc, script, bytes),
+    }
+}
+
+/// The table of these bytes, with all of its columns; one without columns where none is given.
 pub fn parse_table(alloc: Global, bytes: &Option<Vec<u8>>) -> Result<Table, TableFault>
     requires within { IfSome bytes.now (λ b. length b.items ≤ MOST_TABLE_BYTES) }
     ensures sound { IfOk result (λ table. table_refusal (bytes_in bytes.now) ≡ None) }

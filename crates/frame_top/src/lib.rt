@@ -17,12 +17,16 @@
 //! The steps that read and refuse are public too, for programs that do something else with a script than run it, and so
 //! are the steps from section to section, for those who run a section themselves.
 //!
+//! A table is read for its script: of the columns that no statement names no value is kept. `table_laws` says that
+//! nothing depends on them.
+//!
 //! *Cost.* Beside the plan of a section with jobs its board, its deques and its scratch are made, each as large as the
 //! plan asks for, and its cells once more where a test follows. A section without jobs copies the cells that the last
 //! one left, once.
 #![tactic(auto)]
 
 mod alone;
+mod columns;
 mod extent;
 mod frame;
 mod inputs;

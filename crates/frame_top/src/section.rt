@@ -6,8 +6,8 @@ ghost use Rattle.frame_top.specs.Cells.{HasRunPlan};
 
 use crate::on_board::run_on_board;
 use crate::on_cells::run_on_cells;
-use frame_core::Plan;
-use frame_print::{Outgoing, Report};
+use frame_core::{Plan, Report};
+use frame_print::Outgoing;
 use job_base::{FlatMem, Gate, NoMemory, Sink};
 use std::alloc::Global;
 use std::sync::Wait;

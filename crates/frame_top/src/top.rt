@@ -16,7 +16,7 @@ ghost use Rattle.frame_top.specs.Words.{asks_depth, bytes_of};
 ghost use Rattle.frame_top.specs.declared.status.TheConstants.{NO_MEMORY, PAST_LIMIT, UNREAD, UNWRITTEN, USAGE};
 
 use crate::frame::answer_frame;
-use crate::inputs::{options_of, parse_table, read_source, read_table_file};
+use crate::inputs::{options_of, parse_table_for, read_source, read_table_file};
 use crate::status::{NO_MEMORY, PAST_LIMIT, UNREAD, USAGE};
 use crate::texts::{refuse_source, refuse_table, say};
 use crate::watch::{GateAlone, Watch};
@@ -62,7 +62,7 @@ fn answer_script<R: Threads + Wait + Sync, F: Files, S: Sink, W: Watch>(
         Err(FileFault::TooLong) => return say(PAST_LIMIT, b"limit: table size\n", sink),
         Err(FileFault::NoMemory) => return NO_MEMORY,
     };
-    match parse_table(alloc, &bytes) {
+    match parse_table_for(alloc, script, &bytes) {
         Ok(table) => answer_frame(rt, alloc, script, &table, options_of(command), sink, watch),
         Err(fault) => refuse_table(fault, sink),
     }

@@ -3,26 +3,36 @@ use row_texts::{halves, row, same, table, unescaped};
 use std::alloc::Global;
 use std::fmt::Write;
 use std::test::Fail;
-use table_in::{Table, TableFault, read_table};
+use table_in::{Table, TableFault, read_columns, read_table};
 
-/// The values of the first column of that name in a short text, or that there is none, or why the text is no table.
-fn told(alloc: Global, text: &[u8], name: &[u8]) -> Result<String, Fail> {
-    let mut told = String::new(alloc);
-    if text.len() >= 100 {
-        return Err(Fail::new("a long text"));
-    }
-    match read_table(alloc, text) {
+/// The values of the first column of that name, or that there is none, or why a text is no table.
+fn written(alloc: Global, read: Result<Table, TableFault>, name: &[u8]) -> Result<String, Fail> {
+    let mut written = String::new(alloc);
+    match read {
         Ok(table) => match table.column(name) {
             Some(values) => {
                 for value in values {
-                    write!(told, "{value} ")?;
+                    write!(written, "{value} ")?;
                 }
             }
-            None => told.push_str("none")?,
+            None => written.push_str("none")?,
         },
-        Err(fault) => write!(told, "{fault}")?,
+        Err(fault) => write!(written, "{fault}")?,
     }
-    Ok(told)
+    Ok(written)
+}
+
+/// The same of a short text, which is read with all of its columns, and again for this one alone.
+fn told(alloc: Global, text: &[u8], name: &[u8]) -> Result<String, Fail> {
+    if text.len() >= 100 {
+        return Err(Fail::new("a long text"));
+    }
+    let whole = written(alloc, read_table(alloc, text), name)?;
+    let mut asked = Vec::new(alloc);
+    asked.push(name.to_vec(alloc)?)?;
+    let alone = written(alloc, read_columns(alloc, text, &asked), name)?;
+    same("the column alone", &alone, &whole)?;
+    Ok(whole)
 }
 
 /// The values of the first column of a name, the name, and the text.
@@ -41,6 +51,7 @@ none |  | a,b\n1,2\n
 2 | a | \x20a ,a\n1,2\n
 1 | \x20a\x20 | \x20a ,a\n1,2\n
 1 | a | a,a\n1,2\n
+2 5 | b | a,b,c,b\n1,2,3,4\n4,5,6,7\n
 | b | a,b\n
 12 -3 | a | a\n  12  \n -3\n
 0 7 -7 | a | a\n-0\n007\n-007\n
@@ -62,6 +73,7 @@ none |  | a,b\n1,2\n
 1 | a"b | a"b,c\n1,2\n
 
 # A field in quotes after plain ones, and plain ones after it.
+3 6 9 | c | a,b,c\n1,2,3\n"4",5,6\n7,8,9
 1 2 3 | a | a\n1\n"2"\n3\n
 2 4 6 | b | a,b\n1,2\n"3"," 4"\n5,6
 1 3 | a | a,b\n1,2\n\r\n3,"4"
@@ -127,6 +139,20 @@ fn finds_faults(rt: HostRuntime) -> Result<(), Fail> {
             same(line, &told(rt.alloc(), &text, b"")?, wanted)?;
         }
     }
+    Ok(())
+}
+
+#[test]
+fn keeps_what_is_asked_for(rt: HostRuntime) -> Result<(), Fail> {
+    let alloc = rt.alloc();
+    let mut asked = Vec::new(alloc);
+    asked.push(b"d".as_slice().to_vec(alloc)?)?;
+    asked.push(b"b".as_slice().to_vec(alloc)?)?;
+    let table = read_columns(alloc, b"a,b,c\n1,2,3\n\"4\",5,6\n".as_slice(), &asked)?;
+    assert!(rt; table.column(b"a".as_slice()).is_none());
+    assert!(rt; table.column(b"b".as_slice()) == Some([2i64, 5].as_slice()));
+    assert!(rt; table.column(b"c".as_slice()).is_none());
+    assert!(rt; table.column(b"d".as_slice()).is_none());
     Ok(())
 }
 

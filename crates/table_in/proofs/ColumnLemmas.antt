@@ -1,11 +1,10 @@
 -- What a table holds, name by name and value by value.
-use Rattle.std.proofs.Common.{refl, ap, ap₂, ◌≡◌, true, false, Some, None, List, [], ◌∷◌, ◌++◌, ◌∙◌, sym, ℕ, ℤ, ◌<◌, ◌≤◌, ◌+◌, arith, length, append-nil, append_assoc, Option, suc, zero, map, drop, take, pos}
-use Rattle.std.specs.Option.{unwrap_or}
+use Rattle.std.proofs.Common.{refl, ap, ap₂, ◌≡◌, true, false, Some, None, List, [], ◌∷◌, ◌++◌, ◌∙◌, sym, ℕ, ℤ, ◌<◌, ◌≤◌, ◌+◌, arith, length, append-nil, append_assoc, Option, suc, zero, map, drop, take}
 use Rattle.std.specs.List.{slice_set, slice_index_or}
 use Rattle.std.specs.Str.{bytes_eq}
 use Rattle.std.proofs.lemmas.List.{map-append}
 use Rattle.csv.specs.Records.{field_at}
-use Rattle.table_in.specs.Numbers.{Text, number_of}
+use Rattle.table_in.specs.Numbers.{Text}
 use Rattle.table_in.specs.Rows.{Fields, row_fault, or_fault, fault_from}
 use Rattle.table_in.specs.Columns.{NamedColumn, empty_column, with_value, column_named, value_of, first_value, columns_from, with_row, with_values}
 use Rattle.table_in.specs.Plain.{with_rows}
@@ -58,13 +57,6 @@ length-with_values [] values = refl
 length-with_values (c ∷ columns) [] = refl
 length-with_values (c ∷ columns) (v ∷ values) = ap suc (length-with_values columns values)
 
--- what was written over a whole list is what stands there
-pub written : (n : ℕ) (values rest : List ℤ) → n ≡ length values → take n (values ++ rest) ≡ values
-written zero [] rest e = refl
-written zero (v ∷ values) rest e = absurd (omega arith)
-written (suc n) [] rest e = absurd (omega arith)
-written (suc n) (v ∷ values) rest e = ap (λ (l : List ℤ). v ∷ l) (written n values rest (omega arith))
-
 -- ---- more rows
 
 pub length-with_rows : (columns : List NamedColumn) (rows : List Fields) → length (with_rows columns rows) ≡ length columns
@@ -75,6 +67,10 @@ pub with_rows-append : (columns : List NamedColumn) (xs ys : List Fields) → wi
 with_rows-append columns [] ys = refl
 with_rows-append columns (x ∷ xs) ys = with_rows-append (with_row columns x) xs ys
 
+pub no_fault : (a b : Option TableFault) → or_fault a b ≡ None → (a ≡ None) × (b ≡ None)
+no_fault None b e = (refl, e)
+no_fault (Some f) b e = absurd (let bad : Some f ≡ None = e in cc)
+
 -- columns that hold records of their width hold what the records say
 pub with_rows-columns : (names : Fields) (before rows : List Fields) (row : ℕ) → fault_from row (length names) rows ≡ None
     → with_rows (columns_from names before) rows ≡ columns_from names (before ++ rows)
@@ -84,10 +80,6 @@ with_rows-columns names before (r ∷ rows) row sound =
     ap (λ (l : List NamedColumn). with_rows l rows) (sym (columns_from-more names before r (row_width row (length names) r parts.0)))
     ∙ with_rows-columns names (before ++ r ∷ []) rows (row + 1) parts.1
     ∙ ap (columns_from names) (append_assoc before (r ∷ []) rows)
-  where
-    no_fault : (a b : Option TableFault) → or_fault a b ≡ None → (a ≡ None) × (b ≡ None)
-    no_fault None b e = (refl, e)
-    no_fault (Some f) b e = absurd (let bad : Some f ≡ None = e in cc)
 
 -- ---- one more name
 
@@ -96,48 +88,6 @@ pub name_step : (held : List NamedColumn) (fields : Fields) (i : ℕ) (f : Text)
 name_step held fields i f is at =
     ap (λ (l : List NamedColumn). l ++ empty_column f ∷ []) is
     ∙ sym (ap (λ l. columns_from l []) (take-field fields i f at) ∙ columns_from-name (take i fields) f)
-
--- ---- one more value
-
--- the value of one more field goes to its column
-with_row-more : (columns : List NamedColumn) (fields : Fields) (i : ℕ) (f : Text) → i < length columns → field_at fields i ≡ Some f
-    → slice_set (with_row columns (take i fields)) i (with_value (slice_index_or (with_row columns (take i fields)) i (empty_column [])) (value_of f))
-    ≡ with_row columns (take (i + 1) fields)
-unfolding field_at
-with_row-more [] fields i f lt e = absurd (omega arith)
-with_row-more (c ∷ columns) [] i f lt e = absurd (let bad : None ≡ Some f = e in cc)
-with_row-more (c ∷ columns) (g ∷ fields) zero f lt e =
-    let same : g ≡ f = cc in
-    ap₂ (λ (x : Text) (l : List NamedColumn). with_value c (value_of x) ∷ l) (sym same) (sym (with_row-nil columns))
-with_row-more (c ∷ columns) (g ∷ fields) (suc i) f lt e =
-    let one_more : suc (i + 1) ≡ suc i + 1 = omega arith in
-    ap (λ (l : List NamedColumn). with_value c (value_of g) ∷ l) (with_row-more columns fields i f (omega arith) e)
-    ∙ ap (λ n. with_row (c ∷ columns) (take n (g ∷ fields))) one_more
-
-pub value_step : (init held new : List NamedColumn) (fields : Fields) (i : ℕ) (f : Text) (n : ℤ) → held ≡ with_row init (take i fields)
-    → new ≡ slice_set held i (with_value (slice_index_or held i (empty_column [])) n) → i < length init → field_at fields i ≡ Some f → Some n ≡ number_of f
-    → new ≡ with_row init (take (i + 1) fields)
-value_step init held new fields i f n is step lt at number =
-    let value : n ≡ value_of f = ap (λ o. unwrap_or o (pos 0)) number in
-    step ∙ ap₂ (λ l v. slice_set l i (with_value (slice_index_or l i (empty_column [])) v)) is value ∙ with_row-more init fields i f lt at
-
-with_values-more : (columns : List NamedColumn) (values : List ℤ) (i : ℕ) → i < length columns → i < length values
-    → slice_set (with_values columns (take i values)) i
-    (with_value (slice_index_or (with_values columns (take i values)) i (empty_column [])) (slice_index_or values i (pos 0)))
-    ≡ with_values columns (take (i + 1) values)
-with_values-more [] values i lt inside = absurd (omega arith)
-with_values-more (c ∷ columns) [] i lt inside = absurd (omega arith)
-with_values-more (c ∷ columns) (v ∷ values) zero lt inside = ap (λ (l : List NamedColumn). with_value c v ∷ l) (sym (with_values-nil columns))
-with_values-more (c ∷ columns) (v ∷ values) (suc i) lt inside =
-    let one_more : suc (i + 1) ≡ suc i + 1 = omega arith in
-    ap (λ (l : List NamedColumn). with_value c v ∷ l) (with_values-more columns values i (omega arith) (omega arith))
-    ∙ ap (λ n. with_values (c ∷ columns) (take n (v ∷ values))) one_more
-
-pub push_step : (init held new : List NamedColumn) (values : List ℤ) (i : ℕ) (n : ℤ) → held ≡ with_values init (take i values)
-    → new ≡ slice_set held i (with_value (slice_index_or held i (empty_column [])) n) → n ≡ slice_index_or values i (pos 0)
-    → i < length init → i < length values → new ≡ with_values init (take (i + 1) values)
-push_step init held new values i n is step value lt inside =
-    step ∙ ap₂ (λ l v. slice_set l i (with_value (slice_index_or l i (empty_column [])) v)) is value ∙ with_values-more init values i lt inside
 
 -- a column with one more value, seen by its name and values
 pub pushed : {X : Type 0} (f : X → NamedColumn) (xs : List X) (i : ℕ) (old new : X) (v : ℤ) → i < length xs → old ≡ slice_index_or xs i old
@@ -183,6 +133,12 @@ column_miss name (x ∷ columns) zero c lt at e =
 column_miss name (x ∷ columns) (suc i) c lt at e =
     let one_more : suc i + 1 ≡ suc (i + 1) = omega arith in
     ap (λ k. column_named name (map seen (drop k (x ∷ columns)))) one_more ∙ column_miss name columns i c (omega arith) at e
+
+pub seen_at : (columns : List Column) (i : ℕ) (c : Column) → i < length columns → c ≡ slice_index_or columns i c
+    → seen c ≡ slice_index_or (map seen columns) i (empty_column [])
+seen_at [] i c lt at = absurd (omega arith)
+seen_at (x ∷ columns) zero c lt at = ap seen at
+seen_at (x ∷ columns) (suc i) c lt at = seen_at columns i c (omega arith) at
 
 pub length-seen : (columns : List Column) → length (map seen columns) ≡ length columns
 length-seen [] = refl

@@ -222,7 +222,7 @@ take_set (suc i) (x ∷ values) v lt =
     let one_more : suc i + 1 ≡ suc (i + 1) = omega arith in
     rw one_more (ap (λ (l : List ℤ). x ∷ l) (take_set i values v (omega arith)))
 
-held_more : (fields : Fields) (field : Text) (i : ℕ) (values : List ℤ) (v : ℤ) → i < length values → map value_of fields ≡ take i values
+pub held_more : (fields : Fields) (field : Text) (i : ℕ) (values : List ℤ) (v : ℤ) → i < length values → map value_of fields ≡ take i values
     → number_of field ≡ Some v → map value_of (fields ++ (field ∷ [])) ≡ take (i + 1) (set values i v)
 held_more fields field i values v lt held is =
     map-append value_of fields (field ∷ [])

@@ -1,6 +1,8 @@
 pub mod NumberLemmas
 pub mod RowLemmas
 pub mod ColumnLemmas
+pub mod MarkLemmas
+pub mod AskedLemmas
 pub mod ReadLemmas
 pub mod PlainLemmas
 pub mod FieldLemmas

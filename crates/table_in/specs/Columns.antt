@@ -1,5 +1,6 @@
 -- The columns of a table, and what the records of a text say that they are.
-use Rattle.std.specs.Prelude.{◌≡◌, ◌++◌, ℤ, pos, List, [], ◌∷◌, map, drop, Option, Some, None, if◌then◌else◌, unwrap_or}
+use Rattle.std.specs.Prelude.{◌≡◌, ◌++◌, ℤ, pos, Bool, List, [], ◌∷◌, map, drop, Option, Some, None, if◌then◌else◌, unwrap_or}
+use Rattle.std.specs.List.{list_any}
 use Rattle.std.specs.Str.{bytes_eq}
 use Rattle.table_in.specs.Numbers.{Text, number_of}
 use Rattle.table_in.specs.Rows.{Fields, table_fault}
@@ -36,6 +37,16 @@ abbrev pub columns_in : List Fields → List NamedColumn
 columns_in [] = []
 columns_in (names ∷ rest) = columns_from names rest
 
+-- the name is one of those that are asked for
+abbrev pub is_asked : List Text → Text → Bool
+is_asked asked name = list_any (λ a. bytes_eq a name) asked
+
+-- the columns whose names are asked for, in their order
+abbrev pub columns_asked : List Text → List NamedColumn → List NamedColumn
+columns_asked asked [] = []
+columns_asked asked (c ∷ columns) =
+    if is_asked asked c.name then c ∷ columns_asked asked columns else columns_asked asked columns
+
 -- the columns with one more record
 abbrev pub with_row : List NamedColumn → Fields → List NamedColumn
 with_row [] fields = []
@@ -52,3 +63,8 @@ with_values (c ∷ columns) (v ∷ values) = with_value c v ∷ with_values colu
 pub record HoldsRows (rows : List Fields) (table : List NamedColumn) : Type 0 where
   pub sound : table_fault rows ≡ None
   pub columns : table ≡ columns_in rows
+
+-- the records have no fault, and the table holds what they do of the columns that are asked for
+pub record HoldsAsked (asked : List Text) (rows : List Fields) (table : List NamedColumn) : Type 0 where
+  pub sound : table_fault rows ≡ None
+  pub columns : table ≡ columns_asked asked (columns_in rows)

@@ -4,13 +4,13 @@ use Rattle.std.specs.Prelude.{◌≡◌, ◌+◌, ◌<◌, ◌≤◌, ◌==◌, 
 use Rattle.std.specs.Char.{is_ascii_digit}
 use Rattle.std.specs.List.{list_all, list_any}
 use Rattle.csv.specs.Machine.{Read, next_record, is_end}
-use Rattle.csv.specs.Reading.{default_config, records}
+use Rattle.csv.specs.Reading.{default_config, records, strip_bom}
 use Rattle.csv.specs.declared.parser.State.{State}
 use Rattle.csv.specs.declared.parser.State.TheVariants as st
 use Rattle.csv.specs.declared.parser.Action.{Action}
 use Rattle.table_in.specs.Numbers.{Text, number_of, is_space, magnitude, limit}
-use Rattle.table_in.specs.Rows.{Fields, all_numbers, fault_from}
-use Rattle.table_in.specs.Columns.{NamedColumn, value_of, with_row}
+use Rattle.table_in.specs.Rows.{Fields, all_numbers, fault_from, rows_in, table_fault}
+use Rattle.table_in.specs.Columns.{NamedColumn, value_of, is_asked, with_row, columns_from, columns_in}
 use Rattle.table_in.specs.declared.names.Place.{Place}
 use Rattle.table_in.specs.declared.names.Place.TheVariants as place
 
@@ -87,26 +87,41 @@ pub record RecordAt (text : Text) (from : ℕ) (values : List ℤ) (end : ℕ) :
   pub ends : EndsLine text end
   pub within : end ≤ length text
 
+-- of a list what stands at the marked places
+abbrev pub marked : {A : Type 0} → List Bool → List A → List A
+marked [] xs = []
+marked (mark ∷ marks) [] = []
+marked (mark ∷ marks) (x ∷ xs) = if mark then x ∷ marked marks xs else marked marks xs
+
+-- the columns whose names are asked for are marked
+abbrev pub marks_of : List Text → List NamedColumn → List Bool
+marks_of asked columns = map (λ c. is_asked asked c.name) columns
+
+-- there is a column for each mark that is set
+abbrev pub IsMarked : List Bool → List NamedColumn → Type 0
+IsMarked marks columns = length (marked marks marks) ≡ length columns
+
 -- the columns with more records
 abbrev pub with_rows : List NamedColumn → List Fields → List NamedColumn
 with_rows columns [] = columns
 with_rows columns (fields ∷ rest) = with_rows (with_row columns fields) rest
 
--- the records between two places have no fault, and the columns hold them; `row` is the number of the next one
-pub record RowsAt (text : Text) (from : ℕ) (old new : List NamedColumn) (at row : ℕ) : Type 0 where
+-- the records between two places have no fault, and the columns hold what is marked of them; `row` is the number of the
+-- next one
+pub record RowsAt (text : Text) (from : ℕ) (marks : List Bool) (old new : List NamedColumn) (at row : ℕ) : Type 0 where
   pub rows : List Fields
   pub next : rows_after text from ≡ rows ++ rows_after text at
-  pub sound : fault_from 2 (length old) rows ≡ None
-  pub held : new ≡ with_rows old rows
+  pub sound : fault_from 2 (length marks) rows ≡ None
+  pub held : new ≡ with_rows old (map (marked marks) rows)
   pub count : row ≡ 2 + length rows
   pub few : row ≤ 2 + at
   pub ends : EndsLine text at
   pub within : at ≤ length text
 
--- these records from a number on have no fault, and the columns hold them
-pub record AddsRows (first : ℕ) (old new : List NamedColumn) (rows : List Fields) : Type 0 where
-  pub sound : fault_from first (length old) rows ≡ None
-  pub held : new ≡ with_rows old rows
+-- these records from a number on have no fault, and the columns hold what is marked of them
+pub record AddsRows (first : ℕ) (marks : List Bool) (old new : List NamedColumn) (rows : List Fields) : Type 0 where
+  pub sound : fault_from first (length marks) rows ≡ None
+  pub held : new ≡ with_rows old (map (marked marks) rows)
 
 -- ---- the first record, which may stand in quotes
 
@@ -134,3 +149,12 @@ pub record FirstEnds (text : Text) (end : ℕ) : Type 0 where
 abbrev pub BeginsWith : Text → Fields → Type 0
 BeginsWith text names = (s : State) × (rest : Text)
     × (next_record default_config st.StartRecord [] [] text ≡ Some (names, s, rest))
+
+-- the columns have the names of a text's first record, and no value yet
+abbrev pub AreNamed : Text → List NamedColumn → Type 0
+AreNamed source columns = (names : Fields) × BeginsWith (strip_bom source) names × (columns ≡ columns_from names [])
+
+-- the records of a text have no fault, and the table holds what is marked of their columns
+pub record HoldsMarked (marks : List Bool) (source : Text) (table : List NamedColumn) : Type 0 where
+  pub sound : table_fault (rows_in source) ≡ None
+  pub columns : table ≡ marked marks (columns_in (rows_in source))

@@ -1,14 +1,27 @@
 // The columns of a table.
 ghost use Rattle.std.specs.Prelude.{◌≡◌, ◌<◌, ◌⊎◌, IfOk, IfErr, OnOk, IfSome, Some, None, [], ◌∷◌, ◌++◌, length, map, option_map, slice_set, slice_index_or};
 ghost use Rattle.csv.specs.Records.{fields_of};
-ghost use Rattle.table_in.specs.Columns.{NamedColumn, column_named, columns_from, with_row, with_value, with_values, empty_column};
+ghost use Rattle.table_in.specs.Columns.{NamedColumn, column_named, columns_from, is_asked, with_row, with_value, with_values, empty_column};
+ghost use Rattle.table_in.specs.Plain.{IsMarked, marked, marks_of};
 ghost use Rattle.table_in.specs.Rows.{row_fault};
 
 use crate::TableFault;
-use crate::numbers::number_of;
+use crate::fields::read_fields;
 use csv::ByteRecord;
 use std::alloc::{AllocError, Global};
 use std::marker::Model;
+
+// Whether a name is one of those that are asked for.
+fn is_asked(asked: &[Vec<u8>], name: &[u8]) -> bool
+    ensures { result ≡ is_asked (map (λ v. v.items) asked.now) name.now }
+{
+    for one in asked {
+        if one.as_slice() == name {
+            return true;
+        }
+    }
+    false
+}
 
 #[derive(Debug, Drop)]
 struct Column {
@@ -119,13 +132,18 @@ impl Table {
         Ok(())
     }
 
-    /// Adds a record of these numbers.
-    pub(crate) fn push_values(&mut self, values: &[i64]) -> Result<(), AllocError>
-        requires { length values.now ≡ length self.old }
-        ensures { OnOk result (self.new ≡ with_values self.old values.now) }
+    /// Adds of a record of these numbers what is marked.
+    pub(crate) fn push_marked(&mut self, values: &[i64], marks: &[bool]) -> Result<(), AllocError>
+        requires values { length values.now ≡ length marks.now }
+        requires columns { IsMarked marks.now self.old }
+        ensures { OnOk result (self.new ≡ with_values self.old (marked marks.now values.now)) }
     {
+        let mut place = 0;
         for i in 0..values.len() {
-            self.push_value(i, values[i])?;
+            if marks[i] {
+                self.push_value(place, values[i])?;
+                place += 1;
+            }
         }
         Ok(())
     }
@@ -144,29 +162,55 @@ impl Table {
         Ok(table)
     }
 
-    /// Adds what the record of this number holds, or says what is wrong with it.
-    pub(crate) fn push_row(&mut self, fields: &ByteRecord, row: u32) -> Result<(), TableFault>
-        ensures sound { OnOk result (row_fault row (length self.old) (fields_of fields.now) ≡ None) }
-        ensures values { OnOk result (self.new ≡ with_row self.old (fields_of fields.now)) }
-        ensures err { IfErr result (λ f. (f ≡ TableFault.NoMemory)
-            ⊎ (row_fault row (length self.old) (fields_of fields.now) ≡ Some f)) }
+    /// Which columns have a name that is asked for.
+    pub(crate) fn marks_of(&self, alloc: Global, asked: &[Vec<u8>]) -> Result<Vec<bool>, AllocError>
+        ensures { IfOk result (λ marks. marks.items ≡ marks_of (map (λ v. v.items) asked.now) self.now) }
     {
-        if fields.len() != self.columns.len() {
-            return Err(TableFault::Unequal { row });
+        let mut marks = Vec::new(alloc);
+        for column in &self.columns {
+            marks.push(is_asked(asked, &column.name))?;
         }
-        for i in 0..fields.len() {
-            match fields.get(i) {
-                Some(field) => match number_of(field) {
-                    Some(value) => {
-                        if self.push_value(i, value).is_err() {
-                            return Err(TableFault::NoMemory);
-                        }
-                    }
-                    None => return Err(TableFault::NotNumber { row }),
-                },
-                None => unreachable!(),
+        Ok(marks)
+    }
+
+    /// A table of the marked columns alone.
+    pub(crate) fn only(&self, alloc: Global, marks: &[bool]) -> Result<Table, AllocError>
+        requires { length marks.now ≡ length self.now }
+        ensures { IfOk result (λ t. t ≡ marked marks.now self.now) }
+    {
+        let mut table = Table::none(alloc);
+        for i in 0..marks.len() {
+            if marks[i] {
+                let column = &self.columns[i];
+                table.push_column(alloc, &column.name, &column.values)?;
             }
         }
-        Ok(())
+        Ok(table)
+    }
+
+    /// Adds of what the record of this number holds what is marked, or says what is wrong with it. `values` is where
+    /// its numbers are put meanwhile.
+    pub(crate) fn push_row(
+        &mut self,
+        fields: &ByteRecord,
+        row: u32,
+        marks: &[bool],
+        values: &mut [i64],
+    ) -> Result<(), TableFault>
+        requires values { length values.old ≡ length marks.now }
+        requires columns { IsMarked marks.now self.old }
+        ensures sound { OnOk result (row_fault row (length marks.now) (fields_of fields.now) ≡ None) }
+        ensures values { OnOk result (self.new ≡ with_row self.old (marked marks.now (fields_of fields.now))) }
+        ensures err { IfErr result (λ f. (f ≡ TableFault.NoMemory)
+            ⊎ (row_fault row (length marks.now) (fields_of fields.now) ≡ Some f)) }
+    {
+        match read_fields(fields, row, values) {
+            Ok(()) => {}
+            Err(fault) => return Err(fault),
+        }
+        match self.push_marked(values, marks) {
+            Ok(()) => Ok(()),
+            Err(_) => Err(TableFault::NoMemory),
+        }
     }
 }

@@ -7,9 +7,13 @@
 //! The records below the names are mostly plain: digits, a `-` before them, spaces round them, commas between. Those
 //! are read where they stand, in one pass over the bytes. From the first other record on, as one with a quote in it or
 //! a faulty one, `csv` reads the text record by record: so a table with a field in quotes near its head is read slowly.
+//!
+//! Who asks for some of the columns gets these alone, which takes less memory: of all others each field is looked at,
+//! and none is kept.
 #![tactic(auto)]
 
 mod columns;
+mod fields;
 mod names;
 mod numbers;
 mod plain;
@@ -17,7 +21,7 @@ mod reading;
 mod rows;
 
 pub use columns::Table;
-pub use reading::read_table;
+pub use reading::{read_columns, read_table};
 use thiserror::Error;
 
 /// Why a text is no table. Records are numbered from 1, the record of the names included.

@@ -1,10 +1,10 @@
 // A whole text, record by record.
-ghost use Rattle.std.specs.Prelude.{◌≡◌, ◌≤◌, ◌<◌, ◌+◌, ◌⊎◌, IfOk, IfErr, OnOk, Some, None, [], length};
+ghost use Rattle.std.specs.Prelude.{◌≡◌, ◌≤◌, ◌<◌, ◌+◌, ◌⊎◌, IfOk, IfErr, OnOk, Some, length, map};
 ghost use Rattle.csv.specs.Reading.{is_bom, strip_bom};
 ghost use Rattle.job_base.specs.declared.limits.TheConstants.{MOST_TABLE_BYTES};
-ghost use Rattle.table_in.specs.Rows.{Fields, rows_in, table_fault, fault_from};
-ghost use Rattle.table_in.specs.Columns.{HoldsRows, columns_from};
-ghost use Rattle.table_in.specs.Plain.{AddsRows, BeginsWith};
+ghost use Rattle.table_in.specs.Rows.{rows_in, table_fault, fault_from};
+ghost use Rattle.table_in.specs.Columns.{HoldsAsked, HoldsRows};
+ghost use Rattle.table_in.specs.Plain.{AddsRows, AreNamed, HoldsMarked, IsMarked};
 
 use crate::names::names_end;
 use crate::rows::push_plain_rows;
@@ -14,8 +14,7 @@ use std::alloc::Global;
 
 // The table of the names that the first record holds.
 fn read_names(alloc: Global, source: &[u8]) -> Result<Table, TableFault>
-    ensures ok { IfOk result (λ t. (names : Fields) × BeginsWith (strip_bom source.now) names
-        × (t ≡ columns_from names [])) }
+    ensures ok { IfOk result (AreNamed source.now) }
     ensures err { IfErr result (λ f. (f ≡ TableFault.NoMemory) ⊎ (table_fault (rows_in source.now) ≡ Some f)) }
 {
     let mut reader = ReaderBuilder::new()
@@ -35,12 +34,21 @@ fn read_names(alloc: Global, source: &[u8]) -> Result<Table, TableFault>
     }
 }
 
-// Adds what the records of a text hold, of which the first has this number.
-fn push_rows(table: &mut Table, alloc: Global, text: &[u8], first: u32) -> Result<(), TableFault>
-    requires { first + length text.now < 4294967295 }
-    ensures ok { OnOk result (AddsRows first table.old table.new (rows_in text.now)) }
+// Adds what is marked of the records of a text, of which the first has this number.
+fn push_rows(
+    table: &mut Table,
+    alloc: Global,
+    marks: &[bool],
+    values: &mut [i64],
+    text: &[u8],
+    first: u32,
+) -> Result<(), TableFault>
+    requires values { length values.old ≡ length marks.now }
+    requires columns { IsMarked marks.now table.old }
+    requires small { first + length text.now < 4294967295 }
+    ensures ok { OnOk result (AddsRows first marks.now table.old table.new (rows_in text.now)) }
     ensures err { IfErr result (λ f. (f ≡ TableFault.NoMemory)
-        ⊎ (fault_from first (length table.old) (rows_in text.now) ≡ Some f)) }
+        ⊎ (fault_from first (length marks.now) (rows_in text.now) ≡ Some f)) }
 {
     let mut reader = ReaderBuilder::new()
         .has_headers(false)
@@ -56,7 +64,7 @@ fn push_rows(table: &mut Table, alloc: Global, text: &[u8], first: u32) -> Resul
         if !has_row {
             return Ok(());
         }
-        match table.push_row(&record, row) {
+        match table.push_row(&record, row, marks, values) {
             Ok(()) => {}
             Err(fault) => return Err(fault),
         }
@@ -85,6 +93,42 @@ fn skip_mark(source: &[u8]) -> &[u8]
     }
 }
 
+// Reads the records below the names, and keeps the marked columns.
+fn read_marked(
+    alloc: Global,
+    source: &[u8],
+    names: &Table,
+    marks: &[bool],
+) -> Result<Table, TableFault>
+    requires within { length source.now ≤ MOST_TABLE_BYTES }
+    requires names { AreNamed source.now names.now }
+    requires marks { length marks.now ≡ length names.now }
+    ensures ok { IfOk result (HoldsMarked marks.now source.now) }
+    ensures err { IfErr result (λ f. (f ≡ TableFault.NoMemory) ⊎ (table_fault (rows_in source.now) ≡ Some f)) }
+{
+    let Ok(mut table) = names.only(alloc, marks) else {
+        return Err(TableFault::NoMemory);
+    };
+    let Ok(mut values) = vec![in alloc; 0i64; marks.len()] else {
+        return Err(TableFault::NoMemory);
+    };
+    let text = skip_mark(source);
+    let Ok(stand) = push_plain_rows(&mut table, marks, &mut values, text, names_end(text)) else {
+        return Err(TableFault::NoMemory);
+    };
+    match push_rows(
+        &mut table,
+        alloc,
+        marks,
+        &mut values,
+        &text[stand.at..],
+        stand.row,
+    ) {
+        Ok(()) => Ok(table),
+        Err(fault) => Err(fault),
+    }
+}
+
 /// Reads a table of at most `MOST_TABLE_BYTES` bytes.
 ///
 /// Where the text is no table, the fault is that of the first faulty record. Of a reader's other answers none can come:
@@ -94,13 +138,22 @@ pub fn read_table(alloc: Global, source: &[u8]) -> Result<Table, TableFault>
     ensures ok { IfOk result (HoldsRows (rows_in source.now)) }
     ensures err { IfErr result (λ f. (f ≡ TableFault.NoMemory) ⊎ (table_fault (rows_in source.now) ≡ Some f)) }
 {
-    let mut table = read_names(alloc, source)?;
-    let text = skip_mark(source);
-    let Ok(stand) = push_plain_rows(&mut table, alloc, text, names_end(text)) else {
+    let names = read_names(alloc, source)?;
+    let Ok(marks) = vec![in alloc; true; names.width()] else {
         return Err(TableFault::NoMemory);
     };
-    match push_rows(&mut table, alloc, &text[stand.at..], stand.row) {
-        Ok(()) => Ok(table),
-        Err(fault) => Err(fault),
-    }
+    read_marked(alloc, source, &names, &marks)
+}
+
+/// Reads of such a table the columns whose names are asked for. It has the faults that it would have with all of them.
+pub fn read_columns(alloc: Global, source: &[u8], asked: &[Vec<u8>]) -> Result<Table, TableFault>
+    requires { length source.now ≤ MOST_TABLE_BYTES }
+    ensures ok { IfOk result (HoldsAsked (map (λ v. v.items) asked.now) (rows_in source.now)) }
+    ensures err { IfErr result (λ f. (f ≡ TableFault.NoMemory) ⊎ (table_fault (rows_in source.now) ≡ Some f)) }
+{
+    let names = read_names(alloc, source)?;
+    let Ok(marks) = names.marks_of(alloc, asked) else {
+        return Err(TableFault::NoMemory);
+    };
+    read_marked(alloc, source, &names, &marks)
 }

@@ -1,11 +1,11 @@
 // Records of plain numbers, read in one pass over the bytes.
 ghost use Rattle.std.specs.Prelude.{◌≡◌, ◌≤◌, IfOk, IfSome, true, length};
 ghost use Rattle.job_base.specs.declared.limits.TheConstants.{MOST_TABLE_BYTES};
-ghost use Rattle.table_in.specs.Plain.{EndsLine, RecordAt, RowsAt, rows_after};
+ghost use Rattle.table_in.specs.Plain.{EndsLine, IsMarked, RecordAt, RowsAt, rows_after};
 
 use crate::Table;
 use crate::plain::{ends_line, read_number};
-use std::alloc::{AllocError, Global};
+use std::alloc::AllocError;
 
 /// Where reading goes on: the place in the text, and the number of the next record.
 #[derive(Clone, Copy)]
@@ -59,29 +59,32 @@ fn read_record(text: &[u8], from: usize, values: &mut [i64]) -> Option<usize>
     None
 }
 
-/// Adds the records from a place on, up to the first that is not of plain numbers, or not of one for each column.
+/// Adds what is marked of the records from a place on, up to the first that is not of plain numbers, or not of one for
+/// each mark. `values` is where the numbers of a record are put meanwhile.
 pub fn push_plain_rows(
     table: &mut Table,
-    alloc: Global,
+    marks: &[bool],
+    values: &mut [i64],
     text: &[u8],
     from: usize,
 ) -> Result<Stand, AllocError>
+    requires values { length values.old ≡ length marks.now }
+    requires columns { IsMarked marks.now table.old }
     requires within { from ≤ length text.now }
     requires ends { EndsLine text.now from }
     requires small { length text.now ≤ MOST_TABLE_BYTES }
-    ensures { IfOk result (λ s. RowsAt text.now from table.old table.new s.at s.row) }
+    ensures { IfOk result (λ s. RowsAt text.now from marks.now table.old table.new s.at s.row) }
 {
-    let mut values = vec![in alloc; 0i64; table.width()]?;
     let mut at = from;
     for row in 2..u32::MAX {
         let start = skip_lines(text, at);
-        let Some(end) = read_record(text, start, &mut values) else {
+        let Some(end) = read_record(text, start, values) else {
             return Ok(Stand { at, row });
         };
         if row == 2 {
             table.make_room((text.len() - end) / (end - start + 1) + 1)?;
         }
-        table.push_values(&values)?;
+        table.push_marked(values, marks)?;
         at = end;
     }
     Ok(Stand { at, row: u32::MAX })

@@ -9,7 +9,7 @@ returns-then-is_too_long-clause-answer g c source accepted =
 
 pub returns-in-Ok-clause-answer : goal.returns-in-Ok-clause-answer
 returns-in-Ok-clause-answer g c source accepted =
-    of_frame source _ c.args.script.now accepted _ _ _ _ _ _ c.in-Ok.ensures.sound c.in-Ok.ensures.columns c.answer_frame.ensures.answer
+    of_frame source _ c.args.script.now accepted c.in-Ok.columns _ _ _ _ _ c.in-Ok.ensures.sound c.in-Ok.ensures.columns c.answer_frame.ensures.answer
 
 pub returns-in-Err-clause-answer : goal.returns-in-Err-clause-answer
 returns-in-Err-clause-answer g c source accepted =
