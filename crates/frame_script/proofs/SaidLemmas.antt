@@ -9,12 +9,17 @@ use Rattle.script_text.specs.declared.source.Source.{Source}
 use Rattle.script_text.specs.declared.raw.RawOrder.{RawOrder}
 use Rattle.script_text.specs.declared.raw.RawOrder.TheVariants as raw
 use Rattle.script_text.specs.Raw.{OrderForm, NewArray, NewColumn, NewList, NewReference, NewMap, NewStream, Slice, View, Copy, Set, Add, Put, Remove, Clear, SetCapacity, Schedule, Combine, Complete, Dispose, DisposeAuto, Print, Flush, Frame, Repeat, When, form_of}
+use Rattle.script_text.specs.declared.known_orders.KnownOrder.{KnownOrder}
+use Rattle.script_text.specs.declared.known_orders.KnownOrder.TheVariants as known
+use Rattle.script_text.specs.Known.{known_form}
 use Rattle.script_text.specs.Events.{closing}
 use Rattle.script_checks.specs.Faults.{Scope, order_faults}
 use Rattle.script_checks.specs.Names.{Name}
 use Rattle.script_checks.specs.Spelling.{Says}
+use Rattle.frame_script.specs.declared.walk.Walk.{Walk}
 use Rattle.frame_script.specs.Files.{literals_of}
-use Rattle.script_checks.specs.Checks.{Gives, is_plain, among}
+use Rattle.frame_script.specs.Walking.{TakesSingle, Takes}
+use Rattle.script_checks.specs.Checks.{Gives, is_plain, among, bare}
 
 -- it says the same behind other lists of values
 pub said_behind : (s : Source) (names : List Name) (kernels : List Kernel) (literals : ℕ) (x : RawOrder) (o : Order) → IsTrue (is_plain x) →
@@ -68,3 +73,69 @@ plain_faults s c at Flush h = refl
 plain_faults s c at Frame h = refl
 plain_faults s c at (Repeat n) h = absurd cc
 plain_faults s c at (When name test value) h = absurd cc
+
+-- STATEMENTS THAT ARE KNOWN
+
+-- they have the same faults at whatever token, in whatever block and among whatever kernels
+pub known_faults : (s : Source) (c : Scope) (at : ℕ) (o : KnownOrder) → order_faults s (bare c.names) 0 (known_form o) ≡ order_faults s c at (known_form o)
+known_faults s c at (known.Array a b) = refl
+known_faults s c at (known.List a b) = refl
+known_faults s c at (known.Reference a b) = refl
+known_faults s c at (known.Map a b) = refl
+known_faults s c at (known.Slice a b d e) = refl
+known_faults s c at (known.View a b) = refl
+known_faults s c at (known.Set a b d) = refl
+known_faults s c at (known.Add a b) = refl
+known_faults s c at (known.Put a b d) = refl
+known_faults s c at (known.Remove a b) = refl
+known_faults s c at (known.Dispose a) = refl
+known_faults s c at (known.Print a) = refl
+known_faults s c at known.Flush = refl
+
+-- they say the same among whatever kernels, and behind whatever lists of values
+pub known_said : (s : Source) (names : List Name) (kernels : List Kernel) (literals : ℕ) (o : KnownOrder) (x : Order) →
+    Says s names [] 0 0 (known_form o) x → Says s names kernels literals 0 (known_form o) x
+known_said s names kernels literals (known.Array a b) x says = says
+known_said s names kernels literals (known.List a b) x says = says
+known_said s names kernels literals (known.Reference a b) x says = says
+known_said s names kernels literals (known.Map a b) x says = says
+known_said s names kernels literals (known.Slice a b d e) x says = says
+known_said s names kernels literals (known.View a b) x says = says
+known_said s names kernels literals (known.Set a b d) x says = says
+known_said s names kernels literals (known.Add a b) x says = says
+known_said s names kernels literals (known.Put a b d) x says = says
+known_said s names kernels literals (known.Remove a b) x says = says
+known_said s names kernels literals (known.Dispose a) x says = says
+known_said s names kernels literals (known.Print a) x says = says
+known_said s names kernels literals known.Flush x says = says
+
+pub known_no_list : (s : Source) (o : KnownOrder) → [] ≡ literals_of s (known_form o)
+known_no_list s (known.Array a b) = refl
+known_no_list s (known.List a b) = refl
+known_no_list s (known.Reference a b) = refl
+known_no_list s (known.Map a b) = refl
+known_no_list s (known.Slice a b d e) = refl
+known_no_list s (known.View a b) = refl
+known_no_list s (known.Set a b d) = refl
+known_no_list s (known.Add a b) = refl
+known_no_list s (known.Put a b d) = refl
+known_no_list s (known.Remove a b) = refl
+known_no_list s (known.Dispose a) = refl
+known_no_list s (known.Print a) = refl
+known_no_list s known.Flush = refl
+
+-- they have no block
+pub known_takes : (s : Source) (at : ℕ) (o : KnownOrder) (old new : Walk) → TakesSingle s at (known_form o) old new → Takes s at (known_form o) old new
+known_takes s at (known.Array a b) old new takes = takes
+known_takes s at (known.List a b) old new takes = takes
+known_takes s at (known.Reference a b) old new takes = takes
+known_takes s at (known.Map a b) old new takes = takes
+known_takes s at (known.Slice a b d e) old new takes = takes
+known_takes s at (known.View a b) old new takes = takes
+known_takes s at (known.Set a b d) old new takes = takes
+known_takes s at (known.Add a b) old new takes = takes
+known_takes s at (known.Put a b d) old new takes = takes
+known_takes s at (known.Remove a b) old new takes = takes
+known_takes s at (known.Dispose a) old new takes = takes
+known_takes s at (known.Print a) old new takes = takes
+known_takes s at known.Flush old new takes = takes

@@ -7,6 +7,7 @@ ghost use Rattle.kernel_text.specs.Tokens.{kinds, NamesAreText};
 ghost use Rattle.kernel_raw.specs.Legible.{NamesStand};
 ghost use Rattle.frame_ast.specs.Lists.{first_some};
 ghost use Rattle.script_text.specs.Raw.{form_of, Repeat, When};
+ghost use Rattle.script_text.specs.Known.{known_form};
 ghost use Rattle.script_text.specs.Events.{closing};
 ghost use Rattle.script_text.specs.Places.{TestStands, OrderStands, IsFile};
 ghost use Rattle.script_text.specs.Sources.{file_tokens, line_at};
@@ -23,8 +24,12 @@ use crate::written::Written;
 use frame_grammar::TokenAt;
 use frame_parser::Note;
 use job_base::NoMemory;
-use script_checks::{Comparison, Kernels, Names, OrderFault, check_repeat, check_when};
-use script_text::{LineCursor, RawItem, RawNumber, RawOrder, Source, raw_item};
+use script_checks::{
+    Comparison, Kernels, Names, OrderFault, check_known, check_repeat, check_when,
+};
+use script_text::{
+    KnownOrder, LineCursor, RawItem, RawNumber, RawOrder, Source, known_item, raw_item,
+};
 use std::alloc::Global;
 
 /// What is known after some items of a file, and the part of its script that they are.
@@ -186,8 +191,28 @@ impl<'a> Walk<'a> {
         }
     }
 
-    /// Goes over the item at an event. Answers the event after it, or none where no item is left.
-    fn step(
+    // One of the statements that many lines are, whose first token lies on this line.
+    #[inline(always)]
+    fn take_known(
+        &mut self,
+        alloc: Global,
+        source: Source<'a>,
+        at: TokenAt,
+        line: u32,
+        order: KnownOrder,
+    ) -> Result<(), OrderFault>
+        requires line { line ≡ line_at source at }
+        ensures { Gives (first_some (order_faults source.entry (scope_of self.old) at (known_form order)))
+            (λ _. Takes source.entry at (known_form order) self.old self.new) result }
+    {
+        let act = check_known(alloc, source, &mut self.names, order)?;
+        self.written.add(line, act)?;
+        Ok(())
+    }
+
+    // The same, whatever item it is.
+    #[inline(never)]
+    fn step_any(
         &mut self,
         alloc: Global,
         source: Source<'a>,
@@ -225,6 +250,39 @@ impl<'a> Walk<'a> {
                 self.close(alloc)?;
                 Ok(Some(next))
             }
+        }
+    }
+
+    /// Goes over the item at an event. Answers the event after it, or none where no item is left.
+    // Nearly all items of long scripts are known statements. The others have large parts, and stand out of line.
+    fn step(
+        &mut self,
+        alloc: Global,
+        source: Source<'a>,
+        notes: &[Note],
+        at: usize,
+        lines: &mut LineCursor,
+    ) -> Result<Option<usize>, LoadFault>
+        requires few { length source.marks.now < 2 ^ 32 - 1 }
+        requires text { NamesAreText source.bytes.now (file_tokens source) }
+        requires named { NamesStand (kinds (file_tokens source)) (events_of notes.now) }
+        requires within { at ≤ length (events_of notes.now) }
+        requires walking { IsWalking source (events_of notes.now) at self.old }
+        requires on { IsOn source lines.old }
+        ensures walked { IfOk result (λ found. MatchOption found (IsThrough source.entry (events_of notes.now) self.new)
+            (λ next. (at < next) × (next ≤ length (events_of notes.now))
+            × IsWalking source.entry (events_of notes.now) next self.new)) }
+        ensures on { IfOk result (λ _. IsOn source.entry lines.new) }
+        ensures refused { (line : ℕ) (kind : FaultKind) → result ≡ Err (LoadFault.Refused line kind) →
+            RefusesItems source.entry (events_of notes.now) line kind }
+    {
+        let Some(item) = known_item(notes, at) else {
+            return self.step_any(alloc, source, notes, at, lines);
+        };
+        let line = lines.go_to(source, item.first);
+        match self.take_known(alloc, source, item.first, line, item.order) {
+            Ok(()) => Ok(Some(item.next)),
+            Err(fault) => Err(refusal_for(source, fault)),
         }
     }
 }

@@ -102,3 +102,9 @@ pub made_otherwise : (s : Source) (names : List Name) (kind known : NameKind) (a
     false ≡ is_among known (kind ∷ []) → remake_fault s names kind at ≡ Some (record { at = at; kind = KindMismatch })
 made_otherwise s names kind known at is other =
     ap (λ o. unless (agrees o kind) KindMismatch at) (sym is) ∙ ap (λ b. unless b KindMismatch at) (sym other)
+
+-- a name that is made again is known already
+pub named_again : (s : Source) (names : List Name) (kind : NameKind) (at place : ℕ) → Some place ≡ place_in names (text_at s at)
+    → names ≡ names_with s names (Some (at, kind))
+named_again s names kind at place found =
+    ap (λ b. cond b names (names ++ record { text = text_at s at; kind = kind } ∷ [])) (ap is_some found)

@@ -57,6 +57,12 @@ Checked s c literals at form =
 abbrev pub bare : List Name → Scope
 bare names = record { names = names; kernels = []; blocks = 0; tested = false }
 
+-- the check of a statement that makes the name which it is to make: these names are known before it and after it
+abbrev pub Makes : Source → (old new : List Name) → OrderForm → Result Order OrderFault → Type 0
+Makes s old new form =
+    Gives (first_some (order_faults s (bare old) 0 form))
+    (λ act. Says s new [] 0 0 form act × (new ≡ names_after s old form))
+
 -- the parts of a schedule, whatever name is made
 abbrev pub IsArg : Source → List Name → RawArg → Arg → Type 0
 IsArg s names raw a = (m : Option (ℕ × NameKind)) → a ≡ arg_of s (names_with s names m) raw

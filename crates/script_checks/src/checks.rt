@@ -27,6 +27,7 @@ pub fn refuse<T>(kind: FaultKind, at: TokenAt) -> Result<T, OrderFault>
 }
 
 /// A Number within limits.
+#[inline(always)]
 pub fn number_within(
     source: Source<'_>,
     least: u32,
@@ -43,6 +44,7 @@ pub fn number_within(
 }
 
 /// A signed number of 64 bits.
+#[inline(always)]
 pub fn signed_number(source: Source<'_>, number: RawNumber) -> Result<i64, OrderFault>
     ensures { Decides (signed_fault source.entry number) (λ z. z ≡ signed_at source.entry number) result }
 {
@@ -59,14 +61,16 @@ pub fn signed_number(source: Source<'_>, number: RawNumber) -> Result<i64, Order
 }
 
 /// Whether the kind is among these.
+#[inline(always)]
 pub fn is_among(kind: NameKind, kinds: &[NameKind]) -> bool
     ensures { result ≡ is_among kind kinds.now }
 {
     kinds.iter().any(|known| kind == *known)
 }
 
-// The text of a name that isn't too long.
-fn check_text_length(text: &[u8], at: TokenAt) -> Result<(), OrderFault>
+/// The text of a name that isn't too long.
+#[inline(always)]
+pub fn check_text_length(text: &[u8], at: TokenAt) -> Result<(), OrderFault>
     ensures { Decides (unless (nat_le (length text.now) MOST_NAME_BYTES) Limit at) (λ _. ⊤) result }
 {
     if text.len() > MOST_NAME_BYTES as usize {
@@ -83,6 +87,7 @@ pub fn check_length(source: Source<'_>, at: TokenAt) -> Result<(), OrderFault>
 }
 
 /// The place of a name that is known, and of one of these kinds.
+#[inline(always)]
 pub fn resolve(
     source: Source<'_>,
     names: &Names<'_>,

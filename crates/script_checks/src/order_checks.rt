@@ -13,6 +13,7 @@ ghost use Rattle.script_checks.specs.Checks.{Checked, among, is_plain, Gives, De
 
 mod changes;
 mod jobs;
+mod known;
 mod makes;
 
 use crate::checks::{number_within, refuse, resolve, signed_number};
@@ -23,6 +24,7 @@ use frame_ast::script::Order;
 use frame_grammar::TokenAt;
 use job_base::limits::{MOST_BLOCKS, MOST_REPEATS};
 use jobs::{Schedule, check_schedule};
+pub use known::check_known;
 pub use makes::{Valued, valued_array};
 use script_text::{RawNumber, RawOrder, Source};
 use std::alloc::Global;

@@ -3,7 +3,6 @@ use Rattle.std.specs.Prelude.{◌≡◌, ◌⊎◌, ◌<◌, ◌≤◌, ℕ, ◌
 use Rattle.frame_grammar.specs.declared.symbols.Action.{Action}
 use Rattle.frame_grammar.specs.declared.symbols.Event.{Event}
 use Rattle.kernel_raw.specs.RawEvents.{on}
-use Rattle.script_text.specs.declared.raw.RawOrder.{RawOrder}
 use Rattle.script_text.specs.declared.build_item.RawItem.{RawItem}
 use Rattle.script_text.specs.declared.build_item.RawItem.TheVariants as item
 use Rattle.script_text.specs.Raw.{OrderForm, KernelForm, RawItems, Nothing, Kernel, Single, Block, form_of}
@@ -31,23 +30,23 @@ pub record LeadsKernel (all : List Event) (at next : ℕ) (items : List RawItems
   pub left : SpellsOpen (drop next all) (more ∷ around)
 
 -- this statement without a block comes first
-pub record LeadsSingle (all : List Event) (first : ℕ) (order : RawOrder) (next : ℕ)
+pub record LeadsSingle (all : List Event) (first : ℕ) (form : OrderForm) (next : ℕ)
     (items : List RawItems) : Type 0 where
   pub more : RawItems
   pub around : List RawItems
-  pub no_block : closing (form_of order) ≡ None
-  pub items_are : items ≡ Single first (form_of order) more ∷ around
+  pub no_block : closing form ≡ None
+  pub items_are : items ≡ Single first form more ∷ around
   pub left : SpellsOpen (drop next all) (more ∷ around)
 
 -- this statement with a block comes first, and its block is open behind it
-pub record LeadsBlock (all : List Event) (first : ℕ) (order : RawOrder) (next : ℕ)
+pub record LeadsBlock (all : List Event) (first : ℕ) (form : OrderForm) (next : ℕ)
     (items : List RawItems) : Type 0 where
   pub end : Action
   pub inner : RawItems
   pub more : RawItems
   pub around : List RawItems
-  pub closes : closing (form_of order) ≡ Some end
-  pub items_are : items ≡ Block first (form_of order) inner more ∷ around
+  pub closes : closing form ≡ Some end
+  pub items_are : items ≡ Block first form inner more ∷ around
   pub left : SpellsOpen (drop next all) (inner ∷ more ∷ around)
 
 -- the innermost block ends
@@ -57,12 +56,16 @@ pub record LeadsOut (all : List Event) (next : ℕ) (items : List RawItems) : Ty
   pub items_are : items ≡ Nothing ∷ around ∷ more
   pub left : SpellsOpen (drop next all) (around ∷ more)
 
+-- a statement of this form comes first
+abbrev pub LeadsOrder : (all : List Event) → (at first : ℕ) → OrderForm → (next : ℕ) → List RawItems → Type 0
+LeadsOrder all at first form next items =
+    (at < next) × (next ≤ length all) × (LeadsSingle all first form next items ⊎ LeadsBlock all first form next items)
+
 -- Of the items that the events spell from a place on, this comes first, and behind it the others are left.
 abbrev pub Leads : (all : List Event) (at : ℕ) → RawItem → List RawItems → Type 0
 Leads all at item.None items = items ≡ Nothing ∷ []
 Leads all at (item.Kernel next) items = (at < next) × (next ≤ length all) × LeadsKernel all at next items
-Leads all at (item.Order first order next) items =
-    (at < next) × (next ≤ length all) × (LeadsSingle all first order next items ⊎ LeadsBlock all first order next items)
+Leads all at (item.Order first order next) items = LeadsOrder all at first (form_of order) next items
 Leads all at (item.End next) items = (at < next) × (next ≤ length all) × LeadsOut all next items
 
 -- events that spell items with blocks open

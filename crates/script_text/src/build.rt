@@ -7,7 +7,6 @@ ghost use Rattle.script_text.specs.Events.{BeginsOrder};
 ghost use Rattle.script_text.specs.Reading.{reading_of, only_scalars, nothing_read, order_from, values_len, step, ends, finished};
 
 use crate::build_scalars::{Scalars, ends_flat, signed_of};
-use crate::known_orders::known_order;
 use crate::raw::{RawArg, RawOrder};
 use crate::values::values_len;
 use frame_grammar::{Action, Event, TokenAt};
@@ -185,9 +184,6 @@ pub fn raw_order<'a>(alloc: Global, notes: &'a [Note]) -> Result<ReadOrder<'a>, 
     ensures read { IfOk result
         (λ found. (begun : BeginsOrder (events_of notes.now)) → found.read ≡ length begun.events) }
 {
-    if let Some(found) = known_order(alloc, notes) {
-        return Ok(found);
-    }
     let mut scalars = Scalars::new();
     for (index, note) in notes.iter().enumerate() {
         let event = note.event();

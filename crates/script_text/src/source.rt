@@ -19,6 +19,7 @@ impl<'a> Source<'a> {
     ghost use Rattle.script_text.specs.Sources.{file_tokens, text_at, line_at, number_at, column_at};
 
     /// The bytes of the token at a place, none where no token stands there.
+    #[inline(always)]
     pub fn text(self, at: TokenAt) -> &'a [u8]
         ensures { result.now ≡ text_at self.entry at }
     {
@@ -40,6 +41,7 @@ impl<'a> Source<'a> {
     }
 
     /// The value of the Number at a place, or the greatest u64 where it is greater.
+    #[inline(always)]
     pub fn number(self, at: TokenAt) -> u64
         ensures { result ≡ min (number_at self.entry at) (2 ^ 64 - 1) }
     {

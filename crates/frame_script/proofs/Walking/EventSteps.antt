@@ -11,10 +11,9 @@ use Rattle.kernel_text.specs.Tokens.{kinds, NamesAreText}
 use Rattle.frame_ast.specs.Lists.{first_some}
 use Rattle.script_checks.specs.declared.fault.OrderFault.{OrderFault}
 use Rattle.script_checks.specs.declared.fault.OrderFault.TheVariants.{Refused, NoMemory}
-use Rattle.script_text.specs.declared.raw.RawOrder.{RawOrder}
 use Rattle.script_text.specs.declared.source.Source.{Source}
 use Rattle.frame_script.specs.declared.walk.Walk.{Walk}
-use Rattle.script_text.specs.Raw.{OrderForm, Repeat, When, RawItems, Nothing, Kernel, Single, Block, KernelForm, form_of}
+use Rattle.script_text.specs.Raw.{OrderForm, Repeat, When, RawItems, Nothing, Kernel, Single, Block, KernelForm}
 use Rattle.script_text.specs.Events.{closing, SpellsItems, kernel}
 use Rattle.script_text.specs.Items.{SpellsOpen, outside, inside, LeadsKernel, LeadsSingle, LeadsBlock, LeadsOut}
 use Rattle.script_text.specs.Places.{OrderStands}
@@ -55,10 +54,10 @@ kernel_stands s events at next w g k =
     (subst (λ es. IsKernel es (length (kinds (file_tokens s)))) (sym k.events_are) (alone s events at next w g k).stand.0.0)
 
 -- the places of a statement are those of tokens of their kinds
-pub order_stands : (s : Source) (events : List Event) (at first : ℕ) (order : RawOrder) (next : ℕ) (w : Walk) (g : IsWalking s events at w)
-    → LeadsSingle events first order next g.left ⊎ LeadsBlock events first order next g.left → OrderStands (kinds (file_tokens s)) (form_of order)
-order_stands s events at first order next w g (inl one) = (subst (LeftStand (kinds (file_tokens s))) one.items_are g.is.stand).0.1
-order_stands s events at first order next w g (inr block) = (subst (LeftStand (kinds (file_tokens s))) block.items_are g.is.stand).0.1
+pub order_stands : (s : Source) (events : List Event) (at first : ℕ) (form : OrderForm) (next : ℕ) (w : Walk) (g : IsWalking s events at w)
+    → LeadsSingle events first form next g.left ⊎ LeadsBlock events first form next g.left → OrderStands (kinds (file_tokens s)) form
+order_stands s events at first form next w g (inl one) = (subst (LeftStand (kinds (file_tokens s))) one.items_are g.is.stand).0.1
+order_stands s events at first form next w g (inr block) = (subst (LeftStand (kinds (file_tokens s))) block.items_are g.is.stand).0.1
 
 pub went_past_kernel : (s : Source) (events : List Event) (at next : ℕ) (w new : Walk) (kernels : List CheckedKernel) (g : IsWalking s events at w)
     (k : LeadsKernel events at next g.left) →
@@ -99,47 +98,47 @@ taken_block s whole inner more rest at (When name test value) end old new closes
     into_a_when s whole inner more rest at name test value old new none t is
 taken_block s whole inner more rest at _ end old new closes none t is = absurd cc
 
-pub went_past_order : (s : Source) (events : List Event) (at place : ℕ) (order : RawOrder) (next : ℕ) (w new : Walk) → NamesAreText s.bytes.now (file_tokens s)
+pub went_past_order : (s : Source) (events : List Event) (at place : ℕ) (form : OrderForm) (next : ℕ) (w new : Walk) → NamesAreText s.bytes.now (file_tokens s)
     → (g : IsWalking s events at w) →
-    LeadsSingle events place order next g.left ⊎ LeadsBlock events place order next g.left →
-    first_some (order_faults s (scope_of w) place (form_of order)) ≡ None → Takes s place (form_of order) w new → IsWalking s events next new
-went_past_order s events at place order next w new texts g (inl one) none t = record {
+    LeadsSingle events place form next g.left ⊎ LeadsBlock events place form next g.left →
+    first_some (order_faults s (scope_of w) place form) ≡ None → Takes s place form w new → IsWalking s events next new
+went_past_order s events at place form next w new texts g (inl one) none t = record {
   whole = g.whole;
   spells = g.spells;
   left = one.more ∷ one.around;
   opens = one.left;
-  is = past_a_single s g.whole one.more one.around place (form_of order) w new texts one.no_block none
-      (taken_single s place (form_of order) w new one.no_block t) (subst (IsAt s g.whole w) one.items_are g.is);
+  is = past_a_single s g.whole one.more one.around place form w new texts one.no_block none
+      (taken_single s place form w new one.no_block t) (subst (IsAt s g.whole w) one.items_are g.is);
 }
-went_past_order s events at place order next w new texts g (inr block) none t = record {
+went_past_order s events at place form next w new texts g (inr block) none t = record {
   whole = g.whole;
   spells = g.spells;
   left = block.inner ∷ block.more ∷ block.around;
   opens = block.left;
-  is = taken_block s g.whole block.inner block.more block.around place (form_of order) block.end w new block.closes none t
+  is = taken_block s g.whole block.inner block.more block.around place form block.end w new block.closes none t
       (subst (IsAt s g.whole w) block.items_are g.is);
 }
 
-order_fault : (s : Source) (events : List Event) (at place : ℕ) (order : RawOrder) (next : ℕ) (w : Walk) (fault : StaticFault) (g : IsWalking s events at w) →
-    LeadsSingle events place order next g.left ⊎ LeadsBlock events place order next g.left →
-    first_some (order_faults s (scope_of w) place (form_of order)) ≡ Some fault → HasFault s fault at_start g.whole
-order_fault s events at place order next w fault g (inl one) found =
-    let here : IsAt s g.whole w (Single place (form_of order) one.more ∷ one.around) = subst (IsAt s g.whole w) one.items_are g.is in
-    here.faulty fault (fault_here s fault (scope_of w) _ (Single place (form_of order) one.more) one.around (in_single found))
-order_fault s events at place order next w fault g (inr block) found =
-    let here : IsAt s g.whole w (Block place (form_of order) block.inner block.more ∷ block.around) = subst (IsAt s g.whole w) block.items_are g.is in
-    here.faulty fault (fault_here s fault (scope_of w) _ (Block place (form_of order) block.inner block.more) block.around (in_head found))
+order_fault : (s : Source) (events : List Event) (at place : ℕ) (form : OrderForm) (next : ℕ) (w : Walk) (fault : StaticFault) (g : IsWalking s events at w) →
+    LeadsSingle events place form next g.left ⊎ LeadsBlock events place form next g.left →
+    first_some (order_faults s (scope_of w) place form) ≡ Some fault → HasFault s fault at_start g.whole
+order_fault s events at place form next w fault g (inl one) found =
+    let here : IsAt s g.whole w (Single place form one.more ∷ one.around) = subst (IsAt s g.whole w) one.items_are g.is in
+    here.faulty fault (fault_here s fault (scope_of w) _ (Single place form one.more) one.around (in_single found))
+order_fault s events at place form next w fault g (inr block) found =
+    let here : IsAt s g.whole w (Block place form block.inner block.more ∷ block.around) = subst (IsAt s g.whole w) block.items_are g.is in
+    here.faulty fault (fault_here s fault (scope_of w) _ (Block place form block.inner block.more) block.around (in_head found))
 
-pub refused_in_order : (s : Source) (events : List Event) (at place : ℕ) (order : RawOrder) (next : ℕ) (w : Walk) (fault : OrderFault) (line : ℕ)
+pub refused_in_order : (s : Source) (events : List Event) (at place : ℕ) (form : OrderForm) (next : ℕ) (w : Walk) (fault : OrderFault) (line : ℕ)
     (kind : FaultKind) (g : IsWalking s events at w) →
-    LeadsSingle events place order next g.left ⊎ LeadsBlock events place order next g.left →
-    Refuses (first_some (order_faults s (scope_of w) place (form_of order))) fault → Tells s fault line kind → RefusesItems s events line kind
-refused_in_order s events at place order next w NoMemory line kind g leads refuses tells = absurd tells
-refused_in_order s events at place order next w (Refused fault) line kind g leads refuses tells = record {
+    LeadsSingle events place form next g.left ⊎ LeadsBlock events place form next g.left →
+    Refuses (first_some (order_faults s (scope_of w) place form)) fault → Tells s fault line kind → RefusesItems s events line kind
+refused_in_order s events at place form next w NoMemory line kind g leads refuses tells = absurd tells
+refused_in_order s events at place form next w (Refused fault) line kind g leads refuses tells = record {
   whole = g.whole;
   spells = g.spells;
   fault = fault;
-  has_fault = order_fault s events at place order next w fault g leads refuses;
+  has_fault = order_fault s events at place form next w fault g leads refuses;
   on_line = tells.0;
   of_kind = tells.1;
 }

@@ -19,6 +19,7 @@ use job_base::limits::MOST_ELEMENTS;
 use script_text::{RawNumber, Source};
 use std::alloc::Global;
 
+#[inline(always)]
 pub fn put(
     source: Source<'_>,
     names: &Names<'_>,
@@ -34,6 +35,7 @@ pub fn put(
     Ok(Order::Put { name, key, value })
 }
 
+#[inline(always)]
 pub fn remove(
     source: Source<'_>,
     names: &Names<'_>,
@@ -67,6 +69,7 @@ pub fn set_capacity(
     Ok(Order::SetCapacity { name, cap })
 }
 
+#[inline(always)]
 pub fn print(source: Source<'_>, names: &Names<'_>, name: TokenAt) -> Result<Order, OrderFault>
     ensures { Checked source.entry (bare names.now) 0 0 (Print name) result }
 {
@@ -128,6 +131,7 @@ pub fn dispose_auto(
 }
 
 // What a `set` with or without an index takes.
+#[inline(always)]
 fn settable(
     source: Source<'_>,
     names: &Names<'_>,
@@ -144,6 +148,7 @@ fn settable(
 }
 
 // What an `add` with or without a second number takes.
+#[inline(always)]
 fn addable(
     source: Source<'_>,
     names: &Names<'_>,
@@ -159,6 +164,7 @@ fn addable(
     }
 }
 
+#[inline(always)]
 pub fn set(
     source: Source<'_>,
     names: &Names<'_>,
@@ -174,6 +180,7 @@ pub fn set(
     Ok(Order::Set { name, at, value })
 }
 
+#[inline(always)]
 pub fn add(
     source: Source<'_>,
     names: &Names<'_>,

@@ -7,7 +7,7 @@ use Rattle.frame_grammar.specs.declared.symbols.Action.TheVariants as action
 use Rattle.frame_grammar.specs.declared.symbols.Event.{Event}
 use Rattle.kernel_raw.specs.RawEvents.{on, opening}
 use Rattle.script_text.specs.declared.build_item.RawItem.TheVariants as item
-use Rattle.script_text.specs.Items.{SpellsOpen, outside, inside, LeadsKernel, LeadsSingle, LeadsBlock, LeadsOut, Leads, IsOpen}
+use Rattle.script_text.specs.Items.{SpellsOpen, outside, inside, LeadsKernel, LeadsSingle, LeadsBlock, LeadsOut, LeadsOrder, Leads, IsOpen}
 use Rattle.script_text.specs.Raw.{OrderForm, Repeat, When, RawItems, Nothing, Kernel, Single, Block, form_of}
 use Rattle.script_text.specs.Events.{closing, BeginsOrder, BeginsKernel, nothing, kernel, single, block}
 use Rattle.script_text.specs.declared.raw.RawOrder.{RawOrder}
@@ -148,26 +148,23 @@ pub order_begins : (all es ys : List Event) (at : ℕ) (e : Event) (items : List
 order_begins all es ys at e items here same starts spells = subst BeginsOrder (sym same)
     (begins_order (next_of (walk_here all es at e items here spells)) starts)
 
-abbrev pub LeadsOrder : (all : List Event) (at first : ℕ) → RawOrder → (next : ℕ) → List RawItems → Type 0
-LeadsOrder all at first order next items = (at < next) × (next ≤ length all) × (LeadsSingle all first order next items ⊎ LeadsBlock all first order next items)
-
-order_next : (all : List Event) (at : ℕ) (order : RawOrder) (read : ℕ) {e : Event} {es : List Event} {items : List RawItems} → NextItem e es items
+order_next : (all : List Event) (at : ℕ) (form : OrderForm) (read : ℕ) {e : Event} {es : List Event} {items : List RawItems} → NextItem e es items
     → drop at all ≡ e ∷ es → e.action ≡ action.StartStatement →
-    ((b : BeginsOrder es) → form_of order ≡ b.form) → ((b : BeginsOrder es) → read ≡ length b.events) → LeadsOrder all at e.place order (at + 1 + read) items
-order_next all at order read (a_kernel true q begun left) here starts form len = absurd cc
-order_next all at order read (a_kernel false q begun left) here starts form len = absurd cc
-order_next all at order read {e} {es} (a_single {more = more} {around = around} q begun no_block left) here starts form len = (
+    ((b : BeginsOrder es) → form ≡ b.form) → ((b : BeginsOrder es) → read ≡ length b.events) → LeadsOrder all at e.place form (at + 1 + read) items
+order_next all at form read (a_kernel true q begun left) here starts is len = absurd cc
+order_next all at form read (a_kernel false q begun left) here starts is len = absurd cc
+order_next all at form read {e} {es} (a_single {more = more} {around = around} q begun no_block left) here starts is len = (
   omega arith,
   next_within all es begun.events begun.rest at read e here begun.all_are (len begun),
   inl (record {
     more = more;
     around = around;
-    no_block = ap closing (form begun) ∙ no_block;
-    items_are = ap (λ f. Single q f more ∷ around) (sym (form begun));
+    no_block = ap closing (is begun) ∙ no_block;
+    items_are = ap (λ f. Single q f more ∷ around) (sym (is begun));
     left = subst (λ x. SpellsOpen x (more ∷ around)) (sym (next_left all es begun.events begun.rest at read e here begun.all_are (len begun))) left;
   }),
 )
-order_next all at order read {e} {es} (a_block {inner = inner} {more = more} {around = around} q end begun closes left) here starts form len = (
+order_next all at form read {e} {es} (a_block {inner = inner} {more = more} {around = around} q end begun closes left) here starts is len = (
   omega arith,
   next_within all es begun.events begun.rest at read e here begun.all_are (len begun),
   inr (record {
@@ -175,21 +172,21 @@ order_next all at order read {e} {es} (a_block {inner = inner} {more = more} {ar
     inner = inner;
     more = more;
     around = around;
-    closes = ap closing (form begun) ∙ closes;
-    items_are = ap (λ f. Block q f inner more ∷ around) (sym (form begun));
+    closes = ap closing (is begun) ∙ closes;
+    items_are = ap (λ f. Block q f inner more ∷ around) (sym (is begun));
     left = subst (λ x. SpellsOpen x (inner ∷ more ∷ around)) (sym (next_left all es begun.events begun.rest at read e here begun.all_are (len begun))) left;
   }),
 )
-order_next all at order read (an_end end q (Repeat n) closes left) here starts form len = absurd cc
-order_next all at order read (an_end end q (When x s v) closes left) here starts form len = absurd cc
-order_next all at order read (an_end end q _ closes left) here starts form len = absurd cc
+order_next all at form read (an_end end q (Repeat n) closes left) here starts is len = absurd cc
+order_next all at form read (an_end end q (When x s v) closes left) here starts is len = absurd cc
+order_next all at form read (an_end end q _ closes left) here starts is len = absurd cc
 
-pub order_leads : (all es ys : List Event) (at : ℕ) (e : Event) (items : List RawItems) (order : RawOrder) (read : ℕ) → drop at all ≡ e ∷ es → ys ≡ es
+pub order_leads : (all es ys : List Event) (at : ℕ) (e : Event) (items : List RawItems) (form : OrderForm) (read : ℕ) → drop at all ≡ e ∷ es → ys ≡ es
     → e.action ≡ action.StartStatement → SpellsOpen (drop at all) items →
-    ((b : BeginsOrder ys) → form_of order ≡ b.form) → ((b : BeginsOrder ys) → read ≡ length b.events) → LeadsOrder all at e.place order (at + 1 + read) items
-order_leads all es ys at e items order read here same starts spells form len =
-    order_next all at order read (next_of (walk_here all es at e items here spells)) here starts
-    (subst (λ y. (b : BeginsOrder y) → form_of order ≡ b.form) same form) (subst (λ y. (b : BeginsOrder y) → read ≡ length b.events) same len)
+    ((b : BeginsOrder ys) → form ≡ b.form) → ((b : BeginsOrder ys) → read ≡ length b.events) → LeadsOrder all at e.place form (at + 1 + read) items
+order_leads all es ys at e items form read here same starts spells is len =
+    order_next all at form read (next_of (walk_here all es at e items here spells)) here starts
+    (subst (λ y. (b : BeginsOrder y) → form ≡ b.form) same is) (subst (λ y. (b : BeginsOrder y) → read ≡ length b.events) same len)
 
 -- A KERNEL
 
@@ -316,11 +313,11 @@ after_kernel all at next items leads = record { within = leads.1; spelled = reco
 pub after_end : (all : List Event) (at next : ℕ) (items : List RawItems) → Leads all at (item.End next) items → GoesOn all next
 after_end all at next items leads = record { within = leads.1; spelled = record { items = leads.2.around ∷ leads.2.more; spells = leads.2.left } }
 
-after_either : (all : List Event) (first : ℕ) (order : RawOrder) (next : ℕ) (items : List RawItems)
-    → LeadsSingle all first order next items ⊎ LeadsBlock all first order next items → IsOpen (drop next all)
-after_either all first order next items (inl one) = record { items = one.more ∷ one.around; spells = one.left }
-after_either all first order next items (inr one) = record { items = one.inner ∷ one.more ∷ one.around; spells = one.left }
+after_either : (all : List Event) (first : ℕ) (form : OrderForm) (next : ℕ) (items : List RawItems)
+    → LeadsSingle all first form next items ⊎ LeadsBlock all first form next items → IsOpen (drop next all)
+after_either all first form next items (inl one) = record { items = one.more ∷ one.around; spells = one.left }
+after_either all first form next items (inr one) = record { items = one.inner ∷ one.more ∷ one.around; spells = one.left }
 
 pub after_order : (all : List Event) (at first : ℕ) (order : RawOrder) (next : ℕ) (items : List RawItems) → Leads all at (item.Order first order next) items
     → GoesOn all next
-after_order all at first order next items leads = record { within = leads.1; spelled = after_either all first order next items leads.2 }
+after_order all at first order next items leads = record { within = leads.1; spelled = after_either all first (form_of order) next items leads.2 }

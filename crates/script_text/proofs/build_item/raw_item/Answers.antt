@@ -1,5 +1,6 @@
 use Rattle.std.proofs.Common.{◌+◌, ◌<◌, length, drop, arith}
 use Rattle.frame_parser.specs.Notes.{events_of}
+use Rattle.script_text.specs.Raw.{form_of}
 use Rattle.script_text.proofs.Noted.{noted_length, noted_next, noted_from}
 use Rattle.script_text.proofs.Reading.OpenItems.{no_event, kernel_opens, no_kernel_opens, order_begins, order_leads, kernel_begins, kernel_leads, end_starts_none, end_opens_none, some_item, out_leads, nothing_leads}
 use Rattle.script_text.proofs.build_item.raw_item.Goals as goal
@@ -40,7 +41,7 @@ overflow_add-result-in-StartStatement c =
     let within : at < length notes = omega (arith, noted_length notes) in
     let here = noted_next notes at _ c.event-event.result within c.event-event.ensures in
     let found = c.in_ok-found-in-StartStatement.found in
-    let leads = order_leads all (drop (at + 1) all) _ at c.event-event.result c.requires.spelled.items found.order found.read here
+    let leads = order_leads all (drop (at + 1) all) _ at c.event-event.result c.requires.spelled.items (form_of found.order) found.read here
     (noted_from notes (at + 1)) c.in-StartStatement.is
     c.requires.spelled.spells c.in_ok-found-in-StartStatement.ensures.form c.in_ok-found-in-StartStatement.ensures.read in
     omega (arith, leads.1, noted_length notes)
@@ -64,7 +65,7 @@ returns-in_ok-found-in-StartStatement c items spells =
     let within : at < length notes = omega (arith, noted_length notes) in
     let here = noted_next notes at _ c.event-event.result within c.event-event.ensures in
     let found = c.in_ok-found-in-StartStatement.found in
-    order_leads all (drop (at + 1) all) _ at c.event-event.result items found.order found.read here (noted_from notes (at + 1)) c.in-StartStatement.is
+    order_leads all (drop (at + 1) all) _ at c.event-event.result items (form_of found.order) found.read here (noted_from notes (at + 1)) c.in-StartStatement.is
     spells c.in_ok-found-in-StartStatement.ensures.form c.in_ok-found-in-StartStatement.ensures.read
 
 pub returns-in-OpenJob : goal.returns-in-OpenJob
