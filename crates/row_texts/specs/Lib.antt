@@ -2,3 +2,4 @@
 pub mod Bars
 pub mod Escapes
 pub mod Rows
+pub mod Tables

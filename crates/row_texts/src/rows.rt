@@ -1,4 +1,4 @@
-//! The lines of a table, and what a row comes to.
+//! The rows of a table, and what a row comes to.
 ghost use Rattle.std.specs.Prelude.{◌≡◌, ◌≢◌, ◌↔◌, true, false, length, IsErr, IfOk, MatchOption};
 ghost use Rattle.std.specs.List.{before_first, after_first, position_or_len};
 ghost use Rattle.std.specs.Str.{trim};
@@ -34,17 +34,6 @@ pub fn row(line: &str) -> Result<Option<(&str, &str)>, Fail>
     match halves(line) {
         Some(parts) => Ok(Some(parts)),
         None => Err(Fail::new(format_args!("no row: {line}"))),
-    }
-}
-
-/// A table, which has a row. A text without a bar is none, and fails its test.
-pub fn table(text: &str) -> Result<&str, Fail>
-    ensures fault { IsErr result ↔ (position_or_len is_bar text.now ≡ length text.now) }
-    ensures same { IfOk result (λ t. t.now ≡ text.now) }
-{
-    match text.split_once('|') {
-        Some(_) => Ok(text),
-        None => Err(Fail::new("a table without a row")),
     }
 }
 

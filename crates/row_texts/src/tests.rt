@@ -1,3 +1,4 @@
+use crate::tables::has_row;
 use crate::{row, same, table, unescaped};
 use std::fmt::Write;
 use std::test::Fail;
@@ -18,6 +19,7 @@ fn rows_and_escapes(rt: HostRuntime) -> Result<(), Fail> {
         }
     }
     same(ROWS, &told, "[2: Syntax][print \"x\" |][][x | y]")?;
+    assert!(rt; !has_row("# a | b\n\nno row\n#|") && has_row("# a | b\n1|2"));
     let bytes = unescaped(rt.alloc(), r"a\n\r\t\x00\x7F\xeF\\\|\q \x2")?;
     assert_eq!(rt; bytes.as_slice(), b"a\n\r\t\x00\x7F\xEF\\|q ".as_slice());
     Ok(())
