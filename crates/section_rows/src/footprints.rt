@@ -1,7 +1,7 @@
 // Which words the pieces of a worked plan read and write.
 //
 // The array `x` of `TOTAL` lies in the words 0 to 3, `y` in 4 to 7, and the reference in 8. After these each piece of a
-// job has three words of its own, for its traps.
+// job has a word of its own, for its traps.
 ghost use Rattle.std.specs.Prelude.{◌<◌};
 ghost use Rattle.frame_core.specs.Know.{piece_count};
 ghost use Rattle.frame_core.specs.Ordered.{IsWellOrderedPlan};
@@ -60,14 +60,14 @@ fn footprints(rt: HostRuntime) -> Result<(), Fail> {
     let section = section_of(alloc, TOTAL)?;
     let rows: [(u32, &str); 5] = [
         // The first two elements of `y`, and all of `x`.
-        (0, "0 1 2 3 4 5 9 10 11 to 4 5 9 10 11"),
-        (1, "0 1 2 3 6 7 12 13 14 to 6 7 12 13 14"),
+        (0, "0 1 2 3 4 5 9 to 4 5 9"),
+        (1, "0 1 2 3 6 7 10 to 6 7 10"),
         // The second job is one piece.
-        (2, "4 5 6 7 8 15 16 17 to 8 15 16 17"),
+        (2, "4 5 6 7 8 11 to 8 11"),
         // A segment that prints the reference.
         (6, "8 to"),
         // The last segment looks for traps.
-        (7, "9 10 11 12 13 14 15 16 17 to"),
+        (7, "9 10 11 to"),
     ];
     for (piece, want) in rows {
         assert_eq!(rt; words_of(alloc, &section.plan, piece)?.as_str(), want);

@@ -5,10 +5,11 @@ use crate::frames::{Given, sink_of, status_of};
 use job_base::{CountingGate, PieceId};
 use std::test::Fail;
 
-// Twice a job that takes long enough for the other workers to go to sleep, and then one of 64 pieces.
+// Twice a job that takes long enough for the other workers to go to sleep, and then one of 64 pieces, which has a loop:
+// so it isn't little work, and no claim takes all of it.
 const SLOW_FIRST: &str =
     "job spin(a: rw array) { var k = 0; while k < 40000 { k = k + 1; } a[0] = k; }
-parallel next(x: rw array) { x[index] = x[index] + 1; }
+parallel next(x: rw array) { for k in 0..1 { x[index] = x[index] + 1; } }
 array a 1
 array x 64
 schedule h spin(a)
