@@ -1,5 +1,6 @@
 -- The own word of a piece tells its traps.
 use Rattle.std.proofs.Common.{◌≡◌, ◌≢◌, ℕ, zero, suc, ◌+◌, ◌-◌, ◌*◌, ◌<◌, ◌≤◌, ◌⊎◌, inl, inr, ⊎_elim, Bool, true, false, cond, pos, List, [], ◌∷◌, length, Option, Some, None, refl, sym, ap, subst, ◌∙◌, arith}
+use Rattle.std.proofs.lemmas.List.{get_or_past}
 use Rattle.std.specs.Prelude.{slice_get}
 use Rattle.job_base.specs.declared.Trap.{Trap}
 use Rattle.job_base.specs.Cells.{with_cell}
@@ -148,8 +149,12 @@ module _ (plan : Plan) (well : IsWellOrderedPlan plan) where
     unfolding graph_of
     misses p ne = place_misses p (piece_at plan p) refl ne
 
+    first_zero : g.first own ≡ pos 0
+    unfolding graph_of
+    first_zero = get_or_past plan.first.items own (pos 0) (let few = well.sized.first in omega arith)
+
     before : (p : ℕ) → p ≤ q → p ≤ g.count → cells_before g p own ≡ pos 0
-    before zero le lt = refl
+    before zero le lt = first_zero
     before (suc p) le lt =
         (graph_ordered plan well).writes_only p own (omega arith) (misses p (λ e. omega arith)) ∙ before p (omega arith) (omega arith)
 

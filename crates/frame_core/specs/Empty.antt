@@ -27,6 +27,7 @@ no_plan = record {
   literals = no_items;
   jobs = no_items;
   segments = no_items;
+  first = no_items;
   cells = 0;
   words = 0;
 }

@@ -1,6 +1,7 @@
 -- A plan as the laws of the merge see it: the graph of its pieces, by their places in script order, and the graph of
 -- its jobs.
 use Rattle.std.specs.Prelude.{ℕ, suc, Bool, true, false, ◌&&◌, nat_eq, nat_lt, List, [], length, Option, None, Some, slice_get}
+use Rattle.job_base.specs.Cells.{cells_of}
 use Rattle.merge_laws.specs.Graph.{Cells, PieceGraph, cells_before}
 use Rattle.merge_laws.specs.Jobs.{JobGraph}
 use Rattle.frame_core.specs.declared.plan.Plan.{Plan}
@@ -42,8 +43,13 @@ abbrev pub cells_at : Plan → Option Piece → Cells → Cells
 cells_at plan None cells = cells
 cells_at plan (Some x) cells = piece_cells plan x cells
 
+-- the cells at first: those of the first words are the plan's, and all others are 0
+abbrev pub cells_at_first : Plan → Cells
+cells_at_first plan = cells_of plan.first.items
+
 unfoldable pub graph_of : Plan → PieceGraph
 graph_of plan = record {
+  first = cells_at_first plan;
   count = length (script_order plan);
   reads = λ p w. reads_in (touches_at plan (piece_at plan p)) w;
   writes = λ p w. writes_in (touches_at plan (piece_at plan p)) w;

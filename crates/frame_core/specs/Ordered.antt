@@ -32,11 +32,13 @@ abbrev pub ops_count : List Segment → ℕ
 ops_count [] = 0
 ops_count (s ∷ more) = length s.ops.items + ops_count more
 
--- 1. SIZES: at most 4,096 jobs, and what is counted fits 32 bits.
+-- 1. SIZES: at most 4,096 jobs, and what is counted fits 32 bits. The cells at first are those of words of containers,
+-- so each own word is 0 at first.
 pub record IsSized (plan : Plan) : Type 0 where
   pub jobs : length plan.jobs.items ≤ MOST_JOBS
   pub words_are : plan.words ≡ plan.cells + job_pieces plan
   pub words : plan.words < 2 ^ 32
+  pub first : length plan.first.items ≤ plan.cells
   pub pieces : job_pieces plan + length plan.segments.items < 2 ^ 32
   pub ops : ops_count plan.segments.items < 2 ^ 32
 

@@ -19,6 +19,8 @@ pub struct Plan {
     /// Job 1 first.
     pub jobs: Vec<JobPlan>,
     pub segments: Vec<Segment>,
+    /// The first words as the plan finds them. All others are 0 at first.
+    pub first: Vec<i64>,
     /// How many words the containers have.
     pub cells: u32,
     /// How many words there are: `cells`, and one for each piece of a job.

@@ -36,10 +36,17 @@ pub record IsState (plan : Plan) (c : CoreState) (s : RunState) : Type 0 where
   pub lease : (k : ℕ) → LeaseIs plan (slice_index_or c.leases.items k None) (s.lease k)
   pub cells : s.cells ≡ cells_of c.cells.items
 
+-- each of the events is legal where it stands
+abbrev pub AreLegal : Plan → List Event → Type 0
+AreLegal plan es = IsLegalRun (graph_of plan) (start (graph_of plan)) (events_of plan es)
+
+-- the state of the laws after them, from the plan's first cells on
+abbrev pub state_after : Plan → List Event → RunState
+state_after plan es = run (graph_of plan) (start (graph_of plan)) (events_of plan es)
+
 -- a legal list of events leads to the state
 abbrev pub IsReachedBy : Plan → List Event → CoreState → Type 0
-IsReachedBy plan es c = IsLegalRun (graph_of plan) start (events_of plan es)
-    × IsState plan c (run (graph_of plan) start (events_of plan es))
+IsReachedBy plan es c = AreLegal plan es × IsState plan c (state_after plan es)
 
 -- Illegal comes where the event isn't legal, want of memory where it is.
 abbrev pub Refuses : CoreFault → Type 0 → Type 0

@@ -2,7 +2,7 @@
 ghost use Rattle.std.specs.Prelude.{IfOk, OnErr, MatchBool, MatchResult, ◌≡◌, ◌<◌, ℕ, length, List, None, Some, Ok, true, false, if◌then◌else◌, slice_index_or, slice_set};
 ghost use Rattle.job_base.specs.Cells.{cells_of};
 ghost use Rattle.job_base.specs.declared.limits.TheConstants.{MOST_WORKERS};
-ghost use Rattle.merge_laws.specs.Runs.{RunState, start, after, IsLegal, IsEnded, IsKept, run, MayTake, MayFinish, taken, finished};
+ghost use Rattle.merge_laws.specs.Runs.{RunState, start, after, IsLegal, IsEnded, IsKept, MayTake, MayFinish, taken, finished};
 ghost use Rattle.frame_core.specs.declared.event.Event.{Event};
 ghost use Rattle.frame_core.specs.declared.plan.Plan.{Plan};
 ghost use Rattle.frame_core.specs.declared.touch.Touch.{Touch};
@@ -10,10 +10,10 @@ ghost use Rattle.frame_core.specs.Pieces.{piece_numbered};
 ghost use Rattle.frame_core.specs.Effects.{touches, piece_cells};
 ghost use Rattle.frame_core.specs.Graphs.{graph_of, cells_after};
 ghost use Rattle.frame_core.specs.Know.{piece_count, writes};
-ghost use Rattle.frame_core.specs.Events.{place_numbered, event_of, events_of};
+ghost use Rattle.frame_core.specs.Events.{place_numbered, event_of};
 ghost use Rattle.frame_core.specs.Ordered.{IsWellOrderedPlan};
 ghost use Rattle.frame_replay.specs.declared.state.CoreLease.{CoreLease};
-ghost use Rattle.frame_replay.specs.States.{IsState, IsReachedBy, Refuses, MayTakeNow, LeasesNow, IsSizedFor};
+ghost use Rattle.frame_replay.specs.States.{IsState, IsReachedBy, state_after, Refuses, MayTakeNow, LeasesNow, IsSizedFor};
 
 use crate::order::{is_leased, is_of, is_ready};
 use crate::state::{CoreLease, CoreState};
@@ -34,16 +34,28 @@ fn no_leases(alloc: Global) -> Result<Vec<Option<CoreLease>>, NoMemory>
     Ok(leases)
 }
 
+// The cells that a plan has at first.
+fn cells_at_first(alloc: Global, plan: &Plan) -> Result<Vec<i64>, NoMemory>
+    requires well { IsWellOrderedPlan plan.now }
+    ensures size { IfOk result (λ v. length v.items ≡ plan.now.words) }
+    ensures cells { IfOk result (λ v. (graph_of plan.now).first ≡ cells_of v.items) }
+{
+    let mut cells = Vec::with_capacity(alloc, plan.words as usize)?;
+    cells.extend_from_slice(&plan.first)?;
+    cells.resize(plan.words as usize, 0)?;
+    Ok(cells)
+}
+
 impl CoreState {
-    /// Nothing is ended or leased, and all cells are 0.
+    /// Nothing is ended or leased, and the cells are those that the plan has at first.
     pub fn start(alloc: Global, plan: &Plan) -> Result<CoreState, NoMemory>
         requires well { IsWellOrderedPlan plan.now }
-        ensures { IfOk result (λ c. IsState plan.now c start) }
+        ensures { IfOk result (λ c. IsState plan.now c (start (graph_of plan.now))) }
     {
         let pieces = plan.job_pieces() as usize + plan.segments.len();
         let ended = vec![in alloc; false; pieces]?;
         let leases = no_leases(alloc)?;
-        let cells = vec![in alloc; 0i64; plan.words as usize]?;
+        let cells = cells_at_first(alloc, plan)?;
         Ok(CoreState {
             ended,
             leases,
@@ -68,7 +80,7 @@ impl CoreState {
     pub fn cell(&self, w: Word) -> i64
         ensures value { (plan : Plan) (s : RunState) → IsState plan self.now s → result ≡ s.cells w.0 }
         ensures ended { (plan : Plan) (es : List Event) → IsWellOrderedPlan plan → IsReachedBy plan es self.now
-            → IsEnded (graph_of plan) (run (graph_of plan) start (events_of plan es)) → result ≡ cells_after plan w.0 }
+            → IsEnded (graph_of plan) (state_after plan es) → result ≡ cells_after plan w.0 }
     {
         self.word(w.0 as usize)
     }

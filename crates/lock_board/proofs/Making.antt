@@ -1,5 +1,5 @@
 -- A new content keeps what a content keeps.
-use Rattle.std.proofs.Common.{◌≡◌, ◌≢◌, ℕ, zero, suc, ◌+◌, ◌-◌, ◌<◌, ◌≤◌, ⊎_elim, Bool, true, false, cond, not, ◌&&◌, ne_eqb, ltb, leb, List, length, ℤ, pos, refl, sym, ap, subst, ◌∙◌, arith, Option, Some, None}
+use Rattle.std.proofs.Common.{◌≡◌, ◌≢◌, ℕ, zero, suc, ◌+◌, ◌-◌, ◌<◌, ◌≤◌, ⊎_elim, Bool, true, false, cond, not, ◌&&◌, ne_eqb, ltb, leb, List, [], ◌∷◌, ◌++◌, replicate, length, ℤ, pos, refl, sym, ap, subst, ◌∙◌, arith, Option, Some, None}
 use Rattle.std.specs.Prelude.{slice_index, nat_eq}
 use Rattle.std.proofs.lemmas.Bool.{cond-true, cond-false}
 use Rattle.job_base.specs.declared.JobId.{JobId}
@@ -12,7 +12,7 @@ use Rattle.merge_laws.proofs.Sums.{tally_same}
 use Rattle.frame_core.specs.declared.piece.Piece.{Piece}
 use Rattle.frame_core.specs.declared.plan.Plan.{Plan}
 use Rattle.frame_core.specs.Names.{has_job, deps_in, job_at, pieces_of, pieces_before}
-use Rattle.frame_core.specs.Graphs.{piece_at, graph_of}
+use Rattle.frame_core.specs.Graphs.{piece_at, cells_at_first, graph_of}
 use Rattle.frame_core.specs.Know.{is_of, piece_count}
 use Rattle.frame_core.specs.Ordered.{IsWellOrderedPlan}
 use Rattle.frame_core.proofs.Small.{not_both, either_bool, none_some}
@@ -23,6 +23,7 @@ use Rattle.frame_core.proofs.Planned.{has_kernel, has_pieces}
 use Rattle.lock_board.specs.declared.state.State.{State}
 use Rattle.lock_board.specs.declared.state.State.TheVariants.{Closed}
 use Rattle.lock_board.specs.States.{is_over, is_counted, state_of, state_in, state_at}
+use Rattle.lock_board.proofs.Knowing.{repeated_at}
 use Rattle.lock_board.specs.Locked.{leased, locked, uncounted, unfinished, starter_number, IsKept}
 
 -- HOW MANY DEPENDENCIES A JOB HAS
@@ -48,10 +49,20 @@ deps_few plan well j lt =
 
 pub record AreNew (plan : Plan) (ss : List State) (cs : List ℤ) (rs ws ds : List ℕ) : Type 0 where
   pub states : (p : ℕ) → state_of ss p ≡ Closed
-  pub cells : (w : ℕ) → cells_of cs w ≡ pos 0
+  pub cells : (w : ℕ) → cells_of cs w ≡ cells_at_first plan w
   pub rests : (j : ℕ) → j < length plan.jobs.items → slice_index rs j ≡ pieces_before plan.jobs.items (suc j) - pieces_before plan.jobs.items j
   pub waits : (j : ℕ) → j < length plan.jobs.items → slice_index ws j ≡ 1 + length (deps_in (job_at plan j))
   pub dues : (j : ℕ) → slice_index ds j ≡ 0
+
+first_is : (plan : Plan) (w : ℕ) → (graph_of plan).first w ≡ cells_at_first plan w
+unfolding graph_of
+first_is plan w = refl
+
+-- a list of cells, and zeros
+pub zeros_past : (cells : List ℤ) (more w : ℕ) → cells_of (cells ++ replicate more (pos 0)) w ≡ cells_of cells w
+zeros_past [] more w = repeated_at more w (pos 0)
+zeros_past (x ∷ cells) more zero = refl
+zeros_past (x ∷ cells) more (suc w) = zeros_past cells more w
 
 module _ (plan : Plan) (well : IsWellOrderedPlan plan) (states : List State) (cells : List ℤ) (rests waits dues : List ℕ)
     (N : AreNew plan states cells rests waits dues) where
@@ -132,7 +143,7 @@ module _ (plan : Plan) (well : IsWellOrderedPlan plan) (states : List State) (ce
         lease_once = λ j k l m e f. absurd (no_lease j l e);
       };
       merged = λ w none. N.cells w ∙ sym (merged_same (graph_of plan) (λ q. is_over (state_at plan states q)) (λ q. false) w (λ q t. not_over q)
-          ∙ ap (λ k. cells_before (graph_of plan) k w) (latest_none (graph_of plan) w (graph_of plan).count));
+          ∙ (ap (λ k. cells_before (graph_of plan) k w) (latest_none (graph_of plan) w (graph_of plan).count) ∙ first_is plan w));
     };
     ready = λ p lt live. absurd (live (N.states p));
     rest_is = rest_new;

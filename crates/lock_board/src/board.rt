@@ -3,6 +3,7 @@ ghost use Rattle.std.specs.Prelude.{◌≡◌, ◌≤◌, ◌<◌, ◌+◌, ◌-
 ghost use Rattle.job_base.specs.declared.limits.TheConstants.{MOST_WORKERS};
 ghost use Rattle.job_base.specs.Cells.{cells_of};
 ghost use Rattle.frame_core.specs.Names.{deps_in, job_at, job_pieces, pieces_before};
+ghost use Rattle.frame_core.specs.Graphs.{cells_at_first};
 ghost use Rattle.frame_core.specs.Ordered.{IsWellOrderedPlan};
 ghost use Rattle.frame_core.specs.Know.{new_seat};
 ghost use Rattle.lock_board.specs.Seats.{know_of};
@@ -71,8 +72,21 @@ fn count_predecessors(alloc: Global, plan: &Plan) -> Result<Vec<u32>, AllocError
     Ok(all)
 }
 
+// The cells at first: those of the plan, and 0 for each other word.
+fn first_cells(alloc: Global, plan: &Plan) -> Result<Vec<i64>, AllocError>
+    requires well { IsWellOrderedPlan plan.now }
+
+    ensures size { IfOk result (λ v. length v.items ≡ plan.now.words) }
+    ensures cells { IfOk result (λ v. (w : ℕ) → cells_of v.items w ≡ cells_at_first plan.now w) }
+{
+    let mut cells = Vec::with_capacity(alloc, plan.words as usize)?;
+    cells.extend_from_slice(&plan.first)?;
+    cells.resize(plan.words as usize, 0)?;
+    Ok(cells)
+}
+
 impl<K: PlanName + BoardName> Content<K> {
-    // All pieces are closed and all cells 0.
+    // All pieces are closed, and the cells are the plan's first.
     fn new(
         alloc: Global,
         plan: &Plan,
@@ -85,7 +99,7 @@ impl<K: PlanName + BoardName> Content<K> {
     {
         let pieces = layout.parts as usize + plan.segments.len();
         let states = vec![in alloc; State::Closed; pieces]?;
-        let cells = vec![in alloc; 0i64; plan.words as usize]?;
+        let cells = first_cells(alloc, plan)?;
         let rests = count_pieces(alloc, plan, &layout.ends)?;
         let waits = count_predecessors(alloc, plan)?;
         let dues = vec![in alloc; 0u32; plan.jobs.len()]?;
@@ -135,8 +149,8 @@ impl Held {
 }
 
 impl<R: Wait + Copy + Drop, K: PlanName + BoardName> LockBoard<R, K> {
-    /// A board of the plan that K names, with its seats, of which the first runs the segments. All pieces are closed
-    /// and all cells 0. The board owns the token, after which K names the board.
+    /// A board of the plan that K names, with its seats, of which the first runs the segments. All pieces are closed,
+    /// and the cells are the plan's first. The board owns the token, after which K names the board.
     pub fn make(
         rt: R,
         alloc: Global,

@@ -67,8 +67,8 @@ run_below g s B (e ∷ es) h = run_below g (after g s e) (after_below g s B e h.
 -- who has a lease may finish, and where nobody has one the seat 0 may take a piece
 pub runs_can_go_on : RunsCanGoOn
 runs_can_go_on g o es h =
-    let s : RunState = run g start es in
-    let below : SeatsAreBelow s = run_below g start (λ k l e. absurd (none_some e)) es h in
+    let s : RunState = run g (start g) es in
+    let below : SeatsAreBelow s = run_below g (start g) (λ k l e. absurd (none_some e)) es h in
     ⊎_elim
     (λ none.
     let free : (k : ℕ) → s.lease k ≡ None = λ k. ⊎_elim (λ e. e) (λ t. none k (below k t.0 t.1)) (either_lease (s.lease k)) in

@@ -31,7 +31,7 @@ pub one_at_first : (v u : Claims) (k : ℕ) → slice_get (v ∷ []) k ≡ Some 
 one_at_first v u zero e = (refl, some_is e)
 one_at_first v u (suc k) e = absurd (none_some e)
 
-module _ (h : JobGraph) (m : Moment) (full : HasParts h) (O : IsOpening h m) where
+module _ (g : PieceGraph) (h : JobGraph) (m : Moment) (full : HasParts h) (O : IsOpening g h m) where
   opening_unended : (p : ℕ) → is_unended (m.state p) ≡ true
   opening_unended p = ap is_unended (O.states p)
 
@@ -95,7 +95,7 @@ new_boards_are_ruled g h m full O =
             ∙ ap (λ k. cells_before g k w) (latest_none g w g.count));
         in_place = λ k l w e r. absurd (no_lease k l e);
       };
-      exact = subst (λ c. AreExact h m.state m.rest m.wait c) (sym O.claims) (opening_exact h m full O);
+      exact = subst (λ c. AreExact h m.state m.rest m.wait c) (sym O.claims) (opening_exact g h m full O);
       segment_leases = λ k i l e lt q. absurd (no_lease k l e);
     }
 

@@ -15,7 +15,7 @@ with_lease_changes f k x = record {
   there = λ j n. not_chosen j k x (f j) n;
 }
 
-start_kept : (g : PieceGraph) → IsKept g start
+start_kept : (g : PieceGraph) → IsKept g (start g)
 start_kept g = record {
   consistent = record {
     sound = record {
@@ -88,7 +88,7 @@ run_kept g o s K [] h = K
 run_kept g o s K (e ∷ es) h = run_kept g o (after g s e) (after_kept g o s K e h.0) es h.1
 
 pub runs_keep_the_merge : RunsKeepTheMerge
-runs_keep_the_merge g o es h = run_kept g o start (start_kept g) es h
+runs_keep_the_merge g o es h = run_kept g o (start g) (start_kept g) es h
 
 -- where all pieces are ended no lease is left, and the latest piece that writes a word is the latest of all
 pub ended_cells : (g : PieceGraph) → IsWellOrdered g → (s : RunState) → IsKept g s → IsEnded g s → (w : ℕ) → s.cells w ≡ cells_before g g.count w
@@ -97,7 +97,7 @@ ended_cells g o s K all w = let C = K.consistent in let S = C.sound in C.merged 
     ∙ merged_up_to g w o (core_of s).ended g.count g.count (omega arith) (omega arith) (λ q lt t. all q lt) (λ q le lt t. absurd (omega arith))
 
 pub ended_runs_are_in_script_order : EndedRunsAreInScriptOrder
-ended_runs_are_in_script_order g o es h all w = ended_cells g o (run g start es) (runs_keep_the_merge g o es h) all w
+ended_runs_are_in_script_order g o es h all w = ended_cells g o (run g (start g) es) (runs_keep_the_merge g o es h) all w
 
 pub ended_runs_agree : EndedRunsAgree
 ended_runs_agree g o es fs h i all every w = ended_runs_are_in_script_order g o es h all w ∙ sym (ended_runs_are_in_script_order g o fs i every w)

@@ -327,16 +327,16 @@ look s c = sees 0 (record {
 
 -- the cells at first, and after each piece
 abbrev c0 : Cells
-c0 = cells_of (pos 0) (pos 0) (pos 0) (pos 0)
+c0 = cells_of (pos 5) (pos 5) (pos 5) (pos 5)
 
 abbrev c1 : Cells
-c1 = cells_of (pos 7) (pos 0) (pos 0) (pos 0)
+c1 = cells_of (pos 7) (pos 5) (pos 5) (pos 5)
 
 abbrev c2 : Cells
-c2 = cells_of (pos 7) (pos 8) (pos 0) (pos 0)
+c2 = cells_of (pos 7) (pos 8) (pos 5) (pos 5)
 
 abbrev c3 : Cells
-c3 = cells_of (pos 7) (pos 8) (pos 9) (pos 0)
+c3 = cells_of (pos 7) (pos 8) (pos 9) (pos 5)
 
 abbrev c4 : Cells
 c4 = cells_of (pos 7) (pos 8) (pos 9) (pos 17)
@@ -397,7 +397,7 @@ diamond_is_run = record {
     states = each (λ p. states 0 0 0 0 p ≡ 0) refl refl refl refl (λ n. refl);
     rests = λ j lt. below_one (λ i. at_0 2 i ≡ Rattle.merge_laws.specs.Numbers.tally (λ p. diamond_jobs.is_part p i) 4) j lt refl;
     waits = λ j lt. below_one (λ i. at_0 1 i ≡ 1) j lt refl;
-    cells = each (λ w. c0 w ≡ pos 0) refl refl refl refl (λ n. refl);
+    cells = each (λ w. c0 w ≡ pos 5) refl refl refl refl (λ n. refl);
     leases = λ k. by_equal k 0 (λ q. chosen k 0 None None q) (λ n. not_chosen k 0 None None n);
     claims = refl;
   };

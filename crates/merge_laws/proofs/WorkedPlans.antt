@@ -5,7 +5,7 @@ use Rattle.merge_laws.specs.Graph.{Cells, LeadsTo, directly, further}
 use Rattle.merge_laws.specs.Pieces.{Jobs, Piece, graph_of, precedes_in, IsFramed}
 use Rattle.merge_laws.specs.Ledger.{IsLedger, AreInOrder}
 use Rattle.merge_laws.specs.Planning.{DoesMore, IsPartOfNewest}
-use Rattle.merge_laws.specs.Reuse.{only_1, no_job, giving, idle, ledger, nothing_live, at_first, with_container_0, with_job, with_job_completed, with_container_1, reusing, not_waiting, ReuseIsInOrder}
+use Rattle.merge_laws.specs.Reuse.{only_1, no_job, giving, idle, ledger, nothing_live, at_first, with_container_0, with_job, with_job_completed, with_container_1, reusing, not_waiting, fives, ReuseIsInOrder}
 use Rattle.merge_laws.proofs.Tests.{not_both}
 use Rattle.merge_laws.proofs.Places.{precedes_below}
 use Rattle.merge_laws.proofs.Touching.{segments_keep_order}
@@ -151,14 +151,16 @@ not_led (further {q = q} {r = r} l b) e f = let up = leads_earlier l in let on =
 pub reuse_is_in_order : ReuseIsInOrder
 reuse_is_in_order = record {
   in_order = made_1;
-  well_ordered = plans_are_well_ordered with_container_1 reusing made_1 (
+  well_ordered = plans_are_well_ordered with_container_1 fives reusing made_1 (
     framed 0 only_1 (λ c. pos 0) _ (λ c e. refl),
     (framed 1 no_job (λ c. c 0 +ℤ pos 1) _ (λ c e. ap (λ x. x +ℤ pos 1) e), (framed 0 no_job (λ c. pos 7) _ (λ c e. refl), tt)),
   );
   first = refl;
   second = refl;
   not_back = refl;
+  cells_at_first = refl;
   cells = refl;
+  other_cells = refl;
   before_reuse = refl;
   not_waited = refl;
   out_of_order = λ D. not_led (D.conflicts_lead 1 2 0 (omega arith) (omega arith) (inl (refl, refl))) refl refl;

@@ -43,13 +43,13 @@ ready_last ended a b c (suc (suc (suc q))) t = absurd (not_both t refl)
 
 -- the states of the crossed run
 abbrev after_first : RunState
-after_first = run diamond start (take 0 0 ∷ finish 0 0 ∷ [])
+after_first = run diamond (start diamond) (take 0 0 ∷ finish 0 0 ∷ [])
 
 none_first : (p : ℕ) → 0 ≢ p → (j : ℕ) (l : Lease) → after_first.lease j ≡ Some l → l.piece ≢ p
-none_first p n = unleased_without (with_lease start.lease 0 (Some record { piece = 0; local = start.cells })) 0 p
-    (unleased_with start.lease 0 p (record { piece = 0; local = start.cells }) (λ j l e. absurd (none_some e)) n)
+none_first p n = unleased_without (with_lease (start diamond).lease 0 (Some record { piece = 0; local = (start diamond).cells })) 0 p
+    (unleased_with (start diamond).lease 0 p (record { piece = 0; local = (start diamond).cells }) (λ j l e. absurd (none_some e)) n)
 
-first_taken : MayTake diamond start 0 0
+first_taken : MayTake diamond (start diamond) 0 0
 first_taken = record {
   may_begin = record { below = omega arith; unended = refl; unleased = λ j l e. absurd (none_some e); ready = ready_first (λ p. has p []) };
   seat_below = omega arith;
@@ -113,11 +113,11 @@ last_taken = record {
   segment_first = λ s. refl;
 }
 
-crossed_legal : IsLegalRun diamond start crossed
+crossed_legal : IsLegalRun diamond (start diamond) crossed
 crossed_legal = (
   first_taken,
   (
-    record { local = start.cells; lease = refl },
+    record { local = (start diamond).cells; lease = refl },
     (
       later_taken,
       (
@@ -134,7 +134,7 @@ crossed_legal = (
   ),
 )
 
-crossed_ended : IsEnded diamond (run diamond start crossed)
+crossed_ended : IsEnded diamond (run diamond (start diamond) crossed)
 crossed_ended zero lt = refl
 crossed_ended (suc zero) lt = refl
 crossed_ended (suc (suc zero)) lt = refl
@@ -155,7 +155,7 @@ pub illegal_runs : IllegalRuns
 illegal_runs = record {
   too_early = λ h. not_both (h.0.may_begin.ready 0 refl) refl;
   too_early_still = λ h. not_both (h.1.0.may_begin.ready 0 refl) refl;
-  twice_at_once = λ h. h.1.0.may_begin.unleased 0 (record { piece = 0; local = start.cells }) refl refl;
+  twice_at_once = λ h. h.1.0.may_begin.unleased 0 (record { piece = 0; local = (start diamond).cells }) refl refl;
   twice = λ h. not_both refl h.1.1.0.may_begin.unended;
   busy = λ h. none_some (sym h.1.1.1.0.seat_free);
   past = λ h. let lt : 64 < 64 = h.1.1.0.seat_below in omega arith;

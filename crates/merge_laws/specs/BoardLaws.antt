@@ -10,7 +10,7 @@ use Rattle.merge_laws.specs.BoardSteps.{IsBegin, IsRelease, Step, Reaches}
 
 -- A new board meets the rule.
 abbrev pub NewBoardsAreRuled : Type 0
-NewBoardsAreRuled = (g : PieceGraph) (h : JobGraph) (m : Moment) → HasParts h → IsOpening h m → IsRuled g h m
+NewBoardsAreRuled = (g : PieceGraph) (h : JobGraph) (m : Moment) → HasParts h → IsOpening g h m → IsRuled g h m
 
 -- What the countdowns say of a piece is what the merge asks of it: an unblocked piece has only ended predecessors.
 abbrev pub UnblockedPiecesAreReady : Type 0
@@ -45,7 +45,7 @@ StatesGoOneByOne = (g : PieceGraph) (h : JobGraph) → IsWellOrdered g → IsJob
 -- Whatever a board reaches from its opening is ruled.
 abbrev pub BoardsStayRuled : Type 0
 BoardsStayRuled = (g : PieceGraph) (h : JobGraph) → IsWellOrdered g → IsJobGraph h → IsOf h g → HasParts h
-    → (m n : Moment) → IsOpening h m → Reaches g h m n → IsRuled g h n
+    → (m n : Moment) → IsOpening g h m → Reaches g h m n → IsRuled g h n
 
 -- No state falls. So each piece is opened, begun and ended once at most:
 abbrev pub StatesNeverFall : Type 0

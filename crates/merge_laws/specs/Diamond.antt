@@ -1,5 +1,5 @@
 -- A worked plan: segment 0 makes a number, the two pieces of a job each make one of it, and the last segment adds these
--- up. The pieces of the job commute.
+-- up. The pieces of the job commute. All cells are 5 at first.
 use Rattle.std.specs.Prelude.{ℕ, zero, suc, Bool, true, false, ◌&&◌, ◌||◌, nat_eq, nat_lt, if◌then◌else◌, List, [], ◌∷◌, ℤ, pos, ◌+ℤ◌, None}
 use Rattle.merge_laws.specs.Graph.{Cells, PieceGraph}
 use Rattle.merge_laws.specs.Runs.{Event, take, steal, finish}
@@ -34,6 +34,7 @@ diamond_value (suc (suc (suc p))) c = c 1 +ℤ c 2
 
 abbrev pub diamond : PieceGraph
 diamond = record {
+  first = λ w. pos 5;
   count = 4;
   reads = diamond_reads;
   writes = diamond_writes;
@@ -60,7 +61,7 @@ new_diamond = record {
   state = λ p. 0;
   rest = λ j. 2;
   wait = λ j. 1;
-  cells = λ w. pos 0;
+  cells = λ w. pos 5;
   lease = λ k. None;
   claims = first_claims ∷ [];
 }

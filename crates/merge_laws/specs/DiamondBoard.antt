@@ -20,7 +20,7 @@ cells_of a b c d zero = a
 cells_of a b c d (suc zero) = b
 cells_of a b c d (suc (suc zero)) = c
 cells_of a b c d (suc (suc (suc zero))) = d
-cells_of a b c d (suc (suc (suc (suc w)))) = pos 0
+cells_of a b c d (suc (suc (suc (suc w)))) = pos 5
 
 -- what the one participant holds: the segments that it ended, whether it opened the next one, and what it owes, has to
 -- release, may open and saw finished
@@ -53,7 +53,7 @@ board state rest wait cells lease v = record {
 }
 
 abbrev pub board_at_first : Moment
-board_at_first = board (states 0 0 0 0) 2 1 (cells_of (pos 0) (pos 0) (pos 0) (pos 0)) None
+board_at_first = board (states 0 0 0 0) 2 1 (cells_of (pos 5) (pos 5) (pos 5) (pos 5)) None
     (holding 0 false None [] [] [])
 
 abbrev pub board_at_last : Moment
@@ -61,6 +61,6 @@ board_at_last = board (states 3 3 3 3) 0 0 (cells_of (pos 7) (pos 8) (pos 9) (po
     (holding 2 false None [] [] (0 ∷ []))
 
 pub record DiamondIsRun : Type 0 where
-  pub opening : IsOpening diamond_jobs board_at_first
+  pub opening : IsOpening diamond diamond_jobs board_at_first
   pub reaches : Reaches diamond diamond_jobs board_at_first board_at_last
   pub over : IsOver diamond_jobs board_at_last

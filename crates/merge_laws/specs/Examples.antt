@@ -17,7 +17,7 @@ pub record DiamondIsAPlan : Type 0 where
   pub jobs : IsJobGraph diamond_jobs
   pub parts : HasParts diamond_jobs
   pub of : IsOf diamond_jobs diamond
-  pub opening : IsOpening diamond_jobs new_diamond
+  pub opening : IsOpening diamond diamond_jobs new_diamond
   -- the pieces of the job commute: none leads to the other
   pub commutes : LeadsTo diamond 1 2 → ⊥
 
@@ -29,32 +29,33 @@ HasCells c a b d e = (c 0 ≡ a) × (c 1 ≡ b) × (c 2 ≡ d) × (c 3 ≡ e)
 pub record DiamondRuns : Type 0 where
   -- in script order, and with the pieces of the job crossed
   pub script_order : HasCells (cells_before diamond 4) (pos 7) (pos 8) (pos 9) (pos 17)
-  pub in_order : HasCells (run diamond start straight).cells (pos 7) (pos 8) (pos 9) (pos 17)
-  pub out_of_order : HasCells (run diamond start crossed).cells (pos 7) (pos 8) (pos 9) (pos 17)
-  pub legal : IsLegalRun diamond start crossed
-  pub ended : IsEnded diamond (run diamond start crossed)
+  pub in_order : HasCells (run diamond (start diamond) straight).cells (pos 7) (pos 8) (pos 9) (pos 17)
+  pub out_of_order : HasCells (run diamond (start diamond) crossed).cells (pos 7) (pos 8) (pos 9) (pos 17)
+  pub legal : IsLegalRun diamond (start diamond) crossed
+  pub ended : IsEnded diamond (run diamond (start diamond) crossed)
   -- a piece that runs changes no cell before it is finished, and after the begin of another one the first finish is
   -- seen alone
-  pub half : HasCells (run diamond start (take 0 0 ∷ finish 0 0 ∷ take 2 2 ∷ steal 1 2 1 ∷ finish 2 2 ∷ [])).cells
-      (pos 7) (pos 0) (pos 9) (pos 0)
+  pub half : HasCells
+      (run diamond (start diamond) (take 0 0 ∷ finish 0 0 ∷ take 2 2 ∷ steal 1 2 1 ∷ finish 2 2 ∷ [])).cells
+      (pos 7) (pos 5) (pos 9) (pos 5)
 
 pub record IllegalRuns : Type 0 where
   -- a piece before its predecessor, and while it is only leased
-  pub too_early : IsLegalRun diamond start (take 0 1 ∷ []) → ⊥
-  pub too_early_still : IsLegalRun diamond start (take 0 0 ∷ take 1 1 ∷ []) → ⊥
+  pub too_early : IsLegalRun diamond (start diamond) (take 0 1 ∷ []) → ⊥
+  pub too_early_still : IsLegalRun diamond (start diamond) (take 0 0 ∷ take 1 1 ∷ []) → ⊥
   -- a piece that is leased, and one that is ended
-  pub twice_at_once : IsLegalRun diamond start (take 0 0 ∷ take 0 0 ∷ []) → ⊥
-  pub twice : IsLegalRun diamond start (take 0 0 ∷ finish 0 0 ∷ take 0 0 ∷ []) → ⊥
+  pub twice_at_once : IsLegalRun diamond (start diamond) (take 0 0 ∷ take 0 0 ∷ []) → ⊥
+  pub twice : IsLegalRun diamond (start diamond) (take 0 0 ∷ finish 0 0 ∷ take 0 0 ∷ []) → ⊥
   -- a seat that is busy, a seat past the last, and a segment at another seat, also where it is stolen
-  pub busy : IsLegalRun diamond start (take 0 0 ∷ finish 0 0 ∷ take 1 1 ∷ take 1 2 ∷ []) → ⊥
-  pub past : IsLegalRun diamond start (take 0 0 ∷ finish 0 0 ∷ take MOST_WORKERS 1 ∷ []) → ⊥
-  pub segment_elsewhere : IsLegalRun diamond start (take 1 0 ∷ []) → ⊥
-  pub segment_stolen : IsLegalRun diamond start (steal 1 0 0 ∷ []) → ⊥
+  pub busy : IsLegalRun diamond (start diamond) (take 0 0 ∷ finish 0 0 ∷ take 1 1 ∷ take 1 2 ∷ []) → ⊥
+  pub past : IsLegalRun diamond (start diamond) (take 0 0 ∷ finish 0 0 ∷ take MOST_WORKERS 1 ∷ []) → ⊥
+  pub segment_elsewhere : IsLegalRun diamond (start diamond) (take 1 0 ∷ []) → ⊥
+  pub segment_stolen : IsLegalRun diamond (start diamond) (steal 1 0 0 ∷ []) → ⊥
   -- a finish of what isn't leased, and by another seat
-  pub unleased : IsLegalRun diamond start (finish 0 0 ∷ []) → ⊥
-  pub by_another : IsLegalRun diamond start (take 0 0 ∷ finish 1 0 ∷ []) → ⊥
+  pub unleased : IsLegalRun diamond (start diamond) (finish 0 0 ∷ []) → ⊥
+  pub by_another : IsLegalRun diamond (start diamond) (take 0 0 ∷ finish 1 0 ∷ []) → ⊥
   -- a piece that isn't of the plan
-  pub no_piece : IsLegalRun diamond start (take 0 4 ∷ []) → ⊥
+  pub no_piece : IsLegalRun diamond (start diamond) (take 0 4 ∷ []) → ⊥
 
 -- THE MERGE
 
@@ -72,10 +73,10 @@ both_leased local cells = record {
 }
 
 pub record DiamondMerges : Type 0 where
-  -- a word that an ended piece wrote has its value, one that only an unended piece writes has 0
+  -- a word that an ended piece wrote has its value, one that only an unended piece writes has its first one
   pub written : merged_cells diamond two_ended 1 ≡ pos 8
-  pub unwritten : merged_cells diamond two_ended 2 ≡ pos 0
-  pub nothing_ended : merged_cells diamond (λ p. false) 0 ≡ pos 0
+  pub unwritten : merged_cells diamond two_ended 2 ≡ pos 5
+  pub nothing_ended : merged_cells diamond (λ p. false) 0 ≡ pos 5
   pub all_ended : merged_cells diamond (λ p. true) 3 ≡ pos 17
   -- the pieces of the job may be leased at once
   pub both_sound : IsSound diamond (both_leased (λ w. pos 7) (λ w. pos 7))

@@ -1,12 +1,14 @@
 -- A plan as the laws see it: a graph of pieces. A piece is named by its place in script order, from 0 on, so that
 -- "earlier" is "less".
-use Rattle.std.specs.Prelude.{◌≡◌, ℕ, zero, suc, ◌<◌, Bool, true, false, ◌⊎◌, ℤ, pos}
+use Rattle.std.specs.Prelude.{◌≡◌, ℕ, zero, suc, ◌<◌, Bool, true, false, ◌⊎◌, ℤ}
 
 -- the cells, by word
 abbrev pub Cells : Type 0
 Cells = ℕ → ℤ
 
 pub record PieceGraph : Type 0 where
+  -- the cells at first
+  pub first : Cells
   -- how many pieces there are
   pub count : ℕ
   -- The footprint of a piece: the words that it may read, and those that it may write.
@@ -19,10 +21,9 @@ pub record PieceGraph : Type 0 where
   -- what the piece makes of the cells
   pub effect : ℕ → Cells → Cells
 
--- The run in script order: the cells before a piece, where all are 0 at first. Before the piece `count` they are those
--- after all pieces.
+-- The run in script order: the cells before a piece. Before the piece `count` they are those after all pieces.
 abbrev pub cells_before : PieceGraph → ℕ → Cells
-cells_before g zero w = pos 0
+cells_before g zero w = g.first w
 cells_before g (suc p) w = g.effect p (cells_before g p) w
 
 -- p leads to q: from predecessor to successor, in one step or more.

@@ -8,7 +8,8 @@ abbrev pub after_latest : PieceGraph → (ℕ → Bool) → ℕ → ℕ → ℕ
 after_latest g ended w zero = zero
 after_latest g ended w (suc p) = if g.writes p w && ended p then suc p else after_latest g ended w p
 
--- The script-order value of each word after the latest ended piece that may write it. It is 0 where there is none.
+-- The script-order value of each word after the latest ended piece that may write it. It is the first cell where there
+-- is none.
 abbrev pub merged_cells : PieceGraph → (ℕ → Bool) → Cells
 merged_cells g ended w = cells_before g (after_latest g ended w g.count) w
 

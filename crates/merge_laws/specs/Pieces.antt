@@ -47,8 +47,10 @@ abbrev pub precedes_in : List Piece → ℕ → ℕ → Bool
 precedes_in [] q p = false
 precedes_in (x ∷ earlier) q p = if nat_eq p (length earlier) then is_before earlier x q else precedes_in earlier q p
 
+-- the graph of pieces, where all cells are 0 at first: what leads to what doesn't depend on the cells
 abbrev pub graph_of : List Piece → PieceGraph
 graph_of pieces = record {
+  first = λ w. pos 0;
   count = length pieces;
   reads = λ p w. (piece_at pieces p).reads w;
   writes = λ p w. (piece_at pieces p).writes w;
@@ -57,10 +59,14 @@ graph_of pieces = record {
   effect = λ p cells. (piece_at pieces p).effect cells;
 }
 
--- the cells after the pieces, in script order
-abbrev pub cells_after : List Piece → Cells
-cells_after [] = λ w. pos 0
-cells_after (x ∷ earlier) = x.effect (cells_after earlier)
+-- the same from other first cells
+abbrev pub graph_from : Cells → List Piece → PieceGraph
+graph_from first pieces = record (graph_of pieces) { first = first }
+
+-- the cells after the pieces, in script order, from the first cells
+abbrev pub cells_after : Cells → List Piece → Cells
+cells_after first [] = first
+cells_after first (x ∷ earlier) = x.effect (cells_after first earlier)
 
 -- From cells that are, on what it reads, those before it, a piece makes on what it writes the same as from those before
 -- it, and keeps all other cells.
@@ -70,6 +76,6 @@ pub record IsFramed (x : Piece) (before : Cells) : Type 0 where
   pub kept : (cells : Cells) → ((w : ℕ) → x.reads w ≡ true → cells w ≡ before w) → (w : ℕ) → x.writes w ≡ false
       → x.effect cells w ≡ cells w
 
-abbrev pub AreFramed : List Piece → Type 0
-AreFramed [] = Unit {0}
-AreFramed (x ∷ earlier) = IsFramed x (cells_after earlier) × AreFramed earlier
+abbrev pub AreFramed : Cells → List Piece → Type 0
+AreFramed first [] = Unit {0}
+AreFramed first (x ∷ earlier) = IsFramed x (cells_after first earlier) × AreFramed first earlier

@@ -1,9 +1,9 @@
 -- The laws of planning: each way of going on keeps the pieces in order, across the reuse of words, and pieces in order
 -- make a well ordered plan.
 use Rattle.std.specs.Prelude.{◌≡◌, ℕ, ◌<◌, ◌≤◌, true, false, List, [], ◌∷◌, ◌++◌, length, Some}
-use Rattle.merge_laws.specs.Graph.{PieceGraph, LeadsTo, IsWellOrdered}
+use Rattle.merge_laws.specs.Graph.{Cells, PieceGraph, LeadsTo, IsWellOrdered}
 use Rattle.merge_laws.specs.Core.{Lease, Core, IsSound}
-use Rattle.merge_laws.specs.Pieces.{Words, Piece, piece_at, graph_of, AreFramed}
+use Rattle.merge_laws.specs.Pieces.{Words, Piece, piece_at, graph_from, AreFramed}
 use Rattle.merge_laws.specs.Ledger.{Ledger, IsLedger, AreInOrder, HasOlderParts}
 use Rattle.merge_laws.specs.Planning.{DoesMore, IsPartOfNewest, IsApartFromJob, ArePartsOfNewest, BeginsSegment, GoesOn, with_words, MovesContainer}
 
@@ -39,10 +39,11 @@ MovesKeepOrder = (l : Ledger) (x y : Piece) (earlier : List Piece) (c : ℕ) (ne
     → AreInOrder l (x ∷ earlier) → MovesContainer l x y c new
     → IsLedger (with_words l c new) × AreInOrder (with_words l c new) (y ∷ earlier)
 
--- Pieces in order, each of which reads and writes only its footprint, are a well ordered plan.
+-- Pieces in order, each of which reads and writes only its footprint, are a well ordered plan, whatever the first
+-- cells.
 abbrev pub PlansAreWellOrdered : Type 0
-PlansAreWellOrdered = (l : Ledger) (pieces : List Piece) → AreInOrder l pieces → AreFramed pieces
-    → IsWellOrdered (graph_of pieces)
+PlansAreWellOrdered = (l : Ledger) (first : Cells) (pieces : List Piece) → AreInOrder l pieces → AreFramed first pieces
+    → IsWellOrdered (graph_from first pieces)
 
 -- RECLAMATION. The segment m that makes a container writes all its words. So who touched a word for the container that
 -- had it before leads to everyone who touches it for this one,

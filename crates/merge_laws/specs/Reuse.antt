@@ -2,7 +2,7 @@
 -- and disposes the container, and makes container 1, which gets word 0 again.
 use Rattle.std.specs.Prelude.{◌≡◌, ℕ, Bool, true, false, ◌&&◌, nat_eq, if◌then◌else◌, List, [], ◌∷◌, ℤ, pos, ◌+ℤ◌}
 use Rattle.merge_laws.specs.Graph.{Cells, IsWellOrdered}
-use Rattle.merge_laws.specs.Pieces.{Piece, Jobs, Words, graph_of, precedes_in, cells_after}
+use Rattle.merge_laws.specs.Pieces.{Piece, Jobs, Words, graph_from, precedes_in, cells_after}
 use Rattle.merge_laws.specs.Ledger.{Ledger, AreInOrder}
 
 abbrev pub word_0 : Words
@@ -69,16 +69,23 @@ reusing = giving 0 only_1 (λ c. pos 0) ∷ giving 1 no_job (λ c. c 0 +ℤ pos 
 abbrev pub not_waiting : List Piece
 not_waiting = giving 0 no_job (λ c. pos 0) ∷ giving 1 no_job (λ c. c 0 +ℤ pos 1) ∷ giving 0 no_job (λ c. pos 7) ∷ []
 
+-- the cells at first
+abbrev pub fives : Cells
+fives w = pos 5
+
 pub record ReuseIsInOrder : Type 0 where
   pub in_order : AreInOrder with_container_1 reusing
-  pub well_ordered : IsWellOrdered (graph_of reusing)
+  pub well_ordered : IsWellOrdered (graph_from fives reusing)
   -- each piece precedes the next
   pub first : precedes_in reusing 0 1 ≡ true
   pub second : precedes_in reusing 1 2 ≡ true
   pub not_back : precedes_in reusing 2 1 ≡ false
-  -- the cells after the run
-  pub cells : cells_after reusing 0 ≡ pos 0
-  pub before_reuse : cells_after (giving 1 no_job (λ c. c 0 +ℤ pos 1) ∷ giving 0 no_job (λ c. pos 7) ∷ []) 0 ≡ pos 8
+  -- the cells before the run, and after it; a word that no piece writes stays
+  pub cells_at_first : cells_after fives [] 0 ≡ pos 5
+  pub cells : cells_after fives reusing 0 ≡ pos 0
+  pub other_cells : cells_after fives reusing 1 ≡ pos 5
+  pub before_reuse : cells_after fives (giving 1 no_job (λ c. c 0 +ℤ pos 1) ∷ giving 0 no_job (λ c. pos 7) ∷ []) 0
+      ≡ pos 8
   -- a word that is used again without waiting for the job isn't in order
   pub not_waited : precedes_in not_waiting 1 2 ≡ false
   pub out_of_order : AreInOrder with_container_1 not_waiting → ⊥

@@ -1,6 +1,6 @@
 -- The rule of a board without locks: what its words and what the participants hold say together between any two atomic
 -- steps.
-use Rattle.std.specs.Prelude.{◌≡◌, ◌≢◌, ℕ, ◌+◌, ◌<◌, false, List, [], ◌∷◌, nat_eq, pos, Option, Some, None, slice_get}
+use Rattle.std.specs.Prelude.{◌≡◌, ◌≢◌, ℕ, ◌+◌, ◌<◌, false, List, [], ◌∷◌, nat_eq, Option, Some, None, slice_get}
 use Rattle.merge_laws.specs.Numbers.{tally}
 use Rattle.merge_laws.specs.Graph.{Cells, PieceGraph}
 use Rattle.merge_laws.specs.Core.{Lease, Core, IsReady}
@@ -55,13 +55,13 @@ first_claims = record {
   opened = false;
 }
 
--- A new board: all pieces are closed and all cells 0, each job has all its pieces left, and waits for its segment and
--- its dependencies.
-pub record IsOpening (h : JobGraph) (m : Moment) : Type 0 where
+-- A new board: all pieces are closed and the cells are the first, each job has all its pieces left, and waits for its
+-- segment and its dependencies.
+pub record IsOpening (g : PieceGraph) (h : JobGraph) (m : Moment) : Type 0 where
   pub states : (p : ℕ) → m.state p ≡ closed_state
   pub rests : (j : ℕ) → j < h.jobs → m.rest j ≡ tally (λ p. h.is_part p j) h.pieces
   pub waits : (j : ℕ) → j < h.jobs → m.wait j ≡ 1 + tally (λ i. h.is_dependency i j) h.jobs
-  pub cells : (w : ℕ) → m.cells w ≡ pos 0
+  pub cells : (w : ℕ) → m.cells w ≡ g.first w
   pub leases : (k : ℕ) → m.lease k ≡ None
   pub claims : m.claims ≡ first_claims ∷ []
 

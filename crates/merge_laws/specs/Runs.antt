@@ -1,6 +1,6 @@
 -- Runs of a plan as lists of events: a worker takes a piece or steals one, and finishes it. Here leases are copied out,
 -- and the key of a lease is the number of the worker's seat.
-use Rattle.std.specs.Prelude.{◌≡◌, ℕ, ◌<◌, true, ◌⊎◌, List, [], ◌∷◌, nat_eq, if◌then◌else◌, pos, Option, Some, None}
+use Rattle.std.specs.Prelude.{◌≡◌, ℕ, ◌<◌, true, ◌⊎◌, List, [], ◌∷◌, nat_eq, if◌then◌else◌, Option, Some, None}
 use Rattle.job_base.specs.declared.limits.TheConstants.{MOST_WORKERS}
 use Rattle.merge_laws.specs.Numbers.{has, IsOnce}
 use Rattle.merge_laws.specs.Graph.{Cells, PieceGraph, cells_before, IsWellOrdered}
@@ -14,9 +14,9 @@ pub record RunState : Type 0 where
   pub lease : ℕ → Option Lease
   pub cells : Cells
 
--- nothing is ended or leased, and all cells are 0
-abbrev pub start : RunState
-start = record { ended = []; lease = λ k. None; cells = λ w. pos 0 }
+-- nothing is ended or leased, and the cells are the first
+abbrev pub start : PieceGraph → RunState
+start g = record { ended = []; lease = λ k. None; cells = g.first }
 
 abbrev pub core_of : RunState → Core
 core_of s = record { ended = λ p. has p s.ended; lease = s.lease; cells = s.cells }
@@ -92,23 +92,23 @@ pub record IsKept (g : PieceGraph) (s : RunState) : Type 0 where
 
 -- THE RUN THEOREM: in each state that a legal list of events reaches, the merge holds.
 abbrev pub RunsKeepTheMerge : Type 0
-RunsKeepTheMerge = (g : PieceGraph) → IsWellOrdered g → (es : List Event) → IsLegalRun g start es
-    → IsKept g (run g start es)
+RunsKeepTheMerge = (g : PieceGraph) → IsWellOrdered g → (es : List Event) → IsLegalRun g (start g) es
+    → IsKept g (run g (start g) es)
 
 -- Where a run has ended, the cells are those after the run in script order.
 abbrev pub EndedRunsAreInScriptOrder : Type 0
-EndedRunsAreInScriptOrder = (g : PieceGraph) → IsWellOrdered g → (es : List Event) → IsLegalRun g start es
-    → IsEnded g (run g start es)
-    → (w : ℕ) → (run g start es).cells w ≡ cells_before g g.count w
+EndedRunsAreInScriptOrder = (g : PieceGraph) → IsWellOrdered g → (es : List Event) → IsLegalRun g (start g) es
+    → IsEnded g (run g (start g) es)
+    → (w : ℕ) → (run g (start g) es).cells w ≡ cells_before g g.count w
 
 -- So the pieces commute: two runs that ended have the same cells, whatever the order and whoever ran them.
 abbrev pub EndedRunsAgree : Type 0
-EndedRunsAgree = (g : PieceGraph) → IsWellOrdered g → (es fs : List Event) → IsLegalRun g start es
-    → IsLegalRun g start fs
-    → IsEnded g (run g start es) → IsEnded g (run g start fs) → (w : ℕ)
-    → (run g start es).cells w ≡ (run g start fs).cells w
+EndedRunsAgree = (g : PieceGraph) → IsWellOrdered g → (es fs : List Event) → IsLegalRun g (start g) es
+    → IsLegalRun g (start g) fs
+    → IsEnded g (run g (start g) es) → IsEnded g (run g (start g) fs) → (w : ℕ)
+    → (run g (start g) es).cells w ≡ (run g (start g) fs).cells w
 
 -- And a run can always go on until it has ended.
 abbrev pub RunsCanGoOn : Type 0
-RunsCanGoOn = (g : PieceGraph) → IsWellOrdered g → (es : List Event) → IsLegalRun g start es
-    → IsEnded g (run g start es) ⊎ ((e : Event) × IsLegal g (run g start es) e)
+RunsCanGoOn = (g : PieceGraph) → IsWellOrdered g → (es : List Event) → IsLegalRun g (start g) es
+    → IsEnded g (run g (start g) es) ⊎ ((e : Event) × IsLegal g (run g (start g) es) e)

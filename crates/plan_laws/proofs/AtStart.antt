@@ -1,5 +1,5 @@
 -- A script begins with nothing planned.
-use Rattle.std.proofs.Common.{◌≡◌, ℕ, ◌<◌, ◌≤◌, ◌^◌, Bool, true, false, ◌&&◌, [], refl, arith}
+use Rattle.std.proofs.Common.{◌≡◌, ℕ, ◌<◌, ◌≤◌, ◌^◌, Bool, true, false, ◌&&◌, [], length, refl, arith}
 use Rattle.std.specs.Prelude.{nat_lt, nat_le}
 use Rattle.frame_ast.specs.Ranges.{Starts}
 use Rattle.frame_ast.specs.States.{at_start}
@@ -24,7 +24,7 @@ and_none : (a : Bool) → (a && false) ≡ false
 and_none true = refl
 and_none false = refl
 
-module _ (plan : Plan) (starts : Starts) (small : plan.cells < 2 ^ 32) where
+module _ (plan : Plan) (starts : Starts) (small : plan.cells < 2 ^ 32) (fits : length plan.first.items ≤ plan.cells) where
   x : Outline
   x = record { plan = plan; starts = starts; begun = at_start }
 
@@ -60,6 +60,7 @@ module _ (plan : Plan) (starts : Starts) (small : plan.cells < 2 ^ 32) where
       framed = (segment_framed plan small [] [] _ (All-nothing (OpFits plan)), tt);
     };
     fitting = record {
+      first = fits;
       jobs_later = plan.jobs.items;
       jobs_are = refl;
       jobs_fit = λ j job e. absurd (none_some e);
@@ -80,4 +81,4 @@ module _ (plan : Plan) (starts : Starts) (small : plan.cells < 2 ^ 32) where
   }
 
 pub nothing_is_planned : NothingIsPlanned
-nothing_is_planned plan starts small = nothing_planned plan starts small
+nothing_is_planned plan starts small fits = nothing_planned plan starts small fits

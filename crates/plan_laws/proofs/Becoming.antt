@@ -24,7 +24,7 @@ use Rattle.frame_core.proofs.Small.{some_is, none_some, get_below, get_either, g
 use Rattle.frame_core.proofs.Planned.{cells_fit}
 use Rattle.frame_core.proofs.Orders.{StartsAll, starter_below, starter_starts}
 use Rattle.plan_laws.specs.Binds.{bind_of_container}
-use Rattle.plan_laws.specs.Drafts.{Draft, Output, segment_piece, started_traps, with_ops, with_traps, no_output, output_onto, output_closed, output_of, closed_pieces, cells_of}
+use Rattle.plan_laws.specs.Drafts.{Draft, Output, segment_piece, started_traps, with_ops, with_traps, no_output, output_onto, output_closed, output_of, closed_pieces, cells_of, cells_past}
 use Rattle.plan_laws.specs.Ending.{Ends, IsReported}
 use Rattle.plan_laws.specs.Finishing.{IsPlanFrom, IsDone, DraftsBecomePlans}
 use Rattle.plan_laws.specs.Planned.{Outline, jobs_before, renumbered, AreJobsUpTo, SegmentFits, SegmentsFit, StartedStand, ClosedStand, IsPlanned}
@@ -119,7 +119,7 @@ module _ (x : Outline) (s : ScriptState) (d : Draft) (last final : Segment) (kno
 
   closed_stand : ClosedStand plan [] segments
   closed_stand = closed_stand-one plan [] d.segments last was.standing.closed
-      (subst (λ ops. OpsStand plan ops (made.cells_after (closed_pieces plan d))) (sym from.ops) was.standing.ops)
+      (subst (λ ops. OpsStand plan ops (cells_past plan (closed_pieces plan d))) (sym from.ops) was.standing.ops)
       (subst (StartedStand plan (segment_piece plan last.waits.items last.ops.items ∷ closed_pieces plan d)) (sym from.starts) tt)
 
   walked : Walked plan segments final ends starts 0 segments (output_onto plan [] no_output segments).traps (0 + n)
@@ -169,7 +169,7 @@ module _ (x : Outline) (s : ScriptState) (d : Draft) (last final : Segment) (kno
   told_same : output_onto plan [] no_output segments ≡ with_traps [] (output_of plan d)
   told_same = output_onto-one plan [] no_output d.segments last
       ∙ (λ i. with_traps (started_traps plan (segment_piece plan (from.waits i) (from.ops i) ∷ closed_pieces plan d) (from.starts i))
-      (with_ops plan (from.ops i) (made.cells_after (closed_pieces plan d)) (output_closed plan d)))
+      (with_ops plan (from.ops i) (cells_past plan (closed_pieces plan d)) (output_closed plan d)))
 
   told : IsReported plan segments
   told = lines_are_reported plan segments final ends
@@ -189,7 +189,7 @@ module _ (x : Outline) (s : ScriptState) (d : Draft) (last final : Segment) (kno
       let before : List Piece = turned [] (order_from plan.jobs.items 0 segments) in
       let m : ℕ = length (order_from plan.jobs.items 0 segments) in
       let long : length before ≡ m = (let l = length-turned (order_from plan.jobs.items 0 segments) [] in omega arith) in
-      ap made.cells_after (sym (finished.pieces_are x small s d last final known was from sized.words_are)
+      ap (cells_past plan) (sym (finished.pieces_are x small s d last final known was from sized.words_are)
       ∙ sym (all_onto plan segments 0 [] (are_from plan segments final ends)))
       ∙ cells_are plan segments final ends before (begins plan segments final ends)
       ∙ ap (cells_before (graph_of plan)) long

@@ -1,11 +1,11 @@
 -- A segment is closed.
 use Rattle.std.proofs.Common.{◌≡◌, ℕ, zero, suc, ◌+◌, List, [], ◌∷◌, ◌++◌, length, refl, sym, ap, subst, ◌∙◌, arith, append-nil}
-use Rattle.merge_laws.specs.Pieces.{Piece, cells_after}
+use Rattle.merge_laws.specs.Pieces.{Piece}
 use Rattle.frame_core.specs.declared.plan.Segment.{Segment}
 use Rattle.frame_core.specs.declared.plan.Plan.{Plan}
 use Rattle.frame_core.specs.Names.{starts_from, number_in, numbers_from}
 use Rattle.frame_core.specs.Ordered.{OpsStand}
-use Rattle.plan_laws.specs.Drafts.{Output, segment_piece, started_parts, started_traps, pieces_onto, output_onto, with_ops, with_traps}
+use Rattle.plan_laws.specs.Drafts.{Output, segment_piece, started_parts, started_traps, pieces_onto, output_onto, with_ops, with_traps, cells_past}
 use Rattle.plan_laws.specs.Planned.{ClosedStand, StartedStand, SegmentFits, SegmentsFit}
 
 pub pieces_onto-one : (plan : Plan) (earlier : List Piece) (xs : List Segment) (s : Segment)
@@ -16,15 +16,15 @@ pieces_onto-one plan earlier (x ∷ xs) s = pieces_onto-one plan (started_parts 
 pub output_onto-one : (plan : Plan) (earlier : List Piece) (told : Output) (xs : List Segment) (s : Segment)
     → output_onto plan earlier told (xs ++ s ∷ []) ≡ with_traps (started_traps plan
     (segment_piece plan s.waits.items s.ops.items ∷ pieces_onto plan earlier xs) s.starts)
-    (with_ops plan s.ops.items (cells_after (pieces_onto plan earlier xs)) (output_onto plan earlier told xs))
+    (with_ops plan s.ops.items (cells_past plan (pieces_onto plan earlier xs)) (output_onto plan earlier told xs))
 output_onto-one plan earlier told [] s = refl
 output_onto-one plan earlier told (x ∷ xs) s =
     let here = segment_piece plan x.waits.items x.ops.items ∷ earlier in
     output_onto-one plan (started_parts plan x.starts ++ here) (with_traps (started_traps plan here x.starts)
-    (with_ops plan x.ops.items (cells_after earlier) told)) xs s
+    (with_ops plan x.ops.items (cells_past plan earlier) told)) xs s
 
 pub closed_stand-one : (plan : Plan) (earlier : List Piece) (xs : List Segment) (s : Segment) → ClosedStand plan earlier xs
-    → OpsStand plan s.ops.items (cells_after (pieces_onto plan earlier xs))
+    → OpsStand plan s.ops.items (cells_past plan (pieces_onto plan earlier xs))
     → StartedStand plan (segment_piece plan s.waits.items s.ops.items ∷ pieces_onto plan earlier xs) s.starts → ClosedStand plan earlier (xs ++ s ∷ [])
 closed_stand-one plan earlier [] s c ops started = (ops, started, tt)
 closed_stand-one plan earlier (x ∷ xs) s c ops started = (

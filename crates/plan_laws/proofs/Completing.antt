@@ -10,7 +10,7 @@ use Rattle.frame_ast.specs.Conflicts.{Uses, has_pending}
 use Rattle.frame_ast.specs.Laws.{IsKnown, AreUpTo}
 use Rattle.frame_ast.specs.States.{ScriptState, is_live}
 use Rattle.frame_ast.proofs.Ancestry.{greatest_in, greatest_below, greatest_above, greatest_none}
-use Rattle.merge_laws.specs.Pieces.{Piece, cells_after}
+use Rattle.merge_laws.specs.Pieces.{Piece}
 use Rattle.merge_laws.specs.Ledger.{Ledger, IsLedger, AreInOrder}
 use Rattle.merge_laws.specs.Planning.{BeginsSegment, GoesOn}
 use Rattle.merge_laws.proofs.Places.{at_old}
@@ -19,10 +19,11 @@ use Rattle.frame_core.specs.declared.plan.Segment.{Segment}
 use Rattle.frame_core.specs.Names.{has_job, starts_from, number_in}
 use Rattle.frame_core.specs.Ordered.{OpFits, OpsStand}
 use Rattle.kernel_exec.specs.Layout.{Holds}
+use Rattle.frame_core.specs.Graphs.{cells_at_first}
 use Rattle.plan_laws.specs.Binds.{bind_of_container}
 use Rattle.merge_laws.specs.Pieces.{AreFramed}
 use Rattle.frame_core.proofs.Small.{not_both, either_bool}
-use Rattle.plan_laws.specs.Drafts.{Draft, segment_piece, pieces_onto, closed_pieces, pieces_of, cells_of, output_closed, output_of, no_output, Output, with_ops, with_traps, started_traps}
+use Rattle.plan_laws.specs.Drafts.{Draft, segment_piece, pieces_onto, closed_pieces, pieces_of, cells_of, output_closed, output_of, no_output, Output, with_ops, with_traps, started_traps, cells_past}
 use Rattle.plan_laws.specs.Ledgers.{Owner, Held, Own, owner, later, owner_live, owner_words, owner_users, owner_writers}
 use Rattle.plan_laws.specs.Planned.{StartedStand, renumbered, Outline, ledger_at, jobs_before, HasPieceOf, AreJobsUpTo, SegmentFits, IsPlanned}
 use Rattle.plan_laws.specs.Completing.{AreNewlyCompleted, CompletesArePlanned}
@@ -223,7 +224,7 @@ module _ (x : Outline) (small : x.plan.cells < 2 ^ 32) (s : ScriptState) (handle
     told_is : output_closed x.plan e ≡ with_traps [] (output_of x.plan d)
     told_is = output_onto-one x.plan [] no_output d.segments segment
         ∙ (λ i. with_traps (started_traps x.plan (segment_piece x.plan (waits_were i) (ops_were i) ∷ closed_pieces x.plan d) (starts i))
-        (with_ops x.plan (ops_were i) (cells_after (closed_pieces x.plan d)) (output_closed x.plan d)))
+        (with_ops x.plan (ops_were i) (cells_past x.plan (closed_pieces x.plan d)) (output_closed x.plan d)))
 
     -- a piece keeps its place below a new one
     part_below : (j : ℕ) → HasPieceOf (pieces_of x.plan d) j → HasPieceOf (segment_piece x.plan after [] ∷ pieces_of x.plan d) j
@@ -249,10 +250,11 @@ module _ (x : Outline) (small : x.plan.cells < 2 ^ 32) (s : ScriptState) (handle
             ledger = is_m;
             pieces = subst (λ ps. AreInOrder m (segment_piece x.plan after [] ∷ ps)) (sym pieces_are) order;
             parts = λ j pos le. subst (λ ps. HasPieceOf (segment_piece x.plan after [] ∷ ps) j) (sym pieces_are) (part_below j (was.ordered.parts j pos le));
-            framed = subst (λ ps. AreFramed (segment_piece x.plan after [] ∷ ps)) (sym pieces_are)
-                (segment_framed x.plan small after [] (cells_after (pieces_of x.plan d)) (All-nothing (OpFits x.plan)), was.ordered.framed);
+            framed = subst (λ ps. AreFramed (cells_at_first x.plan) (segment_piece x.plan after [] ∷ ps)) (sym pieces_are)
+                (segment_framed x.plan small after [] (cells_past x.plan (pieces_of x.plan d)) (All-nothing (OpFits x.plan)), was.ordered.framed);
           };
           fitting = record {
+            first = was.fitting.first;
             jobs_later = was.fitting.jobs_later;
             jobs_are = was.fitting.jobs_are;
             jobs_fit = was.fitting.jobs_fit;
@@ -267,10 +269,10 @@ module _ (x : Outline) (small : x.plan.cells < 2 ^ 32) (s : ScriptState) (handle
           };
           standing = record {
             closed = closed_stand-one x.plan [] d.segments segment was.standing.closed
-                (subst (λ ops. OpsStand x.plan ops (cells_after (closed_pieces x.plan d))) (sym ops_were) was.standing.ops)
+                (subst (λ ops. OpsStand x.plan ops (cells_past x.plan (closed_pieces x.plan d))) (sym ops_were) was.standing.ops)
                 (subst (λ o. StartedStand x.plan (segment_piece x.plan segment.waits.items segment.ops.items ∷ closed_pieces x.plan d) o) (sym starts) tt);
             ops = tt;
-            contents = λ c below alive. subst (λ ps. Holds (cells_after ps) (bind_of_container x.starts s c) (s.contents c)) (sym pieces_are)
+            contents = λ c below alive. subst (λ ps. Holds (cells_past x.plan ps) (bind_of_container x.starts s c) (s.contents c)) (sym pieces_are)
                 (was.standing.contents c below alive);
             within = λ c live. was.standing.within c (live_before c live);
           };

@@ -5,7 +5,6 @@ use Rattle.std.proofs.lemmas.List.{append_assoc}
 use Rattle.job_base.specs.declared.JobId.{JobId}
 use Rattle.merge_laws.specs.Graph.{Cells, cells_before}
 use Rattle.merge_laws.specs.Pieces as made
-use Rattle.merge_laws.specs.Pieces.{cells_after}
 use Rattle.frame_core.specs.declared.piece.Piece.{Piece}
 use Rattle.frame_core.specs.declared.piece.Piece.TheVariants.{OfScript, OfJob}
 use Rattle.frame_core.specs.declared.plan.JobPlan.{JobPlan}
@@ -19,7 +18,7 @@ use Rattle.frame_core.specs.Effects.{touches, piece_cells, is_last, all_own_word
 use Rattle.frame_core.specs.Graphs.{piece_at, cells_at, graph_of, before_piece}
 use Rattle.frame_core.specs.Output.{ops_lines, lines_of, refused_of, plan_lines, plan_refused, pieces_in}
 use Rattle.frame_core.proofs.Small.{some_is, none_some, get_before, get_behind}
-use Rattle.plan_laws.specs.Drafts.{Output, segment_piece, part_piece, parts, started_parts, started_traps, pieces_onto, output_onto, with_ops, with_traps, no_output}
+use Rattle.plan_laws.specs.Drafts.{Output, segment_piece, part_piece, parts, started_parts, started_traps, pieces_onto, output_onto, with_ops, with_traps, no_output, cells_past}
 use Rattle.plan_laws.specs.WholePlans.{made_piece, turned, whole_pieces}
 use Rattle.plan_laws.specs.Ending.{Ends, PiecesAreMade, IsReported, LinesAreReported}
 use Rattle.plan_laws.proofs.WholePlans.{at_back, back_old, back_new, turned_append, turned_top, turned_get, length-turned}
@@ -124,7 +123,7 @@ module _ (plan : Plan) where
     begun_less : (x : Piece) (top : List Piece) → IsBegun (x ∷ top) → IsBegun top
     begun_less x top b p lt = sym (back_old x top p (λ e. omega arith)) ∙ b p (omega arith)
 
-    pub cells_are : (top : List Piece) → IsBegun top → cells_after (all top) ≡ cells_before (graph_of plan) (length top)
+    pub cells_are : (top : List Piece) → IsBegun top → cells_past plan (all top) ≡ cells_before (graph_of plan) (length top)
     unfolding graph_of
     cells_are [] b = refl
     cells_are (x ∷ top) b =
@@ -150,7 +149,7 @@ module _ (plan : Plan) where
 
     -- the cells before a segment
     pub before_is : (k : ℕ) (top : List Piece) → IsBegun top → length top ≡ segment_place plan.jobs.items plan.segments.items k
-        → cells_after (all top) ≡ before_piece plan (OfScript k)
+        → cells_past plan (all top) ≡ before_piece plan (OfScript k)
     unfolding before_piece place_of
     before_is k top b e = cells_are top b ∙ ap (cells_before (graph_of plan)) e
 
@@ -172,7 +171,7 @@ module _ (plan : Plan) where
         let place_next : length next ≡ segment_place plan.jobs.items plan.segments.items (suc k) =
         (let q = next_place plan.segments.items k s h.0 in omega arith) in
         let now : Output = with_traps (started_traps plan (segment_piece plan s.waits.items s.ops.items ∷ all top) s.starts)
-        (with_ops plan s.ops.items (cells_after (all top)) told) in
+        (with_ops plan s.ops.items (cells_past plan (all top)) told) in
         let now_lines : now.lines ≡ lines_of plan (suc k) = (λ i. lines i ++ ops_lines plan s.ops.items (cells i))
         ∙ ap (λ o. lines_of plan k ++ ops_lines plan (ops_in o) (before_piece plan (OfScript k))) (sym h.0) in
         let now_refused : now.refused ≡ refused_of plan (suc k) = (λ i. refused i + ops_refused plan s.ops.items (cells i))

@@ -6,7 +6,7 @@ use Rattle.std.proofs.lemmas.List.{append_assoc}
 use Rattle.frame_ast.specs.Laws.{IsKnown}
 use Rattle.frame_ast.specs.States.{ScriptState}
 use Rattle.merge_laws.specs.Graph.{Cells, IsWellOrdered}
-use Rattle.merge_laws.specs.Pieces.{Piece, cells_after, IsFramed, graph_of as graph_of_list}
+use Rattle.merge_laws.specs.Pieces.{Piece, IsFramed, graph_from}
 use Rattle.merge_laws.specs.Ledger.{Ledger, IsLedger, AreInOrder}
 use Rattle.merge_laws.specs.Planning.{DoesMore, BeginsSegment}
 use Rattle.merge_laws.proofs.Proceeding.{new_segments_keep_order}
@@ -22,12 +22,12 @@ use Rattle.frame_core.specs.Output.{pieces_in}
 use Rattle.frame_core.specs.Touches.{reads_in, writes_in, ops_touch}
 use Rattle.frame_core.specs.Operations.{ops_cells}
 use Rattle.frame_core.specs.Effects.{touches, piece_cells, is_last, all_own_words}
-use Rattle.frame_core.specs.Graphs.{graph_of}
+use Rattle.frame_core.specs.Graphs.{graph_of, cells_at_first}
 use Rattle.frame_core.specs.Ordered.{ConflictsLead}
 use Rattle.frame_core.proofs.Small.{not_both, get_behind}
 use Rattle.frame_core.proofs.Starting.{started_within}
 use Rattle.frame_core.proofs.Touching.{it_has}
-use Rattle.plan_laws.specs.Drafts.{Draft, segment_piece, closed_pieces, pieces_onto, Draft}
+use Rattle.plan_laws.specs.Drafts.{Draft, segment_piece, closed_pieces, pieces_onto, Draft, cells_past}
 use Rattle.plan_laws.specs.Drafts as drafts
 use Rattle.plan_laws.specs.Ledgers.{Own, number_of, is_own_word, owner_live, owner_words, owner_writers}
 use Rattle.plan_laws.specs.Planned.{Outline, jobs_before, ledger_at, IsPlanned}
@@ -195,7 +195,7 @@ module _ (x : Outline) (small : x.plan.cells < 2 ^ 32) (s : ScriptState) (d : Dr
   order_end : AreInOrder m (end ∷ drafts.pieces_of x.plan d)
   order_end = segments_keep_order m first end (drafts.pieces_of x.plan d) is_m order_first more
 
-  end_framed : IsFramed end (cells_after (drafts.pieces_of x.plan d))
+  end_framed : IsFramed end (cells_past x.plan (drafts.pieces_of x.plan d))
   end_framed = record {
     written = λ cells agree w wr. absurd (not_both (ap (λ ts. writes_in ts w) (sym touched) ∙ wr) refl);
     kept = λ cells agree w out. ap (λ (c : Cells). c w) (effect_is cells);
@@ -214,8 +214,8 @@ module _ (x : Outline) (small : x.plan.cells < 2 ^ 32) (s : ScriptState) (d : Dr
 
   ordered : ConflictsLead (graph_of x.plan)
   ordered = lists_order_plans x.plan start_jobs
-      (subst (λ ps. IsWellOrdered (graph_of_list ps)) (sym (pieces_are_made x.plan segments final ends ∙ ap (λ ps. end ∷ ps) pieces_are))
-      (plans_are_well_ordered m (end ∷ drafts.pieces_of x.plan d) order_end (end_framed, was.ordered.framed)))
+      (subst (λ ps. IsWellOrdered (graph_from (cells_at_first x.plan) ps)) (sym (pieces_are_made x.plan segments final ends ∙ ap (λ ps. end ∷ ps) pieces_are))
+      (plans_are_well_ordered m (cells_at_first x.plan) (end ∷ drafts.pieces_of x.plan d) order_end (end_framed, was.ordered.framed)))
 
 pub finished_plans_are_ordered : FinishedPlansAreOrdered
 finished_plans_are_ordered x s d last final small is_known was from words = ordered x small s d last final is_known was from words

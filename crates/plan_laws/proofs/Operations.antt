@@ -153,6 +153,7 @@ module _ (x : Outline) (small : x.plan.cells < 2 ^ 32) (s t : ScriptState) (d : 
       framed = (segment_framed x.plan small d.waits e.ops (cells_closed x.plan d) fit_ops, was.ordered.framed.1);
     };
     fitting = record {
+      first = was.fitting.first;
       jobs_later = was.fitting.jobs_later;
       jobs_are = was.fitting.jobs_are;
       jobs_fit = was.fitting.jobs_fit;

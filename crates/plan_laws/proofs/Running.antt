@@ -22,7 +22,7 @@ use Rattle.kernel_exec.proofs.Rights.{uses_word}
 use Rattle.kernel_exec.proofs.Ends.{stands_after}
 use Rattle.kernel_exec.proofs.Pieces.{indexes_are_cut, read_words_decide}
 use Rattle.merge_laws.specs.Graph.{Cells}
-use Rattle.merge_laws.specs.Pieces.{Piece, cells_after}
+use Rattle.merge_laws.specs.Pieces.{Piece}
 use Rattle.frame_core.specs.declared.piece.Piece.TheVariants.{OfJob}
 use Rattle.frame_core.specs.declared.plan.JobPlan.{JobPlan}
 use Rattle.frame_core.specs.declared.plan.Plan.{Plan}
@@ -31,7 +31,7 @@ use Rattle.frame_core.specs.Pieces.{own_word}
 use Rattle.frame_core.specs.Effects.{note_of, noted, part_run, part_ran, job_ran, piece_cells}
 use Rattle.frame_core.specs.Output.{job_trap}
 use Rattle.frame_core.specs.Ordered.{JobFits}
-use Rattle.plan_laws.specs.Drafts.{parts}
+use Rattle.plan_laws.specs.Drafts.{parts, cells_past}
 use Rattle.plan_laws.specs.Running.{WordsRunAsContents, indexes_before, AreFirstParts, PiecesRunAsOne, AllIndexesRun}
 
 pub words_run_as_contents : WordsRunAsContents
@@ -137,7 +137,7 @@ module _ (plan : Plan) (j : ℕ) (job : JobPlan) (kernel : Kernel) (has_job : jo
 
   module _ (earlier : List Piece) where
     abbrev before : Cells
-    before = cells_after earlier
+    before = cells_past plan earlier
 
     abbrev go : ℕ → ℕ → Cells → Ran Cells
     go n from cells = at_indexes kernel job.binds.items full_steps n from cells
@@ -156,7 +156,7 @@ module _ (plan : Plan) (j : ℕ) (job : JobPlan) (kernel : Kernel) (has_job : jo
         let span = indexes_of job i in
         let sp = spans_by job.parallel job.cut.n job.cut.step i fits.cut.step.0 (omega arith) in
         let a : Cells = (go (indexes_before job i) 0 before).store in
-        let b : Cells = cells_after (parts plan j i ++ earlier) in
+        let b : Cells = cells_past plan (parts plan j i ++ earlier) in
         let d = read_words_decide.at_many kernel job.binds.items full_steps span.len span.start a b checked fits.binds
         (λ w r. old.cells w (read_below span.start (span.start + span.len) w r)) in
         let here : span.start ≡ 0 + indexes_before job i = sp.0 ∙ omega arith in

@@ -13,7 +13,7 @@ use Rattle.frame_ast.specs.Laws.{IsKnown}
 use Rattle.frame_ast.specs.States.{ScriptState}
 use Rattle.kernel_exec.specs.Layout.{Holds, StandFor}
 use Rattle.merge_laws.specs.Graph.{Cells}
-use Rattle.merge_laws.specs.Pieces.{cells_after, AreFramed}
+use Rattle.merge_laws.specs.Pieces.{AreFramed}
 use Rattle.merge_laws.specs.Ledger.{Ledger, IsLedger, AreInOrder}
 use Rattle.merge_laws.proofs.Proceeding.{new_segments_keep_order}
 use Rattle.frame_core.specs.declared.plan.JobPlan.{JobPlan}
@@ -23,8 +23,9 @@ use Rattle.frame_core.specs.Names as names
 use Rattle.frame_core.specs.Ordered.{OpFits, OpsStand, JobFits}
 use Rattle.frame_core.specs.Output.{job_trap, pieces_in}
 use Rattle.frame_core.proofs.Small.{some_is, none_some, get_either}
+use Rattle.frame_core.specs.Graphs.{cells_at_first}
 use Rattle.plan_laws.specs.Binds.{bind_of_container}
-use Rattle.plan_laws.specs.Drafts.{Draft, Output, parts, parts_traps, segment_piece, started_parts, started_traps, with_ops, with_traps, no_output, closed_pieces, pieces_of, output_closed, output_of}
+use Rattle.plan_laws.specs.Drafts.{Draft, Output, parts, parts_traps, segment_piece, started_parts, started_traps, with_ops, with_traps, no_output, closed_pieces, pieces_of, output_closed, output_of, cells_past}
 use Rattle.plan_laws.specs.Enrolling.{IsEnrolled}
 use Rattle.plan_laws.specs.Leaving.{AllHeld}
 use Rattle.plan_laws.specs.Ledgers.{ledger_of}
@@ -86,7 +87,7 @@ module _ (x : Outline) (small : x.plan.cells < 2 ^ 32) (s t : ScriptState) (d : 
   })
 
   abbrev after : Cells
-  after = cells_after (parts x.plan n N ++ pieces_of x.plan d)
+  after = cells_past x.plan (parts x.plan n N ++ pieces_of x.plan d)
 
   module _ (waits_were : segment.waits.items ≡ d.waits) (ops_were : segment.ops.items ≡ d.ops) (starts : segment.starts ≡ Some (record { 0 = suc n })) where
     abbrev e : Draft
@@ -110,16 +111,16 @@ module _ (x : Outline) (small : x.plan.cells < 2 ^ 32) (s t : ScriptState) (d : 
     output_is : output_closed x.plan e ≡ with_traps (map (job_trap n) traps) (output_of x.plan d)
     output_is =
         output_onto-one x.plan [] no_output d.segments segment
-        ∙ (λ i. with_traps (started_traps x.plan (here_is i) (starts i)) (with_ops x.plan (ops_were i) (cells_after (closed_pieces x.plan d))
+        ∙ (λ i. with_traps (started_traps x.plan (here_is i) (starts i)) (with_ops x.plan (ops_were i) (cells_past x.plan (closed_pieces x.plan d))
         (output_closed x.plan d)))
         ∙ ap (λ ts. with_traps ts (output_of x.plan d))
         (ap (λ j. parts_traps x.plan (pieces_of x.plan d) j (pieces_in (job_at x.plan j))) down
         ∙ ap (λ o. parts_traps x.plan (pieces_of x.plan d) n (pieces_in o)) has_job ∙ st.traps_are)
 
-    framed_parts : (i : ℕ) → AreFramed (parts x.plan n i ++ pieces_of x.plan d)
+    framed_parts : (i : ℕ) → AreFramed (cells_at_first x.plan) (parts x.plan n i ++ pieces_of x.plan d)
     framed_parts zero = was.ordered.framed
     framed_parts (suc i) = (
-      part_framed x.plan n job k has_job st.has_kernel st.checked st.fits i (cells_after (parts x.plan n i ++ pieces_of x.plan d)),
+      part_framed x.plan n job k has_job st.has_kernel st.checked st.fits i (cells_past x.plan (parts x.plan n i ++ pieces_of x.plan d)),
       framed_parts i,
     )
 
@@ -178,10 +179,11 @@ module _ (x : Outline) (small : x.plan.cells < 2 ^ 32) (s t : ScriptState) (d : 
                 (part_there x.plan n N (pieces_of x.plan d) (some_pieces job.parallel job.cut.n job.cut.step st.fits.cut.step.0)))
                 (λ ne. parts_over x.plan n N (pieces_of x.plan d) j (was.ordered.parts j pos (omega arith)))
                 (cases_eq j (suc n))));
-            framed = subst (λ ps. AreFramed (segment_piece x.plan [] [] ∷ ps)) (sym pieces_are)
+            framed = subst (λ ps. AreFramed (cells_at_first x.plan) (segment_piece x.plan [] [] ∷ ps)) (sym pieces_are)
                 (segment_framed x.plan small [] [] after (All-nothing (OpFits x.plan)), framed_parts N);
           };
           fitting = record {
+            first = was.fitting.first;
             jobs_later = st.jobs_later;
             jobs_are = st.jobs_are;
             jobs_fit = jobs_fit;
@@ -200,12 +202,12 @@ module _ (x : Outline) (small : x.plan.cells < 2 ^ 32) (s t : ScriptState) (d : 
           };
           standing = record {
             closed = closed_stand-one x.plan [] d.segments segment was.standing.closed
-                (subst (λ ops. OpsStand x.plan ops (cells_after (closed_pieces x.plan d))) (sym ops_were) was.standing.ops)
+                (subst (λ ops. OpsStand x.plan ops (cells_past x.plan (closed_pieces x.plan d))) (sym ops_were) was.standing.ops)
                 (subst (λ ps. StartedStand x.plan ps segment.starts) (sym here_is) (subst (StartedStand x.plan (pieces_of x.plan d)) (sym starts)
                 (subst (λ j. PartsStand x.plan (pieces_of x.plan d) j (job_at x.plan j)) (sym down)
                 (subst (PartsStand x.plan (pieces_of x.plan d) n) (sym has_job) st.stand))));
             ops = tt;
-            contents = λ c below alive. subst (λ ps. Holds (cells_after ps) (bind_of_container x.starts t c) (t.contents c)) (sym pieces_are)
+            contents = λ c below alive. subst (λ ps. Holds (cells_past x.plan ps) (bind_of_container x.starts t c) (t.contents c)) (sym pieces_are)
                 (st.held c below alive);
             within = λ c live.
                 let le = was.standing.within c (live_was x s t d job given writable deps known was st.enrolled c live) in

@@ -7,7 +7,6 @@ use Rattle.frame_ast.specs.States.{JobTrap}
 use Rattle.kernel_exec.specs.Layout.{StandFor}
 use Rattle.merge_laws.specs.Graph.{cells_before}
 use Rattle.merge_laws.specs.Pieces as made
-use Rattle.merge_laws.specs.Pieces.{cells_after}
 use Rattle.frame_core.specs.declared.piece.Piece.{Piece}
 use Rattle.frame_core.specs.declared.piece.Piece.TheVariants.{OfScript, OfJob}
 use Rattle.frame_core.specs.declared.plan.JobPlan.{JobPlan}
@@ -23,7 +22,7 @@ use Rattle.frame_core.proofs.Small.{some_is, none_some}
 use Rattle.frame_core.proofs.Placing.{length_parts}
 use Rattle.frame_core.proofs.Orders.{StartsAll, starter_alone}
 use Rattle.plan_laws.specs.Drafts as draft
-use Rattle.plan_laws.specs.Drafts.{Output, segment_piece, part_piece, parts, started_parts, started_traps, output_onto, with_ops, with_traps}
+use Rattle.plan_laws.specs.Drafts.{Output, segment_piece, part_piece, parts, started_parts, started_traps, output_onto, with_ops, with_traps, cells_past}
 use Rattle.plan_laws.specs.Ending.{Ends}
 use Rattle.plan_laws.specs.Planned.{PartsStand, StartedStand, ClosedStand}
 use Rattle.plan_laws.specs.WholePlans.{turned}
@@ -59,7 +58,7 @@ module _ (plan : Plan) (segments : List Segment) (final : Segment) (ends : Ends 
     pub place : length top ≡ place_at k
 
   before_part : (k j i : ℕ) (x : JobPlan) (top : List Piece) → IsHere k j x top → i ≤ pieces_of x
-      → cells_after (parts plan j i ++ all plan (OfScript k ∷ top)) ≡ before_piece plan (OfJob j i)
+      → cells_past plan (parts plan j i ++ all plan (OfScript k ∷ top)) ≡ before_piece plan (OfJob j i)
   unfolding before_piece place_of
   before_part k j i x top h le =
       let m = pieces_of x - i in
@@ -73,7 +72,7 @@ module _ (plan : Plan) (segments : List Segment) (final : Segment) (ends : Ends 
       let own = ap place_at (starter_alone plan starts j k h.starts_it) in
       let at = h.place in
       let place : length mine ≡ suc (place_at (starter_of plan j) + i) = omega arith in
-      ap cells_after (sym (all_parts plan j i (OfScript k ∷ top))) ∙ cells_are plan segments final ends mine b ∙ ap (cells_before (graph_of plan)) place
+      ap (cells_past plan) (sym (all_parts plan j i (OfScript k ∷ top))) ∙ cells_are plan segments final ends mine b ∙ ap (cells_before (graph_of plan)) place
 
   traps_are : (k j : ℕ) (x : JobPlan) (top : List Piece) → IsHere k j x top → (i : ℕ) → i ≤ pieces_of x
       → draft.parts_traps plan (all plan (OfScript k ∷ top)) j i ≡ parts_traps plan j i
@@ -182,7 +181,7 @@ module _ (plan : Plan) (segments : List Segment) (final : Segment) (ends : Ends 
       let earlier_is : segment_piece plan s.waits.items s.ops.items ∷ all plan top ≡ all plan (OfScript k ∷ top) = ap (λ p. p ∷ all plan top) is_piece in
       let a = adds k s more top h.0 b_here place j n told.traps e (subst (λ ps. StartedStand plan ps s.starts) earlier_is stand.1) traps in
       let now : Output = with_traps (started_traps plan (segment_piece plan s.waits.items s.ops.items ∷ all plan top) s.starts)
-      (with_ops plan s.ops.items (cells_after (all plan top)) told) in
+      (with_ops plan s.ops.items (cells_past plan (all plan top)) told) in
       let now_traps : now.traps ≡ jobs_traps plan a.next = ap (λ ps. told.traps ++ started_traps plan ps s.starts) earlier_is ∙ a.traps_are in
       let same : started_parts plan s.starts ++ segment_piece plan s.waits.items s.ops.items ∷ all plan top ≡ all plan next =
       ap (λ ps. started_parts plan s.starts ++ ps) earlier_is ∙ sym (all_started plan s.starts (OfScript k ∷ top)) in

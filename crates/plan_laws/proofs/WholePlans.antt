@@ -5,7 +5,7 @@ use Rattle.std.proofs.lemmas.Bool.{cases_lt, cases_eq}
 use Rattle.job_base.specs.declared.JobId.{JobId}
 use Rattle.merge_laws.specs.Graph.{IsWellOrdered}
 use Rattle.merge_laws.specs.Pieces as made
-use Rattle.merge_laws.specs.Pieces.{is_before, precedes_in, latest_segment, no_piece, graph_of as graph_of_list}
+use Rattle.merge_laws.specs.Pieces.{is_before, precedes_in, latest_segment, no_piece, graph_from}
 use Rattle.merge_laws.proofs.Places.{leads_along, precedes_below, at_new, at_old, latest_new, latest_old}
 use Rattle.frame_core.specs.declared.piece.Piece.{Piece}
 use Rattle.frame_core.specs.declared.piece.Piece.TheVariants.{OfScript, OfJob}
@@ -16,7 +16,7 @@ use Rattle.frame_core.specs.Names.{is_job, starts_in, segment_at, pieces_of}
 use Rattle.frame_core.specs.Pieces.{parts_from, parts_of, started, order_from, script_order}
 use Rattle.frame_core.specs.Touches.{reads_in, writes_in}
 use Rattle.frame_core.specs.Effects.{touches}
-use Rattle.frame_core.specs.Graphs.{is_predecessor, precedes_at, touches_at, piece_at, graph_of}
+use Rattle.frame_core.specs.Graphs.{is_predecessor, precedes_at, touches_at, piece_at, graph_of, cells_at_first}
 use Rattle.frame_core.specs.Ordered.{ConflictsLead}
 use Rattle.frame_core.proofs.Small.{not_both, some_is, none_some}
 use Rattle.plan_laws.specs.WholePlans.{made_piece, turned, order_back, whole_pieces, StartJobs, ListsOrderPlans}
@@ -264,7 +264,7 @@ module _ (plan : Plan) where
         writes = λ w. ap (λ (y : made.Piece). y.writes w) m ∙ made_writes s.0 w ∙ ap (λ o. writes_in (touches_at plan o) w) (sym g);
       }
 
-  conflicts_lead : StartJobs plan → IsWellOrdered (graph_of_list (whole_pieces plan)) → ConflictsLead (graph_of plan)
+  conflicts_lead : StartJobs plan → IsWellOrdered (graph_from (cells_at_first plan) (whole_pieces plan)) → ConflictsLead (graph_of plan)
   unfolding graph_of
   conflicts_lead start well p q w p<q q<n c =
       let sp = seen p (omega arith) in

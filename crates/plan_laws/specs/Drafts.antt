@@ -18,6 +18,7 @@ use Rattle.frame_core.specs.Names.{job_at, deps_in, has_job}
 use Rattle.frame_core.specs.Touches.{reads_in, writes_in, ops_touch}
 use Rattle.frame_core.specs.Operations.{ops_cells, ops_refused}
 use Rattle.frame_core.specs.Effects.{touches, piece_cells, part_run}
+use Rattle.frame_core.specs.Graphs.{cells_at_first}
 use Rattle.frame_core.specs.Output.{ops_lines, job_trap, pieces_in}
 
 pub record Draft : Type 0 where
@@ -72,12 +73,16 @@ closed_pieces plan d = pieces_onto plan [] d.segments
 abbrev pub pieces_of : Plan → Draft → List Piece
 pieces_of plan d = segment_piece plan d.waits d.ops ∷ closed_pieces plan d
 
+-- the cells after such pieces, in script order
+abbrev pub cells_past : Plan → List Piece → Cells
+cells_past plan = cells_after (cells_at_first plan)
+
 -- the cells before the segment at hand, and after the operations so far
 abbrev pub cells_closed : Plan → Draft → Cells
-cells_closed plan d = cells_after (closed_pieces plan d)
+cells_closed plan d = cells_past plan (closed_pieces plan d)
 
 abbrev pub cells_of : Plan → Draft → Cells
-cells_of plan d = cells_after (pieces_of plan d)
+cells_of plan d = cells_past plan (pieces_of plan d)
 
 -- ITS OUTPUT in the run in script order: lines, refused statements and traps
 
@@ -104,7 +109,7 @@ abbrev pub parts_traps : Plan → List Piece → ℕ → ℕ → List JobTrap
 parts_traps plan earlier j zero = []
 parts_traps plan earlier j (suc n) =
     parts_traps plan earlier j n
-    ++ map (job_trap j) (part_run plan j n (cells_after (parts plan j n ++ earlier))).traps
+    ++ map (job_trap j) (part_run plan j n (cells_past plan (parts plan j n ++ earlier))).traps
 
 abbrev pub started_traps : Plan → List Piece → Option JobId → List JobTrap
 started_traps plan earlier None = []
@@ -114,7 +119,7 @@ abbrev pub output_onto : Plan → List Piece → Output → List Segment → Out
 output_onto plan earlier out [] = out
 output_onto plan earlier out (s ∷ more) =
     let here = segment_piece plan s.waits.items s.ops.items ∷ earlier in
-    let now = with_traps (started_traps plan here s.starts) (with_ops plan s.ops.items (cells_after earlier) out) in
+    let now = with_traps (started_traps plan here s.starts) (with_ops plan s.ops.items (cells_past plan earlier) out) in
     output_onto plan (started_parts plan s.starts ++ here) now more
 
 abbrev pub output_closed : Plan → Draft → Output

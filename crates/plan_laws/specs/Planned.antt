@@ -12,7 +12,7 @@ use Rattle.frame_ast.specs.Ranges.{Starts}
 use Rattle.frame_ast.specs.States.{ScriptState, JobTrap, is_live}
 use Rattle.kernel_exec.specs.Binds.{end_of}
 use Rattle.kernel_exec.specs.Layout.{Holds, StandFor}
-use Rattle.merge_laws.specs.Pieces.{Piece, piece_at, cells_after, AreFramed}
+use Rattle.merge_laws.specs.Pieces.{Piece, piece_at, AreFramed}
 use Rattle.merge_laws.specs.Ledger.{Ledger, IsLedger, AreInOrder}
 use Rattle.frame_core.specs.declared.plan.JobPlan.{JobPlan}
 use Rattle.frame_core.specs.declared.plan.Op.{Op}
@@ -21,8 +21,9 @@ use Rattle.frame_core.specs.declared.plan.Plan.{Plan}
 use Rattle.frame_core.specs.Names.{job_at, kernel_of, pieces_before, starts_from, number_in, numbers_from}
 use Rattle.frame_core.specs.Output.{pieces_in}
 use Rattle.frame_core.specs.Ordered.{IsAbove, OpFits, JobFits, OpsStand}
+use Rattle.frame_core.specs.Graphs.{cells_at_first}
 use Rattle.plan_laws.specs.Binds.{bind_of_container}
-use Rattle.plan_laws.specs.Drafts.{Draft, Output, segment_piece, started_parts, parts, pieces_of, cells_closed, cells_of, output_of}
+use Rattle.plan_laws.specs.Drafts.{Draft, Output, segment_piece, started_parts, parts, pieces_of, cells_closed, cells_of, output_of, cells_past}
 use Rattle.plan_laws.specs.Ledgers.{ledger_of}
 
 -- What a section is planned by: the whole plan that it becomes, where ranges start, and the state in which it begins. A
@@ -50,7 +51,7 @@ pub record IsOrdered (x : Outline) (s : ScriptState) (d : Draft) : Type 0 where
   pub ledger : IsLedger (ledger_at x s d)
   pub pieces : AreInOrder (ledger_at x s d) (pieces_of x.plan d)
   pub parts : (j : ℕ) → 0 < j → j ≤ length d.jobs → HasPieceOf (pieces_of x.plan d) j
-  pub framed : AreFramed (pieces_of x.plan d)
+  pub framed : AreFramed (cells_at_first x.plan) (pieces_of x.plan d)
 
 -- FITS: what its numbers name is there, and is of the right kind.
 
@@ -68,6 +69,8 @@ SegmentsFit plan n [] = Unit {0}
 SegmentsFit plan n (s ∷ more) = SegmentFits plan n s × SegmentsFit plan (n + length (number_in s.starts)) more
 
 pub record IsFitting (x : Outline) (d : Draft) : Type 0 where
+  -- the cells at first are those of words of containers
+  pub first : length x.plan.first.items ≤ x.plan.cells
   -- the jobs of the whole plan begin with those so far
   pub jobs_later : List JobPlan
   pub jobs_are : x.plan.jobs.items ≡ d.jobs ++ jobs_later
@@ -86,7 +89,7 @@ pub record IsFitting (x : Outline) (d : Draft) : Type 0 where
 abbrev pub PartsStand : Plan → List Piece → ℕ → Option JobPlan → Type 0
 PartsStand plan earlier j None = Unit {0}
 PartsStand plan earlier j (Some job) = (i : ℕ) → i < pieces_in (Some job)
-    → (contents : List Contents) × StandFor job.binds.items (cells_after (parts plan j i ++ earlier)) contents
+    → (contents : List Contents) × StandFor job.binds.items (cells_past plan (parts plan j i ++ earlier)) contents
 
 abbrev pub StartedStand : Plan → List Piece → Option JobId → Type 0
 StartedStand plan earlier None = Unit {0}
@@ -96,7 +99,7 @@ abbrev pub ClosedStand : Plan → List Piece → List Segment → Type 0
 ClosedStand plan earlier [] = Unit {0}
 ClosedStand plan earlier (s ∷ more) =
     let here = segment_piece plan s.waits.items s.ops.items ∷ earlier in
-    OpsStand plan s.ops.items (cells_after earlier)
+    OpsStand plan s.ops.items (cells_past plan earlier)
     × StartedStand plan here s.starts
     × ClosedStand plan (started_parts plan s.starts ++ here) more
 

@@ -12,13 +12,13 @@ use Rattle.kernel_exec.specs.Conditions.{BindsFit}
 use Rattle.kernel_exec.specs.Layout.{StandFor}
 use Rattle.kernel_exec.specs.Laws.{at_indexes}
 use Rattle.merge_laws.specs.Graph.{Cells}
-use Rattle.merge_laws.specs.Pieces.{Piece, cells_after}
+use Rattle.merge_laws.specs.Pieces.{Piece}
 use Rattle.frame_core.specs.declared.plan.JobPlan.{JobPlan}
 use Rattle.frame_core.specs.declared.plan.Plan.{Plan}
 use Rattle.frame_core.specs.Names.{job_at, kernel_of, pieces_of}
 use Rattle.frame_core.specs.Output.{job_trap}
 use Rattle.frame_core.specs.Ordered.{JobFits}
-use Rattle.plan_laws.specs.Drafts.{parts, parts_traps}
+use Rattle.plan_laws.specs.Drafts.{parts, parts_traps, cells_past}
 
 -- WORDS AND CONTENTS
 
@@ -59,8 +59,8 @@ ran_before job kernel i cells = at_indexes kernel job.binds.items full_steps (in
 pub record AreFirstParts (plan : Plan) (j : ℕ) (job : JobPlan) (kernel : Kernel) (earlier : List Piece) (i : ℕ)
     : Type 0 where
   pub cells : (w : ℕ) → w < plan.cells
-      → cells_after (parts plan j i ++ earlier) w ≡ (ran_before job kernel i (cells_after earlier)).store w
-  pub traps : parts_traps plan earlier j i ≡ map (job_trap j) (ran_before job kernel i (cells_after earlier)).traps
+      → cells_past plan (parts plan j i ++ earlier) w ≡ (ran_before job kernel i (cells_past plan earlier)).store w
+  pub traps : parts_traps plan earlier j i ≡ map (job_trap j) (ran_before job kernel i (cells_past plan earlier)).traps
 
 abbrev pub PiecesRunAsOne : Type 0
 PiecesRunAsOne = (plan : Plan) (j : ℕ) (job : JobPlan) (kernel : Kernel) (earlier : List Piece)

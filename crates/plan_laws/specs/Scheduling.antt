@@ -9,14 +9,13 @@ use Rattle.frame_ast.specs.Laws.{IsKnown}
 use Rattle.frame_ast.specs.States.{ScriptState, JobTrap}
 use Rattle.kernel_exec.specs.Layout.{StandFor}
 use Rattle.merge_laws.specs.Graph.{Cells}
-use Rattle.merge_laws.specs.Pieces.{cells_after}
 use Rattle.frame_core.specs.declared.plan.JobPlan.{JobPlan}
 use Rattle.frame_core.specs.declared.plan.Segment.{Segment}
 use Rattle.frame_core.specs.Names.{kernel_of, pieces_before}
 use Rattle.frame_core.specs.Names as names
 use Rattle.frame_core.specs.Ordered.{JobFits}
 use Rattle.frame_core.specs.Output.{job_trap}
-use Rattle.plan_laws.specs.Drafts.{Draft, parts, parts_traps, pieces_of}
+use Rattle.plan_laws.specs.Drafts.{Draft, parts, parts_traps, pieces_of, cells_past}
 use Rattle.plan_laws.specs.Enrolling.{IsEnrolled}
 use Rattle.plan_laws.specs.Leaving.{AllHeld}
 use Rattle.plan_laws.specs.Planned.{Outline, IsPlanned, Closes}
@@ -26,7 +25,7 @@ script_trap j t = record { job = j; index = t.0; trap = t.1 }
 
 -- the cells after the first pieces of the next job
 abbrev pub cells_with : Outline → Draft → ℕ → Cells
-cells_with x d i = cells_after (parts x.plan (length d.jobs) i ++ pieces_of x.plan d)
+cells_with x d i = cells_past x.plan (parts x.plan (length d.jobs) i ++ pieces_of x.plan d)
 
 -- What is known of the job and of the state after its schedule: its pieces are enrolled, words stand for contents
 -- before each piece and after all of them, and the traps are those of the script.

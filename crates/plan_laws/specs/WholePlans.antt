@@ -2,7 +2,7 @@
 use Rattle.std.specs.Prelude.{ℕ, ◌≡◌, ◌<◌, List, [], ◌∷◌, map, Some}
 use Rattle.job_base.specs.declared.JobId.{JobId}
 use Rattle.merge_laws.specs.Graph.{IsWellOrdered}
-use Rattle.merge_laws.specs.Pieces.{cells_after, graph_of as graph_of_list}
+use Rattle.merge_laws.specs.Pieces.{graph_from}
 use Rattle.frame_core.specs.declared.piece.Piece.{Piece}
 use Rattle.frame_core.specs.declared.piece.Piece.TheVariants.{OfScript, OfJob}
 use Rattle.frame_core.specs.declared.plan.Segment.{Segment}
@@ -12,7 +12,7 @@ use Rattle.frame_core.specs.Names.{has_job, waits_in, segment_at}
 use Rattle.frame_core.specs.Pieces.{script_order}
 use Rattle.frame_core.specs.Touches.{reads_in, writes_in}
 use Rattle.frame_core.specs.Effects.{touches, piece_cells}
-use Rattle.frame_core.specs.Graphs.{graph_of}
+use Rattle.frame_core.specs.Graphs.{graph_of, cells_at_first}
 use Rattle.frame_core.specs.Ordered.{ConflictsLead}
 use Rattle.plan_laws.specs.Drafts.{part_piece}
 
@@ -47,5 +47,5 @@ StartJobs plan = (k : ℕ) (s : Segment) (id : JobId) → segment_at plan k ≡ 
 abbrev pub ListsOrderPlans : Type 0
 ListsOrderPlans = (plan : Plan)
     → StartJobs plan
-    → IsWellOrdered (graph_of_list (whole_pieces plan))
+    → IsWellOrdered (graph_from (cells_at_first plan) (whole_pieces plan))
     → ConflictsLead (graph_of plan)

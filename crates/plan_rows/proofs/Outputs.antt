@@ -7,12 +7,12 @@ use Rattle.frame_core.specs.Pieces.{script_order, place_of}
 use Rattle.frame_core.specs.Operations.{op_cells, op_answer}
 use Rattle.frame_core.specs.Reading.{contents_in}
 use Rattle.frame_core.specs.Effects.{part_run, piece_cells}
-use Rattle.frame_core.specs.Graphs.{graph_of, before_piece, cells_after}
+use Rattle.frame_core.specs.Graphs.{graph_of, before_piece, cells_after, cells_at_first}
 use Rattle.frame_core.specs.Output.{op_line, plan_lines, plan_traps, plan_output}
 use Rattle.ast_rows.proofs.Trees.{Place}
-use Rattle.ast_rows.proofs.Kernels.{scale, total, peek, slow, quick}
+use Rattle.ast_rows.proofs.Kernels.{scale, total, bump, peek, slow, quick}
 use Rattle.plan_rows.proofs.Runs.{computed, run_at}
-use Rattle.plan_rows.proofs.Plans.{array, ref, chained, reused, past_the_end, two_traps}
+use Rattle.plan_rows.proofs.Plans.{array, ref, chained, reused, carried, past_the_end, two_traps}
 
 module _ (at : Place) where
   -- THE CHAIN
@@ -46,6 +46,23 @@ module _ (at : Place) where
   lines_reused : plan_lines (reused at) ≡ codes "t = 1\nb = [8, 9]\n"
   unfolding plan_lines op_line op_answer op_cells contents_in before_piece graph_of script_order place_of piece_cells digits fresh full_steps
   lines_reused = rw reused_0 refl
+
+  -- CELLS THAT IT BEGINS WITH
+
+  first_carried : map (cells_at_first (carried at)) (0 ∷ 1 ∷ 2 ∷ 3 ∷ 4 ∷ []) ≡ pos 4 ∷ pos 6 ∷ pos 0 ∷ pos 0 ∷ pos 0 ∷ []
+  first_carried = refl
+
+  carried_0 : part_run (carried at) 0 0 ≡ (λ cells. computed at bump (array 0 2 0 ∷ []) 1 0 cells)
+  unfolding part_run
+  carried_0 = run_at at bump (array 0 2 0 ∷ []) 1 0
+
+  lines_carried : plan_lines (carried at) ≡ codes "a = [5, 6]\n"
+  unfolding plan_lines op_line op_answer op_cells contents_in before_piece graph_of script_order place_of piece_cells digits fresh full_steps
+  lines_carried = rw carried_0 refl
+
+  cells_carried : map (cells_after (carried at)) (0 ∷ 1 ∷ 2 ∷ 3 ∷ []) ≡ pos 5 ∷ pos 6 ∷ pos 0 ∷ pos 0 ∷ []
+  unfolding cells_after op_cells graph_of script_order piece_cells fresh full_steps
+  cells_carried = rw carried_0 refl
 
   -- TRAPS
 

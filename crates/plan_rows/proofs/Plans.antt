@@ -11,7 +11,7 @@ use Rattle.frame_core.specs.declared.plan.Op.{Op}
 use Rattle.frame_core.specs.declared.plan.Plan.{Plan}
 use Rattle.ast_rows.proofs.Trees.{Place, vec, text}
 use Rattle.ast_rows.proofs.Kernel.{Text, kernel}
-use Rattle.ast_rows.proofs.Kernels.{scale, total, peek, slow, quick, shift, emit}
+use Rattle.ast_rows.proofs.Kernels.{scale, total, bump, peek, slow, quick, shift, emit}
 
 -- jobs by their numbers
 abbrev pub ids : Place → List ℕ → Rattle.std.specs.Prelude.Vec JobId Rattle.std.specs.declared.alloc.Global.Global
@@ -65,7 +65,7 @@ abbrev pub segment : Place → List ℕ → List Op → Option ℕ → Segment
 segment at waits ops None = record { waits = ids at waits; ops = vec at ops; starts = None }
 segment at waits ops (Some j) = record { waits = ids at waits; ops = vec at ops; starts = Some (record { 0 = j }) }
 
--- A plan without the code of its kernels, of which cells say nothing.
+-- A plan without the code of its kernels, of which cells say nothing. All cells are 0 at first.
 abbrev pub plan : Place → List Text → List String → List (List ℤ) → List JobPlan → List Segment → ℕ → ℕ → Plan
 plan at kernels names literals jobs segments cells words = record {
   kernels = vec at (map (kernel at) kernels);
@@ -74,6 +74,7 @@ plan at kernels names literals jobs segments cells words = record {
   literals = vec at (map (vec at) literals);
   jobs = vec at jobs;
   segments = vec at segments;
+  first = vec at [];
   cells = cells;
   words = words;
 }
@@ -102,6 +103,16 @@ reused at = plan at (peek ∷ []) ("a" ∷ "t" ∷ "h" ∷ "d" ∷ "b" ∷ "c" �
     ∷ segment at (1 ∷ []) (fill 19 5 0 2 ∷ print 20 1 (ref 2) ∷ print 21 4 (array 3 2 0) ∷ []) None
     ∷ segment at (1 ∷ []) [] None
     ∷ []) 5 6
+
+-- the section after array a 2 = 4 6 / reference t / when t == 0 {, which begins with the cells of a and of t
+-- schedule h bump(a) / complete h / print a / }
+abbrev pub carried : Place → Plan
+carried at = record (plan at (bump ∷ []) ("a" ∷ "t" ∷ "h" ∷ []) []
+    (plain_job at 0 (array 0 2 0 ∷ []) [] 0 ∷ [])
+    (segment at [] [] (Some 1)
+    ∷ segment at (1 ∷ []) (print 18 0 (array 0 2 0) ∷ []) None
+    ∷ segment at (1 ∷ []) [] None
+    ∷ []) 3 4) { first = vec at (numbers (4 ∷ 6 ∷ 0 ∷ [])) }
 
 -- array x 5 = 1 2 3 4 5 / array y 4 / schedule h scale(x, y) 5 2 / complete h / print y
 abbrev pub past_the_end : Place → Plan

@@ -41,7 +41,7 @@ module _ (at : Place) (code : Code) (is_code : IsCodeOf (kernel at scale) code) 
   p = record (past_the_end at) { codes = vec at (code ∷ []) }
 
   sized : IsSized p
-  sized = record { jobs = omega arith; words_are = refl; words = omega arith; pieces = omega arith; ops = omega arith }
+  sized = record { jobs = omega arith; words_are = refl; words = omega arith; first = omega arith; pieces = omega arith; ops = omega arith }
 
   abbrev k : Kernel
   k = kernel at scale

@@ -1,5 +1,5 @@
 -- The pieces of a plan in script order, one after another.
-use Rattle.std.proofs.Common.{◌≡◌, ℕ, zero, suc, ◌+◌, ◌-◌, ◌<◌, ◌≤◌, Bool, eq-eqb, get_or, List, [], ◌∷◌, ◌++◌, length, Option, Some, None, pos, refl, sym, ap, ◌∙◌, arith}
+use Rattle.std.proofs.Common.{◌≡◌, ℕ, zero, suc, ◌+◌, ◌-◌, ◌<◌, ◌≤◌, Bool, eq-eqb, get_or, List, [], ◌∷◌, ◌++◌, length, Option, Some, None, refl, sym, ap, ◌∙◌, arith}
 use Rattle.std.specs.Prelude.{slice_get}
 use Rattle.std.proofs.lemmas.Option.{slice_get_read}
 use Rattle.job_base.specs.declared.JobId.{JobId}
@@ -10,7 +10,7 @@ use Rattle.frame_core.specs.declared.plan.JobPlan.{JobPlan}
 use Rattle.frame_core.specs.declared.plan.Plan.{Plan}
 use Rattle.frame_core.specs.declared.plan.Segment.{Segment}
 use Rattle.frame_core.specs.Effects.{touches, piece_cells}
-use Rattle.frame_core.specs.Graphs.{graph_of, piece_at, cells_at, before_piece, cells_after}
+use Rattle.frame_core.specs.Graphs.{graph_of, piece_at, cells_at, cells_at_first, before_piece, cells_after}
 use Rattle.frame_core.specs.Names.{is_job, job_at, job_pieces, pieces_of, segment_at, starts_in}
 use Rattle.frame_core.specs.Ordered.{IsCutIn, IsWellOrderedPlan}
 use Rattle.frame_core.specs.Pieces.{IsPieceOf, order_from, parts_of, place_of, script_order, segment_place, started, starter_of}
@@ -22,7 +22,7 @@ use Rattle.frame_core.proofs.Planned.{has_kernel}
 use Rattle.frame_core.proofs.Starting.{started_within}
 use Rattle.frame_core.proofs.Touching.{writes_read}
 use Rattle.frame_core.proofs.Within.{pieces_stay_within}
-use Rattle.plan_run.specs.ScriptOrder.{AllowsAll, IsJobOf, before_part}
+use Rattle.plan_run.specs.ScriptOrder.{AllowsAll, AreFresh, IsJobOf, before_part}
 use Rattle.plan_run.specs.Lines.{segment_cells}
 
 -- PLACES
@@ -46,10 +46,13 @@ place_end jobs n (s ∷ more) =
 
 -- CELLS
 
--- all are 0 before the first piece
-pub first_blank : (plan : Plan) (w : ℕ) → before_piece plan (OfScript 0) w ≡ pos 0
-unfolding before_piece place_of
-first_blank plan w = refl
+-- before the first piece they are those at first
+pub at_first : (plan : Plan) → before_piece plan (OfScript 0) ≡ cells_at_first plan
+unfolding before_piece place_of graph_of
+at_first plan = refl
+
+pub fresh_before : (plan : Plan) (cells : Cells) → AreFresh plan cells → cells ≡ before_piece plan (OfScript 0)
+fresh_before plan cells fresh = (λ i w. fresh w i) ∙ sym (at_first plan)
 
 module _ (plan : Plan) (well : IsWellOrderedPlan plan) where
   abbrev place : ℕ → ℕ

@@ -5,4 +5,4 @@ pub mod Tallies
 pub mod Segments
 pub mod Running
 mod InScriptOrder
-mod Beginning
+mod Filling

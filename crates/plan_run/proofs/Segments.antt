@@ -1,5 +1,5 @@
 -- A segment that is run on its cells.
-use Rattle.std.proofs.Common.{◌≡◌, ℕ, suc, ◌+◌, ◌<◌, Bool, true, false, cond, List, [], ◌∷◌, length, All, get_or, Some, IsTrue, refl, sym, ap, subst, ◌∙◌, arith, eqb-true, eq-eqb}
+use Rattle.std.proofs.Common.{◌≡◌, ℕ, suc, ◌+◌, ◌<◌, Bool, true, false, cond, List, [], ◌∷◌, length, All, get_or, Option, Some, None, IsTrue, refl, sym, ap, subst, ◌∙◌, arith, eqb-true, eq-eqb}
 use Rattle.std.specs.Prelude.{nat_eq}
 use Rattle.std.proofs.lemmas.Option.{slice_get_read}
 use Rattle.merge_laws.specs.Graph.{Cells}
@@ -13,16 +13,31 @@ use Rattle.frame_core.specs.Names.{job_pieces, segment_at, ops_in}
 use Rattle.frame_core.specs.Pieces.{piece_numbered}
 use Rattle.frame_core.specs.Touches.{has_word, reads_in, writes_in, ops_touch}
 use Rattle.frame_core.specs.Operations.{ops_cells, ops_refused}
-use Rattle.frame_core.specs.Effects.{touches, is_last, all_own_words}
+use Rattle.frame_core.specs.Effects.{touches, piece_cells, is_last, all_own_words}
+use Rattle.frame_core.specs.Graphs.{before_piece}
 use Rattle.frame_core.specs.Output.{ops_lines, segment_lines, segment_refused}
 use Rattle.frame_core.specs.Know.{reads, writes}
 use Rattle.frame_core.specs.Ordered.{IsWellOrderedPlan, OpFits, OpsStand}
 use Rattle.frame_core.specs.Rights.{MayReadIn, MayWriteIn}
 use Rattle.frame_core.proofs.Numbered.{of_script}
+use Rattle.frame_core.proofs.OwnWords.{traps_are_told}
 use Rattle.frame_core.proofs.Touching.{reads_append, writes_append, has_it}
-use Rattle.plan_run.specs.Lines.{segment_cells, MayReadOwn, RunsAlike}
+use Rattle.plan_run.specs.Lines.{segment_cells, MayReadOwn, TellAll}
 use Rattle.plan_run.specs.Says.{Said, Says}
 use Rattle.plan_run.proofs.InOps.{first_way, second_way}
+
+-- THE CELLS BEFORE IT
+
+module _ (plan : Plan) (well : IsWellOrderedPlan plan) (i : ℕ) where
+  stand_in : (o : Option Segment) → segment_at plan i ≡ o → OpsStand plan (ops_in o) (before_piece plan (OfScript i))
+  stand_in None e = tt
+  stand_in (Some s) e = well.stand.ops i s e
+
+  -- before the last segment the own words of pieces tell the traps
+  pub told : (cells : Cells) → cells ≡ before_piece plan (OfScript i) → suc i ≡ length plan.segments.items → TellAll plan cells
+  told cells e last = subst (TellAll plan) (sym e) (λ j h is. (traps_are_told plan well j h is).last i last)
+
+-- RIGHTS
 
 as_true : (b : Bool) → b ≡ true → IsTrue b
 as_true b e = e
@@ -71,12 +86,16 @@ module _ (plan : Plan) (well : IsWellOrderedPlan plan) (i : ℕ) (below : i < le
         subst (λ (f : ℕ → Bool). IsTrue (f w)) (sym e) (h w (writes_append (ops_touch (ops_in (segment_at plan i))) own w
         ∙ first_way _ (writes_in own w) there))
 
-    module _ (cells : Cells) (alike : RunsAlike plan i cells) where
+    module _ (cells : Cells) (is : cells ≡ before_piece plan (OfScript i)) where
+      as_before : {A : Type 0} (f : List Op → Cells → A) → f ops cells ≡ f (ops_in (segment_at plan i)) (before_piece plan (OfScript i))
+      as_before f = ap (f ops) is ∙ ap (λ (l : List Op). f l (before_piece plan (OfScript i))) (sym are)
+
       pub stands : OpsStand plan ops cells
-      stands = subst (λ (l : List Op). OpsStand plan l cells) are alike.stands
+      stands = subst (OpsStand plan ops) (sym is)
+          (subst (λ (l : List Op). OpsStand plan l (before_piece plan (OfScript i))) are (stand_in plan well i (segment_at plan i) refl))
 
       refused_same : ops_refused plan ops cells ≡ segment_refused plan i
-      refused_same = ap (λ (l : List Op). ops_refused plan l cells) (sym are) ∙ alike.refused
+      refused_same = as_before (ops_refused plan)
 
       pub few : (r limit : ℕ) → r + segment_refused plan i < limit → r + ops_refused plan ops cells < limit
       few r limit lt = let same = refused_same in omega (arith, same, lt)
@@ -85,10 +104,11 @@ module _ (plan : Plan) (well : IsWellOrderedPlan plan) (i : ℕ) (below : i < le
       refused_is r s e = let same = refused_same in omega (arith, same, e)
 
       pub text_is : (a b : Said) → Says a b (ops_lines plan ops cells) → Says a b (segment_lines plan i)
-      text_is a b p = subst (Says a b) (ap (λ (l : List Op). ops_lines plan l cells) (sym are) ∙ alike.lines) p
+      text_is a b p = subst (Says a b) (as_before (ops_lines plan)) p
 
       pub cells_are : (new : Cells) → new ≡ ops_cells plan ops cells → new ≡ segment_cells plan i
-      cells_are new e = e ∙ (ap (λ (l : List Op). ops_cells plan l cells) (sym are) ∙ alike.cells_are)
+      unfolding piece_cells
+      cells_are new e = e ∙ as_before (ops_cells plan)
 
   module _ (n : ℕ) (count : n ≡ length plan.segments.items) (last : nat_eq (i + 1) n ≡ true) where
     pub is_end : suc i ≡ length plan.segments.items

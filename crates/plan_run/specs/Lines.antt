@@ -1,5 +1,5 @@
 -- What the operations of a segment need of the cells, so that they can be run and printed.
-use Rattle.std.specs.Prelude.{◌≡◌, ℕ, suc, ◌≤◌, ◌<◌, length, Bool, IsTrue, if◌then◌else◌, List, [], Option}
+use Rattle.std.specs.Prelude.{ℕ, ◌≤◌, ◌<◌, Bool, IsTrue, if◌then◌else◌, List, [], Option}
 use Rattle.frame_ast.specs.Contents.{Contents}
 use Rattle.kernel_exec.specs.Layout.{Holds}
 use Rattle.merge_laws.specs.Graph.{Cells}
@@ -12,10 +12,8 @@ use Rattle.frame_core.specs.declared.plan.Act.{Act}
 use Rattle.frame_core.specs.declared.plan.Act.TheVariants.{Print}
 use Rattle.frame_core.specs.declared.plan.Op.{Op}
 use Rattle.frame_core.specs.declared.plan.Plan.{Plan}
-use Rattle.frame_core.specs.Names.{name_of, ops_in, segment_at}
-use Rattle.frame_core.specs.Operations.{ops_cells, ops_refused}
-use Rattle.frame_core.specs.Ordered.{OpsStand}
-use Rattle.frame_core.specs.Output.{answer_line, ops_lines, segment_lines, segment_refused}
+use Rattle.frame_core.specs.Names.{name_of}
+use Rattle.frame_core.specs.Output.{answer_line}
 use Rattle.frame_core.specs.Pieces.{own_word, IsPieceOf, piece_numbered}
 use Rattle.frame_core.specs.Effects.{part_run, piece_cells}
 use Rattle.frame_core.specs.Graphs.{before_piece}
@@ -54,11 +52,3 @@ said_line plan op cells answer = answer_line op.line (name_of plan op.name) op.a
 -- the cells after a segment
 abbrev pub segment_cells : Plan → ℕ → Cells
 segment_cells plan i = piece_cells plan (OfScript i) (before_piece plan (OfScript i))
-
--- The operations of a segment do and say on these cells what they do on those before it.
-pub record RunsAlike (plan : Plan) (i : ℕ) (cells : Cells) : Type 0 where
-  pub stands : OpsStand plan (ops_in (segment_at plan i)) cells
-  pub cells_are : ops_cells plan (ops_in (segment_at plan i)) cells ≡ segment_cells plan i
-  pub lines : ops_lines plan (ops_in (segment_at plan i)) cells ≡ segment_lines plan i
-  pub refused : ops_refused plan (ops_in (segment_at plan i)) cells ≡ segment_refused plan i
-  pub told : suc i ≡ length plan.segments.items → TellAll plan cells

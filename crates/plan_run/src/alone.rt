@@ -10,7 +10,7 @@ ghost use Rattle.plan_run.specs.Runs.{IsReport};
 ghost use Rattle.plan_run.specs.Says.{SaysTo};
 ghost use Rattle.plan_run.specs.ScriptOrder.{AllowsAll, AreFresh, IsJobOf, before_part};
 
-use crate::segment::run_alike;
+use crate::segment::run_segment;
 use crate::tally::{no_traps, with_refused};
 use frame_core::{Plan, Report};
 use frame_print::Outgoing;
@@ -79,7 +79,7 @@ pub fn run_alone<M: Mem, S: Sink>(
     let mut refused = 0u64;
     let mut last = no_traps();
     for i in 0..plan.segments.len() as u32 {
-        last = run_alike(plan, i, mem, out, sink, failed, &mut refused);
+        last = run_segment(plan, i, mem, out, sink, failed, &mut refused);
         run_started(plan, i, scratch, mem);
     }
     with_refused(&last, refused)

@@ -7,8 +7,8 @@
 //! **Lines wait.** They are put into one buffer of the run, which goes to the sink when it is full and where
 //! [`flush_lines`] is called. Whoever runs a plan flushes it before he waits, and at the end.
 //!
-//! **Cells.** A run alone begins on cells that are 0, but for those that the plan's first operation fills
-//! ([`fresh_cells`]). A section after a test fills the words so far, so it costs one pass over them.
+//! **Cells.** A run alone begins on the cells that the plan has at first, and on 0 behind them ([`fresh_cells`]). These
+//! are what the section before a test left, so a section after one costs one pass over the words.
 //!
 //! **Faults.** A mark that is handed on says whether a write failed. After that nothing is written, what waited is
 //! lost, and all pieces are run all the same: the report is that of the whole run. `specs/Says` says so of each step,

@@ -7,7 +7,7 @@ ghost use Rattle.frame_core.specs.Graphs.{before_piece};
 ghost use Rattle.frame_core.specs.Output.{plan_traps, segment_lines, segment_refused};
 ghost use Rattle.frame_core.specs.Ordered.{IsWellOrderedPlan};
 ghost use Rattle.frame_core.specs.Rights.{MayReadIn, MayWriteIn};
-ghost use Rattle.plan_run.specs.Lines.{segment_cells, MayReadOwn, RunsAlike, TellAll};
+ghost use Rattle.plan_run.specs.Lines.{segment_cells, MayReadOwn, TellAll};
 ghost use Rattle.plan_run.specs.Says.{SaysTo};
 
 use crate::lines::run_ops;
@@ -31,45 +31,6 @@ fn look<M: Mem>(plan: &Plan, last: bool, mem: &mut M) -> Report
     } else {
         no_traps()
     }
-}
-
-/// Runs a segment on cells on which its operations do and say what they do on those before it, and says its lines. At
-/// the last segment it answers the traps of the whole run.
-pub fn run_alike<M: Mem, S: Sink>(
-    plan: &Plan,
-    i: u32,
-    mem: &mut M,
-    out: &mut Outgoing,
-    sink: &mut S,
-    failed: &mut bool,
-    refused: &mut u64,
-) -> Report
-    requires well { IsWellOrderedPlan plan.now }
-    requires index { i < length plan.now.segments.items }
-    requires few { refused.old + segment_refused plan.now i < 2 ^ 64 }
-    requires alike { RunsAlike plan.now i (M.cells mem.old) }
-    requires readable { MayReadIn (touches plan.now (OfScript i)) (M.readable mem.old) }
-    requires writable { MayWriteIn (touches plan.now (OfScript i)) (M.writable mem.old) }
-    ensures cells { M.cells mem.new ≡ segment_cells plan.now i }
-    ensures text { SaysTo S.taken S.faults sink.old out.old failed.old sink.new out.new failed.new
-        (segment_lines plan.now i) }
-    ensures later { S.faults sink.old ≤ S.faults sink.new }
-    ensures refused { refused.new ≡ refused.old + segment_refused plan.now i }
-    ensures traps { i + 1 ≡ length plan.now.segments.items → IsReportOf (plan_traps plan.now) result }
-    ensures readable { M.readable mem.new ≡ M.readable mem.old }
-    ensures writable { M.writable mem.new ≡ M.writable mem.old }
-{
-    let traps = look(plan, i as usize + 1 == plan.segments.len(), mem);
-    run_ops(
-        plan,
-        &plan.segments[i as usize].ops,
-        mem,
-        out,
-        sink,
-        failed,
-        refused,
-    );
-    traps
 }
 
 /// Runs a segment where the memory has the cells before it, and says its lines. At the last segment it answers the
@@ -98,5 +59,15 @@ pub fn run_segment<M: Mem, S: Sink>(
     ensures readable { M.readable mem.new ≡ M.readable mem.old }
     ensures writable { M.writable mem.new ≡ M.writable mem.old }
 {
-    run_alike(plan, i, mem, out, sink, failed, refused)
+    let traps = look(plan, i as usize + 1 == plan.segments.len(), mem);
+    run_ops(
+        plan,
+        &plan.segments[i as usize].ops,
+        mem,
+        out,
+        sink,
+        failed,
+        refused,
+    );
+    traps
 }

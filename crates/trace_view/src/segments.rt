@@ -30,24 +30,12 @@ fn lines_between(first: u32, last: u32) -> Lines {
     }
 }
 
-// The line of the first operation of a statement. What a section takes over from the last one has no line.
 fn first_line(ops: &[Op]) -> Option<u32> {
-    for op in ops {
-        if op.line > 0 {
-            return Some(op.line);
-        }
-    }
-    None
+    Some(ops.first()?.line)
 }
 
 fn last_line(ops: &[Op]) -> Option<u32> {
-    let mut last = None;
-    for op in ops {
-        if op.line > 0 {
-            last = Some(op.line);
-        }
-    }
-    last
+    Some(ops.last()?.line)
 }
 
 // The lines of the first and of the last statement of a segment that left something to do.

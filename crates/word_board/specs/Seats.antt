@@ -1,16 +1,20 @@
 -- What the fields of boards and seats say of one another.
 use Rattle.std.specs.Prelude.{◌≡◌, ℕ, suc, ◌+◌, ◌-◌, ◌<◌, true, List, length, slice_index, Some}
+use Rattle.std.specs.Int.{cast_signed}
+use mir.Syntax.{w64}
 use Rattle.atomic_table.specs.Seated.{TableId}
 use Rattle.atomic_table.specs.declared.shared.Seat.{Seat}
+use Rattle.merge_laws.specs.Countdowns.{closed_state}
 use Rattle.frame_core.specs.declared.piece.Piece.{Piece}
 use Rattle.frame_core.specs.declared.piece.Piece.TheVariants.{OfScript, OfJob}
 use Rattle.frame_core.specs.declared.plan.Plan.{Plan}
 use Rattle.frame_core.specs.Names.{job_pieces, pieces_before, deps_in, job_at}
 use Rattle.frame_core.specs.Pieces.{piece_numbered}
+use Rattle.frame_core.specs.Graphs.{cells_at_first}
 use Rattle.frame_core.specs.Know.{piece_count, reads}
 use Rattle.word_board.specs.declared.view.Held.{Held}
 use Rattle.word_board.specs.declared.view.View.{View}
-use Rattle.word_board.specs.Words.{rest_base, wait_base, word_count}
+use Rattle.word_board.specs.Words.{cell_word, state_word, rest_base, wait_base, word_count}
 
 -- SEATS
 
@@ -46,10 +50,13 @@ ReadsWithin plan = (p w : ℕ) → reads plan p w ≡ true → w < plan.words
 abbrev pub AreJobNumbers : Plan → List ℕ → Type 0
 AreJobNumbers plan jobs = (p : ℕ) → p < job_pieces plan → slice_index jobs p ≡ job_number (piece_numbered plan p)
 
--- New words: all are 0 but `rest` and `wait`.
+-- New words: the cells are the first of the plan, all pieces are closed, and nothing is counted or released.
 pub record AreNew (plan : Plan) (words : List ℕ) : Type 0 where
   pub size : length words ≡ word_count plan
-  pub zeros : (i : ℕ) → i < rest_base plan → slice_index words i ≡ 0
+  -- the word that a split loads
+  pub split : slice_index words 0 ≡ 0
+  pub cells : (w : ℕ) → w < plan.words → cast_signed w64 (slice_index words (cell_word w)) ≡ cells_at_first plan w
+  pub states : (p : ℕ) → p < piece_count plan → slice_index words (state_word plan p) ≡ closed_state
   -- the pieces of each job
   pub rests : (j : ℕ) → j < length plan.jobs.items
       → slice_index words (rest_base plan + j) ≡ pieces_before plan.jobs.items (suc j) - pieces_before plan.jobs.items j

@@ -1,16 +1,15 @@
-use Rattle.std.proofs.Common.{◌≡◌, ◌+◌, ◌<◌, ◌∙◌, length, refl, arith}
+use Rattle.std.proofs.Common.{◌≡◌, ◌<◌, ◌∙◌, length, refl, arith}
 use Rattle.frame_core.specs.declared.piece.Piece.TheVariants.{OfScript}
-use Rattle.plan_run.proofs.Beginning.{alike_before, alike_fresh}
-use Rattle.plan_run.proofs.InScriptOrder.{ends, may_read, may_write}
+use Rattle.plan_run.proofs.InScriptOrder.{ends, fresh_before, may_read, may_write}
 use Rattle.plan_run.proofs.Saying.{says_none}
 use Rattle.plan_run.proofs.Running.{lines_next, refused_next, refused_few, all_lines, all_reported}
 use Rattle.plan_run.proofs.alone.run_alone.Goals as goal
 
-pub run_alike-last-requires-clause-few : goal.run_alike-last-requires-clause-few
-run_alike-last-requires-clause-few g c = refused_few c.args.plan.now c.loop-i.i c.loop-i.refused c.requires.well c.loop-i.invariant.refused
+pub run_segment-last-requires-clause-few : goal.run_segment-last-requires-clause-few
+run_segment-last-requires-clause-few g c = refused_few c.args.plan.now c.loop-i.i c.loop-i.refused c.requires.well c.loop-i.invariant.refused
 
-pub run_alike-last-requires-clause-readable : goal.run_alike-last-requires-clause-readable
-run_alike-last-requires-clause-readable g c =
+pub run_segment-last-requires-clause-readable : goal.run_segment-last-requires-clause-readable
+run_segment-last-requires-clause-readable g c =
     let n = c.len-i-end.ensures in
     let t = c.loop-i-test.true in
     let u = c.loop-i.auto.i-end in
@@ -18,8 +17,8 @@ run_alike-last-requires-clause-readable g c =
     may_read c.args.plan.now c.requires.well (g.M.Mem.readable c.args.mem.now) (g.M.Mem.readable c.loop-i.mem) c.requires.readable c.loop-i.invariant.readable
     (OfScript c.loop-i.i) lt
 
-pub run_alike-last-requires-clause-writable : goal.run_alike-last-requires-clause-writable
-run_alike-last-requires-clause-writable g c =
+pub run_segment-last-requires-clause-writable : goal.run_segment-last-requires-clause-writable
+run_segment-last-requires-clause-writable g c =
     let n = c.len-i-end.ensures in
     let t = c.loop-i-test.true in
     let u = c.loop-i.auto.i-end in
@@ -27,17 +26,9 @@ run_alike-last-requires-clause-writable g c =
     may_write c.args.plan.now c.requires.well (g.M.Mem.writable c.args.mem.now) (g.M.Mem.writable c.loop-i.mem) c.requires.writable c.loop-i.invariant.writable
     (OfScript c.loop-i.i) lt
 
-pub run_alike-last-requires-clause-alike : goal.run_alike-last-requires-clause-alike
-run_alike-last-requires-clause-alike g c =
-    let n = c.len-i-end.ensures in
-    let t = c.loop-i-test.true in
-    let u = c.loop-i.auto.i-end in
-    c.loop-i.invariant.alike (omega (arith, n, t, u))
-
 pub loop-i-init : goal.loop-i-init
 loop-i-init g c = record {
-  alike = λ some. alike_fresh c.args.plan.now c.requires.well (g.M.Mem.cells c.args.mem.now) c.requires.fresh;
-  after = λ p e. absurd (omega (arith, p));
+  cells = fresh_before c.args.plan.now (g.M.Mem.cells c.args.mem.now) c.requires.fresh;
   readable = refl;
   writable = refl;
   says = says_none _;
@@ -48,17 +39,16 @@ loop-i-init g c = record {
 
 pub loop-i-preserved : goal.loop-i-preserved
 loop-i-preserved g c =
-    let i = c.run_alike-last.ensures in
+    let i = c.run_segment-last.ensures in
     let r = c.run_started.ensures in
     let v = c.loop-i.invariant in
     record {
-      alike = λ some. alike_before c.args.plan.now c.requires.well (c.loop-i.i + 1) (g.M.Mem.cells c.run_started.new.mem) r.cells;
-      after = λ p e. ends c.args.plan.now c.requires.well (c.loop-i.i + 1) (g.M.Mem.cells c.run_started.new.mem) e r.cells;
+      cells = r.cells;
       readable = r.readable ∙ (i.readable ∙ v.readable);
       writable = r.writable ∙ (i.writable ∙ v.writable);
       says = lines_next c.args.plan.now _ _ _ c.loop-i.i v.says i.text;
       later = let a = v.later in let b = i.later in omega (arith, a, b);
-      refused = refused_next c.args.plan.now c.loop-i.i c.loop-i.refused c.run_alike-last.new.refused v.refused i.refused;
+      refused = refused_next c.args.plan.now c.loop-i.i c.loop-i.refused c.run_segment-last.new.refused v.refused i.refused;
       traps = λ p e. i.traps e;
     }
 
@@ -67,10 +57,8 @@ returns-clause-cells g c =
     let n = c.len-i-end.ensures in
     let t = c.loop-i-test.false in
     let u = c.loop-i.auto.i-end in
-    let last = c.requires.well.order.last_is in
     let at : c.loop-i.i ≡ length c.args.plan.now.segments.items = omega (arith, n, t, u) in
-    let some : 0 < c.loop-i.i = omega (arith, at, last) in
-    c.loop-i.invariant.after some at
+    ends c.args.plan.now c.requires.well c.loop-i.i (g.M.Mem.cells c.loop-i.mem) at c.loop-i.invariant.cells
 
 pub returns-clause-text : goal.returns-clause-text
 returns-clause-text g c =

@@ -1,7 +1,7 @@
 use Rattle.std.proofs.Common.{◌≡◌, ◌-◌, ◌<◌, ◌∙◌, arith}
 use Rattle.frame_core.specs.declared.piece.Piece.TheVariants.{OfJob}
 use Rattle.frame_core.specs.Names.{pieces_of}
-use Rattle.plan_run.proofs.InScriptOrder.{cut_is, end_within, number_is, there, may_read, may_write, part_step, parts_end}
+use Rattle.plan_run.proofs.InScriptOrder.{cut_is, number_is, there, may_read, may_write, part_step, parts_end}
 use Rattle.plan_run.proofs.alone.run_parts.Goals as goal
 
 pub pieces-i-end-requires : goal.pieces-i-end-requires

@@ -1,4 +1,4 @@
-use Rattle.std.proofs.Common.{◌+◌, ◌*◌, refl}
+use Rattle.std.proofs.Common.{◌+◌, refl}
 use Rattle.plan_run.proofs.Tallies.{told_piece}
 use Rattle.plan_run.proofs.tally.read_piece.Goals as goal
 

@@ -16,7 +16,13 @@ loop-j-init c =
     let jobs : c.len-2.result ≡ length c.args.plan.now.jobs.items = search rules in
     let jobs' : c.len-3.result ≡ length c.args.plan.now.jobs.items = search rules in
     let parts = c.requires.parts in
-    record { laid = laid_none c.args.plan.now c.in_ok-words.words.items _ (c.in_ok-words.ensures.items_if_clones_equal (λ y h. h)) (omega arith) }
+    let few = c.requires.well.sized.first in
+    let all = c.requires.well.sized.words_are in
+    let e = c.in_ok-words.ensures in
+    record {
+      laid = laid_none c.args.plan.now c.in_ok-words.words.items c.deref.result.now c.deref.ensures.value (omega arith) (e.size ∙ omega arith) e.split
+          e.cells e.others;
+    }
 
 pub overflow_sub-end_of : goal.overflow_sub-end_of
 overflow_sub-end_of c =

@@ -5,7 +5,7 @@ use Rattle.word_board.specs.Seats.{ReadsWithin}
 use Rattle.word_board.specs.Rule.{Holds}
 use Rattle.word_board.specs.Views.{opening_view}
 use Rattle.word_board.proofs.Starting.{new_words_are_ruled}
-use Rattle.word_board.proofs.board.WordBoard.make.Goals as goal
+use Rattle.word_board.proofs.board.WordBoard.make_in.Goals as goal
 
 pub of_words-requires : goal.of_words-requires
 of_words-requires c = subst (λ (ws : List ℕ). Holds c.args.plan.now (opening {S = ℕ} ws [] (opening_view c.args.plan.now))) (sym c.as_slice.ensures.value)
