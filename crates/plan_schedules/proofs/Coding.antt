@@ -8,7 +8,7 @@ use Rattle.kernel_bytecode.specs.Codes.{IsCodeOf}
 use Rattle.frame_core.specs.Ordered.{AreCodesOf}
 use Rattle.frame_core.proofs.Small.{some_is, none_some, get_before, get_behind, get_either}
 use Rattle.plan_state.specs.declared.state.Draft.{Draft}
-use Rattle.plan_schedules.specs.Starting.{IsAdded}
+use Rattle.plan_state.specs.Copies.{IsAdded}
 
 coded_push : (ks : List Kernel) (cs : List Code) (k : Kernel) (c : Code) → AreCodesOf ks cs → IsCodeOf k c → AreCodesOf (ks ++ k ∷ []) (cs ++ c ∷ [])
 coded_push ks cs k c are is = record {

@@ -15,26 +15,17 @@ use Rattle.tree_laws.proofs.Checks.{same_kernels_are_checked}
 use Rattle.plan_state.specs.declared.state.Draft.{Draft}
 use Rattle.plan_state.specs.declared.state.Planner.{Planner}
 use Rattle.plan_state.specs.Stands.{AreKernels, IsCopy}
-use Rattle.plan_schedules.specs.Starting.{IsCopied, IsCopiedAnew}
+use Rattle.plan_state.specs.Copies.{IsCopied, IsCopiedAnew}
 use Rattle.plan_state.proofs.Naming.{set_either, set_long}
 use Rattle.plan_schedules.proofs.Coding.{coded_added}
 
--- nothing but the copies and their places changes
-pub moved : (script : Script) (p middle : Planner) (kernel place : ℕ) → IsCopied script p middle kernel place
-    → middle ≡ record p { kernels = middle.kernels; draft = record p.draft { kernels = middle.draft.kernels; codes = middle.draft.codes } }
-moved script p middle kernel place copied = ⊎_elim
-    (λ l. l.1
-    ∙ ap (λ (m : Planner). record p { kernels = m.kernels; draft = record p.draft { kernels = m.draft.kernels; codes = m.draft.codes } }) (sym l.1))
-    (λ r. r.rest ∙ ap (λ (d : Draft). record p { kernels = middle.kernels; draft = d }) r.added.rest)
-    copied
-
-module _ (script : Script) (g : Setting) (is_g : g.kernels ≡ script.kernels.items) (p middle : Planner) (kernel place : ℕ) (ks : AreKernels p g)
-    (copied : IsCopied script p middle kernel place)
+module _ (script : Script) (g : Setting) (is_g : g.kernels ≡ script.kernels.items) (p : Planner) (middle : Draft) (kernel place : ℕ)
+    (ks : AreKernels p g) (copied : IsCopied script p.draft middle kernel place)
     (source : Kernel) (has_source : slice_get script.kernels.items kernel ≡ Some source) (checked : IsChecked source) where
   -- the copies so far keep their places
-  grown : (k : ℕ) (it : Kernel) → slice_get p.draft.kernels.items k ≡ Some it → slice_get middle.draft.kernels.items k ≡ Some it
+  grown : (k : ℕ) (it : Kernel) → slice_get p.draft.kernels.items k ≡ Some it → slice_get middle.kernels.items k ≡ Some it
   grown k it h = ⊎_elim
-      (λ l. ap (λ (m : Planner). slice_get m.draft.kernels.items k) l.1 ∙ h)
+      (λ l. ap (λ (m : Draft). slice_get m.kernels.items k) l.1 ∙ h)
       (λ r.
       ap (λ xs. slice_get xs k) r.added.kernels
       ∙ get_before p.draft.kernels.items (r.copy ∷ []) k (get_below p.draft.kernels.items k it h) ∙ h)
@@ -42,7 +33,7 @@ module _ (script : Script) (g : Setting) (is_g : g.kernels ≡ script.kernels.it
 
   pub record HasCopy : Type 0 where
     pub copy : Kernel
-    pub here : slice_get middle.draft.kernels.items place ≡ Some copy
+    pub here : slice_get middle.kernels.items place ≡ Some copy
     pub same : SameKernel source copy
 
   pub has_copy : HasCopy
@@ -65,20 +56,20 @@ module _ (script : Script) (g : Setting) (is_g : g.kernels ≡ script.kernels.it
       })
       copied
 
-  pub copies_few : length middle.draft.kernels.items ≤ suc (length p.draft.kernels.items)
+  pub copies_few : length middle.kernels.items ≤ suc (length p.draft.kernels.items)
   copies_few = ⊎_elim
-      (λ l. let e : length middle.draft.kernels.items ≡ length p.draft.kernels.items = ap (λ (m : Planner). length m.draft.kernels.items) l.1 in omega arith)
+      (λ l. let e : length middle.kernels.items ≡ length p.draft.kernels.items = ap (λ (m : Draft). length m.kernels.items) l.1 in omega arith)
       (λ r.
-      let e : length middle.draft.kernels.items ≡ length p.draft.kernels.items + 1 = ap length r.added.kernels
+      let e : length middle.kernels.items ≡ length p.draft.kernels.items + 1 = ap length r.added.kernels
       ∙ length-append p.draft.kernels.items (r.copy ∷ []) in
       omega arith)
       copied
 
   -- what a whole plan has after them, it has after those so far
-  pub kernels_later : (all : List Kernel) → (rest : List Kernel) × (all ≡ middle.draft.kernels.items ++ rest)
+  pub kernels_later : (all : List Kernel) → (rest : List Kernel) × (all ≡ middle.kernels.items ++ rest)
       → (rest : List Kernel) × (all ≡ p.draft.kernels.items ++ rest)
   kernels_later all r = ⊎_elim
-      (λ l. (r.0, r.1 ∙ ap (λ (m : Planner). m.draft.kernels.items ++ r.0) l.1))
+      (λ l. (r.0, r.1 ∙ ap (λ (m : Draft). m.kernels.items ++ r.0) l.1))
       (λ a. (
         a.copy ∷ r.0,
         r.1 ∙ ap (λ xs. xs ++ r.0) a.added.kernels ∙ append_assoc p.draft.kernels.items (a.copy ∷ []) r.0,
@@ -86,8 +77,8 @@ module _ (script : Script) (g : Setting) (is_g : g.kernels ≡ script.kernels.it
       copied
 
   -- of a planner that has them
-  pub kernels_stand : (q : Planner) → q.kernels ≡ middle.kernels → q.draft.kernels ≡ middle.draft.kernels → q.draft.codes ≡ middle.draft.codes
-      → q.guards ≡ p.guards
+  pub kernels_stand : (q : Planner) → q.draft.copies_of ≡ middle.copies_of → q.draft.kernels ≡ middle.kernels → q.draft.codes ≡ middle.codes
+      → q.draft.guards_of ≡ p.draft.guards_of
       → AreKernels q g
   kernels_stand q kernels copies codes guards = record {
     each = ap (λ (v : Vec (Option ℕ) Global). length v.items) kernels ∙ long ∙ ks.each;
@@ -107,19 +98,19 @@ module _ (script : Script) (g : Setting) (is_g : g.kernels ≡ script.kernels.it
         };
     checked = λ at k h. all_checked at k (ap (λ (v : Vec Kernel Global). slice_get v.items at) (sym copies) ∙ h);
     coded = subst (λ (v : Vec Kernel Global). AreCodesOf v.items q.draft.codes.items) (sym copies)
-        (subst (λ (v : Vec Code Global). AreCodesOf middle.draft.kernels.items v.items) (sym codes) all_coded);
+        (subst (λ (v : Vec Code Global). AreCodesOf middle.kernels.items v.items) (sym codes) all_coded);
   }
     where
-      there : (at : ℕ) (it : Kernel) → slice_get middle.draft.kernels.items at ≡ Some it → slice_get q.draft.kernels.items at ≡ Some it
+      there : (at : ℕ) (it : Kernel) → slice_get middle.kernels.items at ≡ Some it → slice_get q.draft.kernels.items at ≡ Some it
       there at it h = ap (λ (v : Vec Kernel Global). slice_get v.items at) copies ∙ h
 
-      long : length middle.kernels.items ≡ length p.kernels.items
+      long : length middle.copies_of.items ≡ length p.draft.copies_of.items
       long = ⊎_elim
-          (λ l. ap (λ (m : Planner). length m.kernels.items) l.1)
-          (λ r. ap length r.kernels ∙ set_long p.kernels.items kernel (Some place))
+          (λ l. ap (λ (m : Draft). length m.copies_of.items) l.1)
+          (λ r. ap length r.places ∙ set_long p.draft.copies_of.items kernel (Some place))
           copied
 
-      old_copy : (k at : ℕ) → slice_get p.kernels.items k ≡ Some (Some at) → IsCopy q g k at
+      old_copy : (k at : ℕ) → slice_get p.draft.copies_of.items k ≡ Some (Some at) → IsCopy q g k at
       old_copy k at h = (let c = ks.copies k at h in record {
         old = c.old;
         new = c.new;
@@ -137,31 +128,31 @@ module _ (script : Script) (g : Setting) (is_g : g.kernels ≡ script.kernels.it
         same = c.same;
       })
 
-      copy_at : (k at : ℕ) → slice_get middle.kernels.items k ≡ Some (Some at) → IsCopy q g k at
+      copy_at : (k at : ℕ) → slice_get middle.copies_of.items k ≡ Some (Some at) → IsCopy q g k at
       copy_at k at h = ⊎_elim
-          (λ l. old_copy k at (ap (λ (m : Planner). slice_get m.kernels.items k) (sym l.1) ∙ h))
+          (λ l. old_copy k at (ap (λ (m : Draft). slice_get m.copies_of.items k) (sym l.1) ∙ h))
           (λ r. ⊎_elim
           (λ e. subst (λ k. IsCopy q g k at) (sym e.0) (subst (λ at. IsCopy q g kernel at) (sym (some_is e.1)) new_copy))
           (λ e. old_copy k at e.1)
-          (set_either p.kernels.items kernel (Some place) k (Some at) (ap (λ xs. slice_get xs k) (sym r.kernels) ∙ h)))
+          (set_either p.draft.copies_of.items kernel (Some place) k (Some at) (ap (λ xs. slice_get xs k) (sym r.places) ∙ h)))
           copied
 
-      all_coded : AreCodesOf middle.draft.kernels.items middle.draft.codes.items
+      all_coded : AreCodesOf middle.kernels.items middle.codes.items
       all_coded = ⊎_elim
-          (λ l. subst (λ (m : Planner). AreCodesOf m.draft.kernels.items m.draft.codes.items) (sym l.1) ks.coded)
-          (λ r. coded_added p.draft middle.draft r.copy place r.added ks.coded)
+          (λ l. subst (λ (m : Draft). AreCodesOf m.kernels.items m.codes.items) (sym l.1) ks.coded)
+          (λ r. coded_added p.draft (record middle { copies_of = p.draft.copies_of }) r.copy place r.added ks.coded)
           copied
 
-      all_checked : (at : ℕ) (k : Kernel) → slice_get middle.draft.kernels.items at ≡ Some k → IsChecked k
+      all_checked : (at : ℕ) (k : Kernel) → slice_get middle.kernels.items at ≡ Some k → IsChecked k
       all_checked at k h = ⊎_elim
-          (λ l. ks.checked at k (ap (λ (m : Planner). slice_get m.draft.kernels.items at) (sym l.1) ∙ h))
+          (λ l. ks.checked at k (ap (λ (m : Draft). slice_get m.kernels.items at) (sym l.1) ∙ h))
           (λ r. ⊎_elim
           (λ e. ks.checked at k e.1)
           (λ e. last r e.0 e.2)
           (get_either p.draft.kernels.items (r.copy ∷ []) at k (ap (λ xs. slice_get xs at) (sym r.added.kernels) ∙ h)))
           copied
         where
-          last : (r : IsCopiedAnew script p middle kernel place) (i : ℕ) → slice_get (r.copy ∷ []) i ≡ Some k → IsChecked k
+          last : (r : IsCopiedAnew script p.draft middle kernel place) (i : ℕ) → slice_get (r.copy ∷ []) i ≡ Some k → IsChecked k
           last r zero e = subst IsChecked (some_is e) (same_kernels_are_checked source r.copy
               (subst (λ (k : Kernel). SameKernel k r.copy) (some_is (sym r.is_source ∙ has_source)) r.same) checked)
           last r (suc i) e = absurd (none_some e)

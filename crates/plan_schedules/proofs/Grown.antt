@@ -59,6 +59,7 @@ module _ (p : Planner) (script : Script) (table : Table) (begun : ScriptState) (
         names = a.names;
         kernels = a.kernels;
         literals = a.literals;
+        first = a.first;
         jobs = a.jobs;
         starts = h;
         cells = a.cells;

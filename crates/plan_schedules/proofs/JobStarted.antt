@@ -32,7 +32,6 @@ use Rattle.kernel_exec.specs.declared.binds.Bind.{Bind}
 use Rattle.safety_handle.specs.Entries.{SlotState, state_of}
 use Rattle.safety_handle.specs.Uses.{Latest, StandForUses}
 use Rattle.frame_core.specs.declared.plan.JobPlan.{JobPlan}
-use Rattle.frame_core.specs.Names.{pieces_of}
 use Rattle.frame_core.proofs.Small.{not_both, get_below, get_before}
 use Rattle.plan_laws.specs.Accepting.{Schedule, uses_of, deps_of, accepted, IsAcceptedSchedule, IsPlannedJob}
 use Rattle.plan_laws.specs.Binds.{binds_by}
@@ -51,9 +50,10 @@ use Rattle.plan_schedules.specs.declared.uses.NamedUse.{NamedUse}
 use Rattle.plan_state.specs.Growth.{StartAs, IsCopyFor, IsJobOf, length_binds, numbers_of, is_none}
 use Rattle.plan_schedules.specs.Noting.{MayNoteAll, noted_all}
 use Rattle.plan_state.specs.Stands.{AreKernels, AreNames, Agrees, Stands, draft_of}
-use Rattle.plan_schedules.specs.Starting.{IsCutBy, IsScheduled}
+use Rattle.plan_schedules.specs.Starting.{IsCutBy}
 use Rattle.plan_state.specs.Steps.{state_at, state_after, IsStep, StandsAt, HasStepped}
 use Rattle.plan_schedules.proofs.Choosing.{AreAlive}
+use Rattle.plan_schedules.proofs.Taken.{IsScheduled}
 use Rattle.plan_schedules.proofs.Meaning.{AreMeant}
 use Rattle.plan_state.proofs.Naming.{IsNamed, handle_names, handles_more, set_long}
 use Rattle.plan_schedules.proofs.Jobs as newly
@@ -72,7 +72,7 @@ pub record HasPlace (p : Planner) (g : Setting) (kernels guards : Vec (Option �
   pub few : length copies.items ≤ suc (length p.draft.kernels.items)
   -- what a whole plan has after them, it has after those so far
   pub later : (all : List Kernel) → (rest : List Kernel) × (all ≡ copies.items ++ rest) → (rest : List Kernel) × (all ≡ p.draft.kernels.items ++ rest)
-  pub stand : (q : Planner) → q.kernels ≡ kernels → q.guards ≡ guards → q.draft.kernels ≡ copies → q.draft.codes ≡ codes → AreKernels q g
+  pub stand : (q : Planner) → q.draft.copies_of ≡ kernels → q.draft.guards_of ≡ guards → q.draft.kernels ≡ copies → q.draft.codes ≡ codes → AreKernels q g
 
 module _ (script : Script) (table : Table) (begun : ScriptState) (n : ℕ) (found : List ℕ) (line : ℕ) (home : Box NewJob Global) (asked : NewJob) where
   abbrev g : Setting
@@ -179,45 +179,18 @@ module _ (script : Script) (table : Table) (begun : ScriptState) (n : ℕ) (foun
 
       module _ (kernels guards : Vec (Option ℕ) Global) (copies : Vec Kernel Global) (codes : Vec Code Global) (kernel : Kernel) (run : Run)
           (place : HasPlace p g kernels guards copies codes run.kernel kernel) (q : Planner) (deps : Jobs) (deps_is : deps ≡ waited)
-          (d : IsScheduled (record p { kernels = kernels; guards = guards; draft = record p.draft { kernels = copies; codes = codes } }) q asked.handle run
-          us deps) where
-        ended_of : d.ended ≡ record p {
-          world = record p.world {
-            jobs = d.after.world.jobs;
-            safety = d.after.world.safety;
-          };
-          kernels = kernels;
-          guards = guards;
-          draft = record p.draft {
-            kernels = copies;
-            codes = codes;
-            segments = d.ended.draft.segments;
-            jobs = d.ended.draft.jobs;
-            waits = d.ended.draft.waits;
-            ops = d.ended.draft.ops;
-            pieces = d.ended.draft.pieces;
-          };
-        }
-        ended_of =
-            d.started.rest
-            ∙ ap (λ (k : Planner). record k {
-              draft = record k.draft {
-                segments = d.ended.draft.segments;
-                jobs = d.ended.draft.jobs;
-                waits = d.ended.draft.waits;
-                ops = d.ended.draft.ops;
-                pieces = d.ended.draft.pieces;
-              };
-            }) d.rest
-
+          (d : IsScheduled (record p { draft = record p.draft { kernels = copies; codes = codes; copies_of = kernels; guards_of = guards } }) q asked.handle
+          run us deps) where
         abbrev pub as_q : Planner
-        as_q = newly.q p g begun n s found st q.world.values q.world.handles d.after.world.jobs d.after.world.safety kernels guards copies codes
-            d.ended.draft.segments d.ended.draft.jobs d.ended.draft.waits d.ended.draft.ops d.ended.draft.pieces
+        as_q = newly.q p g begun n s found st q.world.values q.world.handles d.books.after.jobs d.books.after.safety kernels guards copies codes
+            q.draft.segments q.draft.jobs q.draft.waits q.draft.ops q.draft.pieces
             t.values t.contents t.view t.uses waited t.traps
 
+        world_is : q.world ≡ as_q.world
+        world_is = d.books.named.rest ∙ ap (λ (k : World). record k { values = q.world.values; handles = q.world.handles }) d.books.rest
+
         q_is : q ≡ as_q
-        q_is = d.at_last ∙ ap (λ (k : World). record d.ended { world = k }) d.named.rest
-            ∙ ap (λ (k : Planner). record k { world = record k.world { values = q.world.values; handles = q.world.handles } }) ended_of
+        q_is = λ i. record { world = world_is i; draft = d.started.rest i }
 
         known : IsKnown as_t
         known = subst IsKnown (after_is ∙ t_is) (known_after script table n x step)
@@ -227,14 +200,14 @@ module _ (script : Script) (table : Table) (begun : ScriptState) (n : ℕ) (foun
 
         -- names
 
-        values_were : d.ended.world.values ≡ p.world.values
-        values_were = ap (λ (k : Planner). k.world.values) ended_of
+        values_were : d.books.after.values ≡ p.world.values
+        values_were = ap (λ (k : World). k.values) d.books.rest
 
-        handles_were : d.ended.world.handles ≡ p.world.handles
-        handles_were = ap (λ (k : Planner). k.world.handles) ended_of
+        handles_were : d.books.after.handles ≡ p.world.handles
+        handles_were = ap (λ (k : World). k.handles) d.books.rest
 
-        was : AreNames d.ended.world.values.items d.ended.world.handles.items (length p.world.containers.items) s
-        was = subst (λ (v : Vec Value Global). AreNames v.items d.ended.world.handles.items (length p.world.containers.items) s) (sym values_were)
+        was : AreNames d.books.after.values.items d.books.after.handles.items (length p.world.containers.items) s
+        was = subst (λ (v : Vec Value Global). AreNames v.items d.books.after.handles.items (length p.world.containers.items) s) (sym values_were)
             (subst (λ (v : Vec Handle Global). AreNames p.world.values.items v.items (length p.world.containers.items) s) (sym handles_were) st.knows.names)
 
         names_now : IsNamed s as_t asked.handle (states.Handle (only (count_of p.world.jobs + 1)))
@@ -253,11 +226,11 @@ module _ (script : Script) (table : Table) (begun : ScriptState) (n : ℕ) (foun
         number_is : count_of p.world.jobs + 1 ≡ job_number
         number_is = let e = count_is in omega arith
 
-        safety_is : (k : ℕ) → state_of d.after.world.safety k ≡ noted_all job_number us (state_of p.world.safety) k
-        safety_is k = d.safety k ∙ ap (λ j. noted_all j us (state_of p.world.safety) k) number_is
+        safety_is : (k : ℕ) → state_of d.books.after.safety k ≡ noted_all job_number us (state_of p.world.safety) k
+        safety_is k = d.books.safety k ∙ ap (λ j. noted_all j us (state_of p.world.safety) k) number_is
 
         slot_is : (c : ℕ) (it : Container) → slice_get p.world.containers.items c ≡ Some it → s.alive c ≡ true
-            → state_of d.after.world.safety it.slot.0 ≡ folded job_number c gs (state_of p.world.safety it.slot.0)
+            → state_of d.books.after.safety it.slot.0 ≡ folded job_number c gs (state_of p.world.safety it.slot.0)
         slot_is c it has is_alive = safety_is it.slot.0 ∙ noted_folded p s found named st.knows.containers job_number us gs noted.meant noted.alive c it has
             is_alive
             (state_of p.world.safety)
@@ -269,16 +242,16 @@ module _ (script : Script) (table : Table) (begun : ScriptState) (n : ℕ) (foun
             ∙ sym (ap (λ (u : ScriptState). u.uses) (accepted_is g s o))
 
         stand : (c : ℕ) (it : Container) → slice_get p.world.containers.items c ≡ Some it → s.alive c ≡ true
-            → StandForUses (with_job s.book waited) (state_of d.after.world.safety it.slot.0).latest (t.uses c)
+            → StandForUses (with_job s.book waited) (state_of d.books.after.safety it.slot.0).latest (t.uses c)
         stand c it has is_alive =
-            subst (λ (us : ℕ → Uses). StandForUses (with_job s.book waited) (state_of d.after.world.safety it.slot.0).latest (us c)) uses_are
+            subst (λ (us : ℕ → Uses). StandForUses (with_job s.book waited) (state_of d.books.after.safety it.slot.0).latest (us c)) uses_are
             (subst (λ (z : SlotState). StandForUses (with_job s.book waited) z.latest (with_uses s.uses job_number (needs gs) c))
             (sym (slot_is c it has is_alive))
             (folded_stands s.book st.knows.known.book s.uses st.knows.known.uses waited waited_up gs noted.apart open_now c (state_of p.world.safety it.slot.0)
             ((st.knows.containers.each c it has).uses is_alive)))
 
         views : (c : ℕ) (it : Container) → slice_get p.world.containers.items c ≡ Some it → s.alive c ≡ true
-            → (state_of d.after.world.safety it.slot.0).view ≡ t.view c
+            → (state_of d.books.after.safety it.slot.0).view ≡ t.view c
         views c it has is_alive =
             ap (λ (z : SlotState). z.view) (slot_is c it has is_alive)
             ∙ folded_view job_number c gs (state_of p.world.safety it.slot.0) (left g s o)
@@ -315,16 +288,16 @@ module _ (script : Script) (table : Table) (begun : ScriptState) (n : ℕ) (foun
 
         -- ---- the plan
 
-        jobs_are : d.ended.draft.jobs.items ≡ p.draft.jobs.items ++ d.job ∷ []
-        jobs_are = d.started.jobs ∙ ap (λ (k : Planner). k.draft.jobs.items ++ d.job ∷ []) d.rest
+        jobs_are : q.draft.jobs.items ≡ p.draft.jobs.items ++ d.job ∷ []
+        jobs_are = d.started.jobs
 
-        segments_are : d.ended.draft.segments.items ≡ p.draft.segments.items ++ d.started.segment ∷ []
-        segments_are = d.started.segments ∙ ap (λ (k : Planner). k.draft.segments.items ++ d.started.segment ∷ []) d.rest
+        segments_are : q.draft.segments.items ≡ p.draft.segments.items ++ d.started.segment ∷ []
+        segments_are = d.started.segments
 
         pub closes : Closes (draft_of p) (draft_of as_q) d.started.segment (d.job ∷ []) []
         closes = record {
-          waits_were = d.started.waits_were ∙ ap (λ (k : Planner). k.draft.waits.items) d.rest;
-          ops_were = d.started.ops_were ∙ ap (λ (k : Planner). k.draft.ops.items) d.rest;
+          waits_were = d.started.waits_were;
+          ops_were = d.started.ops_were;
           segments = segments_are;
           jobs = jobs_are;
           waits = d.started.waits;
@@ -332,7 +305,7 @@ module _ (script : Script) (table : Table) (begun : ScriptState) (n : ℕ) (foun
         }
 
         pub starts_next : d.started.segment.starts ≡ Some (record { 0 = suc (length p.draft.jobs.items) })
-        starts_next = d.started.starts ∙ ap (λ (k : Planner). Some (record { 0 = suc (length k.draft.jobs.items) })) d.rest
+        starts_next = d.started.starts
 
         pub agrees : (y : Outline) → Agrees as_q g begun found y → Agrees p g begun found y
         agrees y a = record {
@@ -340,6 +313,7 @@ module _ (script : Script) (table : Table) (begun : ScriptState) (n : ℕ) (foun
           names = a.names;
           kernels = place.later y.plan.kernels.items a.kernels;
           literals = a.literals;
+          first = a.first;
           jobs = (d.job ∷ a.jobs.0, a.jobs.1 ∙ ap (λ js. js ++ a.jobs.0) jobs_are ∙ append_assoc p.draft.jobs.items (d.job ∷ []) a.jobs.0);
           starts = a.starts;
           cells = a.cells;
@@ -369,7 +343,7 @@ module _ (script : Script) (table : Table) (begun : ScriptState) (n : ℕ) (foun
                   ∙ get_before copies.items a.kernels.0 run.kernel (get_below copies.items run.kernel kernel place.here)
                   ∙ place.here;
               checked = checked;
-              first = d.first ∙ ap (λ (k : Planner). k.draft.pieces) d.rest ∙ st.numbers.pieces;
+              first = d.first ∙ st.numbers.pieces;
               binds = ap (λ (j : JobPlan). j.binds.items) d.runs ∙ binds;
               indexes = ap (λ (c : Cut). c.n) cut_is ∙ indexes;
               cut = record {
@@ -383,7 +357,7 @@ module _ (script : Script) (table : Table) (begun : ScriptState) (n : ℕ) (foun
                 d.later_are.within.0,
                 up_to_all d.job.deps.items (count_of p.world.jobs - p.world.jobs_before) (length y.plan.jobs.items)
                     (let c = (st.planned y (agrees y a)).ordered.count in let e = count_is in let f = begun_jobs in let h = ap length a.jobs.1 in
-                    let i = ap length jobs_are in let j = length-append d.ended.draft.jobs.items a.jobs.0 in
+                    let i = ap length jobs_are in let j = length-append q.draft.jobs.items a.jobs.0 in
                     let k = length-append p.draft.jobs.items (d.job ∷ []) in omega arith)
                     d.later_are.within.1,
               );
@@ -393,19 +367,19 @@ module _ (script : Script) (table : Table) (begun : ScriptState) (n : ℕ) (foun
         -- ---- it stands
 
         module _ (is : IsRunOf p run kernel) (plans : (y : Outline) → Agrees as_q g begun found y → IsPlanned y t (draft_of as_q)) where
-          with_job_is : newly.IsWithJob p g begun n s found st q.world.values q.world.handles d.after.world.jobs d.after.world.safety kernels guards copies
+          with_job_is : newly.IsWithJob p g begun n s found st q.world.values q.world.handles d.books.after.jobs d.books.after.safety kernels guards copies
               codes
-              d.ended.draft.segments d.ended.draft.jobs d.ended.draft.waits d.ended.draft.ops d.ended.draft.pieces
+              q.draft.segments q.draft.jobs q.draft.waits q.draft.ops q.draft.pieces
               t.values t.contents t.view t.uses waited t.traps d.started.segment d.job
           with_job_is = record {
             known = known;
-            named = handle_names d.ended.world q.world (length p.world.containers.items) s as_t asked.handle
-                (only (count_of p.world.jobs + 1)) was d.named names_now;
-            values_long = ap length d.named.values ∙ set_long d.ended.world.values.items asked.handle _
+            named = handle_names d.books.after q.world (length p.world.containers.items) s as_t asked.handle
+                (only (count_of p.world.jobs + 1)) was d.books.named names_now;
+            values_long = ap length d.books.named.values ∙ set_long d.books.after.values.items asked.handle _
                 ∙ ap (λ (v : Vec Value Global). length v.items) values_were;
             handles_few =
-                (let h = (handles_more d.ended.world q.world (length p.world.containers.items) s as_t asked.handle
-                (only (count_of p.world.jobs + 1)) was d.named names_now).1 in
+                (let h = (handles_more d.books.after q.world (length p.world.containers.items) s as_t asked.handle
+                (only (count_of p.world.jobs + 1)) was d.books.named names_now).1 in
                 let e = ap (λ (v : Vec Handle Global). length v.items) handles_were in omega arith);
             form = λ c start lt. bind_by_form start (t.contents c) (s.contents c) (accepted_as.forms c lt);
             lives = λ k. ap (λ (z : SlotState). z.live) (safety_is k) ∙ noted_live job_number us (state_of p.world.safety) k;
@@ -414,14 +388,14 @@ module _ (script : Script) (table : Table) (begun : ScriptState) (n : ℕ) (foun
             views = views;
             unused = unused;
             held = dead_stands;
-            book = subst (λ (j : Jobs). StandsFor d.after.world.jobs (with_job s.book j)) deps_is (d.jobs s.book st.knows.jobs);
+            book = subst (λ (j : Jobs). StandsFor d.books.after.jobs (with_job s.book j)) deps_is (d.books.jobs s.book st.knows.jobs);
             kernels_are = place.stand as_q refl refl refl refl;
             copies_few = place.few;
             segments_are = segments_are;
             ops_were = closes.ops_were;
             ops_are = d.started.ops;
             jobs_are = jobs_are;
-            pieces_are = d.started.pieces ∙ ap (λ (k : Planner). k.draft.pieces + pieces_of d.job) d.rest;
+            pieces_are = d.started.pieces;
             planned = λ y a. subst (λ u. IsPlanned y u (draft_of as_q)) t_is (plans y a);
           }
 
@@ -465,6 +439,6 @@ module _ (script : Script) (table : Table) (begun : ScriptState) (n : ℕ) (foun
           goes_on = growing.stepped script table begun n found line home asked p q step none st d.started.segment d.job waited has_started
               (subst (λ u. Stands q g begun (suc n) u found) (sym (after_is ∙ t_is))
               (subst (λ k. Stands k g begun (suc n) as_t found) (sym q_is)
-              (newly.with_job_stands p g begun n s found st q.world.values q.world.handles d.after.world.jobs d.after.world.safety kernels guards copies codes
-              d.ended.draft.segments d.ended.draft.jobs d.ended.draft.waits d.ended.draft.ops d.ended.draft.pieces
+              (newly.with_job_stands p g begun n s found st q.world.values q.world.handles d.books.after.jobs d.books.after.safety kernels guards copies codes
+              q.draft.segments q.draft.jobs q.draft.waits q.draft.ops q.draft.pieces
               t.values t.contents t.view t.uses waited t.traps d.started.segment d.job with_job_is)))

@@ -55,9 +55,17 @@ module _ (p : Planner) (g : Setting) (begun : ScriptState) (n : ℕ) (s : Script
       jobs = jobs;
       safety = safety;
     };
-    kernels = kernels;
-    guards = guards;
-    draft = record p.draft { kernels = copies; codes = codes; segments = segments; jobs = plan_jobs; waits = waits; ops = ops; pieces = pieces };
+    draft = record p.draft {
+      kernels = copies;
+      codes = codes;
+      segments = segments;
+      jobs = plan_jobs;
+      waits = waits;
+      ops = ops;
+      pieces = pieces;
+      copies_of = kernels;
+      guards_of = guards;
+    };
   }
 
   abbrev pub t : ScriptState

@@ -18,5 +18,6 @@ pub mod Ready
 pub mod Rooms
 pub mod Scheduled
 pub mod Slots
+pub mod Taken
 pub mod Texts
 pub mod UseLists

@@ -30,15 +30,18 @@ use Rattle.plan_laws.proofs.Accepting.{schedules_are_planned}
 use Rattle.plan_laws.proofs.PlainKernels.{plain_kernels_stand_in}
 use Rattle.tree_laws.proofs.Checks.{same_kernels_are_checked}
 use Rattle.plan_schedules.specs.declared.accepting.Run.{Run}
+use Rattle.plan_state.specs.declared.state.Draft.{Draft}
 use Rattle.plan_state.specs.declared.state.Planner.{Planner}
 use Rattle.plan_schedules.specs.declared.uses.NamedUse.{NamedUse}
 use Rattle.plan_state.specs.Growth.{is_none}
 use Rattle.plan_schedules.specs.JobBinds.{job_binds}
 use Rattle.plan_schedules.specs.Noting.{MayNoteAll}
 use Rattle.plan_state.specs.Stands.{Agrees, draft_of}
-use Rattle.plan_schedules.specs.Starting.{IsPlainRun, IsScheduled, numbers_by, undeferred}
+use Rattle.plan_state.specs.Copies.{IsCopied}
+use Rattle.plan_schedules.specs.Starting.{IsPlainRun, numbers_by, undeferred}
 use Rattle.plan_state.specs.Steps.{state_at, IsStep, StandsAt, HasStepped}
 use Rattle.plan_schedules.specs.Uses.{ForNames, IsUse}
+use Rattle.plan_state.proofs.CopiesMade.{plain_moved}
 use Rattle.plan_schedules.proofs.Arguments.{args_are, same_args_fit, same_job_binds}
 use Rattle.plan_schedules.proofs.Choosing.{AreAlive, all_alive}
 use Rattle.plan_schedules.proofs.CopyPlaces as places
@@ -49,6 +52,7 @@ use Rattle.plan_schedules.proofs.Meaning.{uses_meant}
 use Rattle.plan_schedules.proofs.Notes.{needs, AreApart, args_apart}
 use Rattle.plan_schedules.proofs.Grown.{none_waived}
 use Rattle.plan_schedules.proofs.Scheduled.{numbers_are, indexes_are, no_cut}
+use Rattle.plan_schedules.proofs.Taken.{IsScheduled, placed}
 use Rattle.plan_schedules.proofs.Texts as texts
 use Rattle.plan_schedules.proofs.Texts.{IsText, EachBelow, each_lower}
 
@@ -111,32 +115,36 @@ module _ (script : Script) (table : Table) (begun : ScriptState) (n : ℕ) (foun
     pub waited_up : AreUpTo s.book.count waited
     waited_up = started.waited_up script table begun n found line home (undeferred asked) step p st none
 
-    module _ (mid new : Planner) (run : Run) (r : IsPlainRun script p mid asked.kernel asked.args.items asked.cut asked.waive.items run)
-        (deps : Jobs) (deps_are : deps ≡ waited) (d : IsScheduled mid new asked.handle run uses deps) where
+    module _ (mid : Draft) (new : Planner) (given : Run) (at : ℕ)
+        (r : IsPlainRun script p.world asked.kernel asked.args.items asked.cut asked.waive.items given)
+        (copied : IsCopied script p.draft mid asked.kernel at)
+        (deps : Jobs) (deps_are : deps ≡ waited) (d : IsScheduled (record p { draft = mid }) new asked.handle (placed given at) uses deps) where
+      -- what the job runs, by the copy of its kernel
+      abbrev run : Run
+      run = placed given at
+
       source_same : r.source ≡ text.source
       source_same = some_is (sym r.is_source ∙ text.has)
 
-      copy : places.HasCopy script g refl p mid asked.kernel run.kernel st.kernels r.copied text.source text.has text.checked
-      copy = places.has_copy script g refl p mid asked.kernel run.kernel st.kernels r.copied text.source text.has text.checked
+      copy : places.HasCopy script g refl p mid asked.kernel at st.kernels copied text.source text.has text.checked
+      copy = places.has_copy script g refl p mid asked.kernel at st.kernels copied text.source text.has text.checked
 
-      place : HasPlace p g mid.kernels p.guards mid.draft.kernels mid.draft.codes run.kernel copy.copy
+      place : HasPlace p g mid.copies_of p.draft.guards_of mid.kernels mid.codes run.kernel copy.copy
       place = record {
         here = copy.here;
-        few = places.copies_few script g refl p mid asked.kernel run.kernel st.kernels r.copied text.source text.has text.checked;
-        later = places.kernels_later script g refl p mid asked.kernel run.kernel st.kernels r.copied text.source text.has text.checked;
+        few = places.copies_few script g refl p mid asked.kernel at st.kernels copied text.source text.has text.checked;
+        later = places.kernels_later script g refl p mid asked.kernel at st.kernels copied text.source text.has text.checked;
         stand = λ q kernels guards copies codes.
-            places.kernels_stand script g refl p mid asked.kernel run.kernel st.kernels r.copied text.source text.has text.checked q kernels copies codes
+            places.kernels_stand script g refl p mid asked.kernel at st.kernels copied text.source text.has text.checked q kernels copies codes
             guards;
       }
 
       done : IsScheduled (record p {
-        kernels = mid.kernels;
-        guards = p.guards;
-        draft = record p.draft { kernels = mid.draft.kernels; codes = mid.draft.codes };
+        draft = record p.draft { kernels = mid.kernels; codes = mid.codes; copies_of = mid.copies_of; guards_of = p.draft.guards_of };
       })
           new asked.handle run uses deps
-      done = subst (λ m. IsScheduled m new asked.handle run uses deps)
-          (places.moved script p mid asked.kernel run.kernel r.copied) d
+      done = subst (λ m. IsScheduled (record p { draft = m }) new asked.handle run uses deps)
+          (plain_moved script p.draft mid asked.kernel at copied) d
 
       below : asked.kernel < length g.kernels
       below = get_below g.kernels asked.kernel text.source text.has
@@ -183,19 +191,20 @@ module _ (script : Script) (table : Table) (begun : ScriptState) (n : ℕ) (foun
       }
 
       abbrev q : Planner
-      q = started.as_q script table begun n found line home (undeferred asked) step p st none named uses gs noted mid.kernels p.guards mid.draft.kernels
-          mid.draft.codes copy.copy run place new deps deps_are done
+      q = started.as_q script table begun n found line home (undeferred asked) step p st none named uses gs noted mid.copies_of p.draft.guards_of mid.kernels
+          mid.codes copy.copy run place new deps deps_are done
 
       back : (y : Outline) → Agrees q g begun found y → Agrees p g begun found y
-      back = started.agrees script table begun n found line home (undeferred asked) step p st none named uses gs noted mid.kernels p.guards mid.draft.kernels
-          mid.draft.codes copy.copy run place new deps deps_are done
+      back = started.agrees script table begun n found line home (undeferred asked) step p st none named uses gs noted
+          mid.copies_of p.draft.guards_of mid.kernels
+          mid.codes copy.copy run place new deps deps_are done
 
       planned_job : (y : Outline) → Agrees q g begun found y → IsPlannedJob y (draft_of p) o (plain_kernel y.starts s o copy.copy) (deps_of h s o) done.job
       planned_job y a =
           subst (λ ds. IsPlannedJob y (draft_of p) o (plain_kernel y.starts s o copy.copy) ds done.job)
           (copying.new_deps g s home asked text.source copy.copy text.has below copy.same)
-          (started.job_as script table begun n found line home (undeferred asked) step p st none named uses gs noted mid.kernels p.guards mid.draft.kernels
-          mid.draft.codes copy.copy run place new deps deps_are done y a asked.cut r.cut_by (argument_binds y.starts s o copy.copy) (indexes_of s o copy.copy)
+          (started.job_as script table begun n found line home (undeferred asked) step p st none named uses gs noted mid.copies_of p.draft.guards_of mid.kernels
+          mid.codes copy.copy run place new deps deps_are done y a asked.cut r.cut_by (argument_binds y.starts s o copy.copy) (indexes_of s o copy.copy)
           (same_kernels_are_checked text.source copy.copy copy.same text.checked)
           (copy_binds y (back y a))
           (r.cut_by.indexes ∙ indexes_are s text.source.parallel asked.cut text.one ∙ ap (λ b. executes b (job_length s asked.cut None)) copy.same.parallel)
@@ -211,11 +220,12 @@ module _ (script : Script) (table : Table) (begun : ScriptState) (n : ℕ) (foun
           (schedules_are_planned y h s o copy.copy (plain_kernel y.starts s o copy.copy) (draft_of p) (draft_of q) done.started.segment done.job a.small
           st.knows.known (st.planned y (back y a)) accepted_now has_new (planned_job y a)
           (plain_kernels_stand_in y h s o copy.copy (draft_of p) done.job a.small (st.planned y (back y a)) accepted_now refl has_new (planned_job y a))
-          (started.starts_next script table begun n found line home (undeferred asked) step p st none named uses gs noted mid.kernels p.guards mid.draft.kernels
-          mid.draft.codes copy.copy run place new deps deps_are done)
-          (started.closes script table begun n found line home (undeferred asked) step p st none named uses gs noted mid.kernels p.guards mid.draft.kernels
-          mid.draft.codes copy.copy run place new deps deps_are done))
+          (started.starts_next script table begun n found line home (undeferred asked) step p st none named uses gs noted
+          mid.copies_of p.draft.guards_of mid.kernels
+          mid.codes copy.copy run place new deps deps_are done)
+          (started.closes script table begun n found line home (undeferred asked) step p st none named uses gs noted mid.copies_of p.draft.guards_of mid.kernels
+          mid.codes copy.copy run place new deps deps_are done))
 
       pub goes_on : HasStepped script table begun n found p new x
-      goes_on = started.goes_on script table begun n found line home (undeferred asked) step p st none named uses gs noted mid.kernels p.guards
-          mid.draft.kernels mid.draft.codes copy.copy run place new deps deps_are done is_run plans
+      goes_on = started.goes_on script table begun n found line home (undeferred asked) step p st none named uses gs noted mid.copies_of p.draft.guards_of
+          mid.kernels mid.codes copy.copy run place new deps deps_are done is_run plans

@@ -1,6 +1,6 @@
 -- What the parts of a schedule need, before a schedule of an accepted script.
-use Rattle.std.proofs.Common.{◌≡◌, ◌≢◌, inr, ℕ, suc, ◌*◌, ◌<◌, ◌≤◌, ◌^◌, List, length, get_or, All, Option, Some, None, Result, Ok, Err, refl, sym, ap, subst, ◌∙◌, arith, append-nil}
-use Rattle.std.specs.Prelude.{IfErr, Box, vec_len, slice_get, if◌then◌else◌}
+use Rattle.std.proofs.Common.{◌≡◌, ◌≢◌, inr, false, ℕ, suc, ◌*◌, ◌<◌, ◌≤◌, ◌^◌, List, length, get_or, All, Option, Some, None, Result, Ok, Err, refl, sym, ap, subst, ◌∙◌, arith, append-nil}
+use Rattle.std.specs.Prelude.{IfErr, IfOk, OnOk, Box, vec_len, slice_get, if◌then◌else◌}
 use Rattle.std.specs.declared.alloc.Global.{Global}
 use Rattle.job_base.specs.declared.limits.TheConstants.{MOST_JOBS, MOST_PIECES}
 use Rattle.frame_ast.specs.declared.kernel.Kernel.{Kernel}
@@ -20,19 +20,24 @@ use Rattle.frame_ast.proofs.Known.{named_among}
 use Rattle.job_handle.specs.Books.{count_of}
 use Rattle.safety_handle.specs.Entries.{state_of}
 use Rattle.auto_deps.specs.Needs.{conflicting_with}
-use Rattle.frame_core.proofs.Small.{some_is, get_below}
+use Rattle.frame_core.proofs.Small.{some_is, get_below, not_both}
 use Rattle.plan_laws.specs.Accepting.{deps_of}
 use Rattle.plan_schedules.specs.declared.causes.Cause.{Cause}
+use Rattle.plan_state.specs.declared.start.JobAnswer.{JobAnswer}
+use Rattle.plan_state.specs.declared.start.JobAnswer.TheVariants.{Refused}
+use Rattle.plan_state.specs.declared.state.Draft.{Draft}
 use Rattle.plan_state.specs.declared.state.Planner.{Planner}
+use Rattle.plan_state.specs.declared.state.World.{World}
 use Rattle.plan_schedules.specs.declared.uses.NamedUse.{NamedUse}
-use Rattle.frame_core.specs.declared.plan.Act.TheVariants.{Say}
 use Rattle.plan_state.specs.declared.state.PlanFault.{PlanFault}
 use Rattle.plan_state.specs.declared.state.PlanFault.TheVariants.{Jobs as TooManyJobs, Words as TooManyWords, NoMemory}
-use Rattle.plan_state.specs.Accesses.{jobs_by, IsPushed, HasHandle}
+use Rattle.plan_state.specs.Accesses.{jobs_by, HasHandle}
 use Rattle.plan_schedules.specs.Noting.{MayNoteAll}
 use Rattle.plan_schedules.specs.Causes.{refusal_by, as_refused}
-use Rattle.plan_schedules.specs.Starting.{AreDeps, IsFull, IsPlainRun, IsScheduled}
+use Rattle.plan_schedules.specs.Starting.{AreDeps, IsFull, IsInBooks, IsPlainRun, IsStartOf}
 use Rattle.plan_schedules.specs.declared.accepting.Run.{Run}
+use Rattle.plan_state.specs.Copies.{IsKernelChecked}
+use Rattle.plan_state.specs.Starts.{HasTakenJob, MayStart, MayTakeJob}
 use Rattle.plan_state.specs.Steps.{state_at, state_after, IsStep, StandsAt, HasStepped, PassesLimit}
 use Rattle.plan_schedules.specs.Uses.{AreNamesBelow, ForNames, IsUse, tags_of}
 use Rattle.plan_schedules.proofs.CauseNames.{AreNamed, uses_named, refusal_named}
@@ -45,6 +50,7 @@ use Rattle.plan_schedules.proofs.Notes.{needs}
 use Rattle.plan_state.proofs.Reaching.{statements_few, within}
 use Rattle.plan_state.proofs.Restating.{accepted_state, said_nobody}
 use Rattle.plan_schedules.proofs.Rooms as rooms
+use Rattle.plan_schedules.proofs.Taken as taken
 use Rattle.plan_schedules.proofs.Texts as texts
 use Rattle.plan_schedules.proofs.Texts.{IsText, all_below, each_lower}
 use Rattle.frame_ast.specs.declared.script.NewJob.{NewJob}
@@ -52,6 +58,11 @@ use Rattle.frame_ast.specs.declared.script.NewJob.{NewJob}
 pub if_err : {T E : Type 0} (r : Result T E) {P Q : E → Type 0} → ((e : E) → P e → Q e) → IfErr r P → IfErr r Q
 if_err (Ok x) f h = tt
 if_err (Err e) f h = f e h
+
+-- of a result, by what is said of its value and what is so beside it
+pub with_ok : {T E : Type 0} (r : Result T E) {P Q : T → Type 0} {R : Type 0} → ((x : T) → P x → R → Q x) → IfOk r P → OnOk r R → IfOk r Q
+with_ok (Ok x) f h k = f x h k
+with_ok (Err e) f h k = tt
 
 pub no_cause : (o : Option Cause) → ((c : Cause) → o ≡ Some c → ⊥) → o ≡ None
 no_cause None h = refl
@@ -92,8 +103,11 @@ module _ (script : Script) (p : Planner) (line : ℕ) (home : Box NewJob Global)
     pub copies_low : vec_len p.draft.kernels < 2 ^ 32
     copies_low = let few = st.numbers.kernels_few in let len = p.draft.kernels.ok.0 in let low = statements_few script table n x step in omega arith
 
-    pub kernels_each : vec_len p.kernels ≡ vec_len script.kernels
-    kernels_each = let e = st.kernels.each in let a = p.kernels.ok.0 in let b = script.kernels.ok.0 in omega arith
+    pub kernels_each : vec_len p.draft.copies_of ≡ vec_len script.kernels
+    kernels_each = let e = st.kernels.each in let a = p.draft.copies_of.ok.0 in let b = script.kernels.ok.0 in omega arith
+
+    pub guards_each : vec_len p.draft.guards_of ≡ vec_len script.kernels
+    guards_each = let e = st.kernels.each_guard in let a = p.draft.guards_of.ok.0 in let b = script.kernels.ok.0 in omega arith
 
     pub after_below : (xs : List ℕ) → xs ≡ asked.after.items → All (λ n. n < vec_len p.world.values) xs
     after_below xs e = subst (All (λ n. n < vec_len p.world.values)) (sym e) (λ k d lt. within p g begun n s found st (get_or asked.after.items k d)
@@ -118,6 +132,25 @@ module _ (script : Script) (p : Planner) (line : ℕ) (home : Box NewJob Global)
 
     pub pieces_low : p.draft.pieces ≤ MOST_PIECES * MOST_JOBS
     pieces_low = rooms.few_pieces script table p begun n s found st
+
+    -- a draft has room for its job
+    pub may_be_taken : (run : Run) (answer : JobAnswer) (deps : Jobs) (xs : List Arg) (ws : List ℕ) → count_of p.world.jobs ≢ MOST_JOBS
+        → IsPlainRun script p.world asked.kernel xs asked.cut ws run → IsStartOf p.world run deps answer → MayTakeJob script p.draft answer
+    may_be_taken run answer deps xs ws free r starts =
+        subst (MayTakeJob script p.draft) (sym starts.is) (subst (MayStart script p.draft) (sym starts.runs) (record {
+          copy = record {
+            here = (let e = r.kernel_is in let lt = kernel_below in omega arith);
+            each = kernels_each;
+            each_guard = guards_each;
+            few = copies_low;
+            checked = subst (IsKernelChecked script) (sym r.kernel_is) (step.accepted.kernels asked.kernel);
+            guardable = λ h. absurd (not_both h r.plain);
+          };
+          step = r.cut_by.steps;
+          indexes = r.cut_by.pieces;
+          jobs = room free;
+          pieces = pieces_low;
+        }))
 
     -- ---- the code's slices are the statement's vectors
 
@@ -187,17 +220,22 @@ module _ (script : Script) (p : Planner) (line : ℕ) (home : Box NewJob Global)
             omega arith
         fails_so TooManyWords full = absurd full
 
-        pub goes_on : (mid new : Planner) (run : Run) (deps : Jobs) (xs : List Arg) (ws : List ℕ) (us : List NamedUse) → xs ≡ asked.args.items
-            → ws ≡ asked.waive.items → us ≡ uses
+        -- its job goes on, where a draft took it
+        pub accepted_on : (w : World) (draft : Draft) (run : Run) (answer : JobAnswer) (deps : Jobs) (xs : List Arg) (ws : List ℕ) (us : List NamedUse)
+            → xs ≡ asked.args.items → ws ≡ asked.waive.items → us ≡ uses
             → AreDeps asked.auto named p.world.jobs p.world.safety (tags_of uses) deps
-            → IsPlainRun script p mid asked.kernel xs asked.cut ws run → IsScheduled mid new asked.handle run us deps
-            → HasStepped script table begun n found p new x
-        goes_on mid new run deps xs ws us e f u d r is =
-            started.goes_on script table begun n found line home asked step text p st uses named are none mid new run
-            (subst (λ xs. IsPlainRun script p mid asked.kernel xs asked.cut asked.waive.items run) e
-            (subst (λ ws. IsPlainRun script p mid asked.kernel xs asked.cut ws run) f r))
+            → IsPlainRun script p.world asked.kernel xs asked.cut ws run → IsInBooks p.world w asked.handle us deps → IsStartOf p.world run deps answer
+            → HasTakenJob p.draft draft script line answer → HasStepped script table begun n found p (record { world = w; draft = draft }) x
+        accepted_on w draft run answer deps xs ws us e f u d r books starts took =
+            let had = subst (λ us. IsInBooks p.world w asked.handle us deps) u books in
+            let has = taken.has_job script line p w draft asked.handle run uses deps answer had starts took in
+            started.goes_on script table begun n found line home asked step text p st uses named are none has.copied (record { world = w; draft = draft }) run
+            has.place
+            (subst (λ xs. IsPlainRun script p.world asked.kernel xs asked.cut asked.waive.items run) e
+            (subst (λ ws. IsPlainRun script p.world asked.kernel xs asked.cut ws run) f r))
+            (taken.has_copy script line p w draft asked.handle run uses deps answer had starts took false asked.kernel r.plain r.kernel_is)
             deps (deps_is deps d)
-            (subst (λ us. IsScheduled mid new asked.handle run us deps) u is)
+            (taken.is_scheduled script line p w draft asked.handle run uses deps answer had starts took)
 
       -- why it is refused, as the code asks
       pub refused_by : (k : Kernel) → slice_get script.kernels.items asked.kernel ≡ Some k → (us : List NamedUse) → us ≡ uses → (o : Option Cause)
@@ -208,14 +246,13 @@ module _ (script : Script) (p : Planner) (line : ℕ) (home : Box NewJob Global)
           ∙ refusal_at
 
       -- and how it goes on then
-      pub refused_on : (new said : Planner) (cause : Cause) (k : Kernel) → slice_get script.kernels.items asked.kernel ≡ Some k → (us : List NamedUse)
-          → us ≡ uses → Some cause ≡ refusal_by us k.parallel asked.auto
-          → IsPushed p said (record { line = line; name = cause.name; act = Say cause.refusal })
-          → HasHandle said.world new.world asked.handle nobody → new ≡ record said { world = new.world }
-          → HasStepped script table begun n found p new x
-      refused_on new said cause k h us e is pushed has only =
+      pub refused_on : (w : World) (draft : Draft) (answer : JobAnswer) (cause : Cause) (k : Kernel)
+          → slice_get script.kernels.items asked.kernel ≡ Some k → (us : List NamedUse) → us ≡ uses → Some cause ≡ refusal_by us k.parallel asked.auto
+          → answer ≡ Refused cause.name cause.refusal → HasHandle p.world w asked.handle nobody
+          → HasTakenJob p.draft draft script line answer → HasStepped script table begun n found p (record { world = w; draft = draft }) x
+      refused_on w draft answer cause k h us e is says has took =
           let below = refusal_named (length g.names) us k.parallel asked.auto (subst (AreNamed (length g.names)) (sym e)
           (uses_named p named (length g.names) text.source.params.items asked.args.items uses are text.below)) cause (sym is) in
-          subst (λ z. HasStepped script table begun n found p z x) (sym only)
-          (said_nobody script table begun n found x step (refused cause.refusal cause.name) p st (sym (refused_by k h us e (Some cause) is)) below
-          said new.world asked.handle refl refl refl (inr (λ c. refl)) pushed has)
+          said_nobody script table begun n found x step (refused cause.refusal cause.name) p st (sym (refused_by k h us e (Some cause) is)) below
+          (record p { draft = draft }) w asked.handle refl refl refl (inr (λ c. refl))
+          (taken.is_pushed script line p draft answer cause.name cause.refusal says took) has

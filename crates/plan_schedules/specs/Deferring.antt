@@ -1,5 +1,5 @@
 -- A schedule whose length is that of a list, in the code's terms: the use of the list, why it is refused, and its job.
-use Rattle.std.specs.Prelude.{Box, ℕ, ◌≡◌, ◌≤◌, ◌⊎◌, Bool, true, false, ◌&&◌, ◌||◌, nat_eq, if◌then◌else◌, List, [], ◌∷◌, ◌++◌, Option, None, Some, slice_get, slice_set}
+use Rattle.std.specs.Prelude.{Box, ℕ, ◌≡◌, ◌≤◌, Bool, true, false, ◌&&◌, ◌||◌, nat_eq, if◌then◌else◌, List, [], ◌∷◌, ◌++◌, Option, None, Some, slice_get}
 use Rattle.std.specs.List.{list_any}
 use Rattle.std.specs.declared.alloc.Global.{Global}
 use Rattle.job_base.specs.declared.Access.TheVariants.{Read}
@@ -8,22 +8,17 @@ use Rattle.job_base.specs.declared.Refusal.TheVariants.{Disposed, StaleView, Not
 use Rattle.frame_ast.specs.declared.kernel.Kernel.{Kernel}
 use Rattle.frame_ast.specs.declared.kernel.ParamKind.TheVariants.{List as ListKind}
 use Rattle.frame_ast.specs.declared.script.Script.{Script}
-use Rattle.frame_ast.specs.Accepted.{guard_fits}
-use Rattle.frame_ast.specs.Checked.{IsChecked}
 use Rattle.frame_ast.specs.declared.script.Arg.{Arg}
 use Rattle.frame_ast.specs.declared.script.NewJob.{NewJob}
-use Rattle.frame_ast.specs.declared.script.Order.TheVariants.{Schedule}
 use Rattle.frame_ast.specs.declared.script.Statement.{Statement}
 use Rattle.frame_ast.specs.Jobs.{Jobs as JobSet}
 use Rattle.frame_ast.specs.Schedules.{Given, alias}
-use Rattle.job_defer.specs.Guarded.{IsGuarded, GuardsContents, GuardsWords, GuardsFootprint}
 use Rattle.kernel_exec.specs.declared.binds.Bind.{Bind}
 use Rattle.kernel_exec.specs.declared.binds.Bind.TheVariants.{List as WholeList}
 use Rattle.defer_laws.specs.GuardedRuns.{word_at}
 use Rattle.native_list.specs.declared.ListAt.{ListAt}
 use Rattle.plan_schedules.specs.declared.accepting.Run.{Run}
 use Rattle.plan_state.specs.declared.state.Value.{Value}
-use Rattle.plan_state.specs.declared.state.Planner.{Planner}
 use Rattle.plan_state.specs.declared.state.World.{World}
 use Rattle.plan_schedules.specs.declared.causes.Cause.{Cause}
 use Rattle.plan_schedules.specs.declared.uses.NamedUse.{NamedUse}
@@ -31,7 +26,7 @@ use Rattle.plan_state.specs.Accesses.{tag_for}
 use Rattle.plan_schedules.specs.Causes.{has_cause, first_with, alias_of, pending_of, or_next}
 use Rattle.plan_state.specs.Growth.{is_none}
 use Rattle.plan_schedules.specs.JobBinds.{bind_of_value, job_binds}
-use Rattle.plan_schedules.specs.Starting.{in_box, IsAdded, IsCutBy}
+use Rattle.plan_schedules.specs.Starting.{asking, IsCutBy}
 use Rattle.plan_schedules.specs.Uses.{IsBlockedBy, number_of_value, is_temp_in, given_of}
 
 -- THE SCHEDULE
@@ -42,7 +37,7 @@ by_list asked cut defer = record asked { cut = cut; defer = Some defer }
 
 -- a schedule with `defer`, as a statement
 abbrev pub deferring : ℕ → Box NewJob Global → NewJob → Option (ℕ × ℕ) → ℕ × ℕ → Statement
-deferring line home asked cut defer = record { line = line; act = Schedule (in_box home (by_list asked cut defer)) }
+deferring line home asked cut defer = asking line home (by_list asked cut defer)
 
 -- THE USE OF THE LIST
 
@@ -99,43 +94,6 @@ deferred_refusal args list parallel auto =
     (or_next (deferred_alias args list)
     (if auto then None else pending_of uses)))))
 
--- ITS KERNEL
-
--- What is known of a guarded copy.
-pub record IsGuardOf (source copy : Kernel) : Type 0 where
-  pub guarded : IsGuarded source copy
-  pub checked : IsChecked copy
-  pub contents : GuardsContents source copy
-  pub words : GuardsWords source copy
-  pub footprint : GuardsFootprint source copy
-
--- A kernel that has a guarded copy.
-pub record MayBeGuarded (source : Kernel) : Type 0 where
-  pub checked : IsChecked source
-  pub parallel : source.parallel ≡ true
-  pub fits : guard_fits source ≡ true
-
-abbrev pub IsKernelGuardable : Script → ℕ → Type 0
-IsKernelGuardable script kernel = (source : Kernel)
-    → slice_get script.kernels.items kernel ≡ Some source
-    → MayBeGuarded source
-
--- A guarded copy of a kernel has a new place among the plan's, and all else is as it was.
-pub record IsGuardedAnew (script : Script) (old new : Planner) (kernel place : ℕ) : Type 0 where
-  pub source : Kernel
-  pub copy : Kernel
-  pub is_source : slice_get script.kernels.items kernel ≡ Some source
-  pub guards : IsGuardOf source copy
-  pub added : IsAdded old.draft new.draft copy place
-  pub places : new.guards.items ≡ slice_set old.guards.items kernel (Some place)
-  pub rest : new ≡ record old { guards = new.guards; draft = new.draft }
-
--- It had the place already, or has it now.
-abbrev pub IsGuardedAt : Script → Planner → Planner → ℕ → ℕ → Type 0
-IsGuardedAt script old new kernel place =
-    (slice_get old.guards.items kernel ≡ Some (Some place)) × (new ≡ old)
-    ⊎ IsGuardedAnew script old new kernel place
-
 -- ITS LIST
 
 abbrev pub IsListBind : Bind → Type 0
@@ -152,16 +110,17 @@ IsListAt w name at = bind_of_value w (slice_get w.values.items name) ≡ WholeLi
 
 -- ITS JOB
 
--- What is run for it: the planner has the guarded copy of its kernel. There is an index for each element that the list
--- can have.
-pub record IsGuardedRun (script : Script) (old new : Planner) (kernel : ℕ) (args : List Arg) (waive : List ℕ)
-    (list batch : ℕ) (run : Run) : Type 0 where
+-- What is run for it: the guarded copy of its kernel, on the words of its arguments and the one with the list's length.
+-- There is an index for each element that the list can have.
+pub record IsGuardedRun (script : Script) (w : World) (kernel : ℕ) (args : List Arg) (waive : List ℕ) (list batch : ℕ)
+    (run : Run) : Type 0 where
   pub source : Kernel
   pub is_source : slice_get script.kernels.items kernel ≡ Some source
   pub at : ListAt
-  pub list_at : IsListAt old.world list at
-  pub guarded : IsGuardedAt script old new kernel run.kernel
+  pub list_at : IsListAt w list at
+  pub kernel_is : run.kernel ≡ kernel
+  pub guarded : run.guarded ≡ true
   pub binds : run.binds.items
-      ≡ job_binds old.world source.parallel waive 0 source.params.items args ++ word_at at.start ∷ []
+      ≡ job_binds w source.parallel waive 0 source.params.items args ++ word_at at.start ∷ []
   pub cut_by : IsCutBy (Some (at.cap, batch)) run.cut
   pub parallel : run.parallel ≡ (source.parallel && is_none waive)

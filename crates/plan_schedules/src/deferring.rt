@@ -1,20 +1,22 @@
 // `schedule` with `defer`: a job with as many indexes as a list can have, of which those below the list's length act.
-ghost use Rattle.std.specs.Prelude.{Box, ◌≡◌, ◌^◌, ◌<◌, ◌≤◌, slice_get, ◌++◌, ◌∷◌, [], length, vec_len, IfErr, IfOk, OnOk, None, Some};
+ghost use Rattle.std.specs.Prelude.{Box, ◌≡◌, ◌<◌, ◌≤◌, ℕ, slice_get, ◌++◌, ◌∷◌, [], length, vec_len, IfErr, IfOk, None, Some};
 ghost use Rattle.job_base.specs.declared.limits.TheConstants.{MOST_INDEXES, MOST_PARAMS};
 ghost use Rattle.frame_ast.specs.declared.kernel.Kernel.{Kernel};
 ghost use Rattle.std.specs.declared.alloc.Global.{Global};
 ghost use Rattle.frame_ast.specs.declared.script.NewJob.{NewJob};
 ghost use Rattle.frame_ast.specs.Orders.{Table};
 ghost use Rattle.defer_laws.specs.GuardedRuns as deferred;
-ghost use Rattle.plan_schedules.specs.Deferring.{IsGuardedRun, IsKernelGuardable, IsListName, deferring};
+ghost use Rattle.plan_schedules.specs.Deferring.{IsGuardedRun, IsListName, deferring};
 ghost use Rattle.plan_state.specs.Accesses.{AreThere};
 ghost use Rattle.plan_schedules.specs.JobBinds.{job_binds};
-ghost use Rattle.plan_state.specs.Steps.{IsBefore, GoesOnIn, FailsIn};
+ghost use Rattle.plan_state.specs.declared.state.Planner.{Planner};
+ghost use Rattle.plan_state.specs.Answers.{ExceedsIn};
+ghost use Rattle.plan_state.specs.Starts.{MayBeTaken, SchedulesIn};
+ghost use Rattle.plan_state.specs.Steps.{IsBefore};
 ghost use Rattle.plan_schedules.specs.Uses.{AreNamesBelow};
 
 use crate::accepting::{Run, add_job};
 use crate::deferred_uses::{deferred_refusal, length_use, list_at, noted_uses, with_length};
-use crate::guards::guarded_copy_of;
 use crate::job_binds::job_binds;
 use crate::scheduling::{add_automatic, is_split, refuse_schedule};
 use crate::uses::uses;
@@ -25,7 +27,7 @@ use job_handle::Handle;
 use kernel_exec::Bind;
 use native_array::ArrayAt;
 use native_list::ListAt;
-use plan_state::{PlanFault, Planner, World};
+use plan_state::{JobAnswer, PlanFault, World};
 use std::alloc::Global;
 
 /// `schedule [auto] handle kernel(args) defer list BATCH [waive p ..] [after h ..]`
@@ -33,59 +35,60 @@ use std::alloc::Global;
 /// `cut` is none: an accepted script has no length beside a `defer`.
 ///
 /// <https://docs.unity3d.com/ScriptReference/Unity.Jobs.IJobParallelForDefer.html>
-pub fn schedule_deferred(
-    planner: &mut Planner,
+pub(crate) fn schedule_deferred(
+    world: &mut World,
     alloc: Global,
     script: &Script,
-    line: u32,
     job: &NewJob,
     defer: (u32, u32),
-) -> Result<(), PlanFault>
+) -> Result<JobAnswer, PlanFault>
     // The statement has its job in a box, whichever that is.
-    requires ready { (home : Box NewJob Global) × IsBefore script.now planner.old
-        (deferring line home job.now job.now.cut defer) }
+    requires ready { (line : ℕ) × (home : Box NewJob Global) × (p : Planner)
+        × IsBefore script.now (record p { world = world.old }) (deferring line home job.now job.now.cut defer) }
 
-    ensures goes_on { OnOk result ((home : Box NewJob Global) (table : Table)
-        → GoesOnIn script.now table planner.old planner.new (deferring line home job.now job.now.cut defer)) }
-    ensures fails { IfErr result (λ fault. (home : Box NewJob Global) (table : Table)
-        → FailsIn script.now table fault planner.old (deferring line home job.now job.now.cut defer)) }
+    ensures answers { IfOk result (λ answer. (line : ℕ) (home : Box NewJob Global) (table : Table)
+        → SchedulesIn script.now table world.old world.new (deferring line home job.now job.now.cut defer) answer) }
+    ensures takes { IfOk result (λ answer. (line : ℕ) (home : Box NewJob Global)
+        → MayBeTaken script.now world.old (deferring line home job.now job.now.cut defer) answer) }
+    ensures fails { IfErr result (λ fault. (line : ℕ) (home : Box NewJob Global) (table : Table)
+        → ExceedsIn script.now table fault world.old (deferring line home job.now job.now.cut defer)) }
 {
-    schedule_by_list(planner, alloc, script, line, job, defer.0, defer.1)
+    schedule_by_list(world, alloc, script, job, defer.0, defer.1)
 }
 
 /// The same, by the name of the list and the batch.
 fn schedule_by_list(
-    planner: &mut Planner,
+    world: &mut World,
     alloc: Global,
     script: &Script,
-    line: u32,
     job: &NewJob,
     list: u32,
     batch: u32,
-) -> Result<(), PlanFault>
-    requires ready { (home : Box NewJob Global) × IsBefore script.now planner.old
-        (deferring line home job.now None (list, batch)) }
+) -> Result<JobAnswer, PlanFault>
+    requires ready { (line : ℕ) × (home : Box NewJob Global) × (p : Planner)
+        × IsBefore script.now (record p { world = world.old }) (deferring line home job.now None (list, batch)) }
 
-    ensures goes_on { OnOk result ((home : Box NewJob Global) (table : Table)
-        → GoesOnIn script.now table planner.old planner.new (deferring line home job.now None (list, batch))) }
-    ensures fails { IfErr result (λ fault. (home : Box NewJob Global) (table : Table)
-        → FailsIn script.now table fault planner.old (deferring line home job.now None (list, batch))) }
+    ensures answers { IfOk result (λ answer. (line : ℕ) (home : Box NewJob Global) (table : Table)
+        → SchedulesIn script.now table world.old world.new (deferring line home job.now None (list, batch)) answer) }
+    ensures takes { IfOk result (λ answer. (line : ℕ) (home : Box NewJob Global)
+        → MayBeTaken script.now world.old (deferring line home job.now None (list, batch)) answer) }
+    ensures fails { IfErr result (λ fault. (line : ℕ) (home : Box NewJob Global) (table : Table)
+        → ExceedsIn script.now table fault world.old (deferring line home job.now None (list, batch))) }
 {
     let params = &script.kernels[job.kernel as usize].params;
     let parallel = script.kernels[job.kernel as usize].parallel;
     let mut deps = Handle::empty();
-    planner.world.set_to_jobs_of(&mut deps, &job.after);
-    let uses = uses(&planner.world, alloc, params, &job.args, &deps)?;
-    let length = length_use(&planner.world, list, &deps);
+    world.set_to_jobs_of(&mut deps, &job.after);
+    let uses = uses(world, alloc, params, &job.args, &deps)?;
+    let length = length_use(world, list, &deps);
     let all = with_length(alloc, &uses, &length)?;
     if let Some(cause) = deferred_refusal(&uses, &length, &all, parallel, job.auto) {
-        refuse_schedule(planner, line, job.handle, cause)?;
-        return Ok(());
+        return Ok(refuse_schedule(world, job.handle, cause)?);
     }
-    add_automatic(&planner.world, alloc, job.auto, &mut deps, &all)?;
+    add_automatic(world, alloc, job.auto, &mut deps, &all)?;
     let noted = noted_uses(uses, all, &length);
     let run = guarded_run(
-        planner,
+        world,
         alloc,
         script,
         job.kernel,
@@ -93,7 +96,7 @@ fn schedule_by_list(
         &job.waive,
         (list, batch),
     )?;
-    add_job(planner, alloc, job.handle, run, &noted, &deps)
+    add_job(world, alloc, job.handle, run, &noted, &deps)
 }
 
 /// The binds of the arguments, and the word that holds the length of the list.
@@ -119,9 +122,10 @@ fn deferred_binds(
     Ok(binds)
 }
 
-/// What the job of a schedule with `defer` runs: the guarded kernel, of which the plan has a copy then.
+/// What the job of a schedule with `defer` runs: its kernel with a guard, on the words of its arguments and that of the
+/// list's length.
 fn guarded_run(
-    planner: &mut Planner,
+    world: &World,
     alloc: Global,
     script: &Script,
     kernel: u32,
@@ -130,27 +134,22 @@ fn guarded_run(
     defer: (u32, u32),
 ) -> Result<Run, NoMemory>
     requires kernel { kernel < vec_len script.now.kernels }
-    requires guards { vec_len planner.old.guards ≡ vec_len script.now.kernels }
-    requires guardable { IsKernelGuardable script.now kernel }
-    requires copies { vec_len planner.old.draft.kernels < 2 ^ 32 }
     requires each { (k : Kernel) → slice_get script.now.kernels.items kernel ≡ Some k
         → length args.now ≡ length k.params.items }
     requires args { length args.now ≤ MOST_PARAMS }
-    requires names { AreNamesBelow (vec_len planner.old.world.values) args.now }
-    requires there { AreThere (vec_len planner.old.world.containers) (vec_len planner.old.world.handles)
-        planner.old.world.values.items }
-    requires list { defer.0 < vec_len planner.old.world.values }
-    requires is_list { IsListName planner.old.world defer.0 }
+    requires names { AreNamesBelow (vec_len world.now.values) args.now }
+    requires there { AreThere (vec_len world.now.containers) (vec_len world.now.handles) world.now.values.items }
+    requires list { defer.0 < vec_len world.now.values }
+    requires is_list { IsListName world.now defer.0 }
     requires batch { (1 ≤ defer.1) × (defer.1 ≤ MOST_INDEXES) }
-    ensures { IfOk result (λ run.
-        IsGuardedRun script.now planner.old planner.new kernel args.now waive.now defer.0 defer.1 run) }
+    ensures { IfOk result (λ run. IsGuardedRun script.now world.now kernel args.now waive.now defer.0 defer.1 run) }
 {
     let of = &script.kernels[kernel as usize];
-    let at = list_at(&planner.world, defer.0);
-    let binds = deferred_binds(&planner.world, alloc, of, args, waive, at)?;
-    let place = guarded_copy_of(planner, alloc, script, kernel)?;
+    let at = list_at(world, defer.0);
+    let binds = deferred_binds(world, alloc, of, args, waive, at)?;
     Ok(Run {
-        kernel: place,
+        kernel,
+        guarded: true,
         binds,
         cut: batch_cut::cut(at.cap, defer.1),
         parallel: is_split(of.parallel, waive),

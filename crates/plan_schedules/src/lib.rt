@@ -3,29 +3,28 @@
 //! A schedule looks at the containers of its arguments (`uses`), finds the first cause for which it is refused
 //! (`causes`), gathers what its job waits for (`scheduling`) and what it runs: a copy of its kernel on the words of its
 //! arguments (`job_binds`), or with `defer` a guarded copy that reads the length of its list (`deferring`). Then the
-//! books have the job, and the segment at hand is closed and starts it (`accepting`).
+//! books have the job (`accepting`).
 //!
-//! [`schedule`] and [`schedule_deferred`] take what a planner stands for from the state before the statement to the one
-//! after it (`specs/Steps` of plan_state). Why the job does what its schedule says is shown in `plan_laws`.
+//! [`schedule`] changes what statements see, and answers a refusal or the job. Each planner that takes the answer goes
+//! from the state before the statement to the one after it (`specs/Starts` of plan_state). Why the job does what its
+//! schedule says is shown in `plan_laws`.
 //!
 //! *Cost.* A job costs a set of 4,096 bits, and for each argument a look at the safety book and one at each argument
-//! before it. The kernels that jobs run are copied and compiled once (`copies`). What a schedule without `defer`
-//! gathers stands in memory that one schedule leaves to the next ([`Gathered`]), so one that is refused takes none.
+//! before it. What a schedule without `defer` gathers stands in memory that one schedule leaves to the next
+//! ([`Gathered`]), so one that is refused takes none.
 #![tactic(auto)]
 
 mod accepting;
 mod causes;
-mod copies;
 mod deferred_uses;
 mod deferring;
 mod gathered;
-mod guards;
 mod job_binds;
+mod kinds;
 mod new_job;
 mod note_uses;
 mod scheduling;
 mod uses;
 
-pub use deferring::schedule_deferred;
 pub use gathered::Gathered;
-pub use scheduling::schedule;
+pub use kinds::schedule;

@@ -1,5 +1,5 @@
-// `schedule`: a job that is refused, or that the segment at hand starts.
-ghost use Rattle.std.specs.Prelude.{Box, ◌≡◌, ◌<◌, ◌≤◌, ◌^◌, true, ◌&&◌, IfErr, IfOk, OnOk, Some, slice_get, vec_len, length};
+// `schedule` without `defer`: a job that is refused, or that the segment at hand is to start.
+ghost use Rattle.std.specs.Prelude.{Box, ◌≡◌, ◌<◌, ◌≤◌, ◌^◌, ℕ, true, ◌&&◌, IfErr, IfOk, OnOk, Some, slice_get, vec_len, length};
 ghost use Rattle.frame_ast.specs.declared.kernel.Kernel.{Kernel};
 ghost use Rattle.job_base.specs.declared.limits.TheConstants.{MOST_PARAMS};
 ghost use Rattle.std.specs.declared.alloc.Global.{Global};
@@ -7,20 +7,22 @@ ghost use Rattle.frame_ast.specs.declared.script.NewJob.{NewJob};
 ghost use Rattle.frame_ast.specs.Orders.{Table};
 ghost use Rattle.frame_ast.specs.Accepted.{cut_fits};
 ghost use Rattle.frame_ast.specs.Jobs.{nobody};
-ghost use Rattle.frame_core.specs.declared.plan.Act.TheVariants.{Say};
 ghost use Rattle.auto_deps.specs.Needs.{conflicting_with};
-ghost use Rattle.plan_state.specs.Accesses.{AreThere, HasHandle, IsPushed};
+ghost use Rattle.plan_state.specs.declared.start.JobAnswer.TheVariants.{Refused};
+ghost use Rattle.plan_state.specs.declared.state.Planner.{Planner};
+ghost use Rattle.plan_state.specs.Accesses.{AreThere, HasHandle};
+ghost use Rattle.plan_state.specs.Answers.{ExceedsIn};
 ghost use Rattle.plan_state.specs.Growth.{is_none};
-ghost use Rattle.plan_schedules.specs.Starting.{AreDeps, IsKernelChecked, IsPlainRun, scheduling};
+ghost use Rattle.plan_state.specs.Starts.{MayBeTaken, SchedulesIn};
+ghost use Rattle.plan_state.specs.Steps.{IsBefore};
+ghost use Rattle.plan_schedules.specs.Starting.{AreDeps, IsPlainRun, scheduling};
 ghost use Rattle.frame_ast.specs.Laws.{AreUpTo};
 ghost use Rattle.job_handle.specs.Sets.{jobs_of};
 ghost use Rattle.job_handle.specs.Books.{count_of};
-ghost use Rattle.plan_state.specs.Steps.{IsBefore, GoesOnIn, FailsIn};
 ghost use Rattle.plan_schedules.specs.Uses.{AreNamesBelow, tags_of};
 
 use crate::accepting::{Run, add_job};
 use crate::causes::{Cause, refusal_of};
-use crate::copies::plan_copy_of;
 use crate::gathered::Gathered;
 use crate::job_binds::job_binds;
 use crate::new_job::cut_of;
@@ -29,53 +31,42 @@ use auto_deps::automatic;
 use frame_ast::script::{Arg, NewJob, Script};
 use job_base::{Access, NoMemory};
 use job_handle::Handle;
-use plan_state::{PlanFault, Planner, World};
+use plan_state::{JobAnswer, PlanFault, World};
 use safety_handle::Tag;
 use std::alloc::Global;
 
 /// `schedule [auto] handle kernel(args) [N BATCH] [waive p ..] [after h ..]`
-pub fn schedule(
-    planner: &mut Planner,
+pub(crate) fn schedule_plain(
+    world: &mut World,
     alloc: Global,
     script: &Script,
-    line: u32,
     job: &NewJob,
     gathered: &mut Gathered,
-) -> Result<(), PlanFault>
+) -> Result<JobAnswer, PlanFault>
     // The statement has its job in a box, whichever that is.
-    requires ready { (home : Box NewJob Global) × IsBefore script.now planner.old (scheduling line home job.now) }
+    requires ready { (line : ℕ) × (home : Box NewJob Global) × (p : Planner)
+        × IsBefore script.now (record p { world = world.old }) (scheduling line home job.now) }
 
-    ensures goes_on { OnOk result ((home : Box NewJob Global) (table : Table)
-        → GoesOnIn script.now table planner.old planner.new (scheduling line home job.now)) }
-    ensures fails { IfErr result (λ fault. (home : Box NewJob Global) (table : Table)
-        → FailsIn script.now table fault planner.old (scheduling line home job.now)) }
+    ensures answers { IfOk result (λ answer. (line : ℕ) (home : Box NewJob Global) (table : Table)
+        → SchedulesIn script.now table world.old world.new (scheduling line home job.now) answer) }
+    ensures takes { IfOk result (λ answer. (line : ℕ) (home : Box NewJob Global)
+        → MayBeTaken script.now world.old (scheduling line home job.now) answer) }
+    ensures fails { IfErr result (λ fault. (line : ℕ) (home : Box NewJob Global) (table : Table)
+        → ExceedsIn script.now table fault world.old (scheduling line home job.now)) }
 {
     let params = &script.kernels[job.kernel as usize].params;
     let parallel = script.kernels[job.kernel as usize].parallel;
-    planner.world.set_to_jobs_of(&mut gathered.deps, &job.after);
-    gather(
-        &planner.world,
-        params,
-        &job.args,
-        &gathered.deps,
-        &mut gathered.uses,
-    )?;
+    world.set_to_jobs_of(&mut gathered.deps, &job.after);
+    gather(world, params, &job.args, &gathered.deps, &mut gathered.uses)?;
     if let Some(cause) = refusal_of(&gathered.uses, parallel, job.auto) {
-        refuse_schedule(planner, line, job.handle, cause)?;
-        return Ok(());
+        return Ok(refuse_schedule(world, job.handle, cause)?);
     }
-    add_automatic(
-        &planner.world,
-        alloc,
-        job.auto,
-        &mut gathered.deps,
-        &gathered.uses,
-    )?;
+    add_automatic(world, alloc, job.auto, &mut gathered.deps, &gathered.uses)?;
     let run = plain_run(
-        planner, alloc, script, job.kernel, &job.args, job.cut, &job.waive,
+        world, alloc, script, job.kernel, &job.args, job.cut, &job.waive,
     )?;
     add_job(
-        planner,
+        world,
         alloc,
         job.handle,
         run,
@@ -86,22 +77,21 @@ pub fn schedule(
 
 /// A refused schedule makes no job.
 pub(crate) fn refuse_schedule(
-    planner: &mut Planner,
-    line: u32,
+    world: &mut World,
     handle: u32,
     cause: Cause,
-) -> Result<(), NoMemory>
-    requires name { handle < vec_len planner.old.world.values }
-    requires there { AreThere (vec_len planner.old.world.containers) (vec_len planner.old.world.handles)
-        planner.old.world.values.items }
-    requires few { vec_len planner.old.world.handles < 2 ^ 32 }
-    ensures { OnOk result ((said : Planner)
-        × IsPushed planner.old said (record { line = line; name = cause.name; act = Say cause.refusal })
-        × HasHandle said.world planner.new.world handle nobody
-        × (planner.new ≡ record said { world = planner.new.world })) }
+) -> Result<JobAnswer, NoMemory>
+    requires name { handle < vec_len world.old.values }
+    requires there { AreThere (vec_len world.old.containers) (vec_len world.old.handles) world.old.values.items }
+    requires few { vec_len world.old.handles < 2 ^ 32 }
+    ensures refuses { IfOk result (λ answer. answer ≡ Refused cause.name cause.refusal) }
+    ensures nobody { OnOk result (HasHandle world.old world.new handle nobody) }
 {
-    planner.push_refusal(line, cause.name, cause.refusal)?;
-    planner.world.clear_handle(handle)
+    world.clear_handle(handle)?;
+    Ok(JobAnswer::Refused {
+        name: cause.name,
+        refusal: cause.refusal,
+    })
 }
 
 /// What the job waits for: the named jobs, and with `auto` all others that it has to, which are added to them.
@@ -148,9 +138,9 @@ fn add_needed(
     Ok(())
 }
 
-/// What the job of a schedule without `defer` runs: its kernel, of which the plan has a copy then.
+/// What the job of a schedule without `defer` runs: its kernel, on the words of its arguments.
 fn plain_run(
-    planner: &mut Planner,
+    world: &World,
     alloc: Global,
     script: &Script,
     kernel: u32,
@@ -159,23 +149,19 @@ fn plain_run(
     waive: &[u32],
 ) -> Result<Run, NoMemory>
     requires kernel { kernel < vec_len script.now.kernels }
-    requires kernels { vec_len planner.old.kernels ≡ vec_len script.now.kernels }
-    requires copies { vec_len planner.old.draft.kernels < 2 ^ 32 }
-    requires checked { IsKernelChecked script.now kernel }
     requires each { (k : Kernel) → slice_get script.now.kernels.items kernel ≡ Some k
         → length args.now ≡ length k.params.items }
     requires args { length args.now ≤ MOST_PARAMS }
-    requires names { AreNamesBelow (vec_len planner.old.world.values) args.now }
-    requires there { AreThere (vec_len planner.old.world.containers) (vec_len planner.old.world.handles)
-        planner.old.world.values.items }
+    requires names { AreNamesBelow (vec_len world.now.values) args.now }
+    requires there { AreThere (vec_len world.now.containers) (vec_len world.now.handles) world.now.values.items }
     requires cut { cut_fits cut ≡ true }
-    ensures { IfOk result (λ run. IsPlainRun script.now planner.old planner.new kernel args.now cut waive.now run) }
+    ensures { IfOk result (λ run. IsPlainRun script.now world.now kernel args.now cut waive.now run) }
 {
     let of = &script.kernels[kernel as usize];
-    let binds = job_binds(&planner.world, alloc, of, args, waive)?;
-    let place = plan_copy_of(planner, alloc, script, kernel)?;
+    let binds = job_binds(world, alloc, of, args, waive)?;
     Ok(Run {
-        kernel: place,
+        kernel,
+        guarded: false,
         binds,
         cut: cut_of(cut),
         parallel: is_split(of.parallel, waive),

@@ -1,6 +1,7 @@
 pub mod Accessing
 pub mod Answering
 pub mod Binding
+pub mod CopiesMade
 pub mod Naming
 pub mod Outlining
 pub mod Quiet

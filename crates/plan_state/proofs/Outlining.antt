@@ -20,6 +20,7 @@ module _ (p : Planner) (script : Script) (table : Table) (begun : ScriptState) (
       literals = p.draft.literals;
       jobs = p.draft.jobs;
       segments = p.draft.segments;
+      first = p.draft.first;
       cells = peak_of p.world.store;
       words = peak_of p.world.store;
     };
@@ -37,6 +38,7 @@ module _ (p : Planner) (script : Script) (table : Table) (begun : ScriptState) (
     jobs = ([], sym (append-nil p.draft.jobs.items));
     starts = λ k lt. refl;
     cells = omega arith;
+    first = refl;
     small = (let low = st.numbers.peak_low in let few = st.numbers.created_few in omega arith);
   }
 

@@ -165,6 +165,7 @@ module _ (p : Planner) (g : Setting) (begun : ScriptState) (n : ℕ) (s : Script
     names = a.names;
     kernels = a.kernels;
     literals = a.literals;
+    first = a.first;
     jobs = a.jobs;
     starts = a.starts;
     cells = a.cells;

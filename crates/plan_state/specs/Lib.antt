@@ -5,3 +5,5 @@ pub mod Stands
 pub mod Steps
 pub mod Answers
 pub mod Accesses
+pub mod Copies
+pub mod Starts

@@ -170,10 +170,10 @@ pub record IsGuardedCopy (p : Planner) (g : Setting) (k place : ℕ) : Type 0 wh
   pub footprint : GuardsFootprint old new
 
 pub record AreKernels (p : Planner) (g : Setting) : Type 0 where
-  pub each : length p.kernels.items ≡ length g.kernels
-  pub each_guard : length p.guards.items ≡ length g.kernels
-  pub copies : (k place : ℕ) → slice_get p.kernels.items k ≡ Some (Some place) → IsCopy p g k place
-  pub guards : (k place : ℕ) → slice_get p.guards.items k ≡ Some (Some place) → IsGuardedCopy p g k place
+  pub each : length p.draft.copies_of.items ≡ length g.kernels
+  pub each_guard : length p.draft.guards_of.items ≡ length g.kernels
+  pub copies : (k place : ℕ) → slice_get p.draft.copies_of.items k ≡ Some (Some place) → IsCopy p g k place
+  pub guards : (k place : ℕ) → slice_get p.draft.guards_of.items k ≡ Some (Some place) → IsGuardedCopy p g k place
   pub checked : (place : ℕ) (k : Kernel) → slice_get p.draft.kernels.items place ≡ Some k → IsChecked k
   pub coded : AreCodesOf p.draft.kernels.items p.draft.codes.items
 
@@ -209,7 +209,8 @@ draft_of p = record {
 }
 
 -- A whole plan that goes on from what was found so far: its names are those of the script, its kernels, literals and
--- jobs begin with those so far, ranges start where they were found, and its words hold all ranges.
+-- jobs begin with those so far, ranges start where they were found, its words hold all ranges, and it begins with the
+-- same cells.
 pub record Agrees (p : Planner) (g : Setting) (begun : ScriptState) (found : List ℕ) (x : Outline) : Type 0 where
   pub begins : x.begun ≡ begun
   pub names : map (λ v. string_bytes v) x.plan.names.items ≡ g.names
@@ -218,6 +219,7 @@ pub record Agrees (p : Planner) (g : Setting) (begun : ScriptState) (found : Lis
   pub jobs : (later : List JobPlan) × (x.plan.jobs.items ≡ p.draft.jobs.items ++ later)
   pub starts : (k : ℕ) → k < length found → x.starts k ≡ get_or found k 0
   pub cells : peak_of p.world.store ≤ x.plan.cells
+  pub first : x.plan.first.items ≡ p.draft.first.items
   pub small : x.plan.cells < 2 ^ 32
 
 -- WHAT STATEMENTS SEE. A world is that of a script in this state, where the ranges taken so far start at these words.

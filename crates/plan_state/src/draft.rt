@@ -1,6 +1,5 @@
 // The small changes that every statement is made of: an operation more in the draft, and what a name stands for.
 ghost use Rattle.std.specs.Prelude.{◌≡◌, ◌<◌, ◌≤◌, ◌*◌, ◌^◌, ◌||◌, ℕ, All, OnOk, vec_len};
-ghost use Rattle.frame_core.specs.declared.plan.Act.TheVariants.{Say};
 ghost use Rattle.job_base.specs.declared.limits.TheConstants.{MOST_JOBS};
 ghost use Rattle.frame_ast.specs.Jobs.{nobody, only};
 ghost use Rattle.job_handle.specs.Sets.{jobs_of};
@@ -9,7 +8,7 @@ ghost use Rattle.plan_state.specs.Accesses.{AreThere, HasHandle, IsPushed, IsRen
 
 use crate::state::{Planner, Value, World};
 use frame_core::{Act, Op};
-use job_base::{JobId, NoMemory, Refusal};
+use job_base::{JobId, NoMemory};
 use job_handle::Handle;
 
 impl Planner {
@@ -18,13 +17,6 @@ impl Planner {
         ensures { OnOk result (IsPushed self.old self.new (record { line = line; name = name; act = act })) }
     {
         self.draft.push(Op { line, name, act })
-    }
-
-    /// The statement is refused, whatever the cells are: its line will be written.
-    pub fn push_refusal(&mut self, line: u32, name: u32, refusal: Refusal) -> Result<(), NoMemory>
-        ensures { OnOk result (IsPushed self.old self.new (record { line = line; name = name; act = Say refusal })) }
-    {
-        self.push(line, name, Act::Say { refusal })
     }
 }
 

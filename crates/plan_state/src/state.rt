@@ -79,10 +79,15 @@ pub struct Draft {
     pub ops: Vec<Op>,
     /// How many pieces the jobs have together.
     pub pieces: u32,
+    /// The first words as the plan finds them: what the sections before it left.
+    pub first: Vec<i64>,
+    // By the script's kernels: the places of their copies among those here, plain and with the guard of `defer`.
+    pub copies_of: Vec<Option<u32>>,
+    pub guards_of: Vec<Option<u32>>,
 }
 
 impl Draft {
-    /// No plan yet.
+    /// No plan yet, of a script without kernels.
     pub fn none(alloc: Global) -> Draft
         ensures kernels { result.kernels.items ≡ [] }
         ensures codes { result.codes.items ≡ [] }
@@ -92,6 +97,9 @@ impl Draft {
         ensures waits { result.waits.items ≡ [] }
         ensures ops { result.ops.items ≡ [] }
         ensures pieces { result.pieces ≡ 0 }
+        ensures first { result.first.items ≡ [] }
+        ensures copies { result.copies_of.items ≡ [] }
+        ensures guards { result.guards_of.items ≡ [] }
     {
         Draft {
             kernels: Vec::new(alloc),
@@ -102,6 +110,9 @@ impl Draft {
             waits: Vec::new(alloc),
             ops: Vec::new(alloc),
             pieces: 0,
+            first: Vec::new(alloc),
+            copies_of: Vec::new(alloc),
+            guards_of: Vec::new(alloc),
         }
     }
 }
@@ -132,12 +143,10 @@ pub struct World {
     pub passing: u32,
 }
 
-/// What the script's thread knows, and the draft of the plan. Statements change both, one after another.
+/// What the script's thread knows, and the draft of the plan. A statement changes the one, and what it answers changes
+/// the other.
 #[derive(Drop)]
 pub struct Planner {
     pub world: World,
     pub draft: Draft,
-    // By the script's kernels: the places of their copies among the plan's, plain and with the guard of `defer`.
-    pub kernels: Vec<Option<u32>>,
-    pub guards: Vec<Option<u32>>,
 }

@@ -12,29 +12,19 @@ use Rattle.frame_core.specs.Ordered.{AreCodesOf}
 use Rattle.frame_core.proofs.Small.{some_is, none_some, get_below, get_before, get_behind, get_either}
 use Rattle.plan_state.specs.declared.state.Draft.{Draft}
 use Rattle.plan_state.specs.declared.state.Planner.{Planner}
-use Rattle.plan_schedules.specs.Deferring.{IsGuardOf, IsGuardedAnew, IsGuardedAt}
+use Rattle.plan_state.specs.Copies.{IsGuardOf, IsGuardedAnew, IsGuardedAt}
 use Rattle.plan_state.specs.Stands.{AreKernels, IsGuardedCopy}
 use Rattle.plan_state.proofs.Naming.{set_either, set_long}
 use Rattle.plan_schedules.proofs.Coding.{coded_added}
 
--- nothing but the copies and their places changes
-pub moved : (script : Script) (p middle : Planner) (kernel place : ℕ) → IsGuardedAt script p middle kernel place
-    → middle ≡ record p { guards = middle.guards; draft = record p.draft { kernels = middle.draft.kernels; codes = middle.draft.codes } }
-moved script p middle kernel place guarded = ⊎_elim
-    (λ (l : (slice_get p.guards.items kernel ≡ Some (Some place)) × (middle ≡ p)). l.1
-    ∙ ap (λ (m : Planner). record p { guards = m.guards; draft = record p.draft { kernels = m.draft.kernels; codes = m.draft.codes } }) (sym l.1))
-    (λ (r : IsGuardedAnew script p middle kernel place).
-    r.rest ∙ ap (λ (d : Draft). record p { guards = middle.guards; draft = d }) r.added.rest)
-    guarded
-
-module _ (script : Script) (g : Setting) (is_g : g.kernels ≡ script.kernels.items) (p middle : Planner) (kernel place : ℕ) (ks : AreKernels p g)
-    (guarded : IsGuardedAt script p middle kernel place)
+module _ (script : Script) (g : Setting) (is_g : g.kernels ≡ script.kernels.items) (p : Planner) (middle : Draft) (kernel place : ℕ)
+    (ks : AreKernels p g) (guarded : IsGuardedAt script p.draft middle kernel place)
     (source : Kernel) (has_source : slice_get script.kernels.items kernel ≡ Some source) where
   -- the copies so far keep their places
-  grown : (k : ℕ) (it : Kernel) → slice_get p.draft.kernels.items k ≡ Some it → slice_get middle.draft.kernels.items k ≡ Some it
+  grown : (k : ℕ) (it : Kernel) → slice_get p.draft.kernels.items k ≡ Some it → slice_get middle.kernels.items k ≡ Some it
   grown k it h = ⊎_elim
-      (λ (l : (slice_get p.guards.items kernel ≡ Some (Some place)) × (middle ≡ p)). ap (λ (m : Planner). slice_get m.draft.kernels.items k) l.1 ∙ h)
-      (λ (r : IsGuardedAnew script p middle kernel place).
+      (λ (l : (slice_get p.draft.guards_of.items kernel ≡ Some (Some place)) × (middle ≡ p.draft)). ap (λ (m : Draft). slice_get m.kernels.items k) l.1 ∙ h)
+      (λ (r : IsGuardedAnew script p.draft middle kernel place).
       ap (λ xs. slice_get xs k) r.added.kernels
       ∙ get_before p.draft.kernels.items (r.copy ∷ []) k (get_below p.draft.kernels.items k it h) ∙ h)
       guarded
@@ -42,12 +32,12 @@ module _ (script : Script) (g : Setting) (is_g : g.kernels ≡ script.kernels.it
   -- and the kernel has its guarded copy
   pub record HasGuard : Type 0 where
     pub copy : Kernel
-    pub here : slice_get middle.draft.kernels.items place ≡ Some copy
+    pub here : slice_get middle.kernels.items place ≡ Some copy
     pub guards : IsGuardOf source copy
 
   pub has_guard : HasGuard
   has_guard = ⊎_elim
-      (λ (l : (slice_get p.guards.items kernel ≡ Some (Some place)) × (middle ≡ p)).
+      (λ (l : (slice_get p.draft.guards_of.items kernel ≡ Some (Some place)) × (middle ≡ p.draft)).
       let c = ks.guards kernel place l.0 in
       let same : c.old ≡ source = some_is (sym c.is_old ∙ ap (λ ks. slice_get ks kernel) is_g ∙ has_source) in
       record {
@@ -61,7 +51,7 @@ module _ (script : Script) (g : Setting) (is_g : g.kernels ≡ script.kernels.it
           footprint = c.footprint;
         });
       })
-      (λ (r : IsGuardedAnew script p middle kernel place). record {
+      (λ (r : IsGuardedAnew script p.draft middle kernel place). record {
         copy = r.copy;
         here =
             ap (λ xs. slice_get xs place) r.added.kernels
@@ -72,20 +62,21 @@ module _ (script : Script) (g : Setting) (is_g : g.kernels ≡ script.kernels.it
       })
       guarded
 
-  pub copies_few : length middle.draft.kernels.items ≤ suc (length p.draft.kernels.items)
+  pub copies_few : length middle.kernels.items ≤ suc (length p.draft.kernels.items)
   copies_few = ⊎_elim
-      (λ (l : (slice_get p.guards.items kernel ≡ Some (Some place)) × (middle ≡ p)).
-      let e = ap (λ (m : Planner). length m.draft.kernels.items) l.1 in omega arith)
-      (λ (r : IsGuardedAnew script p middle kernel place). let e = ap length r.added.kernels ∙ length-append p.draft.kernels.items (r.copy ∷ []) in omega arith)
+      (λ (l : (slice_get p.draft.guards_of.items kernel ≡ Some (Some place)) × (middle ≡ p.draft)).
+      let e = ap (λ (m : Draft). length m.kernels.items) l.1 in omega arith)
+      (λ (r : IsGuardedAnew script p.draft middle kernel place).
+      let e = ap length r.added.kernels ∙ length-append p.draft.kernels.items (r.copy ∷ []) in omega arith)
       guarded
 
   -- what a whole plan has after them, it has after those so far
-  pub kernels_later : (all : List Kernel) → (rest : List Kernel) × (all ≡ middle.draft.kernels.items ++ rest)
+  pub kernels_later : (all : List Kernel) → (rest : List Kernel) × (all ≡ middle.kernels.items ++ rest)
       → (rest : List Kernel) × (all ≡ p.draft.kernels.items ++ rest)
   kernels_later all r = ⊎_elim
-      (λ (l : (slice_get p.guards.items kernel ≡ Some (Some place)) × (middle ≡ p)).
-      (r.0, r.1 ∙ ap (λ (m : Planner). m.draft.kernels.items ++ r.0) l.1))
-      (λ (a : IsGuardedAnew script p middle kernel place). (
+      (λ (l : (slice_get p.draft.guards_of.items kernel ≡ Some (Some place)) × (middle ≡ p.draft)).
+      (r.0, r.1 ∙ ap (λ (m : Draft). m.kernels.items ++ r.0) l.1))
+      (λ (a : IsGuardedAnew script p.draft middle kernel place). (
         a.copy ∷ r.0,
         r.1 ∙ ap (λ xs. xs ++ r.0) a.added.kernels
             ∙ append_assoc p.draft.kernels.items (a.copy ∷ []) r.0,
@@ -93,8 +84,8 @@ module _ (script : Script) (g : Setting) (is_g : g.kernels ≡ script.kernels.it
       guarded
 
   -- of a planner that has them
-  pub kernels_stand : (q : Planner) → q.guards ≡ middle.guards → q.draft.kernels ≡ middle.draft.kernels → q.draft.codes ≡ middle.draft.codes
-      → q.kernels ≡ p.kernels
+  pub kernels_stand : (q : Planner) → q.draft.guards_of ≡ middle.guards_of → q.draft.kernels ≡ middle.kernels → q.draft.codes ≡ middle.codes
+      → q.draft.copies_of ≡ p.draft.copies_of
       → AreKernels q g
   kernels_stand q guards copies codes kernels = record {
     each = ap (λ (v : Vec (Option ℕ) Global). length v.items) kernels ∙ ks.each;
@@ -105,19 +96,19 @@ module _ (script : Script) (g : Setting) (is_g : g.kernels ≡ script.kernels.it
     guards = λ k at h. guard_at k at (ap (λ (v : Vec (Option ℕ) Global). slice_get v.items k) (sym guards) ∙ h);
     checked = λ at k h. all_checked at k (ap (λ (v : Vec Kernel Global). slice_get v.items at) (sym copies) ∙ h);
     coded = subst (λ (v : Vec Kernel Global). AreCodesOf v.items q.draft.codes.items) (sym copies)
-        (subst (λ (v : Vec Code Global). AreCodesOf middle.draft.kernels.items v.items) (sym codes) all_coded);
+        (subst (λ (v : Vec Code Global). AreCodesOf middle.kernels.items v.items) (sym codes) all_coded);
   }
     where
-      there : (at : ℕ) (it : Kernel) → slice_get middle.draft.kernels.items at ≡ Some it → slice_get q.draft.kernels.items at ≡ Some it
+      there : (at : ℕ) (it : Kernel) → slice_get middle.kernels.items at ≡ Some it → slice_get q.draft.kernels.items at ≡ Some it
       there at it h = ap (λ (v : Vec Kernel Global). slice_get v.items at) copies ∙ h
 
-      long : length middle.guards.items ≡ length p.guards.items
+      long : length middle.guards_of.items ≡ length p.draft.guards_of.items
       long = ⊎_elim
-          (λ (l : (slice_get p.guards.items kernel ≡ Some (Some place)) × (middle ≡ p)). ap (λ (m : Planner). length m.guards.items) l.1)
-          (λ (r : IsGuardedAnew script p middle kernel place). ap length r.places ∙ set_long p.guards.items kernel (Some place))
+          (λ (l : (slice_get p.draft.guards_of.items kernel ≡ Some (Some place)) × (middle ≡ p.draft)). ap (λ (m : Draft). length m.guards_of.items) l.1)
+          (λ (r : IsGuardedAnew script p.draft middle kernel place). ap length r.places ∙ set_long p.draft.guards_of.items kernel (Some place))
           guarded
 
-      old_guard : (k at : ℕ) → slice_get p.guards.items k ≡ Some (Some at) → IsGuardedCopy q g k at
+      old_guard : (k at : ℕ) → slice_get p.draft.guards_of.items k ≡ Some (Some at) → IsGuardedCopy q g k at
       old_guard k at h = (let c = ks.guards k at h in record {
         old = c.old;
         new = c.new;
@@ -141,33 +132,34 @@ module _ (script : Script) (g : Setting) (is_g : g.kernels ≡ script.kernels.it
         footprint = c.guards.footprint;
       })
 
-      guard_at : (k at : ℕ) → slice_get middle.guards.items k ≡ Some (Some at) → IsGuardedCopy q g k at
+      guard_at : (k at : ℕ) → slice_get middle.guards_of.items k ≡ Some (Some at) → IsGuardedCopy q g k at
       guard_at k at h = ⊎_elim
-          (λ (l : (slice_get p.guards.items kernel ≡ Some (Some place)) × (middle ≡ p)). old_guard k at
-          (ap (λ (m : Planner). slice_get m.guards.items k) (sym l.1) ∙ h))
-          (λ (r : IsGuardedAnew script p middle kernel place). ⊎_elim
+          (λ (l : (slice_get p.draft.guards_of.items kernel ≡ Some (Some place)) × (middle ≡ p.draft)). old_guard k at
+          (ap (λ (m : Draft). slice_get m.guards_of.items k) (sym l.1) ∙ h))
+          (λ (r : IsGuardedAnew script p.draft middle kernel place). ⊎_elim
           (λ e. subst (λ k. IsGuardedCopy q g k at) (sym e.0) (subst (λ at. IsGuardedCopy q g kernel at) (sym (some_is e.1)) new_guard))
           (λ e. old_guard k at e.1)
-          (set_either p.guards.items kernel (Some place) k (Some at) (ap (λ xs. slice_get xs k) (sym r.places) ∙ h)))
+          (set_either p.draft.guards_of.items kernel (Some place) k (Some at) (ap (λ xs. slice_get xs k) (sym r.places) ∙ h)))
           guarded
 
-      all_coded : AreCodesOf middle.draft.kernels.items middle.draft.codes.items
+      all_coded : AreCodesOf middle.kernels.items middle.codes.items
       all_coded = ⊎_elim
-          (λ (l : (slice_get p.guards.items kernel ≡ Some (Some place)) × (middle ≡ p)).
-          subst (λ (m : Planner). AreCodesOf m.draft.kernels.items m.draft.codes.items) (sym l.1) ks.coded)
-          (λ (r : IsGuardedAnew script p middle kernel place). coded_added p.draft middle.draft r.copy place r.added ks.coded)
+          (λ (l : (slice_get p.draft.guards_of.items kernel ≡ Some (Some place)) × (middle ≡ p.draft)).
+          subst (λ (m : Draft). AreCodesOf m.kernels.items m.codes.items) (sym l.1) ks.coded)
+          (λ (r : IsGuardedAnew script p.draft middle kernel place).
+          coded_added p.draft (record middle { guards_of = p.draft.guards_of }) r.copy place r.added ks.coded)
           guarded
 
-      all_checked : (at : ℕ) (k : Kernel) → slice_get middle.draft.kernels.items at ≡ Some k → IsChecked k
+      all_checked : (at : ℕ) (k : Kernel) → slice_get middle.kernels.items at ≡ Some k → IsChecked k
       all_checked at k h = ⊎_elim
-          (λ (l : (slice_get p.guards.items kernel ≡ Some (Some place)) × (middle ≡ p)). ks.checked at k
-          (ap (λ (m : Planner). slice_get m.draft.kernels.items at) (sym l.1) ∙ h))
-          (λ (r : IsGuardedAnew script p middle kernel place). ⊎_elim
+          (λ (l : (slice_get p.draft.guards_of.items kernel ≡ Some (Some place)) × (middle ≡ p.draft)). ks.checked at k
+          (ap (λ (m : Draft). slice_get m.kernels.items at) (sym l.1) ∙ h))
+          (λ (r : IsGuardedAnew script p.draft middle kernel place). ⊎_elim
           (λ e. ks.checked at k e.1)
           (λ e. last r e.0 e.2)
           (get_either p.draft.kernels.items (r.copy ∷ []) at k (ap (λ xs. slice_get xs at) (sym r.added.kernels) ∙ h)))
           guarded
         where
-          last : (r : IsGuardedAnew script p middle kernel place) (i : ℕ) → slice_get (r.copy ∷ []) i ≡ Some k → IsChecked k
+          last : (r : IsGuardedAnew script p.draft middle kernel place) (i : ℕ) → slice_get (r.copy ∷ []) i ≡ Some k → IsChecked k
           last r zero e = subst IsChecked (some_is e) r.guards.checked
           last r (suc i) e = absurd (none_some e)

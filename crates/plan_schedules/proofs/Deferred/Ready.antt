@@ -1,8 +1,8 @@
 -- What a schedule with `defer` is ready for, and that it goes on, refused or not.
-use Rattle.std.proofs.Common.{◌≡◌, ℕ, suc, ◌^◌, ◌<◌, ◌≤◌, inr, Bool, List, [], ◌∷◌, ◌++◌, length, get_or, All, Some, None, refl, sym, ap, subst, ◌∙◌, arith}
+use Rattle.std.proofs.Common.{◌≡◌, ◌≢◌, ℕ, suc, ◌^◌, ◌<◌, ◌≤◌, inr, Bool, true, List, [], ◌∷◌, ◌++◌, length, get_or, All, Some, None, refl, sym, ap, subst, ◌∙◌, arith}
 use Rattle.std.specs.Prelude.{Box, slice_get, vec_len}
 use Rattle.std.specs.declared.alloc.Global.{Global}
-use Rattle.job_base.specs.declared.limits.TheConstants.{MOST_INDEXES}
+use Rattle.job_base.specs.declared.limits.TheConstants.{MOST_INDEXES, MOST_JOBS}
 use Rattle.frame_ast.specs.declared.kernel.Kernel.{Kernel}
 use Rattle.frame_ast.specs.declared.kernel.Param.{Param}
 use Rattle.frame_ast.specs.declared.script.Arg.{Arg}
@@ -12,7 +12,7 @@ use Rattle.frame_ast.specs.Checks.{refusal}
 use Rattle.frame_ast.specs.Jobs.{Jobs, nobody}
 use Rattle.frame_ast.specs.Laws.{AreUpTo}
 use Rattle.frame_ast.specs.Orders.{Table, Setting, setting, kernel_parallel, is_parallel}
-use Rattle.frame_ast.specs.Refusals.{Refused, jobs_named, schedule_refusal}
+use Rattle.frame_ast.specs.Refusals.{Refused as Refusing, jobs_named, schedule_refusal}
 use Rattle.frame_ast.specs.Schedules.{given_args}
 use Rattle.frame_ast.specs.States.{ScriptState}
 use Rattle.frame_ast.proofs.Known.{named_among}
@@ -21,19 +21,24 @@ use Rattle.job_handle.specs.Books.{count_of}
 use Rattle.job_handle.specs.Sets.{jobs_of}
 use Rattle.safety_handle.specs.Entries.{state_of}
 use Rattle.auto_deps.specs.Needs.{conflicting_with}
-use Rattle.frame_core.specs.declared.plan.Act.TheVariants.{Say}
 use Rattle.frame_core.proofs.Small.{some_is, get_below}
 use Rattle.plan_schedules.specs.declared.causes.Cause.{Cause}
 use Rattle.plan_state.specs.declared.state.PlanFault.{PlanFault}
 use Rattle.plan_state.specs.declared.state.PlanFault.TheVariants.{Jobs as TooManyJobs, Words, NoMemory}
+use Rattle.plan_state.specs.declared.start.JobAnswer.{JobAnswer}
+use Rattle.plan_state.specs.declared.start.JobAnswer.TheVariants.{Refused}
+use Rattle.plan_state.specs.declared.state.Draft.{Draft}
 use Rattle.plan_state.specs.declared.state.Planner.{Planner}
+use Rattle.plan_state.specs.declared.state.World.{World}
 use Rattle.plan_schedules.specs.declared.uses.NamedUse.{NamedUse}
-use Rattle.plan_state.specs.Accesses.{IsPushed, HasHandle, jobs_by}
+use Rattle.plan_state.specs.Accesses.{HasHandle, jobs_by}
 use Rattle.plan_schedules.specs.Causes.{as_refused}
-use Rattle.plan_schedules.specs.Deferring.{IsLengthUse, IsGuardedRun, MayBeGuarded, deferred_refusal, noted_uses, with_length}
+use Rattle.plan_schedules.specs.Deferring.{IsLengthUse, IsGuardedRun, deferred_refusal, noted_uses, with_length}
 use Rattle.plan_schedules.specs.Noting.{MayNoteAll}
-use Rattle.plan_schedules.specs.Starting.{AreDeps, IsFull, IsScheduled}
+use Rattle.plan_schedules.specs.Starting.{AreDeps, IsFull, IsInBooks, IsStartOf}
 use Rattle.plan_schedules.specs.declared.accepting.Run.{Run}
+use Rattle.plan_state.specs.Copies.{IsKernelChecked, IsKernelGuardable, MayBeGuarded}
+use Rattle.plan_state.specs.Starts.{HasTakenJob, MayStart, MayTakeJob}
 use Rattle.plan_state.specs.Steps.{state_at, state_after, IsStep, StandsAt, HasStepped, PassesLimit}
 use Rattle.plan_schedules.specs.Uses.{ForNames, IsUse, IsNameBelow, tags_of}
 use Rattle.plan_schedules.proofs.Meaning as meaning
@@ -42,7 +47,9 @@ use Rattle.plan_schedules.proofs.Deferred.Choosing.{deferred_refusal_is}
 use Rattle.plan_schedules.proofs.Deferred.Meaning.{length_value}
 use Rattle.plan_schedules.proofs.Needs as waiting
 use Rattle.plan_schedules.proofs.CauseNames.{uses_named, deferred_named}
+use Rattle.plan_schedules.proofs.Rooms as rooms
 use Rattle.plan_schedules.proofs.Scheduled.{accepted_is}
+use Rattle.plan_schedules.proofs.Taken as taken
 use Rattle.plan_schedules.proofs.Deferred.Started as started
 use Rattle.plan_schedules.proofs.Deferred.Texts as text
 use Rattle.plan_schedules.proofs.Deferred.Texts.{IsDeferredText, deferred_text}
@@ -105,6 +112,25 @@ module _ (script : Script) (table : Table) (begun : ScriptState) (n : ℕ) (foun
     pub guardable : (source : Kernel) → slice_get script.kernels.items asked.kernel ≡ Some source → MayBeGuarded source
     guardable source at = subst MayBeGuarded (some_is (sym the_text.has ∙ at)) the_text.guardable
 
+    -- a draft has room for its job
+    pub may_be_taken : (run : Run) (answer : JobAnswer) (deps : Jobs) (args : List Arg) (waived : List ℕ) → count_of p.world.jobs ≢ MOST_JOBS
+        → IsGuardedRun script p.world asked.kernel args waived list batch run → IsStartOf p.world run deps answer → MayTakeJob script p.draft answer
+    may_be_taken run answer deps args waived free r starts =
+        subst (MayTakeJob script p.draft) (sym starts.is) (subst (MayStart script p.draft) (sym starts.runs) (record {
+          copy = record {
+            here = (let e = r.kernel_is in let lt = kernel_below in omega arith);
+            each = (let e = st.kernels.each in let a = p.draft.copies_of.ok.0 in let b = script.kernels.ok.0 in omega arith);
+            each_guard = (let e = st.kernels.each_guard in let a = p.draft.guards_of.ok.0 in let b = script.kernels.ok.0 in omega arith);
+            few = copies_few;
+            checked = subst (IsKernelChecked script) (sym r.kernel_is) (step.accepted.kernels asked.kernel);
+            guardable = λ h. subst (IsKernelGuardable script) (sym r.kernel_is) guardable;
+          };
+          step = r.cut_by.steps;
+          indexes = r.cut_by.pieces;
+          jobs = rooms.job_room script table p begun n s found st free;
+          pieces = rooms.few_pieces script table p begun n s found st;
+        }))
+
     pub batch_fit : (1 ≤ batch) × (batch ≤ MOST_INDEXES)
     batch_fit = the_text.batch_fit
 
@@ -159,19 +185,17 @@ module _ (script : Script) (table : Table) (begun : ScriptState) (n : ℕ) (foun
                   ∷ []) the_text.has)
 
           -- refused
-          pub refused_on : (cause : Cause) → Some cause ≡ deferred_refusal uses length_use parallel asked.auto → (q : Planner)
-              → (said : Planner) × IsPushed p said (record { line = line; name = cause.name; act = Say cause.refusal })
-              × HasHandle said.world q.world asked.handle nobody
-              × (q ≡ record said { world = q.world })
-              → HasStepped script table begun n found p q x
-          refused_on cause e q h =
-              let r : Refused = record { cause = cause.refusal; name = cause.name } in
+          pub refused_on : (cause : Cause) → Some cause ≡ deferred_refusal uses length_use parallel asked.auto
+              → (w : World) (draft : Draft) (answer : JobAnswer) → answer ≡ Refused cause.name cause.refusal → HasHandle p.world w asked.handle nobody
+              → HasTakenJob p.draft draft script line answer → HasStepped script table begun n found p (record { world = w; draft = draft }) x
+          refused_on cause e w draft answer says has took =
+              let r : Refusing = record { cause = cause.refusal; name = cause.name } in
               let is : refusal g s x.act ≡ Some r = sym refusal_as ∙ ap as_refused (sym e) in
               let below = deferred_named (length g.names) uses length_use parallel asked.auto
               (uses_named p (jobs_of named) (length g.names) the_text.source.params.items asked.args.items uses in_text the_text.below)
               (subst (λ k. k < length g.names) (sym is_length.named) the_text.list_below) cause (sym e) in
-              subst (λ z. HasStepped script table begun n found p z x) (sym h.3)
-              (said_nobody script table begun n found x step r p st is below h.0 q.world asked.handle refl refl refl (inr (λ c. refl)) h.1 h.2)
+              said_nobody script table begun n found x step r p st is below (record p { draft = draft }) w asked.handle refl refl refl (inr (λ c. refl))
+              (taken.is_pushed script line p draft answer cause.name cause.refusal says took) has
 
           -- accepted
           module _ (open_ : None ≡ deferred_refusal uses length_use parallel asked.auto) where
@@ -208,17 +232,22 @@ module _ (script : Script) (table : Table) (begun : ScriptState) (n : ℕ) (foun
                   (jobs_of named) named_is in_text is_length none j (sym (ap (λ f. f j) waits) ∙ h) in
                   let e = count_is in (up.0, omega arith)
 
-              pub accepted_on : (mid q : Planner) (run : Run) (args : List Arg) (waived : List ℕ) (us : List NamedUse) → args ≡ asked.args.items
-                  → waived ≡ asked.waive.items → us ≡ noted_uses uses length_use
-                  → IsGuardedRun script p mid asked.kernel args waived list batch run → IsScheduled mid q asked.handle run us deps
-                  → HasStepped script table begun n found p q x
-              accepted_on mid q run args waived us e w u r d =
+              pub accepted_on : (w : World) (draft : Draft) (run : Run) (answer : JobAnswer) (args : List Arg) (waived : List ℕ) (us : List NamedUse)
+                  → args ≡ asked.args.items → waived ≡ asked.waive.items → us ≡ noted_uses uses length_use
+                  → IsGuardedRun script p.world asked.kernel args waived list batch run → IsInBooks p.world w asked.handle us deps
+                  → IsStartOf p.world run deps answer
+                  → HasTakenJob p.draft draft script line answer → HasStepped script table begun n found p (record { world = w; draft = draft }) x
+              accepted_on w draft run answer args waived us e f u r books starts took =
+                  let noted = noted_uses uses length_use in
+                  let had = subst (λ us. IsInBooks p.world w asked.handle us deps) u books in
+                  let has = taken.has_job script line p w draft asked.handle run noted deps answer had starts took in
                   started.goes_on script table begun n found line home asked list batch step the_text p st uses length_use
-                  (jobs_of named) named_is in_text is_length none mid q run
-                  (subst (λ as_. IsGuardedRun script p mid asked.kernel as_ asked.waive.items list batch run) e
-                  (subst (λ ws. IsGuardedRun script p mid asked.kernel args ws list batch run) w r))
+                  (jobs_of named) named_is in_text is_length none has.copied (record { world = w; draft = draft }) run has.place
+                  (subst (λ as_. IsGuardedRun script p.world asked.kernel as_ asked.waive.items list batch run) e
+                  (subst (λ ws. IsGuardedRun script p.world asked.kernel args ws list batch run) f r))
+                  (taken.has_copy script line p w draft asked.handle run noted deps answer had starts took true asked.kernel r.guarded r.kernel_is)
                   deps waits
-                  (subst (λ us. IsScheduled mid q asked.handle run us deps) u d)
+                  (taken.is_scheduled script line p w draft asked.handle run noted deps answer had starts took)
 
             -- there are all jobs already
             pub fails : (fault : PlanFault) → IsFull fault (count_of p.world.jobs) → PassesLimit fault (state_after script table n x)

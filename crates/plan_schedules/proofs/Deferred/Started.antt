@@ -31,6 +31,7 @@ use Rattle.defer_laws.specs.Deferring.{capacity_of, length_bind, guarded_kernel,
 use Rattle.defer_laws.specs.GuardedRuns.{word_at}
 use Rattle.defer_laws.proofs.Deferring.{guarded_kernels_stand_in}
 use Rattle.plan_schedules.specs.declared.accepting.Run.{Run}
+use Rattle.plan_state.specs.declared.state.Draft.{Draft}
 use Rattle.plan_state.specs.declared.state.Planner.{Planner}
 use Rattle.plan_schedules.specs.declared.uses.NamedUse.{NamedUse}
 use Rattle.plan_schedules.specs.Deferring.{IsLengthUse, IsListName, IsGuardedRun, noted_uses, with_length, by_list}
@@ -38,9 +39,11 @@ use Rattle.plan_state.specs.Growth.{is_none}
 use Rattle.plan_schedules.specs.JobBinds.{job_binds}
 use Rattle.plan_schedules.specs.Noting.{MayNoteAll}
 use Rattle.plan_state.specs.Stands.{Agrees, draft_of}
-use Rattle.plan_schedules.specs.Starting.{AreDeps, IsScheduled}
+use Rattle.plan_state.specs.Copies.{IsGuardedAt}
+use Rattle.plan_schedules.specs.Starting.{AreDeps}
 use Rattle.plan_state.specs.Steps.{state_at, IsStep, StandsAt, HasStepped}
 use Rattle.plan_schedules.specs.Uses.{ForNames, IsUse, tags_of}
+use Rattle.plan_state.proofs.CopiesMade.{guarded_moved}
 use Rattle.plan_schedules.proofs.Arguments.{args_are}
 use Rattle.plan_schedules.proofs.Choosing.{AreAlive}
 use Rattle.plan_schedules.proofs.Deferred.Apart as noting
@@ -59,6 +62,7 @@ use Rattle.plan_schedules.proofs.Meaning.{AreMeant, IsMeant, uses_meant}
 use Rattle.plan_schedules.proofs.Needs as waiting
 use Rattle.plan_schedules.proofs.Notes.{needs}
 use Rattle.plan_schedules.proofs.Grown.{none_waived}
+use Rattle.plan_schedules.proofs.Taken.{IsScheduled, placed}
 use Rattle.plan_schedules.proofs.Texts.{each_lower}
 
 module _ (script : Script) (table : Table) (begun : ScriptState) (n : ℕ) (found : List ℕ) (line : ℕ) (home : Box NewJob Global) (asked : NewJob)
@@ -175,28 +179,32 @@ module _ (script : Script) (table : Table) (begun : ScriptState) (n : ℕ) (foun
 
     -- ---- the planner afterwards
 
-    module _ (mid new : Planner) (run : Run) (r : IsGuardedRun script p mid asked.kernel asked.args.items asked.waive.items list batch run)
-        (deps : Jobs) (deps_are : deps ≡ waited) (d : IsScheduled mid new asked.handle run all_noted deps) where
-      copy : places.HasGuard script g refl p mid asked.kernel run.kernel st.kernels r.guarded r.source r.is_source
-      copy = places.has_guard script g refl p mid asked.kernel run.kernel st.kernels r.guarded r.source r.is_source
+    module _ (mid : Draft) (new : Planner) (given : Run) (at : ℕ)
+        (r : IsGuardedRun script p.world asked.kernel asked.args.items asked.waive.items list batch given)
+        (guarded : IsGuardedAt script p.draft mid asked.kernel at)
+        (deps : Jobs) (deps_are : deps ≡ waited) (d : IsScheduled (record p { draft = mid }) new asked.handle (placed given at) all_noted deps) where
+      -- what the job runs, by the copy of its kernel
+      abbrev run : Run
+      run = placed given at
 
-      place : HasPlace p g p.kernels mid.guards mid.draft.kernels mid.draft.codes run.kernel copy.copy
+      copy : places.HasGuard script g refl p mid asked.kernel at st.kernels guarded r.source r.is_source
+      copy = places.has_guard script g refl p mid asked.kernel at st.kernels guarded r.source r.is_source
+
+      place : HasPlace p g p.draft.copies_of mid.guards_of mid.kernels mid.codes run.kernel copy.copy
       place = record {
         here = copy.here;
-        few = places.copies_few script g refl p mid asked.kernel run.kernel st.kernels r.guarded r.source r.is_source;
-        later = places.kernels_later script g refl p mid asked.kernel run.kernel st.kernels r.guarded r.source r.is_source;
+        few = places.copies_few script g refl p mid asked.kernel at st.kernels guarded r.source r.is_source;
+        later = places.kernels_later script g refl p mid asked.kernel at st.kernels guarded r.source r.is_source;
         stand = λ q kernels guards copies codes.
-            places.kernels_stand script g refl p mid asked.kernel run.kernel st.kernels r.guarded r.source r.is_source q guards copies codes kernels;
+            places.kernels_stand script g refl p mid asked.kernel at st.kernels guarded r.source r.is_source q guards copies codes kernels;
       }
 
       done : IsScheduled (record p {
-        kernels = p.kernels;
-        guards = mid.guards;
-        draft = record p.draft { kernels = mid.draft.kernels; codes = mid.draft.codes };
+        draft = record p.draft { kernels = mid.kernels; codes = mid.codes; copies_of = p.draft.copies_of; guards_of = mid.guards_of };
       })
           new asked.handle run all_noted deps
-      done = subst (λ m. IsScheduled m new asked.handle run all_noted deps)
-          (places.moved script p mid asked.kernel run.kernel r.guarded) d
+      done = subst (λ m. IsScheduled (record p { draft = m }) new asked.handle run all_noted deps)
+          (guarded_moved script p.draft mid asked.kernel at guarded) d
 
       same_at : r.at ≡ the_list.at
       same_at = whole (sym r.list_at ∙ the_list.is)
@@ -231,17 +239,17 @@ module _ (script : Script) (table : Table) (begun : ScriptState) (n : ℕ) (foun
       }
 
       abbrev q : Planner
-      q = started.as_q script table begun n found line home here step p st none named all_noted ng noted p.kernels mid.guards mid.draft.kernels
-          mid.draft.codes copy.copy run place new deps deps_are done
+      q = started.as_q script table begun n found line home here step p st none named all_noted ng noted p.draft.copies_of mid.guards_of mid.kernels
+          mid.codes copy.copy run place new deps deps_are done
 
       back : (y : Outline) → Agrees q g begun found y → Agrees p g begun found y
-      back = started.agrees script table begun n found line home here step p st none named all_noted ng noted p.kernels mid.guards mid.draft.kernels
-          mid.draft.codes copy.copy run place new deps deps_are done
+      back = started.agrees script table begun n found line home here step p st none named all_noted ng noted p.draft.copies_of mid.guards_of mid.kernels
+          mid.codes copy.copy run place new deps deps_are done
 
       planned_job : (y : Outline) → Agrees q g begun found y → IsPlannedJob y (draft_of p) o (guarded_kernel y.starts s o list r.source copy.copy) waited
           done.job
-      planned_job y a = started.job_as script table begun n found line home here step p st none named all_noted ng noted p.kernels mid.guards
-          mid.draft.kernels mid.draft.codes copy.copy run place new deps deps_are done y a (Some (r.at.cap, batch)) r.cut_by
+      planned_job y a = started.job_as script table begun n found line home here step p st none named all_noted ng noted p.draft.copies_of mid.guards_of
+          mid.kernels mid.codes copy.copy run place new deps deps_are done y a (Some (r.at.cap, batch)) r.cut_by
           (argument_binds y.starts s o r.source ++ length_bind y.starts s list ∷ []) (capacity_of (contents_at s list)) copy.guards.checked
           (binds_are y (back y a)) indexes_are
           (λ h. absurd (not_both copy.guards.guarded.parallel h))
@@ -262,11 +270,11 @@ module _ (script : Script) (table : Table) (begun : ScriptState) (n : ℕ) (foun
           done.started.segment done.job a.small st.knows.known (st.planned y (back y a)) accepted_as r.is_source (planned_job y a)
           (guarded_kernels_stand_in y g s o (list, batch) r.source copy.copy (draft_of p) done.job a.small (st.planned y (back y a)) accepted_as refl
           r.is_source guards (planned_job y a))
-          (started.starts_next script table begun n found line home here step p st none named all_noted ng noted p.kernels mid.guards mid.draft.kernels
-          mid.draft.codes copy.copy run place new deps deps_are done)
-          (started.closes script table begun n found line home here step p st none named all_noted ng noted p.kernels mid.guards mid.draft.kernels
-          mid.draft.codes copy.copy run place new deps deps_are done)
+          (started.starts_next script table begun n found line home here step p st none named all_noted ng noted p.draft.copies_of mid.guards_of mid.kernels
+          mid.codes copy.copy run place new deps deps_are done)
+          (started.closes script table begun n found line home here step p st none named all_noted ng noted p.draft.copies_of mid.guards_of mid.kernels
+          mid.codes copy.copy run place new deps deps_are done)
 
       pub goes_on : HasStepped script table begun n found p new x
-      goes_on = started.goes_on script table begun n found line home here step p st none named all_noted ng noted p.kernels mid.guards mid.draft.kernels
-          mid.draft.codes copy.copy run place new deps deps_are done is_run plans
+      goes_on = started.goes_on script table begun n found line home here step p st none named all_noted ng noted p.draft.copies_of mid.guards_of mid.kernels
+          mid.codes copy.copy run place new deps deps_are done is_run plans

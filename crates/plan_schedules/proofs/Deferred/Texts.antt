@@ -11,7 +11,8 @@ use Rattle.frame_ast.specs.declared.script.Statement.{Statement}
 use Rattle.frame_ast.specs.declared.name_kind.NameKind.TheVariants as kind
 use Rattle.frame_ast.specs.Accepted.{Names, uses, makes, all_used, up_to, args_fit, one_of, batch_fits, guard_fits, defer_fits, schedule_fits}
 use Rattle.frame_ast.specs.Orders.{Table, setting}
-use Rattle.plan_schedules.specs.Deferring.{MayBeGuarded, by_list}
+use Rattle.plan_state.specs.Copies.{MayBeGuarded}
+use Rattle.plan_schedules.specs.Deferring.{by_list}
 use Rattle.plan_state.specs.Steps.{IsStep}
 use Rattle.plan_state.proofs.Reaching.{fits_at, used_below, made_below}
 use Rattle.plan_schedules.proofs.Texts.{EachBelow, args_below, all_below_names}

@@ -143,6 +143,7 @@ module _ (p : Planner) (g : Setting) (begun : ScriptState) (n : ℕ) (s : Script
           names = a.names;
           kernels = a.kernels;
           literals = a.literals;
+          first = a.first;
           jobs = a.jobs;
           starts = a.starts;
           cells = (let le = a.cells in let e = r.peak in omega arith);

@@ -603,6 +603,7 @@ module _ (p : Planner) (g : Setting) (begun : ScriptState) (n : ℕ) (s : Script
       a.literals.1 ∙ ap (λ l. l ++ a.literals.0) made.literals_are
           ∙ append_assoc p.draft.literals.items made.literals_more a.literals.0,
     );
+    first = a.first;
     jobs = a.jobs;
     starts = λ k lt. a.starts k (let e = one_more found t.span.start in omega arith) ∙ get_old found t.span.start k lt;
     cells = (let le = a.cells in let e = w.peak in omega arith);

@@ -423,6 +423,7 @@ module _ (p : Planner) (g : Setting) (begun : ScriptState) (n : ℕ) (s : Script
     names = a.names;
     kernels = a.kernels;
     literals = a.literals;
+    first = a.first;
     jobs = a.jobs;
     starts = λ j lt. a.starts j (let e = one_more found span.start in omega arith) ∙ get_old found span.start j lt;
     cells = (let l = a.cells in let e = rg.peak in omega arith);

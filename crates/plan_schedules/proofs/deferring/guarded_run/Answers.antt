@@ -1,4 +1,4 @@
-use Rattle.std.proofs.Common.{◌≤◌, subst, sym}
+use Rattle.std.proofs.Common.{◌≤◌, refl, subst, sym}
 use Rattle.job_base.specs.declared.limits.TheConstants.{MOST_INDEXES}
 use Rattle.plan_schedules.specs.Deferring.{IsListBind}
 use Rattle.plan_state.proofs.Accessing.{read_some}
@@ -12,7 +12,8 @@ returns c =
       is_source = read_some c.args.script.now.kernels c.args.kernel c.index-of.result.now c.requires.kernel c.index-of.ensures;
       at = c.list_at-at.result;
       list_at = c.list_at-at.ensures;
-      guarded = c.in_ok-place.ensures;
+      kernel_is = refl;
+      guarded = refl;
       binds = c.in_ok-binds.ensures;
       cut_by = record {
         indexes = c.cut.ensures.indexes;

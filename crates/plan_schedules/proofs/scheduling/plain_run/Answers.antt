@@ -1,3 +1,4 @@
+use Rattle.std.proofs.Common.{refl}
 use Rattle.plan_state.proofs.Accessing.{read_some}
 use Rattle.plan_schedules.proofs.scheduling.plain_run.Goals as goal
 
@@ -5,7 +6,8 @@ pub returns : goal.returns
 returns c = record {
   source = c.index-of.result.now;
   is_source = read_some c.args.script.now.kernels c.args.kernel c.index-of.result.now c.requires.kernel c.index-of.ensures;
-  copied = c.in_ok-place.ensures;
+  kernel_is = refl;
+  plain = refl;
   binds = c.in_ok-binds.ensures;
   cut_by = c.cut_of.ensures;
   parallel = c.is_split.ensures;
