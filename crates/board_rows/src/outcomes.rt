@@ -8,12 +8,11 @@ ghost use Rattle.frame_rows.specs.Between.{IsBetween};
 
 use crate::boards::run_plan;
 use frame_ast::script::Script;
-use frame_plan::{Copies, Section, SectionBook, Test};
+use frame_plan::{Section, SectionBook, Test};
 use frame_rows::script_of;
 use job_base::{FlatMem, Mem, MemSink, Word};
 use std::alloc::Global;
 use std::fmt::Write;
-use std::mem;
 use std::sync::Wait;
 use std::test::Fail;
 use std::thread::Threads;
@@ -90,17 +89,14 @@ fn go_on<R: Threads + Wait + Sync>(
     book: &mut SectionBook,
     held: &mut Option<bool>,
     cells: &mut FlatMem,
-    copies: &mut Copies,
     told: &mut String,
     sink: &mut MemSink,
 ) -> Result<bool, Fail>
-    requires here { IsBetween script.now (columns_of table.now) book.old held.old cells.old copies.old }
+    requires here { IsBetween script.now (columns_of table.now) book.old held.old cells.old }
     ensures next { IfOk result (λ more. more ≡ true
-        → IsBetween script.now (columns_of table.now) book.new held.new cells.new copies.new) }
+        → IsBetween script.now (columns_of table.now) book.new held.new cells.new) }
 {
-    let left = mem::replace(cells, FlatMem::of(Vec::new(alloc)));
-    let taken = mem::replace(copies, Copies::none(alloc));
-    let section = book.next(alloc, script, table, *held, left, taken)?;
+    let section = book.next(alloc, script, table, *held, cells)?;
     write!(told, "{} jobs before", section.jobs_before)?;
     *cells = run_plan(rt, alloc, &section.plan, 2, sink)?;
     let Section { plan, test, .. } = section;
@@ -109,11 +105,7 @@ fn go_on<R: Threads + Wait + Sync>(
     };
     let answer = holds(&test, cells, plan.words)?;
     *held = Some(answer);
-    *copies = Copies {
-        names: plan.names,
-        kernels: plan.kernels,
-        codes: plan.codes,
-    };
+    book.take_back(plan);
     write!(
         told,
         ", {:?} {} of word {}: {answer}; ",
@@ -136,19 +128,9 @@ fn outcomes_with<R: Threads + Wait + Sync>(
     let mut book = SectionBook::new(alloc, script, table)?;
     let mut held = None;
     let mut cells = FlatMem::new(alloc, 0)?;
-    let mut copies = Copies::at_start(alloc, script)?;
     for _ in 0..8 {
         if !go_on(
-            rt,
-            alloc,
-            script,
-            table,
-            &mut book,
-            &mut held,
-            &mut cells,
-            &mut copies,
-            &mut told,
-            sink,
+            rt, alloc, script, table, &mut book, &mut held, &mut cells, &mut told, sink,
         )? {
             break;
         }

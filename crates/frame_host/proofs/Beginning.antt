@@ -7,7 +7,6 @@ use Rattle.frame_ast.specs.Orders.{Table, setting}
 use Rattle.frame_ast.specs.States.{ScriptState}
 use Rattle.merge_laws.specs.Graph.{Cells}
 use Rattle.frame_plan.specs.Missing.{missing_from}
-use Rattle.frame_plan.specs.Names.{AreNamesOf}
 use Rattle.frame_plan.specs.Sections.{IsAt}
 use Rattle.plan_run.specs.Says.{SaysTo}
 use Rattle.plan_state.specs.declared.state.PlanFault.TheVariants.{Jobs, Words, NoMemory}
@@ -68,9 +67,9 @@ begun frame accepted none written was = record {
 pub begins : (frame : Frame) (script : Script) → tree_in frame ≡ script → IsAccepted script
     → ((carried : Cells) (len : ℕ) → IsAt frame.book script (table_in frame) 0 carried len)
     → frame.progress.held ≡ None → frame.progress.out ≡ [] → frame.progress.failed ≡ false
-    → ((s : ScriptState) → s.traps ≡ [] → s.refused ≡ 0 → IsReportAt s frame.progress.report) → AreNamesOf script frame.progress.copies.names.items
+    → ((s : ScriptState) → s.traps ≡ [] → s.refused ≡ 0 → IsReportAt s frame.progress.report)
     → frame.text.bytes.items ≡ [] → IsBetween frame
-begins frame script is accepted at held out failed report names none =
+begins frame script is accepted at held out failed report none =
     begun frame (subst IsAccepted (sym is) accepted) none failed
     (subst (λ s. InSections taken_of faults_of s (table_in frame) 0 frame.book frame.progress frame.text frame.text) (sym is)
-    (at_first taken_of faults_of script (table_in frame) frame.book frame.progress frame.text at held out failed (report _ refl refl) names))
+    (at_first taken_of faults_of script (table_in frame) frame.book frame.progress frame.text at held out failed (report _ refl refl)))

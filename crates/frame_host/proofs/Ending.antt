@@ -16,7 +16,9 @@ use Rattle.frame_core.specs.Graphs.{cells_after}
 use Rattle.frame_core.specs.Output.{plan_lines}
 use Rattle.kernel_exec.specs.declared.binds.Bind.{Bind}
 use Rattle.kernel_exec.proofs.Stand.{still}
+use Rattle.frame_plan.specs.declared.sections.SectionBook.{SectionBook}
 use Rattle.frame_plan.specs.Bindings.{IsBindAt, bind_in}
+use Rattle.frame_plan.specs.Sections.{place_of}
 use Rattle.frame_top.specs.Cells.{AreCellsOf}
 use Rattle.plan_run.specs.Runs.{is_fault}
 use Rattle.plan_run.specs.Says.{SaysTo}
@@ -60,9 +62,9 @@ still_bound s plan left cells few name (Some b) h = (
 )
 
 -- What a section came to is taken over.
-module _ (frame : Frame) (stage : Stage) (place : Place WordSeat) (left : List ℤ) (end : RunEnd) (q : Progress) (more : Bool)
+module _ (frame : Frame) (stage : Stage) (place : Place WordSeat) (left : List ℤ) (end : RunEnd) (book : SectionBook) (q : Progress) (more : Bool)
     (r : IsRun frame stage place left end)
-    (goes : GoesOn (tree_in frame) (table_in frame) r.sections r.from (plan_lines stage.section.plan) frame.book q more)
+    (goes : GoesOn (tree_in frame) (table_in frame) r.sections r.from (plan_lines stage.section.plan) book q more)
     (waits : q.out ≡ frame.progress.out) (failed : q.failed ≡ is_fault end) (whole : is_fault end ≡ false) where
   was_said : WasSaid frame.text q.out false (state_at (tree_in frame) (table_in frame) goes.to).lines
   was_said = said_as frame.text q.out _ _ goes.lines_are
@@ -71,7 +73,7 @@ module _ (frame : Frame) (stage : Stage) (place : Place WordSeat) (left : List �
 
   -- there is another section
   pub goes_on : more ≡ true
-      → IsBetween record { tree = frame.tree; table = frame.table; book = frame.book; progress = q; text = frame.text }
+      → IsBetween record { tree = frame.tree; table = frame.table; book = book; progress = q; text = frame.text }
   goes_on is = record {
     accepted = r.after.accepted;
     sections = suc r.sections;
@@ -82,9 +84,9 @@ module _ (frame : Frame) (stage : Stage) (place : Place WordSeat) (left : List �
   }
 
   -- it was the last one
-  pub to_finish : (cells : List ℤ) → more ≡ false → AreCellsOf stage.section.plan cells
-      → IsToFinish record { tree = frame.tree; table = frame.table; book = frame.book; progress = q; text = frame.text } cells
-  to_finish cells is held = record {
+  pub to_finish : (cells : List ℤ) → more ≡ false → book ≡ frame.book → AreCellsOf stage.section.plan cells
+      → IsToFinish record { tree = frame.tree; table = frame.table; book = book; progress = q; text = frame.text } cells
+  to_finish cells is same held = record {
     to = goes.to;
     last = goes.last is;
     report = goes.report;
@@ -92,10 +94,12 @@ module _ (frame : Frame) (stage : Stage) (place : Place WordSeat) (left : List �
     written = failed ∙ whole;
     reads = λ name low.
         let next = r.after.made.next in
-        subst (λ n. IsBindAt (state_at (tree_in frame) (table_in frame) n) (cells_of cells) (length cells) name (bind_in frame.book name))
-        (sym next.place ∙ goes.place)
+        let bind = ap (λ (b : SectionBook). bind_in b name) same in
+        subst (λ n. IsBindAt (state_at (tree_in frame) (table_in frame) n) (cells_of cells) (length cells) name (bind_in book name))
+        (sym next.place ∙ sym (ap place_of same) ∙ goes.place)
+        (subst (IsBindAt (state_at (tree_in frame) (table_in frame) next.to) (cells_of cells) (length cells) name) (sym bind)
         (still_bound (state_at (tree_in frame) (table_in frame) next.to) stage.section.plan cells held
-        (let w = next.is_section.well_ordered.sized.words_are in omega arith) name (bind_in frame.book name) (next.binds name low));
+        (let w = next.is_section.well_ordered.sized.words_are in omega arith) name (bind_in frame.book name) (next.binds name low)));
   }
 
 -- an answer has the script and the columns of its frame

@@ -18,7 +18,6 @@ use Rattle.plan_state.proofs.state.World.TheSendSync as world
 use Rattle.plan_state.specs.contracts.state.Draft as draft
 use Rattle.plan_state.specs.contracts.state.Planner as planner
 use Rattle.frame_plan.specs.contracts.sections.SectionBook as book
-use Rattle.frame_plan.specs.contracts.copies.Copies as copies
 use Rattle.frame_print.proofs.outgoing.Outgoing.TheSendSync as outgoing
 use Rattle.frame_core.proofs.report.Report.TheSendSync as report
 use Rattle.plan_run.proofs.run_end.RunEnd.TheSendSync as run_end
@@ -100,7 +99,16 @@ draft_fields_send = struct_send (shape draft.the_type) (
               search (sendable, crosses, op.the_send) depth 60 fits 20000,
               (
                 search sendable depth 60 fits 20000,
-                tt,
+                (
+                  search (sendable, crosses) depth 60 fits 20000,
+                  (
+                    search (sendable, crosses) depth 60 fits 20000,
+                    (
+                      search (sendable, crosses) depth 60 fits 20000,
+                      tt,
+                    ),
+                  ),
+                ),
               ),
             ),
           ),
@@ -115,13 +123,7 @@ planner_fields_send = struct_send (shape planner.the_type) (
   world.the_field_send,
   (
     draft_fields_send,
-    (
-      search (sendable, crosses) depth 60 fits 20000,
-      (
-        search (sendable, crosses) depth 60 fits 20000,
-        tt,
-      ),
-    ),
+    tt,
   ),
 )
 
@@ -130,18 +132,12 @@ book_fields_send = struct_send (shape book.the_type) (
   planner_fields_send,
   (
     search sendable depth 60 fits 20000,
-    tt,
-  ),
-)
-
-copies_fields_send : IsSend copies.the_field.row
-copies_fields_send = struct_send (shape copies.the_type) (
-  search (sendable, crosses, String-send) depth 60 fits 20000,
-  (
-    search (sendable, crosses, kernel_send) depth 60 fits 20000,
     (
-      search (sendable, crosses, code.the_send) depth 60 fits 20000,
-      tt,
+      search (sendable, crosses, String-send) depth 60 fits 20000,
+      (
+        search (sendable, crosses) depth 60 fits 20000,
+        tt,
+      ),
     ),
   ),
 )
@@ -152,17 +148,14 @@ progress_fields_send = struct_send (shape progress.the_type) (
   (
     mem.the_send,
     (
-      copies_fields_send,
+      search (sendable, crosses) depth 60 fits 20000,
       (
-        search (sendable, crosses) depth 60 fits 20000,
+        report.the_field_send,
         (
-          report.the_field_send,
+          outgoing.the_send,
           (
-            outgoing.the_send,
-            (
-              search sendable depth 60 fits 20000,
-              tt,
-            ),
+            search sendable depth 60 fits 20000,
+            tt,
           ),
         ),
       ),

@@ -14,7 +14,7 @@ use frame_ast::script::Script;
 use frame_plan::{PlanFault, SectionBook, missing_column};
 use frame_stage::{Hold, Stage, Staged, room_for, set_stage};
 use frame_top::{Progress, begin_frame, next_section};
-use job_base::{NoMemory, OpenGate};
+use job_base::{FlatMem, NoMemory, OpenGate};
 use std::alloc::Global;
 use std::mem;
 use std::sync::Arc;
@@ -59,7 +59,7 @@ impl Frame {
             Ok(book) => book,
             Err(fault) => return Err(BeginFault::Plan(fault)),
         };
-        let Ok(progress) = begin_frame(alloc, shown) else {
+        let Ok(progress) = begin_frame(alloc) else {
             return Err(BeginFault::Plan(PlanFault::NoMemory));
         };
         match Arc::try_clone(&script.tree) {
@@ -92,8 +92,8 @@ impl Frame {
             &mut frame.book,
             &mut frame.progress,
         )?;
-        let spare = mem::replace(&mut frame.progress.spare, Vec::new(alloc));
-        let left = room_for(&section.plan, spare)?;
+        let spare = mem::replace(&mut frame.progress.cells, FlatMem::of(Vec::new(alloc)));
+        let left = room_for(&section.plan, spare.into_cells())?;
         let Staged {
             stage,
             first,

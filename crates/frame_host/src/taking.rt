@@ -79,7 +79,7 @@ pub(crate) fn take_section(
         left: handed,
     };
     let mut frame = frame;
-    let more = take_run(alloc, section, ran, &mut frame.progress);
+    let more = take_run(section, ran, &mut frame.book, &mut frame.progress);
     if end.is_fault() {
         return FrameEnd::NoMemory;
     }

@@ -13,12 +13,14 @@ use Rattle.frame_ast.specs.States.{ScriptState}
 use Rattle.frame_core.proofs.Small.{some_is, not_both}
 use Rattle.plan_state.specs.declared.state.PlanFault.{PlanFault}
 use Rattle.plan_state.specs.declared.answer.Answer.{Answer}
+use Rattle.plan_state.specs.declared.start.JobAnswer.{JobAnswer}
 use Rattle.plan_state.specs.declared.state.Draft.{Draft}
 use Rattle.plan_state.specs.declared.state.Planner.{Planner}
 use Rattle.plan_state.specs.declared.state.World.{World}
 use Rattle.plan_state.specs.Answers.{Answers, AnswersIn, ExceedsIn, HasTaken, IsReadyFor}
 use Rattle.plan_state.specs.Growth.{Grows}
-use Rattle.frame_plan.specs.Runs.{leaves_draft, IsActingTest, NoneActs, IsAtStatement, IsFurther, HasPassed, StopsAt, GoesPast, FailsAtPlace}
+use Rattle.plan_state.specs.Starts.{HasTakenJob, SchedulesIn}
+use Rattle.frame_plan.specs.Runs.{adds_no_job, IsActingTest, NoneActs, IsAtStatement, IsFurther, HasPassed, StopsAt, GoesPast, FailsAtPlace}
 use Rattle.plan_state.specs.Stands.{Stands}
 use Rattle.plan_state.specs.Steps.{state_at, state_after, StandsAt, HasStepped, IsStep, IsBefore, IsReady, GoesOn, GoesOnIn, FailsIn, PassesLimit}
 use Rattle.plan_statements.specs.Tests.{Acts, IsRefused}
@@ -77,6 +79,11 @@ module _ (script : Script) (table : Table) (p : Planner) (x : Statement) (at : I
       → HasPassed script table p (record p { world = w; draft = draft }) x
   taken_in w draft answer answers took = passed_in (record p { world = w; draft = draft }) (answers p draft took)
 
+  pub scheduled_in : (w : World) (draft : Draft) (answer : JobAnswer) → SchedulesIn script table p.world w (written x a) answer
+      → HasTakenJob p.draft draft script x.line answer
+      → HasPassed script table p (record p { world = w; draft = draft }) x
+  scheduled_in w draft answer answers took = passed_in (record p { world = w; draft = draft }) (answers p draft took)
+
   -- there is room for a literal more
   pub few_literals : vec_len p.draft.literals < 2 ^ 32
   few_literals = ready_literals script (written x a) p before
@@ -121,8 +128,8 @@ module _ (script : Script) (table : Table) (x : Statement) (a : Order) (is : x.a
   pub exceeding : (fault : PlanFault) → ExceedsIn script table fault old (written x a) → ExceedsIn script table fault old x
   exceeding fault h = subst (λ y. ExceedsIn script table fault old y) (sym (is_written x a is)) h
 
--- which statements leave the draft to their caller
-pub leaves : (a : Order) → ((job : _) → a ≡ Schedule job → ⊥) → is_when a ≡ false → leaves_draft a ≡ true
+-- which statements are asked for an answer
+pub leaves : (a : Order) → ((job : _) → a ≡ Schedule job → ⊥) → is_when a ≡ false → adds_no_job a ≡ true
 leaves (Schedule job) s w = absurd (s job refl)
 leaves (When name sign value count) s w = absurd (not_both refl w)
 leaves a s w = refl

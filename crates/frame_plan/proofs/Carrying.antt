@@ -1,7 +1,6 @@
 -- A section that begins after a test is laid out: the one range of its plan so far has all words that were ever taken.
-use Rattle.std.proofs.Common.{◌≡◌, ℕ, zero, suc, ◌+◌, ◌<◌, Bool, true, false, ◌&&◌, ℤ, List, [], ◌∷◌, ◌++◌, Some, refl, sym, ap, subst, ◌∙◌, arith, append-nil}
-use Rattle.std.specs.Prelude.{◌-◌, max, nat_lt, IsSome, slice_get}
-use Rattle.frame_ast.specs.declared.kernel.Kernel.{Kernel}
+use Rattle.std.proofs.Common.{◌≡◌, ℕ, suc, ◌+◌, ◌<◌, Bool, true, false, ◌&&◌, ℤ, List, [], ◌++◌, Some, refl, sym, ap, subst, ◌∙◌, arith}
+use Rattle.std.specs.Prelude.{◌-◌, max, nat_lt, slice_get}
 use Rattle.frame_ast.specs.declared.script.Order.{Order}
 use Rattle.frame_ast.specs.declared.script.Order.TheVariants.{When}
 use Rattle.frame_ast.specs.declared.script.Script.{Script}
@@ -10,9 +9,9 @@ use Rattle.frame_ast.specs.Jobs.{Book}
 use Rattle.frame_ast.specs.Orders.{Table, Setting, setting}
 use Rattle.frame_ast.specs.Ranges.{Starts}
 use Rattle.frame_ast.specs.States.{ScriptState}
-use Rattle.kernel_bytecode.specs.declared.code.Code.{Code}
 use Rattle.merge_laws.specs.Graph.{Cells}
 use Rattle.slot_store.specs.Stores.{peak_of}
+use Rattle.frame_core.specs.declared.plan.Plan.{Plan}
 use Rattle.frame_core.specs.Names.{has_job}
 use Rattle.frame_core.proofs.Small.{some_is}
 use Rattle.plan_laws.specs.Drafts.{Draft}
@@ -20,34 +19,27 @@ use Rattle.plan_laws.specs.Ledgers.{later}
 use Rattle.frame_plan.specs.declared.sections.SectionBook.{SectionBook}
 use Rattle.plan_state.specs.declared.state.Planner.{Planner}
 use Rattle.plan_state.specs.Growth.{given_from, given_in, span_by, greatest_end, waits_in, waits_of, unless_none, deps_after, StartAs}
-use Rattle.frame_plan.specs.Layouts.{spans_between, greatest_end_at, carried_spans, completed_between, HasRanges, HasGrown}
-use Rattle.frame_plan.specs.Resuming.{IsResumed}
-use Rattle.frame_plan.specs.Runs.{IsActingTest, IsStop}
-use Rattle.frame_plan.specs.Sections.{IsBetween, IsOutcome, AreLeft}
+use Rattle.frame_plan.specs.Layouts.{spans_between, completed_between, HasRanges, HasGrown}
+use Rattle.frame_plan.specs.Runs.{IsActingTest}
+use Rattle.frame_plan.specs.Sections.{IsHandedOut, IsOutcome, AreLeft}
 use Rattle.plan_state.specs.Steps.{state_at}
-use Rattle.frame_plan.proofs.Handing.{first_later}
 use Rattle.frame_plan.proofs.Laying.{completed_more, no_spans, none_so_far, ranges_more, span_here, spans_more}
 use Rattle.plan_state.proofs.Quiet.{IsPlain, none_newly, plain_awaits, plain_schedules, plain_span, plain_takes}
 use Rattle.plan_state.proofs.Reaching.{next_state}
-use Rattle.frame_plan.proofs.Resuming.{outcome_is, peak_is, q_is, test_acts}
+use Rattle.frame_plan.proofs.Resuming.{IsResumedWith, outcome_is, q_is, test_acts}
 
 plain_test : (g : Setting) (s : ScriptState) (a : Order) → IsActingTest g s a → IsPlain g a
 plain_test g s (When name sign value count) h = (refl, tt)
 plain_test g s a h = absurd h
 
-module _ (script : Script) (table : Table) (book : SectionBook) (n : ℕ) (carried : Cells) (len : ℕ) (b : IsBetween book script table n carried len)
-    (kernels : List Kernel) (codes : List Code) (q : Planner) (mem : List ℤ) (left : AreLeft mem carried len)
-    (r : IsResumed kernels codes book.planner q mem) where
+module _ (script : Script) (table : Table) (book : SectionBook) (plan : Plan) (n : ℕ) (carried : Cells) (len : ℕ)
+    (b : IsHandedOut book plan script table n carried len) (q : Planner) (mem : List ℤ) (left : AreLeft mem carried len)
+    (r : IsResumedWith plan book.planner q mem) where
   resumed_is : q ≡ record b.old {
     world = record b.old.world { jobs_before = q.world.jobs_before };
-    draft = record book.planner.draft {
-      kernels = q.draft.kernels;
-      codes = q.draft.codes;
-      literals = q.draft.literals;
-      ops = q.draft.ops;
-    };
+    draft = record book.planner.draft { kernels = q.draft.kernels; codes = q.draft.codes; first = q.draft.first };
   }
-  resumed_is = q_is script table book n carried len b kernels codes q mem left r
+  resumed_is = q_is script table book plan n carried len b q mem left r
 
   module _ (x : Statement) (here : slice_get script.statements.items n ≡ Some x) (held : Bool) (out : IsOutcome script table n (Some held)) (k : ℕ) where
     test_is : b.test ≡ x
@@ -94,10 +86,6 @@ module _ (script : Script) (table : Table) (book : SectionBook) (n : ℕ) (carri
           (ap (λ (e : Book). e.completed) book_is) in
           λ i. a i ++ unless_none (c i))
 
-      carried_is : (m : ℕ) → 0 < m → record { start = 0; len = greatest_end_at script table starts m } ∷ [] ≡ carried_spans script table starts m
-      carried_is zero pos = absurd (omega arith)
-      carried_is (suc m) pos = refl
-
       peak_now : peak_of q.world.store ≡ peak_of b.old.world.store
       peak_now = ap (λ (k : Planner). peak_of k.world.store) resumed_is
 
@@ -108,12 +96,9 @@ module _ (script : Script) (table : Table) (book : SectionBook) (n : ℕ) (carri
             (peak_now ∙ (let e : peak_of b.old.world.store ≡ max (peak_of b.old.world.store) 0 = omega arith in e)
             ∙ ap (λ l. max (peak_of b.old.world.store) (greatest_end l)) (sym no_span));
         spans = (let segments = ap (λ (p : Planner). p.draft.segments.items) resumed_is ∙ ap (λ (d : Draft). d.segments) b.emptied.draft in
-            λ i. given_from (segments i) ++ given_in (r.ops i))
-            ∙ (let e = peak_is script table book n carried len b ∙ was.peak in λ i. record { start = 0; len = e i } ∷ [])
-            ∙ carried_is n (first_later script table b.accepted n (subst (IsStop (setting script table) (state_at script table n)) (sym b.here) b.acts)
-            (subst IsSome (sym b.here) refl))
-            ∙ sym (append-nil (carried_spans script table starts n))
-            ∙ ap (λ l. carried_spans script table starts n ++ l) (sym none_between);
+            let ops = ap (λ (p : Planner). p.draft.ops.items) resumed_is ∙ ap (λ (d : Draft). d.ops) b.emptied.draft in
+            λ i. given_from (segments i) ++ given_in (ops i))
+            ∙ sym none_between;
         jobs = λ m y low high there.
             let at : m ≡ n = omega arith in
             let y_is : x ≡ y = some_is (sym here ∙ ap (slice_get script.statements.items) (sym at) ∙ there) in
@@ -139,9 +124,11 @@ module _ (script : Script) (table : Table) (book : SectionBook) (n : ℕ) (carri
             ∙ sym none_completed;
       }
 
-  pub growing_on : (held : Bool) (x : Statement) (k : ℕ) → slice_get script.statements.items book.at ≡ Some x → IsOutcome script table n (Some held)
-      → (starts : Starts) → StartAs starts b.found → HasGrown script table starts (record q { world = record q.world { passing = k } }) n (book.at + 1)
-  growing_on held x k there_is out starts same =
-      let here : slice_get script.statements.items n ≡ Some x = ap (slice_get script.statements.items) (sym b.at) ∙ there_is in
-      let next : suc n ≡ book.at + 1 = (let a = b.at in omega arith) in
+  pub growing_on : (held : Bool) (x : Statement) (at k : ℕ) → at ≡ book.at → slice_get script.statements.items at ≡ Some x
+      → IsOutcome script table n (Some held)
+      → (starts : Starts) → StartAs starts b.found → HasGrown script table starts (record q { world = record q.world { passing = k } }) n (at + 1)
+  growing_on held x at k at_is there_is out starts same =
+      let there : n ≡ at = sym (at_is ∙ b.at) in
+      let here : slice_get script.statements.items n ≡ Some x = ap (slice_get script.statements.items) there ∙ there_is in
+      let next : suc n ≡ at + 1 = omega arith in
       subst (HasGrown script table starts (record q { world = record q.world { passing = k } }) n) next (grown_again x here held out k starts same)

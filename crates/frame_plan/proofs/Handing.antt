@@ -1,6 +1,6 @@
 -- A section is handed out, and the first one is planned.
 use Rattle.std.proofs.Common.{◌≡◌, ℕ, zero, suc, ◌+◌, ◌<◌, ◌≤◌, ◌⊎◌, inl, inr, ⊎_elim, Bool, true, false, List, [], ◌∷◌, ◌++◌, length, map, take, Option, None, Some, refl, sym, ap, subst, ◌∙◌, arith, append-nil}
-use Rattle.std.specs.Prelude.{get_or, slice_get, IsSome, if◌then◌else◌, String}
+use Rattle.std.specs.Prelude.{Vec, get_or, slice_get, IsSome, if◌then◌else◌, String}
 use Rattle.std.specs.declared.alloc.Global.{Global}
 use Rattle.std.specs.List.{list_any}
 use Rattle.frame_ast.specs.declared.script.Order.{Order}
@@ -32,7 +32,7 @@ use Rattle.frame_plan.specs.Layouts.{IsLaidOut}
 use Rattle.frame_plan.specs.Names.{AreNamesOf}
 use Rattle.frame_plan.specs.References.{IsOfTest, IsTestFor}
 use Rattle.frame_plan.specs.Runs.{IsActingTest, IsStop, IsWithin, PassesOnce, IsFinished, IsEmptied, outline_of}
-use Rattle.frame_plan.specs.Sections.{limit_told, IsTestOf, EndsBy, IsPlannedFrom, IsBetween, IsAt, IsNext, IsPlanOf}
+use Rattle.frame_plan.specs.Sections.{limit_told, IsTestOf, EndsBy, IsPlannedFrom, IsTakenBack, IsHandedOut, IsAt, IsNext, IsPlanOf}
 use Rattle.plan_state.specs.Steps.{state_at, IsStep}
 use Rattle.frame_plan.proofs.NamedWords.{bound}
 use Rattle.frame_plan.proofs.Laying.{scheduled_later}
@@ -51,8 +51,8 @@ not_test g s a h = absurd h
 pub names_handed : (script : Script) (given taken : List (String Global)) → taken ≡ given → AreNamesOf script given → AreNamesOf script taken
 names_handed script given taken e names = subst (AreNamesOf script) (sym e) names
 
-module _ (script : Script) (table : Table) (from : ℕ) (book : SectionBook) (ready : IsPlannedFrom book script table from) (new : Planner) (plan : Plan)
-    (test : Option Test)
+module _ (script : Script) (table : Table) (from : ℕ) (book : SectionBook) (ready : IsPlannedFrom book script table from) (new : Planner)
+    (none : Vec (String Global) Global) (plan : Plan) (test : Option Test)
     (finished : IsFinished script book.planner plan) (emptied : IsEmptied book.planner new)
     (tests : IsTestFor book.planner (slice_get script.statements.items book.at) test) (names : AreNamesOf script plan.names.items) where
   abbrev s : ScriptState
@@ -62,7 +62,7 @@ module _ (script : Script) (table : Table) (from : ℕ) (book : SectionBook) (re
   section = record { plan = plan; jobs_before = book.planner.world.jobs_before; test = test }
 
   abbrev after : SectionBook
-  after = record { planner = new; at = book.at }
+  after = record { planner = new; at = book.at; names = none; spare = book.spare }
 
   done : IsDone (outline_of plan ready.found (state_at script table from)) (state_at script table book.at)
   done = finished.done table (state_at script table from) book.at ready.found ready.inside ready.stands
@@ -127,10 +127,10 @@ module _ (script : Script) (table : Table) (from : ℕ) (book : SectionBook) (re
   there_too None (Some t) h some = absurd h
   there_too (Some x) t h some = refl
 
-  between : (o : Option Statement) → slice_get script.statements.items book.at ≡ o → IsStop (setting script table) s o → IsSome o
-      → IsBetween after script table book.at (cells_after plan) plan.cells
-  between None e stop some = absurd (not_both some refl)
-  between (Some x) e stop some = record {
+  handed_out : (o : Option Statement) → slice_get script.statements.items book.at ≡ o → IsStop (setting script table) s o → IsSome o
+      → IsHandedOut after plan script table book.at (cells_after plan) plan.cells
+  handed_out None e stop some = absurd (not_both some refl)
+  handed_out (Some x) e stop some = record {
     accepted = ready.accepted;
     within = ready.within;
     at = refl;
@@ -143,15 +143,19 @@ module _ (script : Script) (table : Table) (from : ℕ) (book : SectionBook) (re
     stood = ready.stands;
     ranges = λ starts same. (ready.grown starts same).ranges;
     emptied = emptied;
+    kernels = finished.kernels;
+    codes = finished.codes;
+    names = names;
     held = done.contents;
     len_is = finished.cells ∙ ap (λ (k : Planner). peak_of k.world.store) (sym emptied.rest);
   }
 
-  is_at : (n : ℕ) → from < n → IsBetween after script table n (cells_after plan) plan.cells → IsAt after script table n (cells_after plan) plan.cells
-  is_at zero lt h = absurd (omega arith)
-  is_at (suc n) lt h = h
+  is_at : (n : ℕ) → from < n → IsHandedOut after plan script table n (cells_after plan) plan.cells
+      → (back : SectionBook) → IsTakenBack after plan back → IsAt back script table n (cells_after plan) plan.cells
+  is_at zero lt h back taken = absurd (omega arith)
+  is_at (suc n) lt h back taken = record { before = after; plan = plan; handed_out = h; taken_back = taken }
 
-  pub is_next : IsNext (record { planner = new; at = book.at }) script table from
+  pub is_next : IsNext (record { planner = new; at = book.at; names = none; spare = book.spare }) script table from
       (record { plan = plan; jobs_before = book.planner.world.jobs_before; test = test })
   is_next = record {
     to = book.at;
@@ -174,19 +178,10 @@ module _ (script : Script) (table : Table) (from : ℕ) (book : SectionBook) (re
         subst (IsBindAt s (cells_after plan) plan.cells name) (ap (λ (k : Planner). bind_named k name) (sym emptied.rest))
         (bound script table book.planner (state_at script table from) book.at ready.found ready.stands name low (cells_after plan) plan.cells done.contents
         (finished.within table (state_at script table from) book.at ready.found ready.inside ready.stands));
-    kernels = record {
-      old = book.planner;
-      places = ap (λ (k : Planner). k.kernels) emptied.rest;
-      guard_places = ap (λ (k : Planner). k.guards) emptied.rest;
-      had = finished.kernels;
-      had_codes = finished.codes;
-      stood = ready.stands.kernels;
-      few = (let e = ap length finished.kernels in let l = ready.stands.numbers.kernels_few in omega arith);
-    };
     later = λ some. ready.later (there_too (slice_get script.statements.items book.at) test tests some);
     at = λ some.
         let here = there_too (slice_get script.statements.items book.at) test tests some in
-        is_at book.at (ready.later here) (between (slice_get script.statements.items book.at) refl ready.stops here);
+        is_at book.at (ready.later here) (handed_out (slice_get script.statements.items book.at) refl ready.stops here);
   }
 
 -- ---- the limits

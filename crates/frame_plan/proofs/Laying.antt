@@ -23,7 +23,7 @@ use Rattle.frame_core.specs.declared.plan.Segment.{Segment}
 use Rattle.frame_core.proofs.Small.{some_is, none_some, get_before, get_below}
 use Rattle.plan_state.specs.declared.state.Planner.{Planner}
 use Rattle.plan_state.specs.Growth.{span_by, greatest_end, StartAs, HasJobOf, IsJobOf, Schedules, SchedulesUnless, deps_after, Awaits, AwaitsUnless, IsStartedAfter, HasWaited, unless_none, newly_completed, Grows}
-use Rattle.frame_plan.specs.Layouts.{span_of, spans_at, spans_between, carried_spans, completed_at, completed_between, HasItsJob, AreScheduled, HasRanges, HasGrown}
+use Rattle.frame_plan.specs.Layouts.{span_of, spans_at, spans_between, completed_at, completed_between, HasItsJob, AreScheduled, HasRanges, HasGrown}
 use Rattle.frame_plan.specs.Runs.{IsFurther, HasGone}
 use Rattle.plan_state.specs.Steps.{state_at, StandsAt}
 use Rattle.plan_state.proofs.Reaching.{next_state}
@@ -193,8 +193,7 @@ module _ (script : Script) (table : Table) (starts : Starts) where
         ranges = ranges_more p q n x here h.ranges grows.first_fit grows.peak;
         spans = grows.spans
             ∙ (let a = h.spans in let b = sym (span_here n x here) in λ i. a i ++ b i)
-            ∙ append_assoc (carried_spans script table starts from) (spans_between script table starts from n) (spans_at script table starts n)
-            ∙ ap (λ l. carried_spans script table starts from ++ l) (sym (spans_more from n le));
+            ∙ sym (spans_more from n le);
         jobs = λ m y low high there. ⊎_elim
             (λ (e : m ≡ n). (let same : x ≡ y = some_is (sym here ∙ ap (slice_get script.statements.items) (sym e) ∙ there) in
             subst (λ k. HasItsJob g starts before (at_place k) y q.draft.kernels.items q.draft.jobs.items q.draft.segments.items) (sym e)

@@ -1,14 +1,13 @@
 -- A section begins after a test, in the state in which the test stands.
-use Rattle.std.proofs.Common.{◌≡◌, ℕ, zero, suc, ◌+◌, ◌<◌, ◌≤◌, ⊎_elim, Bool, true, false, not, ℤ, List, [], ◌∷◌, ◌++◌, length, map, get_or, Option, None, Some, refl, sym, ap, subst, ◌∙◌, arith}
-use Rattle.std.specs.Prelude.{Vec, slice_get, string_bytes, if◌then◌else◌}
+use Rattle.std.proofs.Common.{◌≡◌, ℕ, zero, suc, ◌+◌, ◌<◌, ◌≤◌, ⊎_elim, Bool, true, false, not, ℤ, List, [], ◌∷◌, length, get_or, Option, None, Some, refl, sym, ap, subst, ◌∙◌, arith}
+use Rattle.std.specs.Prelude.{Vec, slice_get, if◌then◌else◌}
 use Rattle.std.specs.declared.alloc.Global.{Global}
 use Rattle.std.proofs.lemmas.Bool.{cases_lt}
-use Rattle.std.proofs.lemmas.List.{length-append}
 use Rattle.std.specs.List.{list_any}
 use Rattle.std.proofs.lemmas.Bool.{leb-true}
 use Rattle.job_base.specs.declared.limits.TheConstants.{MOST_STATEMENTS}
 use Rattle.job_base.specs.Cells.{cells_of, cell_list}
-use Rattle.job_base.proofs.Windows.{cell_list-same}
+use Rattle.job_base.proofs.Windows.{cell_list-same, get_or-cell_list, length-cell_list}
 use Rattle.frame_ast.specs.declared.kernel.Kernel.{Kernel}
 use Rattle.frame_ast.specs.declared.script.Order.{Order}
 use Rattle.frame_ast.specs.declared.script.Order.TheVariants.{When}
@@ -30,13 +29,13 @@ use Rattle.kernel_exec.specs.Binds.{end_of}
 use Rattle.kernel_exec.specs.Layout.{Holds}
 use Rattle.merge_laws.specs.Graph.{Cells}
 use Rattle.slot_store.specs.Stores.{peak_of}
+use Rattle.frame_core.specs.declared.plan.Plan.{Plan}
 use Rattle.frame_core.specs.Ordered.{ops_count}
 use Rattle.frame_core.proofs.Small.{some_is, none_some, not_both, get_below}
 use Rattle.plan_laws.specs.Binds.{bind_of, bind_of_container}
-use Rattle.plan_laws.specs.Drafts.{Draft}
+use Rattle.plan_laws.specs.Drafts.{Draft, empty_draft}
 use Rattle.plan_laws.specs.Leaving.{AllHeld}
 use Rattle.plan_laws.specs.Planned.{Outline, IsPlanned}
-use Rattle.plan_laws.specs.Sections.{carried_op}
 use Rattle.plan_laws.proofs.Making.{live_below}
 use Rattle.plan_laws.proofs.Owners.{words_apart}
 use Rattle.plan_laws.proofs.Sections.{sections_begin}
@@ -48,7 +47,7 @@ use Rattle.plan_state.specs.declared.state.Planner.{Planner}
 use Rattle.plan_state.specs.declared.state.Draft.{Draft as SoFar}
 use Rattle.frame_plan.specs.Runs.{IsActingTest, outline_of, PassesOnce}
 use Rattle.frame_plan.specs.Resuming.{IsResumed}
-use Rattle.frame_plan.specs.Sections.{AreKernelsOf, IsBetween, IsOutcome, AreLeft, outcome_of, outcome_by, passed_after}
+use Rattle.frame_plan.specs.Sections.{IsTakenBack, IsHandedOut, IsBetween, IsOutcome, AreLeft, outcome_of, outcome_by, passed_after}
 use Rattle.plan_state.specs.Stands.{IsContainer, IsOwned, AreKernels, Agrees, Stands, draft_of}
 use Rattle.plan_state.specs.Steps.{state_at, StandsAt}
 use Rattle.plan_state.proofs.Accessing.{there}
@@ -56,9 +55,8 @@ use Rattle.frame_plan.proofs.Wholes.{coded_as, plan_so_far, some_planned}
 use Rattle.frame_plan.proofs.Handing.{not_test, no_test, limit_is}
 use Rattle.frame_plan.proofs.Limiting.{text_passes_none}
 use Rattle.frame_plan.proofs.Passing.{repassed}
-use Rattle.plan_state.proofs.Reaching.{long, next_state}
+use Rattle.plan_state.proofs.Reaching.{next_state}
 use Rattle.plan_state.proofs.Restating.{accepted_state}
-use Rattle.frame_plan.proofs.References.{name_below}
 use Rattle.frame_plan.proofs.Starting.{none_long, no_pieces}
 
 -- ---- all jobs are completed
@@ -88,14 +86,6 @@ all_completed g s (When name sign value count) acts j pos le =
     is_true false e = absurd cc
 all_completed g s a acts j pos le = absurd acts
 
-names_there : (script : Script) (table : Table) (old : Planner) (begun : ScriptState) (n : ℕ) (found : List ℕ) (x : Statement)
-    → StandsAt old script table begun n found → IsAccepted script → slice_get script.statements.items n ≡ Some x
-    → (a : Order) → x.act ≡ a → IsActingTest (setting script table) (state_at script table n) a → 0 < length (setting script table).names
-names_there script table old begun n found x st accepted here (When name sign value count) is acts =
-    let lt = name_below script table old begun n found x st (record { accepted = accepted; here = here; acts = acts.0 }) name sign value count is acts.1 in
-    omega arith
-names_there script table old begun n found x st accepted here a is acts = absurd acts
-
 -- ---- the planner
 
 module _ (script : Script) (table : Table) (old : Planner) (begun : ScriptState) (n : ℕ) (found : List ℕ) (x : Statement)
@@ -105,8 +95,8 @@ module _ (script : Script) (table : Table) (old : Planner) (begun : ScriptState)
     (carried : Cells) (held : AllHeld (λ k. get_or found k 0) (state_at script table n) carried)
     (before : ℕ) (w : SoFar)
     (before_is : before ≡ (state_at script table n).book.count)
-    (segments : w.segments.items ≡ []) (jobs : w.jobs.items ≡ []) (waits : w.waits.items ≡ []) (ops : w.ops.items ≡ carried_op (peak_of old.world.store) 0 ∷ [])
-    (literals : map (λ v. v.items) w.literals.items ≡ cell_list carried 0 (peak_of old.world.store) ∷ []) (pieces : w.pieces ≡ 0)
+    (segments : w.segments.items ≡ []) (jobs : w.jobs.items ≡ []) (waits : w.waits.items ≡ []) (ops : w.ops.items ≡ [])
+    (literals : w.literals.items ≡ []) (pieces : w.pieces ≡ 0) (first : w.first.items ≡ cell_list carried 0 (peak_of old.world.store))
     (kernels : AreKernels (record old { world = record old.world { jobs_before = before }; draft = w }) (setting script table))
     (kernels_few : length w.kernels.items ≤ n) where
   abbrev g : Setting
@@ -145,9 +135,6 @@ module _ (script : Script) (table : Table) (old : Planner) (begun : ScriptState)
   inside : n ≤ length script.statements.items
   inside = let lt = get_below script.statements.items n x here in omega arith
 
-  one_literal : length w.literals.items ≡ 1
-  one_literal = sym (long (λ v. v.items) w.literals.items) ∙ ap length literals
-
   planned_before : IsPlanned (outline_of (plan_so_far script old) found begun) s (draft_of old)
   planned_before = some_planned script table old begun n found st accepted inside
 
@@ -176,36 +163,30 @@ module _ (script : Script) (table : Table) (old : Planner) (begun : ScriptState)
         words_apart (plan_so_far script old) (λ k. get_or found k 0) begun.book.count (length old.draft.jobs.items) s planned_before.ordered.ledger c e v lc le
         (sym (word_is c v (live_below s c lc)) ∙ hc) (sym (word_is e v (live_below s e le)) ∙ he)
 
-    literal_is : get_or (map (λ v. v.items) y.plan.literals.items) 0 [] ≡ cell_list carried 0 len
-    literal_is =
-        let l = a.literals in
-        ap (λ xs. get_or (map (λ (v : Vec ℤ Global). v.items) xs) 0 []) l.1 ∙ first (w.literals.items) l.0 literals
-      where
-        first : (xs later : List (Vec ℤ Global)) → map (λ v. v.items) xs ≡ cell_list carried 0 len ∷ []
-            → get_or (map (λ (v : Vec ℤ Global). v.items) (xs ++ later)) 0 [] ≡ cell_list carried 0 len
-        first [] later e = absurd cc
-        first (z ∷ xs) later e = ap (λ l. get_or l 0 []) e
+    first_is : y.plan.first.items ≡ cell_list carried 0 len
+    first_is = a.first ∙ first
 
-    begins : IsPlanned x' s (draft_of q)
+    begins : IsPlanned x' s empty_draft
     begins =
-        sections_begin x' carried len 0 (draft_of q) a.small st.knows.known (all_completed g s x.act acts)
+        sections_begin x' carried len a.small st.knows.known (all_completed g s x.act acts)
         (record {
           held = λ c below alive. subst (λ b. Holds carried b (s.contents c)) (sym (bind_is c below)) (held c below alive);
           below = λ c live. subst (λ b. end_of b ≤ len) (sym (bind_is c (live_below s c live))) (planned_before.standing.within c live);
           within = a.cells;
-          has_literal = (let one = one_literal in let l = ap length a.literals.1 in let both = length-append w.literals.items a.literals.0 in omega arith);
-          are = literal_is;
+          first = (let e = ap length first_is in let size = length-cell_list carried 0 len in let low = a.cells in omega arith);
+          are = λ w lt. ap (λ l. cells_of l w) first_is ∙ get_or-cell_list carried 0 len w _ lt
+              ∙ (let e : 0 + w ≡ w = omega arith in ap carried e);
           apart = apart;
         })
-        (let e = ap length a.names in let m = long (λ v. string_bytes v) y.plan.names.items in
-        let lt = names_there script table old begun n found x st accepted here x.act refl acts in omega arith)
-        (record { segments = segments; jobs = jobs; waits = waits; ops = ops })
+
+    draft_is : empty_draft ≡ draft_of q
+    draft_is = λ i. record { segments = sym segments i; jobs = sym jobs i; waits = sym waits i; ops = sym ops i }
 
     planned : IsPlanned y s (draft_of q)
     planned =
         let b = sym a.begins in
         let x_is : x' ≡ y = λ i. record { plan = y.plan; starts = y.starts; begun = b i } in
-        subst (λ o. IsPlanned o s (draft_of q)) x_is begins
+        subst (λ o. IsPlanned o s (draft_of q)) x_is (subst (IsPlanned x' s) draft_is begins)
 
   pub stands_resumed : StandsAt (record old { world = record old.world { jobs_before = before }; draft = w }) script table (state_at script table n) n found
   stands_resumed =
@@ -241,7 +222,7 @@ module _ (script : Script) (table : Table) (old : Planner) (begun : ScriptState)
           slots_few = m.slots_few;
           ops_few = (let e = ap ops_count segments in let f = ap length ops in omega arith);
           segments_few = (let e = none_long w.segments.items segments in omega arith);
-          literals_few = (let e = one_literal in omega arith);
+          literals_few = (let e = ap length literals in omega arith);
           kernels_few = kernels_few;
           handles_few = m.handles_few;
         };
@@ -267,7 +248,62 @@ pub outcome_is : (script : Script) (table : Table) (n : ℕ) (x : Statement) (he
 outcome_is script table zero x held h e = absurd (none_some (sym h))
 outcome_is script table (suc n) x held h e = some_is h ∙ ap (outcome_by (state_at script table (suc n))) e
 
-module _ (script : Script) (table : Table) (book : SectionBook) (n : ℕ) (carried : Cells) (len : ℕ) (b : IsBetween book script table n carried len) where
+-- ---- the plan before was taken back
+
+-- The planner took up the section with the kernels of a plan, each with its code.
+pub record IsResumedWith (plan : Plan) (old new : Planner) (mem : List ℤ) : Type 0 where
+  pub first : new.draft.first.items ≡ cell_list (cells_of mem) 0 (peak_of old.world.store)
+  pub kernels : new.draft.kernels ≡ plan.kernels
+  pub codes : new.draft.codes ≡ plan.codes
+  pub before : new.world.jobs_before ≡ count_of old.world.jobs
+  pub rest : new ≡ record old {
+    world = record old.world { jobs_before = new.world.jobs_before };
+    draft = record old.draft { kernels = new.draft.kernels; codes = new.draft.codes; first = new.draft.first };
+  }
+
+pub resumed_with : (before : SectionBook) (plan : Plan) (book : SectionBook) → IsTakenBack before plan book → (q : Planner) (mem : List ℤ)
+    → IsResumed book.planner q mem → IsResumedWith plan before.planner q mem
+resumed_with before plan book taken q mem r = record {
+  first = r.first ∙ ap (λ (b : SectionBook). cell_list (cells_of mem) 0 (peak_of b.planner.world.store)) taken;
+  kernels = kernels;
+  codes = codes;
+  before = r.before ∙ ap (λ (b : SectionBook). count_of b.planner.world.jobs) taken;
+  rest = q_is ∙ (λ i. record before.planner {
+    world = record before.planner.world { jobs_before = q.world.jobs_before };
+    draft = record before.planner.draft { kernels = sym kernels i; codes = sym codes i; first = q.draft.first };
+  });
+}
+  where
+    q_is : q ≡ record before.planner {
+      world = record before.planner.world { jobs_before = q.world.jobs_before };
+      draft = record before.planner.draft { kernels = plan.kernels; codes = plan.codes; first = q.draft.first };
+    }
+    q_is = r.rest ∙ ap (λ (b : SectionBook). record b.planner {
+      world = record b.planner.world { jobs_before = q.world.jobs_before };
+      draft = record b.planner.draft { first = q.draft.first };
+    }) taken
+
+    kernels : q.draft.kernels ≡ plan.kernels
+    kernels = ap (λ (k : Planner). k.draft.kernels) q_is
+
+    codes : q.draft.codes ≡ plan.codes
+    codes = ap (λ (k : Planner). k.draft.codes) q_is
+
+pub place_back : (before : SectionBook) (plan : Plan) (book : SectionBook) → IsTakenBack before plan book → book.at ≡ before.at
+place_back before plan book taken = ap (λ (b : SectionBook). b.at) taken
+
+-- which list is needed no more says nothing of where a book stands
+pub respared : (book : SectionBook) (script : Script) (table : Table) (n : ℕ) (carried : Cells) (l : ℕ) (spare : Vec ℤ Global)
+    → IsBetween book script table n carried l → IsBetween (record book { spare = spare }) script table n carried l
+respared book script table n carried l spare b = record {
+  before = b.before;
+  plan = b.plan;
+  handed_out = b.handed_out;
+  taken_back = ap (λ (k : SectionBook). record k { spare = spare }) b.taken_back;
+}
+
+module _ (script : Script) (table : Table) (book : SectionBook) (plan : Plan) (n : ℕ) (carried : Cells) (len : ℕ)
+    (b : IsHandedOut book plan script table n carried len) where
   pub below : n < length script.statements.items
   below = get_below script.statements.items n b.test b.here
 
@@ -280,32 +316,21 @@ module _ (script : Script) (table : Table) (book : SectionBook) (n : ℕ) (carri
   pub peak_is : peak_of book.planner.world.store ≡ peak_of b.old.world.store
   peak_is = ap (λ (k : Planner). peak_of k.world.store) b.emptied.rest
 
-  module _ (kernels : List Kernel) (codes : List Code) (q : Planner) (mem : List ℤ) (left : AreLeft mem carried len)
-      (r : IsResumed kernels codes book.planner q mem) where
+  module _ (q : Planner) (mem : List ℤ) (left : AreLeft mem carried len) (r : IsResumedWith plan book.planner q mem) where
     -- the planner of the section before, with another plan
     abbrev again : Planner
     again = record b.old {
       world = record b.old.world { jobs_before = q.world.jobs_before };
-      draft = record book.planner.draft {
-        kernels = q.draft.kernels;
-        codes = q.draft.codes;
-        literals = q.draft.literals;
-        ops = q.draft.ops;
-      };
+      draft = record book.planner.draft { kernels = q.draft.kernels; codes = q.draft.codes; first = q.draft.first };
     }
 
     pub q_is : q ≡ record b.old {
       world = record b.old.world { jobs_before = q.world.jobs_before };
-      draft = record book.planner.draft {
-        kernels = q.draft.kernels;
-        codes = q.draft.codes;
-        literals = q.draft.literals;
-        ops = q.draft.ops;
-      };
+      draft = record book.planner.draft { kernels = q.draft.kernels; codes = q.draft.codes; first = q.draft.first };
     }
     q_is = r.rest ∙ ap (λ (k : Planner). record k {
       world = record k.world { jobs_before = q.world.jobs_before };
-      draft = record book.planner.draft { kernels = q.draft.kernels; codes = q.draft.codes; literals = q.draft.literals; ops = q.draft.ops };
+      draft = record book.planner.draft { kernels = q.draft.kernels; codes = q.draft.codes; first = q.draft.first };
     }) b.emptied.rest
 
     same_cells : cell_list (cells_of mem) 0 (peak_of book.planner.world.store) ≡ cell_list carried 0 (peak_of b.old.world.store)
@@ -313,21 +338,23 @@ module _ (script : Script) (table : Table) (book : SectionBook) (n : ℕ) (carri
         cell_list-same (cells_of mem) carried 0 (peak_of book.planner.world.store) (λ k lo hi. left.1 k (let e = b.len_is in omega arith))
         ∙ ap (cell_list carried 0) peak_is
 
+    had : q.draft.kernels.items ≡ b.old.draft.kernels.items
+    had = ap (λ (v : Vec Kernel Global). v.items) r.kernels ∙ b.kernels
+
     -- the copies are where they were, each with its code
-    kernels_again : AreKernelsOf book script table kernels codes → AreKernels again (setting script table)
-    kernels_again ks =
-        let places : b.old.kernels ≡ ks.old.kernels = ap (λ (k : Planner). k.kernels) (sym b.emptied.rest) ∙ ks.places in
-        let guard_places : b.old.guards ≡ ks.old.guards = ap (λ (k : Planner). k.guards) (sym b.emptied.rest) ∙ ks.guard_places in
-        let had : q.draft.kernels.items ≡ ks.old.draft.kernels.items = r.kernels_are ∙ ks.had in
-        let had_codes : q.draft.codes.items ≡ ks.old.draft.codes.items = r.codes_are ∙ ks.had_codes in
+    kernels_again : AreKernels again (setting script table)
+    kernels_again =
+        let ks = b.stood.kernels in
+        let places = b.emptied.copies in
+        let guard_places = b.emptied.guards in
         record {
-          each = ap (λ (v : Vec (Option ℕ) Global). length v.items) places ∙ ks.stood.each;
-          each_guard = ap (λ (v : Vec (Option ℕ) Global). length v.items) guard_places ∙ ks.stood.each_guard;
+          each = ap (λ (v : Vec (Option ℕ) Global). length v.items) places ∙ ks.each;
+          each_guard = ap (λ (v : Vec (Option ℕ) Global). length v.items) guard_places ∙ ks.each_guard;
           copies = λ k place h.
-              let c = ks.stood.copies k place (ap (λ (v : Vec (Option ℕ) Global). slice_get v.items k) (sym places) ∙ h) in
+              let c = ks.copies k place (ap (λ (v : Vec (Option ℕ) Global). slice_get v.items k) (sym places) ∙ h) in
               record { old = c.old; new = c.new; is_old = c.is_old; is_new = ap (λ xs. slice_get xs place) had ∙ c.is_new; same = c.same };
           guards = λ k place h.
-              let c = ks.stood.guards k place (ap (λ (v : Vec (Option ℕ) Global). slice_get v.items k) (sym guard_places) ∙ h) in
+              let c = ks.guards k place (ap (λ (v : Vec (Option ℕ) Global). slice_get v.items k) (sym guard_places) ∙ h) in
               record {
                 old = c.old;
                 new = c.new;
@@ -338,47 +365,50 @@ module _ (script : Script) (table : Table) (book : SectionBook) (n : ℕ) (carri
                 words = c.words;
                 footprint = c.footprint;
               };
-          checked = λ place k h. ks.stood.checked place k (ap (λ xs. slice_get xs place) (sym had) ∙ h);
-          coded = coded_as q.draft.kernels.items ks.old.draft.kernels.items q.draft.codes.items ks.old.draft.codes.items had had_codes ks.stood.coded;
+          checked = λ place k h. ks.checked place k (ap (λ xs. slice_get xs place) (sym had) ∙ h);
+          coded = coded_as q.draft.kernels.items b.old.draft.kernels.items q.draft.codes.items b.old.draft.codes.items had
+              (ap (λ (v : Vec Code Global). v.items) r.codes ∙ b.codes) ks.coded;
         }
 
-    stands_again : AreKernelsOf book script table kernels codes → StandsAt q script table (state_at script table n) n b.found
-    stands_again ks =
+    stands_again : StandsAt q script table (state_at script table n) n b.found
+    stands_again =
         subst (λ p. StandsAt p script table (state_at script table n) n b.found) (sym q_is)
         (stands_resumed script table b.old b.begun n b.found b.test b.stood b.accepted b.here b.acts carried b.held q.world.jobs_before
-        (record book.planner.draft { kernels = q.draft.kernels; codes = q.draft.codes; literals = q.draft.literals; ops = q.draft.ops })
+        (record book.planner.draft { kernels = q.draft.kernels; codes = q.draft.codes; first = q.draft.first })
         (r.before ∙ ap (λ (k : Planner). count_of k.world.jobs) b.emptied.rest ∙ b.stood.knows.jobs.count)
         (ap (λ (d : Draft). d.segments) b.emptied.draft)
         (ap (λ (d : Draft). d.jobs) b.emptied.draft)
         (ap (λ (d : Draft). d.waits) b.emptied.draft)
-        (r.ops ∙ ap (λ k. carried_op k 0 ∷ []) peak_is)
-        (r.literals ∙ ap (λ l. l ∷ []) same_cells)
+        (ap (λ (d : Draft). d.ops) b.emptied.draft)
+        b.emptied.literals
         b.emptied.pieces
-        (kernels_again ks)
-        (let e = ap length r.kernels_are in let few = ks.few in let at = b.at in omega arith))
+        (r.first ∙ same_cells)
+        kernels_again
+        (let e = ap length had in let few = b.stood.numbers.kernels_few in omega arith))
 
-    pub resumed_on : AreKernelsOf book script table kernels codes → (held : Bool) (x : Statement) → slice_get script.statements.items n ≡ Some x
+    pub resumed_on : (held : Bool) (x : Statement) → slice_get script.statements.items n ≡ Some x
         → IsOutcome script table n (Some held) → StandsAt (record q { world = record q.world { passing = passed_after held x.act } }) script table
         (state_at script table n)
         (suc n) b.found
-    resumed_on ks held x here out =
+    resumed_on held x here out =
         let same : b.test ≡ x = some_is (sym b.here ∙ here) in
         let acts = subst (λ (y : Statement). IsActingTest (setting script table) (state_at script table n) y.act) same b.acts in
         let now = test_acts (setting script table) (state_at script table n) x held x.act refl acts (outcome_is script table n x held out here) in
         subst (λ t. Stands (record q { world = record q.world { passing = passed_after held x.act } }) (setting script table) (state_at script table n)
         (suc n) t b.found)
         (sym now ∙ next_state script table n x here)
-        (repassed q (setting script table) (state_at script table n) n (state_at script table n) b.found (stands_again ks) (passed_after held x.act))
+        (repassed q (setting script table) (state_at script table n) n (state_at script table n) b.found stands_again (passed_after held x.act))
 
-    pub standing_on : AreKernelsOf book script table kernels codes → (held : Bool) (x : Statement) (k : ℕ) → slice_get script.statements.items book.at ≡ Some x
+    pub standing_on : (held : Bool) (x : Statement) (at k : ℕ) → at ≡ book.at → slice_get script.statements.items at ≡ Some x
         → IsOutcome script table n (Some held) → k ≡ passed_after held x.act
-        → StandsAt (record q { world = record q.world { passing = k } }) script table (state_at script table n) (book.at + 1) b.found
-    standing_on ks held x k there_is out is =
-        let here : slice_get script.statements.items n ≡ Some x = ap (slice_get script.statements.items) (sym b.at) ∙ there_is in
-        let next : suc n ≡ book.at + 1 = (let a = b.at in omega arith) in
+        → StandsAt (record q { world = record q.world { passing = k } }) script table (state_at script table n) (at + 1) b.found
+    standing_on held x at k at_is there_is out is =
+        let there : n ≡ at = sym (at_is ∙ b.at) in
+        let here : slice_get script.statements.items n ≡ Some x = ap (slice_get script.statements.items) there ∙ there_is in
+        let next : suc n ≡ at + 1 = omega arith in
         subst (λ m. StandsAt (record q { world = record q.world { passing = k } }) script table (state_at script table n) m b.found) next
         (subst (λ j. StandsAt (record q { world = record q.world { passing = j } }) script table (state_at script table n) (suc n) b.found) (sym is)
-        (resumed_on ks held x here out))
+        (resumed_on held x here out))
 
   pub no_limit : (fault : PlanFault) → PassesOnce fault script table → fault ≡ NoMemory
   no_limit fault p =

@@ -53,8 +53,8 @@ pub record IsNew (p : Planner) (script : Script) : Type 0 where
   pub created : p.world.created ≡ 0
   pub passing : p.world.passing ≡ 0
   pub before : p.world.jobs_before ≡ 0
-  pub kernels : p.kernels.items ≡ replicate (length script.kernels.items) None
-  pub guards : p.guards.items ≡ replicate (length script.kernels.items) None
+  pub kernels : p.draft.copies_of.items ≡ replicate (length script.kernels.items) None
+  pub guards : p.draft.guards_of.items ≡ replicate (length script.kernels.items) None
   pub plan_kernels : p.draft.kernels.items ≡ []
   pub plan_codes : p.draft.codes.items ≡ []
   pub literals : p.draft.literals.items ≡ []
@@ -63,6 +63,7 @@ pub record IsNew (p : Planner) (script : Script) : Type 0 where
   pub waits : p.draft.waits.items ≡ []
   pub ops : p.draft.ops.items ≡ []
   pub pieces : p.draft.pieces ≡ 0
+  pub first : p.draft.first.items ≡ []
 
 -- no copy of a kernel
 pub no_copy : (xs : List (Option ℕ)) (n k place : ℕ) → xs ≡ replicate n None → slice_get xs k ≡ Some (Some place) → ⊥
@@ -90,7 +91,8 @@ module _ (script : Script) (table : Table) (p : Planner) (new : IsNew p script) 
   planned x a =
       let b = sym a.begins in
       let x_is : record { plan = x.plan; starts = x.starts; begun = at_start } ≡ x = λ i. record { plan = x.plan; starts = x.starts; begun = b i } in
-      subst (λ d. IsPlanned x at_start d) draft_is (subst (λ y. IsPlanned y at_start empty_draft) x_is (nothing_is_planned x.plan x.starts a.small))
+      subst (λ d. IsPlanned x at_start d) draft_is (subst (λ y. IsPlanned y at_start empty_draft) x_is (nothing_is_planned x.plan x.starts a.small
+      (let none = ap length (a.first ∙ new.first) in omega arith)))
 
   pub stands_new : StandsAt p script table at_start 0 []
   stands_new = record {
@@ -143,8 +145,8 @@ module _ (script : Script) (table : Table) (p : Planner) (new : IsNew p script) 
     kernels = record {
       each = ap length new.kernels ∙ length-replicate (length script.kernels.items) None;
       each_guard = ap length new.guards ∙ length-replicate (length script.kernels.items) None;
-      copies = λ k place e. absurd (no_copy p.kernels.items (length script.kernels.items) k place new.kernels e);
-      guards = λ k place e. absurd (no_copy p.guards.items (length script.kernels.items) k place new.guards e);
+      copies = λ k place e. absurd (no_copy p.draft.copies_of.items (length script.kernels.items) k place new.kernels e);
+      guards = λ k place e. absurd (no_copy p.draft.guards_of.items (length script.kernels.items) k place new.guards e);
       checked = λ place k e. absurd (none_in p.draft.kernels.items place k new.plan_kernels e);
       coded = record {
         each = none_long p.draft.codes.items new.plan_codes ∙ sym (none_long p.draft.kernels.items new.plan_kernels);

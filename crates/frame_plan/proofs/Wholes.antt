@@ -93,6 +93,7 @@ plan_so_far script p = record no_plan {
   kernels = p.draft.kernels;
   literals = p.draft.literals;
   jobs = p.draft.jobs;
+  first = p.draft.first;
   cells = peak_of p.world.store;
 }
 
@@ -104,9 +105,9 @@ module _ (script : Script) (table : Table) (p : Planner) (begun : ScriptState) (
   -- a plan that has all of the plan so far
   pub agrees : (plan : Plan) → map (λ v. string_bytes v) plan.names.items ≡ map (λ v. string_bytes v) script.names.items
       → plan.kernels.items ≡ p.draft.kernels.items → plan.literals.items ≡ p.draft.literals.items → plan.jobs.items ≡ p.draft.jobs.items
-      → plan.cells ≡ peak_of p.world.store
+      → plan.cells ≡ peak_of p.world.store → plan.first.items ≡ p.draft.first.items
       → Agrees p (setting script table) begun found (outline_of plan found begun)
-  agrees plan names kernels literals jobs cells = record {
+  agrees plan names kernels literals jobs cells first = record {
     begins = refl;
     names = names;
     kernels = ([], kernels ∙ sym (append-nil p.draft.kernels.items));
@@ -114,11 +115,12 @@ module _ (script : Script) (table : Table) (p : Planner) (begun : ScriptState) (
     jobs = ([], jobs ∙ sym (append-nil p.draft.jobs.items));
     starts = λ k lt. refl;
     cells = omega arith;
+    first = first;
     small = (let few = peak_small in omega arith);
   }
 
   pub some_planned : IsPlanned (outline_of (plan_so_far script p) found begun) (state_at script table n) (draft_of p)
-  some_planned = st.planned _ (agrees (plan_so_far script p) refl refl refl refl refl)
+  some_planned = st.planned _ (agrees (plan_so_far script p) refl refl refl refl refl refl)
 
   -- what is live lies below the peak
   pub live_low : AreWithin (peak_of p.world.store) found (state_at script table n)
@@ -158,7 +160,7 @@ module _ (script : Script) (table : Table) (p : Planner) (begun : ScriptState) (
   pub is_done : (plan : Plan) (last final : Segment) → map (λ v. string_bytes v) plan.names.items ≡ map (λ v. string_bytes v) script.names.items
       → plan.kernels.items ≡ p.draft.kernels.items → plan.codes.items ≡ p.draft.codes.items
       → plan.literals.items ≡ p.draft.literals.items → plan.jobs.items ≡ p.draft.jobs.items
-      → plan.cells ≡ peak_of p.world.store
+      → plan.cells ≡ peak_of p.world.store → plan.first.items ≡ p.draft.first.items
       → plan.words ≡ plan.cells + p.draft.pieces
       → plan.segments.items ≡ (p.draft.segments.items ++ last ∷ []) ++ final ∷ []
       → last.waits.items ≡ p.draft.waits.items
@@ -169,7 +171,7 @@ module _ (script : Script) (table : Table) (p : Planner) (begun : ScriptState) (
       → final.ops.items ≡ []
       → final.starts ≡ None
       → IsDone (outline_of plan found begun) (state_at script table n)
-  is_done plan last final names kernels codes literals jobs cells words segments waits ops starts known all final_ops final_starts =
+  is_done plan last final names kernels codes literals jobs cells first words segments waits ops starts known all final_ops final_starts =
       let split : plan.segments.items ≡ p.draft.segments.items ++ last ∷ final ∷ [] = segments ∙ append_assoc p.draft.segments.items (last ∷ []) (final ∷ []) in
       let pieces_is : pieces_before plan.jobs.items (length plan.jobs.items) ≡ p.draft.pieces = ap (λ l. pieces_before l (length l)) jobs
       ∙ sym st.numbers.pieces in
@@ -185,8 +187,8 @@ module _ (script : Script) (table : Table) (p : Planner) (begun : ScriptState) (
       let so_many = st.numbers.ops_few in
       let so_few = st.numbers.segments_few in
       let as_many : length plan.jobs.items ≡ length p.draft.jobs.items = ap length jobs in
-      drafts_become_plans (outline_of plan found begun) (state_at script table n) (draft_of p) last final st.knows.known
-      (st.planned (outline_of plan found begun) (agrees plan names kernels literals jobs cells))
+      let planned = st.planned (outline_of plan found begun) (agrees plan names kernels literals jobs cells first) in
+      drafts_become_plans (outline_of plan found begun) (state_at script table n) (draft_of p) last final st.knows.known planned
       (record {
         jobs = jobs;
         segments = split;
@@ -202,6 +204,7 @@ module _ (script : Script) (table : Table) (p : Planner) (begun : ScriptState) (
         jobs = omega arith;
         words_are = words ∙ ap (λ k. plan.cells + k) (sym pieces_is);
         words = omega arith;
+        first = planned.fitting.first;
         pieces = omega arith;
         ops = omega arith;
       })

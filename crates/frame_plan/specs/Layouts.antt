@@ -4,7 +4,7 @@
 -- Decided here is that the ranges, the jobs and the waits of a plan are those that the definitions have for the
 -- statements between two places, each where they have it, and no others. That its run gives the script's output, and
 -- what the next section is given, is said in `Sections`.
-use Rattle.std.specs.Prelude.{ℕ, zero, suc, ◌+◌, ◌-◌, ◌≡◌, ◌<◌, ◌≤◌, nat_le, if◌then◌else◌, List, [], ◌∷◌, ◌++◌, length, take, Option, None, Some, slice_get}
+use Rattle.std.specs.Prelude.{ℕ, zero, suc, ◌+◌, ◌-◌, ◌≡◌, ◌<◌, ◌≤◌, nat_le, if◌then◌else◌, List, [], ◌++◌, length, take, Option, None, Some, slice_get}
 use Rattle.job_base.specs.declared.JobId.{JobId}
 use Rattle.job_base.specs.declared.Span.{Span}
 use Rattle.frame_ast.specs.declared.kernel.Kernel.{Kernel}
@@ -43,12 +43,6 @@ spans_between script table starts from (suc n) =
 -- the greatest end of any range that was taken up to a place
 abbrev pub greatest_end_at : Script → Table → Starts → ℕ → ℕ
 greatest_end_at script table starts n = greatest_end (spans_between script table starts 0 n)
-
--- a section that begins at a test first gets all words that were ever taken
-abbrev pub carried_spans : Script → Table → Starts → ℕ → List Span
-carried_spans script table starts zero = []
-carried_spans script table starts (suc n) =
-    record { start = 0; len = greatest_end_at script table starts (suc n) } ∷ []
 
 -- JOBS
 
@@ -90,8 +84,7 @@ pub record IsLaidOut (script : Script) (table : Table) (from to : ℕ) (plan : P
   pub starts : Starts
   -- each range has the first fit, and the plan gives just these
   pub ranges : AreFirstFits (setting script table) starts (take to script.statements.items) at_start
-  pub spans : given_from plan.segments.items
-      ≡ carried_spans script table starts from ++ spans_between script table starts from to
+  pub spans : given_from plan.segments.items ≡ spans_between script table starts from to
   -- the words of containers end where the last of them ends
   pub cells : plan.cells ≡ greatest_end_at script table starts to
   -- its jobs are those of the accepted schedules, each started after what was completed before it
@@ -113,7 +106,7 @@ pub record HasRanges (script : Script) (table : Table) (starts : Starts) (p : Pl
 -- Beside that, its plan so far is laid out from where the section began.
 pub record HasGrown (script : Script) (table : Table) (starts : Starts) (p : Planner) (from at : ℕ) : Type 0 where
   pub ranges : HasRanges script table starts p at
-  pub spans : given_so_far p ≡ carried_spans script table starts from ++ spans_between script table starts from at
+  pub spans : given_so_far p ≡ spans_between script table starts from at
   pub jobs : AreScheduled script table starts from at p.draft.kernels.items p.draft.jobs.items p.draft.segments.items
   pub waited : HasWaited (state_at script table from).book.count (state_at script table at) p
   pub waits : waits_by p ≡ completed_between script table from at

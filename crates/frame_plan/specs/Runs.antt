@@ -47,11 +47,11 @@ NoneActs script table from to = (n : ℕ) (x : Statement)
     → IsActingTest (setting script table) (state_at script table n) x.act
     → ⊥
 
--- WHO HAS A DRAFT: schedules do, a `when` is none of these, and all others leave it to their caller
-abbrev pub leaves_draft : Order → Bool
-leaves_draft (Schedule job) = false
-leaves_draft (When name sign value count) = false
-leaves_draft _ = true
+-- WHICH STATEMENTS CHANGE OPERATIONS OF THE PLAN: all but schedules, which give it a job, and a `when`
+abbrev pub adds_no_job : Order → Bool
+adds_no_job (Schedule job) = false
+adds_no_job (When name sign value count) = false
+adds_no_job _ = true
 
 -- ONE STATEMENT of a script, with its table, passed by or not
 
@@ -154,6 +154,7 @@ AreWithin last found s = (c : ℕ) → is_live s c ≡ true → end_of (bind_of_
 -- The plan is that of a section which began in a state, up to the statement at which the planner stands.
 pub record IsFinished (script : Script) (p : Planner) (plan : Plan) : Type 0 where
   pub cells : plan.cells ≡ peak_of p.world.store
+  pub first : plan.first.items ≡ p.draft.first.items
   pub kernels : plan.kernels.items ≡ p.draft.kernels.items
   pub codes : plan.codes.items ≡ p.draft.codes.items
   pub jobs : plan.jobs.items ≡ p.draft.jobs.items
@@ -173,7 +174,7 @@ pub record IsFinished (script : Script) (p : Planner) (plan : Plan) : Type 0 whe
       → StandsAt p script table begun n found
       → AreWithin plan.cells found (state_at script table n)
 
--- The planner has no plan, and is otherwise as it was.
+-- The planner has no plan, and is otherwise as it was: it knows the places that copies of kernels had.
 pub record IsEmptied (old new : Planner) : Type 0 where
   pub rest : new ≡ record old { draft = new.draft }
   pub draft : draft_of new ≡ empty_draft
@@ -181,3 +182,6 @@ pub record IsEmptied (old new : Planner) : Type 0 where
   pub kernels : new.draft.kernels.items ≡ []
   pub codes : new.draft.codes.items ≡ []
   pub pieces : new.draft.pieces ≡ 0
+  pub first : new.draft.first.items ≡ []
+  pub copies : new.draft.copies_of ≡ old.draft.copies_of
+  pub guards : new.draft.guards_of ≡ old.draft.guards_of

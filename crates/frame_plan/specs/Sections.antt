@@ -5,7 +5,6 @@
 -- one section.
 use Rattle.std.specs.Prelude.{ℕ, zero, suc, ◌+◌, ◌≡◌, ◌<◌, ◌≤◌, Bool, true, false, ℤ, List, ◌++◌, length, map, get_or, Option, None, Some, IsSome, slice_get}
 use Rattle.job_base.specs.Cells.{cells_of}
-use Rattle.frame_ast.specs.declared.kernel.Kernel.{Kernel}
 use Rattle.frame_ast.specs.declared.script.Order.{Order}
 use Rattle.frame_ast.specs.declared.script.Order.TheVariants.{When}
 use Rattle.frame_ast.specs.declared.script.Script.{Script}
@@ -18,7 +17,6 @@ use Rattle.frame_ast.specs.Orders.{Table, Setting, setting, compares}
 use Rattle.frame_ast.specs.Ranges.{Starts}
 use Rattle.frame_ast.specs.Scripts.{final}
 use Rattle.frame_ast.specs.States.{ScriptState, contents_at}
-use Rattle.kernel_bytecode.specs.declared.code.Code.{Code}
 use Rattle.kernel_exec.specs.declared.binds.Bind.TheVariants.{Ref}
 use Rattle.kernel_exec.specs.Layout.{Holds}
 use Rattle.merge_laws.specs.Graph.{Cells}
@@ -40,7 +38,6 @@ use Rattle.frame_plan.specs.Bindings.{IsBindAt, bind_in}
 use Rattle.frame_plan.specs.Layouts.{IsLaidOut, HasRanges, HasGrown}
 use Rattle.frame_plan.specs.Names.{AreNamesOf}
 use Rattle.frame_plan.specs.Runs.{IsActingTest, IsStop, NoneActs, IsEmptied}
-use Rattle.plan_state.specs.Stands.{AreKernels}
 use Rattle.plan_state.specs.Steps.{state_at, StandsAt}
 
 -- THE LIMITS
@@ -78,7 +75,6 @@ pub record IsSectionOf (script : Script) (table : Table) (from to : ℕ) (sectio
   -- it goes past no `when` that acts
   pub between : NoneActs script table (suc from) to
   pub well_ordered : IsWellOrderedPlan section.plan
-  -- the plan of the next section can take these names over
   pub names : AreNamesOf script section.plan.names.items
   pub jobs_before : section.jobs_before ≡ (state_at script table from).book.count
   pub lines : (state_at script table to).lines ≡ (state_at script table from).lines ++ plan_lines section.plan
@@ -123,10 +119,21 @@ AreLeft mem cells len = (len ≤ length mem) × ((w : ℕ) → w < len → cells
 abbrev pub place_of : SectionBook → ℕ
 place_of book = book.at
 
+-- It took back what this plan has copies of: the names, and the kernels with their codes. All else that it knows is as
+-- it was; which memory it keeps that is needed no more, is its own affair.
+abbrev pub IsTakenBack : SectionBook → Plan → SectionBook → Type 0
+IsTakenBack old plan new = new ≡ record old {
+  planner = record old.planner { draft = record old.planner.draft { kernels = plan.kernels; codes = plan.codes } };
+  names = plan.names;
+  spare = new.spare;
+}
+
 -- The section from a place on is planned, and wasn't handed out.
 pub record IsPlannedFrom (book : SectionBook) (script : Script) (table : Table) (from : ℕ) : Type 0 where
   pub accepted : IsAccepted script
   pub within : limit_of (setting script table) script.statements.items ≡ None
+  -- its plan can take these names over
+  pub names : AreNamesOf script book.names.items
   pub found : List ℕ
   pub stands : StandsAt book.planner script table (state_at script table from) book.at found
   pub grown : (starts : Starts) → StartAs starts found → HasGrown script table starts book.planner from book.at
@@ -138,22 +145,10 @@ pub record IsPlannedFrom (book : SectionBook) (script : Script) (table : Table) 
   -- where it ends at a test, this is a later one
   pub later : IsSome (slice_get script.statements.items book.at) → from < book.at
 
--- These are the kernels of the plan that was handed out last, and their codes: the planner that had them knew the same
--- places of copies.
-pub record AreKernelsOf (book : SectionBook) (script : Script) (table : Table) (kernels : List Kernel)
-    (codes : List Code) : Type 0 where
-  pub old : Planner
-  pub places : book.planner.kernels ≡ old.kernels
-  pub guard_places : book.planner.guards ≡ old.guards
-  pub had : kernels ≡ old.draft.kernels.items
-  pub had_codes : codes ≡ old.draft.codes.items
-  pub stood : AreKernels old (setting script table)
-  pub few : length kernels ≤ book.at
-
--- The sections up to a test were handed out, and left these cells in so many words. The planner is the one that stood
--- there, without its plan.
-pub record IsBetween (book : SectionBook) (script : Script) (table : Table) (n : ℕ) (carried : Cells) (len : ℕ)
-    : Type 0 where
+-- The sections up to a test were handed out, the last one with this plan, and left these cells in so many words. The
+-- planner is the one that stood there, without its plan; this one has its kernels, their codes and the names.
+pub record IsHandedOut (book : SectionBook) (plan : Plan) (script : Script) (table : Table) (n : ℕ) (carried : Cells)
+    (len : ℕ) : Type 0 where
   pub accepted : IsAccepted script
   pub within : limit_of (setting script table) script.statements.items ≡ None
   pub at : book.at ≡ n
@@ -166,11 +161,22 @@ pub record IsBetween (book : SectionBook) (script : Script) (table : Table) (n :
   pub stood : StandsAt old script table begun n found
   pub ranges : (starts : Starts) → StartAs starts found → HasRanges script table starts old n
   pub emptied : IsEmptied old book.planner
+  pub kernels : plan.kernels.items ≡ old.draft.kernels.items
+  pub codes : plan.codes.items ≡ old.draft.codes.items
+  pub names : AreNamesOf script plan.names.items
   pub held : AllHeld (λ k. get_or found k 0) (state_at script table n) carried
   pub len_is : len ≡ peak_of book.planner.world.store
 
+-- The same, and the book took the plan back.
+pub record IsBetween (book : SectionBook) (script : Script) (table : Table) (n : ℕ) (carried : Cells) (len : ℕ)
+    : Type 0 where
+  pub before : SectionBook
+  pub plan : Plan
+  pub handed_out : IsHandedOut before plan script table n carried len
+  pub taken_back : IsTakenBack before plan book
+
 -- The book is at a place among the statements: before the first section, or at the test at which the last one ended,
--- which left these cells in so many words.
+-- which left these cells in so many words, and whose plan it has taken back.
 abbrev pub IsAt : SectionBook → Script → Table → ℕ → Cells → ℕ → Type 0
 IsAt book script table zero carried len = IsPlannedFrom book script table 0
 IsAt book script table (suc n) carried len = IsBetween book script table (suc n) carried len
@@ -187,11 +193,12 @@ pub record IsNext (book : SectionBook) (script : Script) (table : Table) (from :
   pub binds : (name : ℕ)
       → name < length script.names.items
       → IsBindAt (state_at script table to) (cells_after section.plan) section.plan.cells name (bind_in book name)
-  -- it is a later one, and the book is there
+  -- it is a later one, and the book is there once it has taken the plan back
   pub later : IsSome section.test → from < to
-  -- the plan of the next section can take these kernels and codes over
-  pub kernels : AreKernelsOf book script table section.plan.kernels.items section.plan.codes.items
-  pub at : IsSome section.test → IsAt book script table to (cells_after section.plan) section.plan.cells
+  pub at : IsSome section.test
+      → (after : SectionBook)
+      → IsTakenBack book section.plan after
+      → IsAt after script table to (cells_after section.plan) section.plan.cells
 
 -- A SCRIPT WITHOUT A `when`
 

@@ -1,6 +1,6 @@
-// What statements answer that change what statements see, and leave the draft to their caller.
+// What statements answer that are no schedules: they change what statements see, and leave the draft to their caller.
 ghost use Rattle.std.specs.Prelude.{◌≡◌, true, IfOk, IfErr};
-ghost use Rattle.frame_plan.specs.Runs.{leaves_draft};
+ghost use Rattle.frame_plan.specs.Runs.{adds_no_job};
 ghost use Rattle.plan_state.specs.declared.state.Planner.{Planner};
 ghost use Rattle.plan_state.specs.Answers.{AnswersIn, ExceedsIn};
 ghost use Rattle.plan_state.specs.Steps.{IsBefore};
@@ -20,7 +20,7 @@ pub(crate) fn answer(
     statement: &Statement,
 ) -> Result<Answer, PlanFault>
     requires ready { (p : Planner) × IsBefore script.now (record p { world = world.old }) statement.now }
-    requires leaves { leaves_draft statement.now.act ≡ true }
+    requires other { adds_no_job statement.now.act ≡ true }
     ensures answers { IfOk result (AnswersIn script.now (columns_of table.now) world.old world.new statement.now) }
     ensures fails { IfErr result (λ fault.
         ExceedsIn script.now (columns_of table.now) fault world.old statement.now) }

@@ -17,7 +17,7 @@ use std::alloc::Global;
 use std::mem;
 
 /// The plan so far as a whole one: the segment at hand is closed, and a last one waits for every job. The planner
-/// keeps all else that it knows.
+/// keeps all else that it knows, and the places of kernels' copies.
 pub(crate) fn finish(
     planner: &mut Planner,
     alloc: Global,
@@ -42,7 +42,13 @@ pub(crate) fn finish(
         waits,
         ops,
         pieces,
+        first,
+        copies_of,
+        guards_of,
     } = mem::replace(&mut planner.draft, Draft::none(alloc));
+    // The next section begins with the kernels of this one.
+    planner.draft.copies_of = copies_of;
+    planner.draft.guards_of = guards_of;
     segments.push(Segment {
         waits,
         ops,
@@ -60,6 +66,7 @@ pub(crate) fn finish(
         literals,
         jobs,
         segments,
+        first,
         cells,
         words: cells + pieces,
     })

@@ -10,23 +10,22 @@
 //! says is shown in `plan_laws`.
 //!
 //! *Cost.* A script is gone through once, and once more for its limits where it has a `when`. The names of a script are
-//! copied once, and go from the plan of one section to the next (`Copies`), as the copies of kernels and their code do:
-//! a kernel is compiled once, however many sections schedule it.
+//! copied once, and go from the plan of one section to the next by the book, which takes each plan back, as the copies
+//! of kernels and their code do: a kernel is compiled once, however many sections schedule it.
 #![tactic(auto)]
 
 mod answers;
 mod binding;
-mod copies;
 mod finishing;
 mod limits;
 mod missing;
+mod names;
 mod planner;
 mod resume;
 mod section;
 mod sections;
 mod whole;
 
-pub use copies::Copies;
 pub use missing::missing_column;
 pub use plan_state::PlanFault;
 pub use section::{Section, Test};

@@ -22,26 +22,25 @@ use table_in::Table;
 pub(crate) fn at_start(alloc: Global, script: &Script) -> Result<Planner, NoMemory>
     ensures { IfOk result (λ p. (table : Columns) → HasBegun script.now table p) }
 {
-    Ok(Planner {
-        world: World {
-            values: dead_values(alloc, script.names.len())?,
-            handles: Vec::new(alloc),
-            containers: Vec::new(alloc),
-            temps: Vec::new(alloc),
-            tempjobs: Vec::new(alloc),
-            overdue: 0,
-            frame: 0,
-            jobs: JobBook::new(alloc),
-            jobs_before: 0,
-            safety: SafetyBook::new(alloc)?,
-            store: SlotStore::new(alloc)?,
-            created: 0,
-            passing: 0,
-        },
-        draft: Draft::none(alloc),
-        kernels: no_copies(alloc, script.kernels.len())?,
-        guards: no_copies(alloc, script.kernels.len())?,
-    })
+    let world = World {
+        values: dead_values(alloc, script.names.len())?,
+        handles: Vec::new(alloc),
+        containers: Vec::new(alloc),
+        temps: Vec::new(alloc),
+        tempjobs: Vec::new(alloc),
+        overdue: 0,
+        frame: 0,
+        jobs: JobBook::new(alloc),
+        jobs_before: 0,
+        safety: SafetyBook::new(alloc)?,
+        store: SlotStore::new(alloc)?,
+        created: 0,
+        passing: 0,
+    };
+    let mut draft = Draft::none(alloc);
+    draft.copies_of = no_copies(alloc, script.kernels.len())?;
+    draft.guards_of = no_copies(alloc, script.kernels.len())?;
+    Ok(Planner { world, draft })
 }
 
 /// Goes on from a place among the statements to the next `when` that acts, or to the end, and answers where it is.
@@ -122,7 +121,8 @@ fn pass(
     Ok(true)
 }
 
-/// What a statement does that is neither passed by nor a `when`.
+/// What a statement does that is neither passed by nor a `when`: it changes what statements see, and the draft takes
+/// what it answers.
 fn act(
     planner: &mut Planner,
     alloc: Global,
@@ -139,26 +139,22 @@ fn act(
         FailsAtPlace script.now (columns_of table.now) fault planner.old statement.now) }
 {
     match &statement.act {
-        Order::Schedule(job) => match job.defer {
-            None => plan_schedules::schedule(planner, alloc, script, statement.line, job, gathered),
-            Some(defer) => plan_schedules::schedule_deferred(
-                planner,
-                alloc,
-                script,
-                statement.line,
-                job,
-                defer,
-            ),
-        },
-        Order::When { .. } => unreachable!(),
-        // All others leave the draft to this place, where what they answer is pushed.
-        _ => {
-            // By `?` an answer would be copied once more.
-            match answer(&mut planner.world, alloc, script, table, statement) {
-                Ok(answer) => Ok(planner.draft.take(alloc, statement.line, answer)?),
+        // By `?` an answer would be copied once more, here and below.
+        Order::Schedule(job) => {
+            match plan_schedules::schedule(&mut planner.world, alloc, script, job, gathered) {
+                Ok(answer) => Ok(
+                    planner
+                        .draft
+                        .take_job(alloc, script, statement.line, answer)?,
+                ),
                 Err(fault) => Err(fault),
             }
         }
+        Order::When { .. } => unreachable!(),
+        _ => match answer(&mut planner.world, alloc, script, table, statement) {
+            Ok(answer) => Ok(planner.draft.take(alloc, statement.line, answer)?),
+            Err(fault) => Err(fault),
+        },
     }
 }
 

@@ -1,38 +1,20 @@
 // A section begins after a test, with the words that the sections before it left.
-ghost use Rattle.std.specs.Prelude.{◌≡◌, ◌≤◌, ℤ, List, OnOk, length};
+ghost use Rattle.std.specs.Prelude.{◌≡◌, ◌≤◌, ℤ, List, length};
 ghost use Rattle.job_base.specs.Cells.{cells_of, cell_list};
-ghost use Rattle.frame_plan.specs.Resuming.{IsResumed, IsToResume};
+ghost use Rattle.slot_store.specs.Stores.{peak_of};
+ghost use Rattle.frame_plan.specs.Resuming.{IsResumed};
 
-use frame_ast::kernel::Kernel;
-use frame_core::Act;
-use job_base::{FlatMem, NoMemory, Span};
-use kernel_bytecode::Code;
+use job_base::FlatMem;
 use plan_state::Planner;
 
-/// A section begins: its first operation gives the words so far what the last section left. `kernels` and `codes` are
-/// those of the plan before, so the copies that it had are there, each with its code.
-pub(crate) fn begin(
-    planner: &mut Planner,
-    cells: FlatMem,
-    kernels: Vec<Kernel>,
-    codes: Vec<Code>,
-) -> Result<(), NoMemory>
-    requires left { IsToResume planner.old cells }
-    ensures resumed { OnOk result (IsResumed kernels.items codes.items planner.old planner.new cells) }
+/// A section begins: its plan finds in the words so far what the last section left.
+pub(crate) fn begin(planner: &mut Planner, cells: FlatMem)
+    requires words { peak_of planner.old.world.store ≤ length cells }
+    ensures resumed { IsResumed planner.old planner.new cells }
 {
     let len = planner.world.store.peak();
     planner.world.jobs_before = planner.world.jobs.count();
-    planner.draft.kernels = kernels;
-    planner.draft.codes = codes;
-    planner.draft.literals.push(first_cells(cells, len))?;
-    planner.push(
-        0,
-        0,
-        Act::Fill {
-            span: Span { start: 0, len },
-            literal: Some(0),
-        },
-    )
+    planner.draft.first = first_cells(cells, len);
 }
 
 /// The first cells of a memory, in its own list: none is moved.

@@ -1,28 +1,27 @@
 // A script section by section: each is planned once the test is decided at which the one before it ended.
-ghost use Rattle.std.specs.Prelude.{◌≡◌, ◌⊎◌, ◌<◌, ◌≤◌, ◌+◌, ℕ, IfOk, IfErr, IsSome, OnOk, None, Some, slice_get, length};
+ghost use Rattle.std.specs.Prelude.{◌≡◌, ◌⊎◌, ◌<◌, ◌≤◌, ◌+◌, ℕ, IfOk, IfErr, OnOk, None, Some, slice_get, length};
 ghost use Rattle.frame_ast.specs.Accepted.{IsAccepted};
 ghost use Rattle.frame_ast.specs.Limits.{limit_of};
 ghost use Rattle.frame_ast.specs.Orders.{Table as Columns, setting};
 ghost use Rattle.merge_laws.specs.Graph.{Cells};
-ghost use Rattle.frame_plan.specs.Names.{AreNamesOf};
 ghost use Rattle.frame_plan.specs.References.{IsReferenceOf, IsTestFor};
-ghost use Rattle.frame_plan.specs.Sections.{limit_told, passed_after, AreKernelsOf, IsPlannedFrom, IsBetween, IsAt, IsOutcome, AreLeft, IsNext, place_of};
+ghost use Rattle.frame_plan.specs.Sections.{limit_told, passed_after, IsPlannedFrom, IsTakenBack, IsBetween, IsAt, IsOutcome, AreLeft, IsNext, place_of};
 ghost use Rattle.plan_statements.specs.Tables.{columns_of};
 
-use crate::copies::Copies;
 use crate::finishing::finish;
 use crate::limits::{check_text, has_test};
+use crate::names::names_of;
 use crate::planner::{at_start, run};
 use crate::resume::begin;
 use crate::section::{Section, Test};
-use frame_ast::kernel::Kernel;
 use frame_ast::script::{Order, Script};
+use frame_core::Plan;
 use job_base::{FlatMem, NoMemory};
-use kernel_bytecode::Code;
 use kernel_exec::Bind;
 use native_array::RefAt;
 use plan_state::{PlanFault, Planner, Value};
 use std::alloc::Global;
+use std::mem;
 use table_in::Table;
 
 /// The planner of a script, between two sections.
@@ -31,6 +30,10 @@ pub struct SectionBook {
     pub(crate) planner: Planner,
     /// How many statements were gone through.
     pub(crate) at: u32,
+    /// The script's names, for the plan that is handed out next.
+    pub(crate) names: Vec<String>,
+    /// The cells with which the last section began, as memory that is needed no more.
+    pub(crate) spare: Vec<i64>,
 }
 
 impl SectionBook {
@@ -51,7 +54,13 @@ impl SectionBook {
         }
         let mut planner = at_start(alloc, script)?;
         let at = run(&mut planner, alloc, script, table, 0)?;
-        Ok(SectionBook { planner, at })
+        let names = names_of(alloc, script)?;
+        Ok(SectionBook {
+            planner,
+            at,
+            names,
+            spare: Vec::new(alloc),
+        })
     }
 
     /// How many statements were gone through: where the section ends that was handed out last, or is planned first.
@@ -62,60 +71,66 @@ impl SectionBook {
     }
 
     /// The next section. `held` says whether the test holds at which the last one ended, and `cells` begin with the
-    /// words that it left; the first section has none before it. Its plan takes all that it is given over, and copies
-    /// none of it: the `cells`, as its first literal, and the `copies`, which are those of `Copies::at_start` for the
-    /// first section, and for a later one the names, the kernels and their code of the plan before. After an error the
-    /// book is of no use.
+    /// words that it left; the first section has none before it. Its plan takes the cells over and copies none of them:
+    /// in their place stay those with which the last section began, as memory that is needed no more. After an error
+    /// the book is of no use.
     pub fn next(
         &mut self,
         alloc: Global,
         script: &Script,
         table: &Table,
         held: Option<bool>,
-        cells: FlatMem,
-        copies: Copies,
+        cells: &mut FlatMem,
     ) -> Result<Section, NoMemory>
         requires at { (from : ℕ) × (carried : Cells) × (len : ℕ)
             × IsAt self.old script.now (columns_of table.now) from carried len
             × IsOutcome script.now (columns_of table.now) from held
-            × AreLeft cells carried len }
-        requires names { AreNamesOf script.now copies.names.items }
-        requires kernels { IsSome held
-            → AreKernelsOf self.old script.now (columns_of table.now) copies.kernels.items copies.codes.items }
+            × AreLeft cells.old carried len }
         ensures section { (from : ℕ) (carried : Cells) (len : ℕ)
             → IsAt self.old script.now (columns_of table.now) from carried len
             → IsOutcome script.now (columns_of table.now) from held
-            → AreLeft cells carried len
+            → AreLeft cells.old carried len
             → IfOk result (IsNext self.new script.now (columns_of table.now) from) }
     {
-        let Copies {
-            names,
-            kernels,
-            codes,
-        } = copies;
         match held {
-            None => self.hand_out(alloc, script, names),
+            None => self.hand_out(alloc, script),
             Some(held) => {
-                self.resume(alloc, script, table, held, cells, kernels, codes)?;
-                self.hand_out(alloc, script, names)
+                let spare = mem::replace(&mut self.spare, Vec::new(alloc));
+                let left = mem::replace(cells, FlatMem::of(spare));
+                self.resume(alloc, script, table, held, left)?;
+                self.hand_out(alloc, script)
             }
         }
     }
 
-    /// The section that is planned, as a whole plan with these names.
-    pub(crate) fn hand_out(
-        &mut self,
-        alloc: Global,
-        script: &Script,
-        names: Vec<String>,
-    ) -> Result<Section, NoMemory>
+    /// Takes back the plan of the section that was handed out last and was run. What it has copies of goes into the
+    /// plan of the next section, which copies none of it again: the script's names, and the kernels that jobs have used
+    /// so far, each with its code.
+    pub fn take_back(&mut self, plan: Plan)
+        ensures { IsTakenBack self.old plan self.new }
+    {
+        let Plan {
+            names,
+            kernels,
+            codes,
+            first,
+            ..
+        } = plan;
+        self.names = names;
+        self.planner.draft.kernels = kernels;
+        self.planner.draft.codes = codes;
+        self.spare = first;
+    }
+
+    /// The section that is planned, as a whole plan.
+    pub(crate) fn hand_out(&mut self, alloc: Global, script: &Script) -> Result<Section, NoMemory>
         requires planned { (table : Columns) × (from : ℕ) × IsPlannedFrom self.old script.now table from }
-        requires names { AreNamesOf script.now names.items }
         ensures { (table : Columns) (from : ℕ) → IsPlannedFrom self.old script.now table from
             → IfOk result (IsNext self.new script.now table from) }
     {
         let test = self.test(script);
         let jobs_before = self.planner.world.jobs_before;
+        let names = mem::replace(&mut self.names, Vec::new(alloc));
         let plan = finish(&mut self.planner, alloc, names)?;
         Ok(Section {
             plan,
@@ -155,21 +170,18 @@ impl SectionBook {
         table: &Table,
         held: bool,
         cells: FlatMem,
-        kernels: Vec<Kernel>,
-        codes: Vec<Code>,
     ) -> Result<(), NoMemory>
         requires at { (from : ℕ) × (carried : Cells) × (len : ℕ)
             × IsBetween self.old script.now (columns_of table.now) from carried len
             × IsOutcome script.now (columns_of table.now) from (Some held)
             × AreLeft cells carried len }
-        requires kernels { AreKernelsOf self.old script.now (columns_of table.now) kernels.items codes.items }
         ensures planned { OnOk result ((from : ℕ) (carried : Cells) (len : ℕ)
             → IsBetween self.old script.now (columns_of table.now) from carried len
             → IsOutcome script.now (columns_of table.now) from (Some held)
             → AreLeft cells carried len
             → IsPlannedFrom self.new script.now (columns_of table.now) from) }
     {
-        begin(&mut self.planner, cells, kernels, codes)?;
+        begin(&mut self.planner, cells);
         let statement = &script.statements[self.at as usize];
         self.planner.world.passing = passed_after(&statement.act, held);
         match run(&mut self.planner, alloc, script, table, self.at + 1) {

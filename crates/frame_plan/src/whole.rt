@@ -7,7 +7,6 @@ ghost use Rattle.frame_ast.specs.Orders.{setting};
 ghost use Rattle.frame_plan.specs.Sections.{limit_told, IsPlanOf};
 ghost use Rattle.plan_statements.specs.Tables.{columns_of};
 
-use crate::copies::names_of;
 use crate::section::Section;
 use crate::sections::SectionBook;
 use frame_ast::script::Script;
@@ -27,11 +26,10 @@ pub fn plan(alloc: Global, script: &Script, table: &Table) -> Result<Plan, PlanF
     ensures plan { IfOk result (IsPlanOf script.now (columns_of table.now)) }
 {
     let mut book = SectionBook::new(alloc, script, table)?;
-    let names = names_of(alloc, script)?;
     let Section {
         plan,
         jobs_before: _,
         test: _,
-    } = book.hand_out(alloc, script, names)?;
+    } = book.hand_out(alloc, script)?;
     Ok(plan)
 }

@@ -3,7 +3,7 @@ ghost use Rattle.std.specs.Prelude.{IfOk};
 ghost use Rattle.frame_ast.specs.Accepted.{IsAccepted};
 ghost use Rattle.frame_core.specs.Ordered.{IsWellOrderedPlan};
 
-use frame_plan::{Copies, Section, SectionBook};
+use frame_plan::{Section, SectionBook};
 use frame_script::{Script, parse_script};
 use job_base::FlatMem;
 use job_base::limits::MOST_SCRIPT_BYTES;
@@ -57,10 +57,9 @@ pub fn section_in(alloc: Global, text: &str, table: &Table) -> Result<Section, F
     ensures { IfOk result (λ section. IsWellOrderedPlan section.plan) }
 {
     let script = script_in(alloc, text)?;
-    let cells = FlatMem::new(alloc, 0)?;
+    let mut cells = FlatMem::new(alloc, 0)?;
     let mut book = SectionBook::new(alloc, &script, table)?;
-    let copies = Copies::at_start(alloc, &script)?;
-    Ok(book.next(alloc, &script, table, None, cells, copies)?)
+    Ok(book.next(alloc, &script, table, None, &mut cells)?)
 }
 
 /// That of the script that has the worked kernels and then these lines.

@@ -98,10 +98,13 @@ plan_fields_send = struct_send (shape plan.the_type) (
           (
             search (sendable, crosses, segment.the_send) depth 60 fits 20000,
             (
-              search sendable depth 60 fits 20000,
+              search (sendable, crosses) depth 60 fits 20000,
               (
                 search sendable depth 60 fits 20000,
-                tt,
+                (
+                  search sendable depth 60 fits 20000,
+                  tt,
+                ),
               ),
             ),
           ),
@@ -125,10 +128,13 @@ plan_fields_sync = struct_sync (shape plan.the_type) (
           (
             search (sendable, crosses, segment.the_sync) depth 60 fits 20000,
             (
-              search sendable depth 60 fits 20000,
+              search (sendable, crosses) depth 60 fits 20000,
               (
                 search sendable depth 60 fits 20000,
-                tt,
+                (
+                  search sendable depth 60 fits 20000,
+                  tt,
+                ),
               ),
             ),
           ),

@@ -1,5 +1,5 @@
 -- The loop over sections.
-use Rattle.std.proofs.Common.{◌≡◌, ◌⊎◌, inl, inr, refl, sym, ap, ◌∙◌, subst, ℕ, zero, suc, ◌≤◌, Bool, true, false, pos, List, [], ◌∷◌, ◌++◌, length, take, Option, None, IsSome, append-nil, arith}
+use Rattle.std.proofs.Common.{◌≡◌, ◌⊎◌, inl, inr, refl, sym, ap, ◌∙◌, subst, ℕ, zero, suc, ◌≤◌, Bool, true, false, pos, List, [], ◌∷◌, ◌++◌, length, take, Option, None, append-nil, arith}
 use Rattle.frame_ast.specs.declared.script.Script.{Script}
 use Rattle.frame_ast.specs.declared.script.Statement.{Statement}
 use Rattle.frame_ast.specs.Accepted.{is_when}
@@ -9,9 +9,7 @@ use Rattle.frame_ast.specs.Scripts.{status_of, output_of}
 use Rattle.frame_ast.specs.Texts.{traps_text}
 use Rattle.frame_ast.specs.Scripts.{status_by}
 use Rattle.merge_laws.specs.Graph.{Cells}
-use Rattle.frame_core.proofs.Small.{not_both}
 use Rattle.frame_plan.specs.declared.sections.SectionBook.{SectionBook}
-use Rattle.frame_plan.specs.Names.{AreNamesOf}
 use Rattle.frame_plan.specs.Sections.{IsAt}
 use Rattle.plan_state.specs.Steps.{state_at}
 use Rattle.plan_run.specs.Says.{SaysTo, said_to}
@@ -52,9 +50,9 @@ module _ {S : Type 0} (taken : S → Option (List ℕ)) (faults : S → ℕ) whe
 
 module _ {S : Type 0} (taken : S → Option (List ℕ)) (faults : S → ℕ) (script : Script) (table : Table) where
   pub at_first : (book : SectionBook) (p : Progress) (sink : S) → ((carried : Cells) (len : ℕ) → IsAt book script table 0 carried len)
-      → p.held ≡ None → p.out ≡ [] → p.failed ≡ false → IsReportAt (state_at script table 0) p.report → AreNamesOf script p.copies.names.items
+      → p.held ≡ None → p.out ≡ [] → p.failed ≡ false → IsReportAt (state_at script table 0) p.report
       → InSections taken faults script table 0 book p sink sink
-  at_first book p sink at held out failed report names =
+  at_first book p sink at held out failed report =
       let none = report.traps.number in
       let nothing = report.refused in
       record {
@@ -65,8 +63,6 @@ module _ {S : Type 0} (taken : S → Option (List ℕ)) (faults : S → ℕ) (sc
           at = at (λ w. pos 0) 0;
           outcome = held;
           left = (omega arith, λ w l. absurd (omega (arith, l)));
-          names = names;
-          kernels = λ some. absurd (not_both (subst IsSome held some) refl);
           report = report;
           few = record { traps = omega arith; refused = omega arith };
           tests = omega arith;

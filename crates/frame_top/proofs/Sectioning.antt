@@ -23,12 +23,10 @@ use Rattle.plan_run.specs.Runs.{IsReport}
 use Rattle.plan_run.specs.Says.{SaysTo}
 use Rattle.steal_pool.specs.Sections.{shifted, ReportsAreWithin}
 use Rattle.plan_laws.specs.Planned.{renumbered}
-use Rattle.frame_plan.specs.declared.copies.Copies.{Copies}
 use Rattle.frame_plan.specs.declared.section.Section.{Section}
 use Rattle.frame_plan.specs.declared.section.Test.{Test}
 use Rattle.frame_plan.specs.declared.sections.SectionBook.{SectionBook}
-use Rattle.frame_plan.specs.Names.{AreNamesOf}
-use Rattle.frame_plan.specs.Sections.{AreKernelsOf, IsSectionOf, IsTestOf, EndsBy, IsOutcome, AreLeft, IsNext, outcome_by, outcome_of}
+use Rattle.frame_plan.specs.Sections.{IsSectionOf, IsTakenBack, IsTestOf, EndsBy, IsOutcome, AreLeft, IsNext, outcome_by, outcome_of, place_of}
 use Rattle.plan_state.specs.Steps.{state_at}
 use Rattle.frame_top.specs.declared.section.SectionRun.{SectionRun}
 use Rattle.frame_top.specs.declared.sections.Progress.{Progress}
@@ -208,14 +206,13 @@ outcome_at script table from (suc to) held l e = e
 
 -- the book, the cells and the report after a section that ended at a test
 pub runs_on : (script : Script) (table : Table) (sections from : ℕ) (book : SectionBook) (section : Section) (next : IsNext book script table from section)
-    (test : Test) → section.test ≡ Some test
+    (test : Test) → section.test ≡ Some test → (after : SectionBook) → IsTakenBack book section.plan after
     → sections ≤ tests_before script (suc from)
     → (p : Progress) (left : List ℤ) → AreCellsOf section.plan left → p.cells ≡ left
     → p.held ≡ Some (compares test.sign (cells_of left test.at.start) test.bound)
     → IsReportAt (state_at script table next.to) p.report → IsFew (suc sections) p.report
-    → p.copies ≡ record { names = section.plan.names; kernels = section.plan.kernels; codes = section.plan.codes }
-    → HasRun script table (suc sections) next.to book p
-runs_on script table sections from book section next test e tests p left cells same held report few copies =
+    → HasRun script table (suc sections) next.to after p
+runs_on script table sections from book section next test e after taken tests p left cells same held report few =
     let some : IsSome section.test = subst IsSome (sym e) refl in
     let is = next.is_section in
     let sized = is.well_ordered.sized in
@@ -230,12 +227,10 @@ runs_on script table sections from book section next test e tests p left cells s
     record {
       carried = cells_after section.plan;
       len = section.plan.cells;
-      at = next.at some;
+      at = next.at some after taken;
       outcome = outcome_at script table from next.to p.held later (held ∙ ap (λ z. Some (compares test.sign z test.bound)) (cells.each test.at.start low)
           ∙ ap Some at_test.outcome);
       left = subst (λ m. AreLeft m (cells_after section.plan) section.plan.cells) (sym same) (omega arith, λ w l. cells.each w (omega arith));
-      kernels = λ _. subst (λ (c : Copies). AreKernelsOf book script table c.kernels.items c.codes.items) (sym copies) next.kernels;
-      names = subst (λ (c : Copies). AreNamesOf script c.names.items) (sym copies) is.names;
       report = report;
       few = few;
       tests = omega arith;
@@ -279,16 +274,16 @@ module _ (script : Script) (table : Table) (sections from : ℕ) (book : Section
   }
 
   pub section_more : (q : Progress) (test : Test) → q.report ≡ joined → section.test ≡ Some test → AreCellsOf section.plan r.left
-      → q.cells ≡ r.left → q.copies ≡ record { names = section.plan.names; kernels = section.plan.kernels; codes = section.plan.codes }
+      → q.cells ≡ r.left → (after : SectionBook) → IsTakenBack book section.plan after
       → q.held ≡ Some (compares test.sign (cells_of r.left test.at.start) test.bound)
-      → GoesOn script table sections from (plan_lines section.plan) book q true
-  section_more q test report some left cells copies held = record {
+      → GoesOn script table sections from (plan_lines section.plan) after q true
+  section_more q test report some left cells after taken held = record {
     to = next.to;
-    place = next.place;
+    place = ap place_of taken ∙ next.place;
     lines_are = is.lines;
     report = subst (IsReportAt (state_at script table next.to)) (sym report) report_at;
-    next = λ e. runs_on script table sections from book section next test some made.tests q r.left left cells held
-        (subst (IsReportAt (state_at script table next.to)) (sym report) report_at) (subst (IsFew (suc sections)) (sym report) few) copies;
+    next = λ e. runs_on script table sections from book section next test some after taken made.tests q r.left left cells held
+        (subst (IsReportAt (state_at script table next.to)) (sym report) report_at) (subst (IsFew (suc sections)) (sym report) few);
     last = λ e. absurd cc;
   }
 

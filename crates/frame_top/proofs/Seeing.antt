@@ -31,7 +31,7 @@ none_some held b e none = let bad : true ≡ false = sym (ap is_some e) ∙ none
 later_at : (from : ℕ) (book : SectionBook) (script : Script) (table : Table) (carried : Cells) (len : ℕ) (held : Option Bool)
     → IsAt book script table from carried len → IsOutcome script table from held → is_some held ≡ true → place_of book ≡ from
 later_at zero book script table carried len held at outcome some = absurd (some_none held outcome some)
-later_at (suc n) book script table carried len held at outcome some = at.at
+later_at (suc n) book script table carried len held at outcome some = ap place_of at.taken_back ∙ at.handed_out.at
 
 first_at : (from : ℕ) (script : Script) (table : Table) (held : Option Bool) → IsOutcome script table from held → is_some held ≡ false → 0 ≡ from
 first_at zero script table held outcome none = refl
@@ -52,9 +52,9 @@ module _ (script : Script) (table : Table) where
   pub one_seen : (saw : List SectionAt → Type 0) (sections from : ℕ) (book : SectionBook) (section : Section) (so_far : Report) (extent : Extent)
       (earlier : List SectionAt) (more : Bool) → IsMade script table sections from book section so_far
       → extent.from ≡ from → extent.to ≡ place_of book → IsOutcome script table from extent.held → more ≡ is_some section.test
-      → saw (earlier ++ section_at extent section ∷ [])
-      → SeesOne saw script table from book earlier more
-  one_seen saw sections from book section so_far extent earlier more made begins ends outcome is seen =
+      → (after : SectionBook) → place_of after ≡ place_of book → saw (earlier ++ section_at extent section ∷ [])
+      → SeesOne saw script table from after earlier more
+  one_seen saw sections from book section so_far extent earlier more made begins ends outcome is after stays seen =
       let there : extent.to ≡ made.next.to = ends ∙ made.next.place in
       record {
         s = section_at extent section;
@@ -63,7 +63,7 @@ module _ (script : Script) (table : Table) where
           outcome = outcome;
           is_section = subst (λ n. IsSectionOf script table from n section) (sym there) made.next.is_section;
         };
-        place = sym ends;
+        place = stays ∙ sym ends;
         tested = λ e. (sym is ∙ e, subst (λ n. from < n) (sym there) (made.next.later (sym is ∙ e)));
         seen = seen;
       }

@@ -65,8 +65,11 @@ plan_sync = recorded_sync plan.the_field.row _ _ plan.the_type.to_one (struct_sy
           (
             search (sendable, crosses, segment_sync) depth 60 fits 20000,
             (
-              search sendable depth 60 fits 20000,
-              (search sendable depth 60 fits 20000, tt),
+              search (sendable, crosses) depth 60 fits 20000,
+              (
+                search sendable depth 60 fits 20000,
+                (search sendable depth 60 fits 20000, tt),
+              ),
             ),
           ),
         ),

@@ -29,7 +29,7 @@ use Rattle.plan_state.specs.Growth.{span_at, span_unless, span_by, greatest_end,
 use Rattle.plan_state.specs.Steps.{state_at}
 use Rattle.frame_plan.specs.declared.section.Section.{Section}
 use Rattle.frame_plan.specs.declared.section.Test.{Test}
-use Rattle.frame_plan.specs.Layouts.{span_of, spans_at, spans_between, greatest_end_at, carried_spans, HasItsJob, completed_at, completed_between, IsLaidOut}
+use Rattle.frame_plan.specs.Layouts.{span_of, spans_at, spans_between, greatest_end_at, HasItsJob, completed_at, completed_between, IsLaidOut}
 use Rattle.frame_plan.specs.Missing.{is_none, lacks_column}
 use Rattle.frame_plan.specs.Runs.{IsActingTest}
 use Rattle.frame_plan.specs.Sections.{IsTestOf, EndsBy, IsSectionOf, outcome_by, IsOutcome, IsPlanOf}
@@ -195,10 +195,6 @@ module _ (script : Script) (t u : Table) (alike : AnswerAllAlike t u script.stat
     same_end : (n : ℕ) → greatest_end_at script t starts n ≡ greatest_end_at script u starts n
     same_end n = ap greatest_end (same_spans 0 n)
 
-    same_carried : (n : ℕ) → carried_spans script t starts n ≡ carried_spans script u starts n
-    same_carried zero = refl
-    same_carried (suc n) = ap (λ len. record { start = 0; len = len } ∷ []) (same_end (suc n))
-
   -- waits
 
   same_completed : (from n : ℕ) → completed_between script t from n ≡ completed_between script u from n
@@ -214,7 +210,7 @@ module _ (script : Script) (t u : Table) (alike : AnswerAllAlike t u script.stat
   same_layout from to plan l = record {
     starts = l.starts;
     ranges = first_fits g u l.starts (take to xs) (alike_take t u xs to alike) at_start l.ranges;
-    spans = l.spans ∙ (λ i. same_carried l.starts from i ++ same_spans l.starts from to i);
+    spans = l.spans ∙ same_spans l.starts from to;
     cells = l.cells ∙ same_end l.starts to;
     count = ap (λ n. length plan.jobs.items + n) (sym (counts from)) ∙ l.count ∙ counts to;
     jobs = λ n x low high here.

@@ -1,5 +1,5 @@
 -- How far a frame has been run, section by section.
-use Rattle.std.specs.Prelude.{◌≡◌, ℕ, suc, ◌*◌, ◌≤◌, ◌^◌, Bool, true, false, List, [], ◌++◌, length, take, count_by, Option, IsSome}
+use Rattle.std.specs.Prelude.{◌≡◌, ℕ, suc, ◌*◌, ◌≤◌, ◌^◌, Bool, true, false, List, [], ◌++◌, length, take, count_by, Option}
 use Rattle.job_base.specs.declared.limits.TheConstants.{MOST_INDEXES}
 use Rattle.frame_ast.specs.declared.script.Script.{Script}
 use Rattle.frame_ast.specs.Accepted.{is_when}
@@ -11,8 +11,7 @@ use Rattle.frame_core.specs.Reports.{IsReportOf}
 use Rattle.plan_run.specs.Says.{SaysTo}
 use Rattle.frame_plan.specs.declared.section.Section.{Section}
 use Rattle.frame_plan.specs.declared.sections.SectionBook.{SectionBook}
-use Rattle.frame_plan.specs.Names.{AreNamesOf}
-use Rattle.frame_plan.specs.Sections.{AreKernelsOf, IsAt, IsNext, IsOutcome, AreLeft, place_of}
+use Rattle.frame_plan.specs.Sections.{IsAt, IsNext, IsOutcome, AreLeft, place_of}
 use Rattle.plan_state.specs.Steps.{state_at}
 use Rattle.frame_top.specs.declared.sections.Progress.{Progress}
 use Rattle.frame_top.specs.declared.status.TheConstants.{UNWRITTEN}
@@ -40,8 +39,6 @@ pub record HasRun (script : Script) (table : Table) (sections from : ℕ) (book 
   pub at : IsAt book script table from carried len
   pub outcome : IsOutcome script table from p.held
   pub left : AreLeft p.cells carried len
-  pub names : AreNamesOf script p.copies.names.items
-  pub kernels : IsSome p.held → AreKernelsOf book script table p.copies.kernels.items p.copies.codes.items
   pub report : IsReportAt (state_at script table from) p.report
   pub few : IsFew sections p.report
   -- each section ended at another `when`

@@ -27,7 +27,7 @@ use frame_ast::script::Script;
 use frame_plan::SectionBook;
 use frame_script::{LoadFault, parse_script};
 use job_base::limits::{MOST_SCRIPT_BYTES, MOST_TABLE_BYTES, MOST_TESTS};
-use job_base::{NoMemory, Sink};
+use job_base::{FlatMem, NoMemory, Sink};
 use std::alloc::Global;
 use std::mem;
 use table_in::{Table, TableFault};
@@ -53,16 +53,16 @@ fn run_next_section<S: Sink>(
     ensures failed { OnErr result (progress.new.failed ≡ progress.old.failed) }
 {
     let section = next_section(alloc, script, table, book, progress)?;
-    let spare = mem::replace(&mut progress.spare, Vec::new(alloc));
+    let spare = mem::replace(&mut progress.cells, FlatMem::of(Vec::new(alloc)));
     let ran = run_on_cells(
         alloc,
         &section.plan,
         progress.failed,
-        spare,
+        spare.into_cells(),
         &mut progress.out,
         sink,
     )?;
-    Ok(take_run(alloc, section, ran, progress))
+    Ok(take_run(section, ran, book, progress))
 }
 
 // Runs the sections of a script one after another, and then writes the lines of its traps.
@@ -80,7 +80,7 @@ fn run_sections<S: Sink>(
         (λ text. (has_when script.now ≡ true) × (text ≡ output_of script.now (columns_of table.now))) result }
     ensures later { S.faults sink.old ≤ S.faults sink.new }
 {
-    let Ok(mut progress) = begin_frame(alloc, script) else {
+    let Ok(mut progress) = begin_frame(alloc) else {
         return NO_MEMORY;
     };
     let mut book = first;

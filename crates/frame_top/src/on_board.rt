@@ -7,12 +7,13 @@ ghost use Rattle.frame_core.specs.Output.{plan_lines};
 ghost use Rattle.plan_run.specs.Runs.{RunsBetween};
 ghost use Rattle.frame_top.specs.Cells.{AreCellsOf, HasRunPlan};
 
-use crate::section::SectionRun;
+use crate::section::{SectionRun, SpareLists};
 use frame_core::{Board, Plan};
 use frame_print::Outgoing;
 use job_base::{FlatMem, Gate, NoMemory, NullSink, Sink};
 use plan_run::RunEnd;
 use std::alloc::Global;
+use std::mem;
 use std::sync::Wait;
 use std::thread::Threads;
 use steal_pool::laws::rooms_are_ready;
@@ -63,7 +64,7 @@ fn run_shown<R: Threads + Wait + Sync, P: ShowsPlan + Sync, S: Sink, G: Gate + S
     plan: &P,
     workers: u32,
     keeps: bool,
-    spare: Vec<i64>,
+    spare: &mut SpareLists,
     out: &mut Outgoing,
     sink: &mut S,
     gate: &G,
@@ -76,9 +77,14 @@ fn run_shown<R: Threads + Wait + Sync, P: ShowsPlan + Sync, S: Sink, G: Gate + S
     ensures none { OnErr result ((sink.new ≡ sink.old) × (out.new ≡ out.old)) }
     ensures later { S.faults sink.old ≤ S.faults sink.new }
 {
-    let mut left = cells_for(plan.plan(), keeps, spare)?;
+    let cells = mem::replace(&mut spare.cells, Vec::new(alloc));
+    let mut left = cells_for(plan.plan(), keeps, cells)?;
     let seats = busy_workers(plan.plan(), workers);
-    let (board, made) = WordBoard::make(alloc, plan.plan(), seats)?;
+    let (board, made) = WordBoard::make_in(alloc, plan.plan(), seats, &mut spare.words)?;
+    if !keeps {
+        // No section comes after this one, so the list would only take memory while it runs.
+        spare.words = Vec::new(alloc);
+    }
     let mut room = PoolRoom::make(alloc, plan.plan(), made)?;
     rooms_are_ready::<WordBoard>();
     let end = run_lines(rt, plan, &board, &mut room, out, sink, gate);
@@ -96,7 +102,7 @@ fn run_plan<R: Threads + Wait + Sync, S: Sink, G: Gate + Sync>(
     plan: &Plan,
     workers: u32,
     keeps: bool,
-    spare: Vec<i64>,
+    spare: &mut SpareLists,
     out: &mut Outgoing,
     sink: &mut S,
     gate: &G,
@@ -125,7 +131,7 @@ fn run_plan<R: Threads + Wait + Sync, S: Sink, G: Gate + Sync>(
 }
 
 /// Runs a plan with so many workers, and lets its lines wait in `out`, unless a write has `failed` before. `keeps` says
-/// whether the cells are needed afterwards; then they are put into `spare`, a list that is needed no more.
+/// whether the cells are needed afterwards. Large lists are those of `spare`.
 pub fn run_on_board<R: Threads + Wait + Sync, S: Sink, G: Gate + Sync>(
     rt: &R,
     alloc: Global,
@@ -133,7 +139,7 @@ pub fn run_on_board<R: Threads + Wait + Sync, S: Sink, G: Gate + Sync>(
     workers: u32,
     keeps: bool,
     failed: bool,
-    spare: Vec<i64>,
+    spare: &mut SpareLists,
     out: &mut Outgoing,
     sink: &mut S,
     gate: &G,

@@ -12,8 +12,7 @@ use plan_run::{fresh_cells, run_alone};
 use std::alloc::Global;
 
 /// Runs a plan, and lets its lines wait in `out`, unless a write has `failed` before. It leaves its cells in `spare`, a
-/// list that is needed no more. A section after a test copies the cells that the last one left once, and lays zeros
-/// only behind them.
+/// list that is needed no more. A section after a test copies the cells that the last one left once.
 pub fn run_on_cells<S: Sink>(
     alloc: Global,
     plan: &Plan,

@@ -10,8 +10,19 @@ use frame_core::{Plan, Report};
 use frame_print::Outgoing;
 use job_base::{FlatMem, Gate, NoMemory, Sink};
 use std::alloc::Global;
+use std::mem;
 use std::sync::Wait;
 use std::thread::Threads;
+
+/// Lists that go from the run of one section to that of the next, so that large ones are taken once. What stands in
+/// them is of no use.
+#[derive(Drop)]
+pub struct SpareLists {
+    /// For the cells that a section leaves.
+    pub cells: Vec<i64>,
+    /// For the words of which a board is made.
+    pub words: Vec<u64>,
+}
 
 /// What the run of a section comes to.
 #[derive(Drop)]
@@ -26,7 +37,7 @@ pub struct SectionRun {
 
 /// Runs the plan of a section, and lets its lines wait in `out`, unless a write has `failed` before. Where it has jobs,
 /// so many workers run it on a board; else the caller's thread runs it, which is all that it needs. `keeps` says
-/// whether the cells are needed afterwards; they are put into `spare`, a list that is needed no more.
+/// whether the cells are needed afterwards. Large lists are those of `spare`.
 pub fn run_section<R: Threads + Wait + Sync, S: Sink, G: Gate + Sync>(
     rt: &R,
     alloc: Global,
@@ -34,7 +45,7 @@ pub fn run_section<R: Threads + Wait + Sync, S: Sink, G: Gate + Sync>(
     workers: u32,
     keeps: bool,
     failed: bool,
-    spare: Vec<i64>,
+    spare: &mut SpareLists,
     out: &mut Outgoing,
     sink: &mut S,
     gate: &G,
@@ -46,7 +57,8 @@ pub fn run_section<R: Threads + Wait + Sync, S: Sink, G: Gate + Sync>(
     ensures later { S.faults sink.old ≤ S.faults sink.new }
 {
     if plan.jobs.is_empty() {
-        run_on_cells(alloc, plan, failed, spare, out, sink)
+        let cells = mem::replace(&mut spare.cells, Vec::new(alloc));
+        run_on_cells(alloc, plan, failed, cells, out, sink)
     } else {
         run_on_board(
             rt, alloc, plan, workers, keeps, failed, spare, out, sink, gate,

@@ -11,8 +11,7 @@ ghost use Rattle.frame_ast.specs.Texts.{traps_text};
 ghost use Rattle.merge_laws.specs.Graph.{Cells};
 ghost use Rattle.frame_core.specs.Output.{plan_lines};
 ghost use Rattle.plan_run.specs.Runs.{IsReport};
-ghost use Rattle.frame_plan.specs.Names.{AreNamesOf};
-ghost use Rattle.frame_plan.specs.Sections.{IsAt};
+ghost use Rattle.frame_plan.specs.Sections.{IsAt, place_of};
 ghost use Rattle.plan_statements.specs.Tables.{columns_of};
 ghost use Rattle.frame_top.specs.Answers.{AnswersTo, has_when};
 ghost use Rattle.frame_top.specs.Cells.{AreCellsOf};
@@ -22,12 +21,12 @@ ghost use Rattle.frame_top.specs.Seen.{HasSeen, SectionAt, SeesOne, has_run};
 ghost use Rattle.frame_top.specs.declared.status.TheConstants.{NO_MEMORY, UNWRITTEN};
 
 use crate::extent::Extent;
-use crate::section::{SectionRun, run_section};
+use crate::section::{SectionRun, SpareLists, run_section};
 use crate::status::{DONE, NO_MEMORY, STATEMENT_REFUSED, TRAPPED, UNWRITTEN};
 use crate::watch::Watch;
 use frame_ast::script::Script;
 use frame_core::Report;
-use frame_plan::{Copies, Section, SectionBook, Test};
+use frame_plan::{Section, SectionBook, Test};
 use frame_print::Outgoing;
 use job_base::limits::MOST_TESTS;
 use job_base::{FlatMem, JobId, Mem, NoMemory, Sink, Trap, Word};
@@ -45,12 +44,10 @@ use table_in::Table;
 pub struct Progress {
     /// Whether the test holds at which the last section ended.
     pub held: Option<bool>,
-    /// The cells that it left, with which the next one begins.
+    /// The cells that it left, with which the next one begins; once that is planned, memory for those that it leaves.
     pub cells: FlatMem,
-    /// What its plan has copies of, which the next plan takes over.
-    pub copies: Copies,
-    /// A list of its plan that is needed no more. The next section leaves its cells in it.
-    pub spare: Vec<i64>,
+    /// A list for the words of the next section's board.
+    pub words: Vec<u64>,
     /// Of all sections so far.
     pub report: Report,
     /// Their lines that wait before the sink takes them.
@@ -82,30 +79,18 @@ fn status_of_report(report: &Report) -> u8
     }
 }
 
-/// The first of some lists, which is the one with the cells where a plan has them.
-fn first_list(alloc: Global, lists: Vec<Vec<i64>>) -> Vec<i64> {
-    let mut lists = lists;
-    if lists.is_empty() {
-        return Vec::new(alloc);
-    }
-    lists.swap_remove(0)
-}
-
 /// What is known of a frame before its first section.
-pub fn begin_frame(alloc: Global, script: &Script) -> Result<Progress, NoMemory>
+pub fn begin_frame(alloc: Global) -> Result<Progress, NoMemory>
     ensures held { IfOk result (λ p. p.held ≡ None) }
     ensures waits { IfOk result (λ p. p.out ≡ []) }
     ensures failed { IfOk result (λ p. p.failed ≡ false) }
     ensures report { IfOk result (λ p. (s : ScriptState) → s.traps ≡ [] → s.refused ≡ 0 → IsReportAt s p.report) }
-    ensures names { IfOk result (λ p. AreNamesOf script.now p.copies.names.items) }
 {
-    let copies = Copies::at_start(alloc, script)?;
     let out = Outgoing::new(alloc)?;
     Ok(Progress {
         held: None,
         cells: FlatMem::of(Vec::new(alloc)),
-        copies,
-        spare: Vec::new(alloc),
+        words: Vec::new(alloc),
         report: no_report(),
         out,
         failed: false,
@@ -141,22 +126,28 @@ pub fn next_section(
     ensures waits { progress.new.out ≡ progress.old.out }
     ensures failed { progress.new.failed ≡ progress.old.failed }
 {
-    let cells = mem::replace(&mut progress.cells, FlatMem::of(Vec::new(alloc)));
-    let copies = mem::replace(&mut progress.copies, Copies::none(alloc));
-    book.next(alloc, script, table, progress.held, cells, copies)
+    book.next(alloc, script, table, progress.held, &mut progress.cells)
 }
 
-/// Takes over what the run of a section came to, and says whether there is a section after it.
-pub fn take_run(alloc: Global, section: Section, ran: SectionRun, progress: &mut Progress) -> bool
-    requires made { (script : ScriptTree) × (columns : Columns) × (sections : ℕ) × (from : ℕ) × (book : SectionBook)
+/// Takes over what the run of a section came to, and says whether there is a section after it. Then the book takes back
+/// the plan.
+pub fn take_run(
+    section: Section,
+    ran: SectionRun,
+    book: &mut SectionBook,
+    progress: &mut Progress,
+) -> bool
+    requires made { (script : ScriptTree) × (columns : Columns) × (sections : ℕ) × (from : ℕ)
         × IsAccepted script × (sections ≤ MOST_TESTS)
-        × IsMade script columns sections from book section progress.old.report }
+        × IsMade script columns sections from book.old section progress.old.report }
     requires report { IsReport section.plan ran.report }
     requires cells { IsSome section.test → AreCellsOf section.plan ran.left }
-    ensures goes { (script : ScriptTree) (columns : Columns) (sections from : ℕ) (book : SectionBook)
-        → IsMade script columns sections from book section progress.old.report
-        → GoesOn script columns sections from (plan_lines section.plan) book progress.new result }
+    ensures goes { (script : ScriptTree) (columns : Columns) (sections from : ℕ)
+        → IsMade script columns sections from book.old section progress.old.report
+        → GoesOn script columns sections from (plan_lines section.plan) book.new progress.new result }
     ensures more { result ≡ is_some section.test }
+    ensures book { result ≡ false → book.new ≡ book.old }
+    ensures place { place_of book.new ≡ place_of book.old }
     ensures waits { progress.new.out ≡ progress.old.out }
     ensures failed { progress.new.failed ≡ ran.failed }
 {
@@ -165,15 +156,10 @@ pub fn take_run(alloc: Global, section: Section, ran: SectionRun, progress: &mut
     progress.report = join_reports(&progress.report, section.jobs_before, &ran.report);
     progress.cells = ran.left;
     let Section { plan, test, .. } = section;
-    progress.copies = Copies {
-        names: plan.names,
-        kernels: plan.kernels,
-        codes: plan.codes,
-    };
-    progress.spare = first_list(alloc, plan.literals);
     match test {
         None => false,
         Some(test) => {
+            book.take_back(plan);
             progress.held = Some(holds(&test, &mut progress.cells));
             true
         }
@@ -217,7 +203,12 @@ fn run_next_section<R: Threads + Wait + Sync, S: Sink, W: Watch>(
     };
     watch.begin(alloc, script, extent, &section)?;
     let keeps = section.test.is_some();
-    let spare = mem::replace(&mut progress.spare, Vec::new(alloc));
+    let cells = mem::replace(&mut progress.cells, FlatMem::of(Vec::new(alloc)));
+    let words = mem::replace(&mut progress.words, Vec::new(alloc));
+    let mut spare = SpareLists {
+        cells: cells.into_cells(),
+        words,
+    };
     let ran = run_section(
         rt,
         alloc,
@@ -225,13 +216,14 @@ fn run_next_section<R: Threads + Wait + Sync, S: Sink, W: Watch>(
         workers,
         keeps,
         progress.failed,
-        spare,
+        &mut spare,
         &mut progress.out,
         sink,
         watch.gate(),
     )?;
+    progress.words = spare.words;
     watch.end(script, extent, &section);
-    Ok(take_run(alloc, section, ran, progress))
+    Ok(take_run(section, ran, book, progress))
 }
 
 /// Writes what waits, and answers this status, unless a write failed.
@@ -299,7 +291,7 @@ pub fn run_sections<R: Threads + Wait + Sync, S: Sink, W: Watch>(
         → HasSeen (W.Saw script.now watch.old watch.new) script.now (columns_of table.now) }
     ensures later { S.faults sink.old ≤ S.faults sink.new }
 {
-    let Ok(mut progress) = begin_frame(alloc, script) else {
+    let Ok(mut progress) = begin_frame(alloc) else {
         return NO_MEMORY;
     };
     let mut book = first;

@@ -1,6 +1,6 @@
 // Scripts at the limits of what is planned.
 
-use frame_plan::{Copies, PlanFault, SectionBook};
+use frame_plan::{PlanFault, SectionBook};
 use frame_rows::script_of;
 use job_base::FlatMem;
 use std::alloc::Global;
@@ -11,13 +11,12 @@ use table_in::Table;
 fn fault_of(alloc: Global, lines: &str) -> Result<Option<PlanFault>, Fail> {
     let script = script_of(alloc, lines)?;
     let table = Table::none(alloc);
-    let cells = FlatMem::new(alloc, 0)?;
+    let mut cells = FlatMem::new(alloc, 0)?;
     let mut book = match SectionBook::new(alloc, &script, &table) {
         Ok(book) => book,
         Err(fault) => return Ok(Some(fault)),
     };
-    let copies = Copies::at_start(alloc, &script)?;
-    book.next(alloc, &script, &table, None, cells, copies)?;
+    book.next(alloc, &script, &table, None, &mut cells)?;
     Ok(None)
 }
 

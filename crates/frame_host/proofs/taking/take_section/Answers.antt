@@ -14,7 +14,6 @@ take_run-more-requires-clause-made c =
       table_in c.args.frame,
       r.sections,
       r.from,
-      c.args.frame.book,
       r.after.accepted,
       few (tree_in c.args.frame) r.sections r.from r.after.accepted r.after.made.tests,
       r.after.made,
@@ -23,8 +22,9 @@ take_run-more-requires-clause-made c =
 pub returns-then-more : goal.returns-then-more
 returns-then-more c =
     let r = c.requires.run in (
-      goes_on c.args.frame c.args.stage c.args.place c.args.left c.args.end c.take_run-more.new.progress c.take_run-more.result r
-          (c.take_run-more.ensures.goes (tree_in c.args.frame) (table_in c.args.frame) r.sections r.from c.args.frame.book r.after.made)
+      goes_on c.args.frame c.args.stage c.args.place c.args.left c.args.end c.take_run-more.new.book c.take_run-more.new.progress
+          c.take_run-more.result r
+          (c.take_run-more.ensures.goes (tree_in c.args.frame) (table_in c.args.frame) r.sections r.from r.after.made)
           c.take_run-more.ensures.waits (c.take_run-more.ensures.failed ∙ c.is_fault.ensures) (sym c.is_fault-2.ensures ∙ c.if-is_fault.false) c.if-more.true,
       refl,
       refl,
@@ -34,10 +34,11 @@ pub answer_of-requires : goal.answer_of-requires
 answer_of-requires c =
     let r = c.requires.run in
     record {
-      last = to_finish c.args.frame c.args.stage c.args.place c.args.left c.args.end c.take_run-more.new.progress c.take_run-more.result r
-          (c.take_run-more.ensures.goes (tree_in c.args.frame) (table_in c.args.frame) r.sections r.from c.args.frame.book r.after.made)
+      last = to_finish c.args.frame c.args.stage c.args.place c.args.left c.args.end c.take_run-more.new.book c.take_run-more.new.progress
+          c.take_run-more.result r
+          (c.take_run-more.ensures.goes (tree_in c.args.frame) (table_in c.args.frame) r.sections r.from r.after.made)
           c.take_run-more.ensures.waits (c.take_run-more.ensures.failed ∙ c.is_fault.ensures) (sym c.is_fault-2.ensures ∙ c.if-is_fault.false)
-          c.share_out-handed.result.1 c.if-more.false
+          c.share_out-handed.result.1 c.if-more.false (c.take_run-more.ensures.book c.if-more.false)
           (subst (AreCellsOf c.args.stage.section.plan)
           (sym (c.share_out-handed.ensures.kept (c.is_some.ensures ∙ sym c.take_run-more.ensures.more ∙ c.if-more.false)))
           (record {

@@ -42,6 +42,7 @@ returns-clause-plan c script accepted names =
     (c.in_ok-push.ensures.items ∙ ap (λ (w : Draft). w.segments.items ++ last ∷ []) v) in
     record {
       cells = c.peak-cells.ensures;
+      first = ap (λ (w : Draft). w.first.items) v;
       kernels = ap (λ (w : Draft). w.kernels.items) v;
       codes = ap (λ (w : Draft). w.codes.items) v;
       jobs = ap (λ (w : Draft). w.jobs.items) v;
@@ -58,6 +59,7 @@ returns-clause-plan c script accepted names =
           (ap (λ (w : Draft). w.literals.items) v)
           (ap (λ (w : Draft). w.jobs.items) v)
           c.peak-cells.ensures
+          (ap (λ (w : Draft). w.first.items) v)
           (ap (λ (w : Draft). c.peak-cells.result + w.pieces) v)
           segments
           (ap (λ (w : Draft). w.waits.items) v)

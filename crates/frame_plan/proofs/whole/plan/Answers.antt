@@ -3,8 +3,8 @@ use Rattle.plan_statements.specs.Tables.{columns_of}
 use Rattle.frame_plan.proofs.Handing.{plan_is}
 use Rattle.frame_plan.proofs.whole.plan.Goals as goal
 
-pub hand_out-requires-clause-planned : goal.hand_out-requires-clause-planned
-hand_out-requires-clause-planned c = (columns_of c.args.table.now, 0, c.in_ok-book.ensures.at (λ w. pos 0) 0)
+pub hand_out-requires : goal.hand_out-requires
+hand_out-requires c = record { planned = (columns_of c.args.table.now, 0, c.in_ok-book.ensures.at (λ w. pos 0) 0) }
 
 pub returns-clause-plan : goal.returns-clause-plan
 returns-clause-plan c =

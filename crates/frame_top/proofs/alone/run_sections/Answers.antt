@@ -9,7 +9,7 @@ use Rattle.frame_top.proofs.alone.run_sections.Goals as goal
 pub loop-section-init : goal.loop-section-init
 loop-section-init g c =
     at_first g.S.Sink.taken g.S.Sink.faults _ _ c.args.first _ c.args.sink.now c.requires.begins c.in-Ok.ensures.held
-    c.in-Ok.ensures.waits c.in-Ok.ensures.failed (c.in-Ok.ensures.report _ refl refl) c.in-Ok.ensures.names
+    c.in-Ok.ensures.waits c.in-Ok.ensures.failed (c.in-Ok.ensures.report _ refl refl)
 
 pub returns-in-Ok-false : goal.returns-in-Ok-false
 returns-in-Ok-false g c =

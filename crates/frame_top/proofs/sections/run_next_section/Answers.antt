@@ -9,7 +9,7 @@ pub returns-clause-next : goal.returns-clause-next
 returns-clause-next g c sections from was =
     said_on g.S.Sink.taken g.S.Sink.faults _ _ sections from _ c.args.progress.now _ _ c.in_ok-section.section.plan c.is_some-keeps.result _ _ _ _ _
     c.in_ok-ran.ran
-    (c.take_run.ensures.goes _ _ sections from _ (c.in_ok-section.ensures.made sections from was))
+    (c.take_run.ensures.goes _ _ sections from (c.in_ok-section.ensures.made sections from was))
     c.in_ok-ran.ensures.run c.in_ok-section.ensures.waits c.in_ok-section.ensures.failed c.take_run.ensures.waits c.take_run.ensures.failed
 
 pub returns-clause-seen : goal.returns-clause-seen
@@ -18,7 +18,7 @@ returns-clause-seen g c sections from was first earlier saw =
     one_seen c.args.script.now (columns_of c.args.table.now) (g.W.Watch.Saw c.args.script.now first c.end.new.self) sections from _ c.in_ok-section.section _
     _ earlier _ made (c.next_place-from.ensures c.args.script.now (columns_of c.args.table.now) sections from was) c.place.ensures
     (subst (λ h. IsOutcome c.args.script.now (columns_of c.args.table.now) from h) (sym c.in_ok-section.ensures.held) was.outcome)
-    c.take_run.ensures.more (c.end.ensures.seen first earlier (c.in_ok-begin.ensures.begun first earlier saw))
+    c.take_run.ensures.more _ c.take_run.ensures.place (c.end.ensures.seen first earlier (c.in_ok-begin.ensures.begun first earlier saw))
 
 pub run_section-requires-clause-well : goal.run_section-requires-clause-well
 run_section-requires-clause-well g c lives within =
@@ -28,7 +28,7 @@ run_section-requires-clause-well g c lives within =
 pub take_run-requires-clause-made : goal.take_run-requires-clause-made
 take_run-requires-clause-made g c =
     let h = c.requires.here in
-    (c.args.script.now, columns_of c.args.table.now, h.0, h.1, _, c.requires.accepted, h.2, c.in_ok-section.ensures.made h.0 h.1 h.3)
+    (c.args.script.now, columns_of c.args.table.now, h.0, h.1, c.requires.accepted, h.2, c.in_ok-section.ensures.made h.0 h.1 h.3)
 
 pub take_run-requires-clause-cells : goal.take_run-requires-clause-cells
 take_run-requires-clause-cells g c some = c.in_ok-ran.ensures.run.cells (c.is_some-keeps.ensures ∙ some)

@@ -11,7 +11,7 @@ use Rattle.frame_top.proofs.sections.run_sections.Goals as goal
 pub loop-section-init : goal.loop-section-init
 loop-section-init g c =
     let here = at_first g.S.Sink.taken g.S.Sink.faults _ _ c.args.first _ c.args.sink.now c.requires.begins c.in-Ok.ensures.held
-    c.in-Ok.ensures.waits c.in-Ok.ensures.failed (c.in-Ok.ensures.report _ refl refl) c.in-Ok.ensures.names in
+    c.in-Ok.ensures.waits c.in-Ok.ensures.failed (c.in-Ok.ensures.report _ refl refl) in
     (here, λ saw. none_seen _ _ (g.W.Watch.Saw c.args.script.now c.args.watch.now c.args.watch.now) here.from (here.ran.begins refl) saw)
 
 pub returns-in-Ok-false : goal.returns-in-Ok-false

@@ -2,5 +2,5 @@ use Rattle.std.proofs.Common.{refl}
 use Rattle.frame_rows.proofs.Starting.{no_cells, none_left}
 use Rattle.section_rows.proofs.limits.fault_of.Goals as goal
 
-pub next-requires-clause-at : goal.next-requires-clause-at
-next-requires-clause-at c = (0, no_cells, 0, c.in-Ok.ensures.at no_cells 0, refl, none_left _)
+pub next-requires : goal.next-requires
+next-requires c = record { at = (0, no_cells, 0, c.in-Ok.ensures.at no_cells 0, refl, none_left _) }

@@ -12,7 +12,7 @@ pub returns-in-Ok-try_clone-clause-sound : goal.returns-in-Ok-try_clone-clause-s
 returns-in-Ok-try_clone-clause-sound c =
     begins _ c.deref-shown.result.now (c.in-Ok-try_clone.ensures ∙ sym c.deref-shown.ensures)
     (subst IsAccepted (sym c.deref-shown.ensures) c.requires.accepted) c.in-Ok.ensures.at c.in-Ok-begin_frame.ensures.held
-    c.in-Ok-begin_frame.ensures.waits c.in-Ok-begin_frame.ensures.failed c.in-Ok-begin_frame.ensures.report c.in-Ok-begin_frame.ensures.names
+    c.in-Ok-begin_frame.ensures.waits c.in-Ok-begin_frame.ensures.failed c.in-Ok-begin_frame.ensures.report
     c.new-in-Ok-try_clone.ensures
 
 pub returns-in-Ok-try_clone-clause-stands : goal.returns-in-Ok-try_clone-clause-stands

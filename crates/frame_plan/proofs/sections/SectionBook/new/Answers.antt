@@ -50,6 +50,7 @@ returns-clause-at c carried len =
       within = limit_none c.args.script.now t c.in_ok-at.at asked ran.stops
           (stands_within c.run.new.planner (setting c.args.script.now t) at_start c.in_ok-at.at
           (state_at c.args.script.now t c.in_ok-at.at) ran.gone.more ran.gone.stands);
+      names = c.in_ok-names.ensures;
       found = ran.gone.more;
       stands = ran.gone.stands;
       grown = λ starts same. ran.gone.grown 0 starts (omega arith) refl same ((c.in_ok-planner.ensures t).grown starts);
