@@ -1,7 +1,9 @@
 mod Seating
 mod Placed
 mod Ready
-mod Chains
+mod Listed
+mod Placing
+mod Counting
 mod Following
 mod Opening
 mod Leased

@@ -100,11 +100,10 @@ fn release_after<B: Board>(
     ensures idle { IsIdle (B.know seat.new) }
     ensures on { IsOn (B.know seat.old) (B.know seat.new) }
 {
-    let mut at = followers.first(job);
-    while at > 0 {
-        let link = followers.link(at);
-        release_job(plan, board, seat, queue, link.job);
-        at = link.next;
+    let mut rest = followers.of(job);
+    while let Some((follower, tail)) = rest.split_first() {
+        release_job(plan, board, seat, queue, *follower);
+        rest = tail;
     }
 }
 
