@@ -1,10 +1,11 @@
 -- What a statement says that has no list of values and no block.
-use Rattle.std.proofs.Common.{◌≡◌, ℕ, ℤ, List, [], ◌++◌, Option, Some, None, Result, Ok, Err, IsTrue, refl, sym, ◌∙◌, ap}
+use Rattle.std.proofs.Common.{◌≡◌, ℕ, ℤ, false, List, [], ◌++◌, Option, Some, None, Result, Ok, Err, IsTrue, refl, sym, ◌∙◌, ap}
 use Rattle.std.proofs.lemmas.List.{append-nil}
 use Rattle.kernel_code.specs.declared.check.StaticFault.{StaticFault}
 use Rattle.script_checks.specs.declared.fault.OrderFault.{OrderFault}
 use Rattle.frame_ast.specs.declared.kernel.Kernel.{Kernel}
 use Rattle.frame_ast.specs.declared.script.Order.{Order}
+use Rattle.frame_ast.specs.Accepted.{is_when}
 use Rattle.script_text.specs.declared.source.Source.{Source}
 use Rattle.script_text.specs.declared.raw.RawOrder.{RawOrder}
 use Rattle.script_text.specs.declared.raw.RawOrder.TheVariants as raw
@@ -108,6 +109,22 @@ known_said s names kernels literals (known.Remove a b) x says = says
 known_said s names kernels literals (known.Dispose a) x says = says
 known_said s names kernels literals (known.Print a) x says = says
 known_said s names kernels literals known.Flush x says = says
+
+-- none of them is a `when`
+pub known_plain : (s : Source) (names : List Name) (o : KnownOrder) (x : Order) → Says s names [] 0 0 (known_form o) x → is_when x ≡ false
+known_plain s names (known.Array a b) x says = ap is_when says
+known_plain s names (known.List a b) x says = ap is_when says
+known_plain s names (known.Reference a b) x says = ap is_when says
+known_plain s names (known.Map a b) x says = ap is_when says
+known_plain s names (known.Slice a b d e) x says = ap is_when says
+known_plain s names (known.View a b) x says = ap is_when says
+known_plain s names (known.Set a b d) x says = ap is_when says
+known_plain s names (known.Add a b) x says = ap is_when says
+known_plain s names (known.Put a b d) x says = ap is_when says
+known_plain s names (known.Remove a b) x says = ap is_when says
+known_plain s names (known.Dispose a) x (handles, same, says) = ap is_when says
+known_plain s names (known.Print a) x says = ap is_when says
+known_plain s names known.Flush x says = ap is_when says
 
 pub known_no_list : (s : Source) (o : KnownOrder) → [] ≡ literals_of s (known_form o)
 known_no_list s (known.Array a b) = refl

@@ -1,6 +1,6 @@
 -- The statements of a script, written out while its text is read: what has been written, and what that has to do with
 -- the text.
-use Rattle.std.specs.Prelude.{◌≡◌, ◌≤◌, ℕ, zero, suc, ◌+◌, ◌-◌, Bool, true, false, ◌&&◌, ◌||◌, not, nat_lt, if◌then◌else◌, List, [], ◌∷◌, ◌++◌, length, drop, Option, None, Some}
+use Rattle.std.specs.Prelude.{◌≡◌, ◌≤◌, ℕ, zero, suc, ◌+◌, ◌-◌, Bool, true, false, ◌&&◌, ◌||◌, not, nat_lt, if◌then◌else◌, List, [], ◌∷◌, ◌++◌, length, drop, slice_get, Option, None, Some}
 use Rattle.std.specs.List.{AllZip}
 use Rattle.job_base.specs.declared.limits.TheConstants.{MOST_STATEMENTS, MOST_TESTS}
 use Rattle.frame_ast.specs.declared.kernel.Kernel.{Kernel as CheckedKernel}
@@ -16,7 +16,7 @@ use Rattle.script_text.specs.Raw.{RawItems, Block, Repeat, When}
 use Rattle.script_text.specs.Sources.{line_at, number_at}
 use Rattle.script_checks.specs.Names.{Name as Known}
 use Rattle.frame_script.specs.Files.{Repeated, IsStatement, StandFor, Mark, marks_of, literals_in, too_long}
-use Rattle.frame_script.specs.Copies.{AreCopies}
+use Rattle.frame_script.specs.Copies.{IsCopy, AreCopies}
 
 -- The statements so far, up to the first for which there is no room; how many of them are `when`; the line of that
 -- first one; and the open blocks, the innermost first.
@@ -66,6 +66,10 @@ abbrev pub count_at : ℕ → List Statement → List Statement
 count_at at [] = []
 count_at zero (x ∷ more) = record x { act = with_count (length more) x.act } ∷ more
 count_at (suc at) (x ∷ more) = x ∷ count_at at more
+
+-- a copy of the statement at this place comes next
+abbrev pub PutsCopyAt : ℕ → Writing → Writing → Type 0
+PutsCopyAt at w v = (x copy : Statement) × (slice_get w.statements at ≡ Some x) × IsCopy x copy × (v ≡ put w copy)
 
 -- copies of these statements come next, once or so many times
 abbrev pub PutsCopies : List Statement → Writing → Writing → Type 0

@@ -1,6 +1,7 @@
 //! Copies of statements.
 
-ghost use Rattle.std.specs.Prelude.{◌≡◌, IsTrue, IfOk};
+ghost use Rattle.std.specs.Prelude.{◌≡◌, IsTrue, IfOk, IfSome, false};
+ghost use Rattle.frame_ast.specs.Accepted.{is_when};
 ghost use Rattle.frame_ast.specs.SameJobs.{SameJob};
 ghost use Rattle.frame_script.specs.Copies.{IsCopyOf, IsCopy, has_no_lists};
 
@@ -17,6 +18,61 @@ pub fn copy_of(alloc: Global, statement: &Statement) -> Result<Statement, NoMemo
         line: statement.line,
         act,
     })
+}
+
+/// A copy of one of the small statements that long blocks have most; none of any other.
+// None is a shortcut: then `copy_of` makes the copy. No `when` is among them, so none has to be counted.
+#[inline(always)]
+pub fn small_copy(order: &Order) -> Option<Order>
+    ensures copy { IfSome result (λ copy. IsCopyOf order.now copy) }
+    ensures plain { IfSome result (λ copy. is_when copy ≡ false) }
+{
+    match order {
+        Order::Set { name, at, value } => Some(Order::Set {
+            name: *name,
+            at: *at,
+            value: *value,
+        }),
+        Order::Add {
+            name,
+            first,
+            second,
+        } => Some(Order::Add {
+            name: *name,
+            first: *first,
+            second: *second,
+        }),
+        Order::Put { name, key, value } => Some(Order::Put {
+            name: *name,
+            key: *key,
+            value: *value,
+        }),
+        Order::Remove { name, at } => Some(Order::Remove {
+            name: *name,
+            at: *at,
+        }),
+        Order::Clear { name } => Some(Order::Clear { name: *name }),
+        Order::Complete { name } => Some(Order::Complete { name: *name }),
+        Order::Print { name } => Some(Order::Print { name: *name }),
+        Order::Array { .. }
+        | Order::Column { .. }
+        | Order::List { .. }
+        | Order::Reference { .. }
+        | Order::Map { .. }
+        | Order::Stream { .. }
+        | Order::Slice { .. }
+        | Order::View { .. }
+        | Order::Copy { .. }
+        | Order::SetCapacity { .. }
+        | Order::Schedule(_)
+        | Order::Combine { .. }
+        | Order::CompleteAuto { .. }
+        | Order::Dispose { .. }
+        | Order::DisposeAuto { .. }
+        | Order::Flush
+        | Order::Frame
+        | Order::When { .. } => None,
+    }
 }
 
 fn job_copy(alloc: Global, job: &NewJob) -> Result<NewJob, NoMemory>

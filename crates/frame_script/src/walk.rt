@@ -206,7 +206,7 @@ impl<'a> Walk<'a> {
             (λ _. Takes source.entry at (known_form order) self.old self.new) result }
     {
         let act = check_known(alloc, source, &mut self.names, order)?;
-        self.written.add(line, act)?;
+        self.written.add_plain(line, act)?;
         Ok(())
     }
 

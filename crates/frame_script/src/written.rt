@@ -1,11 +1,12 @@
 //! The statements of a script, written out while its text is read.
 
-ghost use Rattle.std.specs.Prelude.{◌≡◌, ◌<◌, ◌≤◌, ◌-◌, Some, None, length, take, drop, IfOk, reverse, MatchResult};
+ghost use Rattle.std.specs.Prelude.{◌≡◌, ◌<◌, ◌≤◌, ◌-◌, Some, None, false, length, take, drop, IfOk, reverse, MatchResult};
 ghost use Rattle.job_base.specs.declared.limits.TheConstants.{MOST_STATEMENTS};
-ghost use Rattle.frame_script.specs.Writing.{Writing, fits_in, nothing_written, put, opened, with_count, count_at, PutsCopies, PutsRepeated, Closes};
+ghost use Rattle.frame_ast.specs.Accepted.{is_when};
+ghost use Rattle.frame_script.specs.Writing.{Writing, fits_in, nothing_written, put, opened, with_count, count_at, PutsCopyAt, PutsCopies, PutsRepeated, Closes};
 ghost use Rattle.frame_script.specs.declared.written.OpenBlock.TheVariants as block;
 
-use crate::copies::copy_of;
+use crate::copies::{copy_of, small_copy};
 use frame_ast::script::{Order, Statement};
 use job_base::NoMemory;
 use job_base::limits::{MOST_STATEMENTS, MOST_TESTS};
@@ -96,6 +97,27 @@ impl Written {
         Ok(())
     }
 
+    /// Writes a statement that is no `when`.
+    // Room is made first, so that the statement is made where it is to lie.
+    #[inline(always)]
+    pub fn add_plain(&mut self, line: u32, act: Order) -> Result<(), NoMemory>
+        requires { is_when act ≡ false }
+        ensures { IfOk result (λ _. self.new ≡ put self.old (record { line = line; act = act })) }
+    {
+        if self.over.is_some() {
+            return Ok(());
+        }
+        if self.statements.len() >= MOST_STATEMENTS as usize {
+            self.over = Some(line);
+            return Ok(());
+        }
+        if self.statements.len() == self.statements.capacity() {
+            self.statements.reserve(1)?;
+        }
+        self.statements.push_reserved(Statement { line, act });
+        Ok(())
+    }
+
     /// Opens the block of a `repeat`, which is to stand so many times.
     pub fn open_repeat(&mut self, count: u32) -> Result<(), NoMemory>
         ensures { IfOk result (λ _. self.new ≡ opened (block.Repeat (length self.old.statements) count) self.old) }
@@ -123,9 +145,42 @@ impl Written {
         ensures { IfOk result (λ _. PutsCopies (drop start (take end self.old.statements)) self.old self.new) }
     {
         for at in start..end {
-            let statement = copy_of(alloc, &self.statements[at])?;
-            self.add(statement.line, statement.act)?;
+            self.copy_one(alloc, at)?;
         }
+        Ok(())
+    }
+
+    // Writes the statement at a place once more.
+    // Nearly all statements of long blocks are small. Those are made where they are to lie: one that is handed on goes
+    // through memory three times.
+    #[inline(always)]
+    fn copy_one(&mut self, alloc: Global, at: usize) -> Result<(), NoMemory>
+        requires { at < length self.old.statements }
+        ensures { IfOk result (λ _. PutsCopyAt at self.old self.new) }
+    {
+        if self.over.is_some() || self.statements.len() >= MOST_STATEMENTS as usize {
+            return self.copy_any(alloc, at);
+        }
+        if self.statements.len() == self.statements.capacity() {
+            self.statements.reserve(1)?;
+        }
+        let statement = &self.statements[at];
+        let line = statement.line;
+        let Some(act) = small_copy(&statement.act) else {
+            return self.copy_any(alloc, at);
+        };
+        self.statements.push_reserved(Statement { line, act });
+        Ok(())
+    }
+
+    // The same, whatever statement it is.
+    #[inline(never)]
+    fn copy_any(&mut self, alloc: Global, at: usize) -> Result<(), NoMemory>
+        requires { at < length self.old.statements }
+        ensures { IfOk result (λ _. PutsCopyAt at self.old self.new) }
+    {
+        let copy = copy_of(alloc, &self.statements[at])?;
+        self.add(copy.line, copy.act)?;
         Ok(())
     }
 

@@ -1,6 +1,6 @@
 //! How the kinds of tokens are spelled: symbols and reserved words.
 
-ghost use Rattle.std.specs.Prelude.{◌≡◌, ◌<◌, ◌∷◌, [], length, filter, unwrap_or};
+ghost use Rattle.std.specs.Prelude.{◌≡◌, ◌<◌, ◌∷◌, [], length, filter, unwrap_or, slice_index};
 ghost use Rattle.kernel_text.specs.Spellings.{spelling_of, spelled, symbols, reserved_words, is_first_of};
 ghost use Rattle.frame_grammar.specs.declared.token_kind.TokenKind.TheVariants.{Name};
 
@@ -97,55 +97,78 @@ fn spelling(kind: K) -> &'static [u8]
     }
 }
 
-/// The reserved words that begin with this byte, those that stand most often first.
-#[tactic(auto, unfolding(crate::specs::Spellings::spelling_of, crate::specs::Spellings::reserved_words))]
-fn reserved_with(first: u8) -> &'static [K]
-    ensures { result.now ≡ filter (is_first_of first) reserved_words }
-{
-    match first {
-        b'a' => &[K::Array, K::Add, K::At, K::After, K::As, K::Auto],
-        b'b' => &[K::By, K::Begin],
-        b'c' => &[
-            K::Complete,
-            K::Combine,
-            K::Clear,
-            K::Count,
-            K::Column,
-            K::Copy,
-        ],
-        b'd' => &[K::Dispose, K::Defer],
-        b'e' => &[K::Else],
-        b'f' => &[K::For, K::Flush, K::Frame],
-        b'h' => &[K::Has],
-        b'i' => &[K::Index, K::Int, K::If, K::In],
-        b'j' => &[K::Job],
-        b'l' => &[K::List, K::Len],
-        b'm' => &[K::Map],
-        b'p' => &[K::Print, K::Put, K::Parallel, K::Persistent],
-        b'r' => &[K::Ro, K::Rw, K::Ref, K::Remove, K::Reference, K::Repeat],
-        b's' => &[K::Set, K::Schedule, K::Stream, K::Slice, K::SetCapacity],
-        b't' => &[K::TryAdd, K::Temp, K::TempJob],
-        b'v' => &[K::Var, K::View],
-        b'w' => &[K::Wo, K::While, K::Write, K::Waive, K::When],
-        _ => &[],
-    }
-}
-
 /// The first of these kinds that is spelled so.
+#[inline(always)]
 fn spelled(kinds: &[K], word: &[u8]) -> Option<K>
     ensures { result ≡ spelled kinds.now word.now }
 {
     kinds.iter().copied().find(|kind| spelling(*kind) == word)
 }
 
-/// The reserved word that is spelled so, or `Name`.
+/// The word of these that is spelled so, or `Name`; they are the reserved words that begin with its first byte.
+// In line where they are constants, so that none is looked up in a table, and each is compared in few instructions.
+#[inline(always)]
+fn kind_among(first: u8, kinds: &[K], word: &[u8]) -> K
+    requires some { 0 < length word.now }
+    requires begun { slice_index word.now 0 ≡ first }
+    requires all { kinds.now ≡ filter (is_first_of first) reserved_words }
+    ensures { result ≡ unwrap_or (spelled reserved_words word.now) Name }
+{
+    spelled(kinds, word).unwrap_or(K::Name)
+}
+
+/// The reserved word that is spelled so, or `Name`. Of those with one first byte, those that stand most often come
+/// first.
 // In line its search would take registers from the lexer's loop.
 #[inline(never)]
+#[tactic(auto, unfolding(crate::specs::Spellings::spelling_of, crate::specs::Spellings::reserved_words))]
 fn searched_kind(word: &[u8]) -> K
     requires { 0 < length word.now }
     ensures { result ≡ unwrap_or (spelled reserved_words word.now) Name }
 {
-    spelled(reserved_with(word[0]), word).unwrap_or(K::Name)
+    match word[0] {
+        b'a' => kind_among(
+            b'a',
+            &[K::Array, K::Add, K::At, K::After, K::As, K::Auto],
+            word,
+        ),
+        b'b' => kind_among(b'b', &[K::By, K::Begin], word),
+        b'c' => kind_among(
+            b'c',
+            &[
+                K::Complete,
+                K::Combine,
+                K::Clear,
+                K::Count,
+                K::Column,
+                K::Copy,
+            ],
+            word,
+        ),
+        b'd' => kind_among(b'd', &[K::Dispose, K::Defer], word),
+        b'e' => kind_among(b'e', &[K::Else], word),
+        b'f' => kind_among(b'f', &[K::For, K::Flush, K::Frame], word),
+        b'h' => kind_among(b'h', &[K::Has], word),
+        b'i' => kind_among(b'i', &[K::Index, K::Int, K::If, K::In], word),
+        b'j' => kind_among(b'j', &[K::Job], word),
+        b'l' => kind_among(b'l', &[K::List, K::Len], word),
+        b'm' => kind_among(b'm', &[K::Map], word),
+        b'p' => kind_among(b'p', &[K::Print, K::Put, K::Parallel, K::Persistent], word),
+        b'r' => kind_among(
+            b'r',
+            &[K::Ro, K::Rw, K::Ref, K::Remove, K::Reference, K::Repeat],
+            word,
+        ),
+        b's' => kind_among(
+            b's',
+            &[K::Set, K::Schedule, K::Stream, K::Slice, K::SetCapacity],
+            word,
+        ),
+        b't' => kind_among(b't', &[K::TryAdd, K::Temp, K::TempJob], word),
+        b'v' => kind_among(b'v', &[K::Var, K::View], word),
+        b'w' => kind_among(b'w', &[K::Wo, K::While, K::Write, K::Waive, K::When], word),
+        first => kind_among(first, &[], word),
+    }
 }
 
 /// The reserved word that is spelled so, or `Name`.

@@ -10,6 +10,7 @@ use Rattle.std.proofs.lemmas.List.Folds.{find_at}
 use Rattle.std.proofs.lemmas.Option.{slice_get-map, slice_get-get_or, slice_get_past}
 use Rattle.script_checks.specs.declared.names.Entry.{Entry}
 use Rattle.frame_ast.specs.declared.name_kind.NameKind.{NameKind}
+use Rattle.frame_ast.specs.declared.name_kind.NameKind.TheVariants as variant
 use Rattle.script_text.specs.declared.source.Source.{Source}
 use Rattle.script_checks.specs.Names.{Name, place_in, kind_in, with_name, is_called}
 use Rattle.script_checks.specs.Index.{known_of}
@@ -103,8 +104,27 @@ pub made_otherwise : (s : Source) (names : List Name) (kind known : NameKind) (a
 made_otherwise s names kind known at is other =
     ap (λ o. unless (agrees o kind) KindMismatch at) (sym is) ∙ ap (λ b. unless b KindMismatch at) (sym other)
 
--- a name that is made again is known already
-pub named_again : (s : Source) (names : List Name) (kind : NameKind) (at place : ℕ) → Some place ≡ place_in names (text_at s at)
-    → names ≡ names_with s names (Some (at, kind))
-named_again s names kind at place found =
-    ap (λ b. cond b names (names ++ record { text = text_at s at; kind = kind } ∷ [])) (ap is_some found)
+-- A NAME THAT IS MADE UNLESS IT IS KNOWN
+
+among_itself : (kind : NameKind) → is_among kind (kind ∷ []) ≡ true
+among_itself variant.Array = refl
+among_itself variant.Slice = refl
+among_itself variant.View = refl
+among_itself variant.List = refl
+among_itself variant.Reference = refl
+among_itself variant.Map = refl
+among_itself variant.Stream = refl
+among_itself variant.Handle = refl
+
+-- whether it is made in its kind is asked of what it stands for afterwards
+pub remade : (s : Source) (names : List Name) (kind known : NameKind) (at : ℕ) (same : Bool) → known ≡ unwrap_or (kind_in names (text_at s at)) kind →
+    same ≡ is_among known (kind ∷ []) → remake_fault s names kind at ≡ unless same KindMismatch at
+remade s names kind known at same is asked = by_kind (kind_in names (text_at s at)) is where
+  by_kind : (o : Option NameKind) → known ≡ unwrap_or o kind → unless (agrees o kind) KindMismatch at ≡ unless same KindMismatch at
+  by_kind None e = ap (λ t. unless t KindMismatch at) (sym (asked ∙ ap (λ k. is_among k (kind ∷ [])) e ∙ among_itself kind))
+  by_kind (Some k) e = ap (λ t. unless t KindMismatch at) (sym (asked ∙ ap (λ k'. is_among k' (kind ∷ [])) e))
+
+-- a known name is not made again
+pub known_already : (names : List Name) (text : List ℕ) (kind : NameKind) (place : ℕ) → place_in names text ≡ Some place
+    → names ≡ with_name names text kind
+known_already names text kind place found = ap (λ b. cond b names (names ++ record { text = text; kind = kind } ∷ [])) (sym (ap is_some found))

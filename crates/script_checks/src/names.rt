@@ -1,6 +1,6 @@
 //! The names of a script, in the order of their first making.
 
-ghost use Rattle.std.specs.Prelude.{◌≡◌, ℕ, All, ◌<◌, ◌-◌, ◌^◌, List, [], length, map, replicate, IfOk, None, IsUtf8, string_bytes};
+ghost use Rattle.std.specs.Prelude.{◌≡◌, ℕ, All, ◌<◌, ◌-◌, ◌^◌, List, [], length, map, replicate, IfOk, None, Some, unwrap_or, IsUtf8, string_bytes};
 ghost use Rattle.script_checks.specs.Names.{Name, place_in, kind_in, with_name};
 ghost use Rattle.script_checks.specs.Index.{known_of, hash_of, bucket_of, first_of, first_for, IsIndex};
 
@@ -177,5 +177,57 @@ impl<'a> Names<'a> {
             }
         }
         Ok(())
+    }
+
+    /// Makes a name, unless it is known. Answers its place, and what it stands for.
+    // One hash finds the place of a known name, or the bucket of a new one. Of names whose bucket another name has, few
+    // in long scripts, it is made once more.
+    #[inline(always)]
+    pub fn find_or_make(
+        &mut self,
+        text: &'a [u8],
+        kind: NameKind,
+    ) -> Result<(u32, NameKind), NoMemory>
+        ensures place { IfOk result (λ found. place_in self.new text.now ≡ Some found.0) }
+        ensures kind { IfOk result (λ found. found.1 ≡ unwrap_or (kind_in self.old text.now) kind) }
+        ensures names { IfOk result (λ _. self.new ≡ with_name self.old text.now kind) }
+    {
+        let place = self.entries.len() as u32;
+        let bucket = bucket_of(self.firsts.len(), text);
+        match first_of(&self.firsts, bucket) {
+            None => {
+                if place == u32::MAX {
+                    return Err(NoMemory);
+                }
+                self.entries.push(Entry { text, kind })?;
+                self.firsts[bucket] = Some(place);
+                Ok((place, kind))
+            }
+            Some(first) => {
+                let entry = self.entries[first as usize];
+                if entry.text == text {
+                    return Ok((first, entry.kind));
+                }
+                self.get_or_make(text, kind)
+            }
+        }
+    }
+
+    // The same, by two looks.
+    #[inline(never)]
+    fn get_or_make(&mut self, text: &'a [u8], kind: NameKind) -> Result<(u32, NameKind), NoMemory>
+        ensures place { IfOk result (λ found. place_in self.new text.now ≡ Some found.0) }
+        ensures kind { IfOk result (λ found. found.1 ≡ unwrap_or (kind_in self.old text.now) kind) }
+        ensures names { IfOk result (λ _. self.new ≡ with_name self.old text.now kind) }
+    {
+        if let Some(found) = self.get(text) {
+            return Ok(found);
+        }
+        let place = self.len();
+        if place == u32::MAX {
+            return Err(NoMemory);
+        }
+        self.make(text, kind)?;
+        Ok((place, kind))
     }
 }

@@ -1,6 +1,7 @@
 -- Copies of what a block has written, one after another.
 use Rattle.std.proofs.Common.{arith, ◌≡◌, ◌≤◌, ◌<◌, ◌+◌, ◌-◌, ◌∙◌, ℕ, zero, suc, Bool, true, false, Option, Some, None, List, [], ◌∷◌, ◌++◌, refl, sym, ap, subst, length, length-append, get_or, take, drop, append_assoc}
 use Rattle.std.specs.Option.{is_some}
+use Rattle.std.proofs.lemmas.Option.{get_or_from_slice_get}
 use Rattle.std.proofs.lemmas.List.{append-nil, drop_all, take_at, take_more, length-take, length-take-le, drop-append-le, get_or_append_left}
 use Rattle.std.proofs.lemmas.List.Elements.{AllZip-push}
 use Rattle.frame_ast.specs.declared.script.Order.{Order}
@@ -10,7 +11,7 @@ use Rattle.frame_script.specs.declared.written.OpenBlock.{OpenBlock}
 use Rattle.frame_script.specs.declared.written.OpenBlock.TheVariants as block
 use Rattle.frame_script.specs.Files.{Repeated}
 use Rattle.frame_script.specs.Copies.{IsCopyOf, IsCopy, AreCopies}
-use Rattle.frame_script.specs.Writing.{Writing, put, put_in, put_unless, put_all, fits_in, PutsCopies, PutsRepeated, ClosesIn, Closes}
+use Rattle.frame_script.specs.Writing.{Writing, put, put_in, put_unless, put_all, fits_in, PutsCopyAt, PutsCopies, PutsRepeated, ClosesIn, Closes}
 use Rattle.frame_script.proofs.Writing.Put.{nothing_put}
 use Rattle.frame_script.proofs.Writing.Counts.{put_both}
 
@@ -72,13 +73,13 @@ block_more xs start at d from within =
     ap (drop start) (take_more xs at d within)
     ∙ drop-append-le start (take at xs) (get_or xs at d ∷ []) (omega (arith, from, length-take-le at xs (omega (arith, within))))
 
-pub copied_more : (w v u : Writing) (start at : ℕ) (x y : Statement) → start ≤ at → at < length w.statements → x ≡ get_or v.statements at x → IsCopy x y →
-    PutsCopies (drop start (take at w.statements)) w v → u ≡ put v y → PutsCopies (drop start (take (at + 1) w.statements)) w u
-copied_more w v u start at x y from within x_is copy (copies, are, v_is) u_is =
-    let here : get_or w.statements at x ≡ x = sym (as_before w v copies at x v_is within) ∙ sym x_is in (
+pub copied_more : (w v u : Writing) (start at : ℕ) → start ≤ at → at < length w.statements → PutsCopies (drop start (take at w.statements)) w v
+    → PutsCopyAt at v u → PutsCopies (drop start (take (at + 1) w.statements)) w u
+copied_more w v u start at from within (copies, are, v_is) (x, y, here, copy, u_is) =
+    let same : get_or w.statements at x ≡ x = sym (as_before w v copies at x v_is within) ∙ get_or_from_slice_get v.statements at x x here in (
       copies ++ y ∷ [],
       subst (λ xs. AreCopies xs (copies ++ y ∷ [])) (sym (block_more w.statements start at x from within))
-          (AllZip-push IsCopy (drop start (take at w.statements)) copies (get_or w.statements at x) y are (subst (λ z. IsCopy z y) (sym here) copy)),
+          (AllZip-push IsCopy (drop start (take at w.statements)) copies (get_or w.statements at x) y are (subst (λ z. IsCopy z y) (sym same) copy)),
       u_is ∙ ap (λ z. put z y) v_is ∙ sym (put_both w copies (y ∷ [])),
     )
 

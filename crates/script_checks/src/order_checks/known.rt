@@ -41,15 +41,7 @@ fn made<'a>(
         × (names.new ≡ names_with source.entry names.old (Some (at, kind)))) result }
 {
     let text = source.text(at);
-    let Some((place, known)) = names.get(text) else {
-        check_text_length(text, at)?;
-        let place = names.len();
-        if place == u32::MAX {
-            return Err(OrderFault::NoMemory);
-        }
-        names.make(text, kind)?;
-        return Ok(place);
-    };
+    let (place, known) = names.find_or_make(text, kind)?;
     if !is_among(known, &[kind]) {
         return refuse(FaultKind::KindMismatch, at);
     }
@@ -179,6 +171,7 @@ fn dispose(
 }
 
 /// The check of such a statement, whose name is known after it where it makes one.
+#[inline(always)]
 pub fn check_known<'a>(
     alloc: Global,
     source: Source<'a>,

@@ -2,8 +2,11 @@ use Rattle.std.proofs.Common.{◌≡◌, ◌++◌, length, refl, sym, ◌∙◌,
 use Rattle.std.proofs.lemmas.List.{append-nil}
 use Rattle.frame_ast.specs.Lists.{first_some}
 use Rattle.frame_script.specs.Walking.{scope_of, lists_in}
-use Rattle.frame_script.proofs.SaidLemmas.{known_faults, known_said, known_no_list, known_takes}
+use Rattle.frame_script.proofs.SaidLemmas.{known_faults, known_said, known_no_list, known_plain, known_takes}
 use Rattle.frame_script.proofs.walk.Walk.take_known.Goals as goal
+
+pub add_plain-requires : goal.add_plain-requires
+add_plain-requires c = known_plain c.args.source _ c.args.order c.in_ok-act.act c.in_ok-act.ensures.1.0
 
 pub returns : goal.returns
 returns c =
@@ -25,6 +28,6 @@ returns c =
               line = c.requires.line;
               says = known_said s _ old.kernels (length old.literals.items) order c.in_ok-act.act said.1.0;
             };
-            written = c.in_ok-add.ensures;
+            written = c.in_ok-add_plain.ensures;
           }),
     )

@@ -1,4 +1,4 @@
-use Rattle.std.proofs.Common.{rules, arith, ◌≡◌, ◌<◌, ◌≤◌, ◌∙◌, ap, subst, length, take, drop, get_or}
+use Rattle.std.proofs.Common.{arith, ◌≡◌, ◌≤◌, subst, length, take, drop}
 use Rattle.frame_script.specs.Writing.{PutsCopies}
 use Rattle.frame_script.proofs.Writing.Repeats.{copied_none, copied_more, as_long}
 use Rattle.frame_script.proofs.written.Written.copy.Goals as goal
@@ -6,21 +6,16 @@ use Rattle.frame_script.proofs.written.Written.copy.Goals as goal
 pub loop-at-init : goal.loop-at-init
 loop-at-init c = copied_none c.args.self.now c.args.start
 
-pub index-requires : goal.index-requires
-index-requires c =
+pub copy_one-requires : goal.copy_one-requires
+copy_one-requires c =
     let long : length c.args.self.now.statements ≤ length c.loop-at.self.statements =
     as_long c.args.self.now c.loop-at.self c.loop-at.invariant.0 c.loop-at.invariant.2 in
-    let same : length c.self.inside.statements.items ≡ length c.loop-at.self.statements = ap (λ v. length v.statements) c.self.view_is in
-    let within : c.loop-at.at < length c.self.inside.statements.items = omega (arith, long, same, c.requires.within, c.loop-at-test.true) in
-    search (rules, within)
+    omega (arith, long, c.requires.within, c.loop-at-test.true)
 
 pub loop-at-preserved : goal.loop-at-preserved
 loop-at-preserved c =
-    let same : c.self.inside.statements.items ≡ c.loop-at.self.statements = ap (λ v. v.statements) c.self.view_is in
-    let here : c.index.result.now ≡ get_or c.self.inside.statements.items c.loop-at.at c.index.result.now = search rules in
-    copied_more c.args.self.now c.loop-at.self c.add.new.self c.args.start c.loop-at.at c.index.result.now c.in_ok-statement.statement c.loop-at.auto.at
-    (omega (arith, c.requires.within, c.loop-at-test.true)) (here ∙ ap (λ xs. get_or xs c.loop-at.at c.index.result.now) same) c.in_ok-statement.ensures
-    c.loop-at.invariant c.in_ok-add.ensures
+    copied_more c.args.self.now c.loop-at.self c.copy_one.new.self c.args.start c.loop-at.at c.loop-at.auto.at
+    (omega (arith, c.requires.within, c.loop-at-test.true)) c.loop-at.invariant c.in_ok-copy_one.ensures
 
 pub returns : goal.returns
 returns c =
