@@ -9,7 +9,7 @@ use Rattle.frame_core.specs.Operations.{op_cells, op_answer, ops_cells, ops_refu
 use Rattle.frame_core.specs.Output.{op_line, ops_lines}
 use Rattle.frame_core.specs.Ordered.{OpFits, ActStands, OpsStand}
 use Rattle.frame_core.specs.Rights.{MayReadIn, MayWriteIn}
-use Rattle.frame_core.proofs.Touching.{reads_append, writes_append}
+use Rattle.frame_core.proofs.Extents.Touching.{reads_append, writes_append}
 use Rattle.plan_run.specs.Lines.{one_if}
 use Rattle.plan_run.specs.Says.{Said, Says}
 use Rattle.plan_run.proofs.Saying.{InText, text_start, text_next, text_end}

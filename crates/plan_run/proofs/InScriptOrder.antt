@@ -11,7 +11,7 @@ use Rattle.frame_core.specs.declared.plan.Plan.{Plan}
 use Rattle.frame_core.specs.declared.plan.Segment.{Segment}
 use Rattle.frame_core.specs.Effects.{touches, piece_cells}
 use Rattle.frame_core.specs.Graphs.{graph_of, piece_at, cells_at, cells_at_first, before_piece, cells_after}
-use Rattle.frame_core.specs.Names.{is_job, job_at, job_pieces, pieces_of, segment_at, starts_in}
+use Rattle.frame_core.specs.Names.{is_job, job_at, job_pieces, pieces_of, segment_at, starts_in, IsJobOf}
 use Rattle.frame_core.specs.Ordered.{IsCutIn, IsWellOrderedPlan}
 use Rattle.frame_core.specs.Pieces.{IsPieceOf, order_from, parts_of, place_of, script_order, segment_place, started, starter_of}
 use Rattle.frame_core.specs.Rights.{MayReadIn, MayWriteIn}
@@ -20,9 +20,9 @@ use Rattle.frame_core.proofs.Orders.{at_place, starter_alone}
 use Rattle.frame_core.proofs.Placing.{length_parts}
 use Rattle.frame_core.proofs.Planned.{has_kernel}
 use Rattle.frame_core.proofs.Starting.{started_within}
-use Rattle.frame_core.proofs.Touching.{writes_read}
-use Rattle.frame_core.proofs.Within.{pieces_stay_within}
-use Rattle.plan_run.specs.ScriptOrder.{AllowsAll, AreFresh, IsJobOf, before_part}
+use Rattle.frame_core.proofs.Extents.Touching.{writes_read}
+use Rattle.frame_core.proofs.Extents.Within.{pieces_stay_within}
+use Rattle.plan_run.specs.ScriptOrder.{AllowsAll, AreFresh, before_part}
 use Rattle.plan_run.specs.Lines.{segment_cells}
 
 -- PLACES

@@ -5,4 +5,3 @@ pub mod Tallies
 pub mod Segments
 pub mod Running
 mod InScriptOrder
-mod Filling

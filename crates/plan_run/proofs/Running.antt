@@ -7,7 +7,7 @@ use Rattle.frame_core.specs.Reports.{IsReportOf}
 use Rattle.frame_core.specs.declared.plan.Plan.{Plan}
 use Rattle.frame_core.specs.Output.{lines_of, segment_lines, refused_of, segment_refused, plan_lines, plan_refused, plan_traps}
 use Rattle.frame_core.specs.Ordered.{IsWellOrderedPlan}
-use Rattle.frame_core.proofs.Tallies.{refusals_are_few}
+use Rattle.frame_core.proofs.Reported.Tallies.{refusals_are_few}
 use Rattle.plan_run.specs.declared.run_end.RunEnd.{RunEnd}
 use Rattle.plan_run.specs.declared.run_end.RunEnd.TheVariants.{Done, WriteFault}
 use Rattle.plan_run.specs.Runs.{IsReport, IsRun, is_fault, report_of}

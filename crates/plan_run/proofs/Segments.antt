@@ -20,8 +20,8 @@ use Rattle.frame_core.specs.Know.{reads, writes}
 use Rattle.frame_core.specs.Ordered.{IsWellOrderedPlan, OpFits, OpsStand}
 use Rattle.frame_core.specs.Rights.{MayReadIn, MayWriteIn}
 use Rattle.frame_core.proofs.Numbered.{of_script}
-use Rattle.frame_core.proofs.OwnWords.{traps_are_told}
-use Rattle.frame_core.proofs.Touching.{reads_append, writes_append, has_it}
+use Rattle.frame_core.proofs.Reported.OwnWords.{traps_are_told}
+use Rattle.frame_core.proofs.Extents.Touching.{reads_append, writes_append, has_it}
 use Rattle.plan_run.specs.Lines.{segment_cells, MayReadOwn, TellAll}
 use Rattle.plan_run.specs.Says.{Said, Says}
 use Rattle.plan_run.proofs.InOps.{first_way, second_way}

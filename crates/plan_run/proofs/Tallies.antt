@@ -20,8 +20,8 @@ use Rattle.frame_core.specs.Ordered.{IsWellOrderedPlan}
 use Rattle.frame_core.specs.Laws.{TellsTraps, AreIndexesBelow}
 use Rattle.frame_core.proofs.Small.{some_is, none_some, get_below}
 use Rattle.frame_core.proofs.Numbered.{of_job, number_numbered}
-use Rattle.frame_core.proofs.OwnWords.{traps_are_told}
-use Rattle.frame_core.proofs.Traps.{traps_come_by_number}
+use Rattle.frame_core.proofs.Reported.OwnWords.{traps_are_told}
+use Rattle.frame_core.proofs.Reported.Traps.{traps_come_by_number}
 use Rattle.plan_run.specs.Lines.{TellAll, piece_run, NotesPiece}
 
 -- A report that goes on.

@@ -1,6 +1,5 @@
 -- A run in script order: the memory before it, and the cells between its pieces.
-use Rattle.std.specs.Prelude.{◌≡◌, ℕ, suc, ◌+◌, ◌<◌, Bool, IsTrue, length}
-use Rattle.job_base.specs.declared.JobId.{JobId}
+use Rattle.std.specs.Prelude.{◌≡◌, ℕ, suc, ◌+◌, ◌<◌, Bool, IsTrue}
 use Rattle.merge_laws.specs.Graph.{Cells, cells_before}
 use Rattle.frame_core.specs.declared.plan.Plan.{Plan}
 use Rattle.frame_core.specs.Pieces.{segment_place}
@@ -13,10 +12,6 @@ AllowsAll plan allowed = (w : ℕ) → w < plan.words → IsTrue (allowed w)
 -- Fresh cells are those that the plan has at first.
 abbrev pub AreFresh : Plan → Cells → Type 0
 AreFresh plan cells = (w : ℕ) → cells w ≡ cells_at_first plan w
-
--- the number of a job of the plan
-abbrev pub IsJobOf : Plan → JobId → Type 0
-IsJobOf plan id = (0 < id.0) × (id.0 < length plan.jobs.items + 1)
 
 -- the cells after segment k and the first i pieces of the job that it starts
 abbrev pub before_part : Plan → ℕ → ℕ → Cells

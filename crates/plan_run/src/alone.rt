@@ -2,13 +2,13 @@
 ghost use Rattle.std.specs.Prelude.{◌≡◌, ◌<◌, ◌≤◌, ◌+◌, Some, length};
 ghost use Rattle.frame_core.specs.declared.piece.Piece.TheVariants.{OfScript};
 ghost use Rattle.frame_core.specs.Graphs.{before_piece, cells_after};
-ghost use Rattle.frame_core.specs.Names.{segment_at, starts_in};
+ghost use Rattle.frame_core.specs.Names.{segment_at, starts_in, IsJobOf};
 ghost use Rattle.frame_core.specs.Ordered.{IsWellOrderedPlan};
 ghost use Rattle.frame_core.specs.Output.{plan_lines};
 ghost use Rattle.plan_run.specs.Lines.{segment_cells};
 ghost use Rattle.plan_run.specs.Runs.{IsReport};
 ghost use Rattle.plan_run.specs.Says.{SaysTo};
-ghost use Rattle.plan_run.specs.ScriptOrder.{AllowsAll, AreFresh, IsJobOf, before_part};
+ghost use Rattle.plan_run.specs.ScriptOrder.{AllowsAll, AreFresh, before_part};
 
 use crate::segment::run_segment;
 use crate::tally::{no_traps, with_refused};

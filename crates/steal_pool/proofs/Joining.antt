@@ -10,7 +10,7 @@ use Rattle.frame_core.specs.Reports.{Names, IsReportOf}
 use Rattle.frame_core.specs.declared.plan.Plan.{Plan}
 use Rattle.frame_core.specs.Names.{job_pieces, job_at}
 use Rattle.frame_core.specs.Output.{job_trap, first_traps, part_traps, parts_traps, jobs_traps, pieces_in, plan_traps}
-use Rattle.frame_core.proofs.Tallies.{reports_tally, refusals_are_few}
+use Rattle.frame_core.proofs.Reported.Tallies.{reports_tally, refusals_are_few}
 use Rattle.steal_pool.specs.Sections.{shifted, ReportsAreWithin}
 
 -- JOINED REPORTS

@@ -1,16 +1,9 @@
 mod Seating
 mod Placed
 mod Ready
-mod Listed
-mod Placing
-mod Counting
-mod Following
-mod Opening
 mod Leased
 mod Standings
 mod Ending
 mod Joining
-mod Giving
-mod Claiming
 mod PartRights
 mod Visiting

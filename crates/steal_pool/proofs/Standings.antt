@@ -5,9 +5,8 @@ use Rattle.std.proofs.lemmas.Bool.Decides.{nat_tests}
 use Rattle.std.proofs.lemmas.List.{take_all}
 use Rattle.job_base.specs.declared.JobId.{JobId}
 use Rattle.frame_core.specs.declared.plan.Plan.{Plan}
-use Rattle.frame_core.specs.Names.{has_job, segment_at, waits_in}
+use Rattle.frame_core.specs.Names.{has_job, segment_at, waits_in, IsJobOf}
 use Rattle.frame_core.specs.Know.{Know}
-use Rattle.plan_run.specs.ScriptOrder.{IsJobOf}
 use Rattle.steal_pool.specs.declared.standing.Standing.{Standing}
 use Rattle.steal_pool.specs.Seats.{IsAt, IsIdle, IsOn}
 use Rattle.steal_pool.specs.Turns.{StandsAt}

@@ -2,9 +2,9 @@
 use Rattle.std.specs.Prelude.{◌≡◌}
 use Rattle.frame_core.specs.declared.plan.Plan.{Plan}
 use Rattle.frame_core.specs.Ordered.{IsWellOrderedPlan}
+use Rattle.piece_claims.specs.Claims.{AreClaimsOf}
+use Rattle.piece_claims.specs.Followers.{AreFollowers}
 use Rattle.steal_pool.specs.declared.crew.Shared.{Shared}
-use Rattle.steal_pool.specs.Claims.{AreClaimsOf}
-use Rattle.steal_pool.specs.Followers.{AreFollowers}
 
 -- The plan is that of the board and well ordered, and what the workers share is made for it.
 pub record IsCrewOf (plan of_board : Plan) (shared : Shared) : Type 0 where

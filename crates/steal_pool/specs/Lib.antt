@@ -1,11 +1,8 @@
 -- promises
-pub mod Claims
-pub mod Given
 pub mod Laws
 pub mod Rooms
 pub mod Sections
 pub mod Turns
 -- for this crate's own contracts
 pub mod Crews
-pub mod Followers
 pub mod Seats

@@ -3,10 +3,10 @@ use Rattle.std.specs.Prelude.{◌≡◌, ℕ, ◌*◌, ◌<◌, ◌≤◌, List,
 use Rattle.job_base.specs.declared.limits.TheConstants.{MOST_WORKERS}
 use Rattle.frame_core.specs.declared.plan.Plan.{Plan}
 use Rattle.frame_core.specs.Know.{Know}
+use Rattle.piece_claims.specs.Claims.{AreClaimsOf}
+use Rattle.piece_claims.specs.Followers.{AreFollowers}
 use Rattle.steal_pool.specs.declared.place.Place.{Place}
 use Rattle.steal_pool.specs.declared.room.PoolRoom.{PoolRoom}
-use Rattle.steal_pool.specs.Claims.{AreClaimsOf}
-use Rattle.steal_pool.specs.Followers.{AreFollowers}
 use Rattle.steal_pool.specs.Seats.{IsReady, IsFirst}
 
 -- It is made for the plan, and its seats are those of the board of that name: the first seat, which has run no segment,

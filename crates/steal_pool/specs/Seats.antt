@@ -4,8 +4,8 @@ use Rattle.job_base.specs.declared.JobId.{JobId}
 use Rattle.frame_core.specs.declared.plan.Plan.{Plan}
 use Rattle.frame_core.specs.Know.{Know, begun, is_of, less_once}
 use Rattle.frame_core.specs.Names.{job_pieces}
+use Rattle.piece_claims.specs.Followers.{times}
 use Rattle.steal_pool.specs.declared.place.Place.{Place}
-use Rattle.steal_pool.specs.Followers.{times}
 
 -- It may open no piece. Who may open the pieces of a job and may open none any more has opened them all.
 abbrev pub MayOpenNone : Know → Type 0

@@ -1,12 +1,11 @@
 // What the workers of a run share.
 
-use crate::claims::Claims;
-use crate::followers::Followers;
 use crossbeam_deque::Stealer;
 use crossbeam_utils::atomic::AtomicCell;
 use frame_core::Plan;
 use idle_workers::IdleWorkers;
 use job_base::JobId;
+use piece_claims::{Claims, Followers};
 
 /// What all workers of a room share.
 #[derive(Drop)]

@@ -85,6 +85,15 @@ pub struct SegmentRun<S> {
     pub traps: Report,
 }
 
+/// What segments came to while their lines were said.
+#[derive(Drop)]
+pub struct Said {
+    /// A write failed.
+    pub failed: bool,
+    /// How many statements were refused.
+    pub refused: u64,
+}
+
 fn run_segment_as<B: Board, K: Holding, S: Sink>(
     plan: &Plan,
     board: &B,
@@ -92,13 +101,12 @@ fn run_segment_as<B: Board, K: Holding, S: Sink>(
     i: u32,
     out: &mut Outgoing,
     sink: &mut S,
-    failed: &mut bool,
-    refused: &mut u64,
+    said: &mut Said,
 ) -> SegmentRun<B::Seat>
     requires plan { plan.now ≡ B.plan board.now }
     requires well { IsWellOrderedPlan plan.now }
     requires index { i < length plan.now.segments.items }
-    requires few { refused.old + segment_refused plan.now i < 2 ^ 64 }
+    requires few { said.old.refused + segment_refused plan.now i < 2 ^ 64 }
     requires is { K.piece ≡ job_pieces plan.now + i }
     requires name { B.name board.now ≡ K.name }
     requires home { B.home seat ≡ K.name }
@@ -110,14 +118,22 @@ fn run_segment_as<B: Board, K: Holding, S: Sink>(
     ensures home { B.home result.seat ≡ B.home seat }
     ensures still { IsStill (B.know seat) (B.know result.seat) }
     ensures cells { (B.know result.seat).cells ≡ segment_cells plan.now i }
-    ensures text { SaysTo S.taken S.faults sink.old out.old failed.old sink.new out.new failed.new
+    ensures text { SaysTo S.taken S.faults sink.old out.old said.old.failed sink.new out.new said.new.failed
         (segment_lines plan.now i) }
     ensures later { S.faults sink.old ≤ S.faults sink.new }
-    ensures refused { refused.new ≡ refused.old + segment_refused plan.now i }
+    ensures refused { said.new.refused ≡ said.old.refused + segment_refused plan.now i }
     ensures traps { i + 1 ≡ length plan.now.segments.items → IsReportOf (plan_traps plan.now) result.traps }
 {
     let mut lease: Lease<B, K> = Lease::over(board, seat);
-    let traps = run_segment(plan, i, &mut lease, out, sink, failed, refused);
+    let traps = run_segment(
+        plan,
+        i,
+        &mut lease,
+        out,
+        sink,
+        &mut said.failed,
+        &mut said.refused,
+    );
     SegmentRun {
         seat: lease.into_seat(),
         traps,
@@ -132,24 +148,23 @@ pub fn run_segment_leased<B: Board, S: Sink>(
     i: u32,
     out: &mut Outgoing,
     sink: &mut S,
-    failed: &mut bool,
-    refused: &mut u64,
+    said: &mut Said,
 ) -> SegmentRun<B::Seat>
     requires plan { plan.now ≡ B.plan board.now }
     requires well { IsWellOrderedPlan plan.now }
     requires index { i < length plan.now.segments.items }
-    requires few { refused.old + segment_refused plan.now i < 2 ^ 64 }
+    requires few { said.old.refused + segment_refused plan.now i < 2 ^ 64 }
     requires home { B.home seat ≡ B.name board.now }
     requires lease { (B.know seat).lease ≡ Some (job_pieces plan.now + i) }
     requires cells { (B.know seat).cells ≡ before_piece plan.now (OfScript i) }
     ensures home { B.home result.seat ≡ B.home seat }
     ensures still { IsStill (B.know seat) (B.know result.seat) }
     ensures cells { (B.know result.seat).cells ≡ segment_cells plan.now i }
-    ensures text { SaysTo S.taken S.faults sink.old out.old failed.old sink.new out.new failed.new
+    ensures text { SaysTo S.taken S.faults sink.old out.old said.old.failed sink.new out.new said.new.failed
         (segment_lines plan.now i) }
     ensures later { S.faults sink.old ≤ S.faults sink.new }
-    ensures refused { refused.new ≡ refused.old + segment_refused plan.now i }
+    ensures refused { said.new.refused ≡ said.old.refused + segment_refused plan.now i }
     ensures traps { i + 1 ≡ length plan.now.segments.items → IsReportOf (plan_traps plan.now) result.traps }
 {
-    run_segment_as::<B, Brand, S>(plan, board, seat, i, out, sink, failed, refused)
+    run_segment_as::<B, Brand, S>(plan, board, seat, i, out, sink, said)
 }

@@ -2,7 +2,7 @@
 ghost use Rattle.std.specs.Prelude.{◌≡◌, ◌<◌};
 ghost use Rattle.frame_core.specs.Ordered.{IsWellOrderedPlan};
 ghost use Rattle.steal_pool.specs.Crews.{IsCrewOf};
-ghost use Rattle.plan_run.specs.ScriptOrder.{IsJobOf};
+ghost use Rattle.frame_core.specs.Names.{IsJobOf};
 ghost use Rattle.steal_pool.specs.Seats.{IsIdle, IsOn};
 
 use crate::crew::{Crew, Shared};

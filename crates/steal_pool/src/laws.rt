@@ -1,5 +1,4 @@
 //! Laws over the definitions. A function here does nothing: its contract is the law.
-ghost use Rattle.steal_pool.specs.Claims.{PiecesAreGivenOnce, SeenPiecesAreGiven};
 ghost use Rattle.steal_pool.specs.Laws.{RoomsAreReady};
 ghost use Rattle.steal_pool.specs.Sections.{ReportsAreWithin};
 
@@ -13,14 +12,4 @@ pub fn rooms_are_ready<B: Board>()
 /// The counts of a report are bounded by its plan, and its first trap is of a job of the plan.
 pub fn reports_are_within()
     ensures { ReportsAreWithin }
-{}
-
-/// No piece of a job is given to two workers: of the tokens by which pieces are given, no two have one.
-pub fn pieces_are_given_once()
-    ensures { PiecesAreGivenOnce }
-{}
-
-/// What a worker saw given of a job is given: each of these pieces is some token's.
-pub fn seen_pieces_are_given()
-    ensures { SeenPiecesAreGiven }
 {}

@@ -3,24 +3,20 @@
 //! The script thread runs the segments one after another ([`plan_run`]). While it waits for jobs it helps: like every
 //! worker it takes an open job from its own deque, the newest first, or steals the oldest one of another's, and offers
 //! it again where it has more pieces than those that it runs then. It goes on with this job, claim by claim, until all
-//! pieces are given out. A claim is of one piece, of up to sixteen where pieces are small and enough are left for the
-//! other workers, and of all that are left where these are little work (some 10 µs, and no loops). Who runs which piece
-//! and when says nothing of what is printed: the board gives each piece the cells of the run in script order. So what
-//! [`run`] promises is proved of the first seat alone.
+//! pieces are given out. Each is given once, and up to sixteen small ones, or all that are little work, in one claim
+//! ([`piece_claims`]). Who runs which piece and when says nothing of what is printed: the board gives each piece the
+//! cells of the run in script order. So what [`run`] promises is proved of the first seat alone.
 //!
-//! **Cost.** A claim costs a load and an exchange of its job's count, one exchange more for each worker that was
-//! quicker, and a visit of the job ([`piece_run`]); a piece costs the steps of its board and its indexes. A job costs
-//! one push and one pop or steal for each worker that comes to it, and a step for each job that depends on it. Nothing
-//! is allocated, locked or scanned for a piece or a job. A deque has 24 bytes for each of two pushes a job, so a plan
-//! of 4,096 jobs takes 0.2 MB a worker. A worker without a piece looks at each deque some ten times, backing off, and
-//! then sleeps ([`idle_workers`]), until a job is offered that nobody looks for; to see whether such a wake-up is
-//! needed costs one load a job. A plan without pieces of jobs, or with one place, starts no thread.
+//! **Cost.** A claim costs its steps at the job's count and a visit of the job ([`piece_run`]); a piece costs the steps
+//! of its board and its indexes. A job costs one push and one pop or steal for each worker that comes to it, and a step
+//! for each job that depends on it. Nothing is allocated, locked or scanned for a piece or a job. A deque has 24 bytes
+//! for each of two pushes a job, so a plan of 4,096 jobs takes 0.2 MB a worker. A worker without a piece looks at each
+//! deque some ten times, backing off, and then sleeps ([`idle_workers`]), until a job is offered that nobody looks for;
+//! to see whether such a wake-up is needed costs one load a job. A plan without pieces of jobs, or with one place,
+//! starts no thread.
 //!
 //! **What is said is seen.** Before the script thread waits for a job that isn't finished, the lines that wait in the
 //! run's buffer are written.
-//!
-//! **Each piece is given once.** The counts are words under a rule (`specs/Given`): pieces are given by tokens, no two
-//! tokens have one piece, and who is refused a piece of a job learns that all of them are given ([`laws`]).
 //!
 //! **By turns.** Where the caller has threads of his own, as an engine has, they are the workers ([`Turns`]): a call
 //! runs one piece or one segment at most, and returns. None waits, sleeps, wakes or starts a thread, so a library that
@@ -42,9 +38,7 @@
 //! itself.
 #![tactic(auto)]
 
-mod claims;
 mod crew;
-mod followers;
 mod held;
 mod idling;
 pub mod laws;
@@ -58,7 +52,6 @@ mod shown_plan;
 mod standing;
 mod threads;
 mod turns;
-mod view;
 mod waiting;
 mod whole;
 

@@ -1,25 +1,23 @@
 // Pieces of jobs: opening them, running one, and what follows when a job is finished.
 ghost use Rattle.std.specs.Prelude.{◌≡◌, ◌+◌, ◌<◌, ◌≤◌, ℕ, suc, Some, None, IfSome, length, All};
 ghost use Rattle.frame_core.specs.declared.piece.Piece.TheVariants.{OfJob};
-ghost use Rattle.frame_core.specs.Names.{job_pieces};
+ghost use Rattle.frame_core.specs.Names.{job_pieces, IsJobOf};
 ghost use Rattle.frame_core.specs.Ordered.{IsWellOrderedPlan};
 ghost use Rattle.frame_core.specs.Pieces.{IsPieceOf, number_of};
-ghost use Rattle.steal_pool.specs.Claims.{AreClaimsOf, IsGiven};
+ghost use Rattle.piece_claims.specs.Claims.{AreClaimsOf, IsGiven};
+ghost use Rattle.piece_claims.specs.Followers.{AreFollowers, followers_of};
 ghost use Rattle.piece_run.specs.Visits.{IsVisitOf};
-ghost use Rattle.plan_run.specs.ScriptOrder.{IsJobOf};
-ghost use Rattle.steal_pool.specs.Followers.{AreFollowers, followers_of};
 ghost use Rattle.steal_pool.specs.Crews.{IsCrewOf};
 ghost use Rattle.steal_pool.specs.Seats.{IsIdle, IsOn, IsSteady, IsReleased, MayOpenFrom, MayOpenNone, HasDues};
 
-use crate::claims::{Claimed, Claims};
 use crate::crew::{Crew, Shared};
-use crate::followers::Followers;
 use crate::held::run_piece_leased;
 use crate::idling::Waking;
 use crate::place::Tools;
 use crate::queue::Queue;
 use frame_core::{Board, Plan};
 use job_base::{Gate, JobId, PieceId};
+use piece_claims::{Claimed, Claims, Followers};
 use piece_run::{JobVisit, visit_job};
 
 // Opens the pieces of a job.

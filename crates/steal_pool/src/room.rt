@@ -4,14 +4,13 @@ ghost use Rattle.job_base.specs.declared.limits.TheConstants.{MOST_WORKERS};
 ghost use Rattle.frame_core.specs.Ordered.{IsWellOrderedPlan};
 ghost use Rattle.steal_pool.specs.Rooms.{HasSeats};
 
-use crate::claims::Claims;
 use crate::crew::Shared;
-use crate::followers::Followers;
 use crate::place::Place;
 use crossbeam_utils::atomic::AtomicCell;
 use frame_core::Plan;
 use idle_workers::IdleWorkers;
 use job_base::NoMemory;
+use piece_claims::{Claims, Followers};
 use std::alloc::Global;
 
 /// What the workers of a run have: a place for each, the first one that of the script thread, and what they share. A

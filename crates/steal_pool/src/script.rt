@@ -6,12 +6,12 @@ ghost use Rattle.frame_core.specs.Output.{plan_lines, plan_traps, segment_lines,
 ghost use Rattle.frame_core.specs.Ordered.{IsWellOrderedPlan};
 ghost use Rattle.plan_run.specs.Runs.{RunsBetween};
 ghost use Rattle.plan_run.specs.Says.{SaysTo};
-ghost use Rattle.plan_run.specs.ScriptOrder.{IsJobOf};
+ghost use Rattle.frame_core.specs.Names.{IsJobOf};
 ghost use Rattle.steal_pool.specs.Crews.{IsCrewOf};
 ghost use Rattle.steal_pool.specs.Seats.{IsIdle, IsOn, IsAt, IsBegun, MayOpenNone};
 
 use crate::crew::Crew;
-use crate::held::{SegmentRun, run_segment_leased};
+use crate::held::{Said, SegmentRun, run_segment_leased};
 use crate::idling::leave_search;
 use crate::pieces::release_job;
 use crate::place::Tools;
@@ -55,21 +55,20 @@ pub fn run_begun<R, B: Board, S: Sink, G: Gate>(
     seat: B::Seat,
     out: &mut Outgoing,
     sink: &mut S,
-    failed: &mut bool,
-    refused: &mut u64,
+    said: &mut Said,
     i: u32,
 ) -> SegmentRun<B::Seat>
     requires crew { IsCrewOf crew.now.plan.now (B.plan crew.now.board.now) crew.now.shared.now }
     requires home { B.home seat ≡ B.name crew.now.board.now }
     requires begun { IsBegun crew.now.plan.now i (B.know seat) }
     requires index { i < length crew.now.plan.now.segments.items }
-    requires few { refused.old + segment_refused crew.now.plan.now i < 2 ^ 64 }
+    requires few { said.old.refused + segment_refused crew.now.plan.now i < 2 ^ 64 }
     ensures home { B.home result.seat ≡ B.home seat }
     ensures at { IsAt (i + 1) (B.know result.seat) }
-    ensures text { SaysTo S.taken S.faults sink.old out.old failed.old sink.new out.new failed.new
+    ensures text { SaysTo S.taken S.faults sink.old out.old said.old.failed sink.new out.new said.new.failed
         (segment_lines crew.now.plan.now i) }
     ensures later { S.faults sink.old ≤ S.faults sink.new }
-    ensures refused { refused.new ≡ refused.old + segment_refused crew.now.plan.now i }
+    ensures refused { said.new.refused ≡ said.old.refused + segment_refused crew.now.plan.now i }
     ensures traps { i + 1 ≡ length crew.now.plan.now.segments.items
         → IsReportOf (plan_traps crew.now.plan.now) result.traps }
 {
@@ -81,7 +80,7 @@ pub fn run_begun<R, B: Board, S: Sink, G: Gate>(
     let SegmentRun {
         seat: mut own,
         traps,
-    } = run_segment_leased(plan, board, seat, i, out, sink, failed, refused);
+    } = run_segment_leased(plan, board, seat, i, out, sink, said);
     crew.gate.leave(tools.number, piece);
     board.end(&mut own);
     start_job(plan, board, &mut own, &mut tools.queue, segment.starts);
@@ -95,21 +94,20 @@ fn run_next_segment<R: Wait, B: Board, S: Sink, G: Gate>(
     seat: B::Seat,
     out: &mut Outgoing,
     sink: &mut S,
-    failed: &mut bool,
-    refused: &mut u64,
+    said: &mut Said,
     i: u32,
 ) -> SegmentRun<B::Seat>
     requires crew { IsCrewOf crew.now.plan.now (B.plan crew.now.board.now) crew.now.shared.now }
     requires home { B.home seat ≡ B.name crew.now.board.now }
     requires at { IsAt i (B.know seat) }
     requires index { i < length crew.now.plan.now.segments.items }
-    requires few { refused.old + segment_refused crew.now.plan.now i < 2 ^ 64 }
+    requires few { said.old.refused + segment_refused crew.now.plan.now i < 2 ^ 64 }
     ensures home { B.home result.seat ≡ B.home seat }
     ensures at { IsAt (i + 1) (B.know result.seat) }
-    ensures text { SaysTo S.taken S.faults sink.old out.old failed.old sink.new out.new failed.new
+    ensures text { SaysTo S.taken S.faults sink.old out.old said.old.failed sink.new out.new said.new.failed
         (segment_lines crew.now.plan.now i) }
     ensures later { S.faults sink.old ≤ S.faults sink.new }
-    ensures refused { refused.new ≡ refused.old + segment_refused crew.now.plan.now i }
+    ensures refused { said.new.refused ≡ said.old.refused + segment_refused crew.now.plan.now i }
     ensures traps { i + 1 ≡ length crew.now.plan.now.segments.items
         → IsReportOf (plan_traps crew.now.plan.now) result.traps }
 {
@@ -117,10 +115,18 @@ fn run_next_segment<R: Wait, B: Board, S: Sink, G: Gate>(
     let board = crew.board;
     let segment = &plan.segments[i as usize];
     let piece = PieceId(plan.job_pieces() + i);
-    let mut own = wait_all(crew, tools, seat, &segment.waits, out, sink, failed);
+    let mut own = wait_all(
+        crew,
+        tools,
+        seat,
+        &segment.waits,
+        out,
+        sink,
+        &mut said.failed,
+    );
     board.open_piece(&mut own, piece);
     let own = begin_opened(crew.rt, board, own, piece);
-    let run = run_begun(crew, tools, own, out, sink, failed, refused, i);
+    let run = run_begun(crew, tools, own, out, sink, said, i);
     leave_search(crew.shared, tools);
     run
 }
@@ -149,25 +155,20 @@ pub fn run_script_thread<R: Wait, B: Board, S: Sink, G: Gate>(
     ensures later { S.faults sink.old ≤ S.faults sink.new }
 {
     let mut own = seat;
-    let mut failed = false;
-    let mut refused = 0u64;
+    let mut said = Said {
+        failed: false,
+        refused: 0,
+    };
     let mut last = no_traps();
     for i in 0..crew.plan.segments.len() as u32 {
         let SegmentRun { seat: next, traps } = run_next_segment(
-            crew,
-            tools,
-            own,
-            out,
-            sink,
-            &mut failed,
-            &mut refused,
-            i,
+            crew, tools, own, out, sink, &mut said, i,
         );
         own = next;
         last = traps;
     }
     ScriptRun {
         seat: own,
-        end: RunEnd::of(failed, with_refused(&last, refused)),
+        end: RunEnd::of(said.failed, with_refused(&last, said.refused)),
     }
 }

@@ -2,15 +2,18 @@
 ghost use Rattle.std.specs.Prelude.{◌≡◌, ◌<◌, ◌≤◌, All, length};
 ghost use Rattle.std.specs.Thread.{IsSync};
 ghost use Rattle.job_base.specs.declared.limits.TheConstants.{MOST_WORKERS};
+ghost use Rattle.frame_core.specs.Ordered.{IsWellOrderedPlan};
 ghost use Rattle.frame_core.specs.Output.{plan_lines};
 ghost use Rattle.plan_run.specs.Runs.{RunsBetween};
 ghost use Rattle.steal_pool.specs.Crews.{IsCrewOf};
+ghost use Rattle.steal_pool.specs.Rooms.{IsRoomOf, IsRunRoom};
 ghost use Rattle.steal_pool.specs.Seats.{IsReady, IsFirst};
 
 use crate::crew::{Crew, Shared};
 use crate::idling::{Sleepers, end_workers, leave_search, pause};
 use crate::pieces::{Turn, help};
 use crate::place::Place;
+use crate::room::PoolRoom;
 use crate::script::{ScriptRun, run_script_thread};
 use crate::shown_plan::ShowsPlan;
 use crossbeam_utils::Backoff;
@@ -65,37 +68,27 @@ where
 
 // The script, on its place. At its end it lets the workers go.
 fn run_script_on<R: Wait, B: Board, S: Sink, G: Gate>(
-    rt: &R,
-    plan: &Plan,
-    board: &B,
-    gate: &G,
-    shared: &Shared,
+    crew: &Crew<R, B, G>,
     place: &mut Place<B::Seat>,
     out: &mut Outgoing,
     sink: &mut S,
 ) -> RunEnd
 where
     B::Seat: Drop,
-    requires crew { IsCrewOf plan.now (B.plan board.now) shared.now }
-    requires first { IsFirst B.home B.know (B.name board.now) 0 place.old }
-    ensures first { IsFirst B.home B.know (B.name board.now) (length plan.now.segments.items) place.new }
-    ensures run { RunsBetween S.taken S.faults plan.now (plan_lines plan.now)
+    requires crew { IsCrewOf crew.now.plan.now (B.plan crew.now.board.now) crew.now.shared.now }
+    requires first { IsFirst B.home B.know (B.name crew.now.board.now) 0 place.old }
+    ensures first { IsFirst B.home B.know (B.name crew.now.board.now) (length crew.now.plan.now.segments.items)
+        place.new }
+    ensures run { RunsBetween S.taken S.faults crew.now.plan.now (plan_lines crew.now.plan.now)
         sink.old out.old sink.new out.new result }
     ensures later { S.faults sink.old ≤ S.faults sink.new }
 {
-    let crew = Crew {
-        rt,
-        plan,
-        board,
-        gate,
-        shared,
-    };
     let Some(seat) = place.seat.take() else {
         unreachable!()
     };
-    let ScriptRun { seat: own, end } = run_script_thread(&crew, &mut place.tools, seat, out, sink);
+    let ScriptRun { seat: own, end } = run_script_thread(crew, &mut place.tools, seat, out, sink);
     place.seat = Some(own);
-    end_workers(shared);
+    end_workers(crew.shared);
     end
 }
 
@@ -144,28 +137,34 @@ pub(crate) fn run_places<
     plan: &'x P,
     board: &'x B,
     gate: &'x G,
-    shared: &'x Shared,
+    room: &'x mut PoolRoom<B::Seat>,
     out: &mut Outgoing,
     sink: &mut S,
-    first: &mut Place<B::Seat>,
-    others: &mut [Place<B::Seat>],
 ) -> RunEnd
 where
     B::Seat: Send + Drop,
-    requires crew { IsCrewOf (P.shown plan.now) (B.plan board.now) shared.now }
-    requires first { IsFirst B.home B.know (B.name board.now) 0 first.old }
-    requires others { All (IsReady B.home B.know (B.name board.now)) others.old }
-    requires many { length others.old < MOST_WORKERS }
-    ensures first { IsFirst B.home B.know (B.name board.now) (length (P.shown plan.now).segments.items) first.new }
+    requires plan { P.shown plan.now ≡ B.plan board.now }
+    requires well { IsWellOrderedPlan (P.shown plan.now) }
+    requires room { IsRoomOf B.home B.know (P.shown plan.now) (B.name board.now) room.old }
+    ensures room { IsRunRoom B.home B.know (P.shown plan.now) (B.name board.now) room.new }
     ensures run { RunsBetween S.taken S.faults (P.shown plan.now) (plan_lines (P.shown plan.now))
         sink.old out.old sink.new out.new result }
     ensures later { S.faults sink.old ≤ S.faults sink.new }
 {
-    let busy = others.len().min(plan.plan().job_pieces() as usize);
+    let shared = &room.shared;
+    let first = &mut room.first;
+    let busy = room.others.len().min(plan.plan().job_pieces() as usize);
     if busy == 0 {
-        return run_script_on(rt, plan.plan(), board, gate, shared, first, out, sink);
+        let crew = Crew {
+            rt,
+            plan: plan.plan(),
+            board,
+            gate,
+            shared,
+        };
+        return run_script_on(&crew, first, out, sink);
     }
-    let workers = &mut others[..busy];
+    let workers = &mut room.others[..busy];
     let mut f = ||
         requires { IsSync R.row
             × IsCrewOf (P.shown plan.now) (B.plan board.now) shared.now
@@ -180,7 +179,16 @@ where
         ensures run { RunsBetween S.taken S.faults (P.shown plan.entry.now) (plan_lines (P.shown plan.entry.now))
             sink.entry.now out.entry.now sink.exit.now out.exit.now result }
         ensures later { S.faults sink.entry.now ≤ S.faults sink.exit.now }
-    { run_script_on(rt, plan.plan(), board, gate, shared, first, out, sink) };
+    {
+        let crew = Crew {
+            rt,
+            plan: plan.plan(),
+            board,
+            gate,
+            shared,
+        };
+        run_script_on(&crew, first, out, sink)
+    };
     let (_, end) = join_mut(rt, &mut f, &mut g);
     end
 }

@@ -1,17 +1,16 @@
 // A run by turns: each call does a little and returns, so that the caller's own threads are the workers.
 ghost use Rattle.std.specs.Prelude.{◌≡◌, ◌<◌, ◌≤◌, ◌+◌, ◌↔◌, ◌⊎◌, ℕ, List, [], true, IsTrue, length};
-ghost use Rattle.frame_core.specs.Names.{has_job, segment_at, waits_in};
+ghost use Rattle.frame_core.specs.Names.{has_job, segment_at, waits_in, IsJobOf};
 ghost use Rattle.frame_core.specs.Output.{plan_lines};
 ghost use Rattle.frame_core.specs.Know.{Know};
 ghost use Rattle.plan_run.specs.Runs.{IsReport, RunsBetween, is_fault, report_of};
 ghost use Rattle.plan_run.specs.Says.{SaysTo};
-ghost use Rattle.plan_run.specs.ScriptOrder.{IsJobOf};
 ghost use Rattle.steal_pool.specs.Crews.{IsCrewOf};
 ghost use Rattle.steal_pool.specs.Seats.{IsFirst, IsIdle, IsOn, IsOpenAt, IsReady};
 ghost use Rattle.steal_pool.specs.Turns.{HasSaid, IfOver, IsStanding, StandsAt, is_over};
 
 use crate::crew::{Crew, Shared};
-use crate::held::SegmentRun;
+use crate::held::{Said, SegmentRun};
 use crate::idling::NoSleepers;
 use crate::pieces::{Turn, help};
 use crate::place::{Place, Tools};
@@ -184,16 +183,13 @@ where
             gate: self.gate,
             shared: self.shared,
         };
-        let SegmentRun { seat: own, traps } = run_begun(
-            &crew,
-            tools,
-            own,
-            out,
-            sink,
-            &mut at.failed,
-            &mut at.refused,
-            i,
-        );
+        let mut said = Said {
+            failed: at.failed,
+            refused: at.refused,
+        };
+        let SegmentRun { seat: own, traps } = run_begun(&crew, tools, own, out, sink, &mut said, i);
+        at.failed = said.failed;
+        at.refused = said.refused;
         at.segment = i + 1;
         at.waited = 0;
         at.opened = false;

@@ -1,11 +1,10 @@
 // Waiting for others: the script thread helps meanwhile.
 ghost use Rattle.std.specs.Prelude.{◌≡◌, ◌<◌, ◌≤◌, ℕ, [], true, All};
-ghost use Rattle.frame_core.specs.Names.{has_job};
+ghost use Rattle.frame_core.specs.Names.{has_job, IsJobOf};
 ghost use Rattle.frame_core.specs.Pieces.{piece_numbered};
 ghost use Rattle.frame_core.specs.Know.{IsFree, MayBegin, begun, piece_count};
 ghost use Rattle.frame_core.specs.Ordered.{IsWellOrderedPlan};
 ghost use Rattle.plan_run.specs.Says.{SaysTo};
-ghost use Rattle.plan_run.specs.ScriptOrder.{IsJobOf};
 ghost use Rattle.steal_pool.specs.Crews.{IsCrewOf};
 ghost use Rattle.steal_pool.specs.Seats.{IsIdle, IsOn};
 

@@ -42,17 +42,7 @@ where
         sink.old out.old sink.new out.new result }
     ensures sink_later { S.faults sink.old ≤ S.faults sink.new }
 {
-    run_places(
-        rt,
-        plan,
-        board,
-        gate,
-        &room.shared,
-        out,
-        sink,
-        &mut room.first,
-        &mut room.others,
-    )
+    run_places(rt, plan, board, gate, room, out, sink)
 }
 
 /// Runs a plan and writes its output: its lines, and where it has traps the two lines of those. Nothing waits before

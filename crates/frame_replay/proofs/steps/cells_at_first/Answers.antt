@@ -1,6 +1,6 @@
 use Rattle.std.proofs.Common.{◌≡◌, ◌≤◌, length, arith, rules}
 use Rattle.job_base.specs.Cells.{cells_of}
-use Rattle.frame_replay.proofs.Filling.{filled_up}
+use Rattle.frame_core.proofs.Filling.{filled_up}
 use Rattle.frame_replay.proofs.Runs.{first_cells}
 use Rattle.frame_replay.proofs.steps.cells_at_first.Goals as goal
 

@@ -1,6 +1,6 @@
 use Rattle.std.proofs.Common.{◌≡◌, ◌≤◌, length, ap, ◌∙◌, arith, rules}
 use Rattle.job_base.specs.Cells.{cells_of}
-use Rattle.plan_run.proofs.Filling.{filled_up}
+use Rattle.frame_core.proofs.Filling.{filled_up}
 use Rattle.plan_run.proofs.fresh.fresh_cells.Goals as goal
 
 pub returns-clause-fresh : goal.returns-clause-fresh

@@ -31,7 +31,7 @@ run_begun-run-requires-clause-begun g c =
 
 pub returns-clause-text : goal.returns-clause-text
 returns-clause-text g c =
-    says_after (said_to g.S.Sink.taken g.S.Sink.faults c.args.sink.now c.args.out.now c.args.failed.now)
+    says_after (said_to g.S.Sink.taken g.S.Sink.faults c.args.sink.now c.args.out.now c.args.said.now.failed)
     (said_to g.S.Sink.taken g.S.Sink.faults c.wait_all-own.new.sink c.wait_all-own.new.out c.wait_all-own.new.failed)
-    (said_to g.S.Sink.taken g.S.Sink.faults c.run_begun-run.new.sink c.run_begun-run.new.out c.run_begun-run.new.failed) []
+    (said_to g.S.Sink.taken g.S.Sink.faults c.run_begun-run.new.sink c.run_begun-run.new.out c.run_begun-run.new.said.failed) []
     (segment_lines c.args.crew.now.plan.now c.args.i) c.wait_all-own.ensures.text c.run_begun-run.ensures.text

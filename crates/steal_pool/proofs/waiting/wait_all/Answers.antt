@@ -1,5 +1,5 @@
 use Rattle.std.proofs.Common.{[], ◌∙◌, arith}
-use Rattle.plan_run.specs.ScriptOrder.{IsJobOf}
+use Rattle.frame_core.specs.Names.{IsJobOf}
 use Rattle.plan_run.specs.Says.{said_to}
 use Rattle.plan_run.proofs.Saying.{says_after}
 use Rattle.plan_run.proofs.InOps.{all_tail}

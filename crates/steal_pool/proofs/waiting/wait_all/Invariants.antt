@@ -1,6 +1,6 @@
 use Rattle.std.proofs.Common.{◌≡◌, ◌≤◌, [], All, length}
 use Rattle.plan_run.specs.Says.{SaysTo}
-use Rattle.plan_run.specs.ScriptOrder.{IsJobOf}
+use Rattle.frame_core.specs.Names.{IsJobOf}
 use Rattle.steal_pool.specs.Seats.{IsIdle, IsOn}
 use Rattle.steal_pool.proofs.Seating.{Waits}
 use Rattle.steal_pool.proofs.waiting.wait_all.Given as goal

@@ -11,5 +11,5 @@ pub returns-clause-said : goal.returns-clause-said
 returns-clause-said g c first waited old =
     lines_next c.args.self.now.plan.now (said_to g.S.Sink.taken g.S.Sink.faults first waited false)
     (said_to g.S.Sink.taken g.S.Sink.faults c.args.sink.now c.args.out.now c.args.at.now.failed)
-    (said_to g.S.Sink.taken g.S.Sink.faults c.run_begun-own.new.sink c.run_begun-own.new.out c.run_begun-own.new.failed) c.args.at.now.segment
+    (said_to g.S.Sink.taken g.S.Sink.faults c.run_begun-own.new.sink c.run_begun-own.new.out c.run_begun-own.new.said.failed) c.args.at.now.segment
     old c.run_begun-own.ensures.text

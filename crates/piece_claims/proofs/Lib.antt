@@ -1,0 +1,7 @@
+pub mod Listed
+mod Placing
+mod Counting
+mod Following
+pub mod Opening
+mod Giving
+mod Claiming

@@ -1,0 +1,4 @@
+-- promises
+pub mod Claims
+pub mod Followers
+pub mod Given

@@ -1,5 +1,0 @@
-use Rattle.steal_pool.proofs.Claiming as all
-use Rattle.steal_pool.proofs.laws.pieces_are_given_once.Goals as goal
-
-pub returns : goal.returns
-returns c = all.pieces_are_given_once
