@@ -27,11 +27,11 @@ use Rattle.plan_laws.specs.Binds.{bind_of_container, start_at}
 use Rattle.plan_laws.specs.Drafts.{Draft, cells_of}
 use Rattle.plan_laws.specs.Enrolling.{IsOfArgument}
 use Rattle.plan_laws.specs.Planned.{Outline}
-use Rattle.plan_laws.proofs.AtHand as at_hand
-use Rattle.plan_laws.proofs.AtHand.{IsAtHand}
-use Rattle.plan_laws.proofs.LeftWords.{argument_word, any_by, writes_by}
+use Rattle.plan_laws.proofs.Schedules.AtHand as at_hand
+use Rattle.plan_laws.proofs.Schedules.AtHand.{IsAtHand}
+use Rattle.plan_laws.proofs.Schedules.LeftWords.{argument_word, any_by, writes_by}
 use Rattle.plan_laws.proofs.Owners.{word_has}
-use Rattle.plan_laws.proofs.Uses.{argument_used, argument_written, list_used}
+use Rattle.plan_laws.proofs.Schedules.Uses.{argument_used, argument_written, list_used}
 use Rattle.defer_laws.specs.Deferring.{capacity_of, guarded_kernel, Guards, GuardedKernelsStandIn}
 use Rattle.defer_laws.specs.GuardedRuns.{word_at}
 use Rattle.defer_laws.proofs.GuardFitting as guard

@@ -24,7 +24,7 @@ use Rattle.merge_laws.specs.Graph.{Cells}
 use Rattle.frame_core.proofs.Small.{not_both, some_is, none_some, get_before, get_below, get_either}
 use Rattle.tree_laws.specs.Same.{SameParam, Pairwise}
 use Rattle.defer_laws.specs.GuardedRuns.{word_at}
-use Rattle.plan_laws.proofs.ArgumentBinds.{wrote}
+use Rattle.plan_laws.proofs.Schedules.ArgumentBinds.{wrote}
 
 -- ---- one more bind
 

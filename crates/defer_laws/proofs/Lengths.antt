@@ -29,13 +29,13 @@ use Rattle.plan_laws.specs.Accepting.{Schedule, argument_binds}
 use Rattle.plan_laws.specs.Binds.{bind_of, bind_as, bind_by, array_for, start_at}
 use Rattle.plan_laws.specs.Drafts.{Draft, cells_of}
 use Rattle.plan_laws.specs.Planned.{Outline, jobs_before, IsPlanned}
-use Rattle.plan_laws.proofs.AtHand as at_hand
-use Rattle.plan_laws.proofs.AtHand.{IsAtHand}
-use Rattle.plan_laws.proofs.LeftWords.{argument_word}
-use Rattle.plan_laws.proofs.Making.{alive_is_live}
+use Rattle.plan_laws.proofs.Schedules.AtHand as at_hand
+use Rattle.plan_laws.proofs.Schedules.AtHand.{IsAtHand}
+use Rattle.plan_laws.proofs.Schedules.LeftWords.{argument_word}
+use Rattle.plan_laws.proofs.Statements.Making.{alive_is_live}
 use Rattle.plan_laws.proofs.Owners.{words_apart, word_has}
 use Rattle.defer_laws.specs.Deferring.{capacity_of}
-use Rattle.plan_laws.proofs.LeftWords.{written_use, no_length}
+use Rattle.plan_laws.proofs.Schedules.LeftWords.{written_use, no_length}
 
 -- ---- a list
 

@@ -28,7 +28,7 @@ use Rattle.frame_core.specs.Effects.{params_in, part_touches, is_last, all_own_w
 use Rattle.frame_core.specs.Ordered.{OpFits, AreJobsFitting, AreOpsFitting}
 use Rattle.frame_core.specs.Framed.{Frames, PartsKeepToTouches}
 use Rattle.frame_core.proofs.Small.{not_both, or_false_left, or_false_right}
-use Rattle.frame_core.proofs.Touching.{reads_append, writes_append, has_it, read_touched, written_touched}
+use Rattle.frame_core.proofs.Extents.Touching.{reads_append, writes_append, has_it, read_touched, written_touched}
 use Rattle.frame_core.proofs.Acting.{AllFit, ops_keep, ops_same}
 
 -- OWN WORDS

@@ -25,7 +25,7 @@ use Rattle.frame_core.specs.Rights.{MayReadIn, MayWriteIn}
 use Rattle.kernel_exec.specs.Notes.{IsNoteOf}
 use Rattle.frame_core.specs.Ordered.{IsWellOrderedPlan}
 use Rattle.frame_core.proofs.Small.{some_is, get_below}
-use Rattle.frame_core.proofs.Touching.{has_it, read_touched, written_touched}
+use Rattle.frame_core.proofs.Extents.Touching.{has_it, read_touched, written_touched}
 use Rattle.frame_core.proofs.Numbered.{pieces_within, pieces_next, part_numbered}
 
 module _ (plan : Plan) (well : IsWellOrderedPlan plan) (j i : ℕ) (x : JobPlan) (k : Kernel) (hx : job_at plan j ≡ Some x) (hk : kernel_of plan x ≡ Some k) where

@@ -14,7 +14,7 @@ use Rattle.frame_core.specs.Names.{job_at, kernel_of, pieces_of}
 use Rattle.frame_core.specs.Graphs.{piece_at, touches_at, cells_at, graph_of}
 use Rattle.frame_core.specs.Ordered.{IsSized, AreJobsFitting, IsWellOrderedPlan}
 use Rattle.frame_core.specs.Laws.{PlansMeetTheLaws, PiecesAreNamed, PredecessorsAreOfFourKinds}
-use Rattle.frame_core.proofs.Touching.{writes_read}
+use Rattle.frame_core.proofs.Extents.Touching.{writes_read}
 use Rattle.frame_core.proofs.Framing.{piece_frames}
 use Rattle.frame_core.specs.Framed.{Frames, PiecesKeepToTouches}
 use Rattle.frame_core.proofs.Orders.{at_place, piece_is_at}

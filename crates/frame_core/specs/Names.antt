@@ -1,5 +1,5 @@
 -- What the numbers in a plan name.
-use Rattle.std.specs.Prelude.{ℕ, zero, suc, ◌+◌, Bool, false, ◌||◌, nat_eq, if◌then◌else◌, ℤ, List, [], ◌∷◌, ◌++◌, length, map, get_or, Option, None, Some, slice_get, string_bytes}
+use Rattle.std.specs.Prelude.{ℕ, zero, suc, ◌+◌, ◌<◌, Bool, false, ◌||◌, nat_eq, if◌then◌else◌, ℤ, List, [], ◌∷◌, ◌++◌, length, map, get_or, Option, None, Some, slice_get, string_bytes}
 use Rattle.job_base.specs.declared.JobId.{JobId}
 use Rattle.job_base.specs.declared.Span.{Span}
 use Rattle.batch_cut.specs.Cuts.{count_of, piece_of}
@@ -11,6 +11,10 @@ use Rattle.frame_core.specs.declared.plan.Plan.{Plan}
 
 -- Jobs are numbered from 1. In these definitions j is the place of a job among the plan's jobs, from 0, so its number
 -- is j + 1.
+
+-- the number of a job of the plan
+abbrev pub IsJobOf : Plan → JobId → Type 0
+IsJobOf plan id = (0 < id.0) × (id.0 < length plan.jobs.items + 1)
 
 -- whether a list of jobs has the job of that number
 abbrev pub has_job : List JobId → ℕ → Bool

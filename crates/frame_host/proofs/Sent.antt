@@ -11,6 +11,7 @@ use Rattle.frame_ast.specs.contracts.script.Script as script
 use Rattle.frame_ast.proofs.script.Statement.TheSendSync as statement
 use Rattle.kernel_bytecode.proofs.code.Code.TheSendSync as code
 use Rattle.table_in.proofs.columns.Table.TheSendSync as table
+use Rattle.frame_core.proofs.Sent.{kernel_send, kernel_sync}
 use Rattle.frame_core.proofs.plan.JobPlan.TheSendSync as job
 use Rattle.frame_core.proofs.plan.Op.TheSendSync as op
 use Rattle.frame_core.proofs.plan.Segment.TheSendSync as segment
@@ -25,7 +26,7 @@ use Rattle.steal_pool.proofs.place.Place.TheSendSync as place
 use Rattle.steal_pool.proofs.standing.Standing.TheSendSync as standing
 use Rattle.word_board.proofs.seat.WordSeat.TheSendSync as seat
 use Rattle.frame_top.specs.contracts.sections.Progress as progress
-use Rattle.frame_stage.proofs.Sent.{hold_field_send, kernel_send, kernel_sync}
+use Rattle.frame_stage.proofs.Sent.{hold_field_send}
 use Rattle.frame_host.specs.contracts.script.FrameScript as frame_script
 use Rattle.frame_host.specs.contracts.frame.Frame as frame
 use Rattle.frame_host.specs.contracts.section.FrameSection as section

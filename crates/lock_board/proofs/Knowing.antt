@@ -14,7 +14,7 @@ use Rattle.frame_core.specs.Names.{has_job, deps_in, starts_in, segment_at, piec
 use Rattle.frame_core.specs.Pieces.{piece_numbered}
 use Rattle.frame_core.specs.Effects.{touches, piece_cells}
 use Rattle.frame_core.specs.Graphs.{before_number}
-use Rattle.frame_core.proofs.Touching.{writes_read}
+use Rattle.frame_core.proofs.Extents.Touching.{writes_read}
 use Rattle.frame_core.specs.Know.{Know, begun, stored, ended, ended_piece, counted, released, opened, opened_by, found, due_once, due_after, less_once, is_of, no_cells, reads, writes}
 use Rattle.frame_core.proofs.Small.{not_both, either_bool}
 use Rattle.lock_board.specs.Rooms.{place_of, room_of, spans_of}

@@ -15,7 +15,7 @@ use Rattle.frame_core.specs.Effects.{touches}
 use Rattle.frame_core.specs.Know.{reads, writes}
 use Rattle.frame_core.specs.Pieces.{piece_numbered}
 use Rattle.frame_core.specs.Touches.{counts, has_word, hits}
-use Rattle.frame_core.proofs.Hitting.{hits_append, hits_read, hits_write}
+use Rattle.frame_core.proofs.Extents.Hitting.{hits_append, hits_read, hits_write}
 use Rattle.frame_core.proofs.Small.{either_bool, not_both}
 use Rattle.lock_board.specs.Layouts.{AreSpans}
 use Rattle.lock_board.specs.Rooms.{hull, joined_to, meet, place_in, room_of, same, size_of, spans_of, with_touch}

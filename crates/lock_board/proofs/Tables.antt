@@ -13,10 +13,10 @@ use Rattle.frame_core.specs.Pieces.{piece_numbered}
 use Rattle.frame_core.specs.Touches.{has_word, reads_in, hits}
 use Rattle.frame_core.specs.Ordered.{IsAbove, IsWellOrderedPlan}
 use Rattle.frame_core.proofs.Boards.{job_of_is}
-use Rattle.frame_core.proofs.Hitting.{hits_read}
+use Rattle.frame_core.proofs.Extents.Hitting.{hits_read}
 use Rattle.frame_core.proofs.Small.{some_is, none_some}
 use Rattle.frame_core.proofs.Starting.{started_within}
-use Rattle.frame_core.proofs.Within.{reads_stay_within}
+use Rattle.frame_core.proofs.Extents.Within.{reads_stay_within}
 use Rattle.lock_board.specs.Layouts.{AreSpans, AreWithin, AreWaits, NameJobs, AreStarts, StartJobs, job_number}
 use Rattle.lock_board.specs.Rooms.{spans_of}
 use Rattle.lock_board.proofs.Lists.{all_more}

@@ -16,11 +16,7 @@ pub mod Touching
 pub mod Starting
 pub mod Proceeding
 pub mod Framing
-pub mod Worked
-pub mod WorkedRuns
-pub mod WorkedWords
+pub mod Diamond
 pub mod Progress
 pub mod Handing
 pub mod Joining
-pub mod WorkedPlans
-pub mod WorkedBoard

@@ -18,12 +18,12 @@ use Rattle.frame_core.specs.Touches.{has_word, reads_in, writes_in, binds_touch}
 use Rattle.frame_core.specs.Effects.{touches, part_touches, params_in}
 use Rattle.frame_core.specs.Ordered.{JobFits}
 use Rattle.frame_core.proofs.Small.{not_both}
-use Rattle.frame_core.proofs.Touching.{it_has, writes_read}
+use Rattle.frame_core.proofs.Extents.Touching.{it_has, writes_read}
 use Rattle.plan_laws.specs.Drafts.{part_piece, parts}
 use Rattle.plan_laws.specs.Planned.{Outline}
 use Rattle.plan_laws.specs.Apart.{PartsAreApart}
 use Rattle.frame_core.specs.Touched.{IsBound}
-use Rattle.frame_core.proofs.Touched.{touched_words_are_used}
+use Rattle.frame_core.proofs.Extents.Touched.{touched_words_are_used}
 
 -- a piece's own word and the words of its binds
 abbrev pub job_touches : Plan → ℕ → JobPlan → Kernel → ℕ → List Touch

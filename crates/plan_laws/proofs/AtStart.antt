@@ -12,9 +12,9 @@ use Rattle.plan_laws.specs.Drafts.{empty_draft, segment_piece}
 use Rattle.plan_laws.specs.Ledgers.{Owner, Held, Own, owner, owner_live, owner_users, owner_writers}
 use Rattle.plan_laws.specs.Planned.{Outline, ledger_at, SegmentFits}
 use Rattle.plan_laws.specs.AtStart.{NothingIsPlanned}
-use Rattle.plan_laws.proofs.Completing.{All-nothing}
+use Rattle.plan_laws.proofs.Statements.Completing.{All-nothing}
 use Rattle.plan_laws.proofs.Operations.{segment_framed}
-use Rattle.plan_laws.proofs.Making.{live_below}
+use Rattle.plan_laws.proofs.Statements.Making.{live_below}
 
 and_second : (a b : Bool) → (a && b) ≡ true → b ≡ true
 and_second true b e = e

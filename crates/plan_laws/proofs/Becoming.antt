@@ -31,7 +31,7 @@ use Rattle.plan_laws.specs.Planned.{Outline, jobs_before, renumbered, AreJobsUpT
 use Rattle.plan_laws.specs.WholePlans.{turned}
 use Rattle.plan_laws.proofs.WholePlans.{length-turned}
 use Rattle.plan_laws.proofs.Closing.{output_onto-one, closed_stand-one, starts_from-one, segments_fit-one, jobs_started, length-both}
-use Rattle.plan_laws.proofs.Completing.{All-nothing}
+use Rattle.plan_laws.proofs.Statements.Completing.{All-nothing}
 use Rattle.plan_laws.proofs.Earlier.{begun_below, segment_fits, some_segment, id_of, earlier}
 use Rattle.plan_laws.proofs.Ending.{all_onto, order_more, count, are_from, cells_are, no_place, begins, lines_are_reported}
 use Rattle.plan_laws.proofs.Finishing as finished

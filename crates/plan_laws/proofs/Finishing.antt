@@ -26,7 +26,7 @@ use Rattle.frame_core.specs.Graphs.{graph_of, cells_at_first}
 use Rattle.frame_core.specs.Ordered.{ConflictsLead}
 use Rattle.frame_core.proofs.Small.{not_both, get_behind}
 use Rattle.frame_core.proofs.Starting.{started_within}
-use Rattle.frame_core.proofs.Touching.{it_has}
+use Rattle.frame_core.proofs.Extents.Touching.{it_has}
 use Rattle.plan_laws.specs.Drafts.{Draft, segment_piece, closed_pieces, pieces_onto, Draft, cells_past}
 use Rattle.plan_laws.specs.Drafts as drafts
 use Rattle.plan_laws.specs.Ledgers.{Own, number_of, is_own_word, owner_live, owner_words, owner_writers}
@@ -37,7 +37,7 @@ use Rattle.plan_laws.specs.Finishing.{IsPlanFrom, FinishedPlansAreOrdered}
 use Rattle.plan_laws.proofs.WholePlans.{lists_order_plans}
 use Rattle.plan_laws.proofs.Closing.{pieces_onto-one, starts_from-one}
 use Rattle.plan_laws.proofs.Ending.{pieces_are_made}
-use Rattle.plan_laws.proofs.Enrolling.{next_before}
+use Rattle.plan_laws.proofs.Schedules.Enrolling.{next_before}
 use Rattle.plan_laws.proofs.Owners.{owner_own}
 
 -- whose own word it is

@@ -16,7 +16,7 @@ use Rattle.frame_core.specs.Touches.{reads_in, writes_in, act_touches, ops_touch
 use Rattle.frame_core.specs.Operations.{op_cells, ops_cells, ops_refused}
 use Rattle.frame_core.specs.Output.{op_line, ops_lines}
 use Rattle.frame_core.specs.Ordered.{OpFits, ActStands, OpsStand}
-use Rattle.frame_core.proofs.Touching.{reads_append, writes_append, writes_read}
+use Rattle.frame_core.proofs.Extents.Touching.{reads_append, writes_append, writes_read}
 use Rattle.frame_core.proofs.Acting.{AllFit, ops_keep, ops_same}
 use Rattle.frame_ast.specs.States.{ScriptState}
 use Rattle.plan_laws.specs.Drafts.{Draft, segment_piece, closed_pieces, pieces_of, cells_closed, cells_of, output_of}

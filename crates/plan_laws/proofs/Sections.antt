@@ -17,10 +17,10 @@ use Rattle.plan_laws.specs.Ledgers.{Owner, Held, Own, owner, number_of, owner_li
 use Rattle.plan_laws.specs.Leaving.{AllHeld}
 use Rattle.plan_laws.specs.Planned.{Outline, jobs_before, ledger_at, IsPlanned}
 use Rattle.plan_laws.specs.Sections.{SectionsBegin}
-use Rattle.plan_laws.proofs.Completing.{All-nothing}
+use Rattle.plan_laws.proofs.Statements.Completing.{All-nothing}
 use Rattle.plan_laws.proofs.Operations.{segment_framed}
-use Rattle.plan_laws.proofs.Enrolling.{later_in, in_later}
-use Rattle.plan_laws.proofs.Making.{alive_is_live}
+use Rattle.plan_laws.proofs.Schedules.Enrolling.{later_in, in_later}
+use Rattle.plan_laws.proofs.Statements.Making.{alive_is_live}
 use Rattle.plan_laws.proofs.Owners.{number_owner}
 
 module _ (x : Outline) (carried : Cells) (len : ℕ) (small : x.plan.cells < 2 ^ 32) (known : IsKnown x.begun)

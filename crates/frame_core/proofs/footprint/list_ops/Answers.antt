@@ -1,4 +1,4 @@
-use Rattle.frame_core.proofs.Hitting.{fits_at}
+use Rattle.frame_core.proofs.Extents.Hitting.{fits_at}
 use Rattle.frame_core.proofs.footprint.list_ops.Goals as goal
 
 pub act_touches-requires : goal.act_touches-requires

@@ -1,5 +1,5 @@
 use Rattle.frame_core.specs.declared.piece.Piece.TheVariants.{OfScript, OfJob}
-use Rattle.frame_core.proofs.Footprints.{named}
+use Rattle.frame_core.proofs.Extents.Footprints.{named}
 use Rattle.frame_core.proofs.footprint.touches.Goals as goal
 
 pub list_segment-requires-clause-segment : goal.list_segment-requires-clause-segment

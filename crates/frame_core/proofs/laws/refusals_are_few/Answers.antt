@@ -1,4 +1,4 @@
-use Rattle.frame_core.proofs.Tallies.{refusals_are_few}
+use Rattle.frame_core.proofs.Reported.Tallies.{refusals_are_few}
 use Rattle.frame_core.proofs.laws.refusals_are_few.Goals as goal
 
 pub returns : goal.returns

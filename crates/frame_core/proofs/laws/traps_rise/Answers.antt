@@ -1,4 +1,4 @@
-use Rattle.frame_core.proofs.Rising.{traps_rise}
+use Rattle.frame_core.proofs.Reported.Rising.{traps_rise}
 use Rattle.frame_core.proofs.laws.traps_rise.Goals as goal
 
 pub returns : goal.returns

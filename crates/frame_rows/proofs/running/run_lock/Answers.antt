@@ -1,5 +1,5 @@
 use denote.Param.Send.{sendable}
-use Rattle.frame_rows.proofs.Shared.{plan_sync}
+use Rattle.frame_core.proofs.Sent.{plan_sync}
 use Rattle.frame_rows.proofs.running.run_lock.Goals as goal
 
 pub run_shown_lock-requires-sync-P : goal.run_shown_lock-requires-sync-P

@@ -1,4 +1,4 @@
-use Rattle.merge_laws.proofs.WorkedWords.{diamond_counts}
+use Rattle.merge_laws.proofs.Diamond.WorkedWords.{diamond_counts}
 use Rattle.merge_laws.proofs.examples.diamond_counts.Goals as goal
 
 pub returns : goal.returns

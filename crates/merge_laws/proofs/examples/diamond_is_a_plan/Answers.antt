@@ -1,4 +1,4 @@
-use Rattle.merge_laws.proofs.Worked.{diamond_is_a_plan}
+use Rattle.merge_laws.proofs.Diamond.Worked.{diamond_is_a_plan}
 use Rattle.merge_laws.proofs.examples.diamond_is_a_plan.Goals as goal
 
 pub returns : goal.returns

@@ -1,4 +1,4 @@
-use Rattle.merge_laws.proofs.WorkedBoard.{diamond_is_run}
+use Rattle.merge_laws.proofs.Diamond.WorkedBoard.{diamond_is_run}
 use Rattle.merge_laws.proofs.examples.diamond_is_run.Goals as goal
 
 pub returns : goal.returns

@@ -1,4 +1,4 @@
-use Rattle.merge_laws.proofs.WorkedRuns.{illegal_runs}
+use Rattle.merge_laws.proofs.Diamond.WorkedRuns.{illegal_runs}
 use Rattle.merge_laws.proofs.examples.illegal_runs.Goals as goal
 
 pub returns : goal.returns

@@ -1,4 +1,4 @@
-use Rattle.plan_laws.proofs.Accessing.{adds_are_planned}
+use Rattle.plan_laws.proofs.Statements.Accessing.{adds_are_planned}
 use Rattle.plan_laws.proofs.laws.adds_are_planned.Goals as goal
 
 pub returns : goal.returns

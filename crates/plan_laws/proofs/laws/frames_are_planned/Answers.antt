@@ -1,4 +1,4 @@
-use Rattle.plan_laws.proofs.Frames.{frames_are_planned}
+use Rattle.plan_laws.proofs.Statements.Frames.{frames_are_planned}
 use Rattle.plan_laws.proofs.laws.frames_are_planned.Goals as goal
 
 pub returns : goal.returns

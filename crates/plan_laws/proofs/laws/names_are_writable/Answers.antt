@@ -1,4 +1,4 @@
-use Rattle.plan_laws.proofs.Writable.{names_are_writable}
+use Rattle.plan_laws.proofs.Statements.Writable.{names_are_writable}
 use Rattle.plan_laws.proofs.laws.names_are_writable.Goals as goal
 
 pub returns : goal.returns

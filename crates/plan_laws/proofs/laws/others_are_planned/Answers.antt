@@ -1,4 +1,4 @@
-use Rattle.plan_laws.proofs.Disposing.{others_are_planned}
+use Rattle.plan_laws.proofs.Statements.Disposing.{others_are_planned}
 use Rattle.plan_laws.proofs.laws.others_are_planned.Goals as goal
 
 pub returns : goal.returns

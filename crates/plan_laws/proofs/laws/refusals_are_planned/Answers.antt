@@ -1,4 +1,4 @@
-use Rattle.plan_laws.proofs.Refusing.{refusals_are_planned}
+use Rattle.plan_laws.proofs.Statements.Refusing.{refusals_are_planned}
 use Rattle.plan_laws.proofs.laws.refusals_are_planned.Goals as goal
 
 pub returns : goal.returns

@@ -1,4 +1,4 @@
-use Rattle.plan_laws.proofs.Accepting.{schedules_are_planned}
+use Rattle.plan_laws.proofs.Schedules.Accepting.{schedules_are_planned}
 use Rattle.plan_laws.proofs.laws.schedules_are_planned.Goals as goal
 
 pub returns : goal.returns

@@ -1,4 +1,4 @@
-use Rattle.plan_laws.proofs.Accessing.{sets_are_planned}
+use Rattle.plan_laws.proofs.Statements.Accessing.{sets_are_planned}
 use Rattle.plan_laws.proofs.laws.sets_are_planned.Goals as goal
 
 pub returns : goal.returns

@@ -1,4 +1,4 @@
-use Rattle.plan_laws.proofs.Filling.{zeros_fill}
+use Rattle.plan_laws.proofs.Statements.Filling.{zeros_fill}
 use Rattle.plan_laws.proofs.laws.zeros_fill.Goals as goal
 
 pub returns : goal.returns

@@ -3,7 +3,7 @@ use Rattle.std.proofs.lemmas.Result.{IfOk-equal}
 use Rattle.frame_core.specs.declared.piece.Piece.TheVariants.{OfJob}
 use Rattle.frame_core.specs.Touches.{binds_touch}
 use Rattle.frame_core.specs.Effects.{touches}
-use Rattle.frame_core.proofs.Footprints.{part_listed}
+use Rattle.frame_core.proofs.Extents.Footprints.{part_listed}
 use Rattle.frame_core.proofs.plan.Plan.list_part.Goals as goal
 
 pub returns : goal.returns

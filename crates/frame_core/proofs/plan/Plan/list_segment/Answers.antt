@@ -7,7 +7,7 @@ use Rattle.frame_core.specs.Spans.{listed}
 use Rattle.frame_core.specs.Effects.{touches}
 use Rattle.frame_core.specs.declared.piece.Piece.TheVariants.{OfScript}
 use Rattle.frame_core.proofs.Planned.{cells_fit}
-use Rattle.frame_core.proofs.Footprints.{segment_there, segment_listed}
+use Rattle.frame_core.proofs.Extents.Footprints.{segment_there, segment_listed}
 use Rattle.frame_core.proofs.plan.Plan.list_segment.Goals as goal
 
 pub list_ops-requires : goal.list_ops-requires

@@ -4,7 +4,7 @@ use Rattle.frame_core.specs.Pieces.{own_word}
 use Rattle.frame_core.proofs.PartRuns as part
 use Rattle.frame_core.proofs.PartRuns.{job_of_piece, kernel_there}
 use Rattle.frame_core.proofs.Planned.{has_kernel}
-use Rattle.frame_core.proofs.Footprints.{own_there, part_are}
+use Rattle.frame_core.proofs.Extents.Footprints.{own_there, part_are}
 use Rattle.frame_core.proofs.plan.Plan.part.Goals as goal
 
 pub overflow_add-own : goal.overflow_add-own

@@ -7,7 +7,7 @@ use Rattle.frame_core.specs.Effects.{touches}
 use Rattle.frame_core.specs.Know.{stored}
 use Rattle.frame_core.specs.Pieces.{piece_numbered}
 use Rattle.frame_core.specs.Touches.{hits}
-use Rattle.frame_core.proofs.Touching.{writes_read}
+use Rattle.frame_core.proofs.Extents.Touching.{writes_read}
 use Rattle.lock_board.specs.Rooms.{place_in, place_of, room_of, spans_of}
 use Rattle.lock_board.proofs.Knowing.{knows, know_stored, leased_reads}
 use Rattle.lock_board.proofs.Spans.{place_below, spans_here, spans_read}

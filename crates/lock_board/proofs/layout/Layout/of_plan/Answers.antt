@@ -3,7 +3,7 @@ use Rattle.std.specs.Prelude.{slice_get}
 use Rattle.frame_core.specs.declared.plan.Plan.{Plan}
 use Rattle.frame_core.specs.Know.{piece_count}
 use Rattle.frame_core.specs.Names.{job_pieces}
-use Rattle.frame_core.proofs.Within.{reads_stay_within}
+use Rattle.frame_core.proofs.Extents.Within.{reads_stay_within}
 use Rattle.lock_board.specs.Layouts.{AreEnds, AreFollowers, AreJobNumbers, AreStarts, AreSpans, AreWaits, AreWithin, NameJobs, ReadsWithin, StartJobs}
 use Rattle.lock_board.specs.Rooms.{HasRoom}
 use Rattle.lock_board.proofs.Spans.{room_there}

@@ -1,6 +1,6 @@
 use Rattle.std.proofs.Common.{◌≡◌, ℕ, List, [], sym, subst, rules}
 use Rattle.atomic_table.specs.Table.{opening}
-use Rattle.frame_core.proofs.Within.{reads_stay_within}
+use Rattle.frame_core.proofs.Extents.Within.{reads_stay_within}
 use Rattle.word_board.specs.Seats.{ReadsWithin}
 use Rattle.word_board.specs.Rule.{Holds}
 use Rattle.word_board.specs.Views.{opening_view}

@@ -1,6 +1,6 @@
 use Rattle.frame_core.specs.Effects.{touches}
 use Rattle.frame_core.specs.Pieces.{piece_numbered}
-use Rattle.frame_core.proofs.Touching.{writes_read}
+use Rattle.frame_core.proofs.Extents.Touching.{writes_read}
 use Rattle.word_board.proofs.Seated.{seat_of, leased_is}
 use Rattle.word_board.proofs.calls.WordBoardBoard.store.Goals as goal
 
